@@ -94,18 +94,18 @@ struct i8_i64 { uint8_t a; uint64_t b; };
 struct i8_i8 { uint8_t a; uint8_t b; };
 
 static inline uint16_t load16(const unsigned char *p) { uint16_t x = 0; memcpy(&x, ALIGNED(p, 2), 2); return x; }
-static inline uint16_t load16u(const unsigned char *p) { uint16_t x = 0; memcpy(&x, p, 2); return x; }
 static inline uint32_t load32(const unsigned char *p) { uint32_t x = 0; memcpy(&x, ALIGNED(p, 4), 4); return x; }
+static inline uint32_t load32a2(const unsigned char *p) { uint32_t x = 0; memcpy(&x, ALIGNED(p, 2), 4); return x; }
 static inline uint32_t load32u(const unsigned char *p) { uint32_t x = 0; memcpy(&x, p, 4); return x; }
 static inline uint64_t load64(const unsigned char *p) { uint64_t x = 0; memcpy(&x, ALIGNED(p, 8), 8); return x; }
+static inline uint64_t load64a4(const unsigned char *p) { uint64_t x = 0; memcpy(&x, ALIGNED(p, 4), 8); return x; }
 static inline uint64_t load64u(const unsigned char *p) { uint64_t x = 0; memcpy(&x, p, 8); return x; }
 static inline int32_t signed32(uint32_t x) { int32_t y; memcpy(&y, &x, 4); return y; }
 static inline void store16(unsigned char *p, uint16_t x) { memcpy(ALIGNED(p, 2), &x, 2); }
-static inline void store16u(unsigned char *p, uint16_t x) { memcpy(p, &x, 2); }
 static inline void store32(unsigned char *p, uint32_t x) { memcpy(ALIGNED(p, 4), &x, 4); }
-static inline void store32u(unsigned char *p, uint32_t x) { memcpy(p, &x, 4); }
-static inline void store48u(unsigned char *p, uint64_t x) { memcpy(p, &x, 6); }
+static inline void store48a4(unsigned char *p, uint64_t x) { memcpy(ALIGNED(p, 4), &x, 6); }
 static inline void store64(unsigned char *p, uint64_t x) { memcpy(ALIGNED(p, 8), &x, 8); }
+static inline void store64a4(unsigned char *p, uint64_t x) { memcpy(ALIGNED(p, 4), &x, 8); }
 static inline void store64u(unsigned char *p, uint64_t x) { memcpy(p, &x, 8); }
 static inline uint32_t uadd_sat32(uint32_t x, uint32_t y) { return (uint32_t)(x + y) < x ? (uint32_t)-1 : (uint32_t)(x + y); }
 static inline uint16_t umax16(uint16_t x, uint16_t y) { return x < y ? y : x; }
@@ -135,11 +135,20 @@ static _Alignas(1) const uint8_t static_4[1] = {
 static _Alignas(4) const uint32_t switch_table_dfu_c_parts_config_config_of[4] = {
     1, 0x10, 0x40, 0x100
 };
+static _Alignas(4) const uint8_t switch_table_dfu_device_table_decide[9] = {
+    3, 3, 3, 1, 3, 2, 3, 3, 3
+};
+static _Alignas(4) const uint32_t switch_table_dfu_device_table_decide_2[9] = {
+    0xf0c, 0xf0c, 0xf0c, 2, 0xf0c, 8, 0xf0c, 0xf0c, 0xf0c
+};
 static _Alignas(4) const uint32_t switch_table_dfu_asks_asking_Asking_assemble[4] = {
     0, 0xf, 0x3f, 0xff
 };
 static _Alignas(8) const uint64_t switch_table_dfu_asks_asking_Asking_advance[4] = {
     0, 0xf, 0x3f, 0xff
+};
+static _Alignas(4) const uint8_t switch_table_dfu_device_mode_Mode_state[13] = {
+    0, 1, 2, 3, 3, 4, 5, 6, 6, 7, 8, 9, 0xa
 };
 static _Alignas(8) const uint64_t switch_table_dfu_slots_slots_Slots_put[4] = {
     1, 0x10, 0x40, 0x100
@@ -147,20 +156,11 @@ static _Alignas(8) const uint64_t switch_table_dfu_slots_slots_Slots_put[4] = {
 static _Alignas(4) const uint32_t switch_table_dfu_asks_c_refusal_Refusal_number[5] = {
     0xfffffffe, 0xfffffff6, 0xfffffff4, 0xfffffffd, 0xfffffffc
 };
-static _Alignas(4) const uint8_t switch_table_dfu_device_machine_Machine_state[13] = {
-    0, 1, 2, 3, 3, 4, 5, 6, 6, 7, 8, 9, 0xa
-};
 static _Alignas(4) const uint8_t switch_table_dfu_asks_asking_Asking_fail[13] = {
     6, 6, 6, 3, 6, 3, 6, 6, 6, 6, 6, 6, 6
 };
 static _Alignas(8) const uint64_t switch_table_dfu_asking_would_stall[4] = {
     0x10, 0x10, 0x40, 0x100
-};
-static _Alignas(4) const uint32_t switch_table_dfu_asking_would_stall_3[9] = {
-    0, 1, 1, 0, 1, 0, 1, 1, 1
-};
-static _Alignas(4) const uint32_t switch_table_dfu_asking_would_stall_5[9] = {
-    1, 1, 1, 0, 1, 0, 1, 1, 1
 };
 static _Alignas(4) const uint32_t switch_table_dfu_asking_format[4] = {
     0x10, 0x10, 0x40, 0x100
@@ -174,19 +174,13 @@ static void dfu_c_parts_record_mode_of(unsigned char *a0, unsigned char *a1);
 static void dfu_wire_setups_Setup_decode(unsigned char *a0, unsigned char *a1);
 static void dfu_c_parts_record_set_mode(unsigned char *a0, unsigned char *a1);
 static struct i8_i32 dfu_asks_sector_Sector_new(uint32_t a0);
-static void dfu_asks_mapped_Mapped_with_sectors(unsigned char *a0, unsigned char *a1, uint64_t a2, uint8_t a3, uint32_t a4);
 static void dfu_slots_slots_Slots_open(unsigned char *a0, unsigned char *a1);
-static uint32_t dfu_slots_read_gate_of(unsigned char *a0);
-static uint8_t dfu_slots_open_is_whole(uint8_t a0, uint32_t a1, uint32_t a2);
 static uint8_t dfu_slots_read_counts(unsigned char *a0, uint32_t a1);
 static uint8_t dfu_slots_read_byte_at(unsigned char *a0, uint32_t a1);
-static void dfu_asks_mapped_MappedMedium_read(unsigned char *a0, uint32_t a1, unsigned char *a2, uint64_t a3);
 static void core_slice_edits_slice_T_copy_from_slice_i8_core_clone_U8Clone(unsigned char *a0, unsigned char *a2, uint64_t a3);
 static void dfu_slots_read_header_of(unsigned char *a0, unsigned char *a1, uint32_t a2);
 static uint32_t dfu_slots_read_capacity_of(unsigned char *a0);
-static uint32_t dfu_slots_read_data_at(unsigned char *a0, uint32_t a1);
 static void dfu_suffix_crc_Crc_update_small(unsigned char *a0, unsigned char *a1, uint64_t a2);
-static uint8_t dfu_slots_header_is_header(unsigned char *a0, uint8_t a1, uint32_t a2);
 static uint8_t dfu_slots_places_is_newest(unsigned char *a0, uint32_t a1, uint32_t a2, uint8_t a3, uint8_t a4);
 static uint8_t dfu_slots_read_generation(unsigned char *a0, uint32_t a1);
 static struct i8_i32 dfu_slots_read_header_len(unsigned char *a0, uint32_t a1);
@@ -194,12 +188,9 @@ static uint8_t dfu_slots_header_is_formed(unsigned char *a0, uint32_t a1);
 static void dfu_slots_puts_Puts_nothing(unsigned char *a0);
 static void arrayvec_array_vec_ArrayVec_T_CAP_new_i8_256_core_default_U8Default(unsigned char *a0);
 static uint8_t dfu_slots_open_is_sized(unsigned char *a0);
-static uint32_t dfu_slots_read_gate_of_2(unsigned char *a0);
 static uint32_t dfu_slots_read_capacity_of_2(unsigned char *a0);
-static uint32_t dfu_slots_read_data_at_2(unsigned char *a0, uint32_t a1);
 static void dfu_slots_writes_close_gate(unsigned char *a0);
 static void dfu_slots_layout_fill_up(unsigned char *a0, unsigned char *a1, uint64_t a2);
-static uint64_t dfu_slots_layout_fill_size(uint8_t a0, uint64_t a1);
 static uint32_t dfu_slots_register_register_of(unsigned char *a0, uint32_t a1, uint32_t a2);
 static void dfu_slots_read_read_data(unsigned char *a0, uint32_t a1, uint32_t a2, unsigned char *a3, uint64_t a4);
 static struct i8_i8 dfu_slots_places_count_slots(unsigned char *a0);
@@ -216,7 +207,6 @@ static void dfu_asks_format_piece_part_piece(unsigned char *a0, unsigned char *a
 static void dfu_asks_next_piece_close_piece(unsigned char *a0, uint32_t a1, unsigned char *a2, uint64_t a3);
 static void dfu_asks_piece_fill_up(unsigned char *a0, unsigned char *a1, uint64_t a2);
 static void dfu_asks_piece_rest_of(unsigned char *a0, uint64_t a1, unsigned char *a2, uint64_t a3, uint64_t a4);
-static uint64_t dfu_asks_format_piece_filled_len(uint8_t a0, uint64_t a1);
 static void dfu_asks_located_locate(unsigned char *a0, uint32_t a1, uint64_t a2, uint64_t a3, uint64_t a4);
 static void dfu_asks_piece_two_piece(unsigned char *a0, uint64_t a1, unsigned char *a2, uint64_t a3, unsigned char *a4, uint64_t a6, uint64_t a7);
 static void dfu_asks_piece_copy_joined(unsigned char *a0, uint64_t a1, unsigned char *a2, uint64_t a4, unsigned char *a5, uint64_t a6);
@@ -229,16 +219,16 @@ static uint64_t core_slice_scan_skip_groups(unsigned char *a0, uint64_t a1, uint
 static uint8_t core_slice_scan_any_in_run(unsigned char *a0, uint64_t a1, uint64_t a2);
 static uint8_t core_cmp_slices_groups_equal_i8_core_cmp_numbers_U8PartialEq(unsigned char *a0, uint64_t a1, unsigned char *a2, uint64_t a3);
 static void dfu_wire_setups_Setup_request(unsigned char *a0, unsigned char *a1);
+static void dfu_device_table_decide(unsigned char *a0, unsigned char *a1, unsigned char *a2, unsigned char *a3);
+static void dfu_device_plans_block(unsigned char *a0, unsigned char *a1, uint32_t a2, uint16_t a3, uint16_t a4, uint16_t a5);
+static void dfu_device_plans_upload(unsigned char *a0, unsigned char *a1, uint32_t a2, uint16_t a3, uint16_t a4, uint16_t a5);
 static void dfu_asks_c_keeping_keep(unsigned char *a0, unsigned char *a1);
-static uint32_t dfu_slots_read_gate_of_3(unsigned char *a0);
 static uint32_t dfu_slots_read_capacity_of_3(unsigned char *a0);
-static uint32_t dfu_slots_read_data_at_3(unsigned char *a0, uint32_t a1);
 static uint8_t dfu_slots_writes_close_gate_2(unsigned char *a0, uint32_t a1);
 static struct i8_i8 dfu_slots_writes_write(unsigned char *a0, uint32_t a1, unsigned char *a2, uint64_t a3);
 static uint8_t dfu_slots_read_stands_at(unsigned char *a0, uint32_t a1, unsigned char *a2, uint64_t a3);
-static void dfu_asks_c_memory_MemoryMedium_read(unsigned char *a0, uint32_t a1, unsigned char *a2, uint64_t a3);
 static struct i8_i8 dfu_slots_erasing_erase(unsigned char *a0, uint32_t a1);
-static struct i8_i8 dfu_slots_writes_write_anew(unsigned char *a0, uint32_t a1, unsigned char *a2, uint64_t a3);
+static uint8_t dfu_slots_writes_write_anew(unsigned char *a0, uint32_t a1, unsigned char *a2, uint64_t a3);
 static uint8_t dfu_slots_writes_write_filled(unsigned char *a0, uint32_t a1, unsigned char *a2, uint64_t a3);
 static uint32_t dfu_slots_register_register_of_2(unsigned char *a0, uint32_t a1, uint32_t a2);
 static uint8_t dfu_slots_writes_write_unit(unsigned char *a0, uint32_t a1, unsigned char *a2, uint64_t a3, uint32_t a4);
@@ -263,24 +253,19 @@ static void dfu_asks_next_piece_put_piece(unsigned char *a0, uint64_t a1, unsign
 static void dfu_asks_piece_joined_piece(unsigned char *a0, uint64_t a1, unsigned char *a2, uint64_t a3, uint64_t a4);
 static struct i8_i64 dfu_asks_asking_Asking_answer(unsigned char *a0, uint8_t a1, uint16_t a2, unsigned char *a3);
 static void dfu_wire_statuses_Status_encode(unsigned char *a0, unsigned char *a1);
-static void dfu_device_machine_Machine_write_block(unsigned char *a0, uint32_t a1, uint16_t a2, uint8_t a3);
+static void dfu_device_machine_Machine_profile(unsigned char *a0, unsigned char *a1);
+static void dfu_device_machine_Machine_carry_out(unsigned char *a0, unsigned char *a1, unsigned char *a2, uint16_t a3, unsigned char *a4, uint64_t a5);
+static uint16_t dfu_device_machine_Machine_piece_len(unsigned char *a0, uint32_t a1, uint16_t a2);
 static void dfu_slots_puts_Puts_clear(unsigned char *a0);
 static void arrayvec_array_vec_ArrayVec_clear_2(unsigned char *a0);
 static struct i8_i8 dfu_slots_slots_Slots_put(unsigned char *a0, uint32_t a1, unsigned char *a2, uint64_t a3);
 static void dfu_slots_puts_hold(unsigned char *a0, unsigned char *a1, uint64_t a2);
 static struct i8_i8 dfu_slots_puts_put_front(unsigned char *a1, unsigned char *a3, uint64_t a4, uint64_t a5);
-static void dfu_device_machine_Machine_commit_taken(unsigned char *a0, uint32_t a1);
-static uint32_t dfu_asks_c_refusal_Refusal_number(uint8_t a0);
-static void dfu_device_machine_Machine_take_block(unsigned char *a0, unsigned char *a1, uint32_t a2, uint16_t a3, uint16_t a4, unsigned char *a5, uint64_t a6);
-static void dfu_device_machine_Machine_send(unsigned char *a0, unsigned char *a1, uint32_t a2, uint16_t a3, uint16_t a4, uint16_t a5);
-static uint16_t dfu_device_machine_Machine_piece_len(unsigned char *a0, uint32_t a1, uint16_t a2);
-static uint8_t dfu_device_machine_Machine_state(unsigned char *a0);
 static struct i8_i64 dfu_asks_asking_Asking_fail(unsigned char *a0, uint8_t a1, uint8_t a2, uint16_t a3, unsigned char *a4);
 
 /* dfu_c_parts::config::is_allowed */
 static uint8_t dfu_c_parts_config_is_allowed(unsigned char *a0) {
     _Alignas(4) unsigned char r1[32];
-    memset(r1, 0, 32);
     dfu_c_parts_config_config_of(r1, a0);
     uint8_t r3 = *r1;
     return r3 == 1;
@@ -305,7 +290,7 @@ join_5:
     return;
 after_1:;
     uint16_t r42 = load16(a1 + 4);
-    uint32_t r44 = load32u(a1 + 6);
+    uint32_t r44 = load32a2(a1 + 6);
     dfu_c_parts_config_functional_of(r2, a1);
     r53 = load32(a1 + 24);
     r55 = load32(a1 + 16);
@@ -360,18 +345,18 @@ after_1:;
     r16_4_12_0 = r57;
     r16_0_0_0 = 1;
 join_14:
-    store32u(a0, r16_0_0_0);
-    store48u(a0 + 4, r16_4_0_0);
+    store32(a0, r16_0_0_0);
+    store48a4(a0 + 4, r16_4_0_0);
     a0[10] = r16_4_3_0;
     a0[11] = r16_4_4_0;
     a0[12] = r16_4_5_0;
     a0[13] = r16_4_6_0;
-    store16u(a0 + 14, r16_4_7_0);
-    store16u(a0 + 16, r16_4_8_0);
-    store16u(a0 + 18, r16_4_9_0);
-    store32u(a0 + 20, r16_4_10_0);
-    store32u(a0 + 24, r16_4_11_0);
-    store32u(a0 + 28, r16_4_12_0);
+    store16(a0 + 14, r16_4_7_0);
+    store16(a0 + 16, r16_4_8_0);
+    store16(a0 + 18, r16_4_9_0);
+    store32(a0 + 20, r16_4_10_0);
+    store32(a0 + 24, r16_4_11_0);
+    store32(a0 + 28, r16_4_12_0);
     return;
 }
 
@@ -408,9 +393,9 @@ static void dfu_c_parts_config_functional_of(unsigned char *a0, unsigned char *a
     a0[1] = (uint8_t)(r5 >> 1) & 1;
     a0[2] = (uint8_t)(r5 >> 2) & 1;
     a0[3] = (uint8_t)(r5 >> 3) & 1;
-    store16u(a0 + 4, r7);
-    store16u(a0 + 6, r9);
-    store16u(a0 + 8, 272);
+    store16(a0 + 4, r7);
+    store16(a0 + 6, r9);
+    store16(a0 + 8, 272);
     return;
 }
 
@@ -423,12 +408,12 @@ static void dfu_c_parts_record_mode_of(unsigned char *a0, unsigned char *a1) {
     if (r16 == 200) goto join_3;
     goto then_1;
 then_1:
-    store32u(a0, 0);
+    store32(a0, 0);
     a0[4] = 0;
     a0[5] = 0;
-    store32u(a0 + 8, 0);
-    store32u(a0 + 12, 0);
-    store32u(a0 + 16, 0);
+    store32(a0 + 8, 0);
+    store32(a0 + 12, 0);
+    store32(a0 + 16, 0);
     return;
 join_3:
     r35 = load32(a1 + 8);
@@ -556,28 +541,28 @@ arm_16:
         r11_36_0 = 0;
         goto join_18;
     }
-    store32u(a0, 0);
+    store32(a0, 0);
     a0[4] = 0;
     a0[5] = 0;
-    store32u(a0 + 8, 0);
-    store32u(a0 + 12, 0);
-    store32u(a0 + 16, 0);
+    store32(a0 + 8, 0);
+    store32(a0 + 12, 0);
+    store32(a0 + 16, 0);
     return;
 default_17:
-    store32u(a0, 0);
+    store32(a0, 0);
     a0[4] = 0;
     a0[5] = 0;
-    store32u(a0 + 8, 0);
-    store32u(a0 + 12, 0);
-    store32u(a0 + 16, 0);
+    store32(a0 + 8, 0);
+    store32(a0 + 12, 0);
+    store32(a0 + 16, 0);
     return;
 join_18:
-    store32u(a0, 1);
+    store32(a0, 1);
     a0[4] = r11_0_0;
     a0[5] = r11_15_0;
-    store32u(a0 + 8, r11_172_0);
-    store32u(a0 + 12, r11_27_10_0_0 | (uint32_t)r11_27_0_0);
-    store32u(a0 + 16, r11_36_0);
+    store32(a0 + 8, r11_172_0);
+    store32(a0 + 12, r11_27_10_0_0 | (uint32_t)r11_27_0_0);
+    store32(a0 + 16, r11_36_0);
     return;
 }
 
@@ -593,9 +578,9 @@ static void dfu_wire_setups_Setup_decode(unsigned char *a0, unsigned char *a1) {
     uint8_t r15_3 = a1[7];
     *a0 = r28;
     a0[1] = r32;
-    store16u(a0 + 2, (uint16_t)((uint32_t)r15 << 8) | r11);
-    store16u(a0 + 4, (uint16_t)((uint32_t)r15_2 << 8) | r11_2);
-    store16u(a0 + 6, (uint16_t)((uint32_t)r15_3 << 8) | r11_3);
+    store16(a0 + 2, (uint16_t)((uint32_t)r15 << 8) | r11);
+    store16(a0 + 4, (uint16_t)((uint32_t)r15_2 << 8) | r11_2);
+    store16(a0 + 6, (uint16_t)((uint32_t)r15_3 << 8) | r11_3);
     return;
 }
 
@@ -604,8 +589,8 @@ static void dfu_c_parts_record_set_mode(unsigned char *a0, unsigned char *a1) {
     uint32_t v1, v2, r27_0_0, r27_15_0, r27_28_0;
     uint16_t r1_14_0_0_extract_trunc, r27_41_0;
     uint8_t v0 = *a1;
-    v1 = load32u(a1 + 4);
-    v2 = load32u(a1 + 8);
+    v1 = load32(a1 + 4);
+    v2 = load32(a1 + 8);
     r1_14_0_0_extract_trunc = (uint16_t)v2;
     switch (v0) {
     case 0:
@@ -653,7 +638,7 @@ arm_5:
     r27_41_0 = r1_14_0_0_extract_trunc;
     goto dfu_c_parts_record_numbers_of_exit;
 arm_6:;
-    uint32_t v3 = load32u(a1 + 12);
+    uint32_t v3 = load32(a1 + 12);
     r27_0_0 = 5;
     r27_15_0 = v1;
     r27_28_0 = v3;
@@ -721,77 +706,47 @@ static struct i8_i32 dfu_asks_sector_Sector_new(uint32_t a0) {
     return r24;
 }
 
-/* dfu_asks::mapped::Mapped::with_sectors */
-static void dfu_asks_mapped_Mapped_with_sectors(unsigned char *a0, unsigned char *a1, uint64_t a2, uint8_t a3, uint32_t a4) {
-    _Alignas(4) unsigned char r0_10[3];
-    uint32_t r17, a4_sink;
-    uint64_t sink, wide_2666_sink, a2_sink;
-    uint8_t a3_sink;
-    struct i8_i32 r15 = dfu_asks_sector_Sector_new(a4);
-    r17 = r15.b;
-    if (!(r15.a & 1)) goto arm_2;
-    if (a2 <= 0xffffffffU) goto join_3;
-    memset(r0_10, 0, 3);
-    sink = 0;
-    wide_2666_sink = 0;
-    a2_sink = 0;
-    a3_sink = 0;
-    a4_sink = 0;
-    goto dfu_asks_mapped_Mapped_with_sector_exit;
-join_3:
-    memset(r0_10, 0, 3);
-    sink = 1;
-    wide_2666_sink = (uint64_t)(uintptr_t)a1;
-    a2_sink = a2;
-    a3_sink = a3;
-    a4_sink = r17;
-dfu_asks_mapped_Mapped_with_sector_exit:
-    store64u(a0, sink);
-    store64u(a0 + 8, wide_2666_sink);
-    store64u(a0 + 16, a2_sink);
-    a0[24] = a3_sink;
-    memcpy(a0 + 25, r0_10, 3);
-    store32u(a0 + 28, a4_sink);
-    return;
-arm_2:
-    memset(a0, 0, 32);
-    return;
-}
-
 /* dfu_slots::slots::Slots::open::<#8b927b6c5d6d1723> */
 static void dfu_slots_slots_Slots_open(unsigned char *a0, unsigned char *a1) {
     _Alignas(4) unsigned char r10_3_0_2[287];
     _Alignas(8) unsigned char r9[272];
     _Alignas(8) unsigned char r7_4_5_0[264];
     _Alignas(8) unsigned char r2[24];
-    _Alignas(4) unsigned char r7_4_4_3[23];
-    _Alignas(8) unsigned char r12_3_3[23];
-    uint32_t r1_0_0_copyload, r29, r5, r6613, r93, r93_2;
+    _Alignas(8) unsigned char r7_4_4_3[23];
+    uint32_t r1_0_0_copyload, a0_a1, r5, r6613, r69, r93, r93_2;
+    uint64_t v0, r7_4_4_0_0, r5_0_026, r7_4_5_3_0;
     uint8_t r5_2, r11;
     uint8_t r5_6_028, r7_4_0_0;
-    uint64_t r7_4_4_0_0, r5_0_026, r7_4_5_3_0;
-    memset(r7_4_5_0, 0, 264);
     memcpy(r2, a1, 24);
     r1_0_0_copyload = load32(r2 + 20);
     if (!((r1_0_0_copyload < 0x20001U) & ((r1_0_0_copyload & 255) == 0))) {
         r5_6_028 = 0;
         goto arm_2;
     }
-    r29 = dfu_slots_read_gate_of(r2);
+    uint8_t r0_0_0_copyload = r2[16];
+    v0 = (uint64_t)r0_0_0_copyload;
+    uint32_t switch_load = load32(PLACE(switch_table_dfu_asking_format) + 4 * (size_t)v0);
+    a0_a1 = umax32(r1_0_0_copyload, switch_load);
     uint64_t r3 = load64(r2 + 8);
     r5 = (uint32_t)r3;
-    uint32_t pre = r29 << 2;
+    uint32_t pre = a0_a1 << 2;
     if (!(((pre + 0x2000000U) >= r5) & (((r5 & 1) == 0) ? (pre < r5) : !(r3 & 1)))) {
         r5_6_028 = 0;
         goto arm_2;
     }
-    uint8_t r0_0_0_copyload = r2[16];
     r6613 = r5 >> 1;
-    uint8_t r73 = dfu_slots_open_is_whole(r0_0_0_copyload, r1_0_0_copyload, r6613 - (r29 << 1));
-    if (!r73) {
+    r69 = r6613 - (a0_a1 << 1);
+    uint32_t switch_load_2 = load32(PLACE(switch_table_dfu_asks_asking_Asking_assemble) + 4 * (size_t)v0);
+    if ((switch_load_2 & r69) != 0) {
         r5_6_028 = 0;
         goto arm_2;
     }
+    if (r1_0_0_copyload == 0) goto join_3;
+    if ((r69 % r1_0_0_copyload) != 0) {
+        r5_6_028 = 0;
+        goto arm_2;
+    }
+join_3:
     r5_2 = dfu_slots_read_counts(r2, 0);
     r11 = dfu_slots_read_counts(r2, r6613);
     if (!(r5_2 | r11)) {
@@ -832,45 +787,19 @@ dfu_slots_open_check_exit:;
     goto join_4;
 arm_2:;
     uint8_t r12_3_0_7_copyload = *r2;
-    memcpy(r12_3_3, r2 + 1, 23);
-    memcpy(r7_4_4_3, r12_3_3, 23);
+    memcpy(r7_4_4_3, r2 + 1, 23);
     r7_4_4_0_0 = (uint64_t)r12_3_0_7_copyload << 56;
     r5_0_026 = 1;
     r7_4_5_3_0 = 0;
     r7_4_0_0 = r5_6_028;
 join_4:
-    store64u(a0, r5_0_026);
+    store64(a0, r5_0_026);
     a0[8] = r7_4_0_0;
     store64u(a0 + 9, r7_4_4_0_0);
     memcpy(a0 + 17, r7_4_4_3, 23);
     memcpy(a0 + 40, r7_4_5_0, 264);
-    store64u(a0 + 304, r7_4_5_3_0);
+    store64(a0 + 304, r7_4_5_3_0);
     return;
-}
-
-/* dfu_slots::read::gate_of::<#8b927b6c5d6d1723> */
-static uint32_t dfu_slots_read_gate_of(unsigned char *a0) {
-    uint8_t r0_0_0_copyload = a0[16];
-    uint32_t switch_load = load32(PLACE(switch_table_dfu_asking_format) + 4 * (size_t)r0_0_0_copyload);
-    uint32_t r1_0_0_copyload = load32u(a0 + 20);
-    return umax32(r1_0_0_copyload, switch_load);
-}
-
-/* dfu_slots::open::is_whole */
-static uint8_t dfu_slots_open_is_whole(uint8_t a0, uint32_t a1, uint32_t a2) {
-    uint8_t r2_0_in;
-    uint32_t switch_load = load32(PLACE(switch_table_dfu_asks_asking_Asking_assemble) + 4 * (size_t)a0);
-    if ((switch_load & a2) != 0) {
-        r2_0_in = 0;
-        goto join_5;
-    }
-    if (a1 == 0) {
-        r2_0_in = 1;
-        goto join_5;
-    }
-    r2_0_in = (a2 % a1) == 0;
-join_5:
-    return r2_0_in;
 }
 
 /* dfu_slots::read::counts::<#8b927b6c5d6d1723> */
@@ -881,6 +810,7 @@ static uint8_t dfu_slots_read_counts(unsigned char *a0, uint32_t a1) {
     _Alignas(4) unsigned char r1[4];
     uint8_t r1_2_0_copyload, r1_3_0_copyload, r1_4_0_copyload;
     uint32_t r1_5_0_copyload, r1_6_0_copyload, r1_7_0_copyload, r3_0;
+    unsigned char *r1_2, *r2_3;
     uint8_t common_ret_op, r1_0_in;
     uint8_t r2 = dfu_slots_read_byte_at(a0, a1);
     if (r2 != 165) {
@@ -907,19 +837,24 @@ static uint8_t dfu_slots_read_counts(unsigned char *a0, uint32_t a1) {
     }
     store32(r1, 0xffffffffU);
     memset(r2_2, 0, 256);
+    r1_2 = a0 + 16;
+    r2_3 = a0 + 20;
     r3_0 = 0;
 loop_2:
     if (r3_0 >= r1_5_0_copyload) goto dfu_slots_register_register_of_exit;
     uint32_t a1_a0 = umin32(r1_5_0_copyload - r3_0, 256);
     uint64_t r29 = (uint64_t)a1_a0;
-    uint32_t r6 = dfu_slots_read_data_at(a0, a1);
-    dfu_asks_mapped_MappedMedium_read(a0, r6 + r3_0, r2_2, r29);
+    uint8_t r0_0_0_copyload = *r1_2;
+    uint32_t switch_load = load32(PLACE(switch_table_dfu_asking_format) + 4 * (size_t)r0_0_0_copyload);
+    uint32_t r1_0_0_copyload = load32(r2_3);
+    uint64_t r5_0_0_copyload = load64(a0);
+    core_slice_edits_slice_T_copy_from_slice_i8_core_clone_U8Clone(r2_2, (unsigned char *)(uintptr_t)r5_0_0_copyload + (size_t)((r3_0 + a1) + (umax32(r1_0_0_copyload, switch_load) << 1)), r29);
     dfu_suffix_crc_Crc_update_small(r1, r2_2, r29);
     r3_0 = a1_a0 + r3_0;
     goto loop_2;
 dfu_slots_register_register_of_exit:;
-    uint32_t r1_2 = load32(r1);
-    common_ret_op = ((((r1_2_0_copyload == 2) ? (r1_3_0_copyload == 0) : 0) ? (r1_4_0_copyload == 0) : 0) ? (r1_6_0_copyload == r1_2) : 0) ? (r1_7_0_copyload == 0) : 0;
+    uint32_t r1_3 = load32(r1);
+    common_ret_op = ((((r1_2_0_copyload == 2) ? (r1_3_0_copyload == 0) : 0) ? (r1_4_0_copyload == 0) : 0) ? (r1_6_0_copyload == r1_3) : 0) ? (r1_7_0_copyload == 0) : 0;
 dfu_slots_read_is_intact_exit:
     r1_0_in = common_ret_op;
 join_3:
@@ -930,16 +865,10 @@ join_3:
 static uint8_t dfu_slots_read_byte_at(unsigned char *a0, uint32_t a1) {
     _Alignas(4) unsigned char r1[1];
     *r1 = 0;
-    dfu_asks_mapped_MappedMedium_read(a0, a1, r1, 1);
+    uint64_t r5_0_0_copyload = load64(a0);
+    core_slice_edits_slice_T_copy_from_slice_i8_core_clone_U8Clone(r1, (unsigned char *)(uintptr_t)r5_0_0_copyload + (size_t)a1, 1);
     uint8_t r15 = *r1;
     return r15;
-}
-
-/* dfu_asks::mapped::MappedMedium::read */
-static void dfu_asks_mapped_MappedMedium_read(unsigned char *a0, uint32_t a1, unsigned char *a2, uint64_t a3) {
-    uint64_t r5_0_0_copyload = load64u(a0);
-    core_slice_edits_slice_T_copy_from_slice_i8_core_clone_U8Clone(a2, (unsigned char *)(uintptr_t)r5_0_0_copyload + (size_t)a1, a3);
-    return;
 }
 
 /* core::slice::edits::slice+T::copy_from_slice::<i8,20'core::clone::U8Clone{}> */
@@ -963,8 +892,11 @@ loop_4:
 static void dfu_slots_read_header_of(unsigned char *a0, unsigned char *a1, uint32_t a2) {
     _Alignas(1) unsigned char r1[16];
     memset(r1, 0, 16);
-    uint32_t r7 = dfu_slots_read_gate_of(a1);
-    dfu_asks_mapped_MappedMedium_read(a1, r7 + a2, r1, 16);
+    uint8_t r0_0_0_copyload = a1[16];
+    uint32_t switch_load = load32(PLACE(switch_table_dfu_asking_format) + 4 * (size_t)r0_0_0_copyload);
+    uint32_t r1_0_0_copyload = load32(a1 + 20);
+    uint64_t r5_0_0_copyload = load64(a1);
+    core_slice_edits_slice_T_copy_from_slice_i8_core_clone_U8Clone(r1, (unsigned char *)(uintptr_t)r5_0_0_copyload + (size_t)(umax32(r1_0_0_copyload, switch_load) + a2), 16);
     memcpy(a0, r1, 16);
     return;
 }
@@ -972,14 +904,10 @@ static void dfu_slots_read_header_of(unsigned char *a0, unsigned char *a1, uint3
 /* dfu_slots::read::capacity_of::<#8b927b6c5d6d1723> */
 static uint32_t dfu_slots_read_capacity_of(unsigned char *a0) {
     uint64_t r3 = load64(a0 + 8);
-    uint32_t r8 = dfu_slots_read_gate_of(a0);
-    return ((uint32_t)r3 >> 1) - (r8 << 1);
-}
-
-/* dfu_slots::read::data_at::<#8b927b6c5d6d1723> */
-static uint32_t dfu_slots_read_data_at(unsigned char *a0, uint32_t a1) {
-    uint32_t r3 = dfu_slots_read_gate_of(a0);
-    return (r3 << 1) + a1;
+    uint8_t r0_0_0_copyload = a0[16];
+    uint32_t switch_load = load32(PLACE(switch_table_dfu_asking_format) + 4 * (size_t)r0_0_0_copyload);
+    uint32_t r1_0_0_copyload = load32(a0 + 20);
+    return ((uint32_t)r3 >> 1) - (umax32(r1_0_0_copyload, switch_load) << 1);
 }
 
 /* dfu_suffix::crc::Crc::update_small */
@@ -1000,37 +928,8 @@ loop_3:
     r3_0 = (r23_2 >> 4) ^ r20_2;
     goto loop_3;
 dfu_suffix_small_after_bytes_exit:
-    store32u(a0, r3_0);
+    store32(a0, r3_0);
     return;
-}
-
-/* dfu_slots::header::is_header */
-static uint8_t dfu_slots_header_is_header(unsigned char *a0, uint8_t a1, uint32_t a2) {
-    uint8_t common_ret_op;
-    uint8_t r13 = a0[1];
-    if (r13 == a1) goto join_3;
-    common_ret_op = 0;
-common_ret:
-    return common_ret_op;
-join_3:;
-    uint8_t r25 = a0[2];
-    if (r25 != 0) {
-        common_ret_op = 0;
-        goto common_ret;
-    }
-    uint8_t r37 = a0[3];
-    if (r37 != 0) {
-        common_ret_op = 0;
-        goto common_ret;
-    }
-    uint32_t r17 = load32u(a0 + 8);
-    if (r17 != a2) {
-        common_ret_op = 0;
-        goto common_ret;
-    }
-    uint32_t r17_2 = load32u(a0 + 12);
-    common_ret_op = r17_2 == 0;
-    goto common_ret;
 }
 
 /* dfu_slots::places::is_newest::<#8b927b6c5d6d1723> */
@@ -1049,8 +948,10 @@ join_3:
 
 /* dfu_slots::read::generation::<#8b927b6c5d6d1723> */
 static uint8_t dfu_slots_read_generation(unsigned char *a0, uint32_t a1) {
-    uint32_t r3 = dfu_slots_read_gate_of(a0);
-    uint8_t r7 = dfu_slots_read_byte_at(a0, r3 + a1);
+    uint8_t r0_0_0_copyload = a0[16];
+    uint32_t switch_load = load32(PLACE(switch_table_dfu_asking_format) + 4 * (size_t)r0_0_0_copyload);
+    uint32_t r1_0_0_copyload = load32(a0 + 20);
+    uint8_t r7 = dfu_slots_read_byte_at(a0, umax32(r1_0_0_copyload, switch_load) + a1);
     return r7;
 }
 
@@ -1087,8 +988,28 @@ static uint8_t dfu_slots_header_is_formed(unsigned char *a0, uint32_t a1) {
         r1_0_in = 0;
         goto join_3;
     }
-    uint8_t r9 = dfu_slots_header_is_header(a0, 1, 0);
-    r1_0_in = r9;
+    uint8_t r13 = a0[1];
+    if (r13 != 1) {
+        r1_0_in = 0;
+        goto join_3;
+    }
+    uint8_t r25 = a0[2];
+    if (r25 != 0) {
+        r1_0_in = 0;
+        goto join_3;
+    }
+    uint8_t r37 = a0[3];
+    if (r37 != 0) {
+        r1_0_in = 0;
+        goto join_3;
+    }
+    uint32_t r17_2 = load32u(a0 + 8);
+    if (r17_2 != 0) {
+        r1_0_in = 0;
+        goto join_3;
+    }
+    uint32_t r17_3 = load32u(a0 + 12);
+    r1_0_in = r17_3 == 0;
 join_3:
     return r1_0_in;
 }
@@ -1096,11 +1017,10 @@ join_3:
 /* dfu_slots::puts::Puts::nothing */
 static void dfu_slots_puts_Puts_nothing(unsigned char *a0) {
     _Alignas(8) unsigned char r1[264];
-    memset(r1, 0, 264);
     arrayvec_array_vec_ArrayVec_T_CAP_new_i8_256_core_default_U8Default(r1);
     memcpy(a0, r1, 264);
-    store32u(a0 + 264, 0);
-    store32u(a0 + 268, 0);
+    store32(a0 + 264, 0);
+    store32(a0 + 268, 0);
     return;
 }
 
@@ -1117,60 +1037,59 @@ loop_2:
     goto loop_2;
 core_array_ArrayDefault_default_i8_256_core_default_U8Default_exit:
     memcpy(a0, r1, 256);
-    store64u(a0 + 256, 0);
+    store64(a0 + 256, 0);
     return;
 }
 
 /* dfu_slots::open::is_sized::<#c4c4734aca759fff> */
 static uint8_t dfu_slots_open_is_sized(unsigned char *a0) {
-    uint32_t r1_0_0_copyload, r29, r5;
+    uint32_t r1_0_0_copyload, a0_a1, r5, r69;
     uint8_t common_ret_op;
-    r1_0_0_copyload = load32u(a0 + 20);
+    uint64_t v0;
+    r1_0_0_copyload = load32(a0 + 20);
     if ((r1_0_0_copyload < 0x20001U) & ((r1_0_0_copyload & 255) == 0)) goto join_3;
     common_ret_op = 0;
 common_ret:
     return common_ret_op;
-join_3:
-    r29 = dfu_slots_read_gate_of_2(a0);
+join_3:;
+    uint8_t r0_0_0_copyload = a0[16];
+    v0 = (uint64_t)r0_0_0_copyload;
+    uint32_t switch_load = load32(PLACE(switch_table_dfu_asking_format) + 4 * (size_t)v0);
+    a0_a1 = umax32(r1_0_0_copyload, switch_load);
     uint64_t r3 = load64(a0 + 8);
     r5 = (uint32_t)r3;
-    uint8_t r36 = (r5 & 1) == 0;
-    uint32_t r41 = r29 << 2;
-    if (!((((uint32_t)(r36 ? r41 : (r29 << 2)) + 0x2000000U) >= r5) & (r36 ? (r41 < r5) : !(r3 & 1)))) {
+    uint32_t pre = a0_a1 << 2;
+    if (!(((pre + 0x2000000U) >= r5) & (((r5 & 1) == 0) ? (pre < r5) : !(r3 & 1)))) {
         common_ret_op = 0;
         goto common_ret;
     }
-    uint8_t r0_0_0_copyload = a0[16];
-    uint8_t r73 = dfu_slots_open_is_whole(r0_0_0_copyload, r1_0_0_copyload, (r5 >> 1) - (r29 << 1));
-    common_ret_op = r73;
+    r69 = (r5 >> 1) - (a0_a1 << 1);
+    uint32_t switch_load_2 = load32(PLACE(switch_table_dfu_asks_asking_Asking_assemble) + 4 * (size_t)v0);
+    if ((switch_load_2 & r69) != 0) {
+        common_ret_op = 0;
+        goto common_ret;
+    }
+    if (r1_0_0_copyload == 0) {
+        common_ret_op = 1;
+        goto common_ret;
+    }
+    common_ret_op = (r69 % r1_0_0_copyload) == 0;
     goto common_ret;
-}
-
-/* dfu_slots::read::gate_of::<#c4c4734aca759fff> */
-static uint32_t dfu_slots_read_gate_of_2(unsigned char *a0) {
-    uint8_t r0_0_0_copyload = a0[16];
-    uint32_t switch_load = load32(PLACE(switch_table_dfu_asking_format) + 4 * (size_t)r0_0_0_copyload);
-    uint32_t r1_0_0_copyload = load32u(a0 + 20);
-    return umax32(r1_0_0_copyload, switch_load);
 }
 
 /* dfu_slots::read::capacity_of::<#c4c4734aca759fff> */
 static uint32_t dfu_slots_read_capacity_of_2(unsigned char *a0) {
     uint64_t r3 = load64(a0 + 8);
-    uint32_t r8 = dfu_slots_read_gate_of_2(a0);
-    return ((uint32_t)r3 >> 1) - (r8 << 1);
-}
-
-/* dfu_slots::read::data_at::<#c4c4734aca759fff> */
-static uint32_t dfu_slots_read_data_at_2(unsigned char *a0, uint32_t a1) {
-    uint32_t r3 = dfu_slots_read_gate_of_2(a0);
-    return (r3 << 1) + a1;
+    uint8_t r0_0_0_copyload = a0[16];
+    uint32_t switch_load = load32(PLACE(switch_table_dfu_asking_format) + 4 * (size_t)r0_0_0_copyload);
+    uint32_t r1_0_0_copyload = load32(a0 + 20);
+    return ((uint32_t)r3 >> 1) - (umax32(r1_0_0_copyload, switch_load) << 1);
 }
 
 /* dfu_slots::writes::close_gate::<#c4c4734aca759fff> */
 static void dfu_slots_writes_close_gate(unsigned char *a0) {
     _Alignas(1) unsigned char r8[256];
-    uint32_t r1_0_0_copyload = load32u(a0 + 20);
+    uint32_t r1_0_0_copyload = load32(a0 + 20);
     if (r1_0_0_copyload != 0) return;
     dfu_slots_layout_fill_up(r8, PLACE(static_2), 1);
     return;
@@ -1183,13 +1102,6 @@ static void dfu_slots_layout_fill_up(unsigned char *a0, unsigned char *a1, uint6
     core_slice_edits_slice_T_copy_from_slice_i8_core_clone_U8Clone(r3, a1, a2);
     memcpy(a0, r3, 256);
     return;
-}
-
-/* dfu_slots::layout::fill_size */
-static uint64_t dfu_slots_layout_fill_size(uint8_t a0, uint64_t a1) {
-    uint64_t switch_load = load64(PLACE(switch_table_dfu_slots_slots_Slots_put) + 8 * (size_t)a0);
-    uint64_t v1 = switch_load + 0xffffffffffffffffULL;
-    return (switch_load - (v1 & a1)) & v1;
 }
 
 /* dfu_slots::register::register_of::<#c4c4734aca759fff> */
@@ -1215,8 +1127,11 @@ after_1:;
 
 /* dfu_slots::read::read_data::<#c4c4734aca759fff> */
 static void dfu_slots_read_read_data(unsigned char *a0, uint32_t a1, uint32_t a2, unsigned char *a3, uint64_t a4) {
-    uint32_t r6 = dfu_slots_read_data_at_2(a0, a1);
-    dfu_asks_mapped_MappedMedium_read(a0, r6 + a2, a3, a4);
+    uint8_t r0_0_0_copyload = a0[16];
+    uint32_t switch_load = load32(PLACE(switch_table_dfu_asking_format) + 4 * (size_t)r0_0_0_copyload);
+    uint32_t r1_0_0_copyload = load32(a0 + 20);
+    uint64_t r5_0_0_copyload = load64(a0);
+    core_slice_edits_slice_T_copy_from_slice_i8_core_clone_U8Clone(a3, (unsigned char *)(uintptr_t)r5_0_0_copyload + (size_t)((a2 + a1) + (umax32(r1_0_0_copyload, switch_load) << 1)), a4);
     return;
 }
 
@@ -1279,7 +1194,8 @@ static uint8_t dfu_slots_read_is_open(unsigned char *a0, uint32_t a1) {
 static uint8_t dfu_slots_read_byte_at_2(unsigned char *a0, uint32_t a1) {
     _Alignas(4) unsigned char r1[1];
     *r1 = 0;
-    dfu_asks_mapped_MappedMedium_read(a0, a1, r1, 1);
+    uint64_t r5_0_0_copyload = load64(a0);
+    core_slice_edits_slice_T_copy_from_slice_i8_core_clone_U8Clone(r1, (unsigned char *)(uintptr_t)r5_0_0_copyload + (size_t)a1, 1);
     uint8_t r15 = *r1;
     return r15;
 }
@@ -1288,8 +1204,11 @@ static uint8_t dfu_slots_read_byte_at_2(unsigned char *a0, uint32_t a1) {
 static void dfu_slots_read_header_of_2(unsigned char *a0, unsigned char *a1, uint32_t a2) {
     _Alignas(1) unsigned char r1[16];
     memset(r1, 0, 16);
-    uint32_t r7 = dfu_slots_read_gate_of_2(a1);
-    dfu_asks_mapped_MappedMedium_read(a1, r7 + a2, r1, 16);
+    uint8_t r0_0_0_copyload = a1[16];
+    uint32_t switch_load = load32(PLACE(switch_table_dfu_asking_format) + 4 * (size_t)r0_0_0_copyload);
+    uint32_t r1_0_0_copyload = load32(a1 + 20);
+    uint64_t r5_0_0_copyload = load64(a1);
+    core_slice_edits_slice_T_copy_from_slice_i8_core_clone_U8Clone(r1, (unsigned char *)(uintptr_t)r5_0_0_copyload + (size_t)(umax32(r1_0_0_copyload, switch_load) + a2), 16);
     memcpy(a0, r1, 16);
     return;
 }
@@ -1322,8 +1241,10 @@ join_3:
 
 /* dfu_slots::read::generation::<#c4c4734aca759fff> */
 static uint8_t dfu_slots_read_generation_2(unsigned char *a0, uint32_t a1) {
-    uint32_t r3 = dfu_slots_read_gate_of_2(a0);
-    uint8_t r7 = dfu_slots_read_byte_at_2(a0, r3 + a1);
+    uint8_t r0_0_0_copyload = a0[16];
+    uint32_t switch_load = load32(PLACE(switch_table_dfu_asking_format) + 4 * (size_t)r0_0_0_copyload);
+    uint32_t r1_0_0_copyload = load32(a0 + 20);
+    uint8_t r7 = dfu_slots_read_byte_at_2(a0, umax32(r1_0_0_copyload, switch_load) + a1);
     return r7;
 }
 
@@ -1373,12 +1294,12 @@ arm_8:;
     uint8_t r77 = dfu_c_parts_config_unit_of(a1);
     uint32_t r79 = load32(a2 + 316);
     uint32_t r81 = load32(a2 + 320);
-    store32u(a0, 1);
-    store64u(a0 + 4, ((uint64_t)r35 << 32) | (uint64_t)r77);
-    store32u(a0 + 12, r79);
-    store32u(a0 + 16, (uint32_t)r53);
-    store32u(a0 + 20, r1_16_0);
-    store32u(a0 + 24, r81);
+    store32(a0, 1);
+    store64a4(a0 + 4, ((uint64_t)r35 << 32) | (uint64_t)r77);
+    store32(a0 + 12, r79);
+    store32(a0 + 16, (uint32_t)r53);
+    store32(a0 + 20, r1_16_0);
+    store32(a0 + 24, r81);
     return;
 arm_9:
     memset(a0, 0, 28);
@@ -1389,11 +1310,10 @@ arm_9:
 static void dfu_asks_formatting_Formatting_due(unsigned char *a0, unsigned char *a1, uint64_t a3, unsigned char *a4, uint64_t a5) {
     _Alignas(8) unsigned char r0[288];
     uint64_t r37_sink;
-    memset(r0, 0, 288);
     if ((a3 > 0xffffffffU) | (a5 > 0x1000000U)) goto join_5;
     goto after_1;
 common_ret:
-    store64u(a0, r37_sink);
+    store64(a0, r37_sink);
     return;
 join_5:
     memset(a0 + 8, 0, 280);
@@ -1433,15 +1353,10 @@ static void dfu_asks_format_piece_part_piece(unsigned char *a0, unsigned char *a
     uint32_t r8_0_0_copyload;
     uint64_t r44, r7_4_6_0, r7_4_7_0, r7_0_0_0, r7_4_6_0_2, r7_4_7_0_2, r7_0_0_0_2, r31, a1_a0, r42_2, r19_5_5_0, r19_5_6_0;
     uint64_t r19_0_0_0, r7_4_6_0_3, r7_4_7_0_3, r7_0_0_0_3, r7_4_6_0_4, r7_4_7_0_4, r7_0_0_0_4, r16_0_0_0, r16_15_0, r16_16_0;
-    memset(r3, 0, 16);
     memset(r16_14, 0, 7);
     memset(r16_17, 0, 256);
-    memset(r17, 0, 288);
-    memset(r21, 0, 288);
-    memset(r25, 0, 288);
-    memset(r28, 0, 288);
     r7_0_0_copyload = *a1;
-    r8_0_0_copyload = load32u(a1 + 4);
+    r8_0_0_copyload = load32(a1 + 4);
     *r3 = r7_0_0_copyload;
     store32(r3 + 4, r8_0_0_copyload);
     store64(r3 + 16, (uint64_t)(uintptr_t)static_4);
@@ -1525,14 +1440,15 @@ dfu_asks_format_piece_piece_of_exit15:
     goto join_8;
 arm_3:;
     uint32_t r57 = load32(a1 + 16);
-    memset(r17_2, 0, 24);
     memset(r19_5_4, 0, 7);
     memset(r19_5_7, 0, 256);
-    uint64_t r30 = dfu_asks_format_piece_filled_len(r7_0_0_copyload, a4);
+    uint64_t v2 = (uint64_t)r7_0_0_copyload;
+    uint64_t switch_load = load64(PLACE(switch_table_dfu_slots_slots_Slots_put) + 8 * (size_t)v2);
+    uint64_t v3 = switch_load + 0xffffffffffffffffULL;
     r31 = (uint64_t)r57;
-    a1_a0 = umin64(usub_sat64(r30, r31), 4096);
-    uint64_t switch_load = load64(PLACE(switch_table_dfu_asking_would_stall) + 8 * (size_t)r7_0_0_copyload);
-    r42_2 = umax64(switch_load, (uint64_t)r8_0_0_copyload) << 1;
+    a1_a0 = umin64(usub_sat64(((switch_load - (v3 & a4)) & v3) + a4, r31), 4096);
+    uint64_t switch_load_2 = load64(PLACE(switch_table_dfu_asking_would_stall) + 8 * (size_t)v2);
+    r42_2 = umax64(switch_load_2, (uint64_t)r8_0_0_copyload) << 1;
     dfu_asks_located_locate(r17_2, r8_0_0_copyload, r42_2 + r31, a1_a0, r44);
     uint8_t r51 = *r17_2;
     switch (r51) {
@@ -1637,11 +1553,11 @@ dfu_asks_format_piece_piece_of_exit31:
     r16_15_0 = r7_4_6_0_4;
     r16_16_0 = r7_4_7_0_4;
 join_8:
-    store64u(a0, r16_0_0_0);
+    store64(a0, r16_0_0_0);
     a0[8] = r16_8_0;
     memcpy(a0 + 9, r16_14, 7);
-    store64u(a0 + 16, r16_15_0);
-    store64u(a0 + 24, r16_16_0);
+    store64(a0 + 16, r16_15_0);
+    store64(a0 + 24, r16_16_0);
     memcpy(a0 + 32, r16_17, 256);
     return;
 }
@@ -1650,44 +1566,42 @@ join_8:
 static void dfu_asks_next_piece_close_piece(unsigned char *a0, uint32_t a1, unsigned char *a2, uint64_t a3) {
     _Alignas(8) unsigned char r19[280];
     _Alignas(1) unsigned char r3[256];
-    _Alignas(1) unsigned char r15[256];
     uint64_t r28, switch_load;
-    uint32_t r5_0_0_copyload = load32u(a2 + 4);
+    uint32_t r5_0_0_copyload = load32(a2 + 4);
     r28 = (uint64_t)r5_0_0_copyload;
     if (r5_0_0_copyload == 0) goto join_3;
     if (a3 < r28) goto then_4;
     goto join_6;
 then_4:
-    store64u(a0, 0);
-    store64u(a0 + 8, 1);
-    store64u(a0 + 16, a3 + (uint64_t)a1);
-    store64u(a0 + 24, r28 - a3);
+    store64(a0, 0);
+    store64(a0 + 8, 1);
+    store64(a0 + 16, a3 + (uint64_t)a1);
+    store64(a0 + 24, r28 - a3);
     memset(a0 + 32, 255, 256);
     return;
 join_6:
-    store64u(a0, 1);
-    store64u(a0 + 8, a3 - r28);
+    store64(a0, 1);
+    store64(a0 + 8, a3 - r28);
     memset(a0 + 16, 0, 272);
     return;
 join_3:;
     uint8_t r14_0_0_copyload = *a2;
     switch_load = load64(PLACE(switch_table_dfu_asking_would_stall) + 8 * (size_t)r14_0_0_copyload);
     if (a3 >= switch_load) goto join_9;
-    dfu_asks_piece_fill_up(r15, PLACE(static_2), 1);
-    memcpy(r3, r15, 256);
+    dfu_asks_piece_fill_up(r3, PLACE(static_2), 1);
     dfu_asks_piece_rest_of(r19, (uint64_t)a1, r3, switch_load, a3);
     uint64_t r0_9_8_copyload9 = load64(r19);
     uint64_t r0_17_0_0_copyload21 = load64(r19 + 8);
     uint64_t r0_17_7_0_copyload25 = load64(r19 + 16);
-    store64u(a0, 0);
-    store64u(a0 + 8, r0_9_8_copyload9);
-    store64u(a0 + 16, r0_17_0_0_copyload21);
-    store64u(a0 + 24, r0_17_7_0_copyload25);
+    store64(a0, 0);
+    store64(a0 + 8, r0_9_8_copyload9);
+    store64(a0 + 16, r0_17_0_0_copyload21);
+    store64(a0 + 24, r0_17_7_0_copyload25);
     memcpy(a0 + 32, r19 + 24, 256);
     return;
 join_9:
-    store64u(a0, 1);
-    store64u(a0 + 8, a3 - switch_load);
+    store64(a0, 1);
+    store64(a0 + 8, a3 - switch_load);
     memset(a0 + 16, 0, 272);
     return;
 }
@@ -1706,18 +1620,11 @@ static void dfu_asks_piece_rest_of(unsigned char *a0, uint64_t a1, unsigned char
     _Alignas(8) unsigned char r9[256];
     uint64_t r14 = a3 - a4;
     dfu_asks_piece_fill_up(r9, a2 + (size_t)a4, r14);
-    store64u(a0, 0);
-    store64u(a0 + 8, a4 + a1);
-    store64u(a0 + 16, r14);
+    store64(a0, 0);
+    store64(a0 + 8, a4 + a1);
+    store64(a0 + 16, r14);
     memcpy(a0 + 24, r9, 256);
     return;
-}
-
-/* dfu_asks::format_piece::filled_len */
-static uint64_t dfu_asks_format_piece_filled_len(uint8_t a0, uint64_t a1) {
-    uint64_t switch_load = load64(PLACE(switch_table_dfu_slots_slots_Slots_put) + 8 * (size_t)a0);
-    uint64_t v1 = switch_load + 0xffffffffffffffffULL;
-    return ((switch_load - (v1 & a1)) & v1) + a1;
 }
 
 /* dfu_asks::located::locate */
@@ -1727,9 +1634,9 @@ static void dfu_asks_located_locate(unsigned char *a0, uint32_t a1, uint64_t a2,
     goto join_3;
 then_1:;
     uint8_t r4 = a4 < a3;
-    store64u(a0, (uint64_t)(r4 ? 1 : 2));
-    store64u(a0 + 8, a4 - (uint64_t)(r4 ? 0 : a3));
-    store64u(a0 + 16, 0);
+    store64(a0, (uint64_t)(r4 ? 1 : 2));
+    store64(a0 + 8, a4 - (uint64_t)(r4 ? 0 : a3));
+    store64(a0 + 16, 0);
     return;
 join_3:
     r1 = (uint64_t)a1;
@@ -1754,9 +1661,9 @@ arm_5:
     r7_4_0 = r4_0 + r5_0;
     r7_7_0 = r1 - r5_0;
 join_7:
-    store64u(a0, r7_0_0_0);
-    store64u(a0 + 8, r7_4_0);
-    store64u(a0 + 16, r7_7_0);
+    store64(a0, r7_0_0_0);
+    store64(a0 + 8, r7_4_0);
+    store64(a0 + 16, r7_7_0);
     return;
 }
 
@@ -1765,9 +1672,9 @@ static void dfu_asks_piece_two_piece(unsigned char *a0, uint64_t a1, unsigned ch
     _Alignas(1) unsigned char r5[256];
     memset(r5, 0, 256);
     dfu_asks_piece_copy_joined(a2, a3, a4, a6, r5, a7);
-    store64u(a0, 0);
-    store64u(a0 + 8, a6 + a1);
-    store64u(a0 + 16, a7);
+    store64(a0, 0);
+    store64(a0 + 8, a6 + a1);
+    store64(a0 + 16, a7);
     memcpy(a0 + 24, r5, 256);
     return;
 }
@@ -1790,9 +1697,7 @@ join_3:;
 static void dfu_asks_next_piece_header_piece(unsigned char *a0, uint32_t a1, uint8_t a2, uint32_t a3, uint32_t a4, unsigned char *a5, uint64_t a6) {
     _Alignas(8) unsigned char r0[288];
     _Alignas(1) unsigned char r2[256];
-    _Alignas(1) unsigned char r5[256];
     _Alignas(4) unsigned char r7[16];
-    memset(r0, 0, 288);
     uint8_t r4_0_0_copyload = *a5;
     uint64_t switch_load = load64(PLACE(switch_table_dfu_asking_would_stall) + 8 * (size_t)r4_0_0_copyload);
     *r7 = a2;
@@ -1802,13 +1707,11 @@ static void dfu_asks_next_piece_header_piece(unsigned char *a0, uint32_t a1, uin
     store32(r7 + 4, a3);
     store32(r7 + 8, a4);
     store32(r7 + 12, 0);
-    dfu_asks_piece_fill_up(r5, r7, 16);
-    memcpy(r2, r5, 256);
-    uint32_t r12_0_0_copyload = load32u(a5 + 4);
-    uint64_t switch_load6 = load64(PLACE(switch_table_dfu_asking_would_stall) + 8 * (size_t)r4_0_0_copyload);
-    dfu_asks_next_piece_write_piece(r0, r12_0_0_copyload, umax64(switch_load6, (uint64_t)r12_0_0_copyload) + (uint64_t)a1, r2, switch_load, a6);
+    dfu_asks_piece_fill_up(r2, r7, 16);
+    uint32_t r12_0_0_copyload = load32(a5 + 4);
+    dfu_asks_next_piece_write_piece(r0, r12_0_0_copyload, umax64(switch_load, (uint64_t)r12_0_0_copyload) + (uint64_t)a1, r2, switch_load, a6);
     uint8_t r39 = *r0;
-    store64u(a0, (uint64_t)r39);
+    store64(a0, (uint64_t)r39);
     memcpy(a0 + 8, r0 + 8, 280);
     return;
 }
@@ -1819,7 +1722,6 @@ static void dfu_asks_next_piece_write_piece(unsigned char *a0, uint32_t a1, uint
     _Alignas(8) unsigned char r10_9_5[256];
     _Alignas(8) unsigned char r8[24];
     uint64_t r19, r10_9_0_0, r10_9_4_0, r10_0_0_0, r10_5_0;
-    memset(r8, 0, 24);
     memset(r10_9_5, 0, 256);
     dfu_asks_located_locate(r8, a1, a2, a4, a5);
     uint8_t r17 = *r8;
@@ -1854,10 +1756,10 @@ arm_2:
     r10_0_0_0 = 0;
     r10_5_0 = r10_5_8_copyload1;
 join_5:
-    store64u(a0, r10_0_0_0);
-    store64u(a0 + 8, r10_5_0);
-    store64u(a0 + 16, r10_9_0_0);
-    store64u(a0 + 24, r10_9_4_0);
+    store64(a0, r10_0_0_0);
+    store64(a0 + 8, r10_5_0);
+    store64(a0 + 16, r10_9_0_0);
+    store64(a0 + 24, r10_9_4_0);
     memcpy(a0 + 32, r10_9_5, 256);
     return;
 }
@@ -1866,16 +1768,13 @@ join_5:
 static void dfu_asks_next_piece_gate_piece(unsigned char *a0, uint32_t a1, unsigned char *a2, uint64_t a3) {
     _Alignas(8) unsigned char r0[288];
     _Alignas(1) unsigned char r2[256];
-    _Alignas(1) unsigned char r4[256];
-    memset(r0, 0, 288);
     uint8_t r3_0_0_copyload = *a2;
     uint64_t switch_load = load64(PLACE(switch_table_dfu_asking_would_stall) + 8 * (size_t)r3_0_0_copyload);
-    dfu_asks_piece_fill_up(r4, PLACE(static_3), 1);
-    memcpy(r2, r4, 256);
-    uint32_t r8_0_0_copyload = load32u(a2 + 4);
+    dfu_asks_piece_fill_up(r2, PLACE(static_3), 1);
+    uint32_t r8_0_0_copyload = load32(a2 + 4);
     dfu_asks_next_piece_write_piece(r0, r8_0_0_copyload, (uint64_t)a1, r2, switch_load, a3);
     uint8_t r30 = *r0;
-    store64u(a0, (uint64_t)r30);
+    store64(a0, (uint64_t)r30);
     memcpy(a0 + 8, r0 + 8, 280);
     return;
 }
@@ -1974,8 +1873,8 @@ static uint8_t core_slice_scan_any_in_run(unsigned char *a0, uint64_t a1, uint64
     unsigned char *r14, *r19;
     uint64_t r2_0;
     uint8_t r1_0_off0;
-    uint64_t r3_0_0_copyload = load64u(a0);
-    uint64_t r4_0_0_copyload = load64u(a0 + 16);
+    uint64_t r3_0_0_copyload = load64(a0);
+    uint64_t r4_0_0_copyload = load64(a0 + 16);
     r14 = (unsigned char *)(uintptr_t)r3_0_0_copyload;
     r19 = (unsigned char *)(uintptr_t)r4_0_0_copyload;
     r2_0 = 0;
@@ -2041,9 +1940,9 @@ static void dfu_wire_setups_Setup_request(unsigned char *a0, unsigned char *a1) 
     if (r31 == 0) goto after_1;
     goto join_8;
 join_8:
-    store16u(a0, 8);
-    store16u(a0 + 2, 0);
-    store16u(a0 + 4, 0);
+    store16(a0, 8);
+    store16(a0 + 2, 0);
+    store16(a0 + 4, 0);
     return;
 after_1:
     r47 = load16(a1 + 2);
@@ -2111,9 +2010,914 @@ after_15:
     r11_10_0 = 0;
     r11_16_0 = 0;
 after_14:
-    store16u(a0, r11_0_0_0);
-    store16u(a0 + 2, r11_10_0);
-    store16u(a0 + 4, r11_16_0);
+    store16(a0, r11_0_0_0);
+    store16(a0 + 2, r11_10_0);
+    store16(a0 + 4, r11_16_0);
+    return;
+}
+
+/* dfu_device::table::decide */
+static void dfu_device_table_decide(unsigned char *a0, unsigned char *a1, unsigned char *a2, unsigned char *a3) {
+    _Alignas(4) unsigned char r10[24];
+    unsigned char *const r0_2 = r10;
+    unsigned char *const r0 = r10;
+    _Alignas(4) unsigned char r12[24];
+    uint8_t r1_3_1_copyload, r11, sink7, sink6, v14, v15, r8_0_0, r8_6_0, r8_5_0, r10_8_1, r10_0_1, r8_0_0_2;
+    uint8_t r8_6_0_2, v28, v29, r29_0_0, r29_15_0;
+    uint32_t r1_51_4_copyload, r1_12_8_copyload, sink5, sink4, sink3, sink2, sink, v9, v10, v11, v12, v13;
+    uint32_t r8_1120_0, r8_16_0_0, r8_16_6_0, r8_16_7_0_0, r8_22_0_shrunk, r8_920_0, r8_13_0, r8_17_0_shrunk, r10_24_1, r10_32_1, r10_38_1, r10_44_1;
+    uint32_t r10_1642_1, r8_1120_0_2, r8_16_0_0_2, r8_16_6_0_2, r8_16_7_0_0_2, v23, v24, v25, v26, v27, r29_29117_0, r29_43_0;
+    uint32_t r29_57_0, r29_67_0, r29_77_0;
+    uint16_t r1_12_0_0_extract_trunc, v0, v1;
+    uint8_t r1_0_0_copyload = *a2;
+    r1_3_1_copyload = a2[1];
+    r1_51_4_copyload = load32(a2 + 4);
+    r1_12_8_copyload = load32(a2 + 8);
+    r1_12_0_0_extract_trunc = (uint16_t)r1_12_8_copyload;
+    r11 = *a3;
+    v0 = load16(a3 + 2);
+    v1 = load16(a3 + 4);
+    switch (r1_0_0_copyload) {
+    case 0: goto arm_1;
+    case 1: goto arm_2;
+    case 2: goto arm_3;
+    case 3: goto arm_4;
+    case 4: goto arm_5;
+    case 5:
+        r29_0_0 = 0;
+        r29_15_0 = 3;
+        r29_29117_0 = 3852;
+        r29_43_0 = 0;
+        r29_57_0 = 0;
+        r29_67_0 = 0;
+        r29_77_0 = 0;
+        goto join_15;
+    case 6: goto arm_7;
+    case 7: goto arm_8;
+    case 8: goto switch_lookup;
+    case 9:
+        r29_0_0 = 0;
+        r29_15_0 = 3;
+        r29_29117_0 = 3852;
+        r29_43_0 = 0;
+        r29_57_0 = 0;
+        r29_67_0 = 0;
+        r29_77_0 = 0;
+        goto join_15;
+    case 10: goto arm_11;
+    case 11: goto arm_12;
+    case 12: goto arm_13;
+    default: never();
+    }
+arm_1:
+    switch (r11) {
+    case 0: goto arm_1_2;
+    case 3:
+        r29_0_0 = 0;
+        r29_15_0 = 1;
+        r29_29117_0 = 0;
+        r29_43_0 = 0;
+        r29_57_0 = 0;
+        r29_67_0 = 0;
+        r29_77_0 = 0;
+        goto join_15;
+    case 5: goto arm_3_2;
+    case 1: goto arm_4_2;
+    case 2: goto arm_4_2;
+    case 4: goto arm_4_2;
+    case 6: goto arm_4_2;
+    case 7: goto arm_4_2;
+    case 8: goto arm_4_2;
+    default: never();
+    }
+arm_1_2:;
+    uint16_t r21 = load16(a1 + 4);
+    r29_0_0 = 0;
+    r29_15_0 = 0;
+    r29_29117_0 = 1;
+    r29_43_0 = (uint32_t)umin16(v0, r21);
+    r29_57_0 = 0;
+    r29_67_0 = 0;
+    r29_77_0 = 0;
+    goto join_15;
+arm_3_2:
+    r29_0_0 = 0;
+    r29_15_0 = 2;
+    r29_29117_0 = 0;
+    r29_43_0 = 0;
+    r29_57_0 = 0;
+    r29_67_0 = 0;
+    r29_77_0 = 0;
+    goto join_15;
+arm_4_2:
+    r29_0_0 = 0;
+    r29_15_0 = 3;
+    r29_29117_0 = 0;
+    r29_43_0 = 0;
+    r29_57_0 = 0;
+    r29_67_0 = 0;
+    r29_77_0 = 0;
+    goto join_15;
+arm_2:
+    switch (r11) {
+    case 3:
+        r29_0_0 = 0;
+        r29_15_0 = 1;
+        r29_29117_0 = 1;
+        r29_43_0 = r1_51_4_copyload;
+        r29_57_0 = r1_12_8_copyload;
+        r29_67_0 = 0;
+        r29_77_0 = 0;
+        goto join_15;
+    case 5: goto arm_2_2;
+    case 0: goto arm_3_3;
+    case 1: goto arm_3_3;
+    case 2: goto arm_3_3;
+    case 4: goto arm_3_3;
+    case 6: goto arm_3_3;
+    case 7: goto arm_3_3;
+    case 8: goto arm_3_3;
+    default: never();
+    }
+arm_2_2:
+    r29_0_0 = 0;
+    r29_15_0 = 2;
+    r29_29117_0 = 1;
+    r29_43_0 = r1_51_4_copyload;
+    r29_57_0 = r1_12_8_copyload;
+    r29_67_0 = 0;
+    r29_77_0 = 0;
+    goto join_15;
+arm_3_3:
+    r29_0_0 = 0;
+    r29_15_0 = 3;
+    r29_29117_0 = 0;
+    r29_43_0 = 0;
+    r29_57_0 = 0;
+    r29_67_0 = 0;
+    r29_77_0 = 0;
+    goto join_15;
+arm_3:
+    switch (r11) {
+    case 1: goto arm_3_4;
+    case 2: goto arm_4_3;
+    case 6: goto arm_5_2;
+    case 3: goto arm_6;
+    case 5: goto arm_7_2;
+    case 0:
+        v9 = 0;
+        v10 = 0;
+        v11 = 0;
+        v12 = 0;
+        v13 = 3852;
+        v14 = 3;
+        v15 = 0;
+        goto dfu_device_table_in_dfu_idle_exit;
+    case 4:
+        v9 = 0;
+        v10 = 0;
+        v11 = 0;
+        v12 = 0;
+        v13 = 3852;
+        v14 = 3;
+        v15 = 0;
+        goto dfu_device_table_in_dfu_idle_exit;
+    case 7:
+        v9 = 0;
+        v10 = 0;
+        v11 = 0;
+        v12 = 0;
+        v13 = 3852;
+        v14 = 3;
+        v15 = 0;
+        goto dfu_device_table_in_dfu_idle_exit;
+    case 8:
+        v9 = 0;
+        v10 = 0;
+        v11 = 0;
+        v12 = 0;
+        v13 = 3852;
+        v14 = 3;
+        v15 = 0;
+        goto dfu_device_table_in_dfu_idle_exit;
+    default: never();
+    }
+arm_3_4:;
+    uint8_t r5 = *a1;
+    if (!((v1 != 0) & (r5 & 1))) {
+        sink7 = 0;
+        sink6 = 3;
+        sink5 = 3852;
+        sink4 = 0;
+        sink3 = 0;
+        sink2 = 0;
+        sink = 0;
+        goto dfu_device_plans_first_exit;
+    }
+    dfu_device_plans_block(r0, a1, 0, 0, v0, v1);
+    uint8_t v2 = *r0;
+    uint8_t v3 = r0[1];
+    uint32_t v4 = load32(r0 + 4);
+    uint32_t v5 = load32(r0 + 8);
+    uint32_t v6 = load32(r0 + 12);
+    uint32_t v7 = load32(r0 + 16);
+    uint32_t v8 = load32(r0 + 20);
+    sink7 = v2;
+    sink6 = v3;
+    sink5 = v4;
+    sink4 = v5;
+    sink3 = v6;
+    sink2 = v7;
+    sink = v8;
+dfu_device_plans_first_exit:
+    v9 = sink;
+    v10 = sink2;
+    v11 = sink3;
+    v12 = sink4;
+    v13 = sink5;
+    v14 = sink6;
+    v15 = sink7;
+    goto dfu_device_table_in_dfu_idle_exit;
+arm_4_3:;
+    uint8_t r30 = a1[1];
+    if (!(r30 & 1)) {
+        v9 = 0;
+        v10 = 0;
+        v11 = 0;
+        v12 = 0;
+        v13 = 3852;
+        v14 = 3;
+        v15 = 0;
+        goto dfu_device_table_in_dfu_idle_exit;
+    }
+    dfu_device_plans_upload(r12, a1, 0, 0, v0, v1);
+    uint8_t pre = *r12;
+    uint8_t pre43 = r12[1];
+    uint32_t pre44 = load32(r12 + 4);
+    uint32_t pre45 = load32(r12 + 8);
+    uint32_t pre46 = load32(r12 + 12);
+    uint32_t pre47 = load32(r12 + 16);
+    uint32_t pre48 = load32(r12 + 20);
+    v9 = pre48;
+    v10 = pre47;
+    v11 = pre46;
+    v12 = pre45;
+    v13 = pre44;
+    v14 = pre43;
+    v15 = pre;
+    goto dfu_device_table_in_dfu_idle_exit;
+arm_5_2:
+    v9 = 0;
+    v10 = 0;
+    v11 = 0;
+    v12 = 0;
+    v13 = 2;
+    v14 = 0;
+    v15 = 0;
+    goto dfu_device_table_in_dfu_idle_exit;
+arm_6:
+    v9 = 0;
+    v10 = 0;
+    v11 = 0;
+    v12 = 0;
+    v13 = 2;
+    v14 = 1;
+    v15 = 0;
+    goto dfu_device_table_in_dfu_idle_exit;
+arm_7_2:
+    v9 = 0;
+    v10 = 0;
+    v11 = 0;
+    v12 = 0;
+    v13 = 2;
+    v14 = 2;
+    v15 = 0;
+    goto dfu_device_table_in_dfu_idle_exit;
+dfu_device_table_in_dfu_idle_exit:
+    r29_0_0 = v15;
+    r29_15_0 = v14;
+    r29_29117_0 = v13;
+    r29_43_0 = v12;
+    r29_57_0 = v11;
+    r29_67_0 = v10;
+    r29_77_0 = v9;
+    goto join_15;
+arm_4:
+    switch (r11) {
+    case 3: goto arm_1_3;
+    case 5: goto arm_2_3;
+    case 0:
+        r8_0_0 = 0;
+        r8_6_0 = 3;
+        r8_1120_0 = 3852;
+        r8_16_0_0 = 0;
+        r8_16_6_0 = 0;
+        r8_16_7_0_0 = 0;
+        r8_22_0_shrunk = 0;
+        goto dfu_device_table_in_download_sync_exit;
+    case 1:
+        r8_0_0 = 0;
+        r8_6_0 = 3;
+        r8_1120_0 = 3852;
+        r8_16_0_0 = 0;
+        r8_16_6_0 = 0;
+        r8_16_7_0_0 = 0;
+        r8_22_0_shrunk = 0;
+        goto dfu_device_table_in_download_sync_exit;
+    case 2:
+        r8_0_0 = 0;
+        r8_6_0 = 3;
+        r8_1120_0 = 3852;
+        r8_16_0_0 = 0;
+        r8_16_6_0 = 0;
+        r8_16_7_0_0 = 0;
+        r8_22_0_shrunk = 0;
+        goto dfu_device_table_in_download_sync_exit;
+    case 4:
+        r8_0_0 = 0;
+        r8_6_0 = 3;
+        r8_1120_0 = 3852;
+        r8_16_0_0 = 0;
+        r8_16_6_0 = 0;
+        r8_16_7_0_0 = 0;
+        r8_22_0_shrunk = 0;
+        goto dfu_device_table_in_download_sync_exit;
+    case 6:
+        r8_0_0 = 0;
+        r8_6_0 = 3;
+        r8_1120_0 = 3852;
+        r8_16_0_0 = 0;
+        r8_16_6_0 = 0;
+        r8_16_7_0_0 = 0;
+        r8_22_0_shrunk = 0;
+        goto dfu_device_table_in_download_sync_exit;
+    case 7:
+        r8_0_0 = 0;
+        r8_6_0 = 3;
+        r8_1120_0 = 3852;
+        r8_16_0_0 = 0;
+        r8_16_6_0 = 0;
+        r8_16_7_0_0 = 0;
+        r8_22_0_shrunk = 0;
+        goto dfu_device_table_in_download_sync_exit;
+    case 8:
+        r8_0_0 = 0;
+        r8_6_0 = 3;
+        r8_1120_0 = 3852;
+        r8_16_0_0 = 0;
+        r8_16_6_0 = 0;
+        r8_16_7_0_0 = 0;
+        r8_22_0_shrunk = 0;
+        goto dfu_device_table_in_download_sync_exit;
+    default: never();
+    }
+arm_1_3:;
+    uint32_t r17 = load32(a1 + 16);
+    if (r17 == 0) {
+        r8_0_0 = 3;
+        r8_6_0 = 1;
+        r8_1120_0 = r1_51_4_copyload;
+        r8_16_0_0 = r1_12_8_copyload;
+        r8_16_6_0 = 0;
+        r8_16_7_0_0 = 0;
+        r8_22_0_shrunk = 0;
+        goto dfu_device_table_in_download_sync_exit;
+    }
+    r8_0_0 = 0;
+    r8_6_0 = 1;
+    r8_1120_0 = 5;
+    r8_16_0_0 = r1_51_4_copyload;
+    r8_16_6_0 = r1_51_4_copyload;
+    r8_16_7_0_0 = r1_51_4_copyload & 0xff000000U;
+    r8_22_0_shrunk = r1_12_8_copyload;
+    goto dfu_device_table_in_download_sync_exit;
+arm_2_3:
+    r8_0_0 = 0;
+    r8_6_0 = 2;
+    r8_1120_0 = 3;
+    r8_16_0_0 = r1_51_4_copyload;
+    r8_16_6_0 = r1_51_4_copyload;
+    r8_16_7_0_0 = r1_51_4_copyload & 0xff000000U;
+    r8_22_0_shrunk = r1_12_8_copyload;
+    goto dfu_device_table_in_download_sync_exit;
+dfu_device_table_in_download_sync_exit:
+    r29_0_0 = r8_0_0;
+    r29_15_0 = r8_6_0;
+    r29_29117_0 = r8_1120_0;
+    r29_43_0 = ((r8_16_6_0 & 0xff0000U) | (r8_16_0_0 & 0xffffU)) | r8_16_7_0_0;
+    r29_57_0 = r8_22_0_shrunk & 0xffffU;
+    r29_67_0 = 0;
+    r29_77_0 = 0;
+    goto join_15;
+arm_5:
+    switch (r11) {
+    case 3: goto arm_1_4;
+    case 5: goto arm_2_4;
+    case 0:
+        r8_5_0 = 3;
+        r8_920_0 = 3852;
+        r8_13_0 = 0;
+        r8_17_0_shrunk = 0;
+        goto dfu_device_table_in_download_sync_written_exit;
+    case 1:
+        r8_5_0 = 3;
+        r8_920_0 = 3852;
+        r8_13_0 = 0;
+        r8_17_0_shrunk = 0;
+        goto dfu_device_table_in_download_sync_written_exit;
+    case 2:
+        r8_5_0 = 3;
+        r8_920_0 = 3852;
+        r8_13_0 = 0;
+        r8_17_0_shrunk = 0;
+        goto dfu_device_table_in_download_sync_written_exit;
+    case 4:
+        r8_5_0 = 3;
+        r8_920_0 = 3852;
+        r8_13_0 = 0;
+        r8_17_0_shrunk = 0;
+        goto dfu_device_table_in_download_sync_written_exit;
+    case 6:
+        r8_5_0 = 3;
+        r8_920_0 = 3852;
+        r8_13_0 = 0;
+        r8_17_0_shrunk = 0;
+        goto dfu_device_table_in_download_sync_written_exit;
+    case 7:
+        r8_5_0 = 3;
+        r8_920_0 = 3852;
+        r8_13_0 = 0;
+        r8_17_0_shrunk = 0;
+        goto dfu_device_table_in_download_sync_written_exit;
+    case 8:
+        r8_5_0 = 3;
+        r8_920_0 = 3852;
+        r8_13_0 = 0;
+        r8_17_0_shrunk = 0;
+        goto dfu_device_table_in_download_sync_written_exit;
+    default: never();
+    }
+arm_1_4:
+    r8_5_0 = 1;
+    r8_920_0 = 6;
+    r8_13_0 = r1_51_4_copyload;
+    r8_17_0_shrunk = r1_12_8_copyload;
+    goto dfu_device_table_in_download_sync_written_exit;
+arm_2_4:
+    r8_5_0 = 2;
+    r8_920_0 = 4;
+    r8_13_0 = r1_51_4_copyload;
+    r8_17_0_shrunk = r1_12_8_copyload;
+    goto dfu_device_table_in_download_sync_written_exit;
+dfu_device_table_in_download_sync_written_exit:
+    r29_0_0 = 0;
+    r29_15_0 = r8_5_0;
+    r29_29117_0 = r8_920_0;
+    r29_43_0 = r8_13_0;
+    r29_57_0 = r8_17_0_shrunk & 0xffffU;
+    r29_67_0 = 0;
+    r29_77_0 = 0;
+    goto join_15;
+arm_7:
+    switch (r11) {
+    case 1: goto arm_1_5;
+    case 6:
+        r29_0_0 = 0;
+        r29_15_0 = 0;
+        r29_29117_0 = 2;
+        r29_43_0 = 0;
+        r29_57_0 = 0;
+        r29_67_0 = 0;
+        r29_77_0 = 0;
+        goto join_15;
+    case 3: goto arm_3_5;
+    case 5: goto arm_4_4;
+    case 0: goto arm_5_3;
+    case 2: goto arm_5_3;
+    case 4: goto arm_5_3;
+    case 7: goto arm_5_3;
+    case 8: goto arm_5_3;
+    default: never();
+    }
+arm_1_5:
+    if (v1 == 0) goto join_3;
+    dfu_device_plans_block(r0_2, a1, r1_51_4_copyload, r1_12_0_0_extract_trunc, v0, v1);
+    uint8_t v16 = *r0_2;
+    uint8_t v17 = r0_2[1];
+    uint32_t v18 = load32(r0_2 + 4);
+    uint32_t v19 = load32(r0_2 + 8);
+    uint32_t v20 = load32(r0_2 + 12);
+    uint32_t v21 = load32(r0_2 + 16);
+    uint32_t v22 = load32(r0_2 + 20);
+    r10_24_1 = v19;
+    r10_32_1 = v20;
+    r10_38_1 = v21;
+    r10_44_1 = v22;
+    r10_1642_1 = v18;
+    r10_8_1 = v17;
+    r10_0_1 = v16;
+    goto dfu_device_plans_further_exit;
+join_3:;
+    uint32_t r22 = load32(a1 + 12);
+    if (r1_51_4_copyload < r22) {
+        r10_24_1 = 0;
+        r10_32_1 = 0;
+        r10_38_1 = 0;
+        r10_44_1 = 0;
+        r10_1642_1 = 2316;
+        r10_8_1 = 3;
+        r10_0_1 = 0;
+        goto dfu_device_plans_further_exit;
+    }
+    r10_24_1 = r1_51_4_copyload;
+    r10_32_1 = 0;
+    r10_38_1 = 0;
+    r10_44_1 = 0;
+    r10_1642_1 = 7;
+    r10_8_1 = 0;
+    r10_0_1 = 0;
+dfu_device_plans_further_exit:
+    r29_0_0 = r10_0_1;
+    r29_15_0 = r10_8_1;
+    r29_29117_0 = r10_1642_1;
+    r29_43_0 = r10_24_1;
+    r29_57_0 = r10_32_1;
+    r29_67_0 = r10_38_1;
+    r29_77_0 = r10_44_1;
+    goto join_15;
+arm_3_5:
+    r29_0_0 = 0;
+    r29_15_0 = 1;
+    r29_29117_0 = 6;
+    r29_43_0 = r1_51_4_copyload;
+    r29_57_0 = r1_12_8_copyload & 0xffffU;
+    r29_67_0 = 0;
+    r29_77_0 = 0;
+    goto join_15;
+arm_4_4:
+    r29_0_0 = 0;
+    r29_15_0 = 2;
+    r29_29117_0 = 6;
+    r29_43_0 = r1_51_4_copyload;
+    r29_57_0 = r1_12_8_copyload & 0xffffU;
+    r29_67_0 = 0;
+    r29_77_0 = 0;
+    goto join_15;
+arm_5_3:
+    r29_0_0 = 0;
+    r29_15_0 = 3;
+    r29_29117_0 = 3852;
+    r29_43_0 = 0;
+    r29_57_0 = 0;
+    r29_67_0 = 0;
+    r29_77_0 = 0;
+    goto join_15;
+arm_8:
+    switch (r11) {
+    case 3: goto arm_1_6;
+    case 5: goto arm_2_5;
+    case 0:
+        r8_0_0_2 = 0;
+        r8_6_0_2 = 3;
+        r8_1120_0_2 = 3852;
+        r8_16_0_0_2 = 0;
+        r8_16_6_0_2 = 0;
+        r8_16_7_0_0_2 = 0;
+        goto dfu_device_table_in_manifest_sync_exit;
+    case 1:
+        r8_0_0_2 = 0;
+        r8_6_0_2 = 3;
+        r8_1120_0_2 = 3852;
+        r8_16_0_0_2 = 0;
+        r8_16_6_0_2 = 0;
+        r8_16_7_0_0_2 = 0;
+        goto dfu_device_table_in_manifest_sync_exit;
+    case 2:
+        r8_0_0_2 = 0;
+        r8_6_0_2 = 3;
+        r8_1120_0_2 = 3852;
+        r8_16_0_0_2 = 0;
+        r8_16_6_0_2 = 0;
+        r8_16_7_0_0_2 = 0;
+        goto dfu_device_table_in_manifest_sync_exit;
+    case 4:
+        r8_0_0_2 = 0;
+        r8_6_0_2 = 3;
+        r8_1120_0_2 = 3852;
+        r8_16_0_0_2 = 0;
+        r8_16_6_0_2 = 0;
+        r8_16_7_0_0_2 = 0;
+        goto dfu_device_table_in_manifest_sync_exit;
+    case 6:
+        r8_0_0_2 = 0;
+        r8_6_0_2 = 3;
+        r8_1120_0_2 = 3852;
+        r8_16_0_0_2 = 0;
+        r8_16_6_0_2 = 0;
+        r8_16_7_0_0_2 = 0;
+        goto dfu_device_table_in_manifest_sync_exit;
+    case 7:
+        r8_0_0_2 = 0;
+        r8_6_0_2 = 3;
+        r8_1120_0_2 = 3852;
+        r8_16_0_0_2 = 0;
+        r8_16_6_0_2 = 0;
+        r8_16_7_0_0_2 = 0;
+        goto dfu_device_table_in_manifest_sync_exit;
+    case 8:
+        r8_0_0_2 = 0;
+        r8_6_0_2 = 3;
+        r8_1120_0_2 = 3852;
+        r8_16_0_0_2 = 0;
+        r8_16_6_0_2 = 0;
+        r8_16_7_0_0_2 = 0;
+        goto dfu_device_table_in_manifest_sync_exit;
+    default: never();
+    }
+arm_1_6:;
+    uint32_t r18 = load32(a1 + 20);
+    if (r18 == 0) {
+        r8_0_0_2 = 4;
+        r8_6_0_2 = 1;
+        r8_1120_0_2 = r1_51_4_copyload;
+        r8_16_0_0_2 = 2;
+        r8_16_6_0_2 = 0;
+        r8_16_7_0_0_2 = 0;
+        goto dfu_device_table_in_manifest_sync_exit;
+    }
+    r8_0_0_2 = 0;
+    r8_6_0_2 = 1;
+    r8_1120_0_2 = 9;
+    r8_16_0_0_2 = r1_51_4_copyload;
+    r8_16_6_0_2 = r1_51_4_copyload;
+    r8_16_7_0_0_2 = r1_51_4_copyload & 0xffff0000U;
+    goto dfu_device_table_in_manifest_sync_exit;
+arm_2_5:
+    r8_0_0_2 = 0;
+    r8_6_0_2 = 2;
+    r8_1120_0_2 = 7;
+    r8_16_0_0_2 = r1_51_4_copyload;
+    r8_16_6_0_2 = r1_51_4_copyload;
+    r8_16_7_0_0_2 = r1_51_4_copyload & 0xffff0000U;
+    goto dfu_device_table_in_manifest_sync_exit;
+dfu_device_table_in_manifest_sync_exit:
+    r29_0_0 = r8_0_0_2;
+    r29_15_0 = r8_6_0_2;
+    r29_29117_0 = r8_1120_0_2;
+    r29_43_0 = ((r8_16_6_0_2 & 0xff00U) | (r8_16_0_0_2 & 255)) | r8_16_7_0_0_2;
+    r29_57_0 = 0;
+    r29_67_0 = 0;
+    r29_77_0 = 0;
+    goto join_15;
+arm_11:
+    r29_0_0 = 0;
+    r29_15_0 = 3;
+    r29_29117_0 = 10;
+    r29_43_0 = 0;
+    r29_57_0 = 0;
+    r29_67_0 = 0;
+    r29_77_0 = 0;
+    goto join_15;
+arm_12:
+    switch (r11) {
+    case 2: goto arm_1_7;
+    case 6: goto arm_2_6;
+    case 3: goto arm_3_6;
+    case 5: goto arm_4_5;
+    case 0:
+        v23 = 0;
+        v24 = 0;
+        v25 = 0;
+        v26 = 0;
+        v27 = 3852;
+        v28 = 3;
+        v29 = 0;
+        goto dfu_device_table_in_upload_idle_exit;
+    case 1:
+        v23 = 0;
+        v24 = 0;
+        v25 = 0;
+        v26 = 0;
+        v27 = 3852;
+        v28 = 3;
+        v29 = 0;
+        goto dfu_device_table_in_upload_idle_exit;
+    case 4:
+        v23 = 0;
+        v24 = 0;
+        v25 = 0;
+        v26 = 0;
+        v27 = 3852;
+        v28 = 3;
+        v29 = 0;
+        goto dfu_device_table_in_upload_idle_exit;
+    case 7:
+        v23 = 0;
+        v24 = 0;
+        v25 = 0;
+        v26 = 0;
+        v27 = 3852;
+        v28 = 3;
+        v29 = 0;
+        goto dfu_device_table_in_upload_idle_exit;
+    case 8:
+        v23 = 0;
+        v24 = 0;
+        v25 = 0;
+        v26 = 0;
+        v27 = 3852;
+        v28 = 3;
+        v29 = 0;
+        goto dfu_device_table_in_upload_idle_exit;
+    default: never();
+    }
+arm_1_7:
+    dfu_device_plans_upload(r10, a1, r1_51_4_copyload, r1_12_0_0_extract_trunc, v0, v1);
+    uint8_t pre_2 = *r10;
+    uint8_t pre39 = r10[1];
+    uint32_t pre40 = load32(r10 + 4);
+    uint32_t pre41 = load32(r10 + 8);
+    uint32_t pre42 = load32(r10 + 12);
+    uint32_t pre43_2 = load32(r10 + 16);
+    uint32_t pre44_2 = load32(r10 + 20);
+    v23 = pre44_2;
+    v24 = pre43_2;
+    v25 = pre42;
+    v26 = pre41;
+    v27 = pre40;
+    v28 = pre39;
+    v29 = pre_2;
+    goto dfu_device_table_in_upload_idle_exit;
+arm_2_6:
+    v23 = 0;
+    v24 = 0;
+    v25 = 0;
+    v26 = 0;
+    v27 = 2;
+    v28 = 0;
+    v29 = 0;
+    goto dfu_device_table_in_upload_idle_exit;
+arm_3_6:
+    v23 = 0;
+    v24 = 0;
+    v25 = r1_12_8_copyload & 0xffffU;
+    v26 = r1_51_4_copyload;
+    v27 = 11;
+    v28 = 1;
+    v29 = 0;
+    goto dfu_device_table_in_upload_idle_exit;
+arm_4_5:
+    v23 = 0;
+    v24 = 0;
+    v25 = r1_12_8_copyload & 0xffffU;
+    v26 = r1_51_4_copyload;
+    v27 = 11;
+    v28 = 2;
+    v29 = 0;
+    goto dfu_device_table_in_upload_idle_exit;
+dfu_device_table_in_upload_idle_exit:
+    r29_0_0 = v29;
+    r29_15_0 = v28;
+    r29_29117_0 = v27;
+    r29_43_0 = v26;
+    r29_57_0 = v25;
+    r29_67_0 = v24;
+    r29_77_0 = v23;
+    goto join_15;
+arm_13:
+    switch (r11) {
+    case 4:
+        r29_0_0 = 0;
+        r29_15_0 = 0;
+        r29_29117_0 = 2;
+        r29_43_0 = 0;
+        r29_57_0 = 0;
+        r29_67_0 = 0;
+        r29_77_0 = 0;
+        goto join_15;
+    case 3: goto arm_2_7;
+    case 5: goto arm_3_7;
+    case 0: goto arm_4_6;
+    case 1: goto arm_4_6;
+    case 2: goto arm_4_6;
+    case 6: goto arm_4_6;
+    case 7: goto arm_4_6;
+    case 8: goto arm_4_6;
+    default: never();
+    }
+arm_2_7:
+    r29_0_0 = 0;
+    r29_15_0 = 1;
+    r29_29117_0 = ((uint32_t)r1_3_1_copyload << 8) | 12;
+    r29_43_0 = 0;
+    r29_57_0 = 0;
+    r29_67_0 = 0;
+    r29_77_0 = 0;
+    goto join_15;
+arm_3_7:
+    r29_0_0 = 0;
+    r29_15_0 = 2;
+    r29_29117_0 = ((uint32_t)r1_3_1_copyload << 8) | 12;
+    r29_43_0 = 0;
+    r29_57_0 = 0;
+    r29_67_0 = 0;
+    r29_77_0 = 0;
+    goto join_15;
+arm_4_6:
+    r29_0_0 = 0;
+    r29_15_0 = 3;
+    r29_29117_0 = ((uint32_t)r1_3_1_copyload << 8) | 12;
+    r29_43_0 = 0;
+    r29_57_0 = 0;
+    r29_67_0 = 0;
+    r29_77_0 = 0;
+    goto join_15;
+switch_lookup:;
+    uint64_t v30 = (uint64_t)r11;
+    uint8_t switch_load = *(PLACE(switch_table_dfu_device_table_decide) + (size_t)v30);
+    uint32_t switch_load149 = load32(PLACE(switch_table_dfu_device_table_decide_2) + 4 * (size_t)v30);
+    r29_0_0 = 0;
+    r29_15_0 = switch_load;
+    r29_29117_0 = switch_load149;
+    r29_43_0 = 0;
+    r29_57_0 = 0;
+    r29_67_0 = 0;
+    r29_77_0 = 0;
+join_15:
+    *a0 = r29_0_0;
+    a0[1] = r29_15_0;
+    store32(a0 + 4, r29_29117_0);
+    store32(a0 + 8, r29_43_0);
+    store32(a0 + 12, r29_57_0);
+    store32(a0 + 16, r29_67_0);
+    store32(a0 + 20, r29_77_0);
+    return;
+}
+
+/* dfu_device::plans::block */
+static void dfu_device_plans_block(unsigned char *a0, unsigned char *a1, uint32_t a2, uint16_t a3, uint16_t a4, uint16_t a5) {
+    uint16_t r12 = load16(a1 + 6);
+    if (r12 < a5) goto then_1;
+    goto join_3;
+then_1:
+    *a0 = 0;
+    a0[1] = 3;
+    store32(a0 + 4, 3852);
+    memset(a0 + 8, 0, 16);
+    return;
+join_3:
+    if (a4 == a3) goto join_6;
+    *a0 = 0;
+    a0[1] = 3;
+    store32(a0 + 4, 2060);
+    memset(a0 + 8, 0, 16);
+    return;
+join_6:;
+    uint64_t r54 = load64(a1 + 24);
+    if (r54 >= ((uint64_t)a5 + (uint64_t)a2)) goto join_9;
+    *a0 = 0;
+    a0[1] = 3;
+    store32(a0 + 4, 2060);
+    memset(a0 + 8, 0, 16);
+    return;
+join_9:
+    *a0 = 1;
+    a0[1] = 0;
+    store32(a0 + 4, 3);
+    store32(a0 + 8, a2);
+    store32(a0 + 12, (uint32_t)(uint16_t)(a4 + 1));
+    store32(a0 + 16, 0);
+    store32(a0 + 20, 0);
+    return;
+}
+
+/* dfu_device::plans::upload */
+static void dfu_device_plans_upload(unsigned char *a0, unsigned char *a1, uint32_t a2, uint16_t a3, uint16_t a4, uint16_t a5) {
+    if (a5 == 0) goto join_5;
+    uint16_t r13 = load16(a1 + 6);
+    if (r13 < a5) goto join_5;
+    goto after_1;
+join_5:
+    *a0 = 0;
+    a0[1] = 3;
+    store32(a0 + 4, 3852);
+    memset(a0 + 8, 0, 16);
+    return;
+after_1:
+    if (a4 == a3) goto join_13;
+    *a0 = 0;
+    a0[1] = 3;
+    store32(a0 + 4, 2060);
+    memset(a0 + 8, 0, 16);
+    return;
+join_13:
+    *a0 = 2;
+    a0[1] = 0;
+    store32(a0 + 4, a2);
+    store32(a0 + 8, ((uint32_t)(uint16_t)(a4 + 1) << 16) | (uint32_t)a5);
+    store32(a0 + 12, 0);
+    store32(a0 + 16, 0);
+    store32(a0 + 20, 0);
     return;
 }
 
@@ -2179,38 +2983,24 @@ dfu_asks_c_work_set_work_exit:;
     return;
 }
 
-/* dfu_slots::read::gate_of::<#9b6d6f79817a9aa5> */
-static uint32_t dfu_slots_read_gate_of_3(unsigned char *a0) {
-    uint8_t r0_0_0_copyload = a0[16];
-    uint32_t switch_load = load32(PLACE(switch_table_dfu_asking_format) + 4 * (size_t)r0_0_0_copyload);
-    uint32_t r2 = load32(a0 + 20);
-    return umax32(r2, switch_load);
-}
-
 /* dfu_slots::read::capacity_of::<#9b6d6f79817a9aa5> */
 static uint32_t dfu_slots_read_capacity_of_3(unsigned char *a0) {
     uint64_t r3 = load64(a0 + 8);
-    uint32_t r8 = dfu_slots_read_gate_of_3(a0);
-    return ((uint32_t)r3 >> 1) - (r8 << 1);
-}
-
-/* dfu_slots::read::data_at::<#9b6d6f79817a9aa5> */
-static uint32_t dfu_slots_read_data_at_3(unsigned char *a0, uint32_t a1) {
-    uint32_t r3 = dfu_slots_read_gate_of_3(a0);
-    return (r3 << 1) + a1;
+    uint8_t r0_0_0_copyload = a0[16];
+    uint32_t switch_load = load32(PLACE(switch_table_dfu_asking_format) + 4 * (size_t)r0_0_0_copyload);
+    uint32_t r2 = load32(a0 + 20);
+    return ((uint32_t)r3 >> 1) - (umax32(r2, switch_load) << 1);
 }
 
 /* dfu_slots::writes::close_gate::<#9b6d6f79817a9aa5> */
 static uint8_t dfu_slots_writes_close_gate_2(unsigned char *a0, uint32_t a1) {
     _Alignas(1) unsigned char r2_2[256];
-    _Alignas(1) unsigned char r8[256];
     struct i8_i8 r43_pn;
     uint32_t r2 = load32(a0 + 20);
     if (r2 != 0) goto join_3;
     uint8_t r0_0_0_copyload = a0[16];
     uint64_t switch_load = load64(PLACE(switch_table_dfu_asking_would_stall) + 8 * (size_t)r0_0_0_copyload);
-    dfu_slots_layout_fill_up(r8, PLACE(static_2), 1);
-    memcpy(r2_2, r8, 256);
+    dfu_slots_layout_fill_up(r2_2, PLACE(static_2), 1);
     struct i8_i8 r43 = dfu_slots_writes_write(a0, a1, r2_2, switch_load);
     r43_pn = r43;
     goto return_4;
@@ -2252,7 +3042,8 @@ loop_2_2:
     if (r7) goto common_ret;
     a1_a0 = umin64(r5_5_0, 256);
     uint64_t r3_3 = load64(r2);
-    dfu_asks_c_memory_MemoryMedium_read(a0, (uint32_t)r3_3 - r4_0, r3, a1_a0);
+    uint64_t r22_wide = load64(a0);
+    core_slice_edits_slice_T_copy_from_slice_i8_core_clone_U8Clone(r3, (unsigned char *)(uintptr_t)r22_wide + (size_t)((uint32_t)r3_3 - r4_0), a1_a0);
     r16 = r5_0_0_in + (size_t)a1_a0;
     r19 = r5_5_0 - a1_a0;
     r5_0 = 0;
@@ -2277,13 +3068,6 @@ dfu_slots_read_are_same_exit:
     }
 common_ret:
     return r7;
-}
-
-/* dfu_asks_c::memory::MemoryMedium::read */
-static void dfu_asks_c_memory_MemoryMedium_read(unsigned char *a0, uint32_t a1, unsigned char *a2, uint64_t a3) {
-    uint64_t r22_wide = load64(a0);
-    core_slice_edits_slice_T_copy_from_slice_i8_core_clone_U8Clone(a2, (unsigned char *)(uintptr_t)r22_wide + (size_t)a1, a3);
-    return;
 }
 
 /* dfu_slots::erasing::erase::<#9b6d6f79817a9aa5> */
@@ -2328,14 +3112,12 @@ dfu_slots_erasing_is_blank_exit:;
 }
 
 /* dfu_slots::writes::write_anew::<#9b6d6f79817a9aa5> */
-static struct i8_i8 dfu_slots_writes_write_anew(unsigned char *a0, uint32_t a1, unsigned char *a2, uint64_t a3) {
+static uint8_t dfu_slots_writes_write_anew(unsigned char *a0, uint32_t a1, unsigned char *a2, uint64_t a3) {
     uint32_t r2, r19, r5_0;
-    struct i8_i8 r42, r28_pn;
     uint8_t r0_0_0;
     r2 = load32(a0 + 20);
     if (r2 != 0) goto ok_2;
     struct i8_i8 r28 = dfu_slots_writes_write(a0, a1, a2, a3);
-    r28_pn = r28;
     r0_0_0 = r28.a;
     goto return_4;
 ok_2:
@@ -2344,26 +3126,18 @@ ok_2:
     r5_0 = (uint32_t)((r22 == 0) ? 0 : (r2 - r22)) + a1;
 loop_7:
     if (r5_0 >= r19) goto arm_6;
-    r42 = dfu_slots_erasing_erase(a0, r5_0);
-    if (r42.a != 1) {
-        r5_0 = r5_0 + r2;
-        goto loop_7;
+    struct i8_i8 r42 = dfu_slots_erasing_erase(a0, r5_0);
+    if (r42.a == 1) {
+        r0_0_0 = 1;
+        goto return_4;
     }
-    struct i8_i8 r53 = (struct i8_i8){ 1, 0 };
-    r53.b = r42.b;
-    r28_pn = r53;
-    r0_0_0 = 1;
-    goto return_4;
+    r5_0 = r5_0 + r2;
+    goto loop_7;
 arm_6:;
     struct i8_i8 r49 = dfu_slots_writes_write(a0, a1, a2, a3);
-    r28_pn = r49;
     r0_0_0 = r49.a;
-return_4:;
-    struct i8_i8 r55_half = (struct i8_i8){ 0, 0 };
-    r55_half.a = r0_0_0;
-    struct i8_i8 r55 = r55_half;
-    r55.b = r28_pn.b;
-    return r55;
+return_4:
+    return r0_0_0;
 }
 
 /* dfu_slots::writes::write_filled::<#9b6d6f79817a9aa5> */
@@ -2372,16 +3146,17 @@ static uint8_t dfu_slots_writes_write_filled(unsigned char *a0, uint32_t a1, uns
     uint64_t r27;
     uint8_t r0_0_0;
     uint8_t r0_0_0_copyload = a0[16];
-    uint64_t r24 = dfu_slots_layout_fill_size(r0_0_0_copyload, a3);
-    r27 = r24 + a3;
+    uint64_t switch_load = load64(PLACE(switch_table_dfu_slots_slots_Slots_put) + 8 * (size_t)r0_0_0_copyload);
+    uint64_t v1 = switch_load + 0xffffffffffffffffULL;
+    r27 = ((switch_load - (v1 & a3)) & v1) + a3;
     memset(r4, 0, 4096);
     core_slice_edits_slice_T_copy_from_slice_i8_core_clone_U8Clone(r4, a2, a3);
     if (r27 == 0) {
         r0_0_0 = 0;
         goto dfu_slots_writes_write_some_exit;
     }
-    struct i8_i8 r17 = dfu_slots_writes_write_anew(a0, a1, r4, r27);
-    r0_0_0 = r17.a;
+    uint8_t r17 = dfu_slots_writes_write_anew(a0, a1, r4, r27);
+    r0_0_0 = r17;
 dfu_slots_writes_write_some_exit:
     return r0_0_0;
 }
@@ -2390,32 +3165,36 @@ dfu_slots_writes_write_some_exit:
 static uint32_t dfu_slots_register_register_of_2(unsigned char *a0, uint32_t a1, uint32_t a2) {
     _Alignas(1) unsigned char r2[256];
     _Alignas(4) unsigned char r1[4];
+    unsigned char *r1_2, *r1_3;
     uint32_t r3_0;
     store32(r1, 0xffffffffU);
     memset(r2, 0, 256);
+    r1_2 = a0 + 16;
+    r1_3 = a0 + 20;
     r3_0 = 0;
 loop_2:
     if (r3_0 >= a2) goto after_1;
     uint32_t a1_a0 = umin32(a2 - r3_0, 256);
     uint64_t r29 = (uint64_t)a1_a0;
-    uint32_t r6 = dfu_slots_read_data_at_3(a0, a1);
-    dfu_asks_c_memory_MemoryMedium_read(a0, r6 + r3_0, r2, r29);
+    uint8_t r0_0_0_copyload = *r1_2;
+    uint32_t switch_load = load32(PLACE(switch_table_dfu_asking_format) + 4 * (size_t)r0_0_0_copyload);
+    uint32_t r2_2 = load32(r1_3);
+    uint64_t r22_wide = load64(a0);
+    core_slice_edits_slice_T_copy_from_slice_i8_core_clone_U8Clone(r2, (unsigned char *)(uintptr_t)r22_wide + (size_t)((r3_0 + a1) + (umax32(r2_2, switch_load) << 1)), r29);
     dfu_suffix_crc_Crc_update_small(r1, r2, r29);
     r3_0 = a1_a0 + r3_0;
     goto loop_2;
 after_1:;
-    uint32_t r1_2 = load32(r1);
-    return r1_2;
+    uint32_t r1_4 = load32(r1);
+    return r1_4;
 }
 
 /* dfu_slots::writes::write_unit::<#9b6d6f79817a9aa5> */
 static uint8_t dfu_slots_writes_write_unit(unsigned char *a0, uint32_t a1, unsigned char *a2, uint64_t a3, uint32_t a4) {
     _Alignas(1) unsigned char r3[256];
-    _Alignas(1) unsigned char r4[256];
-    dfu_slots_layout_fill_up(r4, a2, a3);
-    memcpy(r3, r4, 256);
-    struct i8_i8 r20 = dfu_slots_writes_write_anew(a0, a1, r3, (uint64_t)a4);
-    return r20.a;
+    dfu_slots_layout_fill_up(r3, a2, a3);
+    uint8_t r20 = dfu_slots_writes_write_anew(a0, a1, r3, (uint64_t)a4);
+    return r20;
 }
 
 /* dfu_slots::read::counts::<#9b6d6f79817a9aa5> */
@@ -2459,7 +3238,8 @@ join_3:
 static uint8_t dfu_slots_read_byte_at_3(unsigned char *a0, uint32_t a1) {
     _Alignas(4) unsigned char r1[1];
     *r1 = 0;
-    dfu_asks_c_memory_MemoryMedium_read(a0, a1, r1, 1);
+    uint64_t r22_wide = load64(a0);
+    core_slice_edits_slice_T_copy_from_slice_i8_core_clone_U8Clone(r1, (unsigned char *)(uintptr_t)r22_wide + (size_t)a1, 1);
     uint8_t r15 = *r1;
     return r15;
 }
@@ -2468,31 +3248,33 @@ static uint8_t dfu_slots_read_byte_at_3(unsigned char *a0, uint32_t a1) {
 static void dfu_slots_read_header_of_3(unsigned char *a0, unsigned char *a1, uint32_t a2) {
     _Alignas(1) unsigned char r1[16];
     memset(r1, 0, 16);
-    uint32_t r7 = dfu_slots_read_gate_of_3(a1);
-    dfu_asks_c_memory_MemoryMedium_read(a1, r7 + a2, r1, 16);
+    uint8_t r0_0_0_copyload = a1[16];
+    uint32_t switch_load = load32(PLACE(switch_table_dfu_asking_format) + 4 * (size_t)r0_0_0_copyload);
+    uint32_t r2 = load32(a1 + 20);
+    uint64_t r22_wide = load64(a1);
+    core_slice_edits_slice_T_copy_from_slice_i8_core_clone_U8Clone(r1, (unsigned char *)(uintptr_t)r22_wide + (size_t)(umax32(r2, switch_load) + a2), 16);
     memcpy(a0, r1, 16);
     return;
 }
 
 /* dfu_slots::read::generation::<#9b6d6f79817a9aa5> */
 static void dfu_slots_read_generation_3(unsigned char *a0, uint32_t a1) {
-    uint32_t r3 = dfu_slots_read_gate_of_3(a0);
-    dfu_slots_read_byte_at_3(a0, r3 + a1);
+    uint8_t r0_0_0_copyload = a0[16];
+    uint32_t switch_load = load32(PLACE(switch_table_dfu_asking_format) + 4 * (size_t)r0_0_0_copyload);
+    uint32_t r2 = load32(a0 + 20);
+    dfu_slots_read_byte_at_3(a0, umax32(r2, switch_load) + a1);
     return;
 }
 
 /* dfu_asks_c::keeping::found */
 static void dfu_asks_c_keeping_found(unsigned char *a0, unsigned char *a1, unsigned char *a2, uint64_t a3) {
     _Alignas(8) unsigned char r1[264];
-    _Alignas(8) unsigned char r29[264];
-    _Alignas(8) unsigned char r15_21[264];
     _Alignas(2) unsigned char r17_6_15[264];
     _Alignas(2) unsigned char r17_6_0[34];
     _Alignas(4) unsigned char r7[32];
     _Alignas(4) unsigned char r19[20];
     _Alignas(2) unsigned char r17_6_14[16];
     _Alignas(4) unsigned char r23_13[3];
-    _Alignas(4) unsigned char r15_27[3];
     _Alignas(4) unsigned char r17_6_4[3];
     _Alignas(4) unsigned char r17_6_21[3];
     _Alignas(1) unsigned char r25[1];
@@ -2501,10 +3283,7 @@ static void dfu_asks_c_keeping_found(unsigned char *a0, unsigned char *a1, unsig
     unsigned char *r33, *v1, *r2_3_0_r1_sroa_idx;
     uint8_t r75, r1_3_4_copyload, r1_5_5_copyload, r8_11_0, r1_5_0_0, r23_12_0, r17_6_3_0, r17_6_6_0, r17_6_7_0, r17_6_20_0, r17_0_0, r17_4_0;
     uint16_t r33_2, r1_8_0, r23_15_0, r23_16_0, r17_6_23_0, r17_6_24_0;
-    uint64_t wide_20624, r1_2, r0_0, r17_6_13_0;
-    memset(r7, 0, 32);
-    memset(r15_21, 0, 264);
-    memset(r15_27, 0, 3);
+    uint64_t wide_22326, r1_2, r0_0, r17_6_13_0;
     memset(r17_6_0, 0, 34);
     memset(r17_6_4, 0, 3);
     memset(r17_6_14, 0, 16);
@@ -2546,7 +3325,6 @@ join_10:;
 after_11:
     r75 = dfu_c_parts_config_unit_of(a1);
     v1 = r19 + 4;
-    memset(v1, 0, 16);
     r33_2 = load16(a2 + 44);
     if (r33_2 > 256) goto dfu_asks_c_keeping_asking_of_exit_thread;
     uint32_t r44 = load32(a2 + 304);
@@ -2617,7 +3395,7 @@ arm_8:;
     r23_16_0 = r1_8_0;
     r23_17_0 = r100;
 arm_1:
-    wide_20624 = (uint64_t)(uintptr_t)r25;
+    wide_22326 = (uint64_t)(uintptr_t)r25;
     memcpy(r1, a2 + 46, 256);
     r2_3_0_r1_sroa_idx = r1 + 256;
     store64(r2_3_0_r1_sroa_idx, 256);
@@ -2653,16 +3431,13 @@ dfu_asks_c_keeping_asking_of_exit_thread:
     r17_0_0 = 1;
     r17_4_0 = 4;
     goto join_23;
-arm_21:
-    memcpy(r29, r1, 264);
+arm_21:;
     uint32_t r121 = load32(a2 + 16);
-    memcpy(r15_21, r29, 264);
-    memcpy(r15_27, r23_13, 3);
     memcpy(r17_6_0 + 6, r33, 28);
     memset(r17_6_4, 0, 3);
     memset(r17_6_14, 0, 16);
-    memcpy(r17_6_15, r15_21, 264);
-    memcpy(r17_6_21, r15_27, 3);
+    memcpy(r17_6_15, r1, 264);
+    memcpy(r17_6_21, r23_13, 3);
     r17_6_3_0 = r75;
     r17_6_5_0 = a1_2;
     r17_6_6_0 = r1_3_4_copyload;
@@ -2670,7 +3445,7 @@ arm_21:
     r17_6_9_0 = v2;
     r17_6_10_0 = r1_9_12_copyload;
     r17_6_11_0 = r1_11_16_copyload;
-    r17_6_13_0 = wide_20624;
+    r17_6_13_0 = wide_22326;
     r17_6_16_0 = r121;
     r17_6_17_0 = r23_6_0_0;
     r17_6_18_0 = r23_9_0;
@@ -2688,27 +3463,27 @@ join_23:
     memcpy(a0 + 8, r17_6_0 + 6, 28);
     a0[36] = r17_6_3_0;
     memcpy(a0 + 37, r17_6_4, 3);
-    store32u(a0 + 40, r17_6_5_0);
+    store32(a0 + 40, r17_6_5_0);
     a0[44] = r17_6_6_0;
     a0[45] = r17_6_7_0;
-    store16u(a0 + 46, 0);
-    store32u(a0 + 48, r17_6_9_0);
-    store32u(a0 + 52, r17_6_10_0);
-    store32u(a0 + 56, r17_6_11_0);
-    store32u(a0 + 60, 0);
-    store64u(a0 + 64, r17_6_13_0);
+    store16(a0 + 46, 0);
+    store32(a0 + 48, r17_6_9_0);
+    store32(a0 + 52, r17_6_10_0);
+    store32(a0 + 56, r17_6_11_0);
+    store32(a0 + 60, 0);
+    store64(a0 + 64, r17_6_13_0);
     memcpy(a0 + 72, r17_6_14, 16);
     memcpy(a0 + 88, r17_6_15, 264);
-    store32u(a0 + 352, r17_6_16_0);
-    store32u(a0 + 356, r17_6_17_0);
-    store32u(a0 + 360, r17_6_18_0);
-    store32u(a0 + 364, r17_6_19_0);
+    store32(a0 + 352, r17_6_16_0);
+    store32(a0 + 356, r17_6_17_0);
+    store32(a0 + 360, r17_6_18_0);
+    store32(a0 + 364, r17_6_19_0);
     a0[368] = r17_6_20_0;
     memcpy(a0 + 369, r17_6_21, 3);
-    store32u(a0 + 372, r17_6_22_0);
-    store16u(a0 + 376, r17_6_23_0);
-    store16u(a0 + 378, r17_6_24_0);
-    store32u(a0 + 380, r17_6_25_0);
+    store32(a0 + 372, r17_6_22_0);
+    store16(a0 + 376, r17_6_23_0);
+    store16(a0 + 378, r17_6_24_0);
+    store32(a0 + 380, r17_6_25_0);
     return;
 }
 
@@ -2716,52 +3491,36 @@ join_23:
 static void dfu_asks_asking_Asking_assemble(unsigned char *a0, unsigned char *a1, unsigned char *a2, uint64_t a3) {
     _Alignas(8) unsigned char r17[312];
     unsigned char *const r14 = r17;
-    _Alignas(2) unsigned char r15_6_0[286];
-    unsigned char *const r13_4_2 = r15_6_0;
-    _Alignas(2) unsigned char r10_7[286];
-    _Alignas(8) unsigned char r0_7_0_0[280];
-    unsigned char *const r1 = r0_7_0_0;
-    unsigned char *const r13_0 = r0_7_0_0;
     _Alignas(8) unsigned char r19_0_0[280];
-    unsigned char *const r2 = r19_0_0;
-    _Alignas(8) unsigned char r10_5[280];
     _Alignas(2) unsigned char r19_6_5_3[272];
+    _Alignas(8) unsigned char r1[264];
+    unsigned char *const r3 = r1;
+    unsigned char *const r13_4 = r1;
     _Alignas(8) unsigned char r12_0[256];
-    _Alignas(8) unsigned char r3[24];
+    unsigned char *const r13_0 = r12_0;
     _Alignas(2) unsigned char r19_6_0[18];
-    _Alignas(2) unsigned char r13_10[14];
     _Alignas(2) unsigned char r19_6_4[14];
     _Alignas(4) unsigned char r7[12];
-    _Alignas(8) unsigned char r13_4[12];
-    _Alignas(1) unsigned char r2_2[1];
-    uint8_t r7_0_0_copyload, r15_4_0, v4, v5, r8_4_0, r13_0_0_0105, r19_6_10_0, r19_6_11_0, r19_4_0;
-    uint32_t r8_0_0_copyload, r39, r5_3_0_extract_trunc, r5, r3_0, r15_6_5_0, v6, v7, v8, r19_6_13_0, r19_6_14_0, r19_6_15_0;
-    uint64_t r12_3_0_copyload, r6_0_0_copyload, r15_6_4_0, r15_6_7_0, r0_0_0_copyload, r0_4_0_copyload, r0_5_0_copyload, r19_6_6_0, r19_6_7_0, r19_6_8_0, r19_6_9_0, r19_6_16_0;
-    uint64_t r19_6_17_0, r19_6_18_0;
-    uint8_t v3;
-    unsigned char *r10_7_8_r58_sroa_idx, *r44, *r0_4_0_r44_sroa_idx, *r0_5_0_r44_sroa_idx, *r15_4_0_r14_sroa_idx;
+    _Alignas(8) unsigned char r13_4_2[12];
+    _Alignas(1) unsigned char r2[1];
+    uint8_t r7_0_0_copyload, v3, v4, r8_4_0, r13_0_0_0105, r19_6_10_0, r19_6_11_0, r19_4_0;
+    uint32_t r8_0_0_copyload, r39, r5_3_0_extract_trunc, r5, r10, r3_0, v5, v6, v7, r19_6_13_0, r19_6_14_0, r19_6_15_0;
+    uint64_t r12_3_0_copyload, r6_0_0_copyload, v1, r0_0_0_copyload, r0_4_0_copyload, r0_5_0_copyload, r19_6_6_0, r19_6_7_0, r19_6_8_0, r19_6_9_0, r19_6_16_0, r19_6_17_0;
+    uint64_t r19_6_18_0;
     uint16_t r14_3_0_copyload, r19_6_3_0;
-    memset(r10_7, 0, 286);
-    memset(r13_4, 0, 12);
-    memset(r13_10, 0, 14);
+    unsigned char *r44, *r0_4_0_r44_sroa_idx, *r0_5_0_r44_sroa_idx, *r15_4_0_r14_sroa_idx;
     memset(r19_6_0, 0, 18);
     memset(r19_6_4, 0, 14);
     memset(r19_6_5_3, 0, 272);
-    memset(r15_6_0, 0, 286);
-    memset(r17, 0, 312);
     r7_0_0_copyload = a1[28];
-    r8_0_0_copyload = load32u(a1 + 32);
+    r8_0_0_copyload = load32(a1 + 32);
     if (a3 > 0xffffffffU) goto dfu_asks_asking_Asking_open_exit_thread;
-    memset(r2, 0, 264);
-    arrayvec_array_vec_ArrayVec_T_CAP_new_i8_256_core_default_U8Default(r2);
-    memcpy(r1, r2, 264);
+    arrayvec_array_vec_ArrayVec_T_CAP_new_i8_256_core_default_U8Default(r1);
     uint64_t r4 = load64(a1 + 336);
     arrayvec_array_vec_ArrayVec_try_extend_from_slice(r1, a1 + 80, r4);
     memcpy(r12_0, r1, 256);
     r12_3_0_copyload = load64(r1 + 256);
     r39 = load32(a1 + 344);
-    memset(r0_7_0_0, 0, 280);
-    memset(r7, 0, 12);
     store64(r3, (uint64_t)(uintptr_t)a2);
     store64(r3 + 8, a3);
     r3[16] = r7_0_0_copyload;
@@ -2770,19 +3529,20 @@ static void dfu_asks_asking_Asking_assemble(unsigned char *a0, unsigned char *a1
     dfu_slots_open_check(r7, r3);
     uint8_t r21 = *r7;
     if (r21 != 0) goto arm_2;
-    r6_0_0_copyload = load64u(r7 + 4);
+    r6_0_0_copyload = load64a4(r7 + 4);
     r5_3_0_extract_trunc = (uint32_t)(r6_0_0_copyload >> 32);
-    uint32_t r13 = dfu_slots_read_capacity_of_2(r3);
-    if (r13 < r39) goto then_5;
-    uint32_t switch_load = load32(PLACE(switch_table_dfu_asks_asking_Asking_assemble) + 4 * (size_t)r7_0_0_copyload);
-    if (r12_3_0_copyload != (uint64_t)(switch_load & r39)) goto then_5;
-    if (r8_0_0_copyload == 0) goto arm_5;
-    uint32_t r40 = dfu_slots_read_data_at_2(r3, r5_3_0_extract_trunc);
     r5 = (uint32_t)a3;
-    r3_0 = (r39 - (uint32_t)r12_3_0_copyload) + r40;
+    v1 = (uint64_t)r7_0_0_copyload;
+    uint32_t switch_load = load32(PLACE(switch_table_dfu_asking_format) + 4 * (size_t)v1);
+    r10 = umax32(r8_0_0_copyload, switch_load) << 1;
+    if (((r5 >> 1) - r10) < r39) goto then_5;
+    uint32_t switch_load_2 = load32(PLACE(switch_table_dfu_asks_asking_Asking_assemble) + 4 * (size_t)v1);
+    if (r12_3_0_copyload != (uint64_t)(switch_load_2 & r39)) goto then_5;
+    if (r8_0_0_copyload == 0) goto arm_1;
+    r3_0 = ((r39 - (uint32_t)r12_3_0_copyload) + r5_3_0_extract_trunc) + r10;
 loop_5:
-    if (r3_0 >= r5) goto arm_5;
-    if ((r3_0 % r8_0_0_copyload) == 0) goto arm_5;
+    if (r3_0 >= r5) goto arm_1;
+    if ((r3_0 % r8_0_0_copyload) == 0) goto arm_1;
     uint8_t r37 = dfu_slots_read_byte_at_2(r3, r3_0);
     if (r37 == 255) {
         r3_0 = r3_0 + 1;
@@ -2790,132 +3550,116 @@ loop_5:
     }
     goto then_5;
 arm_2:
-    memcpy(r0_7_0_0, r3, 24);
-    memcpy(r10_5, r0_7_0_0, 280);
-    goto arm_6;
+    memcpy(r19_0_0, r3, 24);
+    goto dfu_asks_asking_Asking_open_exit;
 then_5:
-    memcpy(r0_7_0_0, r3, 24);
-    memcpy(r10_5, r0_7_0_0, 280);
-    goto arm_6;
+    memcpy(r19_0_0, r3, 24);
+    goto dfu_asks_asking_Asking_open_exit;
 dfu_asks_asking_Asking_open_exit_thread:
     r8_4_0 = 1;
     goto arm_2_2;
-arm_5:
+dfu_asks_asking_Asking_open_exit:
+    dfu_slots_slots_Slots_open_2(r17, r19_0_0);
+    uint8_t r45 = *r17;
+    r8_4_0 = (uint8_t)((r45 == 0) ? 2 : 1);
+    goto arm_2_2;
+arm_1:
     memcpy(r19_0_0, r3, 24);
     memcpy(r19_0_0 + 24, r12_0, 256);
-    memcpy(r10_5, r19_0_0, 280);
-    memcpy(r15_6_0 + 6, r10_5, 280);
-    v3 = 1;
-    r15_6_4_0 = r12_3_0_copyload;
-    r15_6_5_0 = r39;
-    r15_6_7_0 = r6_0_0_copyload;
-    r15_4_0 = 0;
-    goto dfu_asks_asking_Asking_open_exit;
-arm_6:
-    dfu_slots_slots_Slots_open_2(r17, r10_5);
-    uint8_t r45 = *r17;
-    memset(r15_6_0 + 6, 0, 280);
-    v3 = 0;
-    r15_6_4_0 = 0;
-    r15_6_5_0 = 0;
-    r15_6_7_0 = 0;
-    r15_4_0 = (uint8_t)((r45 == 0) ? 2 : 1);
-dfu_asks_asking_Asking_open_exit:
-    r10_7_8_r58_sroa_idx = r10_7 + 6;
-    memcpy(r10_7_8_r58_sroa_idx, r15_6_0 + 6, 280);
-    if (!v3) {
-        r8_4_0 = r15_4_0;
-        goto arm_2_2;
-    }
-    r14_3_0_copyload = load16u(a1 + 12);
-    v4 = a1[36];
-    v5 = a1[37];
-    v6 = load32u(a1 + 40);
-    v7 = load32u(a1 + 44);
-    v8 = load32u(a1 + 48);
+    r14_3_0_copyload = load16(a1 + 12);
+    v3 = a1[36];
+    v4 = a1[37];
+    v5 = load32(a1 + 40);
+    v6 = load32(a1 + 44);
+    v7 = load32(a1 + 48);
     r44 = a1 + 56;
-    r0_0_0_copyload = load64u(r44);
+    r0_0_0_copyload = load64(r44);
     r0_4_0_r44_sroa_idx = a1 + 64;
-    r0_4_0_copyload = load64u(r0_4_0_r44_sroa_idx);
+    r0_4_0_copyload = load64(r0_4_0_r44_sroa_idx);
     r0_5_0_r44_sroa_idx = a1 + 72;
-    r0_5_0_copyload = load64u(r0_5_0_r44_sroa_idx);
-    store64u(r44, (uint64_t)(uintptr_t)r2_2);
+    r0_5_0_copyload = load64(r0_5_0_r44_sroa_idx);
+    store64(r44, (uint64_t)(uintptr_t)r2);
     memset(r0_4_0_r44_sroa_idx, 0, 16);
     memcpy(r13_0, a1, 12);
-    memcpy(r13_4_2, a1 + 14, 14);
-    memcpy(r14, r10_7_8_r58_sroa_idx, 280);
-    store64(r14 + 280, r15_6_4_0);
+    memcpy(r13_4, a1 + 14, 14);
+    memcpy(r14, r19_0_0, 280);
+    store64(r14 + 280, r12_3_0_copyload);
     r15_4_0_r14_sroa_idx = r14 + 288;
-    store32(r15_4_0_r14_sroa_idx, r15_6_5_0);
+    store32(r15_4_0_r14_sroa_idx, r39);
     store32(r14 + 292, 0);
-    store64(r14 + 296, r15_6_7_0);
-    if (umin64(r0_4_0_copyload, 4096) < (uint64_t)r14_3_0_copyload) goto arm_6_2;
-    switch (v4) {
+    store64(r14 + 296, r6_0_0_copyload);
+    if (umin64(r0_4_0_copyload, 4096) < (uint64_t)r14_3_0_copyload) goto arm_6;
+    switch (v3) {
     case 3: goto after_2;
     case 5: goto after_2;
     case 4: goto after_3;
     case 6: goto after_3;
     case 7: goto after_3;
     case 9: goto after_3;
-    case 0: goto arm_5_2;
-    case 1: goto arm_5_2;
-    case 2: goto arm_5_2;
-    case 8: goto arm_5_2;
-    case 10: goto arm_5_2;
-    case 11: goto arm_5_2;
-    case 12: goto arm_5_2;
+    case 0: goto arm_5;
+    case 1: goto arm_5;
+    case 2: goto arm_5;
+    case 8: goto arm_5;
+    case 10: goto arm_5;
+    case 11: goto arm_5;
+    case 12: goto arm_5;
     default: never();
     }
 after_3:
-    if (v6 == 0) goto arm_6_2;
-    uint32_t r3_2 = dfu_slots_read_capacity_of_2(r14);
-    if (v6 > r3_2) goto arm_6_2;
+    if (v5 == 0) goto arm_6;
+    uint64_t r3_2 = load64(r14 + 8);
+    uint8_t r0_0_0_copyload_2 = r14[16];
+    uint32_t switch_load_3 = load32(PLACE(switch_table_dfu_asking_format) + 4 * (size_t)r0_0_0_copyload_2);
+    uint32_t r1_0_0_copyload = load32(r14 + 20);
+    if (v5 > (((uint32_t)r3_2 >> 1) - (umax32(r1_0_0_copyload, switch_load_3) << 1))) goto arm_6;
     goto dfu_device_from_parts_is_sound_exit;
 after_2:
-    if (r0_5_0_copyload == 0) goto arm_6_2;
-    uint32_t r3_3 = dfu_slots_read_capacity_of_2(r14);
-    if ((r0_5_0_copyload + (uint64_t)v6) > (uint64_t)r3_3) goto arm_6_2;
-    if (v6 == 0) goto arm_5_2;
-    uint8_t r33 = dfu_device_from_parts_is_put(r14, v6);
-    if (r33) goto arm_5_2;
-    goto arm_6_2;
+    if (r0_5_0_copyload == 0) goto arm_6;
+    uint64_t r3_3 = load64(r14 + 8);
+    uint8_t r0_0_0_copyload_3 = r14[16];
+    uint32_t switch_load_4 = load32(PLACE(switch_table_dfu_asking_format) + 4 * (size_t)r0_0_0_copyload_3);
+    uint32_t r1_0_0_copyload_2 = load32(r14 + 20);
+    if ((r0_5_0_copyload + (uint64_t)v5) > (uint64_t)(((uint32_t)r3_3 >> 1) - (umax32(r1_0_0_copyload_2, switch_load_4) << 1))) goto arm_6;
+    if (v5 == 0) goto arm_5;
+    uint8_t r33 = dfu_device_from_parts_is_put(r14, v5);
+    if (r33) goto arm_5;
+    goto arm_6;
 dfu_device_from_parts_is_sound_exit:;
-    uint8_t r17_2 = dfu_device_from_parts_is_put(r14, v6);
-    if (r17_2) goto arm_5_2;
-    goto arm_6_2;
+    uint8_t r17_2 = dfu_device_from_parts_is_put(r14, v5);
+    if (r17_2) goto arm_5;
+    goto arm_6;
 arm_2_2:
     *a0 = 1;
     a0[1] = r8_4_0;
     memset(a0 + 8, 0, 376);
     return;
-arm_5_2:;
+arm_5:;
     uint64_t r32_3_0_copyload = load64(r14 + 272);
     uint64_t r32_5_0_copyload = load64(r15_4_0_r14_sroa_idx);
-    memcpy(r13_4, r13_0, 12);
-    memcpy(r13_10, r13_4_2, 14);
-    memcpy(r19_6_0 + 6, r13_4, 12);
-    memcpy(r19_6_4, r13_10, 14);
-    memcpy(r19_6_5_3, r10_7_8_r58_sroa_idx, 272);
+    memcpy(r13_4_2, r13_0, 12);
+    memcpy(r19_6_4, r13_4, 14);
+    memcpy(r19_6_0 + 6, r13_4_2, 12);
+    memcpy(r19_6_5_3, r19_0_0, 272);
     r13_0_0_0105 = 0;
     r19_6_3_0 = r14_3_0_copyload;
     r19_6_6_0 = r32_3_0_copyload;
-    r19_6_7_0 = r15_6_4_0;
+    r19_6_7_0 = r12_3_0_copyload;
     r19_6_8_0 = r32_5_0_copyload;
-    r19_6_9_0 = r15_6_7_0;
-    r19_6_10_0 = v4;
-    r19_6_11_0 = v5;
-    r19_6_13_0 = v6;
-    r19_6_14_0 = v7;
-    r19_6_15_0 = v8;
+    r19_6_9_0 = r6_0_0_copyload;
+    r19_6_10_0 = v3;
+    r19_6_11_0 = v4;
+    r19_6_13_0 = v5;
+    r19_6_14_0 = v6;
+    r19_6_15_0 = v7;
     r19_6_16_0 = r0_0_0_copyload;
     r19_6_17_0 = r0_4_0_copyload;
     r19_6_18_0 = r0_5_0_copyload;
     r19_4_0 = 0;
     goto join_7;
-arm_6_2:
-    store64u(r44, r0_0_0_copyload);
-    store64u(r0_4_0_r44_sroa_idx, r0_4_0_copyload);
-    store64u(r0_5_0_r44_sroa_idx, r0_5_0_copyload);
+arm_6:
+    store64(r44, r0_0_0_copyload);
+    store64(r0_4_0_r44_sroa_idx, r0_4_0_copyload);
+    store64(r0_5_0_r44_sroa_idx, r0_5_0_copyload);
     r13_0_0_0105 = 1;
     r19_6_3_0 = 0;
     r19_6_6_0 = 0;
@@ -2935,23 +3679,23 @@ join_7:
     *a0 = r13_0_0_0105;
     a0[1] = r19_4_0;
     memcpy(a0 + 8, r19_6_0 + 6, 12);
-    store16u(a0 + 20, r19_6_3_0);
+    store16(a0 + 20, r19_6_3_0);
     memcpy(a0 + 22, r19_6_4, 14);
-    store32u(a0 + 36, 0);
+    store32(a0 + 36, 0);
     memcpy(a0 + 40, r19_6_5_3, 272);
-    store64u(a0 + 312, r19_6_6_0);
-    store64u(a0 + 320, r19_6_7_0);
-    store64u(a0 + 328, r19_6_8_0);
-    store64u(a0 + 336, r19_6_9_0);
+    store64(a0 + 312, r19_6_6_0);
+    store64(a0 + 320, r19_6_7_0);
+    store64(a0 + 328, r19_6_8_0);
+    store64(a0 + 336, r19_6_9_0);
     a0[344] = r19_6_10_0;
     a0[345] = r19_6_11_0;
-    store16u(a0 + 346, 0);
-    store32u(a0 + 348, r19_6_13_0);
-    store32u(a0 + 352, r19_6_14_0);
-    store32u(a0 + 356, r19_6_15_0);
-    store64u(a0 + 360, r19_6_16_0);
-    store64u(a0 + 368, r19_6_17_0);
-    store64u(a0 + 376, r19_6_18_0);
+    store16(a0 + 346, 0);
+    store32(a0 + 348, r19_6_13_0);
+    store32(a0 + 352, r19_6_14_0);
+    store32(a0 + 356, r19_6_15_0);
+    store64(a0 + 360, r19_6_16_0);
+    store64(a0 + 368, r19_6_17_0);
+    store64(a0 + 376, r19_6_18_0);
     return;
 }
 
@@ -2977,8 +3721,8 @@ static void dfu_slots_open_check(unsigned char *a0, unsigned char *a1) {
 then_1:
     *a0 = 1;
     a0[1] = 0;
-    store32u(a0 + 4, 0);
-    store32u(a0 + 8, 0);
+    store32(a0 + 4, 0);
+    store32(a0 + 8, 0);
     return;
 join_3:;
     struct i8_i8 r25 = dfu_slots_places_count_slots(a1);
@@ -2987,8 +3731,8 @@ join_3:;
     if ((r27 | r26) != 0) goto join_6;
     *a0 = 1;
     a0[1] = 1;
-    store32u(a0 + 4, 0);
-    store32u(a0 + 8, 0);
+    store32(a0 + 4, 0);
+    store32(a0 + 8, 0);
     return;
 join_6:;
     struct i32_i32 r44 = dfu_slots_places_find_places(a1, r26, r27);
@@ -3004,16 +3748,16 @@ dfu_slots_places_has_newest_exit:;
 then_7:
     *a0 = 1;
     a0[1] = 2;
-    store32u(a0 + 4, 0);
-    store32u(a0 + 8, 0);
+    store32(a0 + 4, 0);
+    store32(a0 + 8, 0);
     return;
 join_9:;
     struct i8_i32 r68 = dfu_slots_read_header_len_2(a1, r45);
     uint8_t v1 = r68.a != 1;
     *a0 = v1;
     a0[1] = (uint8_t)(v1 ? 3 : 0);
-    store32u(a0 + 4, (uint32_t)(v1 ? 0 : r45));
-    store32u(a0 + 8, (uint32_t)(v1 ? 0 : r46));
+    store32(a0 + 4, (uint32_t)(v1 ? 0 : r45));
+    store32(a0 + 8, (uint32_t)(v1 ? 0 : r46));
     return;
 }
 
@@ -3048,19 +3792,16 @@ static void dfu_slots_slots_Slots_open_2(unsigned char *a0, unsigned char *a1) {
     _Alignas(8) unsigned char r9[272];
     _Alignas(8) unsigned char r7_4_5_0[264];
     _Alignas(8) unsigned char r2[24];
-    _Alignas(4) unsigned char r7_4_4_3[23];
-    _Alignas(8) unsigned char r12_3_3[23];
+    _Alignas(8) unsigned char r7_4_4_3[23];
     _Alignas(4) unsigned char r5[12];
-    uint8_t r14, r7_4_0_0;
+    uint8_t r14, r8_0_0_copyload, r7_4_0_0;
     uint64_t r7_4_4_0_0, r7_4_5_3_0;
-    memset(r5, 0, 12);
-    memset(r7_4_5_0, 0, 264);
     memcpy(r2, a1, 24);
     dfu_slots_open_check(r5, r2);
     r14 = *r5;
+    r8_0_0_copyload = *r2;
     if (r14 != 0) goto arm_2;
-    uint64_t r3_0_0_copyload = load64u(r5 + 4);
-    uint8_t r8_0_0_copyload = *r2;
+    uint64_t r3_0_0_copyload = load64a4(r5 + 4);
     dfu_slots_puts_Puts_nothing(r9);
     uint64_t r10_3_0_0_0_copyload = load64u(r2 + 1);
     memcpy(r10_3_0_2, r2 + 9, 15);
@@ -3073,19 +3814,17 @@ static void dfu_slots_slots_Slots_open_2(unsigned char *a0, unsigned char *a1) {
     goto join_4;
 arm_2:;
     uint8_t r4_0_0_copyload = r5[1];
-    uint8_t r12_3_0_7_copyload = *r2;
-    memcpy(r12_3_3, r2 + 1, 23);
-    memcpy(r7_4_4_3, r12_3_3, 23);
-    r7_4_4_0_0 = (uint64_t)r12_3_0_7_copyload << 56;
+    memcpy(r7_4_4_3, r2 + 1, 23);
+    r7_4_4_0_0 = (uint64_t)r8_0_0_copyload << 56;
     r7_4_5_3_0 = 0;
     r7_4_0_0 = r4_0_0_copyload;
 join_4:
-    store64u(a0, (uint64_t)r14);
+    store64(a0, (uint64_t)r14);
     a0[8] = r7_4_0_0;
     store64u(a0 + 9, r7_4_4_0_0);
     memcpy(a0 + 17, r7_4_4_3, 23);
     memcpy(a0 + 40, r7_4_5_0, 264);
-    store64u(a0 + 304, r7_4_5_3_0);
+    store64(a0 + 304, r7_4_5_3_0);
     return;
 }
 
@@ -3123,18 +3862,17 @@ static void dfu_asks_asking_Asking_start(unsigned char *a0, unsigned char *a1, u
     uint8_t r2_7_0;
     uint8_t r1_3_0_copyload = a2[336];
     uint8_t r1_4_0_copyload = a2[337];
-    r1_6_0_copyload = load32u(a2 + 340);
-    uint32_t r1_7_0_copyload = load32u(a2 + 344);
-    uint32_t r1_8_0_copyload = load32u(a2 + 348);
-    memset(r0, 0, 16);
+    r1_6_0_copyload = load32(a2 + 340);
+    uint32_t r1_7_0_copyload = load32(a2 + 344);
+    uint32_t r1_8_0_copyload = load32(a2 + 348);
     memset(r17, 0, 24);
     memcpy(r13, a2 + 352, 24);
     memcpy(r7, a2 + 32, 304);
     a1[36] = r1_3_0_copyload;
     a1[37] = r1_4_0_copyload;
-    store32u(a1 + 40, r1_6_0_copyload);
-    store32u(a1 + 44, r1_7_0_copyload);
-    store32u(a1 + 48, r1_8_0_copyload);
+    store32(a1 + 40, r1_6_0_copyload);
+    store32(a1 + 44, r1_7_0_copyload);
+    store32(a1 + 48, r1_8_0_copyload);
     memcpy(a1 + 56, r13, 24);
     switch (r1_3_0_copyload) {
     case 3: goto after_2;
@@ -3163,21 +3901,20 @@ arm_5:;
     uint8_t r10_0_0_copyload = r7[16];
     uint32_t r11_0_0_copyload = load32(r7 + 20);
     uint64_t switch_load = load64(PLACE(switch_table_dfu_asking_would_stall) + 8 * (size_t)r10_0_0_copyload);
-    uint64_t r1 = (uint64_t)r11_0_0_copyload;
+    uint64_t a0_a1 = umax64(switch_load, (uint64_t)r11_0_0_copyload);
     store32(r3_4, 0xffffffffU);
     uint64_t r6_0_0_copyload = load64(r7);
     unsigned char *r16 = (unsigned char *)(uintptr_t)r6_0_0_copyload;
-    dfu_suffix_crc_Crc_update_small(r3_4, (r16 + (size_t)(umax64(switch_load, r1) << 1)) + (size_t)r2_0, (uint64_t)r3 - r4);
+    dfu_suffix_crc_Crc_update_small(r3_4, (r16 + (size_t)(a0_a1 << 1)) + (size_t)r2_0, (uint64_t)r3 - r4);
     dfu_suffix_crc_Crc_update_small(r3_4, r7 + 24, r4);
-    uint32_t r1_2 = load32(r3_4);
+    uint32_t r1 = load32(r3_4);
     *r3_5 = 0;
-    uint64_t switch_load2 = load64(PLACE(switch_table_dfu_asking_would_stall) + 8 * (size_t)r10_0_0_copyload);
-    core_slice_edits_slice_T_copy_from_slice_i8_core_clone_U8Clone(r3_5, r16 + (size_t)((uint32_t)(r5 ? 0 : r131) + (uint32_t)umax64(switch_load2, r1)), 1);
+    core_slice_edits_slice_T_copy_from_slice_i8_core_clone_U8Clone(r3_5, r16 + (size_t)((uint32_t)(r5 ? 0 : r131) + (uint32_t)a0_a1), 1);
     uint8_t r50 = *r3_5;
     r2_0_0_0 = 1;
     r2_4_0 = r2_0;
     r2_7_0 = (uint8_t)(r50 + 1);
-    r2_1015_0 = r1_2;
+    r2_1015_0 = r1;
     goto dfu_asks_asking_Asking_begin_job_exit;
 after_2:
     r14 = r1_6_0_copyload == 0;
@@ -3209,12 +3946,12 @@ dfu_asks_asking_Asking_begin_job_exit:
     store16(r17 + 18, a4);
     store32(r17 + 20, 0);
     dfu_asks_asking_Asking_advance(r0, a1, r17, a5);
-    uint8_t v4 = *r0;
-    *a0 = v4;
-    uint8_t v5 = r0[1];
-    a0[1] = v5;
-    uint64_t v6 = load64(r0 + 8);
-    store64u(a0 + 8, v6);
+    uint8_t v3 = *r0;
+    *a0 = v3;
+    uint8_t v4 = r0[1];
+    a0[1] = v4;
+    uint64_t v5 = load64(r0 + 8);
+    store64(a0 + 8, v5);
     return;
 }
 
@@ -3240,7 +3977,6 @@ arrayvec_cells_Cells_blank_exit:
 static void dfu_asks_asking_Asking_advance(unsigned char *a0, unsigned char *a1, unsigned char *a2, unsigned char *a3) {
     _Alignas(8) unsigned char r6[288];
     _Alignas(8) unsigned char r10_3[264];
-    _Alignas(8) unsigned char r16[264];
     _Alignas(8) unsigned char r3_2[264];
     _Alignas(1) unsigned char r9[256];
     _Alignas(8) unsigned char r10_2[48];
@@ -3254,23 +3990,23 @@ static void dfu_asks_asking_Asking_advance(unsigned char *a0, unsigned char *a1,
     uint64_t r19, r13_63_0;
     r1_0_0_copyload = *a2;
     memcpy(r1_4_0, a2 + 1, 3);
-    r1_4_3_0_copyload = load32u(a2 + 4);
+    r1_4_3_0_copyload = load32(a2 + 4);
     r1_5_0_copyload = a2[8];
     memcpy(r1_6_0, a2 + 9, 3);
-    r1_6_3_0_copyload = load32u(a2 + 12);
+    r1_6_3_0_copyload = load32(a2 + 12);
     r1_7_0_copyload = a2[16];
     r1_8_0_copyload = a2[17];
-    r1_88_0_copyload = load16u(a2 + 18);
-    r1_9_0_copyload = load32u(a2 + 20);
-    memset(r6, 0, 288);
-    store32(r7 + 8, 0);
+    r1_88_0_copyload = load16(a2 + 18);
+    r1_9_0_copyload = load32(a2 + 20);
+    unsigned char *v0 = r7 + 8;
+    store32(v0, 0);
     store32(r7, (uint32_t)r1_0_0_copyload);
     store32(r7 + 4, r1_4_3_0_copyload);
-    r7[8] = r1_5_0_copyload;
+    *v0 = r1_5_0_copyload;
     store32(r7 + 12, r1_6_3_0_copyload);
     r8 = a1 + 28;
     uint8_t r1_0_0_copyload_2 = *r8;
-    uint32_t r2_0_0_copyload = load32u(a1 + 32);
+    uint32_t r2_0_0_copyload = load32(a1 + 32);
     r10 = a1 + 344;
     uint32_t r11 = load32(r10);
     r12 = a1 + 80;
@@ -3281,7 +4017,6 @@ static void dfu_asks_asking_Asking_advance(unsigned char *a0, unsigned char *a1,
     r12_2 = a1 + 72;
     uint64_t r13 = load64(r12_2);
     *r10_2 = r1_0_0_copyload_2;
-    memset(r10_2 + 1, 0, 3);
     store32(r10_2 + 4, r2_0_0_copyload);
     store32(r10_2 + 8, r11);
     store32(r10_2 + 12, 0);
@@ -3292,17 +4027,17 @@ static void dfu_asks_asking_Asking_advance(unsigned char *a0, unsigned char *a1,
     dfu_asks_next_piece_next_piece(r6, r7, r10_2, (uint64_t)r1_9_0_copyload);
     uint8_t r35 = *r6;
     if (r35 != 1) goto arm_2;
-    store32u(a1 + 348, 1);
+    store32(a1 + 348, 1);
     a1[352] = r1_0_0_copyload;
     memcpy(a1 + 353, r1_4_0, 3);
-    store32u(a1 + 356, r1_4_3_0_copyload);
+    store32(a1 + 356, r1_4_3_0_copyload);
     a1[360] = r1_5_0_copyload;
     memcpy(a1 + 361, r1_6_0, 3);
-    store32u(a1 + 364, r1_6_3_0_copyload);
+    store32(a1 + 364, r1_6_3_0_copyload);
     a1[368] = r1_7_0_copyload;
     a1[369] = r1_8_0_copyload;
-    store16u(a1 + 370, r1_88_0_copyload);
-    store32u(a1 + 372, r1_9_0_copyload);
+    store16(a1 + 370, r1_88_0_copyload);
+    store32(a1 + 372, r1_9_0_copyload);
     r13_0_0 = 0;
     r13_4_0 = 0;
     r13_63_0 = 0;
@@ -3335,14 +4070,12 @@ then_1:;
     uint8_t r4_0_0_copyload = *r8;
     uint64_t r4_2 = load64(r3);
     uint64_t r8_wide_2 = load64(r18);
-    memset(r16, 0, 264);
     uint64_t switch_load = load64(PLACE(switch_table_dfu_asks_asking_Asking_advance) + 8 * (size_t)r4_0_0_copyload);
     uint64_t r32 = r4_2 + r19;
     uint64_t r36 = switch_load & r32;
     memset(r9, 0, 256);
     dfu_asks_piece_copy_joined(r12, r4_2, (unsigned char *)(uintptr_t)r8_wide_2, r32 - r36, r9, r36);
-    arrayvec_array_vec_ArrayVec_T_CAP_new_i8_256_core_default_U8Default(r16);
-    memcpy(r10_3, r16, 264);
+    arrayvec_array_vec_ArrayVec_T_CAP_new_i8_256_core_default_U8Default(r10_3);
     arrayvec_array_vec_ArrayVec_try_extend_from_slice(r10_3, r9, r36);
     memcpy(r3_2, r10_3, 264);
     memcpy(r12, r3_2, 264);
@@ -3357,8 +4090,8 @@ else_2:
     r76_pre_phi = (uint32_t)r19;
 join_3:
     v4 = *r20;
-    v5 = load32u(r24);
-    v6 = load32u(r26);
+    v5 = load32(r24);
+    v6 = load32(r26);
     switch (v4) {
     case 3: goto arm_1;
     case 5: goto arm_2_2;
@@ -3408,7 +4141,7 @@ arm_4:;
     r17_20_0 = 0;
     goto dfu_asks_asking_Asking_finish_exit;
 arm_5:;
-    uint32_t v7 = load32u(r28);
+    uint32_t v7 = load32(r28);
     uint8_t v8 = *r22;
     r17_0_0 = v4;
     r17_7_0 = v8;
@@ -3420,9 +4153,9 @@ arm_5:;
 dfu_asks_asking_Asking_finish_exit:
     *r20 = r17_0_0;
     *r22 = r17_7_0;
-    store32u(r24, r17_103_0);
-    store32u(r26, r17_15_6_0_0 | (r17_15_0_0 & 0xffffU));
-    store32u(r28, r17_20_0);
+    store32(r24, r17_103_0);
+    store32(r26, r17_15_6_0_0 | (r17_15_0_0 & 0xffffU));
+    store32(r28, r17_20_0);
     memset(a1 + 348, 0, 28);
     struct i8_i64 r60 = dfu_asks_asking_Asking_answer(a1, r1_7_0_copyload, r1_88_0_copyload, a3);
     r13_0_0 = 1;
@@ -3431,7 +4164,7 @@ dfu_asks_asking_Asking_finish_exit:
 join_4:
     *a0 = r13_0_0;
     a0[1] = r13_4_0;
-    store64u(a0 + 8, r13_63_0);
+    store64(a0 + 8, r13_63_0);
     return;
 }
 
@@ -3451,13 +4184,10 @@ static void dfu_asks_next_piece_next_piece(unsigned char *a0, unsigned char *a1,
     uint64_t r7;
     unsigned char *r18, *r54, *r69;
     uint8_t r2 = *a1;
-    r1_3_4_copyload = load32u(a1 + 4);
+    r1_3_4_copyload = load32(a1 + 4);
     r1_6_8_copyload = a1[8];
-    r1_91_12_copyload = load32u(a1 + 12);
+    r1_91_12_copyload = load32(a1 + 12);
     if (r2 != 0) goto arm_2;
-    memset(r0, 0, 288);
-    memset(r5, 0, 288);
-    memset(r6, 0, 288);
     r7 = dfu_asks_piece_held_place(r1_3_4_copyload, a2);
     if (r1_6_8_copyload & 1) goto join_3;
     dfu_asks_next_piece_put_piece(r0, r7, a2, a3);
@@ -3485,9 +4215,6 @@ dfu_asks_next_piece_block_piece_exit:
     r15_0_0_0 = r15_0_0_1;
     goto join_4;
 arm_2:
-    memset(r7_2, 0, 288);
-    memset(r18_2, 0, 288);
-    memset(r25, 0, 288);
     memset(r26_4, 0, 280);
     uint64_t r29 = load64(a2 + 24);
     uint8_t r14_0_0_copyload = *a2;
@@ -3530,7 +4257,7 @@ join_10:
 dfu_asks_next_piece_commit_piece_exit:
     r15_0_0_0 = r15_0_0_2;
 join_4:
-    store64u(a0, (uint64_t)r15_0_0_0);
+    store64(a0, (uint64_t)r15_0_0_0);
     memcpy(a0 + 8, r15_7, 280);
     return;
 }
@@ -3558,8 +4285,6 @@ static void dfu_asks_next_piece_put_piece(unsigned char *a0, uint64_t a1, unsign
     uint64_t switch_load, r3928, r4229, r9_0, r79, r29_5_5_0, r29_5_6_0, r29_0_0_0, r20_5_7_0, r20_5_9_0, r20_0_0_0;
     uint32_t r19_0_0_copyload;
     uint8_t r29_5_0_0, r20_5_0_0;
-    memset(r18, 0, 24);
-    memset(r25, 0, 24);
     memset(r29_5_4, 0, 7);
     memset(r29_5_7, 0, 256);
     uint8_t r15_0_0_copyload = *a2;
@@ -3572,7 +4297,7 @@ static void dfu_asks_next_piece_put_piece(unsigned char *a0, uint64_t a1, unsign
     }
     r9_0 = umin64((r4229 + r3928) & ((uint64_t)0 - switch_load), switch_load);
 dfu_asks_piece_head_size_exit:
-    r19_0_0_copyload = load32u(a2 + 4);
+    r19_0_0_copyload = load32(a2 + 4);
     dfu_asks_located_locate(r18, r19_0_0_copyload, a1, r9_0, a3);
     uint8_t r57 = *r18;
     switch (r57) {
@@ -3650,11 +4375,11 @@ join_11:
     r20_5_9_0 = r29_5_6_0;
     r20_0_0_0 = r29_0_0_0;
 join_7:
-    store64u(a0, r20_0_0_0);
+    store64(a0, r20_0_0_0);
     a0[8] = r20_5_0_0;
     memcpy(a0 + 9, r20_5_5, 7);
-    store64u(a0 + 16, r20_5_7_0);
-    store64u(a0 + 24, r20_5_9_0);
+    store64(a0 + 16, r20_5_7_0);
+    store64(a0 + 24, r20_5_9_0);
     memcpy(a0 + 32, r20_5_11, 256);
     return;
 }
@@ -3662,9 +4387,9 @@ join_7:
 /* dfu_asks::piece::joined_piece */
 static void dfu_asks_piece_joined_piece(unsigned char *a0, uint64_t a1, unsigned char *a2, uint64_t a3, uint64_t a4) {
     _Alignas(8) unsigned char r0[280];
-    uint64_t r1_0_0_copyload = load64u(a2 + 16);
-    uint64_t r1_3_0_copyload = load64u(a2 + 24);
-    uint64_t r2_0_0_copyload = load64u(a2 + 32);
+    uint64_t r1_0_0_copyload = load64(a2 + 16);
+    uint64_t r1_3_0_copyload = load64(a2 + 24);
+    uint64_t r2_0_0_copyload = load64(a2 + 32);
     dfu_asks_piece_two_piece(r0, a1, (unsigned char *)(uintptr_t)r1_0_0_copyload, r1_3_0_copyload, (unsigned char *)(uintptr_t)r2_0_0_copyload, a3, a4);
     memcpy(a0, r0, 280);
     return;
@@ -3674,76 +4399,18 @@ static void dfu_asks_piece_joined_piece(unsigned char *a0, uint64_t a1, unsigned
 static struct i8_i64 dfu_asks_asking_Asking_answer(unsigned char *a0, uint8_t a1, uint16_t a2, unsigned char *a3) {
     _Alignas(4) unsigned char r10[12];
     _Alignas(1) unsigned char r7[6];
-    _Alignas(1) unsigned char r11[6];
-    uint8_t v1, r11_0_0, r10_0_0;
     uint64_t r9_41_0;
     if (a1 == 0) {
         r9_41_0 = 0;
         goto join_4;
     }
-    v1 = a0[36];
+    uint8_t v1 = a0[36];
     uint8_t v2 = a0[37];
-    switch (v1) {
-    case 12:
-        r11_0_0 = v2;
-        r10_0_0 = 10;
-        goto dfu_asks_finish_status_of_exit;
-    case 0: goto arm_1_fold_split;
-    case 1: goto arm_2;
-    case 2: goto arm_2;
-    case 3: goto arm_4;
-    case 4: goto arm_4;
-    case 5: goto arm_5;
-    case 6: goto arm_6;
-    case 7: goto arm_7;
-    case 8: goto arm_7;
-    case 9: goto arm_8;
-    case 10: goto arm_9;
-    case 11: goto arm_10;
-    default: never();
-    }
-arm_2:
-    r11_0_0 = 0;
-    r10_0_0 = v1;
-    goto dfu_asks_finish_status_of_exit;
-arm_4:
-    r11_0_0 = 0;
-    r10_0_0 = 3;
-    goto dfu_asks_finish_status_of_exit;
-arm_5:
-    r11_0_0 = 0;
-    r10_0_0 = 4;
-    goto dfu_asks_finish_status_of_exit;
-arm_6:
-    r11_0_0 = 0;
-    r10_0_0 = 5;
-    goto dfu_asks_finish_status_of_exit;
-arm_7:
-    r11_0_0 = 0;
-    r10_0_0 = 6;
-    goto dfu_asks_finish_status_of_exit;
-arm_8:
-    r11_0_0 = 0;
-    r10_0_0 = 7;
-    goto dfu_asks_finish_status_of_exit;
-arm_9:
-    r11_0_0 = 0;
-    r10_0_0 = 8;
-    goto dfu_asks_finish_status_of_exit;
-arm_10:
-    r11_0_0 = 0;
-    r10_0_0 = 9;
-    goto dfu_asks_finish_status_of_exit;
-arm_1_fold_split:
-    r11_0_0 = 0;
-    r10_0_0 = 0;
-dfu_asks_finish_status_of_exit:
-    store32(r10, (uint32_t)r11_0_0);
+    uint8_t switch_load = *(PLACE(switch_table_dfu_device_mode_Mode_state) + (size_t)v1);
+    store32(r10, (uint32_t)(uint8_t)((v1 == 12) ? v2 : 0));
     store32(r10 + 4, 0);
-    r10[8] = r10_0_0;
-    memset(r10 + 9, 0, 3);
-    dfu_wire_statuses_Status_encode(r11, r10);
-    memcpy(r7, r11, 6);
+    r10[8] = switch_load;
+    dfu_wire_statuses_Status_encode(r7, r10);
     uint64_t a1_a0 = (uint64_t)umin16(a2, 6);
     core_slice_edits_slice_T_copy_from_slice_i8_core_clone_U8Clone(a3, r7, a1_a0);
     r9_41_0 = a1_a0;
@@ -3759,64 +4426,264 @@ join_4:;
 static void dfu_wire_statuses_Status_encode(unsigned char *a0, unsigned char *a1) {
     _Alignas(8) unsigned char r5[8];
     _Alignas(4) unsigned char r1[6];
-    memset(r1 + 1, 0, 5);
+    unsigned char *v0 = r1 + 1;
+    memset(v0, 0, 5);
     uint8_t r3_0_0_copyload = *a1;
     *r1 = r3_0_0_copyload;
     uint32_t r30 = load32(a1 + 4);
     store64(r5, (uint64_t)r30);
-    core_slice_edits_slice_T_copy_from_slice_i8_core_clone_U8Clone(r1 + 1, r5, 3);
+    core_slice_edits_slice_T_copy_from_slice_i8_core_clone_U8Clone(v0, r5, 3);
     uint8_t r12_0_0_copyload = a1[8];
     r1[4] = r12_0_0_copyload;
     memcpy(a0, r1, 6);
     return;
 }
 
-/* dfu_device::machine::Machine::write_block::<#ae26d78ef8e9de4d> */
-static void dfu_device_machine_Machine_write_block(unsigned char *a0, uint32_t a1, uint16_t a2, uint8_t a3) {
-    unsigned char *r17, *r8, *r12;
+/* dfu_device::machine::Machine::profile::<#ae26d78ef8e9de4d> */
+static void dfu_device_machine_Machine_profile(unsigned char *a0, unsigned char *a1) {
+    uint32_t r2 = load32(a1 + 16);
+    uint32_t r2_2 = load32(a1 + 20);
+    uint32_t r2_3 = load32(a1 + 24);
+    uint32_t r3 = dfu_slots_read_capacity_of_2(a1 + 32);
+    memmove(a0, a1 + 6, 10);
+    store16(a0 + 10, 0);
+    store32(a0 + 12, r2);
+    store32(a0 + 16, r2_2);
+    store32(a0 + 20, r2_3);
+    store64(a0 + 24, (uint64_t)r3);
+    return;
+}
+
+/* dfu_device::machine::Machine::carry_out::<#ae26d78ef8e9de4d> */
+static void dfu_device_machine_Machine_carry_out(unsigned char *a0, unsigned char *a1, unsigned char *a2, uint16_t a3, unsigned char *a4, uint64_t a5) {
+    _Alignas(1) unsigned char r4[256];
+    unsigned char *const r10 = r4;
+    _Alignas(4) unsigned char r2_2[16];
+    uint8_t r1_3_1_copyload, v3, r23, r29_0_0_0;
+    uint32_t r1_73_4_copyload, r1_24_12_copyload, r1_28_16_copyload, r4_0_0_copyload, r4_5_0_copyload, r29_11_0;
+    uint16_t r1_15_8_copyload, r1_22_8_copyload, r29_7_0, r29_16_0;
+    uint8_t r111;
+    unsigned char *r17, *r8, *r12, *r17_2, *r6, *r7_2, *r4_5_0_r7_sroa_idx;
     uint64_t r13;
-    struct i8_i8 r18_pn;
-    uint8_t r0_4_0;
-    r17 = a0 + 32;
-    uint64_t r8_wide = load64(a0 + 352);
+    struct i8_i8 r18_pn, r18_pn_fr;
+    uint8_t r1_0_0_copyload = *a2;
+    r1_3_1_copyload = a2[1];
+    r1_73_4_copyload = load32(a2 + 4);
+    r1_15_8_copyload = load16(a2 + 8);
+    r1_22_8_copyload = load16(a2 + 10);
+    r1_24_12_copyload = load32(a2 + 12);
+    r1_28_16_copyload = load32(a2 + 16);
+    switch (r1_0_0_copyload) {
+    case 0: goto arm_1;
+    case 1: goto arm_2;
+    case 2: goto arm_3;
+    case 3: goto arm_4;
+    case 4: goto arm_5;
+    default: never();
+    }
+arm_1:
+    a1[336] = (uint8_t)r1_73_4_copyload;
+    a1[337] = (uint8_t)(r1_73_4_copyload >> 8);
+    store16(a1 + 340, r1_15_8_copyload);
+    store16(a1 + 342, r1_22_8_copyload);
+    store32(a1 + 344, r1_24_12_copyload);
+    store32(a1 + 348, r1_28_16_copyload);
+    switch (r1_3_1_copyload) {
+    case 0:
+        r29_0_0_0 = r1_3_1_copyload;
+        r29_7_0 = 0;
+        r29_11_0 = 0;
+        r29_16_0 = 0;
+        goto join_7;
+    case 1: goto arm_2_2;
+    case 2: goto arm_2_2;
+    case 3: goto arm_4_2;
+    default: never();
+    }
+arm_2_2:
+    r29_0_0_0 = r1_3_1_copyload;
+    r29_7_0 = a3;
+    r29_11_0 = 0;
+    r29_16_0 = 0;
+    goto join_7;
+arm_4_2:
+    r29_0_0_0 = 4;
+    r29_7_0 = 0;
+    r29_11_0 = 0;
+    r29_16_0 = 0;
+    goto join_7;
+arm_2:
+    store64(a1 + 368, a5);
+    uint64_t r14_wide = load64(a1 + 352);
+    core_slice_edits_slice_T_copy_from_slice_i8_core_clone_U8Clone((unsigned char *)(uintptr_t)r14_wide, a4, a5);
+    a1[336] = (uint8_t)r1_73_4_copyload;
+    a1[337] = (uint8_t)(r1_73_4_copyload >> 8);
+    store16(a1 + 340, r1_15_8_copyload);
+    store16(a1 + 342, r1_22_8_copyload);
+    store32(a1 + 344, r1_24_12_copyload);
+    store32(a1 + 348, r1_28_16_copyload);
+    r29_0_0_0 = 0;
+    r29_7_0 = 0;
+    r29_11_0 = 0;
+    r29_16_0 = 0;
+    goto join_7;
+arm_3:;
+    uint16_t r5 = dfu_device_machine_Machine_piece_len(a1, r1_73_4_copyload, r1_15_8_copyload);
+    uint8_t r7 = r5 < r1_15_8_copyload;
+    a1[336] = (uint8_t)(r7 ? 2 : 11);
+    a1[337] = 0;
+    store32(a1 + 340, (uint32_t)(r7 ? 0 : (r1_73_4_copyload + (uint32_t)r1_15_8_copyload)));
+    store32(a1 + 344, (uint32_t)(uint16_t)(r7 ? 0 : r1_22_8_copyload));
+    store32(a1 + 348, 0);
+    r29_0_0_0 = 3;
+    r29_7_0 = 0;
+    r29_11_0 = r1_73_4_copyload;
+    r29_16_0 = r1_15_8_copyload;
+    goto join_7;
+arm_4:
+    r111 = r1_22_8_copyload & 1;
+    r17 = a1 + 32;
+    uint64_t r8_wide = load64(a1 + 352);
     r8 = (unsigned char *)(uintptr_t)r8_wide;
-    r12 = a0 + 368;
+    r12 = a1 + 368;
     r13 = load64(r12);
-    if (a1 == 0) goto join_3;
-    struct i8_i8 r18 = dfu_slots_slots_Slots_put(r17, a1, r8, r13);
+    if (r1_73_4_copyload == 0) goto join_3;
+    struct i8_i8 r18 = dfu_slots_slots_Slots_put(r17, r1_73_4_copyload, r8, r13);
     r18_pn = r18;
     goto dfu_device_effects_put_block_exit;
 join_3:;
-    uint32_t r3_3_0_copyload = load32u(a0 + 332);
-    dfu_slots_puts_Puts_clear(a0 + 56);
+    uint32_t r3_3_0_copyload = load32(a1 + 332);
+    dfu_slots_puts_Puts_clear(a1 + 56);
     uint8_t r9 = dfu_slots_read_is_open(r17, r3_3_0_copyload);
     if (!r9) goto arm_6;
     dfu_slots_writes_close_gate(r17);
-    r0_4_0 = 1;
-    goto arm_2;
+    v3 = 3;
+    goto v2;
 arm_6:;
     struct i8_i8 r34 = dfu_slots_slots_Slots_put(r17, 0, r8, r13);
     r18_pn = r34;
 dfu_device_effects_put_block_exit:
-    if (r18_pn.a != 0) {
-        r0_4_0 = r18_pn.b;
-        goto arm_2;
-    }
+    r18_pn_fr = r18_pn;
+    if (r18_pn_fr.a != 0) goto arm_2_3;
     uint64_t r13_2 = load64(r12);
-    a0[336] = (uint8_t)(a3 ? 4 : 6);
-    a0[337] = 0;
-    store32(a0 + 340, a1 + (uint32_t)r13_2);
-    store16(a0 + 344, a2);
-    store16(a0 + 346, 0);
-    store32(a0 + 348, 0);
+    a1[336] = (uint8_t)(r111 ? 4 : 6);
+    a1[337] = 0;
+    store32(a1 + 340, r1_73_4_copyload + (uint32_t)r13_2);
+    store16(a1 + 344, r1_15_8_copyload);
+    store16(a1 + 346, 0);
+    store32(a1 + 348, 0);
+    goto dfu_device_machine_Machine_write_block_exit;
+arm_2_3:
+    v3 = (uint8_t)((r18_pn_fr.b == 2) ? 7 : 3);
+v2:
+    a1[336] = 12;
+    a1[337] = v3;
+    store32(a1 + 340, 0);
+    store32(a1 + 344, 0);
+    store32(a1 + 348, 0);
+dfu_device_machine_Machine_write_block_exit:
+    switch (r1_3_1_copyload) {
+    case 0:
+        r29_0_0_0 = r1_3_1_copyload;
+        r29_7_0 = 0;
+        r29_11_0 = 0;
+        r29_16_0 = 0;
+        goto join_7;
+    case 1: goto arm_2_4;
+    case 2: goto arm_2_4;
+    case 3: goto arm_4_3;
+    default: never();
+    }
+arm_2_4:
+    r29_0_0_0 = r1_3_1_copyload;
+    r29_7_0 = a3;
+    r29_11_0 = 0;
+    r29_16_0 = 0;
+    goto join_7;
+arm_4_3:
+    r29_0_0_0 = 4;
+    r29_7_0 = 0;
+    r29_11_0 = 0;
+    r29_16_0 = 0;
+    goto join_7;
+arm_5:
+    r17_2 = a1 + 32;
+    r6 = a1 + 56;
+    r7_2 = a1 + 328;
+    r4_0_0_copyload = load32(r7_2);
+    r4_5_0_r7_sroa_idx = a1 + 332;
+    r4_5_0_copyload = load32(r4_5_0_r7_sroa_idx);
+    uint8_t r16 = dfu_slots_read_is_open(r17_2, r4_5_0_copyload);
+    if (r16) goto dfu_device_machine_Machine_commit_taken_exit;
+    r23 = dfu_slots_read_generation_2(r17_2, r4_0_0_copyload);
+    uint64_t r2 = load64(a1 + 312);
+    uint8_t r0_0_0_copyload = a1[48];
+    uint64_t switch_load = load64(PLACE(switch_table_dfu_slots_slots_Slots_put) + 8 * (size_t)r0_0_0_copyload);
+    uint64_t v5 = switch_load + 0xffffffffffffffffULL;
+    dfu_slots_layout_fill_up(r10, r6, r2);
+    if (r2 != ((uint64_t)0 - ((switch_load - (v5 & r2)) & v5))) goto dfu_slots_steps_open_spare_exit;
+    uint32_t r25 = dfu_slots_register_register_of(r17_2, r4_5_0_copyload, r1_73_4_copyload);
+    *r2_2 = (uint8_t)(r23 + 1);
+    r2_2[1] = 2;
+    r2_2[2] = 0;
+    r2_2[3] = 0;
+    store32(r2_2 + 4, r1_73_4_copyload);
+    store32(r2_2 + 8, r25);
+    store32(r2_2 + 12, 0);
+    dfu_slots_layout_fill_up(r4, r2_2, 16);
+dfu_slots_steps_open_spare_exit:
+    dfu_slots_puts_Puts_clear(r6);
+dfu_device_machine_Machine_commit_taken_exit:;
+    struct i8_i8 r2_3 = dfu_slots_places_count_slots(r17_2);
+    struct i32_i32 r9_2 = dfu_slots_places_find_places(r17_2, r2_3.a, r2_3.b);
+    store32(r7_2, r9_2.a);
+    store32(r4_5_0_r7_sroa_idx, r9_2.b);
+    a1[336] = 12;
+    a1[337] = 6;
+    store32(a1 + 340, 0);
+    store32(a1 + 344, 0);
+    store32(a1 + 348, 0);
+    switch (r1_3_1_copyload) {
+    case 0:
+        r29_0_0_0 = r1_3_1_copyload;
+        r29_7_0 = 0;
+        r29_11_0 = 0;
+        r29_16_0 = 0;
+        goto join_7;
+    case 1: goto arm_2_5;
+    case 2: goto arm_2_5;
+    case 3: goto arm_4_4;
+    default: never();
+    }
+arm_2_5:
+    r29_0_0_0 = r1_3_1_copyload;
+    r29_7_0 = a3;
+    r29_11_0 = 0;
+    r29_16_0 = 0;
+    goto join_7;
+arm_4_4:
+    r29_0_0_0 = 4;
+    r29_7_0 = 0;
+    r29_11_0 = 0;
+    r29_16_0 = 0;
+    goto join_7;
+join_7:
+    store16(a0, r29_0_0_0);
+    store16(a0 + 2, r29_7_0);
+    store32(a0 + 4, r29_11_0);
+    store16(a0 + 8, r29_16_0);
     return;
-arm_2:
-    a0[336] = 12;
-    a0[337] = (uint8_t)((r0_4_0 == 2) ? 7 : 3);
-    store32u(a0 + 340, 0);
-    store32u(a0 + 344, 0);
-    store32u(a0 + 348, 0);
-    return;
+}
+
+/* dfu_device::machine::Machine::piece_len::<#ae26d78ef8e9de4d> */
+static uint16_t dfu_device_machine_Machine_piece_len(unsigned char *a0, uint32_t a1, uint16_t a2) {
+    struct i8_i32 r10;
+    uint32_t r7 = load32(a0 + 328);
+    r10 = dfu_slots_read_header_len_2(a0 + 32, r7);
+    if (r10.a == 1) goto dfu_slots_slots_Slots_active_len_exit;
+    trap();
+dfu_slots_slots_Slots_active_len_exit:
+    return (uint16_t)umin32((uint32_t)a2, usub_sat32(r10.b, a1));
 }
 
 /* dfu_slots::puts::Puts::clear */
@@ -3851,7 +4718,7 @@ static struct i8_i8 dfu_slots_slots_Slots_put(unsigned char *a0, uint32_t a1, un
     struct i8_i8 r66_pn;
     uint8_t r0_0_0_2, r0_5_0, r0_0_0;
     r6 = a0 + 24;
-    uint32_t r5_3_0_copyload = load32u(a0 + 300);
+    uint32_t r5_3_0_copyload = load32(a0 + 300);
     uint8_t r37 = dfu_slots_read_is_open(a0, r5_3_0_copyload);
     if (r37) {
         r0_5_0 = 3;
@@ -3938,166 +4805,6 @@ join_4:;
     struct i8_i8 r33 = r21_half;
     r33.b = 0;
     return r33;
-}
-
-/* dfu_device::machine::Machine::commit_taken::<#ae26d78ef8e9de4d> */
-static void dfu_device_machine_Machine_commit_taken(unsigned char *a0, uint32_t a1) {
-    _Alignas(1) unsigned char r4[256];
-    unsigned char *const r10 = r4;
-    _Alignas(4) unsigned char r2_2[16];
-    unsigned char *r17, *r6, *r7, *r4_5_0_r7_sroa_idx;
-    uint32_t r4_0_0_copyload, r4_5_0_copyload;
-    uint8_t r23;
-    r17 = a0 + 32;
-    r6 = a0 + 56;
-    r7 = a0 + 328;
-    r4_0_0_copyload = load32u(r7);
-    r4_5_0_r7_sroa_idx = a0 + 332;
-    r4_5_0_copyload = load32u(r4_5_0_r7_sroa_idx);
-    uint8_t r16 = dfu_slots_read_is_open(r17, r4_5_0_copyload);
-    if (r16) goto dfu_slots_slots_Slots_commit_exit;
-    r23 = dfu_slots_read_generation_2(r17, r4_0_0_copyload);
-    uint64_t r2 = load64(a0 + 312);
-    uint8_t r0_0_0_copyload = a0[48];
-    uint64_t r22 = dfu_slots_layout_fill_size(r0_0_0_copyload, r2);
-    dfu_slots_layout_fill_up(r10, r6, r2);
-    if (r2 != ((uint64_t)0 - r22)) goto dfu_slots_steps_open_spare_exit;
-    uint32_t r25 = dfu_slots_register_register_of(r17, r4_5_0_copyload, a1);
-    *r2_2 = (uint8_t)(r23 + 1);
-    r2_2[1] = 2;
-    r2_2[2] = 0;
-    r2_2[3] = 0;
-    store32(r2_2 + 4, a1);
-    store32(r2_2 + 8, r25);
-    store32(r2_2 + 12, 0);
-    dfu_slots_layout_fill_up(r4, r2_2, 16);
-dfu_slots_steps_open_spare_exit:
-    dfu_slots_puts_Puts_clear(r6);
-dfu_slots_slots_Slots_commit_exit:;
-    struct i8_i8 r2_3 = dfu_slots_places_count_slots(r17);
-    struct i32_i32 r9 = dfu_slots_places_find_places(r17, r2_3.a, r2_3.b);
-    store32u(r7, r9.a);
-    store32u(r4_5_0_r7_sroa_idx, r9.b);
-    a0[336] = 12;
-    a0[337] = 6;
-    store32u(a0 + 340, 0);
-    store32u(a0 + 344, 0);
-    store32u(a0 + 348, 0);
-    return;
-}
-
-/* dfu_asks_c::refusal::Refusal::number */
-static uint32_t dfu_asks_c_refusal_Refusal_number(uint8_t a0) {
-    uint32_t switch_load = load32(PLACE(switch_table_dfu_asks_c_refusal_Refusal_number) + 4 * (size_t)a0);
-    return switch_load;
-}
-
-/* dfu_device::machine::Machine::take_block::<#ae26d78ef8e9de4d> */
-static void dfu_device_machine_Machine_take_block(unsigned char *a0, unsigned char *a1, uint32_t a2, uint16_t a3, uint16_t a4, unsigned char *a5, uint64_t a6) {
-    uint16_t r3 = load16(a1 + 12);
-    if (a6 > (uint64_t)r3) goto then_1;
-    goto join_3;
-then_1:
-    a1[336] = 12;
-    a1[337] = 15;
-    store32u(a1 + 340, 0);
-    store32u(a1 + 344, 0);
-    store32u(a1 + 348, 0);
-    store16u(a0, 4);
-    store64u(a0 + 2, 0);
-    return;
-join_3:
-    if (a4 == a3) goto join_6;
-    a1[336] = 12;
-    a1[337] = 8;
-    store32u(a1 + 340, 0);
-    store32u(a1 + 344, 0);
-    store32u(a1 + 348, 0);
-    store16u(a0, 4);
-    store64u(a0 + 2, 0);
-    return;
-join_6:;
-    uint32_t r3_2 = dfu_slots_read_capacity_of_2(a1 + 32);
-    if (a6 <= (uint64_t)(r3_2 - a2)) goto join_9;
-    a1[336] = 12;
-    a1[337] = 8;
-    store32u(a1 + 340, 0);
-    store32u(a1 + 344, 0);
-    store32u(a1 + 348, 0);
-    store16u(a0, 4);
-    store64u(a0 + 2, 0);
-    return;
-join_9:
-    store64(a1 + 368, a6);
-    uint64_t r14_wide = load64(a1 + 352);
-    core_slice_edits_slice_T_copy_from_slice_i8_core_clone_U8Clone((unsigned char *)(uintptr_t)r14_wide, a5, a6);
-    a1[336] = 3;
-    a1[337] = 0;
-    store32(a1 + 340, a2);
-    store16(a1 + 344, (uint16_t)(a4 + 1));
-    store16(a1 + 346, 0);
-    store32(a1 + 348, 0);
-    memset(a0, 0, 10);
-    return;
-}
-
-/* dfu_device::machine::Machine::send::<#ae26d78ef8e9de4d> */
-static void dfu_device_machine_Machine_send(unsigned char *a0, unsigned char *a1, uint32_t a2, uint16_t a3, uint16_t a4, uint16_t a5) {
-    if (a5 == 0) goto join_5;
-    uint16_t r3 = load16(a1 + 12);
-    if (r3 < a5) goto join_5;
-    goto after_1;
-join_5:
-    a1[336] = 12;
-    a1[337] = 15;
-    store32u(a1 + 340, 0);
-    store32u(a1 + 344, 0);
-    store32u(a1 + 348, 0);
-    store16u(a0, 4);
-    store64u(a0 + 2, 0);
-    return;
-after_1:
-    if (a4 == a3) goto join_13;
-    a1[336] = 12;
-    a1[337] = 8;
-    store32u(a1 + 340, 0);
-    store32u(a1 + 344, 0);
-    store32u(a1 + 348, 0);
-    store16u(a0, 4);
-    store64u(a0 + 2, 0);
-    return;
-join_13:;
-    uint16_t r55 = dfu_device_machine_Machine_piece_len(a1, a2, a5);
-    uint8_t r57 = r55 < a5;
-    a1[336] = (uint8_t)(r57 ? 2 : 11);
-    a1[337] = 0;
-    store32u(a1 + 340, (uint32_t)(r57 ? 0 : (a2 + (uint32_t)a5)));
-    store16u(a1 + 344, (uint16_t)(r57 ? 0 : (uint16_t)(a4 + 1)));
-    store16u(a1 + 346, 0);
-    store32u(a1 + 348, 0);
-    store16u(a0, 3);
-    store16u(a0 + 2, 0);
-    store32u(a0 + 4, a2);
-    store16u(a0 + 8, a5);
-    return;
-}
-
-/* dfu_device::machine::Machine::piece_len::<#ae26d78ef8e9de4d> */
-static uint16_t dfu_device_machine_Machine_piece_len(unsigned char *a0, uint32_t a1, uint16_t a2) {
-    struct i8_i32 r10;
-    uint32_t r7 = load32(a0 + 328);
-    r10 = dfu_slots_read_header_len_2(a0 + 32, r7);
-    if (r10.a == 1) goto dfu_slots_slots_Slots_active_len_exit;
-    trap();
-dfu_slots_slots_Slots_active_len_exit:
-    return (uint16_t)umin32((uint32_t)a2, usub_sat32(r10.b, a1));
-}
-
-/* dfu_device::machine::Machine::state::<#ae26d78ef8e9de4d> */
-static uint8_t dfu_device_machine_Machine_state(unsigned char *a0) {
-    uint8_t r3 = a0[336];
-    uint8_t switch_load = *(PLACE(switch_table_dfu_device_machine_Machine_state) + (size_t)r3);
-    return switch_load;
 }
 
 /* dfu_asks::asking::Asking::fail */
@@ -4218,7 +4925,8 @@ int32_t dfu_asking_image(const struct dfu_config *config, uint32_t sector, const
     _Alignas(8) unsigned char r10[32];
     unsigned char *r4;
     struct i8_i32 r20, r10_2;
-    uint32_t r7, common_ret_op;
+    uint8_t r28;
+    uint32_t r17, r8_3_0_copyload, switch_load, r1_0_0_copyload, common_ret_op;
     r4 = (unsigned char *)((uintptr_t)a2 + (uintptr_t)(uint64_t)((a2 == NULL) ? 4096 : 0));
     uint8_t r11 = dfu_c_parts_config_is_allowed(a0);
     if (!r11) {
@@ -4230,27 +4938,43 @@ int32_t dfu_asking_image(const struct dfu_config *config, uint32_t sector, const
         common_ret_op = 0xfffffff3U;
         goto dfu_asks_c_power_dfu_asking_image_exit;
     }
-    uint8_t r28 = dfu_c_parts_config_unit_of(a0);
-    dfu_asks_mapped_Mapped_with_sectors(r10, r4, a3, r28, r20.b);
-    uint8_t r2 = *r10;
-    if (r2 == 1) goto arm_1;
+    r28 = dfu_c_parts_config_unit_of(a0);
+    struct i8_i32 r15 = dfu_asks_sector_Sector_new(r20.b);
+    r17 = r15.b;
+    if (!(r15.a & 1)) goto dfu_asks_c_power_find_exit_thread;
+    if (a3 > 0xffffffffU) goto dfu_asks_c_power_find_exit_thread_critedge;
+    store64(r10, 1);
+    unsigned char *r41 = r10 + 8;
+    store64(r41, (uint64_t)(uintptr_t)r4);
+    store64(r10 + 16, a3);
+    r10[24] = r28;
+    store32(r10 + 28, r17);
+    dfu_slots_slots_Slots_open(r13, r41);
+    uint8_t r35 = *r13;
+    if (r35 == 0) goto arm_5;
+    goto dfu_asks_c_power_find_exit;
+dfu_asks_c_power_find_exit_thread_critedge:
+    store64(r10, 0);
+    store64(r10 + 8, 0);
+    store64(r10 + 16, 0);
+    r10[24] = 0;
+    store32(r10 + 28, 0);
+dfu_asks_c_power_find_exit_thread:
     common_ret_op = 0xfffffffdU;
     goto dfu_asks_c_power_dfu_asking_image_exit;
-arm_1:
-    dfu_slots_slots_Slots_open(r13, r10 + 8);
-    uint8_t r35 = *r13;
-    if (r35 != 0) goto dfu_asks_c_power_find_exit;
-    unsigned char *r36 = r13 + 8;
-    uint32_t r8_3_0_copyload = load32(r13 + 304);
-    r7 = dfu_slots_read_data_at(r36, r8_3_0_copyload);
-    r10_2 = dfu_slots_read_header_len(r36, r8_3_0_copyload);
+arm_5:
+    r8_3_0_copyload = load32(r13 + 304);
+    uint8_t r0_0_0_copyload = r13[24];
+    switch_load = load32(PLACE(switch_table_dfu_asking_format) + 4 * (size_t)r0_0_0_copyload);
+    r1_0_0_copyload = load32(r13 + 28);
+    r10_2 = dfu_slots_read_header_len(r13 + 8, r8_3_0_copyload);
     if (r10_2.a == 1) goto arm_8;
     trap();
 dfu_asks_c_power_find_exit:
     common_ret_op = 0xfffffffdU;
     goto dfu_asks_c_power_dfu_asking_image_exit;
 arm_8:
-    store64u(a4, ((uint64_t)r10_2.b << 32) | (uint64_t)r7);
+    store64a4(a4, ((uint64_t)r10_2.b << 32) | (uint64_t)((umax32(r1_0_0_copyload, switch_load) << 1) + r8_3_0_copyload));
     common_ret_op = 0;
 dfu_asks_c_power_dfu_asking_image_exit:
     return signed32(common_ret_op);
@@ -4301,8 +5025,8 @@ int32_t dfu_asking_format_start(const struct dfu_config *config, struct dfu_aski
         r12_5_0_neg = 0xfffffffaU;
         goto arm_12;
     }
-    uint32_t r51 = dfu_slots_read_capacity_of_2(r4_2);
-    if (a6 > (uint64_t)r51) {
+    uint32_t switch_load = load32(PLACE(switch_table_dfu_asking_format) + 4 * (size_t)r43);
+    if (a6 > (uint64_t)(((uint32_t)a4 >> 1) - (umax32(r29, switch_load) << 1))) {
         r12_5_0_neg = 0xfffffff9U;
         goto arm_12;
     }
@@ -4315,7 +5039,7 @@ int32_t dfu_asking_format_start(const struct dfu_config *config, struct dfu_aski
     store32(r3, 0xffffffffU);
     dfu_suffix_crc_Crc_update_small(r3, r13, a6);
     uint32_t r1 = load32(r3);
-    store32u(a1, 200);
+    store32(a1, 200);
     memset(a1 + 4, 0, 328);
     store32(a1 + 308, 3);
     store32(a1 + 304, r29);
@@ -4466,8 +5190,9 @@ arm_3:;
     uint8_t r5_0_0_copyload = *r5;
     uint32_t r4_3_4_copyload = load32(r5 + 16);
     uint64_t r29 = (uint64_t)r4_3_4_copyload + 4096;
-    uint64_t r31 = dfu_asks_format_piece_filled_len(r5_0_0_copyload, a5);
-    uint8_t r34 = r29 < r31;
+    uint64_t switch_load = load64(PLACE(switch_table_dfu_slots_slots_Slots_put) + 8 * (size_t)r5_0_0_copyload);
+    uint64_t v4 = switch_load + 0xffffffffffffffffULL;
+    uint8_t r34 = r29 < (((switch_load - (v4 & a5)) & v4) + a5);
     r7_0_0_0 = (uint8_t)(r34 ? 2 : 3);
     r7_8_0 = (uint32_t)(r34 ? (uint32_t)r29 : 0);
     goto arm_9_thread16;
@@ -4510,170 +5235,69 @@ int32_t dfu_asking_would_stall(const struct dfu_config *config, const struct dfu
     unsigned char *a1 = (unsigned char *)(uintptr_t)device;
     uint64_t a2 = size;
     unsigned char *a3 = (unsigned char *)(uintptr_t)setup;
+    _Alignas(8) unsigned char r2[32];
+    _Alignas(4) unsigned char r17[24];
     _Alignas(4) unsigned char r5[20];
-    _Alignas(4) unsigned char r8[10];
-    _Alignas(2) unsigned char r16[8];
-    _Alignas(4) unsigned char r14[6];
-    unsigned char *v0;
-    uint32_t fr, r49, common_ret_op;
-    uint16_t r1_6_0_0_extract_trunc, r2_49_0_copyload, v6, fr35;
-    uint64_t r2_0;
-    uint8_t r2_0_0_copyload, r2_3_0_copyload, r11_fr;
-    v0 = r5 + 4;
-    memset(v0, 0, 16);
-    uint8_t r19 = dfu_c_parts_config_is_allowed(a0);
-    if (!r19) {
+    _Alignas(4) unsigned char r1[16];
+    _Alignas(2) unsigned char r18[8];
+    _Alignas(4) unsigned char r10[6];
+    _Alignas(4) unsigned char r16[6];
+    unsigned char *v1;
+    uint32_t common_ret_op;
+    store64(r2 + 8, 0);
+    v1 = r5 + 4;
+    memset(v1, 0, 16);
+    uint8_t r21 = dfu_c_parts_config_is_allowed(a0);
+    if (!r21) {
         common_ret_op = 0xfffffffeU;
         goto dfu_asks_c_setups_dfu_asking_would_stall_exit;
     }
     dfu_c_parts_record_mode_of(r5, a1);
-    uint8_t r29 = *r5;
-    if (r29 != 1) {
+    uint8_t r31 = *r5;
+    if (r31 != 1) {
         common_ret_op = 0xfffffffcU;
         goto dfu_asks_c_setups_dfu_asking_would_stall_exit;
     }
-    uint32_t v2 = load32(r5 + 8);
-    fr = v2;
-    uint32_t v3 = load32(r5 + 12);
-    r1_6_0_0_extract_trunc = (uint16_t)v3;
-    uint32_t r41 = load32(a1 + 308);
-    if (r41 != 0) {
+    uint32_t r43 = load32(a1 + 308);
+    if (r43 != 0) {
         common_ret_op = 0xfffffff4U;
         goto dfu_asks_c_setups_dfu_asking_would_stall_exit;
     }
-    uint8_t v4 = *v0;
-    dfu_c_parts_config_functional_of(r8, a0);
-    r49 = load32(a0 + 24);
-    uint8_t r50 = dfu_c_parts_config_unit_of(a0);
-    uint32_t r52 = load32(a1 + 304);
-    uint64_t switch_load = load64(PLACE(switch_table_dfu_asking_would_stall) + 8 * (size_t)r50);
-    r2_0 = usub_sat64(a2 >> 1, umax64((uint64_t)r52, switch_load) << 1);
-    r2_0_0_copyload = *r8;
-    r2_3_0_copyload = r8[1];
-    r2_49_0_copyload = load16(r8 + 6);
-    dfu_wire_setups_Setup_decode(r16, a3);
-    dfu_wire_setups_Setup_request(r14, r16);
-    uint8_t r11 = *r14;
-    r11_fr = r11;
-    v6 = load16(r14 + 2);
-    uint16_t v7 = load16(r14 + 4);
-    fr35 = v7;
-    switch (v4) {
-    case 0: goto switch_lookup;
-    case 1: goto switch_lookup3;
-    case 2: goto arm_3;
-    case 3: goto switch_lookup6;
-    case 4: goto switch_lookup6;
-    case 7: goto switch_lookup6;
-    case 8: goto switch_lookup6;
-    case 5: goto dfu_c_parts_stalls_will_stall_exit_thread;
-    case 9: goto dfu_c_parts_stalls_will_stall_exit_thread;
-    case 10: goto dfu_c_parts_stalls_will_stall_exit_thread;
-    case 6: goto arm_6;
-    case 11: goto arm_7;
-    case 12: goto arm_8;
-    default: never();
-    }
-arm_3:
-    switch (r11_fr) {
-    case 1: goto arm_1;
-    case 2: goto arm_2;
-    case 6:
-        common_ret_op = 0;
-        goto dfu_asks_c_setups_dfu_asking_would_stall_exit;
-    case 3:
-        common_ret_op = 0;
-        goto dfu_asks_c_setups_dfu_asking_would_stall_exit;
-    case 5:
-        common_ret_op = 0;
-        goto dfu_asks_c_setups_dfu_asking_would_stall_exit;
-    case 0: goto dfu_c_parts_stalls_will_stall_exit_thread;
-    case 4: goto dfu_c_parts_stalls_will_stall_exit_thread;
-    case 7: goto dfu_c_parts_stalls_will_stall_exit_thread;
-    case 8: goto dfu_c_parts_stalls_will_stall_exit_thread;
-    default: never();
-    }
-arm_1:
-    if (!((fr35 != 0) & (r2_0_0_copyload & 1))) goto dfu_c_parts_stalls_will_stall_exit_thread;
-    if (((v6 != 0) | (r2_49_0_copyload < fr35)) ? 1 : (r2_0 < (uint64_t)fr35)) goto dfu_c_parts_stalls_will_stall_exit_thread;
-    common_ret_op = 0;
-    goto dfu_asks_c_setups_dfu_asking_would_stall_exit;
-arm_2:
-    if (!((fr35 != 0) & (r2_3_0_copyload & 1))) goto dfu_c_parts_stalls_will_stall_exit_thread;
-    if ((v6 != 0) | (r2_49_0_copyload < fr35)) goto dfu_c_parts_stalls_will_stall_exit_thread;
-    common_ret_op = 0;
-    goto dfu_asks_c_setups_dfu_asking_would_stall_exit;
-arm_6:
-    switch (r11_fr) {
-    case 1: goto arm_1_2;
-    case 6:
-        common_ret_op = 0;
-        goto dfu_asks_c_setups_dfu_asking_would_stall_exit;
-    case 3:
-        common_ret_op = 0;
-        goto dfu_asks_c_setups_dfu_asking_would_stall_exit;
-    case 5:
-        common_ret_op = 0;
-        goto dfu_asks_c_setups_dfu_asking_would_stall_exit;
-    case 0: goto dfu_c_parts_stalls_will_stall_exit_thread;
-    case 2: goto dfu_c_parts_stalls_will_stall_exit_thread;
-    case 4: goto dfu_c_parts_stalls_will_stall_exit_thread;
-    case 7: goto dfu_c_parts_stalls_will_stall_exit_thread;
-    case 8: goto dfu_c_parts_stalls_will_stall_exit_thread;
-    default: never();
-    }
-arm_1_2:
-    if (fr35 == 0) goto dfu_c_parts_stalls_will_stall_exit;
-    if (((v6 != r1_6_0_0_extract_trunc) | (r2_49_0_copyload < fr35)) | (r2_0 < ((uint64_t)fr35 + (uint64_t)fr))) goto dfu_c_parts_stalls_will_stall_exit_thread;
-    common_ret_op = 0;
-    goto dfu_asks_c_setups_dfu_asking_would_stall_exit;
-arm_7:
-    switch (r11_fr) {
-    case 2: goto arm_1_3;
-    case 6:
-        common_ret_op = 0;
-        goto dfu_asks_c_setups_dfu_asking_would_stall_exit;
-    case 3:
-        common_ret_op = 0;
-        goto dfu_asks_c_setups_dfu_asking_would_stall_exit;
-    case 5:
-        common_ret_op = 0;
-        goto dfu_asks_c_setups_dfu_asking_would_stall_exit;
-    case 0: goto dfu_c_parts_stalls_will_stall_exit_thread;
-    case 1: goto dfu_c_parts_stalls_will_stall_exit_thread;
-    case 4: goto dfu_c_parts_stalls_will_stall_exit_thread;
-    case 7: goto dfu_c_parts_stalls_will_stall_exit_thread;
-    case 8: goto dfu_c_parts_stalls_will_stall_exit_thread;
-    default: never();
-    }
-arm_1_3:
-    if (fr35 == 0) goto dfu_c_parts_stalls_will_stall_exit_thread;
-    if ((v6 != r1_6_0_0_extract_trunc) | (r2_49_0_copyload < fr35)) goto dfu_c_parts_stalls_will_stall_exit_thread;
-    common_ret_op = 0;
-    goto dfu_asks_c_setups_dfu_asking_would_stall_exit;
-arm_8:
-    if ((uint8_t)(r11_fr + 250) < 253) goto dfu_c_parts_stalls_will_stall_exit_thread;
-    common_ret_op = 0;
-    goto dfu_asks_c_setups_dfu_asking_would_stall_exit;
-dfu_c_parts_stalls_will_stall_exit:
-    if (fr >= r49) {
-        common_ret_op = 0;
-        goto dfu_asks_c_setups_dfu_asking_would_stall_exit;
-    }
-dfu_c_parts_stalls_will_stall_exit_thread:
-    common_ret_op = 1;
-    goto dfu_asks_c_setups_dfu_asking_would_stall_exit;
-switch_lookup:;
-    uint32_t switch_load2 = load32(PLACE(switch_table_dfu_asking_would_stall_3) + 4 * (size_t)r11_fr);
-    common_ret_op = switch_load2;
-    goto dfu_asks_c_setups_dfu_asking_would_stall_exit;
-switch_lookup3:;
-    uint32_t switch_load5 = load32(PLACE(switch_table_dfu_asking_would_stall_5) + 4 * (size_t)r11_fr);
-    common_ret_op = switch_load5;
-    goto dfu_asks_c_setups_dfu_asking_would_stall_exit;
-switch_lookup6:;
-    uint32_t switch_load8 = load32(PLACE(switch_table_dfu_asking_would_stall_5) + 4 * (size_t)r11_fr);
-    common_ret_op = switch_load8;
+    uint32_t v3 = load32(r5 + 16);
+    uint32_t v4 = load32(r5 + 12);
+    uint32_t v5 = load32(r5 + 8);
+    uint8_t v6 = r5[5];
+    uint8_t v7 = *v1;
+    dfu_c_parts_config_functional_of(r2, a0);
+    uint32_t r51 = load32(a0 + 24);
+    uint32_t r53 = load32(a0 + 16);
+    uint32_t r55 = load32(a0 + 20);
+    uint8_t r56 = dfu_c_parts_config_unit_of(a0);
+    uint32_t r58 = load32(a1 + 304);
+    uint64_t switch_load = load64(PLACE(switch_table_dfu_asking_would_stall) + 8 * (size_t)r56);
+    store32(r2 + 12, r51);
+    store32(r2 + 16, r53);
+    store32(r2 + 20, r55);
+    store64(r2 + 24, usub_sat64(a2 >> 1, umax64((uint64_t)r58, switch_load) << 1));
+    dfu_wire_setups_Setup_decode(r18, a3);
+    dfu_wire_setups_Setup_request(r16, r18);
+    store32(r1, 0);
+    *r1 = v7;
+    r1[1] = v6;
+    store32(r1 + 4, v5);
+    store32(r1 + 8, v4);
+    store32(r1 + 12, v3);
+    uint8_t r11 = *r16;
+    store16(r10, r11);
+    uint16_t v9 = load16(r16 + 2);
+    store16(r10 + 2, v9);
+    uint16_t v10 = load16(r16 + 4);
+    store16(r10 + 4, v10);
+    memset(r17, 0, 24);
+    dfu_device_table_decide(r17, r2, r1, r10);
+    uint8_t r1_0_0_copyload = *r17;
+    uint8_t r1_3_1_copyload = r17[1];
+    common_ret_op = (uint32_t)(((uint8_t)(r1_0_0_copyload + 253) < 254) ? (r1_3_1_copyload == 3) : 0);
 dfu_asks_c_setups_dfu_asking_would_stall_exit:
     return signed32(common_ret_op);
 }
@@ -4698,16 +5322,15 @@ int32_t dfu_asking_power_on(const struct dfu_config *config, struct dfu_asking *
     _Alignas(8) unsigned char r8_15[24];
     _Alignas(4) unsigned char r15_4_0_4[3];
     _Alignas(4) unsigned char r8_7[3];
-    _Alignas(1) unsigned char r17_2[1];
+    _Alignas(1) unsigned char r17_3[1];
     unsigned char *r4, *r15;
     struct i8_i32 r17;
-    uint32_t r19, r15_4_3_0, common_ret_op;
+    uint32_t r19, r17_2, r15_4_3_0, common_ret_op;
     uint8_t r25, r15_4_0_3_0;
-    uint8_t v3;
+    uint8_t v2;
     uint64_t r15_12_0;
     r4 = (unsigned char *)((uintptr_t)a3 + (uintptr_t)(uint64_t)((a3 == NULL) ? 4096 : 0));
     memset(r5, 0, 376);
-    memset(r6, 0, 32);
     dfu_c_parts_config_config_of(r6, a0);
     uint8_t r14 = *r6;
     if (r14 != 1) {
@@ -4727,17 +5350,30 @@ int32_t dfu_asking_power_on(const struct dfu_config *config, struct dfu_asking *
     memset(r15_15, 0, 264);
     memset(r15_18, 0, 24);
     memset(r21, 0, 264);
-    dfu_asks_mapped_Mapped_with_sectors(r10, r4, a4, r25, r19);
-    uint8_t r2 = *r10;
-    if (r2 != 1) goto dfu_asks_c_power_powered_exit_thread;
-    dfu_slots_slots_Slots_open(r13, r10 + 8);
+    struct i8_i32 r15_2 = dfu_asks_sector_Sector_new(r19);
+    r17_2 = r15_2.b;
+    if (!(r15_2.a & 1)) goto dfu_asks_c_power_powered_exit_thread;
+    if (a4 > 0xffffffffU) goto dfu_asks_c_power_powered_exit_thread_critedge;
+    store64(r10, 1);
+    unsigned char *r41 = r10 + 8;
+    store64(r41, (uint64_t)(uintptr_t)r4);
+    store64(r10 + 16, a4);
+    r10[24] = r25;
+    store32(r10 + 28, r17_2);
+    dfu_slots_slots_Slots_open(r13, r41);
     uint8_t r38 = *r13;
-    v3 = r38 == 0;
-    if (v3) goto arm_5;
+    v2 = r38 == 0;
+    if (v2) goto arm_5;
     r15_12_0 = 0;
     r15_4_3_0 = 0;
     r15_4_0_3_0 = 0;
     goto dfu_asks_c_power_powered_exit;
+dfu_asks_c_power_powered_exit_thread_critedge:
+    store64(r10, 0);
+    store64(r10 + 8, 0);
+    store64(r10 + 16, 0);
+    r10[24] = 0;
+    store32(r10 + 28, 0);
 dfu_asks_c_power_powered_exit_thread:
     common_ret_op = 0xfffffffdU;
     goto dfu_asks_c_power_dfu_asking_power_on_exit;
@@ -4747,7 +5383,7 @@ arm_5:
     memset(r15_4_0_4, 0, 3);
     memcpy(r15_15, r21, 264);
     memset(r15_18, 0, 24);
-    r15_12_0 = (uint64_t)(uintptr_t)r17_2;
+    r15_12_0 = (uint64_t)(uintptr_t)r17_3;
     r15_4_3_0 = r19;
     r15_4_0_3_0 = r25;
 dfu_asks_c_power_powered_exit:
@@ -4755,7 +5391,7 @@ dfu_asks_c_power_powered_exit:
     memcpy(r8_7, r15_4_0_4, 3);
     memcpy(r8_12, r15_15, 264);
     memcpy(r8_15, r15_18, 24);
-    if (!v3) {
+    if (!v2) {
         common_ret_op = 0xfffffffdU;
         goto dfu_asks_c_power_dfu_asking_power_on_exit;
     }
@@ -4770,7 +5406,7 @@ dfu_asks_c_power_powered_exit:
     store32(r5 + 344, 0);
     store32(r5 + 348, 0);
     memcpy(r5 + 352, r8_15, 24);
-    store32u(a1, 200);
+    store32(a1, 200);
     memset(a1 + 4, 0, 328);
     dfu_asks_c_keeping_keep(r5, a1);
     common_ret_op = 0;
@@ -4787,15 +5423,14 @@ int32_t dfu_asking_format(const struct dfu_config *config, uint32_t sector, uint
     unsigned char *a4 = (unsigned char *)(uintptr_t)image;
     uint64_t a5 = length;
     _Alignas(8) unsigned char r27[272];
-    _Alignas(8) unsigned char r4[24];
-    _Alignas(8) unsigned char r5_2[24];
+    _Alignas(8) unsigned char r5[24];
     _Alignas(4) unsigned char r2[16];
-    unsigned char *r13, *r8_6_0_8_0_r8_6_0_r4_sroa_idx_sroa_idx, *r4_0_0_in;
-    uint64_t wide_16808, r4_5_0;
-    uint32_t r30, v1, r29, r5, r3_2, r122, r3_0, switch_load, r7_5_0_neg, common_ret_op;
+    unsigned char *r13, *r4_0_0_in;
+    uint64_t wide_18510, v2, r4_5_0;
+    uint32_t r30, v1, switch_load, a0_a1, r31, r69, r122, r3_0, r7_5_0_neg, common_ret_op;
     uint8_t r49;
     r13 = (unsigned char *)((uintptr_t)a4 + (uintptr_t)(uint64_t)((a4 == NULL) ? 4096 : 0));
-    wide_16808 = (uint64_t)(uintptr_t)(unsigned char *)((uintptr_t)a2 + (uintptr_t)(uint64_t)((a2 == NULL) ? 4096 : 0));
+    wide_18510 = (uint64_t)(uintptr_t)(unsigned char *)((uintptr_t)a2 + (uintptr_t)(uint64_t)((a2 == NULL) ? 4096 : 0));
     uint8_t r19 = dfu_c_parts_config_is_allowed(a0);
     if (!r19) {
         common_ret_op = 0xfffffffeU;
@@ -4812,67 +5447,65 @@ int32_t dfu_asking_format(const struct dfu_config *config, uint32_t sector, uint
         goto dfu_asks_c_format_dfu_asking_format_exit;
     }
     r49 = dfu_c_parts_config_unit_of(a0);
-    store64(r4, wide_16808);
-    r8_6_0_8_0_r8_6_0_r4_sroa_idx_sroa_idx = r4 + 8;
     v1 = (uint32_t)a3;
-    store32(r8_6_0_8_0_r8_6_0_r4_sroa_idx_sroa_idx, v1);
-    store32(r4 + 12, 0);
-    r4[16] = r49;
-    memset(r4 + 17, 0, 3);
-    store32(r4 + 20, r30);
     if (!((r30 < 0x20001U) & ((r30 & 255) == 0))) {
         r7_5_0_neg = 0xfffffffaU;
         goto dfu_slots_slots_Slots_format_exit_thread;
     }
-    r29 = dfu_slots_read_gate_of_3(r4);
-    uint64_t r3 = load64(r8_6_0_8_0_r8_6_0_r4_sroa_idx_sroa_idx);
-    r5 = (uint32_t)r3;
-    uint32_t pre = r29 << 2;
-    if (!(((pre + 0x2000000U) >= r5) & (((r5 & 1) == 0) ? (pre < r5) : !(r3 & 1)))) {
+    v2 = (uint64_t)r49;
+    switch_load = load32(PLACE(switch_table_dfu_asking_format) + 4 * (size_t)v2);
+    a0_a1 = umax32(r30, switch_load);
+    uint32_t pre = a0_a1 << 2;
+    if (!(((pre + 0x2000000U) >= v1) & (((v1 & 1) == 0) ? (pre < v1) : !(a3 & 1)))) {
         r7_5_0_neg = 0xfffffffaU;
         goto dfu_slots_slots_Slots_format_exit_thread;
     }
-    uint8_t r73 = dfu_slots_open_is_whole(r49, r30, (r5 >> 1) - (r29 << 1));
-    if (!r73) {
+    r31 = a0_a1 << 1;
+    r69 = (v1 >> 1) - r31;
+    uint32_t switch_load_2 = load32(PLACE(switch_table_dfu_asks_asking_Asking_assemble) + 4 * (size_t)v2);
+    if ((switch_load_2 & r69) != 0) {
         r7_5_0_neg = 0xfffffffaU;
         goto dfu_slots_slots_Slots_format_exit_thread;
     }
-    uint32_t r51 = dfu_slots_read_capacity_of_3(r4);
-    if (a5 > (uint64_t)r51) {
+    if (r30 == 0) goto join_3;
+    if ((r69 % r30) != 0) {
+        r7_5_0_neg = 0xfffffffaU;
+        goto dfu_slots_slots_Slots_format_exit_thread;
+    }
+join_3:
+    if (a5 > (uint64_t)r69) {
         r7_5_0_neg = 0xfffffff9U;
         goto dfu_slots_slots_Slots_format_exit_thread;
     }
-    store64(r5_2, wide_16808);
-    unsigned char *r8_6_0_8_0_r8_6_0_r5_sroa_idx_sroa_idx = r5_2 + 8;
+    store64(r5, wide_18510);
+    unsigned char *r8_6_0_8_0_r8_6_0_r5_sroa_idx_sroa_idx = r5 + 8;
     store32(r8_6_0_8_0_r8_6_0_r5_sroa_idx_sroa_idx, v1);
-    store32(r5_2 + 12, 0);
-    r5_2[16] = r49;
-    memset(r5_2 + 17, 0, 3);
-    store32(r5_2 + 20, r30);
-    r3_2 = dfu_slots_read_gate_of_3(r5_2);
-    uint64_t r3_3 = load64(r8_6_0_8_0_r8_6_0_r5_sroa_idx_sroa_idx);
-    r122 = (uint32_t)r3_3 >> 1;
-    uint8_t r15 = dfu_slots_writes_close_gate_2(r5_2, r122);
-    if (r15 == 1) goto dfu_slots_slots_Slots_format_exit;
-    uint8_t r23 = dfu_slots_writes_close_gate_2(r5_2, 0);
-    if (r23 == 1) goto dfu_slots_slots_Slots_format_exit;
+    store32(r5 + 12, 0);
+    r5[16] = r49;
+    memset(r5 + 17, 0, 3);
+    store32(r5 + 20, r30);
+    uint64_t r3 = load64(r8_6_0_8_0_r8_6_0_r5_sroa_idx_sroa_idx);
+    r122 = (uint32_t)r3 >> 1;
+    uint8_t r15 = dfu_slots_writes_close_gate_2(r5, r122);
+    if (r15 != 0) goto dfu_slots_slots_Slots_format_exit;
+    uint8_t r23 = dfu_slots_writes_close_gate_2(r5, 0);
+    if (r23 != 0) goto dfu_slots_slots_Slots_format_exit;
     r4_0_0_in = r13;
     r4_5_0 = a5;
-    r3_0 = r3_2 << 1;
+    r3_0 = r31;
 loop_2:
     if (r4_5_0 <= 4096) goto dfu_slots_format_write_pieces_exit;
-    struct i8_i8 r31 = dfu_slots_writes_write_anew(r5_2, r3_0, r4_0_0_in, 4096);
-    if (r31.a == 1) goto dfu_slots_slots_Slots_format_exit;
+    uint8_t r31_2 = dfu_slots_writes_write_anew(r5, r3_0, r4_0_0_in, 4096);
+    if (r31_2 == 1) goto dfu_slots_slots_Slots_format_exit;
     r4_0_0_in = r4_0_0_in + 4096;
     r4_5_0 = r4_5_0 + 0xfffffffffffff000ULL;
     r3_0 = r3_0 + 4096;
     goto loop_2;
 dfu_slots_format_write_pieces_exit:;
-    uint8_t r47 = dfu_slots_writes_write_filled(r5_2, r3_0, r4_0_0_in, r4_5_0);
-    if (r47 == 1) goto dfu_slots_slots_Slots_format_exit;
+    uint8_t r47 = dfu_slots_writes_write_filled(r5, r3_0, r4_0_0_in, r4_5_0);
+    if (r47 != 0) goto dfu_slots_slots_Slots_format_exit;
     uint32_t r41 = (uint32_t)a5;
-    switch_load = load32(PLACE(switch_table_dfu_asking_format) + 4 * (size_t)r49);
-    uint32_t r25 = dfu_slots_register_register_of_2(r5_2, 0, r41);
+    uint32_t r25 = dfu_slots_register_register_of_2(r5, 0, r41);
     *r2 = 0;
     r2[1] = 2;
     r2[2] = 0;
@@ -4880,17 +5513,17 @@ dfu_slots_format_write_pieces_exit:;
     store32(r2 + 4, r41);
     store32(r2 + 8, r25);
     store32(r2 + 12, 0);
-    uint8_t r39 = dfu_slots_writes_write_unit(r5_2, r3_2, r2, 16, switch_load);
-    if (r39 != 1) goto dfu_slots_format_write_image_exit;
+    uint8_t r39 = dfu_slots_writes_write_unit(r5, a0_a1, r2, 16, switch_load);
+    if (r39 == 0) goto dfu_slots_format_write_image_exit;
     goto dfu_slots_slots_Slots_format_exit;
 dfu_slots_format_write_image_exit:;
-    uint8_t r54 = dfu_slots_writes_write_unit(r5_2, 0, PLACE(static_3), 1, switch_load);
+    uint8_t r54 = dfu_slots_writes_write_unit(r5, 0, PLACE(static_3), 1, switch_load);
     if (r54 != 0) goto dfu_slots_slots_Slots_format_exit;
-    uint8_t r5_3 = dfu_slots_read_counts_3(r5_2, 0);
-    uint8_t r11 = dfu_slots_read_counts_3(r5_2, r122);
-    if (!(r5_3 & r11)) goto dfu_asks_c_format_format_exit_thread;
-    dfu_slots_read_generation_3(r5_2, 0);
-    dfu_slots_read_generation_3(r5_2, r122);
+    uint8_t r5_2 = dfu_slots_read_counts_3(r5, 0);
+    uint8_t r11 = dfu_slots_read_counts_3(r5, r122);
+    if (!(r5_2 & r11)) goto dfu_asks_c_format_format_exit_thread;
+    dfu_slots_read_generation_3(r5, 0);
+    dfu_slots_read_generation_3(r5, r122);
     goto dfu_asks_c_format_format_exit_thread;
 dfu_slots_slots_Slots_format_exit_thread:
     common_ret_op = r7_5_0_neg;
@@ -4918,16 +5551,18 @@ int32_t dfu_asking_elapse(const struct dfu_config *config, struct dfu_asking *de
     _Alignas(8) unsigned char r9[384];
     _Alignas(8) unsigned char r5_3[376];
     _Alignas(8) unsigned char r5[376];
+    _Alignas(8) unsigned char r1[32];
+    _Alignas(4) unsigned char r0[24];
     _Alignas(8) unsigned char r19[16];
+    _Alignas(4) unsigned char r6[12];
     _Alignas(1) unsigned char r8[6];
-    unsigned char *r13, *r58, *r46, *r48, *r50, *r52, *r54, *r5_2, *r10, *r13_2, *r16, *r66;
-    unsigned char *r28, *r38;
-    uint64_t wide_19978, r35, r18, r25;
-    uint32_t r12_3_0_copyload, r12_4_0_copyload, v3, v4, r14, r17, r23, r36_2, r20_115_0, common_ret_op;
-    uint8_t v2;
-    uint16_t r26;
+    unsigned char *r13, *r58, *r46, *r48, *r50, *r52, *r54, *r5_2, *r12, *r16, *r18, *r20;
+    uint64_t wide_21680, r21, r15_2, r18_2;
+    uint32_t r12_3_0_copyload, r12_4_0_copyload, v4, v5, v11, v12, v13, r18_1547_0, r18_22_0, r18_29_0, r18_36_0, r20_115_0;
+    uint32_t common_ret_op;
+    uint8_t v3, r3_2_0_copyload, r3_3_0_copyload, v10, r18_0_0;
     r13 = (unsigned char *)((uintptr_t)a4 + (uintptr_t)(uint64_t)((a4 == NULL) ? 4096 : 0));
-    wide_19978 = (uint64_t)(uintptr_t)(unsigned char *)((uintptr_t)a2 + (uintptr_t)(uint64_t)((a2 == NULL) ? 4096 : 0));
+    wide_21680 = (uint64_t)(uintptr_t)(unsigned char *)((uintptr_t)a2 + (uintptr_t)(uint64_t)((a2 == NULL) ? 4096 : 0));
     memset(r9, 0, 384);
     dfu_asks_c_keeping_found(r9, a0, a1, a3);
     uint8_t r32 = *r9;
@@ -4941,13 +5576,13 @@ int32_t dfu_asking_elapse(const struct dfu_config *config, struct dfu_asking *de
     goto join_3;
 arm_2:;
     uint8_t r7_0_0_copyload = r9[1];
-    uint32_t r36 = dfu_asks_c_refusal_Refusal_number(r7_0_0_copyload);
-    common_ret_op = r36;
+    uint32_t switch_load = load32(PLACE(switch_table_dfu_asks_c_refusal_Refusal_number) + 4 * (size_t)r7_0_0_copyload);
+    common_ret_op = switch_load;
     goto dfu_asks_c_exports_dfu_asking_elapse_exit;
 join_3:;
     uint16_t r53 = load16(a1 + 26);
     r58 = r5 + 56;
-    store64(r58, wide_19978);
+    store64(r58, wide_21680);
     store64(r5 + 64, a3);
     store64(r5 + 72, (uint64_t)r53);
     memset(r15, 0, 384);
@@ -4955,19 +5590,19 @@ join_3:;
     r12_3_0_copyload = load32(r5 + 20);
     r12_4_0_copyload = load32(r5 + 24);
     r46 = r5 + 36;
-    v2 = *r46;
+    v3 = *r46;
     r48 = r5 + 37;
     r50 = r5 + 40;
     r52 = r5 + 44;
-    v3 = load32(r52);
+    v4 = load32(r52);
     r54 = r5 + 48;
-    v4 = load32(r54);
+    v5 = load32(r54);
     dfu_asks_asking_Asking_assemble(r15, r5, r13, a5);
     uint8_t r1_0_0_copyload = *r15;
     if (r1_0_0_copyload != 0) goto arm_9;
     r5_2 = r15 + 8;
     memcpy(r5_3, r5_2, 376);
-    switch (v2) {
+    switch (v3) {
     case 5: goto arm_1;
     case 9: goto arm_2_2;
     case 0: goto join_10;
@@ -4984,108 +5619,136 @@ join_3:;
     default: never();
     }
 arm_1:
-    if ((a6 != 0) ? (((uint64_t)v4 + (uint64_t)a6) >= (uint64_t)r12_3_0_copyload) : 0) goto then_8;
+    if ((a6 != 0) ? (((uint64_t)v5 + (uint64_t)a6) >= (uint64_t)r12_3_0_copyload) : 0) goto then_8;
     goto join_10;
 arm_2_2:
-    if ((a6 != 0) ? (((uint64_t)v3 + (uint64_t)a6) >= (uint64_t)r12_4_0_copyload) : 0) goto then_8;
+    if ((a6 != 0) ? (((uint64_t)v4 + (uint64_t)a6) >= (uint64_t)r12_4_0_copyload) : 0) goto then_8;
     goto join_10;
 then_8:
     memset(r8, 0, 6);
     dfu_asks_asking_Asking_start(r19, r5, r5_2, 0, 0, r8);
-    uint8_t v6 = *r19;
-    r20_115_0 = (uint32_t)((v6 == 0) ? 0xfffffff5U : 0);
+    uint8_t v7 = *r19;
+    r20_115_0 = (uint32_t)((v7 == 0) ? 0xfffffff5U : 0);
     goto arm_8;
 join_10:
-    r10 = r5_3 + 336;
-    uint8_t r11 = *r10;
-    switch (r11) {
+    store32(r0, 0);
+    dfu_device_machine_Machine_profile(r1, r5_2);
+    r3_2_0_copyload = r1[2];
+    r3_3_0_copyload = r1[3];
+    r12 = r5_3 + 336;
+    v10 = *r12;
+    r16 = r5_3 + 340;
+    v11 = load32(r16);
+    r18 = r5_3 + 344;
+    v12 = load32(r18);
+    r20 = r5_3 + 348;
+    v13 = load32(r20);
+    switch (v10) {
     case 1: goto arm_1_2;
     case 5: goto arm_2_3;
     case 9: goto arm_3;
-    case 0: goto dfu_device_lent_LentDevice_elapse_exit;
-    case 2: goto dfu_device_lent_LentDevice_elapse_exit;
-    case 3: goto dfu_device_lent_LentDevice_elapse_exit;
-    case 4: goto dfu_device_lent_LentDevice_elapse_exit;
-    case 6: goto dfu_device_lent_LentDevice_elapse_exit;
-    case 7: goto dfu_device_lent_LentDevice_elapse_exit;
-    case 8: goto dfu_device_lent_LentDevice_elapse_exit;
-    case 10: goto dfu_device_lent_LentDevice_elapse_exit;
-    case 11: goto dfu_device_lent_LentDevice_elapse_exit;
-    case 12: goto dfu_device_lent_LentDevice_elapse_exit;
+    case 0: goto arm_4;
+    case 2: goto arm_4;
+    case 3: goto arm_4;
+    case 4: goto arm_4;
+    case 6: goto arm_4;
+    case 7: goto arm_4;
+    case 8: goto arm_4;
+    case 10: goto arm_4;
+    case 11: goto arm_4;
+    case 12: goto arm_4;
     default: never();
     }
 arm_1_2:
-    r13_2 = r5_3 + 340;
-    r14 = load32(r13_2);
-    r16 = r5_3 + 344;
-    r17 = load32(r16);
-    if (a6 == 0) goto dfu_device_lent_LentDevice_elapse_exit;
-    uint8_t r2_2_0_copyload = r5_3[9];
-    if (!(r2_2_0_copyload & 1)) goto join_6;
-    *r10 = 2;
-    r5_3[337] = 0;
-    store32(r13_2, 0);
-    store32(r16, 0);
-    store32(r5_3 + 348, 0);
+    r21 = (uint64_t)v12 + (uint64_t)a6;
+    if (a6 == 0) {
+        r18_0_0 = 0;
+        r18_1547_0 = 1;
+        r18_22_0 = v11;
+        r18_29_0 = v12;
+        r18_36_0 = 0;
+        goto dfu_device_lent_LentDevice_elapse_exit;
+    }
+    if (r3_3_0_copyload & 1) {
+        r18_0_0 = 0;
+        r18_1547_0 = 2;
+        r18_22_0 = 0;
+        r18_29_0 = 0;
+        r18_36_0 = 0;
+        goto dfu_device_lent_LentDevice_elapse_exit;
+    }
+    if (r21 >= (uint64_t)umax32(v11, 1)) {
+        r18_0_0 = 0;
+        r18_1547_0 = 0;
+        r18_22_0 = 0;
+        r18_29_0 = 0;
+        r18_36_0 = 0;
+        goto dfu_device_lent_LentDevice_elapse_exit;
+    }
+    r18_0_0 = 0;
+    r18_1547_0 = 1;
+    r18_22_0 = v11;
+    r18_29_0 = (uint32_t)r21;
+    r18_36_0 = 0;
     goto dfu_device_lent_LentDevice_elapse_exit;
-join_6:
-    r35 = (uint64_t)r17 + (uint64_t)a6;
-    r66 = r5_3 + 348;
-    if (r35 < (uint64_t)umax32(r14, 1)) goto else_8;
-    *r10 = 0;
-    r5_3[337] = 0;
-    store32(r13_2, 0);
-    store32(r16, 0);
-    store32(r66, 0);
+arm_2_3:;
+    uint32_t r3_42_0_copyload = load32(r1 + 16);
+    r15_2 = (uint64_t)v13 + (uint64_t)a6;
+    if ((a6 == 0) ? 1 : (r15_2 < (uint64_t)r3_42_0_copyload)) goto after_1;
+    r18_0_0 = 3;
+    r18_1547_0 = v11;
+    r18_22_0 = (v12 & 0xffffU) | 0x10000U;
+    r18_29_0 = 0;
+    r18_36_0 = 0;
     goto dfu_device_lent_LentDevice_elapse_exit;
-else_8:
-    *r10 = 1;
-    r5_3[337] = 0;
-    store32(r16, (uint32_t)r35);
-    store32(r66, 0);
+after_1:
+    r18_0_0 = 0;
+    r18_1547_0 = 5;
+    r18_22_0 = v11;
+    r18_29_0 = v12 & 0xffffU;
+    r18_36_0 = (uint32_t)r15_2;
     goto dfu_device_lent_LentDevice_elapse_exit;
-arm_2_3:
-    r23 = load32(r5_3 + 340);
-    r26 = load16(r5_3 + 344);
-    r28 = r5_3 + 348;
-    if (a6 == 0) goto dfu_device_lent_LentDevice_elapse_exit;
-    uint32_t r29 = load32(r28);
-    r18 = (uint64_t)r29 + (uint64_t)a6;
-    uint32_t r2_2 = load32(r5_3 + 20);
-    if (r18 >= (uint64_t)r2_2) goto else_5;
-    *r10 = 5;
-    r5_3[337] = 0;
-    store16(r5_3 + 346, 0);
-    store32(r28, (uint32_t)r18);
+arm_3:;
+    uint32_t r3_5_0_copyload = load32(r1 + 20);
+    r18_2 = (uint64_t)v12 + (uint64_t)a6;
+    if ((a6 == 0) ? 1 : (r18_2 < (uint64_t)r3_5_0_copyload)) goto after_1_2;
+    r18_0_0 = 4;
+    r18_1547_0 = v11;
+    r18_22_0 = (uint32_t)((r3_2_0_copyload & 1) ? 8 : 10);
+    r18_29_0 = 0;
+    r18_36_0 = 0;
     goto dfu_device_lent_LentDevice_elapse_exit;
-else_5:
-    dfu_device_machine_Machine_write_block(r5_3, r23, r26, 1);
+after_1_2:
+    r18_0_0 = 0;
+    r18_1547_0 = 9;
+    r18_22_0 = v11;
+    r18_29_0 = (uint32_t)r18_2;
+    r18_36_0 = 0;
     goto dfu_device_lent_LentDevice_elapse_exit;
-arm_3:
-    r36_2 = load32(r5_3 + 340);
-    r38 = r5_3 + 344;
-    if (a6 == 0) goto dfu_device_lent_LentDevice_elapse_exit;
-    uint32_t r39 = load32(r38);
-    r25 = (uint64_t)r39 + (uint64_t)a6;
-    uint32_t r2_3 = load32(r5_3 + 24);
-    if (r25 >= (uint64_t)r2_3) goto else_5_2;
-    *r10 = 9;
-    r5_3[337] = 0;
-    store32(r38, (uint32_t)r25);
-    store32(r5_3 + 348, 0);
+arm_4:;
+    uint8_t v14 = r5_3[337];
+    r18_0_0 = 0;
+    r18_1547_0 = ((uint32_t)v14 << 8) | (uint32_t)v10;
+    r18_22_0 = v11;
+    r18_29_0 = v12;
+    r18_36_0 = v13;
     goto dfu_device_lent_LentDevice_elapse_exit;
-else_5_2:
-    dfu_device_machine_Machine_commit_taken(r5_3, r36_2);
-    goto dfu_device_lent_LentDevice_elapse_exit;
-dfu_device_lent_LentDevice_elapse_exit:;
-    uint8_t r27_2_0_copyload = *r10;
+dfu_device_lent_LentDevice_elapse_exit:
+    *r0 = r18_0_0;
+    store32(r0 + 4, r18_1547_0);
+    store32(r0 + 8, r18_22_0);
+    store32(r0 + 12, r18_29_0);
+    store32(r0 + 16, r18_36_0);
+    store32(r0 + 20, 0);
+    dfu_device_machine_Machine_carry_out(r6, r5_3, r0, 0, PLACE(static_4), 0);
+    uint8_t r27_2_0_copyload = *r12;
     uint8_t r27_3_0_copyload = r5_3[337];
-    uint32_t r27_47_0_copyload = load32(r5_3 + 340);
-    uint32_t r27_5_0_copyload = load32(r5_3 + 344);
-    uint32_t r27_6_0_copyload = load32(r5_3 + 348);
+    uint32_t r27_48_0_copyload = load32(r16);
+    uint32_t r27_5_0_copyload = load32(r18);
+    uint32_t r27_6_0_copyload = load32(r20);
     *r46 = r27_2_0_copyload;
     *r48 = r27_3_0_copyload;
-    store32(r50, r27_47_0_copyload);
+    store32(r50, r27_48_0_copyload);
     store32(r52, r27_5_0_copyload);
     store32(r54, r27_6_0_copyload);
     memcpy(r58, r5_3 + 352, 24);
@@ -5096,8 +5759,8 @@ arm_8:
     goto dfu_asks_c_exports_dfu_asking_elapse_exit;
 arm_9:;
     uint8_t r1_3_1_copyload = r15[1];
-    uint32_t r74 = dfu_asks_c_refusal_Refusal_number((uint8_t)((r1_3_1_copyload == 1) ? 3 : 4));
-    common_ret_op = r74;
+    uint32_t switch_load_2 = load32(PLACE(switch_table_dfu_asks_c_refusal_Refusal_number) + 4 * (size_t)((r1_3_1_copyload == 1) ? 3 : 4));
+    common_ret_op = switch_load_2;
 dfu_asks_c_exports_dfu_asking_elapse_exit:
     return signed32(common_ret_op);
 }
@@ -5119,29 +5782,30 @@ int32_t dfu_asking_handle(const struct dfu_config *config, struct dfu_asking *de
     _Alignas(8) unsigned char r19[384];
     _Alignas(8) unsigned char r9_2[376];
     _Alignas(8) unsigned char r9[376];
+    _Alignas(8) unsigned char r11[32];
+    unsigned char *const r1_2 = r11;
+    unsigned char *const r13_2 = r11;
+    _Alignas(4) unsigned char r10[24];
+    unsigned char *const r13_3 = r10;
+    unsigned char *const r16 = r10;
+    _Alignas(4) unsigned char r15[16];
+    unsigned char *const r15_2 = r15;
     _Alignas(8) unsigned char r40[16];
-    _Alignas(4) unsigned char r1[12];
-    unsigned char *const r12 = r1;
-    unsigned char *const r13_3 = r1;
-    unsigned char *const r16_2 = r1;
-    unsigned char *const r13_2 = r1;
+    _Alignas(4) unsigned char r0[12];
     _Alignas(8) unsigned char r3_2[8];
-    unsigned char *const r13_4 = r3_2;
-    unsigned char *const r16 = r3_2;
     _Alignas(8) unsigned char r6[8];
-    unsigned char *const r15 = r6;
+    _Alignas(4) unsigned char r1[6];
     _Alignas(4) unsigned char r4_2[6];
-    unsigned char *r13, *r22, *r31, *r80, *r61, *r63, *r65, *r67, *r69, *r5, *r36, *r53;
-    unsigned char *r56, *r72, *r75_2, *v16, *r5_2, *r11, *r84, *r92, *r95, *v17, *r1_0_in;
-    uint64_t wide_30085, v8, r18_71_0, r29_2113_0_ph26;
-    uint32_t r18_3_0_copyload, r18_4_0_copyload, r54_2, r73, r22_18_18_2, r85, r93, r0_5_4_copyload_2, r8_6_0, r1_0, r2_0_0, common_ret_op;
-    uint8_t v3, r14, r22_0_0_2, r44, r8_0_0_0, r18_0_0, r29_16_0_ph25, v26;
-    uint16_t r25, v11, v12, r57, r76_2, r22_18_0_2, r22_18_31_2, r96, v18, v19, r8_4_0, r8_8_0;
-    uint16_t r8_4_0_2, r8_4_0_3, r9_4;
+    unsigned char *r13, *r22, *r31, *r80, *r61, *r63, *r65, *r67, *r69, *r5, *r19_2, *r21;
+    unsigned char *r1_0_in;
+    uint64_t wide_32686, v9, r18_71_0, r29_2113_0_ph26, v34;
+    uint32_t r18_3_0_copyload, r18_4_0_copyload, v21, r1_0, common_ret_op;
+    uint8_t v4, r14, v23, v24, r18_0_0, r29_16_0_ph25;
+    uint16_t r25, v12, r9_0, v20, v22, r9_3;
     r13 = (unsigned char *)((uintptr_t)a4 + (uintptr_t)(uint64_t)((a4 == NULL) ? 4096 : 0));
     r22 = (unsigned char *)((uintptr_t)a7 + (uintptr_t)(uint64_t)((a7 == NULL) ? 4096 : 0));
     r31 = (unsigned char *)((uintptr_t)a9 + (uintptr_t)(uint64_t)((a9 == NULL) ? 4096 : 0));
-    wide_30085 = (uint64_t)(uintptr_t)(unsigned char *)((uintptr_t)a2 + (uintptr_t)(uint64_t)((a2 == NULL) ? 4096 : 0));
+    wide_32686 = (uint64_t)(uintptr_t)(unsigned char *)((uintptr_t)a2 + (uintptr_t)(uint64_t)((a2 == NULL) ? 4096 : 0));
     memset(r19, 0, 384);
     uint16_t r4 = load16(a0 + 12);
     if (a10 < (uint64_t)umax16(r4, 6)) {
@@ -5160,30 +5824,29 @@ int32_t dfu_asking_handle(const struct dfu_config *config, struct dfu_asking *de
     goto join_3;
 arm_5:;
     uint8_t r11_0_0_copyload = r19[1];
-    uint32_t r58 = dfu_asks_c_refusal_Refusal_number(r11_0_0_copyload);
-    common_ret_op = r58;
+    uint32_t switch_load = load32(PLACE(switch_table_dfu_asks_c_refusal_Refusal_number) + 4 * (size_t)r11_0_0_copyload);
+    common_ret_op = switch_load;
     goto dfu_asks_c_exports_dfu_asking_handle_exit;
 join_3:;
     uint16_t r75 = load16(a1 + 26);
     r80 = r9 + 56;
-    store64(r80, wide_30085);
+    store64(r80, wide_32686);
     store64(r9 + 64, a3);
     store64(r9 + 72, (uint64_t)r75);
-    memset(r9_2, 0, 376);
     memset(r28, 0, 384);
     memset(r40, 0, 16);
     r18_3_0_copyload = load32(r9 + 20);
     r18_4_0_copyload = load32(r9 + 24);
     r61 = r9 + 36;
-    v3 = *r61;
+    v4 = *r61;
     r63 = r9 + 37;
     r65 = r9 + 40;
     r67 = r9 + 44;
     r69 = r9 + 48;
     uint16_t r23_2_0_copyload = load16(r9 + 12);
     if (a10 >= (uint64_t)umax16(r23_2_0_copyload, 6)) goto join_6;
-    v26 = 4;
-    goto v25;
+    v34 = 4;
+    goto v33;
 join_6:
     dfu_asks_asking_Asking_assemble(r28, r9, r13, a5);
     uint8_t r1_0_0_copyload = *r28;
@@ -5196,7 +5859,7 @@ join_6:
     if (r23 != 3) goto arm_11;
     r25 = load16(r16 + 2);
     if (a8 != 0) goto arm_11;
-    switch (v3) {
+    switch (v4) {
     case 3: goto arm_1;
     case 7: goto dfu_asks_due_writes_at_once_exit;
     case 0: goto arm_11;
@@ -5221,578 +5884,168 @@ arm_11:;
     uint16_t r3 = load16(r9_2 + 12);
     if (a10 < (uint64_t)umax16(r3, 6)) trap();
     dfu_wire_setups_Setup_decode(r6, a6);
-    v8 = load64(r6);
-    store64(r3_2, v8);
+    v9 = load64(r6);
+    store64(r3_2, v9);
     dfu_wire_setups_Setup_request(r4_2, r3_2);
     r14 = *r4_2;
-    if (r14 == 8) goto dfu_device_machine_Machine_decide_exit_thread20;
-    v11 = load16(r4_2 + 2);
-    v12 = load16(r4_2 + 4);
-    if (a8 == (uint64_t)(((v8 & 255) == 33) ? (v8 >> 48) : 0)) goto join_7;
+    if (r14 != 8) goto arm_2;
     goto arm_5_2;
-join_7:
-    r36 = r9_2 + 336;
-    uint8_t r37 = *r36;
-    switch (r37) {
-    case 0: goto arm_1_2;
-    case 1: goto arm_2;
-    case 2: goto arm_3;
-    case 3: goto arm_4;
-    case 4: goto arm_5_3;
-    case 5: goto arm_6;
-    case 6: goto arm_7;
-    case 7: goto arm_8;
-    case 8: goto arm_9;
-    case 9: goto arm_10;
-    case 10: goto dfu_device_machine_Machine_decide_exit_thread20;
-    case 11: goto arm_12_2;
-    case 12: goto arm_13;
-    default: never();
-    }
-arm_1_2:
-    switch (r14) {
-    case 0: goto arm_1_3;
-    case 3: goto dfu_device_machine_Machine_decide_exit_thread28;
-    case 5: goto dfu_device_machine_Machine_decide_exit_thread37;
-    case 1: goto dfu_device_machine_Machine_decide_exit_thread20;
-    case 2: goto dfu_device_machine_Machine_decide_exit_thread20;
-    case 4: goto dfu_device_machine_Machine_decide_exit_thread20;
-    case 6: goto dfu_device_machine_Machine_decide_exit_thread20;
-    case 7: goto dfu_device_machine_Machine_decide_exit_thread20;
-    default: never();
-    }
-arm_1_3:;
-    uint16_t r14_2_0_copyload = load16(r9_2 + 10);
-    *r36 = 1;
-    r9_2[337] = 0;
-    store32(r9_2 + 340, (uint32_t)umin16(v11, r14_2_0_copyload));
-    store32(r9_2 + 344, 0);
-    store32(r9_2 + 348, 0);
-    goto dfu_device_machine_Machine_decide_exit_thread46;
 arm_2:
-    switch (r14) {
-    case 3: goto dfu_device_machine_Machine_decide_exit_thread28;
-    case 5: goto dfu_device_machine_Machine_decide_exit_thread37;
-    case 0: goto arm_3_2;
-    case 1: goto arm_3_2;
-    case 2: goto arm_3_2;
-    case 4: goto arm_3_2;
-    case 6: goto arm_3_2;
-    case 7: goto arm_3_2;
-    default: never();
-    }
-arm_3_2:
-    *r36 = 0;
-    r9_2[337] = 0;
-    store32(r9_2 + 340, 0);
-    store32(r9_2 + 344, 0);
-    store32(r9_2 + 348, 0);
-    goto dfu_device_machine_Machine_decide_exit_thread20;
-arm_3:
-    memset(r16_2, 0, 12);
-    switch (r14) {
-    case 1: goto arm_3_3;
-    case 2: goto arm_4_2;
-    case 6: goto dfu_device_machine_Machine_in_dfu_idle_exit;
-    case 3: goto arm_6_2;
-    case 5: goto arm_7_2;
-    case 0: goto after_2;
-    case 4: goto after_2;
-    case 7: goto after_2;
-    default: never();
-    }
-arm_3_3:;
-    uint8_t r18_0_0_copyload = r9_2[6];
-    if (!((r18_0_0_copyload & 1) ? (v12 != 0) : 0)) goto after_2;
-    dfu_device_machine_Machine_take_block(r16_2, r9_2, 0, 0, v11, r22, a8);
-    goto dfu_device_machine_Machine_in_dfu_idle_exit;
-arm_4_2:;
-    uint8_t r22_2_0_copyload = r9_2[7];
-    if (!(r22_2_0_copyload & 1)) goto after_2;
-    dfu_device_machine_Machine_send(r16_2, r9_2, 0, 0, v11, v12);
-    goto dfu_device_machine_Machine_in_dfu_idle_exit;
-arm_6_2:
-    store16(r16_2, 1);
-    store16(r16_2 + 2, v11);
-    goto dfu_device_machine_Machine_in_dfu_idle_exit;
-arm_7_2:
-    store16(r16_2, 2);
-    store16(r16_2 + 2, v11);
-    goto dfu_device_machine_Machine_in_dfu_idle_exit;
-after_2:
-    *r36 = 12;
-    r9_2[337] = 15;
-    store32(r9_2 + 340, 0);
-    store32(r9_2 + 344, 0);
-    store32(r9_2 + 348, 0);
-    store16(r16_2, 4);
-    goto dfu_device_machine_Machine_in_dfu_idle_exit;
-dfu_device_machine_Machine_in_dfu_idle_exit:;
-    uint8_t r76 = *r16_2;
-    uint16_t v14 = load16(r16_2 + 2);
-    uint32_t r0_5_4_copyload = load32(r16_2 + 4);
-    uint16_t v15 = load16(r16_2 + 8);
-    r8_0_0_0 = r76;
-    r8_4_0 = v14;
-    r8_6_0 = r0_5_4_copyload;
-    r8_8_0 = v15;
-    goto dfu_device_machine_Machine_decide_exit;
-arm_4:
-    r53 = r9_2 + 340;
-    r54_2 = load32(r53);
-    r56 = r9_2 + 344;
-    r57 = load16(r56);
-    switch (r14) {
-    case 3: goto arm_1_4;
-    case 5: goto dfu_device_machine_Machine_decide_exit_thread37;
-    case 0: goto arm_3_4;
-    case 1: goto arm_3_4;
-    case 2: goto arm_3_4;
-    case 4: goto arm_3_4;
-    case 6: goto arm_3_4;
-    case 7: goto arm_3_4;
-    default: never();
-    }
-arm_1_4:;
-    uint32_t r2_2 = load32(r9_2 + 20);
-    if (r2_2 == 0) goto join_8;
-    *r36 = 5;
-    r9_2[337] = 0;
-    store16(r9_2 + 346, 0);
-    store32(r9_2 + 348, 0);
-    goto dfu_device_machine_Machine_decide_exit_thread28;
-join_8:
-    dfu_device_machine_Machine_write_block(r9_2, r54_2, r57, 0);
-    goto dfu_device_machine_Machine_decide_exit_thread28;
-arm_3_4:
-    *r36 = 12;
-    r9_2[337] = 15;
-    store32(r53, 0);
-    store32(r56, 0);
-    store32(r9_2 + 348, 0);
-    goto dfu_device_machine_Machine_decide_exit_thread20;
-arm_5_3:
-    switch (r14) {
-    case 3: goto arm_1_5;
-    case 5: goto dfu_device_machine_Machine_decide_exit_thread37;
-    case 0: goto arm_3_5;
-    case 1: goto arm_3_5;
-    case 2: goto arm_3_5;
-    case 4: goto arm_3_5;
-    case 6: goto arm_3_5;
-    case 7: goto arm_3_5;
-    default: never();
-    }
-arm_1_5:
-    *r36 = 6;
-    r9_2[337] = 0;
-    store16(r9_2 + 346, 0);
-    store32(r9_2 + 348, 0);
-    goto dfu_device_machine_Machine_decide_exit_thread28;
-arm_3_5:
-    *r36 = 12;
-    r9_2[337] = 15;
-    store32(r9_2 + 340, 0);
-    store32(r9_2 + 344, 0);
-    store32(r9_2 + 348, 0);
-    goto dfu_device_machine_Machine_decide_exit_thread20;
-arm_6:
-    *r36 = 12;
-    r9_2[337] = 15;
-    store32(r9_2 + 340, 0);
-    store32(r9_2 + 344, 0);
-    store32(r9_2 + 348, 0);
-    goto dfu_device_machine_Machine_decide_exit_thread20;
-arm_7:
-    r72 = r9_2 + 340;
-    r73 = load32(r72);
-    r75_2 = r9_2 + 344;
-    r76_2 = load16(r75_2);
-    v16 = r13_3 + 8;
-    store32(v16, 0);
-    switch (r14) {
-    case 1: goto arm_1_6;
-    case 6: goto arm_2_2;
-    case 3:
-        r22_0_0_2 = 1;
-        r22_18_0_2 = v11;
-        r22_18_18_2 = 0;
-        r22_18_31_2 = 0;
-        goto dfu_device_machine_Machine_in_download_idle_exit;
-    case 5: goto arm_4_3;
-    case 0: goto arm_5_4;
-    case 2: goto arm_5_4;
-    case 4: goto arm_5_4;
-    case 7: goto arm_5_4;
-    default: never();
-    }
-arm_1_6:
-    if (v12 != 0) goto default_9;
-    uint32_t r2_3 = load32(r9_2 + 16);
-    r5_2 = r9_2 + 337;
-    r11 = r9_2 + 348;
-    if (r73 >= r2_3) goto join_13;
-    *r36 = 12;
-    *r5_2 = 9;
-    store32(r72, 0);
-    store32(r75_2, 0);
-    store32(r11, 0);
-    r22_0_0_2 = 4;
-    r22_18_0_2 = 0;
-    r22_18_18_2 = 0;
-    r22_18_31_2 = 0;
-    goto dfu_device_machine_Machine_in_download_idle_exit;
-join_13:
-    *r36 = 7;
-    *r5_2 = 0;
-    store32(r75_2, 0);
-    store32(r11, 0);
-    r22_0_0_2 = 0;
-    r22_18_0_2 = 0;
-    r22_18_18_2 = 0;
-    r22_18_31_2 = 0;
-    goto dfu_device_machine_Machine_in_download_idle_exit;
-default_9:
-    dfu_device_machine_Machine_take_block(r13_3, r9_2, r73, r76_2, v11, r22, a8);
-    uint8_t r80_pre = *r13_3;
-    uint16_t pre = load16(r13_3 + 2);
-    uint32_t pre20 = load32(r13_3 + 4);
-    uint16_t pre21 = load16(v16);
-    r22_0_0_2 = r80_pre;
-    r22_18_0_2 = pre;
-    r22_18_18_2 = pre20;
-    r22_18_31_2 = pre21;
-    goto dfu_device_machine_Machine_in_download_idle_exit;
-arm_2_2:
-    *r36 = 2;
-    r9_2[337] = 0;
-    store32(r72, 0);
-    store32(r75_2, 0);
-    store32(r9_2 + 348, 0);
-    r22_0_0_2 = 0;
-    r22_18_0_2 = 0;
-    r22_18_18_2 = 0;
-    r22_18_31_2 = 0;
-    goto dfu_device_machine_Machine_in_download_idle_exit;
-arm_4_3:
-    r22_0_0_2 = 2;
-    r22_18_0_2 = v11;
-    r22_18_18_2 = 0;
-    r22_18_31_2 = 0;
-    goto dfu_device_machine_Machine_in_download_idle_exit;
-arm_5_4:
-    *r36 = 12;
-    r9_2[337] = 15;
-    store32(r72, 0);
-    store32(r75_2, 0);
-    store32(r9_2 + 348, 0);
-    r22_0_0_2 = 4;
-    r22_18_0_2 = 0;
-    r22_18_18_2 = 0;
-    r22_18_31_2 = 0;
-    goto dfu_device_machine_Machine_in_download_idle_exit;
-dfu_device_machine_Machine_in_download_idle_exit:
-    r8_0_0_0 = r22_0_0_2;
-    r8_4_0 = r22_18_0_2;
-    r8_6_0 = r22_18_18_2;
-    r8_8_0 = r22_18_31_2;
-    goto dfu_device_machine_Machine_decide_exit;
-arm_8:
-    r84 = r9_2 + 340;
-    r85 = load32(r84);
-    switch (r14) {
-    case 3: goto arm_1_7;
-    case 5:
-        r8_0_0_0 = 2;
-        r8_4_0 = v11;
-        r8_6_0 = 0;
-        r8_8_0 = 0;
-        goto dfu_device_machine_Machine_decide_exit;
-    case 0: goto arm_3_6;
-    case 1: goto arm_3_6;
-    case 2: goto arm_3_6;
-    case 4: goto arm_3_6;
-    case 6: goto arm_3_6;
-    case 7: goto arm_3_6;
-    default: never();
-    }
-arm_1_7:;
-    uint32_t r2_4 = load32(r9_2 + 24);
-    if (r2_4 == 0) goto join_8_2;
-    *r36 = 9;
-    r9_2[337] = 0;
-    store32(r9_2 + 344, 0);
-    store32(r9_2 + 348, 0);
-    r8_0_0_0 = 1;
-    r8_4_0 = v11;
-    r8_6_0 = 0;
-    r8_8_0 = 0;
-    goto dfu_device_machine_Machine_decide_exit;
-join_8_2:
-    dfu_device_machine_Machine_commit_taken(r9_2, r85);
-    r8_0_0_0 = 1;
-    r8_4_0 = v11;
-    r8_6_0 = 0;
-    r8_8_0 = 0;
-    goto dfu_device_machine_Machine_decide_exit;
-arm_3_6:
-    *r36 = 12;
-    r9_2[337] = 15;
-    store32(r84, 0);
-    store32(r9_2 + 344, 0);
-    store32(r9_2 + 348, 0);
-    r8_0_0_0 = 4;
-    r8_4_0 = 0;
-    r8_6_0 = 0;
-    r8_8_0 = 0;
-    goto dfu_device_machine_Machine_decide_exit;
-arm_9:
-    switch (r14) {
-    case 3: goto arm_1_8;
-    case 5: goto dfu_device_machine_Machine_decide_exit_thread37;
-    case 0: goto arm_3_7;
-    case 1: goto arm_3_7;
-    case 2: goto arm_3_7;
-    case 4: goto arm_3_7;
-    case 6: goto arm_3_7;
-    case 7: goto arm_3_7;
-    default: never();
-    }
-arm_1_8:
-    *r36 = 2;
-    r9_2[337] = 0;
-    store32(r9_2 + 340, 0);
-    store32(r9_2 + 344, 0);
-    store32(r9_2 + 348, 0);
-    goto dfu_device_machine_Machine_decide_exit_thread28;
-arm_3_7:
-    *r36 = 12;
-    r9_2[337] = 15;
-    store32(r9_2 + 340, 0);
-    store32(r9_2 + 344, 0);
-    store32(r9_2 + 348, 0);
-    goto dfu_device_machine_Machine_decide_exit_thread20;
-arm_10:
-    *r36 = 12;
-    r9_2[337] = 15;
-    store32(r9_2 + 340, 0);
-    store32(r9_2 + 344, 0);
-    store32(r9_2 + 348, 0);
-    goto dfu_device_machine_Machine_decide_exit_thread20;
-arm_12_2:
-    r92 = r9_2 + 340;
-    r93 = load32(r92);
-    r95 = r9_2 + 344;
-    r96 = load16(r95);
-    v17 = r12 + 8;
-    store32(v17, 0);
-    switch (r14) {
-    case 2: goto arm_1_9;
-    case 6: goto arm_2_3;
-    case 3:
-        v18 = 0;
-        r0_5_4_copyload_2 = 0;
-        v19 = v11;
-        r44 = 1;
-        goto dfu_device_machine_Machine_in_upload_idle_exit;
-    case 5: goto arm_4_4;
-    case 0: goto arm_5_5;
-    case 1: goto arm_5_5;
-    case 4: goto arm_5_5;
-    case 7: goto arm_5_5;
-    default: never();
-    }
-arm_1_9:
-    dfu_device_machine_Machine_send(r12, r9_2, r93, r96, v11, v12);
-    uint8_t r44_pre = *r12;
-    uint16_t pre_2 = load16(r12 + 2);
-    uint32_t r0_5_4_copyload_pre = load32(r12 + 4);
-    uint16_t pre6 = load16(v17);
-    v18 = pre6;
-    r0_5_4_copyload_2 = r0_5_4_copyload_pre;
-    v19 = pre_2;
-    r44 = r44_pre;
-    goto dfu_device_machine_Machine_in_upload_idle_exit;
-arm_2_3:
-    *r36 = 2;
-    r9_2[337] = 0;
-    store32(r92, 0);
-    store32(r95, 0);
-    store32(r9_2 + 348, 0);
-    v18 = 0;
-    r0_5_4_copyload_2 = 0;
-    v19 = 0;
-    r44 = 0;
-    goto dfu_device_machine_Machine_in_upload_idle_exit;
-arm_4_4:
-    v18 = 0;
-    r0_5_4_copyload_2 = 0;
-    v19 = v11;
-    r44 = 2;
-    goto dfu_device_machine_Machine_in_upload_idle_exit;
-arm_5_5:
-    *r36 = 12;
-    r9_2[337] = 15;
-    store32(r92, 0);
-    store32(r95, 0);
-    store32(r9_2 + 348, 0);
-    v18 = 0;
-    r0_5_4_copyload_2 = 0;
-    v19 = 0;
-    r44 = 4;
-    goto dfu_device_machine_Machine_in_upload_idle_exit;
-dfu_device_machine_Machine_in_upload_idle_exit:
-    r8_0_0_0 = r44;
-    r8_4_0 = v19;
-    r8_6_0 = r0_5_4_copyload_2;
-    r8_8_0 = v18;
-    goto dfu_device_machine_Machine_decide_exit;
-arm_13:
-    switch (r14) {
-    case 4: goto arm_1_10;
-    case 3: goto dfu_device_machine_Machine_decide_exit_thread28;
-    case 5: goto dfu_device_machine_Machine_decide_exit_thread37;
-    case 0: goto dfu_device_machine_Machine_decide_exit_thread20;
-    case 1: goto dfu_device_machine_Machine_decide_exit_thread20;
-    case 2: goto dfu_device_machine_Machine_decide_exit_thread20;
-    case 6: goto dfu_device_machine_Machine_decide_exit_thread20;
-    case 7: goto dfu_device_machine_Machine_decide_exit_thread20;
-    default: never();
-    }
-arm_1_10:
-    *r36 = 2;
-    r9_2[337] = 0;
-    store32(r9_2 + 340, 0);
-    store32(r9_2 + 344, 0);
-    store32(r9_2 + 348, 0);
-    goto dfu_device_machine_Machine_decide_exit_thread46;
-dfu_device_machine_Machine_decide_exit_thread20:
+    v12 = load16(r4_2 + 2);
+    if (a8 == (uint64_t)(((v9 & 255) == 33) ? (v9 >> 48) : 0)) goto join_7;
     goto arm_5_2;
-dfu_device_machine_Machine_decide_exit_thread28:
-    r8_4_0_2 = v11;
-    goto arm_2_4;
-dfu_device_machine_Machine_decide_exit_thread37:
-    r8_4_0_3 = v11;
-    goto arm_3_8;
-dfu_device_machine_Machine_decide_exit_thread46:
-    r18_0_0 = 0;
-    r18_71_0 = 0;
-    goto arm_11_thread;
-dfu_device_machine_Machine_decide_exit:
-    switch (r8_0_0_0) {
+join_7:;
+    uint16_t v14 = load16(r4_2 + 4);
+    store16(r1, r14);
+    store16(r1 + 2, v12);
+    store16(r1 + 4, v14);
+    memset(r0, 0, 12);
+    memset(r10, 0, 24);
+    store32(r15, 0);
+    dfu_device_machine_Machine_profile(r11, r5);
+    r19_2 = r9_2 + 336;
+    uint8_t v15 = *r19_2;
+    *r15 = v15;
+    r21 = r9_2 + 337;
+    uint8_t v16 = *r21;
+    r15[1] = v16;
+    uint32_t v17 = load32(r9_2 + 340);
+    store32(r15 + 4, v17);
+    uint32_t v18 = load32(r9_2 + 344);
+    store32(r15 + 8, v18);
+    uint32_t v19 = load32(r9_2 + 348);
+    store32(r15 + 12, v19);
+    dfu_device_table_decide(r10, r11, r15, r1);
+    switch (r14) {
+    case 3: goto after_2;
+    case 5: goto after_2;
     case 0:
-        r18_0_0 = r8_0_0_0;
+        r9_0 = 0;
+        goto dfu_device_machine_Machine_draft_exit;
+    case 1:
+        r9_0 = 0;
+        goto dfu_device_machine_Machine_draft_exit;
+    case 2:
+        r9_0 = 0;
+        goto dfu_device_machine_Machine_draft_exit;
+    case 4:
+        r9_0 = 0;
+        goto dfu_device_machine_Machine_draft_exit;
+    case 6:
+        r9_0 = 0;
+        goto dfu_device_machine_Machine_draft_exit;
+    case 7:
+        r9_0 = 0;
+        goto dfu_device_machine_Machine_draft_exit;
+    default: never();
+    }
+after_2:
+    r9_0 = v12;
+    goto dfu_device_machine_Machine_draft_exit;
+dfu_device_machine_Machine_draft_exit:
+    dfu_device_machine_Machine_carry_out(r0, r9_2, r10, r9_0, r22, a8);
+    uint8_t r35 = *r0;
+    v20 = load16(r0 + 2);
+    v21 = load32(r0 + 4);
+    v22 = load16(r0 + 8);
+    switch (r35) {
+    case 0:
+        r18_0_0 = r35;
         r18_71_0 = 0;
         goto arm_11_thread;
-    case 1:
-        r8_4_0_2 = r8_4_0;
-        goto arm_2_4;
-    case 2:
-        r8_4_0_3 = r8_4_0;
-        goto arm_3_8;
-    case 3: goto arm_4_5;
+    case 1: goto arm_2_2;
+    case 2: goto arm_3;
+    case 3: goto arm_4;
     case 4: goto arm_5_2;
     default: never();
     }
-arm_2_4:;
-    uint8_t r4_3 = *r36;
-    switch (r4_3) {
-    case 12: goto dfu_device_machine_Machine_code_exit_thread;
-    case 5: goto arm_1_11;
-    case 9: goto arm_2_5;
+arm_2_2:
+    v23 = *r19_2;
+    v24 = *r21;
+    switch (v23) {
+    case 5: goto arm_1_2;
+    case 9: goto arm_2_3;
     case 0:
         r1_0 = 0;
-        r2_0_0 = 0;
         goto dfu_device_machine_Machine_status_exit;
     case 1:
         r1_0 = 0;
-        r2_0_0 = 0;
         goto dfu_device_machine_Machine_status_exit;
     case 2:
         r1_0 = 0;
-        r2_0_0 = 0;
         goto dfu_device_machine_Machine_status_exit;
     case 3:
         r1_0 = 0;
-        r2_0_0 = 0;
         goto dfu_device_machine_Machine_status_exit;
     case 4:
         r1_0 = 0;
-        r2_0_0 = 0;
         goto dfu_device_machine_Machine_status_exit;
     case 6:
         r1_0 = 0;
-        r2_0_0 = 0;
         goto dfu_device_machine_Machine_status_exit;
     case 7:
         r1_0 = 0;
-        r2_0_0 = 0;
         goto dfu_device_machine_Machine_status_exit;
     case 8:
         r1_0 = 0;
-        r2_0_0 = 0;
         goto dfu_device_machine_Machine_status_exit;
     case 10:
         r1_0 = 0;
-        r2_0_0 = 0;
         goto dfu_device_machine_Machine_status_exit;
     case 11:
         r1_0 = 0;
-        r2_0_0 = 0;
+        goto dfu_device_machine_Machine_status_exit;
+    case 12:
+        r1_0 = 0;
         goto dfu_device_machine_Machine_status_exit;
     default: never();
     }
-dfu_device_machine_Machine_code_exit_thread:;
-    uint8_t r1_0_0_copyload_2 = r9_2[337];
-    r1_0 = 0;
-    r2_0_0 = (uint32_t)r1_0_0_copyload_2;
-    goto dfu_device_machine_Machine_status_exit;
-arm_1_11:
+arm_1_2:
     r1_0_in = r9_2 + 20;
     goto dfu_device_machine_Machine_poll_ms_exit;
-arm_2_5:
+arm_2_3:
     r1_0_in = r9_2 + 24;
     goto dfu_device_machine_Machine_poll_ms_exit;
 dfu_device_machine_Machine_poll_ms_exit:;
     uint32_t r1_0_2 = load32(r1_0_in);
     if (r1_0_2 <= 0xffffffU) {
         r1_0 = r1_0_2;
-        r2_0_0 = 0;
         goto dfu_device_machine_Machine_status_exit;
     }
     trap();
 dfu_device_machine_Machine_status_exit:;
-    uint8_t r9_3 = dfu_device_machine_Machine_state(r9_2);
-    store32(r1, r2_0_0);
-    store32(r1 + 4, r1_0);
-    r1[8] = r9_3;
-    memset(r1 + 9, 0, 3);
-    dfu_wire_statuses_Status_encode(r13_4, r1);
-    uint64_t a1_a0 = (uint64_t)umin16(r8_4_0_2, 6);
-    core_slice_edits_slice_T_copy_from_slice_i8_core_clone_U8Clone(r31, r13_4, a1_a0);
+    uint8_t switch_load_2 = *(PLACE(switch_table_dfu_device_mode_Mode_state) + (size_t)v23);
+    store32(r1_2, (uint32_t)(uint8_t)((v23 == 12) ? v24 : 0));
+    store32(r1_2 + 4, r1_0);
+    r1_2[8] = switch_load_2;
+    memset(r1_2 + 9, 0, 3);
+    dfu_wire_statuses_Status_encode(r13_3, r1_2);
+    uint64_t a1_a0 = (uint64_t)umin16(v20, 6);
+    core_slice_edits_slice_T_copy_from_slice_i8_core_clone_U8Clone(r31, r13_3, a1_a0);
     r18_0_0 = 1;
     r18_71_0 = a1_a0;
     goto arm_11_thread;
-arm_3_8:;
-    uint8_t r63_2 = dfu_device_machine_Machine_state(r9_2);
-    *r15 = r63_2;
-    uint64_t a1_a0_2 = (uint64_t)(r8_4_0_3 != 0);
-    core_slice_edits_slice_T_copy_from_slice_i8_core_clone_U8Clone(r31, r15, a1_a0_2);
+arm_3:;
+    uint8_t v28 = *r19_2;
+    uint8_t switch_load_3 = *(PLACE(switch_table_dfu_device_mode_Mode_state) + (size_t)v28);
+    *r15_2 = switch_load_3;
+    uint64_t a1_a0_2 = (uint64_t)(v20 != 0);
+    core_slice_edits_slice_T_copy_from_slice_i8_core_clone_U8Clone(r31, r15_2, a1_a0_2);
     r18_0_0 = 1;
     r18_71_0 = a1_a0_2;
     goto arm_11_thread;
-arm_4_5:
-    r9_4 = dfu_device_machine_Machine_piece_len(r9_2, r8_6_0, r8_8_0);
-    if (r9_4 == 0) {
+arm_4:
+    r9_3 = dfu_device_machine_Machine_piece_len(r9_2, v21, v22);
+    if (r9_3 == 0) {
         r18_0_0 = 1;
         r18_71_0 = 0;
         goto arm_11_thread;
     }
-    uint64_t r1_2 = (uint64_t)r9_4;
+    uint64_t r1_3 = (uint64_t)r9_3;
     uint32_t r7 = load32(r9_2 + 328);
-    dfu_slots_read_read_data(r9_2 + 32, r7, r8_6_0, r31, r1_2);
+    dfu_slots_read_read_data(r9_2 + 32, r7, v21, r31, r1_3);
     r18_0_0 = 1;
-    r18_71_0 = r1_2;
+    r18_71_0 = r1_3;
     goto arm_11_thread;
 arm_5_2:
     r18_0_0 = 2;
@@ -5832,22 +6085,22 @@ arm_15:
     case 0:
         common_ret_op = 0;
         goto dfu_asks_c_exports_dfu_asking_handle_exit;
-    case 1: goto arm_2_6;
-    case 2: goto arm_3_9;
+    case 1: goto arm_2_4;
+    case 2: goto arm_3_2;
     default: never();
     }
-arm_2_6:
+arm_2_4:
     common_ret_op = (uint32_t)umin64(r29_2113_0_ph26, 0xffffU);
     goto dfu_asks_c_exports_dfu_asking_handle_exit;
-arm_3_9:
+arm_3_2:
     common_ret_op = 0xffffffffU;
     goto dfu_asks_c_exports_dfu_asking_handle_exit;
 arm_12:;
     uint8_t r1_3_1_copyload = r28[1];
-    v26 = (uint8_t)((r1_3_1_copyload == 1) ? 3 : 4);
-v25:;
-    uint32_t r120 = dfu_asks_c_refusal_Refusal_number(v26);
-    common_ret_op = r120;
+    v34 = (uint64_t)((r1_3_1_copyload == 1) ? 3 : 4);
+v33:;
+    uint32_t switch_load_4 = load32(PLACE(switch_table_dfu_asks_c_refusal_Refusal_number) + 4 * (size_t)v34);
+    common_ret_op = switch_load_4;
 dfu_asks_c_exports_dfu_asking_handle_exit:
     return signed32(common_ret_op);
 }
@@ -5870,12 +6123,12 @@ int32_t dfu_asking_next(const struct dfu_config *config, const struct dfu_asking
     _Alignas(8) unsigned char r18[24];
     _Alignas(4) unsigned char r14[16];
     unsigned char *r13, *r8, *r9, *r7_4_8_7_r5_sroa_idx;
-    uint64_t wide_34383, r7_4_6_7_copyload, r7_4_7_7_copyload, r2714_2;
+    uint64_t wide_34637, r7_4_6_7_copyload, r7_4_7_7_copyload, r2714_2;
     uint32_t r21_0_0_copyload, common_ret_op;
     uint8_t r12;
     uint8_t r25_0_0_copyload;
     r13 = (unsigned char *)((uintptr_t)a4 + (uintptr_t)(uint64_t)((a4 == NULL) ? 4096 : 0));
-    wide_34383 = (uint64_t)(uintptr_t)(unsigned char *)((uintptr_t)a2 + (uintptr_t)(uint64_t)((a2 == NULL) ? 4096 : 0));
+    wide_34637 = (uint64_t)(uintptr_t)(unsigned char *)((uintptr_t)a2 + (uintptr_t)(uint64_t)((a2 == NULL) ? 4096 : 0));
     memset(r10, 0, 384);
     dfu_asks_c_keeping_found(r10, a0, a1, a3);
     uint8_t r31 = *r10;
@@ -5890,18 +6143,17 @@ common_ret_critedge:
     goto dfu_asks_c_writes_dfu_asking_next_exit;
 arm_2:;
     uint8_t r7_0_0_copyload = r10[1];
-    uint32_t r35 = dfu_asks_c_refusal_Refusal_number(r7_0_0_copyload);
-    common_ret_op = r35;
+    uint32_t switch_load = load32(PLACE(switch_table_dfu_asks_c_refusal_Refusal_number) + 4 * (size_t)r7_0_0_copyload);
+    common_ret_op = switch_load;
     goto dfu_asks_c_writes_dfu_asking_next_exit;
 arm_1:;
     uint16_t r56 = load16(a1 + 26);
     uint64_t r1 = (uint64_t)r56;
-    store64(r5 + 56, wide_34383);
+    store64(r5 + 56, wide_34637);
     store64(r5 + 64, a3);
     store64(r5 + 72, r1);
-    memset(r13_2, 0, 288);
-    unsigned char *v2 = r14 + 8;
-    store32(v2, 0);
+    unsigned char *v3 = r14 + 8;
+    store32(v3, 0);
     uint32_t r10_3_9_0_copyload = load32(r5 + 372);
     uint32_t r10_3_7_0_copyload = load32(r5 + 364);
     uint8_t r10_3_5_0_copyload = r5[360];
@@ -5909,7 +6161,7 @@ arm_1:;
     uint8_t r10_3_0_0_copyload = r5[352];
     store32(r14, (uint32_t)r10_3_0_0_copyload);
     store32(r14 + 4, r10_3_4_0_copyload);
-    *v2 = r10_3_5_0_copyload;
+    *v3 = r10_3_5_0_copyload;
     store32(r14 + 12, r10_3_7_0_copyload);
     r8 = r5 + 28;
     uint8_t r1_0_0_copyload = *r8;
@@ -5924,7 +6176,7 @@ arm_1:;
     store32(r16 + 12, 0);
     store64(r16 + 16, (uint64_t)(uintptr_t)(r5 + 80));
     store64(r16 + 24, r4);
-    store64(r16 + 32, wide_34383);
+    store64(r16 + 32, wide_34637);
     store64(r16 + 40, r1);
     dfu_asks_next_piece_next_piece(r13_2, r14, r16, (uint64_t)r10_3_9_0_copyload);
     uint8_t r2_2 = *r13_2;
@@ -6005,14 +6257,14 @@ int32_t dfu_asking_took(const struct dfu_config *config, struct dfu_asking *devi
     _Alignas(4) unsigned char r17[16];
     _Alignas(8) unsigned char r43[16];
     unsigned char *r13, *r22;
-    uint64_t wide_35155, r24_2412_0_ph24;
+    uint64_t wide_35409, r24_2412_0_ph24;
     uint32_t r5_413_0_copyload, r5_8_2_0_copyload, r5_16_0_copyload, r77, common_ret_op;
     uint8_t r5_6_0_copyload, r5_10_0_copyload, r24_18_0_ph23;
     uint16_t r5_1314_0_copyload;
     struct i8_i64 r122_pn;
     r13 = (unsigned char *)((uintptr_t)a4 + (uintptr_t)(uint64_t)((a4 == NULL) ? 4096 : 0));
     r22 = (unsigned char *)((uintptr_t)a7 + (uintptr_t)(uint64_t)((a7 == NULL) ? 4096 : 0));
-    wide_35155 = (uint64_t)(uintptr_t)(unsigned char *)((uintptr_t)a2 + (uintptr_t)(uint64_t)((a2 == NULL) ? 4096 : 0));
+    wide_35409 = (uint64_t)(uintptr_t)(unsigned char *)((uintptr_t)a2 + (uintptr_t)(uint64_t)((a2 == NULL) ? 4096 : 0));
     memset(r14, 0, 384);
     if (a8 < 6) {
         common_ret_op = 0xfffffffbU;
@@ -6028,20 +6280,19 @@ int32_t dfu_asking_took(const struct dfu_config *config, struct dfu_asking *devi
     goto dfu_asks_c_writes_dfu_asking_took_exit;
 arm_5:;
     uint8_t r9_0_0_copyload = r14[1];
-    uint32_t r51 = dfu_asks_c_refusal_Refusal_number(r9_0_0_copyload);
-    common_ret_op = r51;
+    uint32_t switch_load = load32(PLACE(switch_table_dfu_asks_c_refusal_Refusal_number) + 4 * (size_t)r9_0_0_copyload);
+    common_ret_op = switch_load;
     goto dfu_asks_c_writes_dfu_asking_took_exit;
 arm_4:;
     uint16_t r72 = load16(a1 + 26);
     uint64_t r1 = (uint64_t)r72;
-    store64(r7 + 56, wide_35155);
+    store64(r7 + 56, wide_35409);
     store64(r7 + 64, a3);
     store64(r7 + 72, r1);
     memset(r6, 0, 280);
     memset(r11, 0, 24);
-    memset(r16, 0, 288);
-    unsigned char *v2 = r17 + 8;
-    store32(v2, 0);
+    unsigned char *v3 = r17 + 8;
+    store32(v3, 0);
     memset(r43, 0, 16);
     uint8_t r5_0_0_copyload = r7[352];
     r5_413_0_copyload = load32(r7 + 356);
@@ -6053,7 +6304,7 @@ arm_4:;
     r77 = (uint32_t)r5_0_0_copyload;
     store32(r17, r77);
     store32(r17 + 4, r5_413_0_copyload);
-    *v2 = r5_6_0_copyload;
+    *v3 = r5_6_0_copyload;
     store32(r17 + 12, r5_8_2_0_copyload);
     uint8_t r1_0_0_copyload = r7[28];
     uint32_t r2_0_0_copyload = load32(r7 + 32);
@@ -6066,7 +6317,7 @@ arm_4:;
     store32(r20 + 12, 0);
     store64(r20 + 16, (uint64_t)(uintptr_t)(r7 + 80));
     store64(r20 + 24, r4);
-    store64(r20 + 32, wide_35155);
+    store64(r20 + 32, wide_35409);
     store64(r20 + 40, r1);
     dfu_asks_next_piece_next_piece(r16, r17, r20, (uint64_t)r5_16_0_copyload);
     uint8_t r90 = *r16;
@@ -6140,10 +6391,10 @@ int32_t dfu_asking_usb_reset(const struct dfu_config *config, struct dfu_asking 
     _Alignas(8) unsigned char r9[384];
     _Alignas(8) unsigned char r5[376];
     unsigned char *r13, *r56;
-    uint64_t wide_36067;
+    uint64_t wide_36321;
     uint32_t common_ret_op;
     r13 = (unsigned char *)((uintptr_t)a4 + (uintptr_t)(uint64_t)((a4 == NULL) ? 4096 : 0));
-    wide_36067 = (uint64_t)(uintptr_t)(unsigned char *)((uintptr_t)a2 + (uintptr_t)(uint64_t)((a2 == NULL) ? 4096 : 0));
+    wide_36321 = (uint64_t)(uintptr_t)(unsigned char *)((uintptr_t)a2 + (uintptr_t)(uint64_t)((a2 == NULL) ? 4096 : 0));
     memset(r9, 0, 384);
     dfu_asks_c_keeping_found(r9, a0, a1, a3);
     uint8_t r30 = *r9;
@@ -6157,13 +6408,13 @@ int32_t dfu_asking_usb_reset(const struct dfu_config *config, struct dfu_asking 
     goto join_3;
 arm_2:;
     uint8_t r7_0_0_copyload = r9[1];
-    uint32_t r34 = dfu_asks_c_refusal_Refusal_number(r7_0_0_copyload);
-    common_ret_op = r34;
+    uint32_t switch_load = load32(PLACE(switch_table_dfu_asks_c_refusal_Refusal_number) + 4 * (size_t)r7_0_0_copyload);
+    common_ret_op = switch_load;
     goto dfu_asks_c_exports_dfu_asking_usb_reset_exit;
 join_3:;
     uint16_t r51 = load16(a1 + 26);
     r56 = r5 + 56;
-    store64(r56, wide_36067);
+    store64(r56, wide_36321);
     store64(r5 + 64, a3);
     store64(r5 + 72, (uint64_t)r51);
     memset(r10, 0, 384);
@@ -6182,8 +6433,8 @@ join_3:;
     goto dfu_asks_c_exports_dfu_asking_usb_reset_exit;
 arm_9:;
     uint8_t r1_3_1_copyload = r10[1];
-    uint32_t r72 = dfu_asks_c_refusal_Refusal_number((uint8_t)((r1_3_1_copyload == 1) ? 3 : 4));
-    common_ret_op = r72;
+    uint32_t switch_load_2 = load32(PLACE(switch_table_dfu_asks_c_refusal_Refusal_number) + 4 * (size_t)((r1_3_1_copyload == 1) ? 3 : 4));
+    common_ret_op = switch_load_2;
 dfu_asks_c_exports_dfu_asking_usb_reset_exit:
     return signed32(common_ret_op);
 }

@@ -77,17 +77,19 @@ struct i8_i8 { uint8_t a; uint8_t b; };
 
 static inline uint16_t load16(const unsigned char *p) { uint16_t x = 0; memcpy(&x, ALIGNED(p, 2), 2); return x; }
 static inline uint32_t load32(const unsigned char *p) { uint32_t x = 0; memcpy(&x, ALIGNED(p, 4), 4); return x; }
+static inline uint32_t load32a2(const unsigned char *p) { uint32_t x = 0; memcpy(&x, ALIGNED(p, 2), 4); return x; }
 static inline uint32_t load32u(const unsigned char *p) { uint32_t x = 0; memcpy(&x, p, 4); return x; }
 static inline uint64_t load64(const unsigned char *p) { uint64_t x = 0; memcpy(&x, ALIGNED(p, 8), 8); return x; }
+static inline uint64_t load64a4(const unsigned char *p) { uint64_t x = 0; memcpy(&x, ALIGNED(p, 4), 8); return x; }
 static inline uint64_t load64u(const unsigned char *p) { uint64_t x = 0; memcpy(&x, p, 8); return x; }
 static inline int32_t signed32(uint32_t x) { int32_t y; memcpy(&y, &x, 4); return y; }
 static inline int64_t signed64(uint64_t x) { int64_t y; memcpy(&y, &x, 8); return y; }
 static inline void store16(unsigned char *p, uint16_t x) { memcpy(ALIGNED(p, 2), &x, 2); }
-static inline void store16u(unsigned char *p, uint16_t x) { memcpy(p, &x, 2); }
 static inline void store32(unsigned char *p, uint32_t x) { memcpy(ALIGNED(p, 4), &x, 4); }
 static inline void store32u(unsigned char *p, uint32_t x) { memcpy(p, &x, 4); }
-static inline void store48u(unsigned char *p, uint64_t x) { memcpy(p, &x, 6); }
+static inline void store48a4(unsigned char *p, uint64_t x) { memcpy(ALIGNED(p, 4), &x, 6); }
 static inline void store64(unsigned char *p, uint64_t x) { memcpy(ALIGNED(p, 8), &x, 8); }
+static inline void store64a4(unsigned char *p, uint64_t x) { memcpy(ALIGNED(p, 4), &x, 8); }
 static inline void store64u(unsigned char *p, uint64_t x) { memcpy(p, &x, 8); }
 static inline uint16_t umax16(uint16_t x, uint16_t y) { return x < y ? y : x; }
 static inline uint32_t umax32(uint32_t x, uint32_t y) { return x < y ? y : x; }
@@ -114,6 +116,12 @@ static _Alignas(1) const uint8_t static_4[8] = {
 };
 static _Alignas(1) const uint8_t static_5[1] = {
     0
+};
+static _Alignas(4) const uint8_t switch_table_dfu_device_table_decide[9] = {
+    3, 3, 3, 1, 3, 2, 3, 3, 3
+};
+static _Alignas(4) const uint32_t switch_table_dfu_device_table_decide_1[9] = {
+    0xf0c, 0xf0c, 0xf0c, 2, 0xf0c, 8, 0xf0c, 0xf0c, 0xf0c
 };
 static _Alignas(8) const uint64_t switch_table_dfu_slots_layout_fill_size[4] = {
     1, 0x10, 0x40, 0x100
@@ -157,10 +165,12 @@ static void core_slice_edits_slice_T_copy_from_slice_i8_core_clone_U8Clone(unsig
 static void dfu_wire_setups_Setup_decode(unsigned char *a0, unsigned char *a1);
 static void dfu_c_parts_record_set_mode(unsigned char *a0, unsigned char *a1);
 static void dfu_wire_setups_Setup_request(unsigned char *a0, unsigned char *a1);
+static void dfu_device_table_decide(unsigned char *a0, unsigned char *a1, unsigned char *a2, unsigned char *a3);
+static void dfu_device_plans_block(unsigned char *a0, unsigned char *a1, uint32_t a2, uint16_t a3, uint16_t a4, uint16_t a5);
+static void dfu_device_plans_upload(unsigned char *a0, unsigned char *a1, uint32_t a2, uint16_t a3, uint16_t a4, uint16_t a5);
 static void dfu_slots_slots_Slots_open(unsigned char *a0, unsigned char *a1);
 static void dfu_slots_open_check(unsigned char *a0, unsigned char *a1);
 static uint8_t dfu_slots_open_is_sized(unsigned char *a0);
-static uint32_t dfu_slots_read_gate_of(unsigned char *a0);
 static struct i8_i8 dfu_slots_places_count_slots(unsigned char *a0);
 static uint8_t dfu_slots_read_counts(unsigned char *a0, uint32_t a1);
 static uint8_t dfu_slots_read_is_open(unsigned char *a0, uint32_t a1);
@@ -169,10 +179,8 @@ static void dfu_device_c_memory_MemoryMedium_read(unsigned char *a0, uint32_t a1
 static void dfu_device_c_cover_read_seen(unsigned char *a0, unsigned char *a2, uint64_t a3, unsigned char *a4, uint64_t a5);
 static void dfu_device_c_copy_copy(unsigned char *a0, unsigned char *a2, uint64_t a3);
 static void dfu_slots_read_header_of(unsigned char *a0, unsigned char *a1, uint32_t a2);
-static uint32_t dfu_slots_read_capacity_of(unsigned char *a0);
 static uint32_t dfu_slots_register_register_of(unsigned char *a0, uint32_t a1, uint32_t a2);
 static void dfu_slots_read_read_data(unsigned char *a0, uint32_t a1, uint32_t a2, unsigned char *a3, uint64_t a4);
-static uint32_t dfu_slots_read_data_at(unsigned char *a0, uint32_t a1);
 static struct i32_i32 dfu_slots_places_find_places(unsigned char *a0, uint8_t a1, uint8_t a2);
 static uint8_t dfu_slots_places_is_newest(unsigned char *a0, uint32_t a1, uint32_t a2, uint8_t a3, uint8_t a4);
 static uint8_t dfu_slots_read_generation(unsigned char *a0, uint32_t a1);
@@ -185,7 +193,6 @@ static void dfu_slots_layout_fill_up(unsigned char *a0, unsigned char *a1, uint6
 static struct i8_i8 dfu_slots_writes_write(unsigned char *a0, uint32_t a1, unsigned char *a2, uint64_t a3);
 static void dfu_device_c_cover_write_seen(unsigned char *a0, unsigned char *a2, uint64_t a3, unsigned char *a4, uint64_t a5);
 static uint8_t dfu_slots_writes_write_filled(unsigned char *a0, uint32_t a1, unsigned char *a2, uint64_t a3);
-static uint64_t dfu_slots_layout_fill_size(uint8_t a0, uint64_t a1);
 static struct i8_i8 dfu_slots_writes_write_some(unsigned char *a0, uint32_t a1, unsigned char *a2, uint64_t a3);
 static struct i8_i8 dfu_slots_writes_open_slot(unsigned char *a0, uint32_t a1, uint8_t a2, uint32_t a3);
 static struct i8_i8 dfu_slots_writes_write_unit(unsigned char *a0, uint32_t a1, unsigned char *a2, uint64_t a3, uint32_t a4);
@@ -198,17 +205,13 @@ static void dfu_c_parts_record_held_of(unsigned char *a0, unsigned char *a1);
 static uint8_t dfu_slots_from_parts_has_puts(unsigned char *a0, unsigned char *a1, uint32_t a2);
 static void dfu_device_c_open_open_plain(unsigned char *a0, unsigned char *a1, unsigned char *a2);
 static uint8_t dfu_device_from_parts_is_put(unsigned char *a0, uint32_t a1);
-static void dfu_device_machine_Machine_take_block(unsigned char *a0, unsigned char *a1, uint32_t a2, uint16_t a3, uint16_t a4, unsigned char *a5, uint64_t a6);
-static void dfu_device_machine_Machine_send(unsigned char *a0, unsigned char *a1, uint32_t a2, uint16_t a3, uint16_t a4, uint16_t a5);
+static void dfu_device_machine_Machine_carry_out(unsigned char *a0, unsigned char *a1, unsigned char *a2, uint16_t a3, unsigned char *a4, uint64_t a5);
 static uint16_t dfu_device_machine_Machine_piece_len(unsigned char *a0, uint32_t a1, uint16_t a2);
-static void dfu_device_machine_Machine_write_block(unsigned char *a0, uint32_t a1, uint16_t a2, uint8_t a3);
 static void dfu_slots_puts_Puts_clear(unsigned char *a0);
 static void arrayvec_array_vec_ArrayVec_clear(unsigned char *a0);
 static struct i8_i8 dfu_slots_slots_Slots_put(unsigned char *a0, uint32_t a1, unsigned char *a2, uint64_t a3);
 static void dfu_slots_puts_hold(unsigned char *a0, unsigned char *a1, uint64_t a2);
 static struct i8_i8 dfu_slots_puts_put_front(unsigned char *a0, unsigned char *a1, uint32_t a2, unsigned char *a3, uint64_t a4, uint64_t a5);
-static void dfu_device_machine_Machine_commit_taken(unsigned char *a0, uint32_t a1, unsigned char *a2);
-static uint8_t dfu_device_machine_Machine_state(unsigned char *a0);
 static void dfu_device_c_noted_note(unsigned char *a0, unsigned char *a1, uint8_t a2);
 static uint32_t dfu_device_c_power_start(unsigned char *a0, unsigned char *a1, unsigned char *a2, uint64_t a3, unsigned char *a4);
 
@@ -229,12 +232,12 @@ static void dfu_c_parts_record_mode_of(unsigned char *a0, unsigned char *a1) {
     if (r16 == 200) goto join_3;
     goto then_1;
 then_1:
-    store32u(a0, 0);
+    store32(a0, 0);
     a0[4] = 0;
     a0[5] = 0;
-    store32u(a0 + 8, 0);
-    store32u(a0 + 12, 0);
-    store32u(a0 + 16, 0);
+    store32(a0 + 8, 0);
+    store32(a0 + 12, 0);
+    store32(a0 + 16, 0);
     return;
 join_3:
     r35 = load32(a1 + 8);
@@ -362,35 +365,34 @@ arm_16:
         r11_36_0 = 0;
         goto join_18;
     }
-    store32u(a0, 0);
+    store32(a0, 0);
     a0[4] = 0;
     a0[5] = 0;
-    store32u(a0 + 8, 0);
-    store32u(a0 + 12, 0);
-    store32u(a0 + 16, 0);
+    store32(a0 + 8, 0);
+    store32(a0 + 12, 0);
+    store32(a0 + 16, 0);
     return;
 default_17:
-    store32u(a0, 0);
+    store32(a0, 0);
     a0[4] = 0;
     a0[5] = 0;
-    store32u(a0 + 8, 0);
-    store32u(a0 + 12, 0);
-    store32u(a0 + 16, 0);
+    store32(a0 + 8, 0);
+    store32(a0 + 12, 0);
+    store32(a0 + 16, 0);
     return;
 join_18:
-    store32u(a0, 1);
+    store32(a0, 1);
     a0[4] = r11_0_0;
     a0[5] = r11_15_0;
-    store32u(a0 + 8, r11_172_0);
-    store32u(a0 + 12, r11_27_10_0_0 | (uint32_t)r11_27_0_0);
-    store32u(a0 + 16, r11_36_0);
+    store32(a0 + 8, r11_172_0);
+    store32(a0 + 12, r11_27_10_0_0 | (uint32_t)r11_27_0_0);
+    store32(a0 + 16, r11_36_0);
     return;
 }
 
 /* dfu_c_parts::config::is_allowed */
 static uint8_t dfu_c_parts_config_is_allowed(unsigned char *a0) {
     _Alignas(4) unsigned char r1[32];
-    memset(r1, 0, 32);
     dfu_c_parts_config_config_of(r1, a0);
     uint8_t r3 = *r1;
     return r3 == 1;
@@ -415,7 +417,7 @@ join_5:
     return;
 after_1:;
     uint16_t r42 = load16(a1 + 4);
-    uint32_t r44 = load32u(a1 + 6);
+    uint32_t r44 = load32a2(a1 + 6);
     dfu_c_parts_config_functional_of(r2, a1);
     r53 = load32(a1 + 24);
     r55 = load32(a1 + 16);
@@ -470,18 +472,18 @@ after_1:;
     r16_4_12_0 = r57;
     r16_0_0_0 = 1;
 join_14:
-    store32u(a0, r16_0_0_0);
-    store48u(a0 + 4, r16_4_0_0);
+    store32(a0, r16_0_0_0);
+    store48a4(a0 + 4, r16_4_0_0);
     a0[10] = r16_4_3_0;
     a0[11] = r16_4_4_0;
     a0[12] = r16_4_5_0;
     a0[13] = r16_4_6_0;
-    store16u(a0 + 14, r16_4_7_0);
-    store16u(a0 + 16, r16_4_8_0);
-    store16u(a0 + 18, r16_4_9_0);
-    store32u(a0 + 20, r16_4_10_0);
-    store32u(a0 + 24, r16_4_11_0);
-    store32u(a0 + 28, r16_4_12_0);
+    store16(a0 + 14, r16_4_7_0);
+    store16(a0 + 16, r16_4_8_0);
+    store16(a0 + 18, r16_4_9_0);
+    store32(a0 + 20, r16_4_10_0);
+    store32(a0 + 24, r16_4_11_0);
+    store32(a0 + 28, r16_4_12_0);
     return;
 }
 
@@ -518,9 +520,9 @@ static void dfu_c_parts_config_functional_of(unsigned char *a0, unsigned char *a
     a0[1] = (uint8_t)(r5 >> 1) & 1;
     a0[2] = (uint8_t)(r5 >> 2) & 1;
     a0[3] = (uint8_t)(r5 >> 3) & 1;
-    store16u(a0 + 4, r7);
-    store16u(a0 + 6, r9);
-    store16u(a0 + 8, 272);
+    store16(a0 + 4, r7);
+    store16(a0 + 6, r9);
+    store16(a0 + 8, 272);
     return;
 }
 
@@ -532,7 +534,7 @@ static void dfu_wire_bytes_two_bytes(unsigned char *a0, uint16_t a1) {
     store16(r5, a1);
     core_slice_edits_slice_T_copy_from_slice_i8_core_clone_U8Clone(r1, r5, 2);
     uint16_t v0 = load16(r1);
-    store16u(a0, v0);
+    store16(a0, v0);
     return;
 }
 
@@ -565,9 +567,9 @@ static void dfu_wire_setups_Setup_decode(unsigned char *a0, unsigned char *a1) {
     uint8_t r15_3 = a1[7];
     *a0 = r28;
     a0[1] = r32;
-    store16u(a0 + 2, (uint16_t)((uint32_t)r15 << 8) | r11);
-    store16u(a0 + 4, (uint16_t)((uint32_t)r15_2 << 8) | r11_2);
-    store16u(a0 + 6, (uint16_t)((uint32_t)r15_3 << 8) | r11_3);
+    store16(a0 + 2, (uint16_t)((uint32_t)r15 << 8) | r11);
+    store16(a0 + 4, (uint16_t)((uint32_t)r15_2 << 8) | r11_2);
+    store16(a0 + 6, (uint16_t)((uint32_t)r15_3 << 8) | r11_3);
     return;
 }
 
@@ -576,8 +578,8 @@ static void dfu_c_parts_record_set_mode(unsigned char *a0, unsigned char *a1) {
     uint32_t v1, v2, r27_0_0, r27_15_0, r27_28_0;
     uint16_t r1_14_0_0_extract_trunc, r27_41_0;
     uint8_t v0 = *a1;
-    v1 = load32u(a1 + 4);
-    v2 = load32u(a1 + 8);
+    v1 = load32(a1 + 4);
+    v2 = load32(a1 + 8);
     r1_14_0_0_extract_trunc = (uint16_t)v2;
     switch (v0) {
     case 0:
@@ -625,7 +627,7 @@ arm_5:
     r27_41_0 = r1_14_0_0_extract_trunc;
     goto dfu_c_parts_record_numbers_of_exit;
 arm_6:;
-    uint32_t v3 = load32u(a1 + 12);
+    uint32_t v3 = load32(a1 + 12);
     r27_0_0 = 5;
     r27_15_0 = v1;
     r27_28_0 = v3;
@@ -693,9 +695,9 @@ static void dfu_wire_setups_Setup_request(unsigned char *a0, unsigned char *a1) 
     if (r31 == 0) goto after_1;
     goto join_8;
 join_8:
-    store16u(a0, 8);
-    store16u(a0 + 2, 0);
-    store16u(a0 + 4, 0);
+    store16(a0, 8);
+    store16(a0 + 2, 0);
+    store16(a0 + 4, 0);
     return;
 after_1:
     r47 = load16(a1 + 2);
@@ -763,9 +765,914 @@ after_15:
     r11_10_0 = 0;
     r11_16_0 = 0;
 after_14:
-    store16u(a0, r11_0_0_0);
-    store16u(a0 + 2, r11_10_0);
-    store16u(a0 + 4, r11_16_0);
+    store16(a0, r11_0_0_0);
+    store16(a0 + 2, r11_10_0);
+    store16(a0 + 4, r11_16_0);
+    return;
+}
+
+/* dfu_device::table::decide */
+static void dfu_device_table_decide(unsigned char *a0, unsigned char *a1, unsigned char *a2, unsigned char *a3) {
+    _Alignas(4) unsigned char r10[24];
+    unsigned char *const r0_2 = r10;
+    unsigned char *const r0 = r10;
+    _Alignas(4) unsigned char r12[24];
+    uint8_t r1_3_1_copyload, r11, sink7, sink6, v14, v15, r8_0_0, r8_6_0, r8_5_0, r10_8_1, r10_0_1, r8_0_0_2;
+    uint8_t r8_6_0_2, v28, v29, r29_0_0, r29_15_0;
+    uint32_t r1_51_4_copyload, r1_12_8_copyload, sink5, sink4, sink3, sink2, sink, v9, v10, v11, v12, v13;
+    uint32_t r8_1120_0, r8_16_0_0, r8_16_6_0, r8_16_7_0_0, r8_22_0_shrunk, r8_920_0, r8_13_0, r8_17_0_shrunk, r10_24_1, r10_32_1, r10_38_1, r10_44_1;
+    uint32_t r10_1642_1, r8_1120_0_2, r8_16_0_0_2, r8_16_6_0_2, r8_16_7_0_0_2, v23, v24, v25, v26, v27, r29_29117_0, r29_43_0;
+    uint32_t r29_57_0, r29_67_0, r29_77_0;
+    uint16_t r1_12_0_0_extract_trunc, v0, v1;
+    uint8_t r1_0_0_copyload = *a2;
+    r1_3_1_copyload = a2[1];
+    r1_51_4_copyload = load32(a2 + 4);
+    r1_12_8_copyload = load32(a2 + 8);
+    r1_12_0_0_extract_trunc = (uint16_t)r1_12_8_copyload;
+    r11 = *a3;
+    v0 = load16(a3 + 2);
+    v1 = load16(a3 + 4);
+    switch (r1_0_0_copyload) {
+    case 0: goto arm_1;
+    case 1: goto arm_2;
+    case 2: goto arm_3;
+    case 3: goto arm_4;
+    case 4: goto arm_5;
+    case 5:
+        r29_0_0 = 0;
+        r29_15_0 = 3;
+        r29_29117_0 = 3852;
+        r29_43_0 = 0;
+        r29_57_0 = 0;
+        r29_67_0 = 0;
+        r29_77_0 = 0;
+        goto join_15;
+    case 6: goto arm_7;
+    case 7: goto arm_8;
+    case 8: goto switch_lookup;
+    case 9:
+        r29_0_0 = 0;
+        r29_15_0 = 3;
+        r29_29117_0 = 3852;
+        r29_43_0 = 0;
+        r29_57_0 = 0;
+        r29_67_0 = 0;
+        r29_77_0 = 0;
+        goto join_15;
+    case 10: goto arm_11;
+    case 11: goto arm_12;
+    case 12: goto arm_13;
+    default: never();
+    }
+arm_1:
+    switch (r11) {
+    case 0: goto arm_1_2;
+    case 3:
+        r29_0_0 = 0;
+        r29_15_0 = 1;
+        r29_29117_0 = 0;
+        r29_43_0 = 0;
+        r29_57_0 = 0;
+        r29_67_0 = 0;
+        r29_77_0 = 0;
+        goto join_15;
+    case 5: goto arm_3_2;
+    case 1: goto arm_4_2;
+    case 2: goto arm_4_2;
+    case 4: goto arm_4_2;
+    case 6: goto arm_4_2;
+    case 7: goto arm_4_2;
+    case 8: goto arm_4_2;
+    default: never();
+    }
+arm_1_2:;
+    uint16_t r21 = load16(a1 + 4);
+    r29_0_0 = 0;
+    r29_15_0 = 0;
+    r29_29117_0 = 1;
+    r29_43_0 = (uint32_t)umin16(v0, r21);
+    r29_57_0 = 0;
+    r29_67_0 = 0;
+    r29_77_0 = 0;
+    goto join_15;
+arm_3_2:
+    r29_0_0 = 0;
+    r29_15_0 = 2;
+    r29_29117_0 = 0;
+    r29_43_0 = 0;
+    r29_57_0 = 0;
+    r29_67_0 = 0;
+    r29_77_0 = 0;
+    goto join_15;
+arm_4_2:
+    r29_0_0 = 0;
+    r29_15_0 = 3;
+    r29_29117_0 = 0;
+    r29_43_0 = 0;
+    r29_57_0 = 0;
+    r29_67_0 = 0;
+    r29_77_0 = 0;
+    goto join_15;
+arm_2:
+    switch (r11) {
+    case 3:
+        r29_0_0 = 0;
+        r29_15_0 = 1;
+        r29_29117_0 = 1;
+        r29_43_0 = r1_51_4_copyload;
+        r29_57_0 = r1_12_8_copyload;
+        r29_67_0 = 0;
+        r29_77_0 = 0;
+        goto join_15;
+    case 5: goto arm_2_2;
+    case 0: goto arm_3_3;
+    case 1: goto arm_3_3;
+    case 2: goto arm_3_3;
+    case 4: goto arm_3_3;
+    case 6: goto arm_3_3;
+    case 7: goto arm_3_3;
+    case 8: goto arm_3_3;
+    default: never();
+    }
+arm_2_2:
+    r29_0_0 = 0;
+    r29_15_0 = 2;
+    r29_29117_0 = 1;
+    r29_43_0 = r1_51_4_copyload;
+    r29_57_0 = r1_12_8_copyload;
+    r29_67_0 = 0;
+    r29_77_0 = 0;
+    goto join_15;
+arm_3_3:
+    r29_0_0 = 0;
+    r29_15_0 = 3;
+    r29_29117_0 = 0;
+    r29_43_0 = 0;
+    r29_57_0 = 0;
+    r29_67_0 = 0;
+    r29_77_0 = 0;
+    goto join_15;
+arm_3:
+    switch (r11) {
+    case 1: goto arm_3_4;
+    case 2: goto arm_4_3;
+    case 6: goto arm_5_2;
+    case 3: goto arm_6;
+    case 5: goto arm_7_2;
+    case 0:
+        v9 = 0;
+        v10 = 0;
+        v11 = 0;
+        v12 = 0;
+        v13 = 3852;
+        v14 = 3;
+        v15 = 0;
+        goto dfu_device_table_in_dfu_idle_exit;
+    case 4:
+        v9 = 0;
+        v10 = 0;
+        v11 = 0;
+        v12 = 0;
+        v13 = 3852;
+        v14 = 3;
+        v15 = 0;
+        goto dfu_device_table_in_dfu_idle_exit;
+    case 7:
+        v9 = 0;
+        v10 = 0;
+        v11 = 0;
+        v12 = 0;
+        v13 = 3852;
+        v14 = 3;
+        v15 = 0;
+        goto dfu_device_table_in_dfu_idle_exit;
+    case 8:
+        v9 = 0;
+        v10 = 0;
+        v11 = 0;
+        v12 = 0;
+        v13 = 3852;
+        v14 = 3;
+        v15 = 0;
+        goto dfu_device_table_in_dfu_idle_exit;
+    default: never();
+    }
+arm_3_4:;
+    uint8_t r5 = *a1;
+    if (!((v1 != 0) & (r5 & 1))) {
+        sink7 = 0;
+        sink6 = 3;
+        sink5 = 3852;
+        sink4 = 0;
+        sink3 = 0;
+        sink2 = 0;
+        sink = 0;
+        goto dfu_device_plans_first_exit;
+    }
+    dfu_device_plans_block(r0, a1, 0, 0, v0, v1);
+    uint8_t v2 = *r0;
+    uint8_t v3 = r0[1];
+    uint32_t v4 = load32(r0 + 4);
+    uint32_t v5 = load32(r0 + 8);
+    uint32_t v6 = load32(r0 + 12);
+    uint32_t v7 = load32(r0 + 16);
+    uint32_t v8 = load32(r0 + 20);
+    sink7 = v2;
+    sink6 = v3;
+    sink5 = v4;
+    sink4 = v5;
+    sink3 = v6;
+    sink2 = v7;
+    sink = v8;
+dfu_device_plans_first_exit:
+    v9 = sink;
+    v10 = sink2;
+    v11 = sink3;
+    v12 = sink4;
+    v13 = sink5;
+    v14 = sink6;
+    v15 = sink7;
+    goto dfu_device_table_in_dfu_idle_exit;
+arm_4_3:;
+    uint8_t r30 = a1[1];
+    if (!(r30 & 1)) {
+        v9 = 0;
+        v10 = 0;
+        v11 = 0;
+        v12 = 0;
+        v13 = 3852;
+        v14 = 3;
+        v15 = 0;
+        goto dfu_device_table_in_dfu_idle_exit;
+    }
+    dfu_device_plans_upload(r12, a1, 0, 0, v0, v1);
+    uint8_t pre = *r12;
+    uint8_t pre43 = r12[1];
+    uint32_t pre44 = load32(r12 + 4);
+    uint32_t pre45 = load32(r12 + 8);
+    uint32_t pre46 = load32(r12 + 12);
+    uint32_t pre47 = load32(r12 + 16);
+    uint32_t pre48 = load32(r12 + 20);
+    v9 = pre48;
+    v10 = pre47;
+    v11 = pre46;
+    v12 = pre45;
+    v13 = pre44;
+    v14 = pre43;
+    v15 = pre;
+    goto dfu_device_table_in_dfu_idle_exit;
+arm_5_2:
+    v9 = 0;
+    v10 = 0;
+    v11 = 0;
+    v12 = 0;
+    v13 = 2;
+    v14 = 0;
+    v15 = 0;
+    goto dfu_device_table_in_dfu_idle_exit;
+arm_6:
+    v9 = 0;
+    v10 = 0;
+    v11 = 0;
+    v12 = 0;
+    v13 = 2;
+    v14 = 1;
+    v15 = 0;
+    goto dfu_device_table_in_dfu_idle_exit;
+arm_7_2:
+    v9 = 0;
+    v10 = 0;
+    v11 = 0;
+    v12 = 0;
+    v13 = 2;
+    v14 = 2;
+    v15 = 0;
+    goto dfu_device_table_in_dfu_idle_exit;
+dfu_device_table_in_dfu_idle_exit:
+    r29_0_0 = v15;
+    r29_15_0 = v14;
+    r29_29117_0 = v13;
+    r29_43_0 = v12;
+    r29_57_0 = v11;
+    r29_67_0 = v10;
+    r29_77_0 = v9;
+    goto join_15;
+arm_4:
+    switch (r11) {
+    case 3: goto arm_1_3;
+    case 5: goto arm_2_3;
+    case 0:
+        r8_0_0 = 0;
+        r8_6_0 = 3;
+        r8_1120_0 = 3852;
+        r8_16_0_0 = 0;
+        r8_16_6_0 = 0;
+        r8_16_7_0_0 = 0;
+        r8_22_0_shrunk = 0;
+        goto dfu_device_table_in_download_sync_exit;
+    case 1:
+        r8_0_0 = 0;
+        r8_6_0 = 3;
+        r8_1120_0 = 3852;
+        r8_16_0_0 = 0;
+        r8_16_6_0 = 0;
+        r8_16_7_0_0 = 0;
+        r8_22_0_shrunk = 0;
+        goto dfu_device_table_in_download_sync_exit;
+    case 2:
+        r8_0_0 = 0;
+        r8_6_0 = 3;
+        r8_1120_0 = 3852;
+        r8_16_0_0 = 0;
+        r8_16_6_0 = 0;
+        r8_16_7_0_0 = 0;
+        r8_22_0_shrunk = 0;
+        goto dfu_device_table_in_download_sync_exit;
+    case 4:
+        r8_0_0 = 0;
+        r8_6_0 = 3;
+        r8_1120_0 = 3852;
+        r8_16_0_0 = 0;
+        r8_16_6_0 = 0;
+        r8_16_7_0_0 = 0;
+        r8_22_0_shrunk = 0;
+        goto dfu_device_table_in_download_sync_exit;
+    case 6:
+        r8_0_0 = 0;
+        r8_6_0 = 3;
+        r8_1120_0 = 3852;
+        r8_16_0_0 = 0;
+        r8_16_6_0 = 0;
+        r8_16_7_0_0 = 0;
+        r8_22_0_shrunk = 0;
+        goto dfu_device_table_in_download_sync_exit;
+    case 7:
+        r8_0_0 = 0;
+        r8_6_0 = 3;
+        r8_1120_0 = 3852;
+        r8_16_0_0 = 0;
+        r8_16_6_0 = 0;
+        r8_16_7_0_0 = 0;
+        r8_22_0_shrunk = 0;
+        goto dfu_device_table_in_download_sync_exit;
+    case 8:
+        r8_0_0 = 0;
+        r8_6_0 = 3;
+        r8_1120_0 = 3852;
+        r8_16_0_0 = 0;
+        r8_16_6_0 = 0;
+        r8_16_7_0_0 = 0;
+        r8_22_0_shrunk = 0;
+        goto dfu_device_table_in_download_sync_exit;
+    default: never();
+    }
+arm_1_3:;
+    uint32_t r17 = load32(a1 + 16);
+    if (r17 == 0) {
+        r8_0_0 = 3;
+        r8_6_0 = 1;
+        r8_1120_0 = r1_51_4_copyload;
+        r8_16_0_0 = r1_12_8_copyload;
+        r8_16_6_0 = 0;
+        r8_16_7_0_0 = 0;
+        r8_22_0_shrunk = 0;
+        goto dfu_device_table_in_download_sync_exit;
+    }
+    r8_0_0 = 0;
+    r8_6_0 = 1;
+    r8_1120_0 = 5;
+    r8_16_0_0 = r1_51_4_copyload;
+    r8_16_6_0 = r1_51_4_copyload;
+    r8_16_7_0_0 = r1_51_4_copyload & 0xff000000U;
+    r8_22_0_shrunk = r1_12_8_copyload;
+    goto dfu_device_table_in_download_sync_exit;
+arm_2_3:
+    r8_0_0 = 0;
+    r8_6_0 = 2;
+    r8_1120_0 = 3;
+    r8_16_0_0 = r1_51_4_copyload;
+    r8_16_6_0 = r1_51_4_copyload;
+    r8_16_7_0_0 = r1_51_4_copyload & 0xff000000U;
+    r8_22_0_shrunk = r1_12_8_copyload;
+    goto dfu_device_table_in_download_sync_exit;
+dfu_device_table_in_download_sync_exit:
+    r29_0_0 = r8_0_0;
+    r29_15_0 = r8_6_0;
+    r29_29117_0 = r8_1120_0;
+    r29_43_0 = ((r8_16_6_0 & 0xff0000U) | (r8_16_0_0 & 0xffffU)) | r8_16_7_0_0;
+    r29_57_0 = r8_22_0_shrunk & 0xffffU;
+    r29_67_0 = 0;
+    r29_77_0 = 0;
+    goto join_15;
+arm_5:
+    switch (r11) {
+    case 3: goto arm_1_4;
+    case 5: goto arm_2_4;
+    case 0:
+        r8_5_0 = 3;
+        r8_920_0 = 3852;
+        r8_13_0 = 0;
+        r8_17_0_shrunk = 0;
+        goto dfu_device_table_in_download_sync_written_exit;
+    case 1:
+        r8_5_0 = 3;
+        r8_920_0 = 3852;
+        r8_13_0 = 0;
+        r8_17_0_shrunk = 0;
+        goto dfu_device_table_in_download_sync_written_exit;
+    case 2:
+        r8_5_0 = 3;
+        r8_920_0 = 3852;
+        r8_13_0 = 0;
+        r8_17_0_shrunk = 0;
+        goto dfu_device_table_in_download_sync_written_exit;
+    case 4:
+        r8_5_0 = 3;
+        r8_920_0 = 3852;
+        r8_13_0 = 0;
+        r8_17_0_shrunk = 0;
+        goto dfu_device_table_in_download_sync_written_exit;
+    case 6:
+        r8_5_0 = 3;
+        r8_920_0 = 3852;
+        r8_13_0 = 0;
+        r8_17_0_shrunk = 0;
+        goto dfu_device_table_in_download_sync_written_exit;
+    case 7:
+        r8_5_0 = 3;
+        r8_920_0 = 3852;
+        r8_13_0 = 0;
+        r8_17_0_shrunk = 0;
+        goto dfu_device_table_in_download_sync_written_exit;
+    case 8:
+        r8_5_0 = 3;
+        r8_920_0 = 3852;
+        r8_13_0 = 0;
+        r8_17_0_shrunk = 0;
+        goto dfu_device_table_in_download_sync_written_exit;
+    default: never();
+    }
+arm_1_4:
+    r8_5_0 = 1;
+    r8_920_0 = 6;
+    r8_13_0 = r1_51_4_copyload;
+    r8_17_0_shrunk = r1_12_8_copyload;
+    goto dfu_device_table_in_download_sync_written_exit;
+arm_2_4:
+    r8_5_0 = 2;
+    r8_920_0 = 4;
+    r8_13_0 = r1_51_4_copyload;
+    r8_17_0_shrunk = r1_12_8_copyload;
+    goto dfu_device_table_in_download_sync_written_exit;
+dfu_device_table_in_download_sync_written_exit:
+    r29_0_0 = 0;
+    r29_15_0 = r8_5_0;
+    r29_29117_0 = r8_920_0;
+    r29_43_0 = r8_13_0;
+    r29_57_0 = r8_17_0_shrunk & 0xffffU;
+    r29_67_0 = 0;
+    r29_77_0 = 0;
+    goto join_15;
+arm_7:
+    switch (r11) {
+    case 1: goto arm_1_5;
+    case 6:
+        r29_0_0 = 0;
+        r29_15_0 = 0;
+        r29_29117_0 = 2;
+        r29_43_0 = 0;
+        r29_57_0 = 0;
+        r29_67_0 = 0;
+        r29_77_0 = 0;
+        goto join_15;
+    case 3: goto arm_3_5;
+    case 5: goto arm_4_4;
+    case 0: goto arm_5_3;
+    case 2: goto arm_5_3;
+    case 4: goto arm_5_3;
+    case 7: goto arm_5_3;
+    case 8: goto arm_5_3;
+    default: never();
+    }
+arm_1_5:
+    if (v1 == 0) goto join_3;
+    dfu_device_plans_block(r0_2, a1, r1_51_4_copyload, r1_12_0_0_extract_trunc, v0, v1);
+    uint8_t v16 = *r0_2;
+    uint8_t v17 = r0_2[1];
+    uint32_t v18 = load32(r0_2 + 4);
+    uint32_t v19 = load32(r0_2 + 8);
+    uint32_t v20 = load32(r0_2 + 12);
+    uint32_t v21 = load32(r0_2 + 16);
+    uint32_t v22 = load32(r0_2 + 20);
+    r10_24_1 = v19;
+    r10_32_1 = v20;
+    r10_38_1 = v21;
+    r10_44_1 = v22;
+    r10_1642_1 = v18;
+    r10_8_1 = v17;
+    r10_0_1 = v16;
+    goto dfu_device_plans_further_exit;
+join_3:;
+    uint32_t r22 = load32(a1 + 12);
+    if (r1_51_4_copyload < r22) {
+        r10_24_1 = 0;
+        r10_32_1 = 0;
+        r10_38_1 = 0;
+        r10_44_1 = 0;
+        r10_1642_1 = 2316;
+        r10_8_1 = 3;
+        r10_0_1 = 0;
+        goto dfu_device_plans_further_exit;
+    }
+    r10_24_1 = r1_51_4_copyload;
+    r10_32_1 = 0;
+    r10_38_1 = 0;
+    r10_44_1 = 0;
+    r10_1642_1 = 7;
+    r10_8_1 = 0;
+    r10_0_1 = 0;
+dfu_device_plans_further_exit:
+    r29_0_0 = r10_0_1;
+    r29_15_0 = r10_8_1;
+    r29_29117_0 = r10_1642_1;
+    r29_43_0 = r10_24_1;
+    r29_57_0 = r10_32_1;
+    r29_67_0 = r10_38_1;
+    r29_77_0 = r10_44_1;
+    goto join_15;
+arm_3_5:
+    r29_0_0 = 0;
+    r29_15_0 = 1;
+    r29_29117_0 = 6;
+    r29_43_0 = r1_51_4_copyload;
+    r29_57_0 = r1_12_8_copyload & 0xffffU;
+    r29_67_0 = 0;
+    r29_77_0 = 0;
+    goto join_15;
+arm_4_4:
+    r29_0_0 = 0;
+    r29_15_0 = 2;
+    r29_29117_0 = 6;
+    r29_43_0 = r1_51_4_copyload;
+    r29_57_0 = r1_12_8_copyload & 0xffffU;
+    r29_67_0 = 0;
+    r29_77_0 = 0;
+    goto join_15;
+arm_5_3:
+    r29_0_0 = 0;
+    r29_15_0 = 3;
+    r29_29117_0 = 3852;
+    r29_43_0 = 0;
+    r29_57_0 = 0;
+    r29_67_0 = 0;
+    r29_77_0 = 0;
+    goto join_15;
+arm_8:
+    switch (r11) {
+    case 3: goto arm_1_6;
+    case 5: goto arm_2_5;
+    case 0:
+        r8_0_0_2 = 0;
+        r8_6_0_2 = 3;
+        r8_1120_0_2 = 3852;
+        r8_16_0_0_2 = 0;
+        r8_16_6_0_2 = 0;
+        r8_16_7_0_0_2 = 0;
+        goto dfu_device_table_in_manifest_sync_exit;
+    case 1:
+        r8_0_0_2 = 0;
+        r8_6_0_2 = 3;
+        r8_1120_0_2 = 3852;
+        r8_16_0_0_2 = 0;
+        r8_16_6_0_2 = 0;
+        r8_16_7_0_0_2 = 0;
+        goto dfu_device_table_in_manifest_sync_exit;
+    case 2:
+        r8_0_0_2 = 0;
+        r8_6_0_2 = 3;
+        r8_1120_0_2 = 3852;
+        r8_16_0_0_2 = 0;
+        r8_16_6_0_2 = 0;
+        r8_16_7_0_0_2 = 0;
+        goto dfu_device_table_in_manifest_sync_exit;
+    case 4:
+        r8_0_0_2 = 0;
+        r8_6_0_2 = 3;
+        r8_1120_0_2 = 3852;
+        r8_16_0_0_2 = 0;
+        r8_16_6_0_2 = 0;
+        r8_16_7_0_0_2 = 0;
+        goto dfu_device_table_in_manifest_sync_exit;
+    case 6:
+        r8_0_0_2 = 0;
+        r8_6_0_2 = 3;
+        r8_1120_0_2 = 3852;
+        r8_16_0_0_2 = 0;
+        r8_16_6_0_2 = 0;
+        r8_16_7_0_0_2 = 0;
+        goto dfu_device_table_in_manifest_sync_exit;
+    case 7:
+        r8_0_0_2 = 0;
+        r8_6_0_2 = 3;
+        r8_1120_0_2 = 3852;
+        r8_16_0_0_2 = 0;
+        r8_16_6_0_2 = 0;
+        r8_16_7_0_0_2 = 0;
+        goto dfu_device_table_in_manifest_sync_exit;
+    case 8:
+        r8_0_0_2 = 0;
+        r8_6_0_2 = 3;
+        r8_1120_0_2 = 3852;
+        r8_16_0_0_2 = 0;
+        r8_16_6_0_2 = 0;
+        r8_16_7_0_0_2 = 0;
+        goto dfu_device_table_in_manifest_sync_exit;
+    default: never();
+    }
+arm_1_6:;
+    uint32_t r18 = load32(a1 + 20);
+    if (r18 == 0) {
+        r8_0_0_2 = 4;
+        r8_6_0_2 = 1;
+        r8_1120_0_2 = r1_51_4_copyload;
+        r8_16_0_0_2 = 2;
+        r8_16_6_0_2 = 0;
+        r8_16_7_0_0_2 = 0;
+        goto dfu_device_table_in_manifest_sync_exit;
+    }
+    r8_0_0_2 = 0;
+    r8_6_0_2 = 1;
+    r8_1120_0_2 = 9;
+    r8_16_0_0_2 = r1_51_4_copyload;
+    r8_16_6_0_2 = r1_51_4_copyload;
+    r8_16_7_0_0_2 = r1_51_4_copyload & 0xffff0000U;
+    goto dfu_device_table_in_manifest_sync_exit;
+arm_2_5:
+    r8_0_0_2 = 0;
+    r8_6_0_2 = 2;
+    r8_1120_0_2 = 7;
+    r8_16_0_0_2 = r1_51_4_copyload;
+    r8_16_6_0_2 = r1_51_4_copyload;
+    r8_16_7_0_0_2 = r1_51_4_copyload & 0xffff0000U;
+    goto dfu_device_table_in_manifest_sync_exit;
+dfu_device_table_in_manifest_sync_exit:
+    r29_0_0 = r8_0_0_2;
+    r29_15_0 = r8_6_0_2;
+    r29_29117_0 = r8_1120_0_2;
+    r29_43_0 = ((r8_16_6_0_2 & 0xff00U) | (r8_16_0_0_2 & 255)) | r8_16_7_0_0_2;
+    r29_57_0 = 0;
+    r29_67_0 = 0;
+    r29_77_0 = 0;
+    goto join_15;
+arm_11:
+    r29_0_0 = 0;
+    r29_15_0 = 3;
+    r29_29117_0 = 10;
+    r29_43_0 = 0;
+    r29_57_0 = 0;
+    r29_67_0 = 0;
+    r29_77_0 = 0;
+    goto join_15;
+arm_12:
+    switch (r11) {
+    case 2: goto arm_1_7;
+    case 6: goto arm_2_6;
+    case 3: goto arm_3_6;
+    case 5: goto arm_4_5;
+    case 0:
+        v23 = 0;
+        v24 = 0;
+        v25 = 0;
+        v26 = 0;
+        v27 = 3852;
+        v28 = 3;
+        v29 = 0;
+        goto dfu_device_table_in_upload_idle_exit;
+    case 1:
+        v23 = 0;
+        v24 = 0;
+        v25 = 0;
+        v26 = 0;
+        v27 = 3852;
+        v28 = 3;
+        v29 = 0;
+        goto dfu_device_table_in_upload_idle_exit;
+    case 4:
+        v23 = 0;
+        v24 = 0;
+        v25 = 0;
+        v26 = 0;
+        v27 = 3852;
+        v28 = 3;
+        v29 = 0;
+        goto dfu_device_table_in_upload_idle_exit;
+    case 7:
+        v23 = 0;
+        v24 = 0;
+        v25 = 0;
+        v26 = 0;
+        v27 = 3852;
+        v28 = 3;
+        v29 = 0;
+        goto dfu_device_table_in_upload_idle_exit;
+    case 8:
+        v23 = 0;
+        v24 = 0;
+        v25 = 0;
+        v26 = 0;
+        v27 = 3852;
+        v28 = 3;
+        v29 = 0;
+        goto dfu_device_table_in_upload_idle_exit;
+    default: never();
+    }
+arm_1_7:
+    dfu_device_plans_upload(r10, a1, r1_51_4_copyload, r1_12_0_0_extract_trunc, v0, v1);
+    uint8_t pre_2 = *r10;
+    uint8_t pre39 = r10[1];
+    uint32_t pre40 = load32(r10 + 4);
+    uint32_t pre41 = load32(r10 + 8);
+    uint32_t pre42 = load32(r10 + 12);
+    uint32_t pre43_2 = load32(r10 + 16);
+    uint32_t pre44_2 = load32(r10 + 20);
+    v23 = pre44_2;
+    v24 = pre43_2;
+    v25 = pre42;
+    v26 = pre41;
+    v27 = pre40;
+    v28 = pre39;
+    v29 = pre_2;
+    goto dfu_device_table_in_upload_idle_exit;
+arm_2_6:
+    v23 = 0;
+    v24 = 0;
+    v25 = 0;
+    v26 = 0;
+    v27 = 2;
+    v28 = 0;
+    v29 = 0;
+    goto dfu_device_table_in_upload_idle_exit;
+arm_3_6:
+    v23 = 0;
+    v24 = 0;
+    v25 = r1_12_8_copyload & 0xffffU;
+    v26 = r1_51_4_copyload;
+    v27 = 11;
+    v28 = 1;
+    v29 = 0;
+    goto dfu_device_table_in_upload_idle_exit;
+arm_4_5:
+    v23 = 0;
+    v24 = 0;
+    v25 = r1_12_8_copyload & 0xffffU;
+    v26 = r1_51_4_copyload;
+    v27 = 11;
+    v28 = 2;
+    v29 = 0;
+    goto dfu_device_table_in_upload_idle_exit;
+dfu_device_table_in_upload_idle_exit:
+    r29_0_0 = v29;
+    r29_15_0 = v28;
+    r29_29117_0 = v27;
+    r29_43_0 = v26;
+    r29_57_0 = v25;
+    r29_67_0 = v24;
+    r29_77_0 = v23;
+    goto join_15;
+arm_13:
+    switch (r11) {
+    case 4:
+        r29_0_0 = 0;
+        r29_15_0 = 0;
+        r29_29117_0 = 2;
+        r29_43_0 = 0;
+        r29_57_0 = 0;
+        r29_67_0 = 0;
+        r29_77_0 = 0;
+        goto join_15;
+    case 3: goto arm_2_7;
+    case 5: goto arm_3_7;
+    case 0: goto arm_4_6;
+    case 1: goto arm_4_6;
+    case 2: goto arm_4_6;
+    case 6: goto arm_4_6;
+    case 7: goto arm_4_6;
+    case 8: goto arm_4_6;
+    default: never();
+    }
+arm_2_7:
+    r29_0_0 = 0;
+    r29_15_0 = 1;
+    r29_29117_0 = ((uint32_t)r1_3_1_copyload << 8) | 12;
+    r29_43_0 = 0;
+    r29_57_0 = 0;
+    r29_67_0 = 0;
+    r29_77_0 = 0;
+    goto join_15;
+arm_3_7:
+    r29_0_0 = 0;
+    r29_15_0 = 2;
+    r29_29117_0 = ((uint32_t)r1_3_1_copyload << 8) | 12;
+    r29_43_0 = 0;
+    r29_57_0 = 0;
+    r29_67_0 = 0;
+    r29_77_0 = 0;
+    goto join_15;
+arm_4_6:
+    r29_0_0 = 0;
+    r29_15_0 = 3;
+    r29_29117_0 = ((uint32_t)r1_3_1_copyload << 8) | 12;
+    r29_43_0 = 0;
+    r29_57_0 = 0;
+    r29_67_0 = 0;
+    r29_77_0 = 0;
+    goto join_15;
+switch_lookup:;
+    uint64_t v30 = (uint64_t)r11;
+    uint8_t switch_load = *(PLACE(switch_table_dfu_device_table_decide) + (size_t)v30);
+    uint32_t switch_load149 = load32(PLACE(switch_table_dfu_device_table_decide_1) + 4 * (size_t)v30);
+    r29_0_0 = 0;
+    r29_15_0 = switch_load;
+    r29_29117_0 = switch_load149;
+    r29_43_0 = 0;
+    r29_57_0 = 0;
+    r29_67_0 = 0;
+    r29_77_0 = 0;
+join_15:
+    *a0 = r29_0_0;
+    a0[1] = r29_15_0;
+    store32(a0 + 4, r29_29117_0);
+    store32(a0 + 8, r29_43_0);
+    store32(a0 + 12, r29_57_0);
+    store32(a0 + 16, r29_67_0);
+    store32(a0 + 20, r29_77_0);
+    return;
+}
+
+/* dfu_device::plans::block */
+static void dfu_device_plans_block(unsigned char *a0, unsigned char *a1, uint32_t a2, uint16_t a3, uint16_t a4, uint16_t a5) {
+    uint16_t r12 = load16(a1 + 6);
+    if (r12 < a5) goto then_1;
+    goto join_3;
+then_1:
+    *a0 = 0;
+    a0[1] = 3;
+    store32(a0 + 4, 3852);
+    memset(a0 + 8, 0, 16);
+    return;
+join_3:
+    if (a4 == a3) goto join_6;
+    *a0 = 0;
+    a0[1] = 3;
+    store32(a0 + 4, 2060);
+    memset(a0 + 8, 0, 16);
+    return;
+join_6:;
+    uint64_t r54 = load64(a1 + 24);
+    if (r54 >= ((uint64_t)a5 + (uint64_t)a2)) goto join_9;
+    *a0 = 0;
+    a0[1] = 3;
+    store32(a0 + 4, 2060);
+    memset(a0 + 8, 0, 16);
+    return;
+join_9:
+    *a0 = 1;
+    a0[1] = 0;
+    store32(a0 + 4, 3);
+    store32(a0 + 8, a2);
+    store32(a0 + 12, (uint32_t)(uint16_t)(a4 + 1));
+    store32(a0 + 16, 0);
+    store32(a0 + 20, 0);
+    return;
+}
+
+/* dfu_device::plans::upload */
+static void dfu_device_plans_upload(unsigned char *a0, unsigned char *a1, uint32_t a2, uint16_t a3, uint16_t a4, uint16_t a5) {
+    if (a5 == 0) goto join_5;
+    uint16_t r13 = load16(a1 + 6);
+    if (r13 < a5) goto join_5;
+    goto after_1;
+join_5:
+    *a0 = 0;
+    a0[1] = 3;
+    store32(a0 + 4, 3852);
+    memset(a0 + 8, 0, 16);
+    return;
+after_1:
+    if (a4 == a3) goto join_13;
+    *a0 = 0;
+    a0[1] = 3;
+    store32(a0 + 4, 2060);
+    memset(a0 + 8, 0, 16);
+    return;
+join_13:
+    *a0 = 2;
+    a0[1] = 0;
+    store32(a0 + 4, a2);
+    store32(a0 + 8, ((uint32_t)(uint16_t)(a4 + 1) << 16) | (uint32_t)a5);
+    store32(a0 + 12, 0);
+    store32(a0 + 16, 0);
+    store32(a0 + 20, 0);
     return;
 }
 
@@ -775,20 +1682,17 @@ static void dfu_slots_slots_Slots_open(unsigned char *a0, unsigned char *a1) {
     _Alignas(8) unsigned char r9[272];
     _Alignas(8) unsigned char r7_4_5_0[264];
     _Alignas(8) unsigned char r2[40];
-    _Alignas(4) unsigned char r7_4_4_3[39];
-    _Alignas(8) unsigned char r12_3_3[39];
+    _Alignas(8) unsigned char r7_4_4_3[39];
     _Alignas(4) unsigned char r5[12];
-    uint8_t r14, r7_4_0_0;
+    uint8_t r14, r8_0_0_copyload, r7_4_0_0;
     uint64_t r7_4_4_0_0, r7_4_5_3_0;
-    memset(r5, 0, 12);
     memset(r7_4_5_0, 0, 264);
-    memset(r9, 0, 272);
     memcpy(r2, a1, 40);
     dfu_slots_open_check(r5, r2);
     r14 = *r5;
+    r8_0_0_copyload = *r2;
     if (r14 != 0) goto arm_2;
-    uint64_t r3_0_0_copyload = load64u(r5 + 4);
-    uint8_t r8_0_0_copyload = *r2;
+    uint64_t r3_0_0_copyload = load64a4(r5 + 4);
     dfu_slots_puts_Puts_nothing(r9);
     uint64_t r10_3_0_0_0_copyload = load64u(r2 + 1);
     memcpy(r10_3_0_2, r2 + 9, 31);
@@ -801,19 +1705,17 @@ static void dfu_slots_slots_Slots_open(unsigned char *a0, unsigned char *a1) {
     goto join_4;
 arm_2:;
     uint8_t r4_0_0_copyload = r5[1];
-    uint8_t r12_3_0_7_copyload = *r2;
-    memcpy(r12_3_3, r2 + 1, 39);
-    memcpy(r7_4_4_3, r12_3_3, 39);
-    r7_4_4_0_0 = (uint64_t)r12_3_0_7_copyload << 56;
+    memcpy(r7_4_4_3, r2 + 1, 39);
+    r7_4_4_0_0 = (uint64_t)r8_0_0_copyload << 56;
     r7_4_5_3_0 = 0;
     r7_4_0_0 = r4_0_0_copyload;
 join_4:
-    store64u(a0, (uint64_t)r14);
+    store64(a0, (uint64_t)r14);
     a0[8] = r7_4_0_0;
     store64u(a0 + 9, r7_4_4_0_0);
     memcpy(a0 + 17, r7_4_4_3, 39);
     memcpy(a0 + 56, r7_4_5_0, 264);
-    store64u(a0 + 320, r7_4_5_3_0);
+    store64(a0 + 320, r7_4_5_3_0);
     return;
 }
 
@@ -827,8 +1729,8 @@ static void dfu_slots_open_check(unsigned char *a0, unsigned char *a1) {
 then_1:
     *a0 = 1;
     a0[1] = 0;
-    store32u(a0 + 4, 0);
-    store32u(a0 + 8, 0);
+    store32(a0 + 4, 0);
+    store32(a0 + 8, 0);
     return;
 join_3:;
     struct i8_i8 r25 = dfu_slots_places_count_slots(a1);
@@ -837,8 +1739,8 @@ join_3:;
     if ((r27 | r26) != 0) goto join_6;
     *a0 = 1;
     a0[1] = 1;
-    store32u(a0 + 4, 0);
-    store32u(a0 + 8, 0);
+    store32(a0 + 4, 0);
+    store32(a0 + 8, 0);
     return;
 join_6:;
     struct i32_i32 r44 = dfu_slots_places_find_places(a1, r26, r27);
@@ -854,44 +1756,38 @@ dfu_slots_places_has_newest_exit:;
 then_7:
     *a0 = 1;
     a0[1] = 2;
-    store32u(a0 + 4, 0);
-    store32u(a0 + 8, 0);
+    store32(a0 + 4, 0);
+    store32(a0 + 8, 0);
     return;
 join_9:;
     struct i8_i32 r68 = dfu_slots_read_header_len(a1, r45);
     uint8_t v1 = r68.a != 1;
     *a0 = v1;
     a0[1] = (uint8_t)(v1 ? 3 : 0);
-    store32u(a0 + 4, (uint32_t)(v1 ? 0 : r45));
-    store32u(a0 + 8, (uint32_t)(v1 ? 0 : r46));
+    store32(a0 + 4, (uint32_t)(v1 ? 0 : r45));
+    store32(a0 + 8, (uint32_t)(v1 ? 0 : r46));
     return;
 }
 
 /* dfu_slots::open::is_sized::<#4eeac2a07fb7654c> */
 static uint8_t dfu_slots_open_is_sized(unsigned char *a0) {
-    uint32_t r29, r5;
+    uint64_t v0;
+    uint32_t switch_load, r5;
     uint8_t r7_0_in;
-    r29 = dfu_slots_read_gate_of(a0);
+    uint8_t r0_0_0_copyload = a0[16];
+    v0 = (uint64_t)r0_0_0_copyload;
+    switch_load = load32(PLACE(switch_table_dfu_slots_writes_open_slot) + 4 * (size_t)v0);
     uint64_t r3 = load64(a0 + 8);
     r5 = (uint32_t)r3;
-    uint8_t r36 = (r5 & 1) == 0;
-    uint32_t r41 = r29 << 2;
-    if (!((r36 ? (r41 < r5) : !(r3 & 1)) ? (((uint32_t)(r36 ? r41 : (r29 << 2)) | 0x2000000U) >= r5) : 0)) {
+    uint32_t pre = switch_load << 2;
+    if (!((((r5 & 1) == 0) ? (pre < r5) : !(r3 & 1)) ? ((pre | 0x2000000U) >= r5) : 0)) {
         r7_0_in = 0;
         goto join_12;
     }
-    uint8_t r0_0_0_copyload = a0[16];
-    uint32_t switch_load = load32(PLACE(switch_table_dfu_slots_from_parts_has_puts) + 4 * (size_t)r0_0_0_copyload);
-    r7_0_in = (switch_load & ((r5 >> 1) - (r29 << 1))) == 0;
+    uint32_t switch_load_2 = load32(PLACE(switch_table_dfu_slots_from_parts_has_puts) + 4 * (size_t)v0);
+    r7_0_in = (switch_load_2 & ((r5 >> 1) - (switch_load << 1))) == 0;
 join_12:
     return r7_0_in;
-}
-
-/* dfu_slots::read::gate_of::<#4eeac2a07fb7654c> */
-static uint32_t dfu_slots_read_gate_of(unsigned char *a0) {
-    uint8_t r0_0_0_copyload = a0[16];
-    uint32_t switch_load = load32(PLACE(switch_table_dfu_slots_writes_open_slot) + 4 * (size_t)r0_0_0_copyload);
-    return switch_load;
 }
 
 /* dfu_slots::places::count_slots::<#4eeac2a07fb7654c> */
@@ -925,8 +1821,10 @@ static uint8_t dfu_slots_read_counts(unsigned char *a0, uint32_t a1) {
     }
     dfu_slots_read_header_of(r3_2, a0, a1);
     r1_5_0_copyload = load32u(r3_2 + 4);
-    uint32_t r10 = dfu_slots_read_capacity_of(a0);
-    if (r10 < r1_5_0_copyload) {
+    uint64_t r3_3 = load64(a0 + 8);
+    uint8_t r0_0_0_copyload = a0[16];
+    uint32_t switch_load = load32(PLACE(switch_table_dfu_slots_writes_open_slot) + 4 * (size_t)r0_0_0_copyload);
+    if ((((uint32_t)r3_3 >> 1) - (switch_load << 1)) < r1_5_0_copyload) {
         common_ret_op = 0;
         goto dfu_slots_read_is_intact_exit;
     }
@@ -988,17 +1886,11 @@ static void dfu_device_c_copy_copy(unsigned char *a0, unsigned char *a2, uint64_
 static void dfu_slots_read_header_of(unsigned char *a0, unsigned char *a1, uint32_t a2) {
     _Alignas(1) unsigned char r1[16];
     memset(r1, 0, 16);
-    uint32_t r7 = dfu_slots_read_gate_of(a1);
-    dfu_device_c_memory_MemoryMedium_read(a1, r7 + a2, r1, 16);
+    uint8_t r0_0_0_copyload = a1[16];
+    uint32_t switch_load = load32(PLACE(switch_table_dfu_slots_writes_open_slot) + 4 * (size_t)r0_0_0_copyload);
+    dfu_device_c_memory_MemoryMedium_read(a1, switch_load + a2, r1, 16);
     memcpy(a0, r1, 16);
     return;
-}
-
-/* dfu_slots::read::capacity_of::<#4eeac2a07fb7654c> */
-static uint32_t dfu_slots_read_capacity_of(unsigned char *a0) {
-    uint64_t r3 = load64(a0 + 8);
-    uint32_t r8 = dfu_slots_read_gate_of(a0);
-    return ((uint32_t)r3 >> 1) - (r8 << 1);
 }
 
 /* dfu_slots::register::register_of::<#4eeac2a07fb7654c> */
@@ -1036,15 +1928,10 @@ after_1:
 
 /* dfu_slots::read::read_data::<#4eeac2a07fb7654c> */
 static void dfu_slots_read_read_data(unsigned char *a0, uint32_t a1, uint32_t a2, unsigned char *a3, uint64_t a4) {
-    uint32_t r6 = dfu_slots_read_data_at(a0, a1);
-    dfu_device_c_memory_MemoryMedium_read(a0, r6 + a2, a3, a4);
+    uint8_t r0_0_0_copyload = a0[16];
+    uint32_t switch_load = load32(PLACE(switch_table_dfu_slots_writes_open_slot) + 4 * (size_t)r0_0_0_copyload);
+    dfu_device_c_memory_MemoryMedium_read(a0, (a2 + a1) + (switch_load << 1), a3, a4);
     return;
-}
-
-/* dfu_slots::read::data_at::<#4eeac2a07fb7654c> */
-static uint32_t dfu_slots_read_data_at(unsigned char *a0, uint32_t a1) {
-    uint32_t r3 = dfu_slots_read_gate_of(a0);
-    return (r3 << 1) + a1;
 }
 
 /* dfu_slots::places::find_places::<#4eeac2a07fb7654c> */
@@ -1075,8 +1962,9 @@ join_3:
 
 /* dfu_slots::read::generation::<#4eeac2a07fb7654c> */
 static uint8_t dfu_slots_read_generation(unsigned char *a0, uint32_t a1) {
-    uint32_t r3 = dfu_slots_read_gate_of(a0);
-    uint8_t r7 = dfu_slots_read_byte_at(a0, r3 + a1);
+    uint8_t r0_0_0_copyload = a0[16];
+    uint32_t switch_load = load32(PLACE(switch_table_dfu_slots_writes_open_slot) + 4 * (size_t)r0_0_0_copyload);
+    uint8_t r7 = dfu_slots_read_byte_at(a0, switch_load + a1);
     return r7;
 }
 
@@ -1093,8 +1981,10 @@ static struct i8_i32 dfu_slots_read_header_len(unsigned char *a0, uint32_t a1) {
         r0_0_0_0 = 1;
         goto return_4;
     }
-    uint32_t r26 = dfu_slots_read_capacity_of(a0);
-    uint8_t r29 = dfu_slots_header_is_formed(r3, r26, 1, 0);
+    uint64_t r3_2 = load64(a0 + 8);
+    uint8_t r0_0_0_copyload = a0[16];
+    uint32_t switch_load = load32(PLACE(switch_table_dfu_slots_writes_open_slot) + 4 * (size_t)r0_0_0_copyload);
+    uint8_t r29 = dfu_slots_header_is_formed(r3, ((uint32_t)r3_2 >> 1) - (switch_load << 1), 1, 0);
     r0_4_0 = (uint32_t)(r29 ? r17 : 0);
     r0_0_0_0 = r29;
 return_4:;
@@ -1141,8 +2031,7 @@ join_3:
 
 /* dfu_slots::puts::Puts::nothing */
 static void dfu_slots_puts_Puts_nothing(unsigned char *a0) {
-    _Alignas(1) unsigned char r1[256];
-    _Alignas(8) unsigned char r1_0[256];
+    _Alignas(8) unsigned char r1[256];
     uint64_t r2_0;
     memset(r1, 0, 256);
     r2_0 = 0;
@@ -1152,8 +2041,7 @@ loop_2:
     r2_0 = r2_0 + 1;
     goto loop_2;
 arrayvec_array_vec_ArrayVec_T_CAP_new_i8_256_core_default_U8Default_exit:
-    memcpy(r1_0, r1, 256);
-    memcpy(a0, r1_0, 256);
+    memcpy(a0, r1, 256);
     memset(a0 + 256, 0, 16);
     return;
 }
@@ -1170,11 +2058,9 @@ static uint32_t dfu_slots_slots_Slots_active_len(unsigned char *a0) {
 /* dfu_slots::writes::close_gate::<#4eeac2a07fb7654c> */
 static struct i8_i8 dfu_slots_writes_close_gate(unsigned char *a0, uint32_t a1) {
     _Alignas(1) unsigned char r2[256];
-    _Alignas(1) unsigned char r8[256];
     uint8_t r0_0_0_copyload = a0[16];
     uint64_t switch_load = load64(PLACE(switch_table_dfu_device_c_noted_note) + 8 * (size_t)r0_0_0_copyload);
-    dfu_slots_layout_fill_up(r8, PLACE(static_2), 1);
-    memcpy(r2, r8, 256);
+    dfu_slots_layout_fill_up(r2, PLACE(static_2), 1);
     struct i8_i8 r43 = dfu_slots_writes_write(a0, a1, r2, switch_load);
     return r43;
 }
@@ -1194,7 +2080,7 @@ static struct i8_i8 dfu_slots_writes_write(unsigned char *a0, uint32_t a1, unsig
     unsigned char *r8, *r5_0_0_in, *r16;
     uint64_t r5_5_0, a1_a0, r19, r5_0, r5_0_lcssa;
     uint32_t r4_0;
-    uint8_t r7_not_not_not_not_not;
+    uint8_t r7_not_not_not_not_not_not_not_not_not_not;
     r8 = a0 + 8;
     uint64_t r10_wide = load64(a0);
     dfu_device_c_cover_write_seen((unsigned char *)(uintptr_t)r10_wide, a0 + 20, (uint64_t)a1, a2, a3);
@@ -1204,8 +2090,8 @@ static struct i8_i8 dfu_slots_writes_write(unsigned char *a0, uint32_t a1, unsig
     r5_0_0_in = a2;
     r4_0 = (uint32_t)r3_2 - a1;
 loop_2_2:
-    r7_not_not_not_not_not = r5_5_0 != 0;
-    if (!r7_not_not_not_not_not) goto dfu_slots_read_stands_at_exit;
+    r7_not_not_not_not_not_not_not_not_not_not = r5_5_0 != 0;
+    if (!r7_not_not_not_not_not_not_not_not_not_not) goto dfu_slots_read_stands_at_exit;
     a1_a0 = umin64(r5_5_0, 256);
     uint64_t r3_3 = load64(r8);
     dfu_device_c_memory_MemoryMedium_read(a0, (uint32_t)r3_3 - r4_0, r3, a1_a0);
@@ -1232,7 +2118,7 @@ dfu_slots_read_are_same_exit:
         goto loop_2_2;
     }
 dfu_slots_read_stands_at_exit:;
-    uint8_t r0_0_0 = r7_not_not_not_not_not;
+    uint8_t r0_0_0 = r7_not_not_not_not_not_not_not_not_not_not;
     struct i8_i8 r29_half = (struct i8_i8){ 0, 0 };
     r29_half.a = r0_0_0;
     struct i8_i8 r29_2 = r29_half;
@@ -1265,18 +2151,12 @@ else_2:
 static uint8_t dfu_slots_writes_write_filled(unsigned char *a0, uint32_t a1, unsigned char *a2, uint64_t a3) {
     _Alignas(1) unsigned char r4[4096];
     uint8_t r0_0_0_copyload = a0[16];
-    uint64_t r24 = dfu_slots_layout_fill_size(r0_0_0_copyload, a3);
+    uint64_t switch_load = load64(PLACE(switch_table_dfu_slots_layout_fill_size) + 8 * (size_t)r0_0_0_copyload);
+    uint64_t v1 = switch_load + 0xffffffffffffffffULL;
     memset(r4, 0, 4096);
     core_slice_edits_slice_T_copy_from_slice_i8_core_clone_U8Clone(r4, a2, a3);
-    struct i8_i8 r46 = dfu_slots_writes_write_some(a0, a1, r4, r24 + a3);
+    struct i8_i8 r46 = dfu_slots_writes_write_some(a0, a1, r4, ((switch_load - (v1 & a3)) & v1) + a3);
     return r46.a;
-}
-
-/* dfu_slots::layout::fill_size */
-static uint64_t dfu_slots_layout_fill_size(uint8_t a0, uint64_t a1) {
-    uint64_t switch_load = load64(PLACE(switch_table_dfu_slots_layout_fill_size) + 8 * (size_t)a0);
-    uint64_t v1 = switch_load + 0xffffffffffffffffULL;
-    return (switch_load - (v1 & a1)) & v1;
 }
 
 /* dfu_slots::writes::write_some::<#4eeac2a07fb7654c> */
@@ -1304,7 +2184,8 @@ static struct i8_i8 dfu_slots_writes_open_slot(unsigned char *a0, uint32_t a1, u
     uint32_t switch_load;
     uint8_t r15_0_0;
     struct i8_i8 r39_pn;
-    uint8_t r0_0_0_copyload = a0[16];
+    unsigned char *r1 = a0 + 16;
+    uint8_t r0_0_0_copyload = *r1;
     switch_load = load32(PLACE(switch_table_dfu_slots_writes_open_slot) + 4 * (size_t)r0_0_0_copyload);
     uint32_t r25 = dfu_slots_register_register_of(a0, a1, a3);
     *r2 = a2;
@@ -1314,8 +2195,9 @@ static struct i8_i8 dfu_slots_writes_open_slot(unsigned char *a0, uint32_t a1, u
     store32(r2 + 4, a3);
     store32(r2 + 8, r25);
     store32(r2 + 12, 0);
-    uint32_t r28 = dfu_slots_read_gate_of(a0);
-    struct i8_i8 r39 = dfu_slots_writes_write_unit(a0, r28 + a1, r2, 16, switch_load);
+    uint8_t r0_0_0_copyload_2 = *r1;
+    uint32_t switch_load_2 = load32(PLACE(switch_table_dfu_slots_writes_open_slot) + 4 * (size_t)r0_0_0_copyload_2);
+    struct i8_i8 r39 = dfu_slots_writes_write_unit(a0, switch_load_2 + a1, r2, 16, switch_load);
     if (r39.a == 1) {
         r15_0_0 = 1;
         r39_pn = r39;
@@ -1335,9 +2217,7 @@ join_4:;
 /* dfu_slots::writes::write_unit::<#4eeac2a07fb7654c> */
 static struct i8_i8 dfu_slots_writes_write_unit(unsigned char *a0, uint32_t a1, unsigned char *a2, uint64_t a3, uint32_t a4) {
     _Alignas(1) unsigned char r3[256];
-    _Alignas(1) unsigned char r4[256];
-    dfu_slots_layout_fill_up(r4, a2, a3);
-    memcpy(r3, r4, 256);
+    dfu_slots_layout_fill_up(r3, a2, a3);
     struct i8_i8 r28 = dfu_slots_writes_write(a0, a1, r3, (uint64_t)a4);
     return r28;
 }
@@ -1353,69 +2233,64 @@ static struct i32_i32 dfu_slots_places_look(unsigned char *a0) {
 static uint32_t dfu_device_c_exports_on(unsigned char *a0, unsigned char *a1, unsigned char *a2, uint64_t a3, unsigned char *a4, uint64_t a5, uint8_t a6, uint32_t a7, unsigned char *a8, unsigned char *a9, uint64_t a10, unsigned char *a11, uint64_t a12) {
     _Alignas(8) unsigned char r8[392];
     _Alignas(8) unsigned char r14_2[328];
-    unsigned char *const r1_4 = r14_2;
+    unsigned char *const r1_7 = r14_2;
     unsigned char *const r8_6_9 = r14_2;
-    unsigned char *const r13_3 = r14_2;
-    unsigned char *const r17_2 = r14_2;
-    unsigned char *const r12_2 = r14_2;
-    unsigned char *const r13 = r14_2;
-    unsigned char *const r16 = r14_2;
+    unsigned char *const r11 = r14_2;
+    unsigned char *const r0_2 = r14_2;
     unsigned char *const r5_2 = r14_2;
     _Alignas(8) unsigned char r14_3[320];
+    unsigned char *const r10 = r14_3;
     unsigned char *const r8_2 = r14_3;
     unsigned char *const r8_6_0 = r14_3;
     unsigned char *const r2_6 = r14_3;
-    unsigned char *const r16_2 = r14_3;
-    unsigned char *const r3_3 = r14_3;
-    unsigned char *const r1_2 = r14_3;
-    _Alignas(8) unsigned char r25_6_5_3_3[280];
+    unsigned char *const r6_2 = r14_3;
+    unsigned char *const r1_5 = r14_3;
+    _Alignas(4) unsigned char r25_6_5_3_3[280];
+    unsigned char *const r15 = r25_6_5_3_3;
     unsigned char *const r8_6_6 = r25_6_5_3_3;
-    unsigned char *const r6 = r25_6_5_3_3;
-    unsigned char *const r13_2 = r25_6_5_3_3;
+    unsigned char *const r13 = r25_6_5_3_3;
     _Alignas(2) unsigned char r13_5_7[280];
     _Alignas(8) unsigned char r14_21[280];
     _Alignas(8) unsigned char r14[40];
     _Alignas(4) unsigned char r12[32];
-    unsigned char *const r4 = r12;
-    unsigned char *const r15 = r12;
-    _Alignas(2) unsigned char r25_6_0[18];
+    unsigned char *const r0 = r12;
+    unsigned char *const r15_2 = r12;
+    _Alignas(8) unsigned char r25_6_0[18];
+    unsigned char *const r3_3 = r25_6_0;
     _Alignas(2) unsigned char r13_5_0[18];
     _Alignas(2) unsigned char r14_9[18];
-    _Alignas(2) unsigned char r25_6_4[14];
+    _Alignas(8) unsigned char r25_6_4[14];
+    unsigned char *const r6 = r25_6_4;
     _Alignas(2) unsigned char r13_5_4[14];
     _Alignas(2) unsigned char r14_15[14];
+    _Alignas(4) unsigned char r1_2[6];
+    _Alignas(4) unsigned char r4[6];
+    unsigned char *v0, *r32, *r1_4_0_r32_sroa_idx, *r5, *v3, *r13_5_0_6_r23_sroa_idx, *r18_6_0_r8_sroa_idx, *r18_7_0_r8_sroa_idx, *r18_11_0_r8_sroa_idx, *r18_12_0_r8_sroa_idx, *r18_13_0_r8_sroa_idx, *r18_15_0_r8_sroa_idx;
+    unsigned char *r18_16_0_r8_sroa_idx, *r18_17_0_r8_sroa_idx, *r18_20_0_r8_sroa_idx, *r1_3, *r1_4, *r1_0_in;
     uint32_t common_ret_op, v7, v8, v9, r25_6_13_0, r25_6_14_0, r25_6_15_0, r14_31_0, r14_32_0, r14_33_0, r8_6_17_0, r8_6_18_0;
-    uint32_t r8_6_19_0, r22_18_18_2, r0_5_4_copyload_2, storemerge, r8_6_0_2, r1_0, r10_52_0;
-    uint64_t wide_11458, r1, r25_6_5_3_0_0, r25_6_6_0, r25_6_7_0, r25_6_8_0, r25_6_9_0, r25_6_16_0, r25_6_17_0, r25_6_18_0, r14_19_0, r14_23_0;
+    uint32_t r8_6_19_0, v22, r1_0, r18_1547_0, r18_22_0, r18_29_0, r18_36_0, r10_52_0;
+    uint64_t wide_13170, r1, r25_6_5_3_0_0, r25_6_6_0, r25_6_7_0, r25_6_8_0, r25_6_9_0, r25_6_16_0, r25_6_17_0, r25_6_18_0, r14_19_0, r14_23_0;
     uint64_t r14_25_0, r14_26_0, r14_27_0, r14_34_0, r14_35_0, r14_36_0, r8_6_8_0, r8_6_10_0, r8_6_11_0, r8_6_12_0, r8_6_13_0, r8_6_20_0;
-    uint64_t r8_6_21_0, r8_6_22_0, v13, r18_71_0, r35, r18, r25;
-    unsigned char *r32, *r1_4_0_r32_sroa_idx, *r5, *v3, *r13_5_0_6_r23_sroa_idx, *r18_6_0_r8_sroa_idx, *r18_11_0_r8_sroa_idx, *r18_12_0_r8_sroa_idx, *r18_13_0_r8_sroa_idx, *r18_15_0_r8_sroa_idx, *r18_16_0_r8_sroa_idx, *r18_17_0_r8_sroa_idx;
-    unsigned char *r18_20_0_r8_sroa_idx, *v21, *v22, *r1_0_in;
-    uint16_t r1_3_0_copyload, r19, r25_6_3_0, r14_13_0, r8_6_5_0, v11, v16, v17, r22_18_0_2, r22_18_31_2, r22_18_0_3, v23;
-    uint16_t v24, r8_4_0_2, r8_8_0, r8_4_0_3, r8_4_0_4, r9_2;
+    uint64_t r8_6_21_0, r8_6_22_0, v14, r18_71_0, r21, r15_3, r18;
+    uint16_t r1_3_0_copyload, r19, r25_6_3_0, r14_13_0, r8_6_5_0, v17, r9_0, v21, v23, r9;
     uint8_t v5, v6, r22_0_0_0165, r25_6_10_0, r25_6_11_0, r14_5_0, r14_28_0, r14_29_0, r8_6_14_0, r8_6_15_0, r8_4_0, r14_4;
-    uint8_t r22_0_0_2, r22_0_0_3, r44, storemerge57, r8_0_0_0, r2_0_0, r18_0_0, r10_0_0;
-    uint8_t v10, r14_0_0;
-    store64(r14 + 16, 0);
+    uint8_t v24, v25, r18_0_0, r1_3_0_copyload_2, r1_4_0_copyload, r18_0_0_2, r10_0_0;
+    uint8_t v12, r14_0_0;
+    v0 = r14 + 16;
+    store64(v0, 0);
     uint32_t r54 = dfu_device_c_exports_refusal_before(a0, a3, a5);
     if (r54 == 0) goto join_3;
     common_ret_op = r54;
 common_ret:
     return common_ret_op;
 join_3:
-    wide_11458 = (uint64_t)(uintptr_t)a2;
+    wide_13170 = (uint64_t)(uintptr_t)a2;
     uint8_t r73 = dfu_c_parts_config_unit_of(a0);
     store64(r14, (uint64_t)(uintptr_t)a4);
     store64(r14 + 8, a5);
-    r14[16] = r73;
+    *v0 = r73;
     memset(r14 + 20, 0, 20);
     memset(r8, 0, 392);
-    memset(r13_5_0, 0, 18);
-    memset(r13_5_4, 0, 14);
-    memset(r13_5_7, 0, 280);
-    memset(r14_9, 0, 18);
-    memset(r12, 0, 32);
-    memset(r14_2, 0, 328);
     memset(r25_6_0, 0, 18);
     memset(r25_6_4, 0, 14);
     memset(r25_6_5_3_3, 0, 280);
@@ -1432,7 +2307,6 @@ join_3:
 arm_6:
     r5 = r14_2 + 8;
     v3 = r8_2 + 4;
-    memset(v3, 0, 16);
     r19 = load16(a1 + 26);
     r1 = (uint64_t)r19;
     if ((r19 > 4096) | (a3 < r1)) goto arm_10;
@@ -1488,13 +2362,17 @@ arm_9:
     }
 after_3:
     if (v7 == 0) goto arm_13;
-    uint32_t r3 = dfu_slots_read_capacity_of(r14_3);
-    if (v7 > r3) goto arm_13;
+    uint64_t r3 = load64(r14_3 + 8);
+    uint8_t r0_0_0_copyload = r14_3[16];
+    uint32_t switch_load = load32(PLACE(switch_table_dfu_slots_writes_open_slot) + 4 * (size_t)r0_0_0_copyload);
+    if (v7 > (((uint32_t)r3 >> 1) - (switch_load << 1))) goto arm_13;
     goto dfu_device_from_parts_is_sound_exit;
 after_2:
     if (r19 == 0) goto arm_13;
-    uint32_t r3_2 = dfu_slots_read_capacity_of(r14_3);
-    if (((uint64_t)v7 + r1) > (uint64_t)r3_2) goto arm_13;
+    uint64_t r3_2 = load64(r14_3 + 8);
+    uint8_t r0_0_0_copyload_2 = r14_3[16];
+    uint32_t switch_load_2 = load32(PLACE(switch_table_dfu_slots_writes_open_slot) + 4 * (size_t)r0_0_0_copyload_2);
+    if (((uint64_t)v7 + r1) > (uint64_t)(((uint32_t)r3_2 >> 1) - (switch_load_2 << 1))) goto arm_13;
     if (v7 == 0) goto arm_12;
     uint8_t r33 = dfu_device_from_parts_is_put(r14_3, v7);
     if (r33) goto arm_12;
@@ -1534,7 +2412,7 @@ arm_12:;
     memcpy(r25_6_5_3_3, r14_3 + 8, 280);
     memcpy(r25_6_0 + 6, r32, 12);
     memcpy(r25_6_4, r1_4_0_r32_sroa_idx, 14);
-    v10 = 1;
+    v12 = 1;
     r22_0_0_0165 = 0;
     r25_6_5_3_0_0 = r34_0_5_0_4_0_0_copyload;
     r25_6_3_0 = r1_3_0_copyload;
@@ -1547,7 +2425,7 @@ arm_12:;
     r25_6_13_0 = v7;
     r25_6_14_0 = v8;
     r25_6_15_0 = v9;
-    r25_6_16_0 = wide_11458;
+    r25_6_16_0 = wide_13170;
     r25_6_17_0 = a3;
     r25_6_18_0 = r1;
     goto join_14;
@@ -1560,7 +2438,7 @@ arm_13:;
     store16(r14 + 12, r28_3_0_copyload);
     store32(r14 + 28, r22_12_0_0_copyload);
     store64(r14 + 32, r22_12_5_0_0_copyload);
-    v10 = 0;
+    v12 = 0;
     r22_0_0_0165 = 1;
     r25_6_5_3_0_0 = 0;
     r25_6_3_0 = 0;
@@ -1580,7 +2458,7 @@ join_14:
     memcpy(r14_9 + 6, r25_6_0 + 6, 12);
     memcpy(r14_15, r25_6_4, 14);
     memcpy(r14_21, r25_6_5_3_3, 280);
-    r14_0_0 = v10;
+    r14_0_0 = v12;
     r14_5_0 = r22_0_0_0165;
     r14_13_0 = r25_6_3_0;
     r14_19_0 = r25_6_5_3_0_0;
@@ -1648,7 +2526,8 @@ core_result_ResultTry_branch_exit:
     store32(r8 + 28, 0);
     r18_6_0_r8_sroa_idx = r8 + 32;
     store64(r18_6_0_r8_sroa_idx, r8_6_8_0);
-    memcpy(r8 + 40, r13_5_7, 280);
+    r18_7_0_r8_sroa_idx = r8 + 40;
+    memcpy(r18_7_0_r8_sroa_idx, r13_5_7, 280);
     store64(r8 + 320, r8_6_10_0);
     store64(r8 + 328, r8_6_11_0);
     store64(r8 + 336, r8_6_12_0);
@@ -1669,7 +2548,6 @@ core_result_ResultTry_branch_exit:
     store64(r8 + 376, r8_6_21_0);
     r18_20_0_r8_sroa_idx = r8 + 384;
     store64(r18_20_0_r8_sroa_idx, r8_6_22_0);
-    v11 = (uint16_t)r8_6_18_0;
     switch (a6) {
     case 0: goto arm_1;
     case 1: goto arm_2;
@@ -1679,697 +2557,286 @@ core_result_ResultTry_branch_exit:
 arm_1:
     if (a12 < (uint64_t)umax16(r8_6_5_0, 6)) trap();
     dfu_wire_setups_Setup_decode(r6, a8);
-    v13 = load64(r6);
-    store64(r3_3, v13);
+    v14 = load64(r6);
+    store64(r3_3, v14);
     dfu_wire_setups_Setup_request(r4, r3_3);
     r14_4 = *r4;
-    if (r14_4 == 8) goto dfu_device_machine_Machine_decide_exit_thread21;
-    v16 = load16(r4 + 2);
-    v17 = load16(r4 + 4);
-    if (a10 == (uint64_t)(((v13 & 255) == 33) ? (v13 >> 48) : 0)) goto join_7;
+    if (r14_4 != 8) goto arm_2_2;
     goto arm_5_2;
-join_7:
-    switch (r8_6_14_0) {
-    case 0: goto arm_1_2;
-    case 1: goto arm_2_2;
+arm_2_2:
+    v17 = load16(r4 + 2);
+    if (a10 == (uint64_t)(((v14 & 255) == 33) ? (v14 >> 48) : 0)) goto join_7;
+    goto arm_5_2;
+join_7:;
+    uint16_t v19 = load16(r4 + 4);
+    store16(r1_2, r14_4);
+    store16(r1_2 + 2, v17);
+    store16(r1_2 + 4, v19);
+    store32(r15, 0);
+    uint32_t r2 = load32(r8 + 16);
+    r1_3 = r8 + 20;
+    uint32_t r2_2 = load32(r1_3);
+    r1_4 = r8 + 24;
+    uint32_t r2_3 = load32(r1_4);
+    uint64_t r3_4 = load64(r18_7_0_r8_sroa_idx);
+    uint8_t r0_0_0_copyload_3 = r8[48];
+    uint32_t switch_load_3 = load32(PLACE(switch_table_dfu_slots_writes_open_slot) + 4 * (size_t)r0_0_0_copyload_3);
+    memcpy(r11, r8 + 6, 10);
+    store16(r11 + 10, 0);
+    store32(r11 + 12, r2);
+    store32(r11 + 16, r2_2);
+    store32(r11 + 20, r2_3);
+    store64(r11 + 24, (uint64_t)(((uint32_t)r3_4 >> 1) - (switch_load_3 << 1)));
+    *r15 = r8_6_14_0;
+    r15[1] = r8_6_15_0;
+    store32(r15 + 4, r8_6_17_0);
+    store32(r15 + 8, r8_6_18_0);
+    store32(r15 + 12, r8_6_19_0);
+    dfu_device_table_decide(r10, r11, r15, r1_2);
+    switch (r14_4) {
+    case 3: goto after_2_2;
+    case 5: goto after_2_2;
+    case 0:
+        r9_0 = 0;
+        goto dfu_device_machine_Machine_draft_exit;
+    case 1:
+        r9_0 = 0;
+        goto dfu_device_machine_Machine_draft_exit;
+    case 2:
+        r9_0 = 0;
+        goto dfu_device_machine_Machine_draft_exit;
+    case 4:
+        r9_0 = 0;
+        goto dfu_device_machine_Machine_draft_exit;
+    case 6:
+        r9_0 = 0;
+        goto dfu_device_machine_Machine_draft_exit;
+    case 7:
+        r9_0 = 0;
+        goto dfu_device_machine_Machine_draft_exit;
+    default: never();
+    }
+after_2_2:
+    r9_0 = v17;
+    goto dfu_device_machine_Machine_draft_exit;
+dfu_device_machine_Machine_draft_exit:
+    dfu_device_machine_Machine_carry_out(r0, r8, r10, r9_0, a9, a10);
+    uint8_t r35 = *r0;
+    v21 = load16(r0 + 2);
+    v22 = load32(r0 + 4);
+    v23 = load16(r0 + 8);
+    switch (r35) {
+    case 0:
+        r18_0_0 = r35;
+        r18_71_0 = 0;
+        goto arm_6_2;
+    case 1: goto arm_2_3;
     case 2: goto arm_3_2;
     case 3: goto arm_4;
-    case 4: goto arm_5_3;
-    case 5: goto arm_6_2;
-    case 6: goto arm_7_2;
-    case 7: goto arm_8;
-    case 8: goto arm_9_2;
-    case 9: goto arm_10_2;
-    case 10: goto dfu_device_machine_Machine_decide_exit_thread21;
-    case 11: goto arm_12_2;
-    case 12: goto arm_13_2;
-    default: never();
-    }
-arm_1_2:
-    switch (r14_4) {
-    case 0: goto arm_1_3;
-    case 3: goto dfu_device_machine_Machine_decide_exit_thread29;
-    case 5: goto dfu_device_machine_Machine_decide_exit_thread38;
-    case 1: goto dfu_device_machine_Machine_decide_exit_thread21;
-    case 2: goto dfu_device_machine_Machine_decide_exit_thread21;
-    case 4: goto dfu_device_machine_Machine_decide_exit_thread21;
-    case 6: goto dfu_device_machine_Machine_decide_exit_thread21;
-    case 7: goto dfu_device_machine_Machine_decide_exit_thread21;
-    default: never();
-    }
-arm_1_3:;
-    uint16_t r14_2_0_copyload = load16(r8 + 10);
-    storemerge57 = 1;
-    storemerge = (uint32_t)umin16(v16, r14_2_0_copyload);
-    goto dfu_device_machine_Machine_decide_exit_thread47;
-arm_2_2:
-    switch (r14_4) {
-    case 3: goto dfu_device_machine_Machine_decide_exit_thread29;
-    case 5: goto dfu_device_machine_Machine_decide_exit_thread38;
-    case 0: goto arm_3_3;
-    case 1: goto arm_3_3;
-    case 2: goto arm_3_3;
-    case 4: goto arm_3_3;
-    case 6: goto arm_3_3;
-    case 7: goto arm_3_3;
-    default: never();
-    }
-arm_3_3:
-    *r18_12_0_r8_sroa_idx = 0;
-    *r18_13_0_r8_sroa_idx = 0;
-    store32(r18_15_0_r8_sroa_idx, 0);
-    store32(r18_16_0_r8_sroa_idx, 0);
-    store32(r18_17_0_r8_sroa_idx, 0);
-    goto dfu_device_machine_Machine_decide_exit_thread21;
-arm_3_2:
-    memset(r16, 0, 12);
-    switch (r14_4) {
-    case 1: goto arm_3_4;
-    case 2: goto arm_4_2;
-    case 6: goto dfu_device_machine_Machine_in_dfu_idle_exit;
-    case 3: goto arm_6_3;
-    case 5: goto arm_7_3;
-    case 0: goto after_2_2;
-    case 4: goto after_2_2;
-    case 7: goto after_2_2;
-    default: never();
-    }
-arm_3_4:;
-    uint8_t r18_0_0_copyload = r8[6];
-    if (!((r18_0_0_copyload & 1) ? (v17 != 0) : 0)) goto after_2_2;
-    dfu_device_machine_Machine_take_block(r16, r8, 0, 0, v16, a9, a10);
-    goto dfu_device_machine_Machine_in_dfu_idle_exit;
-arm_4_2:;
-    uint8_t r22_2_0_copyload = r8[7];
-    if (!(r22_2_0_copyload & 1)) goto after_2_2;
-    dfu_device_machine_Machine_send(r16, r8, 0, 0, v16, v17);
-    goto dfu_device_machine_Machine_in_dfu_idle_exit;
-arm_6_3:
-    store16(r16, 1);
-    store16(r16 + 2, v16);
-    goto dfu_device_machine_Machine_in_dfu_idle_exit;
-arm_7_3:
-    store16(r16, 2);
-    store16(r16 + 2, v16);
-    goto dfu_device_machine_Machine_in_dfu_idle_exit;
-after_2_2:
-    *r18_12_0_r8_sroa_idx = 12;
-    *r18_13_0_r8_sroa_idx = 15;
-    store32(r18_15_0_r8_sroa_idx, 0);
-    store32(r18_16_0_r8_sroa_idx, 0);
-    store32(r18_17_0_r8_sroa_idx, 0);
-    store16(r16, 4);
-    goto dfu_device_machine_Machine_in_dfu_idle_exit;
-dfu_device_machine_Machine_in_dfu_idle_exit:;
-    uint8_t r76 = *r16;
-    uint16_t v19 = load16(r16 + 2);
-    uint32_t r0_5_4_copyload = load32(r16 + 4);
-    uint16_t v20 = load16(r16 + 8);
-    r8_0_0_0 = r76;
-    r8_4_0_2 = v19;
-    r8_6_0_2 = r0_5_4_copyload;
-    r8_8_0 = v20;
-    goto dfu_device_machine_Machine_decide_exit;
-arm_4:
-    switch (r14_4) {
-    case 3: goto arm_1_4;
-    case 5: goto dfu_device_machine_Machine_decide_exit_thread38;
-    case 0: goto arm_3_5;
-    case 1: goto arm_3_5;
-    case 2: goto arm_3_5;
-    case 4: goto arm_3_5;
-    case 6: goto arm_3_5;
-    case 7: goto arm_3_5;
-    default: never();
-    }
-arm_1_4:;
-    uint32_t r2 = load32(r8 + 20);
-    if (r2 == 0) goto join_8;
-    *r18_12_0_r8_sroa_idx = 5;
-    *r18_13_0_r8_sroa_idx = 0;
-    store16(r8 + 362, 0);
-    store32(r18_17_0_r8_sroa_idx, 0);
-    goto dfu_device_machine_Machine_decide_exit_thread29;
-join_8:
-    dfu_device_machine_Machine_write_block(r8, r8_6_17_0, v11, 0);
-    goto dfu_device_machine_Machine_decide_exit_thread29;
-arm_3_5:
-    *r18_12_0_r8_sroa_idx = 12;
-    *r18_13_0_r8_sroa_idx = 15;
-    store32(r18_15_0_r8_sroa_idx, 0);
-    store32(r18_16_0_r8_sroa_idx, 0);
-    store32(r18_17_0_r8_sroa_idx, 0);
-    goto dfu_device_machine_Machine_decide_exit_thread21;
-arm_5_3:
-    switch (r14_4) {
-    case 3: goto arm_1_5;
-    case 5: goto dfu_device_machine_Machine_decide_exit_thread38;
-    case 0: goto arm_3_6;
-    case 1: goto arm_3_6;
-    case 2: goto arm_3_6;
-    case 4: goto arm_3_6;
-    case 6: goto arm_3_6;
-    case 7: goto arm_3_6;
-    default: never();
-    }
-arm_1_5:
-    *r18_12_0_r8_sroa_idx = 6;
-    *r18_13_0_r8_sroa_idx = 0;
-    store16(r8 + 362, 0);
-    store32(r18_17_0_r8_sroa_idx, 0);
-    goto dfu_device_machine_Machine_decide_exit_thread29;
-arm_3_6:
-    *r18_12_0_r8_sroa_idx = 12;
-    *r18_13_0_r8_sroa_idx = 15;
-    store32(r18_15_0_r8_sroa_idx, 0);
-    store32(r18_16_0_r8_sroa_idx, 0);
-    store32(r18_17_0_r8_sroa_idx, 0);
-    goto dfu_device_machine_Machine_decide_exit_thread21;
-arm_6_2:
-    *r18_12_0_r8_sroa_idx = 12;
-    *r18_13_0_r8_sroa_idx = 15;
-    store32(r18_15_0_r8_sroa_idx, 0);
-    store32(r18_16_0_r8_sroa_idx, 0);
-    store32(r18_17_0_r8_sroa_idx, 0);
-    goto dfu_device_machine_Machine_decide_exit_thread21;
-arm_7_2:
-    v21 = r13 + 8;
-    store32(v21, 0);
-    switch (r14_4) {
-    case 1: goto arm_1_6;
-    case 6: goto arm_2_3;
-    case 3:
-        r22_0_0_2 = 1;
-        r22_18_0_2 = v16;
-        r22_18_18_2 = 0;
-        r22_18_31_2 = 0;
-        goto dfu_device_machine_Machine_in_download_idle_exit;
-    case 5: goto arm_4_3;
-    case 0: goto arm_5_4;
-    case 2: goto arm_5_4;
-    case 4: goto arm_5_4;
-    case 7: goto arm_5_4;
-    default: never();
-    }
-arm_1_6:
-    if (v17 != 0) goto default_9;
-    uint32_t r2_2 = load32(r8 + 16);
-    if (r8_6_17_0 >= r2_2) goto join_13;
-    *r18_12_0_r8_sroa_idx = 12;
-    *r18_13_0_r8_sroa_idx = 9;
-    store32(r18_15_0_r8_sroa_idx, 0);
-    store32(r18_16_0_r8_sroa_idx, 0);
-    store32(r18_17_0_r8_sroa_idx, 0);
-    r22_0_0_2 = 4;
-    r22_18_0_2 = 0;
-    r22_18_18_2 = 0;
-    r22_18_31_2 = 0;
-    goto dfu_device_machine_Machine_in_download_idle_exit;
-join_13:
-    *r18_12_0_r8_sroa_idx = 7;
-    *r18_13_0_r8_sroa_idx = 0;
-    store32(r18_16_0_r8_sroa_idx, 0);
-    store32(r18_17_0_r8_sroa_idx, 0);
-    r22_0_0_2 = 0;
-    r22_18_0_2 = 0;
-    r22_18_18_2 = 0;
-    r22_18_31_2 = 0;
-    goto dfu_device_machine_Machine_in_download_idle_exit;
-default_9:
-    dfu_device_machine_Machine_take_block(r13, r8, r8_6_17_0, v11, v16, a9, a10);
-    uint8_t r80_pre = *r13;
-    uint16_t pre = load16(r13 + 2);
-    uint32_t pre20 = load32(r13 + 4);
-    uint16_t pre21 = load16(v21);
-    r22_0_0_2 = r80_pre;
-    r22_18_0_2 = pre;
-    r22_18_18_2 = pre20;
-    r22_18_31_2 = pre21;
-    goto dfu_device_machine_Machine_in_download_idle_exit;
-arm_2_3:
-    *r18_12_0_r8_sroa_idx = 2;
-    *r18_13_0_r8_sroa_idx = 0;
-    store32(r18_15_0_r8_sroa_idx, 0);
-    store32(r18_16_0_r8_sroa_idx, 0);
-    store32(r18_17_0_r8_sroa_idx, 0);
-    r22_0_0_2 = 0;
-    r22_18_0_2 = 0;
-    r22_18_18_2 = 0;
-    r22_18_31_2 = 0;
-    goto dfu_device_machine_Machine_in_download_idle_exit;
-arm_4_3:
-    r22_0_0_2 = 2;
-    r22_18_0_2 = v16;
-    r22_18_18_2 = 0;
-    r22_18_31_2 = 0;
-    goto dfu_device_machine_Machine_in_download_idle_exit;
-arm_5_4:
-    *r18_12_0_r8_sroa_idx = 12;
-    *r18_13_0_r8_sroa_idx = 15;
-    store32(r18_15_0_r8_sroa_idx, 0);
-    store32(r18_16_0_r8_sroa_idx, 0);
-    store32(r18_17_0_r8_sroa_idx, 0);
-    r22_0_0_2 = 4;
-    r22_18_0_2 = 0;
-    r22_18_18_2 = 0;
-    r22_18_31_2 = 0;
-    goto dfu_device_machine_Machine_in_download_idle_exit;
-dfu_device_machine_Machine_in_download_idle_exit:
-    r8_0_0_0 = r22_0_0_2;
-    r8_4_0_2 = r22_18_0_2;
-    r8_6_0_2 = r22_18_18_2;
-    r8_8_0 = r22_18_31_2;
-    goto dfu_device_machine_Machine_decide_exit;
-arm_8:
-    memset(r17_2, 0, 16);
-    switch (r14_4) {
-    case 3: goto arm_1_7;
-    case 5:
-        r22_0_0_3 = 2;
-        r22_18_0_3 = v16;
-        goto dfu_device_machine_Machine_in_manifest_sync_exit;
-    case 0: goto arm_3_7;
-    case 1: goto arm_3_7;
-    case 2: goto arm_3_7;
-    case 4: goto arm_3_7;
-    case 6: goto arm_3_7;
-    case 7: goto arm_3_7;
-    default: never();
-    }
-arm_1_7:;
-    uint32_t r2_3 = load32(r8 + 24);
-    if (r2_3 == 0) goto join_8_2;
-    *r18_12_0_r8_sroa_idx = 9;
-    *r18_13_0_r8_sroa_idx = 0;
-    store32(r18_16_0_r8_sroa_idx, 0);
-    store32(r18_17_0_r8_sroa_idx, 0);
-    r22_0_0_3 = 1;
-    r22_18_0_3 = v16;
-    goto dfu_device_machine_Machine_in_manifest_sync_exit;
-join_8_2:
-    *r17_2 = 2;
-    dfu_device_machine_Machine_commit_taken(r8, r8_6_17_0, r17_2);
-    r22_0_0_3 = 1;
-    r22_18_0_3 = v16;
-    goto dfu_device_machine_Machine_in_manifest_sync_exit;
-arm_3_7:
-    *r18_12_0_r8_sroa_idx = 12;
-    *r18_13_0_r8_sroa_idx = 15;
-    store32(r18_15_0_r8_sroa_idx, 0);
-    store32(r18_16_0_r8_sroa_idx, 0);
-    store32(r18_17_0_r8_sroa_idx, 0);
-    r22_0_0_3 = 4;
-    r22_18_0_3 = 0;
-    goto dfu_device_machine_Machine_in_manifest_sync_exit;
-dfu_device_machine_Machine_in_manifest_sync_exit:
-    r8_0_0_0 = r22_0_0_3;
-    r8_4_0_2 = r22_18_0_3;
-    r8_6_0_2 = 0;
-    r8_8_0 = 0;
-    goto dfu_device_machine_Machine_decide_exit;
-arm_9_2:
-    switch (r14_4) {
-    case 3: goto arm_1_8;
-    case 5: goto dfu_device_machine_Machine_decide_exit_thread38;
-    case 0: goto arm_3_8;
-    case 1: goto arm_3_8;
-    case 2: goto arm_3_8;
-    case 4: goto arm_3_8;
-    case 6: goto arm_3_8;
-    case 7: goto arm_3_8;
-    default: never();
-    }
-arm_1_8:
-    *r18_12_0_r8_sroa_idx = 2;
-    *r18_13_0_r8_sroa_idx = 0;
-    store32(r18_15_0_r8_sroa_idx, 0);
-    store32(r18_16_0_r8_sroa_idx, 0);
-    store32(r18_17_0_r8_sroa_idx, 0);
-    goto dfu_device_machine_Machine_decide_exit_thread29;
-arm_3_8:
-    *r18_12_0_r8_sroa_idx = 12;
-    *r18_13_0_r8_sroa_idx = 15;
-    store32(r18_15_0_r8_sroa_idx, 0);
-    store32(r18_16_0_r8_sroa_idx, 0);
-    store32(r18_17_0_r8_sroa_idx, 0);
-    goto dfu_device_machine_Machine_decide_exit_thread21;
-arm_10_2:
-    *r18_12_0_r8_sroa_idx = 12;
-    *r18_13_0_r8_sroa_idx = 15;
-    store32(r18_15_0_r8_sroa_idx, 0);
-    store32(r18_16_0_r8_sroa_idx, 0);
-    store32(r18_17_0_r8_sroa_idx, 0);
-    goto dfu_device_machine_Machine_decide_exit_thread21;
-arm_12_2:
-    v22 = r12_2 + 8;
-    store32(v22, 0);
-    switch (r14_4) {
-    case 2: goto arm_1_9;
-    case 6: goto arm_2_4;
-    case 3:
-        v23 = 0;
-        r0_5_4_copyload_2 = 0;
-        v24 = v16;
-        r44 = 1;
-        goto dfu_device_machine_Machine_in_upload_idle_exit;
-    case 5: goto arm_4_4;
-    case 0: goto arm_5_5;
-    case 1: goto arm_5_5;
-    case 4: goto arm_5_5;
-    case 7: goto arm_5_5;
-    default: never();
-    }
-arm_1_9:
-    dfu_device_machine_Machine_send(r12_2, r8, r8_6_17_0, v11, v16, v17);
-    uint8_t r44_pre = *r12_2;
-    uint16_t pre_2 = load16(r12_2 + 2);
-    uint32_t r0_5_4_copyload_pre = load32(r12_2 + 4);
-    uint16_t pre6 = load16(v22);
-    v23 = pre6;
-    r0_5_4_copyload_2 = r0_5_4_copyload_pre;
-    v24 = pre_2;
-    r44 = r44_pre;
-    goto dfu_device_machine_Machine_in_upload_idle_exit;
-arm_2_4:
-    *r18_12_0_r8_sroa_idx = 2;
-    *r18_13_0_r8_sroa_idx = 0;
-    store32(r18_15_0_r8_sroa_idx, 0);
-    store32(r18_16_0_r8_sroa_idx, 0);
-    store32(r18_17_0_r8_sroa_idx, 0);
-    v23 = 0;
-    r0_5_4_copyload_2 = 0;
-    v24 = 0;
-    r44 = 0;
-    goto dfu_device_machine_Machine_in_upload_idle_exit;
-arm_4_4:
-    v23 = 0;
-    r0_5_4_copyload_2 = 0;
-    v24 = v16;
-    r44 = 2;
-    goto dfu_device_machine_Machine_in_upload_idle_exit;
-arm_5_5:
-    *r18_12_0_r8_sroa_idx = 12;
-    *r18_13_0_r8_sroa_idx = 15;
-    store32(r18_15_0_r8_sroa_idx, 0);
-    store32(r18_16_0_r8_sroa_idx, 0);
-    store32(r18_17_0_r8_sroa_idx, 0);
-    v23 = 0;
-    r0_5_4_copyload_2 = 0;
-    v24 = 0;
-    r44 = 4;
-    goto dfu_device_machine_Machine_in_upload_idle_exit;
-dfu_device_machine_Machine_in_upload_idle_exit:
-    r8_0_0_0 = r44;
-    r8_4_0_2 = v24;
-    r8_6_0_2 = r0_5_4_copyload_2;
-    r8_8_0 = v23;
-    goto dfu_device_machine_Machine_decide_exit;
-arm_13_2:
-    switch (r14_4) {
-    case 4:
-        storemerge57 = 2;
-        storemerge = 0;
-        goto dfu_device_machine_Machine_decide_exit_thread47;
-    case 3: goto dfu_device_machine_Machine_decide_exit_thread29;
-    case 5: goto dfu_device_machine_Machine_decide_exit_thread38;
-    case 0: goto dfu_device_machine_Machine_decide_exit_thread21;
-    case 1: goto dfu_device_machine_Machine_decide_exit_thread21;
-    case 2: goto dfu_device_machine_Machine_decide_exit_thread21;
-    case 6: goto dfu_device_machine_Machine_decide_exit_thread21;
-    case 7: goto dfu_device_machine_Machine_decide_exit_thread21;
-    default: never();
-    }
-dfu_device_machine_Machine_decide_exit_thread21:
-    goto arm_5_2;
-dfu_device_machine_Machine_decide_exit_thread29:
-    r8_4_0_3 = v16;
-    goto arm_2_5;
-dfu_device_machine_Machine_decide_exit_thread38:
-    r8_4_0_4 = v16;
-    goto arm_3_9;
-dfu_device_machine_Machine_decide_exit_thread47:
-    *r18_12_0_r8_sroa_idx = storemerge57;
-    *r18_13_0_r8_sroa_idx = 0;
-    store32(r18_15_0_r8_sroa_idx, storemerge);
-    store32(r18_16_0_r8_sroa_idx, 0);
-    store32(r18_17_0_r8_sroa_idx, 0);
-    r18_0_0 = 0;
-    r18_71_0 = 0;
-    goto arm_6_4;
-dfu_device_machine_Machine_decide_exit:
-    switch (r8_0_0_0) {
-    case 0:
-        r18_0_0 = r8_0_0_0;
-        r18_71_0 = 0;
-        goto arm_6_4;
-    case 1:
-        r8_4_0_3 = r8_4_0_2;
-        goto arm_2_5;
-    case 2:
-        r8_4_0_4 = r8_4_0_2;
-        goto arm_3_9;
-    case 3: goto arm_4_5;
     case 4: goto arm_5_2;
     default: never();
     }
-arm_2_5:;
-    uint8_t r4_2 = *r18_12_0_r8_sroa_idx;
-    switch (r4_2) {
-    case 12: goto dfu_device_machine_Machine_code_exit_thread;
-    case 5: goto arm_1_10;
-    case 9: goto arm_2_6;
+arm_2_3:
+    v24 = *r18_12_0_r8_sroa_idx;
+    v25 = *r18_13_0_r8_sroa_idx;
+    switch (v24) {
+    case 5:
+        r1_0_in = r1_3;
+        goto dfu_device_machine_Machine_poll_ms_exit;
+    case 9: goto arm_2_4;
     case 0:
         r1_0 = 0;
-        r2_0_0 = 0;
         goto dfu_device_machine_Machine_status_exit;
     case 1:
         r1_0 = 0;
-        r2_0_0 = 0;
         goto dfu_device_machine_Machine_status_exit;
     case 2:
         r1_0 = 0;
-        r2_0_0 = 0;
         goto dfu_device_machine_Machine_status_exit;
     case 3:
         r1_0 = 0;
-        r2_0_0 = 0;
         goto dfu_device_machine_Machine_status_exit;
     case 4:
         r1_0 = 0;
-        r2_0_0 = 0;
         goto dfu_device_machine_Machine_status_exit;
     case 6:
         r1_0 = 0;
-        r2_0_0 = 0;
         goto dfu_device_machine_Machine_status_exit;
     case 7:
         r1_0 = 0;
-        r2_0_0 = 0;
         goto dfu_device_machine_Machine_status_exit;
     case 8:
         r1_0 = 0;
-        r2_0_0 = 0;
         goto dfu_device_machine_Machine_status_exit;
     case 10:
         r1_0 = 0;
-        r2_0_0 = 0;
         goto dfu_device_machine_Machine_status_exit;
     case 11:
         r1_0 = 0;
-        r2_0_0 = 0;
+        goto dfu_device_machine_Machine_status_exit;
+    case 12:
+        r1_0 = 0;
         goto dfu_device_machine_Machine_status_exit;
     default: never();
     }
-dfu_device_machine_Machine_code_exit_thread:;
-    uint8_t r1_0_0_copyload_2 = *r18_13_0_r8_sroa_idx;
-    r1_0 = 0;
-    r2_0_0 = r1_0_0_copyload_2;
-    goto dfu_device_machine_Machine_status_exit;
-arm_1_10:
-    r1_0_in = r8 + 20;
-    goto dfu_device_machine_Machine_poll_ms_exit;
-arm_2_6:
-    r1_0_in = r8 + 24;
+arm_2_4:
+    r1_0_in = r1_4;
     goto dfu_device_machine_Machine_poll_ms_exit;
 dfu_device_machine_Machine_poll_ms_exit:;
     uint32_t r1_0_2 = load32(r1_0_in);
     if (r1_0_2 <= 0xffffffU) {
         r1_0 = r1_0_2;
-        r2_0_0 = 0;
         goto dfu_device_machine_Machine_status_exit;
     }
     trap();
 dfu_device_machine_Machine_status_exit:;
-    uint8_t r9 = dfu_device_machine_Machine_state(r8);
-    unsigned char *v25 = r1_2 + 1;
-    memset(v25, 0, 5);
-    *r1_2 = r2_0_0;
+    uint8_t switch_load_4 = *(PLACE(switch_table_dfu_device_machine_Machine_state) + (size_t)v24);
+    unsigned char *v28 = r1_5 + 1;
+    memset(v28, 0, 5);
+    *r1_5 = (uint8_t)((v24 == 12) ? v25 : 0);
     store64(r5_2, (uint64_t)r1_0);
-    core_slice_edits_slice_T_copy_from_slice_i8_core_clone_U8Clone(v25, r5_2, 3);
-    r1_2[4] = r9;
-    memcpy(r13_2, r1_2, 6);
-    uint64_t a1_a0 = (uint64_t)umin16(r8_4_0_3, 6);
-    core_slice_edits_slice_T_copy_from_slice_i8_core_clone_U8Clone(a11, r13_2, a1_a0);
+    core_slice_edits_slice_T_copy_from_slice_i8_core_clone_U8Clone(v28, r5_2, 3);
+    r1_5[4] = switch_load_4;
+    memcpy(r13, r1_5, 6);
+    uint64_t a1_a0 = (uint64_t)umin16(v21, 6);
+    core_slice_edits_slice_T_copy_from_slice_i8_core_clone_U8Clone(a11, r13, a1_a0);
     r18_0_0 = 1;
     r18_71_0 = a1_a0;
-    goto arm_6_4;
-arm_3_9:;
-    uint8_t r63 = dfu_device_machine_Machine_state(r8);
-    *r15 = r63;
-    uint64_t a1_a0_2 = (uint64_t)(r8_4_0_4 != 0);
-    core_slice_edits_slice_T_copy_from_slice_i8_core_clone_U8Clone(a11, r15, a1_a0_2);
+    goto arm_6_2;
+arm_3_2:;
+    uint8_t v30 = *r18_12_0_r8_sroa_idx;
+    uint8_t switch_load_5 = *(PLACE(switch_table_dfu_device_machine_Machine_state) + (size_t)v30);
+    *r15_2 = switch_load_5;
+    uint64_t a1_a0_2 = (uint64_t)(v21 != 0);
+    core_slice_edits_slice_T_copy_from_slice_i8_core_clone_U8Clone(a11, r15_2, a1_a0_2);
     r18_0_0 = 1;
     r18_71_0 = a1_a0_2;
-    goto arm_6_4;
-arm_4_5:
-    r9_2 = dfu_device_machine_Machine_piece_len(r8, r8_6_0_2, r8_8_0);
-    if (r9_2 == 0) {
+    goto arm_6_2;
+arm_4:
+    r9 = dfu_device_machine_Machine_piece_len(r8, v22, v23);
+    if (r9 == 0) {
         r18_0_0 = 1;
         r18_71_0 = 0;
-        goto arm_6_4;
+        goto arm_6_2;
     }
-    uint64_t r1_3 = (uint64_t)r9_2;
+    uint64_t r1_6 = (uint64_t)r9;
     uint32_t r7 = load32(r18_11_0_r8_sroa_idx);
-    dfu_slots_read_read_data(r18_6_0_r8_sroa_idx, r7, r8_6_0_2, a11, r1_3);
+    dfu_slots_read_read_data(r18_6_0_r8_sroa_idx, r7, v22, a11, r1_6);
     r18_0_0 = 1;
-    r18_71_0 = r1_3;
-    goto arm_6_4;
+    r18_71_0 = r1_6;
+    goto arm_6_2;
 arm_5_2:
     r18_0_0 = 2;
     r18_71_0 = 0;
-    goto arm_6_4;
-arm_6_4:
+    goto arm_6_2;
+arm_6_2:
     r10_0_0 = r18_0_0;
     r10_52_0 = (uint32_t)r18_71_0;
-    goto arm_4_6;
+    goto arm_4_2;
 arm_2:
+    store32(r0_2, 0);
+    r1_3_0_copyload_2 = r8[8];
+    r1_4_0_copyload = r8[9];
     switch (r8_6_14_0) {
-    case 1: goto arm_1_11;
-    case 5: goto arm_2_7;
-    case 9: goto arm_3_10;
-    case 0:
-        r10_0_0 = 0;
-        r10_52_0 = 0;
-        goto arm_4_6;
-    case 2:
-        r10_0_0 = 0;
-        r10_52_0 = 0;
-        goto arm_4_6;
-    case 3:
-        r10_0_0 = 0;
-        r10_52_0 = 0;
-        goto arm_4_6;
-    case 4:
-        r10_0_0 = 0;
-        r10_52_0 = 0;
-        goto arm_4_6;
-    case 6:
-        r10_0_0 = 0;
-        r10_52_0 = 0;
-        goto arm_4_6;
-    case 7:
-        r10_0_0 = 0;
-        r10_52_0 = 0;
-        goto arm_4_6;
-    case 8:
-        r10_0_0 = 0;
-        r10_52_0 = 0;
-        goto arm_4_6;
-    case 10:
-        r10_0_0 = 0;
-        r10_52_0 = 0;
-        goto arm_4_6;
-    case 11:
-        r10_0_0 = 0;
-        r10_52_0 = 0;
-        goto arm_4_6;
-    case 12:
-        r10_0_0 = 0;
-        r10_52_0 = 0;
-        goto arm_4_6;
+    case 1: goto arm_1_2;
+    case 5: goto arm_2_5;
+    case 9: goto arm_3_3;
+    case 0: goto arm_4_3;
+    case 2: goto arm_4_3;
+    case 3: goto arm_4_3;
+    case 4: goto arm_4_3;
+    case 6: goto arm_4_3;
+    case 7: goto arm_4_3;
+    case 8: goto arm_4_3;
+    case 10: goto arm_4_3;
+    case 11: goto arm_4_3;
+    case 12: goto arm_4_3;
     default: never();
     }
-arm_1_11:
+arm_1_2:
+    r21 = (uint64_t)r8_6_18_0 + (uint64_t)a7;
     if (a7 == 0) {
-        r10_0_0 = 0;
-        r10_52_0 = 0;
-        goto arm_4_6;
+        r18_0_0_2 = 0;
+        r18_1547_0 = 1;
+        r18_22_0 = r8_6_17_0;
+        r18_29_0 = r8_6_18_0;
+        r18_36_0 = 0;
+        goto dfu_device_lent_LentDevice_elapse_exit;
     }
-    uint8_t r2_2_0_copyload = r8[9];
-    if (!(r2_2_0_copyload & 1)) goto join_6;
-    *r18_12_0_r8_sroa_idx = 2;
-    *r18_13_0_r8_sroa_idx = 0;
-    store32(r18_15_0_r8_sroa_idx, 0);
-    store32(r18_16_0_r8_sroa_idx, 0);
-    store32(r18_17_0_r8_sroa_idx, 0);
-    r10_0_0 = 0;
-    r10_52_0 = 0;
-    goto arm_4_6;
-join_6:
-    r35 = (uint64_t)r8_6_18_0 + (uint64_t)a7;
-    if (r35 < (uint64_t)umax32(r8_6_17_0, 1)) goto else_8;
-    *r18_12_0_r8_sroa_idx = 0;
-    *r18_13_0_r8_sroa_idx = 0;
-    store32(r18_15_0_r8_sroa_idx, 0);
-    store32(r18_16_0_r8_sroa_idx, 0);
-    store32(r18_17_0_r8_sroa_idx, 0);
-    r10_0_0 = 0;
-    r10_52_0 = 0;
-    goto arm_4_6;
-else_8:
-    *r18_12_0_r8_sroa_idx = 1;
-    *r18_13_0_r8_sroa_idx = 0;
-    store32(r18_16_0_r8_sroa_idx, (uint32_t)r35);
-    store32(r18_17_0_r8_sroa_idx, 0);
-    r10_0_0 = 0;
-    r10_52_0 = 0;
-    goto arm_4_6;
-arm_2_7:
-    if (a7 == 0) {
-        r10_0_0 = 0;
-        r10_52_0 = 0;
-        goto arm_4_6;
+    if (r1_4_0_copyload & 1) {
+        r18_0_0_2 = 0;
+        r18_1547_0 = 2;
+        r18_22_0 = 0;
+        r18_29_0 = 0;
+        r18_36_0 = 0;
+        goto dfu_device_lent_LentDevice_elapse_exit;
     }
-    r18 = (uint64_t)r8_6_19_0 + (uint64_t)a7;
+    if (r21 >= (uint64_t)umax32(r8_6_17_0, 1)) {
+        r18_0_0_2 = 0;
+        r18_1547_0 = 0;
+        r18_22_0 = 0;
+        r18_29_0 = 0;
+        r18_36_0 = 0;
+        goto dfu_device_lent_LentDevice_elapse_exit;
+    }
+    r18_0_0_2 = 0;
+    r18_1547_0 = 1;
+    r18_22_0 = r8_6_17_0;
+    r18_29_0 = (uint32_t)r21;
+    r18_36_0 = 0;
+    goto dfu_device_lent_LentDevice_elapse_exit;
+arm_2_5:;
     uint32_t r2_4 = load32(r8 + 20);
-    if (r18 >= (uint64_t)r2_4) goto else_5;
-    *r18_12_0_r8_sroa_idx = 5;
-    *r18_13_0_r8_sroa_idx = 0;
-    store16(r8 + 362, 0);
-    store32(r18_17_0_r8_sroa_idx, (uint32_t)r18);
-    r10_0_0 = 0;
-    r10_52_0 = 0;
-    goto arm_4_6;
-else_5:
-    dfu_device_machine_Machine_write_block(r8, r8_6_17_0, v11, 1);
-    r10_0_0 = 0;
-    r10_52_0 = 0;
-    goto arm_4_6;
-arm_3_10:
-    memset(r13_3, 0, 16);
-    memset(r16_2, 0, 16);
-    if (a7 == 0) goto dfu_device_machine_Machine_elapse_manifest_exit;
-    r25 = (uint64_t)r8_6_18_0 + (uint64_t)a7;
+    r15_3 = (uint64_t)r8_6_19_0 + (uint64_t)a7;
+    if ((a7 == 0) ? 1 : (r15_3 < (uint64_t)r2_4)) goto after_1;
+    r18_0_0_2 = 3;
+    r18_1547_0 = r8_6_17_0;
+    r18_22_0 = (r8_6_18_0 & 0xffffU) | 0x10000U;
+    r18_29_0 = 0;
+    r18_36_0 = 0;
+    goto dfu_device_lent_LentDevice_elapse_exit;
+after_1:
+    r18_0_0_2 = 0;
+    r18_1547_0 = 5;
+    r18_22_0 = r8_6_17_0;
+    r18_29_0 = r8_6_18_0 & 0xffffU;
+    r18_36_0 = (uint32_t)r15_3;
+    goto dfu_device_lent_LentDevice_elapse_exit;
+arm_3_3:;
     uint32_t r2_5 = load32(r8 + 24);
-    if (r25 >= (uint64_t)r2_5) goto else_5_2;
-    *r18_12_0_r8_sroa_idx = 9;
-    *r18_13_0_r8_sroa_idx = 0;
-    store32(r18_16_0_r8_sroa_idx, (uint32_t)r25);
-    store32(r18_17_0_r8_sroa_idx, 0);
-    goto dfu_device_machine_Machine_elapse_manifest_exit;
-else_5_2:;
-    uint8_t r8_2_0_copyload = r8[8];
-    if (!(r8_2_0_copyload & 1)) goto join_9;
-    *r13_3 = 8;
-    dfu_device_machine_Machine_commit_taken(r8, r8_6_17_0, r13_3);
-    goto dfu_device_machine_Machine_elapse_manifest_exit;
-join_9:
-    *r16_2 = 10;
-    dfu_device_machine_Machine_commit_taken(r8, r8_6_17_0, r16_2);
-dfu_device_machine_Machine_elapse_manifest_exit:
+    r18 = (uint64_t)r8_6_18_0 + (uint64_t)a7;
+    if ((a7 == 0) ? 1 : (r18 < (uint64_t)r2_5)) goto after_1_2;
+    r18_0_0_2 = 4;
+    r18_1547_0 = r8_6_17_0;
+    r18_22_0 = (uint32_t)((r1_3_0_copyload_2 & 1) ? 8 : 10);
+    r18_29_0 = 0;
+    r18_36_0 = 0;
+    goto dfu_device_lent_LentDevice_elapse_exit;
+after_1_2:
+    r18_0_0_2 = 0;
+    r18_1547_0 = 9;
+    r18_22_0 = r8_6_17_0;
+    r18_29_0 = (uint32_t)r18;
+    r18_36_0 = 0;
+    goto dfu_device_lent_LentDevice_elapse_exit;
+arm_4_3:
+    r18_0_0_2 = 0;
+    r18_1547_0 = ((uint32_t)r8_6_15_0 << 8) | (uint32_t)r8_6_14_0;
+    r18_22_0 = r8_6_17_0;
+    r18_29_0 = r8_6_18_0;
+    r18_36_0 = r8_6_19_0;
+    goto dfu_device_lent_LentDevice_elapse_exit;
+dfu_device_lent_LentDevice_elapse_exit:
+    *r0_2 = r18_0_0_2;
+    store32(r0_2 + 4, r18_1547_0);
+    store32(r0_2 + 8, r18_22_0);
+    store32(r0_2 + 12, r18_29_0);
+    store32(r0_2 + 16, r18_36_0);
+    store32(r0_2 + 20, 0);
+    dfu_device_machine_Machine_carry_out(r6_2, r8, r0_2, 0, PLACE(static_5), 0);
     r10_0_0 = 0;
     r10_52_0 = 0;
-    goto arm_4_6;
+    goto arm_4_2;
 arm_3:
     *r18_12_0_r8_sroa_idx = (uint8_t)((r8_6_14_0 == 1) ? 2 : 0);
     *r18_13_0_r8_sroa_idx = 0;
@@ -2378,42 +2845,42 @@ arm_3:
     store32(r18_17_0_r8_sroa_idx, 0);
     r10_0_0 = 0;
     r10_52_0 = 0;
-    goto arm_4_6;
-arm_4_6:;
+    goto arm_4_2;
+arm_4_2:;
     uint8_t r23_3_0_copyload = *r18_12_0_r8_sroa_idx;
     uint8_t r23_4_0_copyload = *r18_13_0_r8_sroa_idx;
-    uint32_t r23_521_0_copyload = load32(r18_15_0_r8_sroa_idx);
+    uint32_t r23_517_0_copyload = load32(r18_15_0_r8_sroa_idx);
     uint32_t r23_6_0_copyload = load32(r18_16_0_r8_sroa_idx);
     uint32_t r23_7_0_copyload = load32(r18_17_0_r8_sroa_idx);
     uint64_t r23_9_0_copyload = load64(r18_20_0_r8_sroa_idx);
     store32(r2_6, 0);
-    memcpy(r1_4, r18_6_0_r8_sroa_idx, 320);
+    memcpy(r1_7, r18_6_0_r8_sroa_idx, 320);
     *r2_6 = r23_3_0_copyload;
     r2_6[1] = r23_4_0_copyload;
-    store32(r2_6 + 4, r23_521_0_copyload);
+    store32(r2_6 + 4, r23_517_0_copyload);
     store32(r2_6 + 8, r23_6_0_copyload);
     store32(r2_6 + 12, r23_7_0_copyload);
     store16(a1 + 26, (uint16_t)r23_9_0_copyload);
-    uint64_t r4_3 = load64(r1_4 + 296);
-    store16(a1 + 44, (uint16_t)r4_3);
-    core_slice_edits_slice_T_copy_from_slice_i8_core_clone_U8Clone(a1 + 46, r1_4 + 40, r4_3);
+    uint64_t r4_2 = load64(r1_7 + 296);
+    store16(a1 + 44, (uint16_t)r4_2);
+    core_slice_edits_slice_T_copy_from_slice_i8_core_clone_U8Clone(a1 + 46, r1_7 + 40, r4_2);
     dfu_c_parts_record_set_mode(a1, r2_6);
-    uint32_t r3_4 = load32(r1_4 + 304);
-    store32(a1 + 16, r3_4);
-    uint32_t r3_5 = load32(r1_4 + 312);
-    dfu_device_c_noted_note(a1, r1_4, r3_5 == 0);
+    uint32_t r3_5 = load32(r1_7 + 304);
+    store32(a1 + 16, r3_5);
+    uint32_t r3_6 = load32(r1_7 + 312);
+    dfu_device_c_noted_note(a1, r1_7, r3_6 == 0);
     switch (r10_0_0) {
     case 0:
         common_ret_op = 0;
         goto common_ret;
-    case 1: goto arm_2_8;
-    case 2: goto arm_3_11;
+    case 1: goto arm_2_6;
+    case 2: goto arm_3_4;
     default: never();
     }
-arm_2_8:
+arm_2_6:
     common_ret_op = r10_52_0;
     goto common_ret;
-arm_3_11:
+arm_3_4:
     common_ret_op = 0xffffffffU;
     goto common_ret;
 arm_5:
@@ -2441,51 +2908,41 @@ join_3:;
 
 /* dfu_device_c::open::open */
 static void dfu_device_c_open_open(unsigned char *a0, unsigned char *a1, unsigned char *a2) {
-    _Alignas(8) unsigned char r4[328];
-    _Alignas(8) unsigned char r4_3[264];
-    unsigned char *const r0_5_0 = r4_3;
+    _Alignas(8) unsigned char r4_2[328];
     _Alignas(8) unsigned char r9[264];
-    _Alignas(8) unsigned char r2_9[264];
     _Alignas(8) unsigned char r3_2[40];
+    unsigned char *const r0_5_0 = r3_2;
     _Alignas(8) unsigned char r7[40];
-    _Alignas(4) unsigned char r4_2[24];
-    _Alignas(4) unsigned char r6_5_8[23];
+    _Alignas(4) unsigned char r4[24];
     _Alignas(4) unsigned char r14_5[23];
     _Alignas(4) unsigned char r2_8[23];
-    _Alignas(1) unsigned char r1[16];
-    unsigned char *const r3_4 = r1;
+    _Alignas(1) unsigned char r1_2[16];
+    unsigned char *const r3_4 = r1_2;
     _Alignas(1) unsigned char r2[1];
-    unsigned char *r0_4_0_a1_sroa_idx, *r0_5_0_a1_sroa_idx, *r2_2;
+    unsigned char *r0_4_0_a1_sroa_idx, *r0_5_0_a1_sroa_idx, *r2_2, *r1;
     uint32_t r28, r3, r72_2, r72_3;
-    uint64_t v1, r19_0_0_0_copyload, r19_0_4_0_copyload, r6_5_0_0, r6_5_6_0;
-    uint8_t r19_0_5_0_copyload, r6_5_7_0, v2, v3;
-    memset(r2_8, 0, 23);
-    memset(r2_9, 0, 264);
-    memset(r4, 0, 328);
-    memset(r4_2, 0, 24);
-    memset(r9, 0, 264);
-    memset(r14_5, 0, 23);
-    dfu_device_c_noted_cover_of(r4_2, a1, a2);
-    uint8_t r20 = *r4_2;
+    uint64_t v3, r19_0_0_0_copyload, r19_0_4_0_copyload, r6_5_0_0, r6_5_6_0;
+    uint8_t r19_0_5_0_copyload, r6_5_7_0, v4, v5;
+    dfu_device_c_noted_cover_of(r4, a1, a2);
+    uint8_t r20 = *r4;
     if (r20 != 1) goto dfu_device_c_open_open_noted_exit_thread;
-    uint8_t r1_0_0_copyload = r4_2[4];
-    uint64_t r0_0_0_copyload = load64u(a2);
+    uint8_t r1_0_0_copyload = r4[4];
+    uint64_t r0_0_0_copyload = load64(a2);
     r0_4_0_a1_sroa_idx = a2 + 8;
-    uint64_t r0_4_0_copyload = load64u(r0_4_0_a1_sroa_idx);
+    uint64_t r0_4_0_copyload = load64(r0_4_0_a1_sroa_idx);
     r0_5_0_a1_sroa_idx = a2 + 16;
     uint8_t r0_5_0_copyload = *r0_5_0_a1_sroa_idx;
-    store64u(a2, (uint64_t)(uintptr_t)r2);
+    store64(a2, (uint64_t)(uintptr_t)r2);
     memset(r0_4_0_a1_sroa_idx, 0, 32);
     store64(r7, r0_0_0_copyload);
     store64(r7 + 8, r0_4_0_copyload);
     r7[16] = r0_5_0_copyload;
     store32u(r7 + 17, (uint32_t)r1_0_0_copyload << 24);
-    memcpy(r7 + 21, r4_2 + 5, 19);
+    memcpy(r7 + 21, r4 + 5, 19);
     dfu_c_parts_record_held_of(r9, a1);
     r28 = load32(a1 + 16);
     r3 = load32(a1 + 20);
     memcpy(r3_2, r7, 40);
-    memcpy(r4_3, r9, 264);
     uint8_t r6 = dfu_slots_open_is_sized(r7);
     if (!r6) goto arm_2;
     uint8_t r5 = r3 == 0;
@@ -2499,35 +2956,40 @@ static void dfu_device_c_open_open(unsigned char *a0, unsigned char *a1, unsigne
     goto arm_2;
 dfu_slots_known_counts_unread_exit:
     dfu_slots_read_header_of(r3_4, r3_2, r72_2);
-    uint32_t r18 = dfu_slots_read_capacity_of(r3_2);
-    uint8_t r21 = dfu_slots_header_is_formed(r3_4, r18, 1, 0);
+    uint64_t r3_5 = load64(r2_2);
+    r1 = r3_2 + 16;
+    uint8_t r0_0_0_copyload_2 = *r1;
+    uint32_t switch_load = load32(PLACE(switch_table_dfu_slots_writes_open_slot) + 4 * (size_t)r0_0_0_copyload_2);
+    uint8_t r21 = dfu_slots_header_is_formed(r3_4, ((uint32_t)r3_5 >> 1) - (switch_load << 1), 1, 0);
     if (!r21) goto arm_2;
     uint8_t r19 = dfu_slots_read_generation(r3_2, r72_2);
     uint8_t r20_2 = dfu_slots_read_generation(r3_2, r72_3);
     if (r19 != (uint8_t)(r20_2 + 1)) goto else_5;
-    v1 = ((uint64_t)r72_3 << 32) | (uint64_t)r72_2;
+    v3 = ((uint64_t)r72_3 << 32) | (uint64_t)r72_2;
     goto arm_1;
 else_5:;
     uint8_t r12 = dfu_slots_read_is_open(r3_2, r72_3);
     if (r12) goto join_3;
-    v1 = ((uint64_t)r72_3 << 32) | (uint64_t)r72_2;
+    v3 = ((uint64_t)r72_3 << 32) | (uint64_t)r72_2;
     goto arm_1;
 join_3:
-    dfu_slots_read_header_of(r1, r3_2, r72_3);
-    uint8_t r26 = r1[1];
+    dfu_slots_read_header_of(r1_2, r3_2, r72_3);
+    uint8_t r26 = r1_2[1];
     if (r26 == 2) goto dfu_slots_known_find_known_exit;
     goto arm_2;
 dfu_slots_known_find_known_exit:;
-    uint32_t r35 = dfu_slots_read_capacity_of(r3_2);
-    uint32_t r17 = load32u(r1 + 8);
-    uint8_t r41 = dfu_slots_header_is_formed(r1, r35, 2, r17);
+    uint64_t r3_6 = load64(r2_2);
+    uint8_t r0_0_0_copyload_3 = *r1;
+    uint32_t switch_load_2 = load32(PLACE(switch_table_dfu_slots_writes_open_slot) + 4 * (size_t)r0_0_0_copyload_3);
+    uint32_t r17 = load32u(r1_2 + 8);
+    uint8_t r41 = dfu_slots_header_is_formed(r1_2, ((uint32_t)r3_6 >> 1) - (switch_load_2 << 1), 2, r17);
     if (r41) goto arm_2;
-    v1 = ((uint64_t)r72_3 << 32) | (uint64_t)r72_2;
+    v3 = ((uint64_t)r72_3 << 32) | (uint64_t)r72_2;
 arm_1:;
-    uint8_t r32 = dfu_slots_from_parts_has_puts(r3_2, r4_3, r28);
+    uint8_t r32 = dfu_slots_from_parts_has_puts(r3_2, r9, r28);
     r19_0_0_0_copyload = load64(r3_2);
     r19_0_4_0_copyload = load64(r2_2);
-    r19_0_5_0_copyload = r3_2[16];
+    r19_0_5_0_copyload = *r1;
     if (r32) goto arm_5;
     r6_5_0_0 = r19_0_0_0_copyload;
     r6_5_6_0 = r19_0_4_0_copyload;
@@ -2544,53 +3006,52 @@ arm_2:;
 dfu_device_c_open_open_noted_exit_thread:
     goto arm_2_2;
 arm_5:
-    memcpy(r6_5_8, r3_2 + 17, 23);
-    memcpy(r2_8, r6_5_8, 23);
-    memcpy(r2_9, r9, 264);
-    store64(r4 + 8, r19_0_0_0_copyload);
-    store64(r4 + 16, r19_0_4_0_copyload);
-    r4[24] = r19_0_5_0_copyload;
-    memcpy(r4 + 25, r2_8, 23);
-    memcpy(r4 + 48, r2_9, 264);
-    store32(r4 + 312, r28);
-    store32(r4 + 316, 0);
-    store64(r4 + 320, v1);
-    v2 = 0;
-    v3 = 0;
+    memcpy(r2_8, r3_2 + 17, 23);
+    memcpy(r4_2 + 48, r9, 264);
+    store64(r4_2 + 8, r19_0_0_0_copyload);
+    store64(r4_2 + 16, r19_0_4_0_copyload);
+    r4_2[24] = r19_0_5_0_copyload;
+    memcpy(r4_2 + 25, r2_8, 23);
+    store32(r4_2 + 312, r28);
+    store32(r4_2 + 316, 0);
+    store64(r4_2 + 320, v3);
+    v4 = 0;
+    v5 = 0;
     goto join_4;
 arm_6:
     store32(r0_5_0, 0);
     store32u(r0_5_0 + 3, 0);
     memcpy(r14_5, r0_5_0, 7);
     memset(r14_5 + 7, 0, 16);
-    store64u(a2, r6_5_0_0);
-    store64u(r0_4_0_a1_sroa_idx, r6_5_6_0);
+    store64(a2, r6_5_0_0);
+    store64(r0_4_0_a1_sroa_idx, r6_5_6_0);
     *r0_5_0_a1_sroa_idx = r6_5_7_0;
     memcpy(a2 + 17, r14_5, 23);
 arm_2_2:
-    dfu_device_c_open_open_plain(r4, a1, a2);
-    uint8_t pre = *r4;
-    uint8_t pre17 = r4[1];
-    v2 = pre17;
-    v3 = pre;
+    dfu_device_c_open_open_plain(r4_2, a1, a2);
+    uint8_t pre = *r4_2;
+    uint8_t pre17 = r4_2[1];
+    v4 = pre17;
+    v5 = pre;
 join_4:
-    *a0 = v3;
-    a0[1] = v2;
-    memcpy(a0 + 8, r4 + 8, 320);
+    *a0 = v5;
+    a0[1] = v4;
+    memcpy(a0 + 8, r4_2 + 8, 320);
     return;
 }
 
 /* dfu_device_c::noted::cover_of */
 static void dfu_device_c_noted_cover_of(unsigned char *a0, unsigned char *a1, unsigned char *a2) {
-    uint64_t r6, r21, r5_0;
+    uint64_t r6, v0, r21, r5_0;
     unsigned char *r7, *r35, *r65;
-    uint8_t r4_0_0_copyload, r0_0_0_0, r0_7_0;
+    uint8_t r0_0_0_0, r0_7_0;
     uint32_t r0_5_0, r0_11_0;
     r6 = load64(a2 + 8);
     uint64_t r7_wide = load64(a2);
     r7 = (unsigned char *)(uintptr_t)r7_wide;
-    r4_0_0_copyload = a2[16];
-    uint64_t switch_load = load64(PLACE(switch_table_dfu_device_c_noted_cover_of) + 8 * (size_t)r4_0_0_copyload);
+    uint8_t r4_0_0_copyload = a2[16];
+    v0 = (uint64_t)r4_0_0_copyload;
+    uint64_t switch_load = load64(PLACE(switch_table_dfu_device_c_noted_cover_of) + 8 * (size_t)v0);
     if (r6 < switch_load) {
         r0_0_0_0 = 0;
         r0_5_0 = 0;
@@ -2623,7 +3084,7 @@ static void dfu_device_c_noted_cover_of(unsigned char *a0, unsigned char *a1, un
         r0_11_0 = 0;
         goto dfu_device_c_noted_cover_in_exit;
     }
-    uint32_t r17 = load32u(a1 + 40);
+    uint32_t r17 = load32(a1 + 40);
     if (r17 != 0) {
         r0_0_0_0 = 0;
         r0_5_0 = 0;
@@ -2632,8 +3093,8 @@ static void dfu_device_c_noted_cover_of(unsigned char *a0, unsigned char *a1, un
         goto dfu_device_c_noted_cover_in_exit;
     }
     uint32_t r3 = load32(a1 + 20);
-    uint64_t switch_load20 = load64(PLACE(switch_table_dfu_device_c_noted_note) + 8 * (size_t)r4_0_0_copyload);
-    r21 = switch_load20 + (uint64_t)((r3 == 0) ? 0 : (r6 >> 1));
+    uint64_t switch_load20 = load64(PLACE(switch_table_dfu_device_c_noted_note) + 8 * (size_t)v0);
+    r21 = (uint64_t)((r3 == 0) ? 0 : (r6 >> 1)) + switch_load20;
     r65 = r7 + (size_t)r21;
     r5_0 = 0;
 loop_2:
@@ -2651,20 +3112,20 @@ loop_2:
     goto dfu_device_c_noted_cover_in_exit;
 join_13:;
     uint8_t r8 = *r35;
-    uint32_t r17_2 = load32u(a1 + 32);
+    uint32_t r17_2 = load32(a1 + 32);
     r0_0_0_0 = 1;
     r0_5_0 = (uint32_t)r21;
     r0_7_0 = r8;
     r0_11_0 = r17_2;
 dfu_device_c_noted_cover_in_exit:
-    store32u(a0, (uint32_t)r0_0_0_0);
-    store32u(a0 + 4, r0_5_0);
+    store32(a0, (uint32_t)r0_0_0_0);
+    store32(a0 + 4, r0_5_0);
     a0[8] = r0_7_0;
     a0[9] = r0_0_0_0;
     a0[10] = 0;
     a0[11] = 0;
-    store32u(a0 + 12, r0_11_0);
-    store64u(a0 + 16, 0);
+    store32(a0 + 12, r0_11_0);
+    store64a4(a0 + 16, 0);
     return;
 }
 
@@ -2694,16 +3155,19 @@ arrayvec_array_vec_ArrayVec_truncate_exit:
 
 /* dfu_slots::from_parts::has_puts::<#4eeac2a07fb7654c> */
 static uint8_t dfu_slots_from_parts_has_puts(unsigned char *a0, unsigned char *a1, uint32_t a2) {
+    uint64_t v0;
     uint8_t common_ret_op;
-    uint32_t r13 = dfu_slots_read_capacity_of(a0);
-    if (r13 < a2) {
+    uint64_t r3 = load64(a0 + 8);
+    uint8_t r0_0_0_copyload = a0[16];
+    v0 = (uint64_t)r0_0_0_copyload;
+    uint32_t switch_load = load32(PLACE(switch_table_dfu_slots_writes_open_slot) + 4 * (size_t)v0);
+    if ((((uint32_t)r3 >> 1) - (switch_load << 1)) < a2) {
         common_ret_op = 0;
         goto common_ret;
     }
     uint64_t r2 = load64(a1 + 256);
-    uint8_t r0_0_0_copyload = a0[16];
-    uint32_t switch_load = load32(PLACE(switch_table_dfu_slots_from_parts_has_puts) + 4 * (size_t)r0_0_0_copyload);
-    common_ret_op = r2 == (uint64_t)(switch_load & a2);
+    uint32_t switch_load_2 = load32(PLACE(switch_table_dfu_slots_from_parts_has_puts) + 4 * (size_t)v0);
+    common_ret_op = r2 == (uint64_t)(switch_load_2 & a2);
 common_ret:
     return common_ret_op;
 }
@@ -2711,29 +3175,24 @@ common_ret:
 /* dfu_device_c::open::open_plain */
 static void dfu_device_c_open_open_plain(unsigned char *a0, unsigned char *a1, unsigned char *a2) {
     _Alignas(8) unsigned char r4[328];
-    unsigned char *const r0_7_0 = r4;
+    unsigned char *const r3 = r4;
     _Alignas(2) unsigned char r8_6_0[310];
     _Alignas(8) unsigned char r19_0[304];
-    _Alignas(8) unsigned char r3_5[304];
     _Alignas(8) unsigned char r6[264];
-    _Alignas(8) unsigned char r3[40];
     _Alignas(4) unsigned char r7[12];
     _Alignas(1) unsigned char r2[1];
-    uint64_t wide_4838, r8_6_5_0;
+    uint64_t wide_6550, r8_6_5_0;
     unsigned char *r8_3_0_a1_sroa_idx;
     uint32_t r15, r8_6_3_0;
     uint8_t r7_0_0, r3_0_0_013, r8_4_0;
-    memset(r6, 0, 264);
     memset(r8_6_0, 0, 310);
-    wide_4838 = (uint64_t)(uintptr_t)r2;
+    wide_6550 = (uint64_t)(uintptr_t)r2;
     memcpy(r3, a2, 40);
-    store64u(a2, wide_4838);
+    store64(a2, wide_6550);
     r8_3_0_a1_sroa_idx = a2 + 8;
     memset(r8_3_0_a1_sroa_idx, 0, 32);
     dfu_c_parts_record_held_of(r6, a1);
     r15 = load32(a1 + 16);
-    memset(r0_7_0, 0, 304);
-    memset(r7, 0, 12);
     dfu_slots_open_check(r7, r3);
     uint8_t r21 = *r7;
     if (r21 != 0) goto arm_2;
@@ -2741,28 +3200,25 @@ static void dfu_device_c_open_open_plain(unsigned char *a0, unsigned char *a1, u
     if (r32) goto arm_1;
     goto then_5;
 arm_2:
-    memcpy(r0_7_0, r3, 40);
-    memcpy(r3_5, r0_7_0, 304);
+    memcpy(r19_0, r3, 40);
     goto arm_2_2;
 then_5:
-    memcpy(r0_7_0, r3, 40);
-    memcpy(r3_5, r0_7_0, 304);
+    memcpy(r19_0, r3, 40);
     goto arm_2_2;
 arm_1:;
-    uint64_t r6_0_0_copyload = load64u(r7 + 4);
+    uint64_t r6_0_0_copyload = load64a4(r7 + 4);
     memcpy(r19_0, r3, 40);
     memcpy(r19_0 + 40, r6, 264);
-    memcpy(r3_5, r19_0, 304);
-    memcpy(r8_6_0 + 6, r3_5, 304);
+    memcpy(r8_6_0 + 6, r19_0, 304);
     r3_0_0_013 = 0;
     r8_6_3_0 = r15;
     r8_6_5_0 = r6_0_0_copyload;
     r8_4_0 = 0;
     goto join_4;
 arm_2_2:
-    store64u(a2, wide_4838);
+    store64(a2, wide_6550);
     memset(r8_3_0_a1_sroa_idx, 0, 32);
-    dfu_slots_slots_Slots_open(r4, r3_5);
+    dfu_slots_slots_Slots_open(r4, r19_0);
     uint8_t r12 = *r4;
     if (r12 != 0) goto arm_2_3;
     memcpy(a2, r4 + 8, 40);
@@ -2780,9 +3236,9 @@ join_4:
     *a0 = r3_0_0_013;
     a0[1] = r8_4_0;
     memcpy(a0 + 8, r8_6_0 + 6, 304);
-    store32u(a0 + 312, r8_6_3_0);
-    store32u(a0 + 316, 0);
-    store64u(a0 + 320, r8_6_5_0);
+    store32(a0 + 312, r8_6_3_0);
+    store32(a0 + 316, 0);
+    store64(a0 + 320, r8_6_5_0);
     return;
 }
 
@@ -2801,93 +3257,249 @@ join_3:
     return r1_0_in;
 }
 
-/* dfu_device::machine::Machine::take_block::<#b13fda2f95953955> */
-static void dfu_device_machine_Machine_take_block(unsigned char *a0, unsigned char *a1, uint32_t a2, uint16_t a3, uint16_t a4, unsigned char *a5, uint64_t a6) {
-    uint16_t r3 = load16(a1 + 12);
-    if (a6 > (uint64_t)r3) goto then_1;
-    goto join_3;
-then_1:
-    a1[352] = 12;
-    a1[353] = 15;
-    store32u(a1 + 356, 0);
-    store32u(a1 + 360, 0);
-    store32u(a1 + 364, 0);
-    store16u(a0, 4);
-    store64u(a0 + 2, 0);
-    return;
-join_3:
-    if (a4 == a3) goto join_6;
-    a1[352] = 12;
-    a1[353] = 8;
-    store32u(a1 + 356, 0);
-    store32u(a1 + 360, 0);
-    store32u(a1 + 364, 0);
-    store16u(a0, 4);
-    store64u(a0 + 2, 0);
-    return;
-join_6:;
-    uint32_t r3_2 = dfu_slots_read_capacity_of(a1 + 32);
-    if (a6 <= (uint64_t)(r3_2 - a2)) goto join_9;
-    a1[352] = 12;
-    a1[353] = 8;
-    store32u(a1 + 356, 0);
-    store32u(a1 + 360, 0);
-    store32u(a1 + 364, 0);
-    store16u(a0, 4);
-    store64u(a0 + 2, 0);
-    return;
-join_9:
-    store64(a1 + 384, a6);
+/* dfu_device::machine::Machine::carry_out::<#b13fda2f95953955> */
+static void dfu_device_machine_Machine_carry_out(unsigned char *a0, unsigned char *a1, unsigned char *a2, uint16_t a3, unsigned char *a4, uint64_t a5) {
+    _Alignas(1) unsigned char r4[256];
+    uint8_t r1_3_1_copyload, r0_4_0, r1_15_0_extract_trunc, r1_15_1_extract_trunc, r23, r19_0_0, sink9, sink, r29_0_0_0;
+    uint32_t r1_73_4_copyload, r1_24_12_copyload, r1_28_16_copyload, r1_32_20_copyload, r3_3_0_copyload, r4_0_0_copyload, r4_5_0_copyload, sink8, sink7, sink_2, r29_11_0;
+    uint16_t r1_15_8_copyload, r1_22_8_copyload, r29_7_0, r29_16_0;
+    uint8_t r111, r0_4_0_2, r0_0_0;
+    unsigned char *r17, *r8, *r12, *r17_2, *r6, *r7_2, *r4_5_0_r7_sroa_idx;
+    uint64_t r13;
+    struct i8_i8 r16_fr, r18_pn, r52_pn;
+    uint8_t r1_0_0_copyload = *a2;
+    r1_3_1_copyload = a2[1];
+    r1_73_4_copyload = load32(a2 + 4);
+    r1_15_8_copyload = load16(a2 + 8);
+    r1_22_8_copyload = load16(a2 + 10);
+    r1_24_12_copyload = load32(a2 + 12);
+    r1_28_16_copyload = load32(a2 + 16);
+    r1_32_20_copyload = load32(a2 + 20);
+    switch (r1_0_0_copyload) {
+    case 0: goto arm_1;
+    case 1: goto arm_2;
+    case 2: goto arm_3;
+    case 3: goto arm_4;
+    case 4: goto arm_5;
+    default: never();
+    }
+arm_1:
+    a1[352] = (uint8_t)r1_73_4_copyload;
+    a1[353] = (uint8_t)(r1_73_4_copyload >> 8);
+    store16(a1 + 356, r1_15_8_copyload);
+    store16(a1 + 358, r1_22_8_copyload);
+    store32(a1 + 360, r1_24_12_copyload);
+    store32(a1 + 364, r1_28_16_copyload);
+    switch (r1_3_1_copyload) {
+    case 0:
+        r29_0_0_0 = r1_3_1_copyload;
+        r29_7_0 = 0;
+        r29_11_0 = 0;
+        r29_16_0 = 0;
+        goto join_7;
+    case 1: goto arm_2_2;
+    case 2: goto arm_2_2;
+    case 3: goto arm_4_2;
+    default: never();
+    }
+arm_2_2:
+    r29_0_0_0 = r1_3_1_copyload;
+    r29_7_0 = a3;
+    r29_11_0 = 0;
+    r29_16_0 = 0;
+    goto join_7;
+arm_4_2:
+    r29_0_0_0 = 4;
+    r29_7_0 = 0;
+    r29_11_0 = 0;
+    r29_16_0 = 0;
+    goto join_7;
+arm_2:
+    store64(a1 + 384, a5);
     uint64_t r14_wide = load64(a1 + 368);
-    core_slice_edits_slice_T_copy_from_slice_i8_core_clone_U8Clone((unsigned char *)(uintptr_t)r14_wide, a5, a6);
-    a1[352] = 3;
+    core_slice_edits_slice_T_copy_from_slice_i8_core_clone_U8Clone((unsigned char *)(uintptr_t)r14_wide, a4, a5);
+    a1[352] = (uint8_t)r1_73_4_copyload;
+    a1[353] = (uint8_t)(r1_73_4_copyload >> 8);
+    store16(a1 + 356, r1_15_8_copyload);
+    store16(a1 + 358, r1_22_8_copyload);
+    store32(a1 + 360, r1_24_12_copyload);
+    store32(a1 + 364, r1_28_16_copyload);
+    r29_0_0_0 = 0;
+    r29_7_0 = 0;
+    r29_11_0 = 0;
+    r29_16_0 = 0;
+    goto join_7;
+arm_3:;
+    uint16_t r5 = dfu_device_machine_Machine_piece_len(a1, r1_73_4_copyload, r1_15_8_copyload);
+    uint8_t r7 = r5 < r1_15_8_copyload;
+    a1[352] = (uint8_t)(r7 ? 2 : 11);
     a1[353] = 0;
-    store32(a1 + 356, a2);
-    store16(a1 + 360, (uint16_t)(a4 + 1));
+    store32(a1 + 356, (uint32_t)(r7 ? 0 : (r1_73_4_copyload + (uint32_t)r1_15_8_copyload)));
+    store32(a1 + 360, (uint32_t)(uint16_t)(r7 ? 0 : r1_22_8_copyload));
+    store32(a1 + 364, 0);
+    r29_0_0_0 = 3;
+    r29_7_0 = 0;
+    r29_11_0 = r1_73_4_copyload;
+    r29_16_0 = r1_15_8_copyload;
+    goto join_7;
+arm_4:
+    r111 = r1_22_8_copyload & 1;
+    r17 = a1 + 32;
+    uint64_t r8_wide = load64(a1 + 368);
+    r8 = (unsigned char *)(uintptr_t)r8_wide;
+    r12 = a1 + 384;
+    r13 = load64(r12);
+    if (r1_73_4_copyload == 0) goto join_3;
+    struct i8_i8 r18 = dfu_slots_slots_Slots_put(r17, r1_73_4_copyload, r8, r13);
+    r18_pn = r18;
+    goto dfu_device_effects_put_block_exit;
+join_3:
+    r3_3_0_copyload = load32(a1 + 348);
+    dfu_slots_puts_Puts_clear(a1 + 72);
+    uint8_t r9 = dfu_slots_read_is_open(r17, r3_3_0_copyload);
+    if (!r9) goto arm_6;
+    struct i8_i8 r16 = dfu_slots_writes_close_gate(r17, r3_3_0_copyload);
+    r16_fr = r16;
+    if (r16_fr.a != 1) goto arm_6;
+    r0_4_0 = (uint8_t)((r16_fr.b == 0) ? 1 : 2);
+    goto arm_2_3;
+arm_6:;
+    struct i8_i8 r34 = dfu_slots_slots_Slots_put(r17, 0, r8, r13);
+    r18_pn = r34;
+dfu_device_effects_put_block_exit:
+    if (r18_pn.a != 0) {
+        r0_4_0 = r18_pn.b;
+        goto arm_2_3;
+    }
+    uint64_t r13_2 = load64(r12);
+    a1[352] = (uint8_t)(r111 ? 4 : 6);
+    a1[353] = 0;
+    store32(a1 + 356, r1_73_4_copyload + (uint32_t)r13_2);
+    store16(a1 + 360, r1_15_8_copyload);
     store16(a1 + 362, 0);
     store32(a1 + 364, 0);
-    memset(a0, 0, 10);
-    return;
-}
-
-/* dfu_device::machine::Machine::send::<#b13fda2f95953955> */
-static void dfu_device_machine_Machine_send(unsigned char *a0, unsigned char *a1, uint32_t a2, uint16_t a3, uint16_t a4, uint16_t a5) {
-    if (a5 == 0) goto join_5;
-    uint16_t r3 = load16(a1 + 12);
-    if (r3 < a5) goto join_5;
-    goto after_1;
-join_5:
+    goto dfu_device_machine_Machine_write_block_exit;
+arm_2_3:
     a1[352] = 12;
-    a1[353] = 15;
-    store32u(a1 + 356, 0);
-    store32u(a1 + 360, 0);
-    store32u(a1 + 364, 0);
-    store16u(a0, 4);
-    store64u(a0 + 2, 0);
-    return;
-after_1:
-    if (a4 == a3) goto join_13;
-    a1[352] = 12;
-    a1[353] = 8;
-    store32u(a1 + 356, 0);
-    store32u(a1 + 360, 0);
-    store32u(a1 + 364, 0);
-    store16u(a0, 4);
-    store64u(a0 + 2, 0);
-    return;
-join_13:;
-    uint16_t r55 = dfu_device_machine_Machine_piece_len(a1, a2, a5);
-    uint8_t r57 = r55 < a5;
-    a1[352] = (uint8_t)(r57 ? 2 : 11);
-    a1[353] = 0;
-    store32u(a1 + 356, (uint32_t)(r57 ? 0 : (a2 + (uint32_t)a5)));
-    store16u(a1 + 360, (uint16_t)(r57 ? 0 : (uint16_t)(a4 + 1)));
-    store16u(a1 + 362, 0);
-    store32u(a1 + 364, 0);
-    store16u(a0, 3);
-    store16u(a0 + 2, 0);
-    store32u(a0 + 4, a2);
-    store16u(a0 + 8, a5);
+    a1[353] = (uint8_t)((r0_4_0 == 2) ? 7 : 3);
+    store32(a1 + 356, 0);
+    store32(a1 + 360, 0);
+    store32(a1 + 364, 0);
+dfu_device_machine_Machine_write_block_exit:
+    switch (r1_3_1_copyload) {
+    case 0:
+        r29_0_0_0 = r1_3_1_copyload;
+        r29_7_0 = 0;
+        r29_11_0 = 0;
+        r29_16_0 = 0;
+        goto join_7;
+    case 1: goto arm_2_4;
+    case 2: goto arm_2_4;
+    case 3: goto arm_4_3;
+    default: never();
+    }
+arm_2_4:
+    r29_0_0_0 = r1_3_1_copyload;
+    r29_7_0 = a3;
+    r29_11_0 = 0;
+    r29_16_0 = 0;
+    goto join_7;
+arm_4_3:
+    r29_0_0_0 = 4;
+    r29_7_0 = 0;
+    r29_11_0 = 0;
+    r29_16_0 = 0;
+    goto join_7;
+arm_5:
+    r1_15_0_extract_trunc = (uint8_t)r1_15_8_copyload;
+    r1_15_1_extract_trunc = (uint8_t)(uint16_t)(r1_15_8_copyload >> 8);
+    r17_2 = a1 + 32;
+    r6 = a1 + 72;
+    r7_2 = a1 + 344;
+    r4_0_0_copyload = load32(r7_2);
+    r4_5_0_r7_sroa_idx = a1 + 348;
+    r4_5_0_copyload = load32(r4_5_0_r7_sroa_idx);
+    uint8_t r16_2 = dfu_slots_read_is_open(r17_2, r4_5_0_copyload);
+    if (r16_2) {
+        r0_4_0_2 = 0;
+        r0_0_0 = 0;
+        goto dfu_slots_slots_Slots_commit_exit;
+    }
+    r23 = dfu_slots_read_generation(r17_2, r4_0_0_copyload);
+    uint8_t r0_0_0_copyload = a1[48];
+    uint64_t v5 = (uint64_t)r0_0_0_copyload;
+    uint32_t switch_load = load32(PLACE(switch_table_dfu_slots_writes_open_slot) + 4 * (size_t)v5);
+    uint32_t r31 = load32(a1 + 336);
+    uint64_t r2 = load64(a1 + 328);
+    uint64_t switch_load_2 = load64(PLACE(switch_table_dfu_slots_layout_fill_size) + 8 * (size_t)v5);
+    uint64_t v6 = switch_load_2 + 0xffffffffffffffffULL;
+    dfu_slots_layout_fill_up(r4, r6, r2);
+    struct i8_i8 r36 = dfu_slots_writes_write_some(r17_2, (((switch_load << 1) + r4_5_0_copyload) + r31) - (uint32_t)r2, r4, ((switch_load_2 - (v6 & r2)) & v6) + r2);
+    if (r36.a == 1) {
+        r19_0_0 = 1;
+        r52_pn = r36;
+        goto dfu_slots_steps_open_spare_exit;
+    }
+    struct i8_i8 r63 = dfu_slots_writes_open_slot(r17_2, r4_5_0_copyload, (uint8_t)(r23 + 1), r1_73_4_copyload);
+    struct i8_i8 r63_fr = r63;
+    r19_0_0 = r63_fr.a;
+    r52_pn = r63_fr;
+dfu_slots_steps_open_spare_exit:
+    dfu_slots_puts_Puts_clear(r6);
+    r0_4_0_2 = (r19_0_0 != 0) ? (r52_pn.b != 0) : 0;
+    r0_0_0 = r19_0_0 == 0;
+dfu_slots_slots_Slots_commit_exit:;
+    struct i32_i32 r18_2 = dfu_slots_places_look(r17_2);
+    store32(r7_2, r18_2.a);
+    store32(r4_5_0_r7_sroa_idx, r18_2.b);
+    if (r0_0_0) {
+        sink9 = r1_15_0_extract_trunc;
+        sink = r1_15_1_extract_trunc;
+        sink8 = r1_24_12_copyload;
+        sink7 = r1_28_16_copyload;
+        sink_2 = r1_32_20_copyload;
+        goto dfu_device_machine_Machine_commit_taken_exit;
+    }
+    sink9 = 12;
+    sink = r0_4_0_2 | 6;
+    sink8 = 0;
+    sink7 = 0;
+    sink_2 = 0;
+dfu_device_machine_Machine_commit_taken_exit:
+    a1[352] = sink9;
+    a1[353] = sink;
+    store32(a1 + 356, sink8);
+    store32(a1 + 360, sink7);
+    store32(a1 + 364, sink_2);
+    switch (r1_3_1_copyload) {
+    case 0:
+        r29_0_0_0 = r1_3_1_copyload;
+        r29_7_0 = 0;
+        r29_11_0 = 0;
+        r29_16_0 = 0;
+        goto join_7;
+    case 1: goto arm_2_5;
+    case 2: goto arm_2_5;
+    case 3: goto arm_4_4;
+    default: never();
+    }
+arm_2_5:
+    r29_0_0_0 = r1_3_1_copyload;
+    r29_7_0 = a3;
+    r29_11_0 = 0;
+    r29_16_0 = 0;
+    goto join_7;
+arm_4_4:
+    r29_0_0_0 = 4;
+    r29_7_0 = 0;
+    r29_11_0 = 0;
+    r29_16_0 = 0;
+    goto join_7;
+join_7:
+    store16(a0, r29_0_0_0);
+    store16(a0 + 2, r29_7_0);
+    store32(a0 + 4, r29_11_0);
+    store16(a0 + 8, r29_16_0);
     return;
 }
 
@@ -2895,57 +3507,6 @@ join_13:;
 static uint16_t dfu_device_machine_Machine_piece_len(unsigned char *a0, uint32_t a1, uint16_t a2) {
     uint32_t r7 = dfu_slots_slots_Slots_active_len(a0 + 32);
     return (uint16_t)umin32((uint32_t)a2, usub_sat32(r7, a1));
-}
-
-/* dfu_device::machine::Machine::write_block::<#b13fda2f95953955> */
-static void dfu_device_machine_Machine_write_block(unsigned char *a0, uint32_t a1, uint16_t a2, uint8_t a3) {
-    unsigned char *r17, *r8, *r12;
-    uint64_t r13;
-    uint32_t r3_3_0_copyload;
-    struct i8_i8 r16_fr, r18_pn;
-    uint8_t r0_4_0;
-    r17 = a0 + 32;
-    uint64_t r8_wide = load64(a0 + 368);
-    r8 = (unsigned char *)(uintptr_t)r8_wide;
-    r12 = a0 + 384;
-    r13 = load64(r12);
-    if (a1 == 0) goto join_3;
-    struct i8_i8 r18 = dfu_slots_slots_Slots_put(r17, a1, r8, r13);
-    r18_pn = r18;
-    goto dfu_device_effects_put_block_exit;
-join_3:
-    r3_3_0_copyload = load32u(a0 + 348);
-    dfu_slots_puts_Puts_clear(a0 + 72);
-    uint8_t r9 = dfu_slots_read_is_open(r17, r3_3_0_copyload);
-    if (!r9) goto arm_6;
-    struct i8_i8 r16 = dfu_slots_writes_close_gate(r17, r3_3_0_copyload);
-    r16_fr = r16;
-    if (r16_fr.a != 1) goto arm_6;
-    r0_4_0 = (uint8_t)((r16_fr.b == 0) ? 1 : 2);
-    goto arm_2;
-arm_6:;
-    struct i8_i8 r34 = dfu_slots_slots_Slots_put(r17, 0, r8, r13);
-    r18_pn = r34;
-dfu_device_effects_put_block_exit:
-    if (r18_pn.a != 0) {
-        r0_4_0 = r18_pn.b;
-        goto arm_2;
-    }
-    uint64_t r13_2 = load64(r12);
-    a0[352] = (uint8_t)(a3 ? 4 : 6);
-    a0[353] = 0;
-    store32(a0 + 356, a1 + (uint32_t)r13_2);
-    store16(a0 + 360, a2);
-    store16(a0 + 362, 0);
-    store32(a0 + 364, 0);
-    return;
-arm_2:
-    a0[352] = 12;
-    a0[353] = (uint8_t)((r0_4_0 == 2) ? 7 : 3);
-    store32u(a0 + 356, 0);
-    store32u(a0 + 360, 0);
-    store32u(a0 + 364, 0);
-    return;
 }
 
 /* dfu_slots::puts::Puts::clear */
@@ -2976,31 +3537,33 @@ arrayvec_cells_Cells_blank_exit:
 /* dfu_slots::slots::Slots::put::<#4eeac2a07fb7654c> */
 static struct i8_i8 dfu_slots_slots_Slots_put(unsigned char *a0, uint32_t a1, unsigned char *a2, uint64_t a3) {
     unsigned char *r6, *r1;
-    uint32_t r5_3_0_copyload, r72, switch_load;
-    uint64_t r2, r40, r47, r54, r84;
+    uint32_t r5_3_0_copyload, r10, r72, switch_load_2;
+    uint64_t v0, r2, r40, r47, r54, r84;
     struct i8_i8 r66_pn, r66_pn16;
     uint8_t r0_0_0_2, r0_5_0, r0_0_0;
     r6 = a0 + 40;
-    r5_3_0_copyload = load32u(a0 + 316);
+    r5_3_0_copyload = load32(a0 + 316);
     uint8_t r37 = dfu_slots_read_is_open(a0, r5_3_0_copyload);
     if (r37) {
         r0_5_0 = 3;
         r0_0_0 = 1;
         goto dfu_slots_steps_put_exit;
     }
-    uint32_t r50 = dfu_slots_read_capacity_of(a0);
-    if ((a3 + (uint64_t)a1) > (uint64_t)r50) {
+    uint64_t r3 = load64(a0 + 8);
+    uint8_t r0_0_0_copyload = a0[16];
+    v0 = (uint64_t)r0_0_0_copyload;
+    uint32_t switch_load = load32(PLACE(switch_table_dfu_slots_writes_open_slot) + 4 * (size_t)v0);
+    r10 = switch_load << 1;
+    if ((a3 + (uint64_t)a1) > (uint64_t)(((uint32_t)r3 >> 1) - r10)) {
         r0_5_0 = 0;
         r0_0_0 = 1;
         goto dfu_slots_steps_put_exit;
     }
-    uint32_t r63 = dfu_slots_read_data_at(a0, r5_3_0_copyload);
     r1 = a0 + 296;
     r2 = load64(r1);
-    r72 = (a1 - (uint32_t)r2) + r63;
-    uint8_t r0_0_0_copyload = a0[16];
-    switch_load = load32(PLACE(switch_table_dfu_slots_slots_Slots_put) + 4 * (size_t)r0_0_0_copyload);
-    r40 = (uint64_t)switch_load;
+    r72 = (r10 + r5_3_0_copyload) + (a1 - (uint32_t)r2);
+    switch_load_2 = load32(PLACE(switch_table_dfu_slots_slots_Slots_put) + 4 * (size_t)v0);
+    r40 = (uint64_t)switch_load_2;
     r47 = r2 + a3;
     r54 = r47 & ((uint64_t)0 - r40);
     if (r2 != 0) goto join_5;
@@ -3022,7 +3585,7 @@ join_9:
         goto arm_9;
     }
     arrayvec_array_vec_ArrayVec_clear(r6);
-    struct i8_i8 r125 = dfu_slots_puts_put_front(a0, r6, switch_load + r72, a2 + (size_t)r84, a3 - r84, r54 - r40);
+    struct i8_i8 r125 = dfu_slots_puts_put_front(a0, r6, r72 + switch_load_2, a2 + (size_t)r84, a3 - r84, r54 - r40);
     r66_pn = r125;
 dfu_slots_puts_put_units_exit:;
     uint8_t r0_0_0_3 = r66_pn.a;
@@ -3079,85 +3642,6 @@ join_4:;
     return r33;
 }
 
-/* dfu_device::machine::Machine::commit_taken::<#b13fda2f95953955> */
-static void dfu_device_machine_Machine_commit_taken(unsigned char *a0, uint32_t a1, unsigned char *a2) {
-    _Alignas(1) unsigned char r4[256];
-    uint8_t v0, v1, r23, r19_0_0, sink9, sink;
-    uint32_t v2, v3, v4, r4_0_0_copyload, r4_5_0_copyload, sink8, sink7, sink_2;
-    unsigned char *r17, *r6, *r7, *r4_5_0_r7_sroa_idx;
-    struct i8_i8 r52_pn;
-    uint8_t r0_4_0, r0_0_0;
-    v0 = *a2;
-    v1 = a2[1];
-    v2 = load32u(a2 + 4);
-    v3 = load32u(a2 + 8);
-    v4 = load32u(a2 + 12);
-    r17 = a0 + 32;
-    r6 = a0 + 72;
-    r7 = a0 + 344;
-    r4_0_0_copyload = load32u(r7);
-    r4_5_0_r7_sroa_idx = a0 + 348;
-    r4_5_0_copyload = load32u(r4_5_0_r7_sroa_idx);
-    uint8_t r16 = dfu_slots_read_is_open(r17, r4_5_0_copyload);
-    if (r16) {
-        r0_4_0 = 0;
-        r0_0_0 = 0;
-        goto dfu_slots_slots_Slots_commit_exit;
-    }
-    r23 = dfu_slots_read_generation(r17, r4_0_0_copyload);
-    uint32_t r29 = dfu_slots_read_data_at(r17, r4_5_0_copyload);
-    uint32_t r31 = load32(a0 + 336);
-    uint64_t r2 = load64(a0 + 328);
-    uint8_t r0_0_0_copyload = a0[48];
-    uint64_t r22 = dfu_slots_layout_fill_size(r0_0_0_copyload, r2);
-    dfu_slots_layout_fill_up(r4, r6, r2);
-    struct i8_i8 r36 = dfu_slots_writes_write_some(r17, (r31 + r29) - (uint32_t)r2, r4, r22 + r2);
-    if (r36.a == 1) {
-        r19_0_0 = 1;
-        r52_pn = r36;
-        goto dfu_slots_steps_open_spare_exit;
-    }
-    struct i8_i8 r63 = dfu_slots_writes_open_slot(r17, r4_5_0_copyload, (uint8_t)(r23 + 1), a1);
-    struct i8_i8 r63_fr = r63;
-    r19_0_0 = r63_fr.a;
-    r52_pn = r63_fr;
-dfu_slots_steps_open_spare_exit:
-    dfu_slots_puts_Puts_clear(r6);
-    r0_4_0 = (r19_0_0 != 0) ? (r52_pn.b != 0) : 0;
-    r0_0_0 = r19_0_0 == 0;
-dfu_slots_slots_Slots_commit_exit:;
-    struct i32_i32 r18 = dfu_slots_places_look(r17);
-    store32u(r7, r18.a);
-    store32u(r4_5_0_r7_sroa_idx, r18.b);
-    if (r0_0_0) {
-        sink9 = v0;
-        sink = v1;
-        sink8 = v2;
-        sink7 = v3;
-        sink_2 = v4;
-        goto join_4;
-    }
-    sink9 = 12;
-    sink = r0_4_0 | 6;
-    sink8 = 0;
-    sink7 = 0;
-    sink_2 = 0;
-join_4:
-    a0[352] = sink9;
-    a0[353] = sink;
-    store32u(a0 + 356, sink8);
-    store32u(a0 + 360, sink7);
-    store32u(a0 + 364, sink_2);
-    return;
-}
-
-/* dfu_device::machine::Machine::state::<#b13fda2f95953955> */
-static uint8_t dfu_device_machine_Machine_state(unsigned char *a0) {
-    uint8_t r3 = a0[352];
-    uint8_t switch_load = *(PLACE(switch_table_dfu_device_machine_Machine_state) + (size_t)r3);
-    return switch_load;
-}
-
 /* dfu_device_c::noted::note */
 static void dfu_device_c_noted_note(unsigned char *a0, unsigned char *a1, uint8_t a2) {
     uint64_t r6 = load64(a1 + 8);
@@ -3174,16 +3658,15 @@ static uint32_t dfu_device_c_power_start(unsigned char *a0, unsigned char *a1, u
     _Alignas(8) unsigned char r14[328];
     _Alignas(8) unsigned char r15[40];
     _Alignas(4) unsigned char r1[16];
-    _Alignas(8) unsigned char r12_6[16];
-    uint64_t wide_22325;
+    uint64_t wide_22747;
     uint8_t v0, v1, r29;
     uint32_t v2, v3, v4, common_ret_op;
-    wide_22325 = (uint64_t)(uintptr_t)a2;
+    wide_22747 = (uint64_t)(uintptr_t)a2;
     v0 = *a4;
     v1 = a4[1];
-    v2 = load32u(a4 + 4);
-    v3 = load32u(a4 + 8);
-    v4 = load32u(a4 + 12);
+    v2 = load32(a4 + 4);
+    v3 = load32(a4 + 8);
+    v4 = load32(a4 + 12);
     uint8_t r27 = dfu_c_parts_config_is_allowed(a0);
     if (r27) goto join_3;
     common_ret_op = 0xfffffffeU;
@@ -3195,17 +3678,16 @@ join_3:
         goto common_ret;
     }
     uint8_t r58 = dfu_c_parts_config_unit_of(a0);
-    memset(r12_6, 0, 16);
+    memset(r15 + 24, 0, 16);
     store32(r1, 0);
     *r1 = v0;
     r1[1] = v1;
     store32(r1 + 4, v2);
     store32(r1 + 8, v3);
     store32(r1 + 12, v4);
-    store64(r15, wide_22325);
+    store64(r15, wide_22747);
     store64(r15 + 8, a3);
     store64(r15 + 16, (uint64_t)r58);
-    memcpy(r15 + 24, r12_6, 16);
     dfu_slots_slots_Slots_open(r14, r15);
     r29 = *r14;
     if (r29 != 0) goto dfu_device_c_power_power_on_exit;
@@ -3399,180 +3881,63 @@ int32_t dfu_device_would_stall(const struct dfu_config *config, const struct dfu
     unsigned char *a1 = (unsigned char *)(uintptr_t)device;
     uint64_t a2 = size;
     unsigned char *a3 = (unsigned char *)(uintptr_t)setup;
+    _Alignas(8) unsigned char r2[32];
+    _Alignas(4) unsigned char r17_2[24];
     _Alignas(4) unsigned char r5[20];
-    _Alignas(4) unsigned char r6[10];
-    _Alignas(2) unsigned char r13[8];
-    _Alignas(4) unsigned char r11[6];
-    unsigned char *v0;
-    uint32_t v3, r36, common_ret_op;
-    uint16_t r1_6_0_0_extract_trunc, v6, v7, v8;
-    uint64_t r2_0;
-    uint8_t r2_0_0_copyload, r2_3_0_copyload, r11_2;
-    uint8_t r20_0_shrunk;
-    v0 = r5 + 4;
-    memset(v0, 0, 16);
-    uint8_t r15 = dfu_c_parts_config_is_allowed(a0);
-    if (!r15) {
+    _Alignas(4) unsigned char r1[16];
+    _Alignas(2) unsigned char r15[8];
+    _Alignas(4) unsigned char r10[6];
+    _Alignas(4) unsigned char r13[6];
+    unsigned char *v1;
+    uint32_t common_ret_op;
+    store64(r2 + 8, 0);
+    v1 = r5 + 4;
+    memset(v1, 0, 16);
+    uint8_t r17 = dfu_c_parts_config_is_allowed(a0);
+    if (!r17) {
         common_ret_op = 0xfffffffeU;
         goto dfu_device_c_asking_dfu_device_would_stall_exit;
     }
     dfu_c_parts_record_mode_of(r5, a1);
-    uint8_t r24 = *r5;
-    if (r24 != 1) {
+    uint8_t r26 = *r5;
+    if (r26 != 1) {
         common_ret_op = 0xfffffffcU;
         goto dfu_device_c_asking_dfu_device_would_stall_exit;
     }
-    uint8_t v2 = *v0;
-    v3 = load32(r5 + 8);
-    uint32_t v4 = load32(r5 + 12);
-    r1_6_0_0_extract_trunc = (uint16_t)v4;
-    dfu_c_parts_config_functional_of(r6, a0);
-    r36 = load32(a0 + 24);
-    uint8_t r37 = dfu_c_parts_config_unit_of(a0);
-    uint64_t switch_load = load64(PLACE(switch_table_dfu_device_would_stall) + 8 * (size_t)r37);
-    r2_0 = usub_sat64(a2 >> 1, switch_load);
-    r2_0_0_copyload = *r6;
-    r2_3_0_copyload = r6[1];
-    uint16_t r2_47_0_copyload = load16(r6 + 6);
-    v6 = r2_47_0_copyload;
-    dfu_wire_setups_Setup_decode(r13, a3);
-    dfu_wire_setups_Setup_request(r11, r13);
-    r11_2 = *r11;
-    v7 = load16(r11 + 2);
-    v8 = load16(r11 + 4);
-    switch (v2) {
-    case 0: goto switch_lookup;
-    case 1: goto switch_lookup1;
-    case 2: goto arm_3;
-    case 3: goto switch_lookup6;
-    case 4: goto switch_lookup6;
-    case 7: goto switch_lookup6;
-    case 8: goto switch_lookup6;
-    case 5:
-        r20_0_shrunk = 1;
-        goto dfu_c_parts_stalls_will_stall_exit;
-    case 9:
-        r20_0_shrunk = 1;
-        goto dfu_c_parts_stalls_will_stall_exit;
-    case 10:
-        r20_0_shrunk = 1;
-        goto dfu_c_parts_stalls_will_stall_exit;
-    case 6: goto arm_6;
-    case 11: goto arm_7;
-    case 12: goto arm_8;
-    default: never();
-    }
-arm_3:
-    switch (r11_2) {
-    case 1: goto arm_1;
-    case 2: goto arm_2;
-    case 6:
-        r20_0_shrunk = 0;
-        goto dfu_c_parts_stalls_will_stall_exit;
-    case 3:
-        r20_0_shrunk = 0;
-        goto dfu_c_parts_stalls_will_stall_exit;
-    case 5:
-        r20_0_shrunk = 0;
-        goto dfu_c_parts_stalls_will_stall_exit;
-    case 0: goto arm_4;
-    case 4: goto arm_4;
-    case 7: goto arm_4;
-    case 8: goto arm_4;
-    default: never();
-    }
-arm_1:
-    if (!((v8 != 0) & (r2_0_0_copyload & 1))) {
-        r20_0_shrunk = 1;
-        goto dfu_c_parts_stalls_will_stall_exit;
-    }
-    if ((v7 != 0) | (v6 < v8)) {
-        r20_0_shrunk = 1;
-        goto dfu_c_parts_stalls_will_stall_exit;
-    }
-    r20_0_shrunk = r2_0 < (uint64_t)v8;
-    goto dfu_c_parts_stalls_will_stall_exit;
-arm_2:
-    if (!(r2_3_0_copyload & 1)) {
-        r20_0_shrunk = 1;
-        goto dfu_c_parts_stalls_will_stall_exit;
-    }
-    r20_0_shrunk = (v7 != 0) | ((uint16_t)(v8 + 0xffffU) >= v6);
-    goto dfu_c_parts_stalls_will_stall_exit;
-arm_4:
-    r20_0_shrunk = 1;
-    goto dfu_c_parts_stalls_will_stall_exit;
-arm_6:
-    switch (r11_2) {
-    case 1: goto arm_1_2;
-    case 6:
-        r20_0_shrunk = 0;
-        goto dfu_c_parts_stalls_will_stall_exit;
-    case 3:
-        r20_0_shrunk = 0;
-        goto dfu_c_parts_stalls_will_stall_exit;
-    case 5:
-        r20_0_shrunk = 0;
-        goto dfu_c_parts_stalls_will_stall_exit;
-    case 0: goto arm_3_2;
-    case 2: goto arm_3_2;
-    case 4: goto arm_3_2;
-    case 7: goto arm_3_2;
-    case 8: goto arm_3_2;
-    default: never();
-    }
-arm_1_2:
-    if (v8 != 0) goto default_7;
-    r20_0_shrunk = v3 < r36;
-    goto dfu_c_parts_stalls_will_stall_exit;
-default_7:
-    if ((v7 != r1_6_0_0_extract_trunc) | (v6 < v8)) {
-        r20_0_shrunk = 1;
-        goto dfu_c_parts_stalls_will_stall_exit;
-    }
-    r20_0_shrunk = r2_0 < ((uint64_t)v8 + (uint64_t)v3);
-    goto dfu_c_parts_stalls_will_stall_exit;
-arm_3_2:
-    r20_0_shrunk = 1;
-    goto dfu_c_parts_stalls_will_stall_exit;
-arm_7:
-    switch (r11_2) {
-    case 2: goto arm_1_3;
-    case 6:
-        r20_0_shrunk = 0;
-        goto dfu_c_parts_stalls_will_stall_exit;
-    case 3:
-        r20_0_shrunk = 0;
-        goto dfu_c_parts_stalls_will_stall_exit;
-    case 5:
-        r20_0_shrunk = 0;
-        goto dfu_c_parts_stalls_will_stall_exit;
-    case 0: goto arm_3_3;
-    case 1: goto arm_3_3;
-    case 4: goto arm_3_3;
-    case 7: goto arm_3_3;
-    case 8: goto arm_3_3;
-    default: never();
-    }
-arm_1_3:
-    r20_0_shrunk = (v7 != r1_6_0_0_extract_trunc) | ((uint16_t)(v8 + 0xffffU) >= v6);
-    goto dfu_c_parts_stalls_will_stall_exit;
-arm_3_3:
-    r20_0_shrunk = 1;
-    goto dfu_c_parts_stalls_will_stall_exit;
-arm_8:
-    r20_0_shrunk = (uint8_t)(r11_2 + 250) < 253;
-    goto dfu_c_parts_stalls_will_stall_exit;
-switch_lookup:
-    r20_0_shrunk = (uint16_t)((uint16_t)470 >> (r11_2 & 15)) & 1;
-    goto dfu_c_parts_stalls_will_stall_exit;
-switch_lookup1:
-    r20_0_shrunk = (uint16_t)((uint16_t)471 >> (r11_2 & 15)) & 1;
-    goto dfu_c_parts_stalls_will_stall_exit;
-switch_lookup6:
-    r20_0_shrunk = (uint16_t)((uint16_t)471 >> (r11_2 & 15)) & 1;
-dfu_c_parts_stalls_will_stall_exit:
-    common_ret_op = (uint32_t)r20_0_shrunk;
+    uint8_t v3 = *v1;
+    uint8_t v4 = r5[5];
+    uint32_t v5 = load32(r5 + 8);
+    uint32_t v6 = load32(r5 + 12);
+    uint32_t v7 = load32(r5 + 16);
+    dfu_c_parts_config_functional_of(r2, a0);
+    uint32_t r38 = load32(a0 + 24);
+    uint32_t r40 = load32(a0 + 16);
+    uint32_t r42 = load32(a0 + 20);
+    uint8_t r43 = dfu_c_parts_config_unit_of(a0);
+    uint64_t switch_load = load64(PLACE(switch_table_dfu_device_would_stall) + 8 * (size_t)r43);
+    store32(r2 + 12, r38);
+    store32(r2 + 16, r40);
+    store32(r2 + 20, r42);
+    store64(r2 + 24, usub_sat64(a2 >> 1, switch_load));
+    dfu_wire_setups_Setup_decode(r15, a3);
+    dfu_wire_setups_Setup_request(r13, r15);
+    store32(r1, 0);
+    *r1 = v3;
+    r1[1] = v4;
+    store32(r1 + 4, v5);
+    store32(r1 + 8, v6);
+    store32(r1 + 12, v7);
+    uint8_t r11 = *r13;
+    store16(r10, r11);
+    uint16_t v9 = load16(r13 + 2);
+    store16(r10 + 2, v9);
+    uint16_t v10 = load16(r13 + 4);
+    store16(r10 + 4, v10);
+    memset(r17_2, 0, 24);
+    dfu_device_table_decide(r17_2, r2, r1, r10);
+    uint8_t r1_0_0_copyload = *r17_2;
+    uint8_t r1_3_1_copyload = r17_2[1];
+    common_ret_op = (uint32_t)(((uint8_t)(r1_0_0_copyload + 253) < 254) ? (r1_3_1_copyload == 3) : 0);
 dfu_device_c_asking_dfu_device_would_stall_exit:
     return signed32(common_ret_op);
 }
@@ -3671,10 +4036,10 @@ int32_t dfu_device_image(const struct dfu_config *config, uint8_t *medium, size_
     _Alignas(8) unsigned char r4[328];
     _Alignas(8) unsigned char r1[320];
     _Alignas(8) unsigned char r5[40];
-    uint64_t wide_4586;
+    uint64_t wide_6298;
     uint8_t r15;
     uint32_t common_ret_op;
-    wide_4586 = (uint64_t)(uintptr_t)(unsigned char *)((uintptr_t)a1 + (uintptr_t)(uint64_t)((a1 == NULL) ? 4096 : 0));
+    wide_6298 = (uint64_t)(uintptr_t)(unsigned char *)((uintptr_t)a1 + (uintptr_t)(uint64_t)((a1 == NULL) ? 4096 : 0));
     uint8_t r18 = dfu_c_parts_config_is_allowed(a0);
     if (!r18) {
         common_ret_op = 0xfffffffeU;
@@ -3685,18 +4050,18 @@ int32_t dfu_device_image(const struct dfu_config *config, uint8_t *medium, size_
         goto dfu_device_c_power_dfu_device_image_exit;
     }
     uint8_t r49 = dfu_c_parts_config_unit_of(a0);
-    store64(r5, wide_4586);
+    store64(r5, wide_6298);
     store64(r5 + 8, a2);
     r5[16] = r49;
     memset(r5 + 17, 0, 23);
     dfu_slots_slots_Slots_open(r4, r5);
     r15 = *r4;
     if (r15 != 0) goto dfu_device_c_power_find_exit;
-    unsigned char *r16 = r4 + 8;
-    memcpy(r1, r16, 320);
+    memcpy(r1, r4 + 8, 320);
     uint32_t r4_2 = load32(r1 + 312);
-    uint32_t r7 = dfu_slots_read_data_at(r16, r4_2);
-    store32(a3, r7);
+    uint8_t r0_0_0_copyload = r4[24];
+    uint32_t switch_load = load32(PLACE(switch_table_dfu_slots_writes_open_slot) + 4 * (size_t)r0_0_0_copyload);
+    store32(a3, (switch_load << 1) + r4_2);
     uint32_t r21 = dfu_slots_slots_Slots_active_len(r1);
     store32(a3 + 4, r21);
 dfu_device_c_power_find_exit:
@@ -3715,12 +4080,12 @@ int32_t dfu_device_format(const struct dfu_config *config, uint8_t *medium, size
     _Alignas(8) unsigned char r27[272];
     _Alignas(8) unsigned char r4[40];
     _Alignas(8) unsigned char r5[40];
-    unsigned char *r13, *r4_0_0_in;
-    uint64_t wide_8716, r4_5_0;
+    unsigned char *r13, *r8_6_0_7_0_r8_6_0_r4_sroa_idx_sroa_idx, *r4_0_0_in;
+    uint64_t wide_10428, v1, r4_5_0;
     uint8_t r51;
-    uint32_t v0, switch_load, r3_0, r7_5_0_neg, common_ret_op;
+    uint32_t v0, switch_load_2, r3_0, r7_5_0_neg, common_ret_op;
     r13 = (unsigned char *)((uintptr_t)a3 + (uintptr_t)(uint64_t)((a3 == NULL) ? 4096 : 0));
-    wide_8716 = (uint64_t)(uintptr_t)(unsigned char *)((uintptr_t)a1 + (uintptr_t)(uint64_t)((a1 == NULL) ? 4096 : 0));
+    wide_10428 = (uint64_t)(uintptr_t)(unsigned char *)((uintptr_t)a1 + (uintptr_t)(uint64_t)((a1 == NULL) ? 4096 : 0));
     uint8_t r20 = dfu_c_parts_config_is_allowed(a0);
     if (!r20) {
         common_ret_op = 0xfffffffeU;
@@ -3731,9 +4096,10 @@ int32_t dfu_device_format(const struct dfu_config *config, uint8_t *medium, size
         goto dfu_device_c_power_dfu_device_format_exit;
     }
     r51 = dfu_c_parts_config_unit_of(a0);
-    store64(r4, wide_8716);
+    store64(r4, wide_10428);
+    r8_6_0_7_0_r8_6_0_r4_sroa_idx_sroa_idx = r4 + 8;
     v0 = (uint32_t)a2;
-    store32(r4 + 8, v0);
+    store32(r8_6_0_7_0_r8_6_0_r4_sroa_idx_sroa_idx, v0);
     store32(r4 + 12, 0);
     r4[16] = r51;
     memset(r4 + 17, 0, 23);
@@ -3742,26 +4108,28 @@ int32_t dfu_device_format(const struct dfu_config *config, uint8_t *medium, size
         r7_5_0_neg = 0xfffffffaU;
         goto dfu_slots_slots_Slots_format_exit_thread;
     }
-    uint32_t r51_2 = dfu_slots_read_capacity_of(r4);
-    if (a4 > (uint64_t)r51_2) {
+    uint64_t r3 = load64(r8_6_0_7_0_r8_6_0_r4_sroa_idx_sroa_idx);
+    v1 = (uint64_t)r51;
+    uint32_t switch_load = load32(PLACE(switch_table_dfu_slots_writes_open_slot) + 4 * (size_t)v1);
+    if (a4 > (uint64_t)(((uint32_t)r3 >> 1) - (switch_load << 1))) {
         r7_5_0_neg = 0xfffffff9U;
         goto dfu_slots_slots_Slots_format_exit_thread;
     }
-    store64(r5, wide_8716);
+    store64(r5, wide_10428);
     unsigned char *r8_6_0_7_0_r8_6_0_r5_sroa_idx_sroa_idx = r5 + 8;
     store32(r8_6_0_7_0_r8_6_0_r5_sroa_idx_sroa_idx, v0);
     store32(r5 + 12, 0);
     r5[16] = r51;
     memset(r5 + 17, 0, 23);
-    switch_load = load32(PLACE(switch_table_dfu_device_format) + 4 * (size_t)r51);
-    uint64_t r3 = load64(r8_6_0_7_0_r8_6_0_r5_sroa_idx_sroa_idx);
-    struct i8_i8 r15 = dfu_slots_writes_close_gate(r5, (uint32_t)r3 >> 1);
+    switch_load_2 = load32(PLACE(switch_table_dfu_device_format) + 4 * (size_t)v1);
+    uint64_t r3_2 = load64(r8_6_0_7_0_r8_6_0_r5_sroa_idx_sroa_idx);
+    struct i8_i8 r15 = dfu_slots_writes_close_gate(r5, (uint32_t)r3_2 >> 1);
     if (r15.a == 1) goto dfu_slots_slots_Slots_format_exit;
     struct i8_i8 r23 = dfu_slots_writes_close_gate(r5, 0);
     if (r23.a == 1) goto dfu_slots_slots_Slots_format_exit;
     r4_0_0_in = r13;
     r4_5_0 = a4;
-    r3_0 = switch_load;
+    r3_0 = switch_load_2;
 loop_2:
     if (r4_5_0 <= 4096) goto dfu_slots_format_write_pieces_exit;
     struct i8_i8 r28 = dfu_slots_writes_write(r5, r3_0, r4_0_0_in, 4096);
@@ -3772,7 +4140,7 @@ loop_2:
     goto loop_2;
 dfu_slots_format_write_pieces_exit:;
     uint8_t r47 = dfu_slots_writes_write_filled(r5, r3_0, r4_0_0_in, r4_5_0);
-    if (r47 == 1) goto dfu_slots_slots_Slots_format_exit;
+    if (r47 != 0) goto dfu_slots_slots_Slots_format_exit;
     struct i8_i8 r44 = dfu_slots_writes_open_slot(r5, 0, 0, (uint32_t)a4);
     if (r44.a == 0) goto dfu_device_c_power_format_exit_thread;
     goto dfu_slots_slots_Slots_format_exit;

@@ -82,18 +82,19 @@ struct i64_i1 { uint64_t a; uint8_t b; };
 struct ptr_i64 { unsigned char *a; uint64_t b; };
 
 static inline uint16_t load16(const unsigned char *p) { uint16_t x = 0; memcpy(&x, ALIGNED(p, 2), 2); return x; }
-static inline uint16_t load16u(const unsigned char *p) { uint16_t x = 0; memcpy(&x, p, 2); return x; }
 static inline uint32_t load32(const unsigned char *p) { uint32_t x = 0; memcpy(&x, ALIGNED(p, 4), 4); return x; }
 static inline uint32_t load32u(const unsigned char *p) { uint32_t x = 0; memcpy(&x, p, 4); return x; }
 static inline uint64_t load64(const unsigned char *p) { uint64_t x = 0; memcpy(&x, ALIGNED(p, 8), 8); return x; }
+static inline uint64_t load64a2(const unsigned char *p) { uint64_t x = 0; memcpy(&x, ALIGNED(p, 2), 8); return x; }
+static inline uint64_t load64a4(const unsigned char *p) { uint64_t x = 0; memcpy(&x, ALIGNED(p, 4), 8); return x; }
 static inline uint64_t load64u(const unsigned char *p) { uint64_t x = 0; memcpy(&x, p, 8); return x; }
 static inline struct i64_i1 product64(uint64_t x, uint64_t y) { return (struct i64_i1){ x * y, x != 0 && x * y / x != y }; }
 static inline int32_t signed32(uint32_t x) { int32_t y; memcpy(&y, &x, 4); return y; }
 static inline void store16(unsigned char *p, uint16_t x) { memcpy(ALIGNED(p, 2), &x, 2); }
-static inline void store16u(unsigned char *p, uint16_t x) { memcpy(p, &x, 2); }
 static inline void store32(unsigned char *p, uint32_t x) { memcpy(ALIGNED(p, 4), &x, 4); }
-static inline void store32u(unsigned char *p, uint32_t x) { memcpy(p, &x, 4); }
+static inline void store32a2(unsigned char *p, uint32_t x) { memcpy(ALIGNED(p, 2), &x, 4); }
 static inline void store64(unsigned char *p, uint64_t x) { memcpy(ALIGNED(p, 8), &x, 8); }
+static inline void store64a4(unsigned char *p, uint64_t x) { memcpy(ALIGNED(p, 4), &x, 8); }
 static inline void store64u(unsigned char *p, uint64_t x) { memcpy(p, &x, 8); }
 static inline uint16_t umax16(uint16_t x, uint16_t y) { return x < y ? y : x; }
 static inline uint32_t umax32(uint32_t x, uint32_t y) { return x < y ? y : x; }
@@ -151,106 +152,103 @@ static void dfu_host_task_Task_troubled(unsigned char *a0, unsigned char *a1, un
 
 /* dfu_host_c::file::file_in */
 static void dfu_host_c_file_file_in(unsigned char *a0, unsigned char *a1, uint64_t a2) {
-    _Alignas(4) unsigned char r0_20[7];
     unsigned char *r16;
-    uint8_t r48, r11_2, r15_2, r11_3, r15_3, r11_4, r15_4, r11_0_0, r11_5_0, r11_13_0, r0_0_0, r0_6_0;
-    uint8_t r0_18_0;
-    uint64_t v0, r4_0, r11_82_0, r11_10_0, r0_915_0, r0_12_0;
-    uint16_t r7_0_0, r11_11_0_0, r11_11_5_0, r11_11_6_0, r11_12_0, r0_14_0_0, r0_14_6_0, r0_14_8_0, r0_16_0;
+    uint8_t r48, r11_2, r15_2, r11_3, r15_3, r11_4, r15_4, r0_0_0, r0_6_0, r0_18_0;
+    uint64_t v0, r4_0, r0_915_0, r0_12_0;
+    uint16_t r7_0_0, r0_14_0_0, r0_14_6_0, r0_14_8_0, r0_16_0;
     uint32_t r3_0;
-    if (a2 <= 0x1000000U) goto join_3;
-    memset(r0_20, 0, 7);
-    r0_14_0_0 = 0;
-    r0_14_6_0 = 0;
-    r0_14_8_0 = 0;
-    r0_0_0 = 1;
-    r0_6_0 = 6;
-    r0_915_0 = 0;
-    r0_12_0 = 0;
-    r0_16_0 = 0;
-    r0_18_0 = 0;
-    goto dfu_suffix_parse_read_small_exit;
-join_3:
+    if (a2 > 0x1000000U) {
+        r0_14_0_0 = 0;
+        r0_14_6_0 = 0;
+        r0_14_8_0 = 0;
+        r0_0_0 = 1;
+        r0_6_0 = 6;
+        r0_915_0 = 0;
+        r0_12_0 = 0;
+        r0_16_0 = 0;
+        r0_18_0 = 0;
+        goto dfu_suffix_parse_read_small_exit;
+    }
     r16 = a1 + (size_t)usub_sat64(a2, 16);
     if (a2 < 16) {
-        r11_11_0_0 = 0;
-        r11_11_5_0 = 0;
-        r11_11_6_0 = 0;
-        r11_0_0 = 1;
-        r11_5_0 = 0;
-        r11_82_0 = 0;
-        r11_10_0 = 0;
-        r11_12_0 = 0;
-        r11_13_0 = 0;
-        goto join_7;
+        r0_14_0_0 = 0;
+        r0_14_6_0 = 0;
+        r0_14_8_0 = 0;
+        r0_0_0 = 1;
+        r0_6_0 = 0;
+        r0_915_0 = 0;
+        r0_12_0 = 0;
+        r0_16_0 = 0;
+        r0_18_0 = 0;
+        goto dfu_suffix_parse_read_small_exit;
     }
     uint8_t r14 = r16[8];
     if (r14 != 85) {
-        r11_11_0_0 = 0;
-        r11_11_5_0 = 0;
-        r11_11_6_0 = 0;
-        r11_0_0 = 1;
-        r11_5_0 = 1;
-        r11_82_0 = 0;
-        r11_10_0 = 0;
-        r11_12_0 = 0;
-        r11_13_0 = 0;
-        goto join_7;
+        r0_14_0_0 = 0;
+        r0_14_6_0 = 0;
+        r0_14_8_0 = 0;
+        r0_0_0 = 1;
+        r0_6_0 = 1;
+        r0_915_0 = 0;
+        r0_12_0 = 0;
+        r0_16_0 = 0;
+        r0_18_0 = 0;
+        goto dfu_suffix_parse_read_small_exit;
     }
     uint8_t r23 = r16[9];
     if (r23 != 70) {
-        r11_11_0_0 = 0;
-        r11_11_5_0 = 0;
-        r11_11_6_0 = 0;
-        r11_0_0 = 1;
-        r11_5_0 = 1;
-        r11_82_0 = 0;
-        r11_10_0 = 0;
-        r11_12_0 = 0;
-        r11_13_0 = 0;
-        goto join_7;
+        r0_14_0_0 = 0;
+        r0_14_6_0 = 0;
+        r0_14_8_0 = 0;
+        r0_0_0 = 1;
+        r0_6_0 = 1;
+        r0_915_0 = 0;
+        r0_12_0 = 0;
+        r0_16_0 = 0;
+        r0_18_0 = 0;
+        goto dfu_suffix_parse_read_small_exit;
     }
     uint8_t r35 = r16[10];
     if (r35 != 68) {
-        r11_11_0_0 = 0;
-        r11_11_5_0 = 0;
-        r11_11_6_0 = 0;
-        r11_0_0 = 1;
-        r11_5_0 = 1;
-        r11_82_0 = 0;
-        r11_10_0 = 0;
-        r11_12_0 = 0;
-        r11_13_0 = 0;
-        goto join_7;
+        r0_14_0_0 = 0;
+        r0_14_6_0 = 0;
+        r0_14_8_0 = 0;
+        r0_0_0 = 1;
+        r0_6_0 = 1;
+        r0_915_0 = 0;
+        r0_12_0 = 0;
+        r0_16_0 = 0;
+        r0_18_0 = 0;
+        goto dfu_suffix_parse_read_small_exit;
     }
     r48 = r16[11];
     v0 = (uint64_t)r48;
     if ((r48 < 16) | (a2 < v0)) {
-        r11_11_0_0 = 0;
-        r11_11_5_0 = 0;
-        r11_11_6_0 = 0;
-        r11_0_0 = 1;
-        r11_5_0 = 2;
-        r11_82_0 = 0;
-        r11_10_0 = 0;
-        r11_12_0 = 0;
-        r11_13_0 = 0;
-        goto join_7;
+        r0_14_0_0 = 0;
+        r0_14_6_0 = 0;
+        r0_14_8_0 = 0;
+        r0_0_0 = 1;
+        r0_6_0 = 2;
+        r0_915_0 = 0;
+        r0_12_0 = 0;
+        r0_16_0 = 0;
+        r0_18_0 = 0;
+        goto dfu_suffix_parse_read_small_exit;
     }
     uint8_t r11 = r16[6];
     uint8_t r15 = r16[7];
     r7_0_0 = (uint16_t)((uint32_t)r15 << 8) | r11;
     if (r7_0_0 == 282) {
-        r11_11_0_0 = 0;
-        r11_11_5_0 = 0;
-        r11_11_6_0 = 0;
-        r11_0_0 = 1;
-        r11_5_0 = 3;
-        r11_82_0 = 0;
-        r11_10_0 = 0;
-        r11_12_0 = 0;
-        r11_13_0 = 0;
-        goto join_7;
+        r0_14_0_0 = 0;
+        r0_14_6_0 = 0;
+        r0_14_8_0 = 0;
+        r0_0_0 = 1;
+        r0_6_0 = 3;
+        r0_915_0 = 0;
+        r0_12_0 = 0;
+        r0_16_0 = 0;
+        r0_18_0 = 0;
+        goto dfu_suffix_parse_read_small_exit;
     }
     r11_2 = *r16;
     r15_2 = r16[1];
@@ -272,48 +270,36 @@ loop_3:
     goto loop_3;
 dfu_suffix_crc_Crc_update_small_exit:
     if (r3_0 != 0) {
-        r11_11_0_0 = 0;
-        r11_11_5_0 = 0;
-        r11_11_6_0 = 0;
-        r11_0_0 = 1;
-        r11_5_0 = 4;
-        r11_82_0 = 0;
-        r11_10_0 = 0;
-        r11_12_0 = 0;
-        r11_13_0 = 0;
-        goto join_7;
+        r0_14_0_0 = 0;
+        r0_14_6_0 = 0;
+        r0_14_8_0 = 0;
+        r0_0_0 = 1;
+        r0_6_0 = 4;
+        r0_915_0 = 0;
+        r0_12_0 = 0;
+        r0_16_0 = 0;
+        r0_18_0 = 0;
+        goto dfu_suffix_parse_read_small_exit;
     }
-    r11_11_0_0 = (uint16_t)((uint32_t)r15_2 << 8) | r11_2;
-    r11_11_5_0 = (uint16_t)((uint32_t)r15_3 << 8) | r11_3;
-    r11_11_6_0 = (uint16_t)((uint32_t)r15_4 << 8) | r11_4;
-    r11_0_0 = 0;
-    r11_5_0 = 0;
-    r11_82_0 = (uint64_t)(uintptr_t)a1;
-    r11_10_0 = a2 - v0;
-    r11_12_0 = r7_0_0;
-    r11_13_0 = r48;
-join_7:
-    memset(r0_20, 0, 7);
-    r0_14_0_0 = r11_11_0_0;
-    r0_14_6_0 = r11_11_5_0;
-    r0_14_8_0 = r11_11_6_0;
-    r0_0_0 = r11_0_0;
-    r0_6_0 = r11_5_0;
-    r0_915_0 = r11_82_0;
-    r0_12_0 = r11_10_0;
-    r0_16_0 = r11_12_0;
-    r0_18_0 = r11_13_0;
+    r0_14_0_0 = (uint16_t)((uint32_t)r15_2 << 8) | r11_2;
+    r0_14_6_0 = (uint16_t)((uint32_t)r15_3 << 8) | r11_3;
+    r0_14_8_0 = (uint16_t)((uint32_t)r15_4 << 8) | r11_4;
+    r0_0_0 = 0;
+    r0_6_0 = 0;
+    r0_915_0 = (uint64_t)(uintptr_t)a1;
+    r0_12_0 = a2 - v0;
+    r0_16_0 = r7_0_0;
+    r0_18_0 = r48;
 dfu_suffix_parse_read_small_exit:
     *a0 = r0_0_0;
     a0[1] = r0_6_0;
-    store64u(a0 + 8, r0_915_0);
-    store64u(a0 + 16, r0_12_0);
-    store16u(a0 + 24, r0_14_0_0);
-    store16u(a0 + 26, r0_14_6_0);
-    store16u(a0 + 28, r0_14_8_0);
-    store16u(a0 + 30, r0_16_0);
+    store64(a0 + 8, r0_915_0);
+    store64(a0 + 16, r0_12_0);
+    store16(a0 + 24, r0_14_0_0);
+    store16(a0 + 26, r0_14_6_0);
+    store16(a0 + 28, r0_14_8_0);
+    store16(a0 + 30, r0_16_0);
     a0[32] = r0_18_0;
-    memcpy(a0 + 33, r0_20, 7);
     return;
 }
 
@@ -749,25 +735,25 @@ arm_5:
     memset(a0, 0, 72);
     return;
 arm_8_2:
-    store64u(a0, 1);
-    store64u(a0 + 8, r3_7_0_0);
-    store64u(a0 + 16, r3_12_0_0);
-    store64u(a0 + 24, r3_12_6_0);
-    store16u(a0 + 32, r65);
+    store64(a0, 1);
+    store64(a0 + 8, r3_7_0_0);
+    store64(a0 + 16, r3_12_0_0);
+    store64(a0 + 24, r3_12_6_0);
+    store16(a0 + 32, r65);
     a0[34] = r70;
     a0[35] = r75;
-    store16u(a0 + 36, r77);
-    store16u(a0 + 38, 0);
+    store16(a0 + 36, r77);
+    store16(a0 + 38, 0);
     a0[40] = r6_28_0_3;
     a0[41] = r6_54_0_2;
-    store16u(a0 + 42, r6_80_0_2);
-    store32u(a0 + 44, r6_106_0_2);
-    store64u(a0 + 48, r6_132_0_2);
-    store32u(a0 + 56, r6_158_0_2);
-    store32u(a0 + 60, 0);
-    store32u(a0 + 64, r79);
-    store16u(a0 + 68, r81);
-    store16u(a0 + 70, 0);
+    store16(a0 + 42, r6_80_0_2);
+    store32(a0 + 44, r6_106_0_2);
+    store64(a0 + 48, r6_132_0_2);
+    store32(a0 + 56, r6_158_0_2);
+    store32(a0 + 60, 0);
+    store32(a0 + 64, r79);
+    store16(a0 + 68, r81);
+    store16(a0 + 70, 0);
     return;
 arm_9_2:
     memset(a0, 0, 72);
@@ -788,8 +774,8 @@ static void dfu_host_c_holding_record_of(unsigned char *a0, unsigned char *a1, u
     uint8_t r6_0_0_copyload = a1[32];
     r6_3_1_copyload = a1[33];
     v0 = load16(a1 + 34);
-    r6_7_4_copyload = load32u(a1 + 36);
-    r6_9_8_copyload = load64u(a1 + 40);
+    r6_7_4_copyload = load32(a1 + 36);
+    r6_9_8_copyload = load64(a1 + 40);
     r38 = load32(a1 + 56);
     r41 = load16(a1 + 60);
     r1_6_0_0_extract_trunc = (uint8_t)v0;
@@ -876,7 +862,7 @@ arm_11:
     r24_63_0 = 0;
     goto dfu_host_c_phases_numbers_of_exit;
 arm_12:;
-    uint32_t r6_11_16_copyload = load32u(a1 + 48);
+    uint32_t r6_11_16_copyload = load32(a1 + 48);
     r24_0_0 = 11;
     r24_52_0 = r6_9_8_copyload;
     r24_63_0 = r6_11_16_copyload;
@@ -949,19 +935,19 @@ arm_25:
     r24_63_0 = 0;
     goto dfu_host_c_phases_numbers_of_exit;
 dfu_host_c_phases_numbers_of_exit:
-    store32u(a0, 200);
-    store32u(a0 + 4, (uint32_t)r9 + 1);
-    store64u(a0 + 8, r24_52_0);
-    store64u(a0 + 16, a2);
-    store32u(a0 + 24, r24_0_0);
-    store32u(a0 + 28, r24_63_0);
-    store32u(a0 + 32, r38);
-    store16u(a0 + 36, r41);
-    store16u(a0 + 38, r14);
-    store16u(a0 + 40, r24);
+    store32(a0, 200);
+    store32(a0 + 4, (uint32_t)r9 + 1);
+    store64(a0 + 8, r24_52_0);
+    store64(a0 + 16, a2);
+    store32(a0 + 24, r24_0_0);
+    store32(a0 + 28, r24_63_0);
+    store32(a0 + 32, r38);
+    store16(a0 + 36, r41);
+    store16(a0 + 38, r14);
+    store16(a0 + 40, r24);
     a0[42] = r16;
     a0[43] = r20;
-    store32u(a0 + 44, 0);
+    store32(a0 + 44, 0);
     return;
 }
 
@@ -1063,7 +1049,6 @@ dfu_host_task_Task_payload_exit:;
 static void dfu_host_asking_download(unsigned char *a0, uint64_t a1, unsigned char *a2, uint64_t a3) {
     _Alignas(8) unsigned char r0[32];
     _Alignas(4) unsigned char r6[6];
-    memset(r0, 0, 32);
     store16(r6, 1);
     store16(r6 + 2, (uint16_t)a1);
     store16(r6 + 4, (uint16_t)a3);
@@ -1085,8 +1070,8 @@ static void dfu_host_asking_send(unsigned char *a0, unsigned char *a1, unsigned 
     uint16_t v0, v1, r13_16_0, r13_23_0;
     uint64_t r13_0_0;
     r2 = *a1;
-    v0 = load16u(a1 + 2);
-    v1 = load16u(a1 + 4);
+    v0 = load16(a1 + 2);
+    v1 = load16(a1 + 4);
     switch (r2) {
     case 0: goto arm_1;
     case 1: goto arm_2;
@@ -1135,9 +1120,9 @@ arm_1_2:
     dfu_wire_bytes_two_bytes(r24, r13_23_0);
     uint16_t v4 = load16(r24);
     *a0 = 0;
-    store64u(a0 + 1, (((r13_0_0 | ((uint64_t)r2 << 8)) | ((uint64_t)v2 << 16)) | ((uint64_t)v3 << 32)) | ((uint64_t)v4 << 48));
-    store64u(a0 + 16, (uint64_t)(uintptr_t)a2);
-    store64u(a0 + 24, a3);
+    store64u(a0 + 1, ((uint64_t)v4 << 48) | (((uint64_t)v3 << 32) | (((uint64_t)v2 << 16) | (r13_0_0 | ((uint64_t)r2 << 8)))));
+    store64(a0 + 16, (uint64_t)(uintptr_t)a2);
+    store64(a0 + 24, a3);
     return;
 }
 
@@ -1149,21 +1134,19 @@ static void dfu_wire_bytes_two_bytes(unsigned char *a0, uint16_t a1) {
     store16(r5, a1);
     core_slice_edits_slice_T_copy_from_slice_i8_core_clone_U8Clone(r1, r5, 2);
     uint16_t v0 = load16(r1);
-    store16u(a0, v0);
+    store16(a0, v0);
     return;
 }
 
 /* dfu_host_c::beginning::read_both */
 static void dfu_host_c_beginning_read_both(unsigned char *a0, unsigned char *a1, uint64_t a2, unsigned char *a3, uint64_t a4) {
     _Alignas(8) unsigned char r10[40];
-    _Alignas(8) unsigned char r14_6_0[40];
-    _Alignas(8) unsigned char r16_0[40];
+    _Alignas(8) unsigned char r14_6_0_0[32];
     _Alignas(4) unsigned char r13[12];
     uint8_t r37;
-    uint64_t r14_6_3_0;
+    uint64_t r14_6_0_3_0, r14_6_3_0;
     uint32_t r14_4_0;
-    memset(r10, 0, 40);
-    memset(r14_6_0, 0, 40);
+    memset(r14_6_0_0, 0, 32);
     dfu_host_c_file_file_in(r10, a1, a2);
     uint8_t r21 = *r10;
     if (r21 != 0) goto arm_2;
@@ -1173,28 +1156,29 @@ static void dfu_host_c_beginning_read_both(unsigned char *a0, unsigned char *a1,
     goto arm_6;
 arm_2:;
     uint8_t r7_0_0_copyload = r10[1];
-    store32u(a0, 1);
-    store32u(a0 + 4, (uint32_t)r7_0_0_copyload ^ 0xffffffffU);
+    store32(a0, 1);
+    store32(a0 + 4, (uint32_t)r7_0_0_copyload ^ 0xffffffffU);
     memset(a0 + 8, 0, 48);
     return;
 arm_5:
-    memcpy(r16_0, r10 + 8, 32);
-    uint64_t v2 = load64u(r13 + 2);
-    store64(r16_0 + 32, v2);
+    memcpy(r14_6_0_0, r10 + 8, 32);
+    uint64_t v2 = load64a2(r13 + 2);
     uint16_t r16_3_32_copyload = load16(r13 + 10);
-    memcpy(r14_6_0, r16_0, 40);
+    r14_6_0_3_0 = v2;
     r14_6_3_0 = (uint64_t)r16_3_32_copyload;
     r14_4_0 = 0;
     goto join_7;
 arm_6:;
     uint8_t r9_0_0_copyload = r13[1];
+    r14_6_0_3_0 = 0;
     r14_6_3_0 = 0;
     r14_4_0 = (uint32_t)0xffffffe1U - (uint32_t)r9_0_0_copyload;
 join_7:
-    store32u(a0, (uint32_t)r37);
-    store32u(a0 + 4, r14_4_0);
-    memcpy(a0 + 8, r14_6_0, 40);
-    store64u(a0 + 48, r14_6_3_0);
+    store32(a0, (uint32_t)r37);
+    store32(a0 + 4, r14_4_0);
+    memcpy(a0 + 8, r14_6_0_0, 32);
+    store64(a0 + 40, r14_6_0_3_0);
+    store64(a0 + 48, r14_6_3_0);
     return;
 }
 
@@ -1260,9 +1244,9 @@ join_24:;
     a0[3] = (uint8_t)(r116 >> 1) & 1;
     a0[4] = (uint8_t)(r116 >> 2) & 1;
     a0[5] = (uint8_t)(r116 >> 3) & 1;
-    store16u(a0 + 6, (uint16_t)((uint32_t)r15_2 << 8) | r11_2);
-    store16u(a0 + 8, (uint16_t)((uint32_t)r15_3 << 8) | r11_3);
-    store16u(a0 + 10, r19_0);
+    store16(a0 + 6, (uint16_t)((uint32_t)r15_2 << 8) | r11_2);
+    store16(a0 + 8, (uint16_t)((uint32_t)r15_3 << 8) | r11_3);
+    store16(a0 + 10, r19_0);
     return;
 }
 
@@ -1271,9 +1255,9 @@ static void dfu_host_refusing_payload_for(unsigned char *a0, unsigned char *a1, 
     uint16_t r1_2_0_copyload;
     uint64_t r0_0_0_copyload, r0_3_0_copyload, r4_7_3_0, r4_7_1_0;
     uint8_t r4_0_0, r4_4_0;
-    r1_2_0_copyload = load16u(a3 + 2);
-    r0_0_0_copyload = load64u(a1);
-    r0_3_0_copyload = load64u(a1 + 8);
+    r1_2_0_copyload = load16(a3 + 2);
+    r0_0_0_copyload = load64(a1);
+    r0_3_0_copyload = load64(a1 + 8);
     if (r0_3_0_copyload == 0) {
         r4_7_3_0 = 0;
         r4_7_1_0 = 0;
@@ -1281,8 +1265,8 @@ static void dfu_host_refusing_payload_for(unsigned char *a0, unsigned char *a1, 
         r4_4_0 = 0;
         goto join_3;
     }
-    uint16_t r1_3_0_copyload = load16u(a3 + 4);
-    uint16_t r7_3_0_copyload = load16u(a1 + 20);
+    uint16_t r1_3_0_copyload = load16(a3 + 4);
+    uint16_t r7_3_0_copyload = load16(a1 + 20);
     if (!((r7_3_0_copyload == 0xffffU) | (r7_3_0_copyload == r1_3_0_copyload))) {
         r4_7_3_0 = 0;
         r4_7_1_0 = 0;
@@ -1290,7 +1274,7 @@ static void dfu_host_refusing_payload_for(unsigned char *a0, unsigned char *a1, 
         r4_4_0 = 1;
         goto join_3;
     }
-    uint16_t r7_2_0_copyload = load16u(a1 + 18);
+    uint16_t r7_2_0_copyload = load16(a1 + 18);
     if (!((r7_2_0_copyload == 0xffffU) | (r7_2_0_copyload == r1_2_0_copyload))) {
         r4_7_3_0 = 0;
         r4_7_1_0 = 0;
@@ -1307,15 +1291,14 @@ static void dfu_host_refusing_payload_for(unsigned char *a0, unsigned char *a1, 
 join_3:
     *a0 = r4_0_0;
     a0[1] = r4_4_0;
-    store64u(a0 + 8, r4_7_1_0);
-    store64u(a0 + 16, r4_7_3_0);
+    store64(a0 + 8, r4_7_1_0);
+    store64(a0 + 16, r4_7_3_0);
     return;
 }
 
 /* dfu_host_c::beginning::start */
 static void dfu_host_c_beginning_start(unsigned char *a0, unsigned char *a1) {
     _Alignas(8) unsigned char r1[48];
-    memset(r1, 0, 48);
     dfu_host_c_holding_record_of(r1, a1, 0);
     memcpy(a0, r1, 48);
     return;
@@ -1323,24 +1306,22 @@ static void dfu_host_c_beginning_start(unsigned char *a0, unsigned char *a1) {
 
 /* dfu_host::session::Session::told */
 static void dfu_host_session_Session_told(unsigned char *a0, unsigned char *a1, uint8_t a2) {
-    _Alignas(8) unsigned char r0_2[32];
-    unsigned char *const r0 = r0_2;
-    unsigned char *const r5 = r0_2;
     _Alignas(8) unsigned char r17_3[32];
-    unsigned char *const r1_3 = r17_3;
+    unsigned char *const r0 = r17_3;
+    unsigned char *const r5 = r17_3;
+    _Alignas(8) unsigned char r1_3[32];
+    unsigned char *const r7_7 = r1_3;
+    unsigned char *const r5_4 = r1_3;
+    unsigned char *const r7_6 = r1_3;
+    unsigned char *const r5_2 = r1_3;
+    unsigned char *const r7_4 = r1_3;
+    unsigned char *const r7_3 = r1_3;
     _Alignas(8) unsigned char r1_2[32];
     _Alignas(8) unsigned char r7_2[32];
-    _Alignas(8) unsigned char r9[32];
-    _Alignas(8) unsigned char r7_7[24];
-    unsigned char *const r5_4 = r7_7;
-    unsigned char *const r7_6 = r7_7;
-    unsigned char *const r5_2 = r7_7;
-    unsigned char *const r7_4 = r7_7;
-    unsigned char *const r7_3 = r7_7;
-    unsigned char *const r2 = r7_7;
     _Alignas(8) unsigned char r10_2[24];
+    unsigned char *const r2 = r10_2;
     _Alignas(4) unsigned char r6_3[12];
-    unsigned char *const r9_3 = r6_3;
+    unsigned char *const r9_2 = r6_3;
     unsigned char *const r11 = r6_3;
     unsigned char *const r10_4 = r6_3;
     unsigned char *const r6_2 = r6_3;
@@ -1357,11 +1338,10 @@ static void dfu_host_session_Session_told(unsigned char *a0, unsigned char *a1, 
     uint32_t r18_121_0, r1_5_0_copyload, r1_7_0_copyload, v16, v18, v21, v23, v31, v33, r12_32_8_extract_trunc287, v39, v41;
     uint32_t v45, v47, v53, v55, r28_67_0, r28_95_0;
     uint8_t r1 = *a1;
-    r0_3_0_0_copyload = load64u(a1 + 8);
-    r0_3_3_0_copyload = load64u(a1 + 16);
-    memset(r9, 0, 32);
+    r0_3_0_0_copyload = load64(a1 + 8);
+    r0_3_3_0_copyload = load64(a1 + 16);
     r12 = a0 + 32;
-    v0 = load16u(a0 + 34);
+    v0 = load16(a0 + 34);
     switch (r1) {
     case 0:
         r18_0_0 = r1;
@@ -1539,8 +1519,8 @@ arm_2_2:
 arm_3_2:
     if (!(a2 & (r0_3_3_0_copyload != 0))) goto join_4;
     uint16_t r7 = load16(a0 + 24);
-    uint64_t r9_2 = (uint64_t)r7;
-    if ((r0_3_3_0_copyload < r9_2) | ((v0 != 0xfffeU) & (r0_3_3_0_copyload == r9_2))) {
+    uint64_t r9 = (uint64_t)r7;
+    if ((r0_3_3_0_copyload < r9) | ((v0 != 0xfffeU) & (r0_3_3_0_copyload == r9))) {
         r18_0_0 = 5;
         r18_10_0 = 0;
         r18_121_0 = 0;
@@ -1634,10 +1614,9 @@ arm_8:
     goto dfu_host_task_Task_hear_exit;
 dfu_host_task_Task_hear_exit:
     memcpy(r1_2, r12, 32);
-    memset(r7_2, 0, 32);
     r10 = *r1_2;
     if ((uint8_t)(r10 + 233) >= 2) goto join_4_2;
-    memcpy(r9, r12, 32);
+    memcpy(r7_2, r12, 32);
     goto dfu_host_progress_Progress_after_exit;
 join_4_2:
     switch (r18_0_0) {
@@ -1657,10 +1636,9 @@ join_4_2:
     }
 arm_5_2:
     dfu_host_progress_Progress_restarted(r7_2, r1_2);
-    goto join_8;
+    goto dfu_host_progress_Progress_after_exit;
 arm_6_2:
     memcpy(r1_3, r12, 32);
-    memset(r0, 0, 32);
     store64(r2 + 16, 0);
     uint8_t v9 = *r1_3;
     switch (v9) {
@@ -1710,23 +1688,22 @@ dfu_host_task_Task_after_last_exit:;
     r2[1] = v10;
     memset(r2 + 2, 0, 18);
     if (r13_3 != 2) goto dfu_host_task_Task_go_on_exit;
-    store64u(a0, 3);
+    store64(a0, 3);
 dfu_host_task_Task_go_on_exit:;
     uint16_t r36 = load16(r1_3 + 28);
     dfu_host_progress_Progress_spent(r0, r1_3, r2, r36);
     memcpy(r7_2, r0, 32);
 dfu_host_progress_Progress_left_exit:
-    goto join_8;
+    goto dfu_host_progress_Progress_after_exit;
 arm_7_2:
     r1_3_0_copyload = r1_2[1];
     r1_4_0_copyload = load16(r1_2 + 2);
     r1_5_0_copyload = load32(r1_2 + 4);
     r1_6_0_copyload = load64(r1_2 + 8);
     r1_7_0_copyload = load32(r1_2 + 16);
-    r1_8_0_copyload = load64u(r1_2 + 20);
+    r1_8_0_copyload = load64a4(r1_2 + 20);
     r1_9_0_copyload = load16(r1_2 + 28);
     v12 = load16(r1_2 + 30);
-    memset(r0_2, 0, 32);
     v13 = r10_2 + 16;
     store64(v13, 0);
     switch (r10) {
@@ -1798,7 +1775,6 @@ arm_3_3:
     r28_95_0 = 0;
     goto dfu_host_task_Task_row_exit;
 arm_1_2:
-    memset(r7_3, 0, 24);
     switch (r18_0_0) {
     case 1: goto arm_1_3;
     case 6:
@@ -1822,7 +1798,7 @@ arm_1_2:
     }
 arm_1_3:
     store32(r6, r18_121_0);
-    store64u(r6 + 4, r18_14_0);
+    store64a4(r6 + 4, r18_14_0);
     dfu_host_task_Task_listed(r7_3, a0, r6);
     uint8_t pre = *r7_3;
     uint8_t pre1 = r7_3[1];
@@ -1858,7 +1834,6 @@ dfu_host_task_Task_after_find_exit:
     r28_95_0 = v16;
     goto dfu_host_task_Task_row_exit;
 arm_2_3:
-    memset(r7_4, 0, 24);
     switch (r18_0_0) {
     case 1: goto arm_1_4;
     case 6:
@@ -1882,7 +1857,7 @@ arm_2_3:
     }
 arm_1_4:
     store32(r6_2, r18_121_0);
-    store64u(r6_2 + 4, r18_14_0);
+    store64a4(r6_2 + 4, r18_14_0);
     dfu_host_task_Task_listed(r7_4, a0, r6_2);
     uint8_t pre_2 = *r7_4;
     uint8_t pre1_2 = r7_4[1];
@@ -2266,7 +2241,7 @@ dfu_host_task_Task_is_last_exit:;
     goto dfu_host_task_Task_polled_exit;
 arm_3_11:
     store32(r10_4, r18_121_0);
-    store64u(r10_4 + 4, r18_14_0);
+    store64a4(r10_4 + 4, r18_14_0);
     dfu_host_task_Task_troubled(r5_2, a0, r10_4);
     uint8_t pre_3 = *r5_2;
     uint8_t pre7 = r5_2[1];
@@ -2559,7 +2534,7 @@ arm_4_5:
     }
 after_2_4:
     store32(r11, r18_121_0);
-    store64u(r11 + 4, r18_14_0);
+    store64a4(r11 + 4, r18_14_0);
     dfu_host_task_Task_troubled(r7_6, a0, r11);
     uint8_t pre_4 = *r7_6;
     uint8_t pre10_2 = r7_6[1];
@@ -2628,9 +2603,9 @@ arm_2_7:
     v49 = 20;
     goto dfu_host_task_Task_unconfirmed_exit;
 arm_3_15:
-    store32(r9_3, r18_121_0);
-    store64u(r9_3 + 4, r18_14_0);
-    dfu_host_task_Task_troubled(r5_4, a0, r9_3);
+    store32(r9_2, r18_121_0);
+    store64a4(r9_2 + 4, r18_14_0);
+    dfu_host_task_Task_troubled(r5_4, a0, r9_2);
     uint8_t pre_6 = *r5_4;
     uint8_t pre7_2 = r5_4[1];
     uint32_t pre8_2 = load32(r5_4 + 4);
@@ -2713,7 +2688,7 @@ arm_17:
     }
 arm_1_7:
     store32(r6_3, r18_121_0);
-    store64u(r6_3 + 4, r18_14_0);
+    store64a4(r6_3 + 4, r18_14_0);
     dfu_host_task_Task_troubled(r7_7, a0, r6_3);
     uint8_t pre_8 = *r7_7;
     uint8_t pre1_3 = r7_7[1];
@@ -2925,7 +2900,7 @@ dfu_host_task_Task_row_exit:
     if (!r3_0_off0) goto dfu_host_progress_Progress_by_row_exit;
     uint8_t r10_5 = *a0;
     if (r10_5 != 2) goto dfu_host_progress_Progress_by_row_exit;
-    store64u(a0, 3);
+    store64(a0, 3);
 dfu_host_progress_Progress_by_row_exit:
     *r17_3 = r10;
     r17_3[1] = r1_3_0_copyload;
@@ -2933,16 +2908,13 @@ dfu_host_progress_Progress_by_row_exit:
     store32(r17_3 + 4, r1_5_0_copyload);
     store64(r17_3 + 8, r1_6_0_copyload);
     store32(r17_3 + 16, r1_7_0_copyload);
-    store64u(r17_3 + 20, r1_8_0_copyload);
+    store64a4(r17_3 + 20, r1_8_0_copyload);
     store16(r17_3 + 28, r1_9_0_copyload);
     store16(r17_3 + 30, v12);
-    dfu_host_progress_Progress_spent(r0_2, r17_3, r10_2, r1_9_0_copyload);
-    memcpy(r7_2, r0_2, 32);
-join_8:
-    memcpy(r9, r7_2, 32);
+    dfu_host_progress_Progress_spent(r7_2, r17_3, r10_2, r1_9_0_copyload);
     goto dfu_host_progress_Progress_after_exit;
 dfu_host_progress_Progress_after_exit:
-    memcpy(r12, r9, 32);
+    memcpy(r12, r7_2, 32);
     return;
 }
 
@@ -2972,8 +2944,8 @@ static uint8_t core_slice_scan_any_in_run(unsigned char *a0, uint64_t a1, uint64
     unsigned char *r14, *r19;
     uint64_t r2_0;
     uint8_t r1_0_off0;
-    uint64_t r3_0_0_copyload = load64u(a0);
-    uint64_t r4_0_0_copyload = load64u(a0 + 16);
+    uint64_t r3_0_0_copyload = load64(a0);
+    uint64_t r4_0_0_copyload = load64(a0 + 16);
     r14 = (unsigned char *)(uintptr_t)r3_0_0_copyload;
     r19 = (unsigned char *)(uintptr_t)r4_0_0_copyload;
     r2_0 = 0;
@@ -3040,7 +3012,6 @@ static void dfu_host_progress_Progress_restarted(unsigned char *a0, unsigned cha
     uint16_t r17;
     memcpy(r1, a1, 32);
     memset(r3, 0, 24);
-    memset(r5, 0, 32);
     memset(r7, 0, 24);
     memset(r8, 0, 24);
     uint8_t r10 = *r1;
@@ -3072,15 +3043,15 @@ static void dfu_host_progress_Progress_spent(unsigned char *a0, unsigned char *a
     uint32_t r1_2_0_copyload, v3, v5, r12_13_4_0, r12_19_0;
     uint8_t v0, v1, r2_5_0_0_extract_trunc, r2_5_3_0_extract_trunc, r12_13_0_0, r12_0_0, r12_5_0, r12_9_0;
     uint64_t v4, r12_16_0;
-    r1_2_0_copyload = load32u(a1 + 24);
+    r1_2_0_copyload = load32(a1 + 24);
     v0 = *a2;
     v1 = a2[1];
-    uint16_t v2 = load16u(a2 + 2);
+    uint16_t v2 = load16(a2 + 2);
     r2_5_0_0_extract_trunc = (uint8_t)v2;
     r2_5_3_0_extract_trunc = (uint8_t)(uint16_t)(v2 >> 8);
-    v3 = load32u(a2 + 4);
-    v4 = load64u(a2 + 8);
-    v5 = load32u(a2 + 16);
+    v3 = load32(a2 + 4);
+    v4 = load64(a2 + 8);
+    v5 = load32(a2 + 16);
     if ((uint8_t)(v0 + 233) < 2) {
         r12_13_0_0 = r2_5_3_0_extract_trunc;
         r12_13_4_0 = v3;
@@ -3102,14 +3073,14 @@ static void dfu_host_progress_Progress_spent(unsigned char *a0, unsigned char *a
 dfu_host_progress_budgeted_exit:
     *a0 = r12_0_0;
     a0[1] = r12_5_0;
-    store16u(a0 + 2, (uint16_t)((uint32_t)r12_13_0_0 << 8) | r12_9_0);
-    store32u(a0 + 4, r12_13_4_0);
-    store64u(a0 + 8, r12_16_0);
-    store32u(a0 + 16, r12_19_0);
-    store32u(a0 + 20, 0);
-    store32u(a0 + 24, usub_sat32(r1_2_0_copyload, 1));
-    store16u(a0 + 28, a3);
-    store16u(a0 + 30, 0);
+    store16(a0 + 2, (uint16_t)((uint32_t)r12_13_0_0 << 8) | r12_9_0);
+    store32(a0 + 4, r12_13_4_0);
+    store64(a0 + 8, r12_16_0);
+    store32(a0 + 16, r12_19_0);
+    store32(a0 + 20, 0);
+    store32(a0 + 24, usub_sat32(r1_2_0_copyload, 1));
+    store16(a0 + 28, a3);
+    store16(a0 + 30, 0);
     return;
 }
 
@@ -3145,7 +3116,7 @@ arm_3:;
     r5_12_0 = 0;
     goto join_9;
 arm_4:;
-    uint32_t r1_3_0_copyload = load32u(a2 + 4);
+    uint32_t r1_3_0_copyload = load32(a2 + 4);
     r5_0_0 = 6;
     r5_12_0 = r1_3_0_copyload;
     goto join_9;
@@ -3163,10 +3134,10 @@ arm_7:
 join_9:
     *a0 = r5_0_0;
     a0[1] = 0;
-    store16u(a0 + 2, 0);
-    store32u(a0 + 4, r5_12_0);
-    store64u(a0 + 8, 0);
-    store32u(a0 + 16, 0);
+    store16(a0 + 2, 0);
+    store32(a0 + 4, r5_12_0);
+    store64(a0 + 8, 0);
+    store32(a0 + 16, 0);
     return;
 }
 
@@ -3185,7 +3156,6 @@ static void dfu_host_task_Task_troubled(unsigned char *a0, unsigned char *a1, un
     r1_3_0_a2_sroa_idx = a2 + 1;
     r1_4_0_copyload = a2[8];
     r1_5_0_a2_sroa_idx = a2 + 9;
-    memset(r6, 0, 24);
     memset(r9, 0, 24);
     if (r1_4_0_copyload != 10) goto arm_2;
     if ((uint8_t)(r1_0_0_copyload + 255) < 14) goto arm_6;
@@ -3242,10 +3212,10 @@ arm_2:
 join_4:
     *a0 = v12;
     a0[1] = v11;
-    store16u(a0 + 2, v10);
-    store32u(a0 + 4, v9);
-    store64u(a0 + 8, v8);
-    store32u(a0 + 16, v7);
+    store16(a0 + 2, v10);
+    store32(a0 + 4, v9);
+    store64(a0 + 8, v8);
+    store32(a0 + 16, v7);
     return;
 }
 
@@ -3274,13 +3244,13 @@ int32_t dfu_host_file(const uint8_t *file, size_t length, struct dfu_file *out) 
     uint16_t r3_6_0_copyload = load16(r5 + 30);
     uint8_t r3_7_0_copyload = r5[32];
     uint32_t r15 = load32u((r4 + (size_t)a1) - 4);
-    store64u(a2, r3_2_0_copyload);
-    store32u(a2 + 8, (uint32_t)r3_7_0_copyload);
-    store32u(a2 + 12, r15);
-    store16u(a2 + 16, r3_3_0_copyload);
-    store16u(a2 + 18, r3_4_0_copyload);
-    store16u(a2 + 20, r3_5_0_copyload);
-    store16u(a2 + 22, r3_6_0_copyload);
+    store64(a2, r3_2_0_copyload);
+    store32(a2 + 8, (uint32_t)r3_7_0_copyload);
+    store32(a2 + 12, r15);
+    store16(a2 + 16, r3_3_0_copyload);
+    store16(a2 + 18, r3_4_0_copyload);
+    store16(a2 + 20, r3_5_0_copyload);
+    store16(a2 + 22, r3_6_0_copyload);
     r6_0 = 0;
     goto dfu_host_c_file_dfu_host_file_exit;
 arm_2:;
@@ -3308,8 +3278,9 @@ int32_t dfu_host_name(uint32_t report, uint8_t *out, size_t room) {
     goto join_3;
 arm_1:;
     uint8_t r1_0_0_copyload = r2[1];
-    uint64_t switch_load = load64(PLACE(switch_table_dfu_host_name) + 8 * (size_t)r1_0_0_copyload);
-    uint64_t switch_load2 = load64(PLACE(switch_table_dfu_host_name_1) + 8 * (size_t)r1_0_0_copyload);
+    uint64_t v1 = (uint64_t)r1_0_0_copyload;
+    uint64_t switch_load = load64(PLACE(switch_table_dfu_host_name) + 8 * (size_t)v1);
+    uint64_t switch_load2 = load64(PLACE(switch_table_dfu_host_name_1) + 8 * (size_t)v1);
     uint64_t r33 = switch_load2 - switch_load;
     if (a2 < r33) {
         common_ret_op = 0;
@@ -3394,8 +3365,8 @@ int32_t dfu_host_next(const struct dfu_session *session, const uint8_t *payload,
     store16(r19 + 4, 0);
     store16(r23 + 4, 0);
     store16(r27 + 4, 0);
-    store32u(r31 + 2, 0);
-    store32u(r35 + 2, 0);
+    store32a2(r31 + 2, 0);
+    store32a2(r35 + 2, 0);
     switch (v1) {
     case 0: goto arm_4;
     case 1: goto arm_4;
@@ -3572,13 +3543,13 @@ arm_4_2:;
     r14_18_0 = 0;
     goto dfu_host_c_action_record_of_exit;
 dfu_host_c_action_record_of_exit:
-    store32u(a3, r14_0_0);
-    store32u(a3 + 4, r14_6_0);
-    store64u(a3 + 8, r14_9_0);
-    store64u(a3 + 16, r14_12_0);
-    store32u(a3 + 24, r14_15_0);
-    store64u(a3 + 28, r14_18_0);
-    store32u(a3 + 36, 0);
+    store32(a3, r14_0_0);
+    store32(a3 + 4, r14_6_0);
+    store64(a3 + 8, r14_9_0);
+    store64(a3 + 16, r14_12_0);
+    store32(a3 + 24, r14_15_0);
+    store64a4(a3 + 28, r14_18_0);
+    store32(a3 + 36, 0);
     common_ret_op = 0;
 dfu_host_c_action_dfu_host_next_exit:
     return signed32(common_ret_op);

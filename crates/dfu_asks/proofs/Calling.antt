@@ -198,14 +198,14 @@ module _ (a : Asking) (len : ℕ) (s : SlotsState) (was before : List ℕ) (asks
       let old = carried was (writes_in a asks.work) asks.work.done in
       let lied : FailedWrite NotVerified (mapped (grain_in a) old) p.write.at p.write.bytes (mapped (grain_in a) flash) =
       record { bytes = torn_there; failures = omega arith; fuse = refl; grain = refl; tag = refl } in
-      (was_written (mapped (grain_in a) old) p.write.at p.write.bytes (mapped (grain_in a) flash) (omega (arith, fits, torn_there.size))
-      (inr lied) stands).bytes
+      (was_written {old = mapped (grain_in a) old} {at = p.write.at} {new = p.write.bytes} {now = mapped (grain_in a) flash}
+      (omega (arith, fits, torn_there.size)) (inr lied) stands).bytes
       ∙ sym (step_carried (writes_in a asks.work) was asks.work.done p.write (working_within a asks.work len s was asks.working)
       (bit_in a asks.work p piece))
 
 -- A store is sound where nothing is put.
 pub idle_sound : (s : SlotsState) → IsStore s → IsTrue (is_shaped s && true)
-idle_sound s store = both (is_shaped s) (shaped s store)
+idle_sound s store = both (is_shaped s) (shaped store)
   where
     both : (p : Bool) → p ≡ true → IsTrue (p && true)
     both p e = grind (arith, common_steps)

@@ -1,5 +1,5 @@
 -- What each call of a slot store leaves, by its writes alone.
-use Rattle.std.proofs.Common.{◌≡◌, ℕ, ◌+◌, ◌≤◌, ◌<◌, List, length, true, Result, Ok, Err, IsErrOf, refl, arith}
+use Rattle.std.proofs.Common.{◌≡◌, ℕ, ◌+◌, ◌≤◌, ◌<◌, List, length, true, Result, Ok, Err, IsErrOf, refl, sym, arith}
 use Rattle.dfu_slots.specs.declared.fault.PutFault.{PutFault}
 use Rattle.dfu_slots.specs.declared.fault.PutFault.TheVariants.{Failed as PutFailed, NotVerified as PutNotVerified, NotBegun, TooLarge}
 use Rattle.dfu_slots.specs.declared.fault.WriteFault.{WriteFault}
@@ -11,9 +11,8 @@ use Rattle.dfu_slots.specs.Changes.{ending_of, Changes}
 use Rattle.dfu_slots.specs.Leaves.{BeginLeaves, PutLeaves, CommitLeaves}
 use Rattle.dfu_slots.proofs.Seeing.{begun_closed, room_capacity}
 use Rattle.dfu_slots.proofs.Stays.{SamePlaces}
-use Rattle.dfu_slots.proofs.AfterCall.{put_refuses}
-use Rattle.dfu_slots.proofs.AfterBegin.{begin_leaves, begin_places}
-use Rattle.dfu_slots.proofs.AfterPut.{put_leaves}
+use Rattle.dfu_slots.proofs.AfterBegin.{begin_done}
+use Rattle.dfu_slots.proofs.AfterPut.{put_done}
 use Rattle.dfu_slots.proofs.AfterCommit.{commit_leaves}
 
 -- The answer of a call whose writes all worked.
@@ -48,30 +47,40 @@ large s n fits over = omega (arith, fits, over, room_capacity s)
 module _ (s now : SlotsState) (store : IsStore s) where
   -- A `begin` whose writes worked.
   pub begun : CallWorked s Begin now → BeginLeaves s done now
-  begun worked = begin_leaves {T = Unit {0}} {s = s} {v = s} (λ i. s) store now done tt worked
+  begun worked =
+      (begin_done {T = Unit {0}} {s = s} {v = s} refl (record { store = store; active_there = refl; spare_there = refl }) now done tt worked).1
 
   -- It leaves the slots where they were.
   pub begun_places : CallWorked s Begin now → SamePlaces s.medium now.medium
-  begun_places worked = begin_places {T = Unit {0}} s now store.has_image done tt worked
+  begun_places worked =
+      let kept =
+      (begin_done {T = Unit {0}} {s = s} {v = s} refl (record { store = store; active_there = refl; spare_there = refl }) now done tt worked).0 in
+      record { active = sym kept.active_there; spare = sym kept.spare_there }
 
   -- A `begin` that was broken off.
   pub begin_broken : (fault : WriteFault) → CallFailed fault s Begin now → BeginLeaves s (broken fault) now
-  begin_broken Failed failed = begin_leaves {T = Unit {0}} {s = s} {v = s} (λ i. s) store now (broken Failed) tt failed
-  begin_broken NotVerified failed = begin_leaves {T = Unit {0}} {s = s} {v = s} (λ i. s) store now (broken NotVerified) tt failed
+  begin_broken Failed failed =
+      (begin_done {T = Unit {0}} {s = s} {v = s} refl (record { store = store; active_there = refl; spare_there = refl }) now (broken Failed) tt
+      failed).1
+  begin_broken NotVerified failed =
+      (begin_done {T = Unit {0}} {s = s} {v = s} refl (record { store = store; active_there = refl; spare_there = refl }) now
+      (broken NotVerified) tt failed).1
 
   module _ (at : ℕ) (bytes : List ℕ) (here : at ≡ s.put_end) (ready : is_begun s ≡ true) (fits : at + length bytes ≤ room_of s) where
     -- A `put` whose writes worked.
     pub put_came : CallWorked s (Put at bytes) now → PutLeaves s at bytes done now
-    put_came worked = put_leaves {T = Unit {0}} {s = s} {v = s} (λ i. s) store now at bytes here done
-        (put_refuses {T = Unit {0}} s done (λ e. cc, λ o. absurd (begun_closed s ready o)) at bytes
-        (λ e. cc, λ over. absurd (large s (at + length bytes) fits over.1))) worked
+    put_came worked =
+        (put_done {T = Unit {0}} {s = s} {v = s} refl (record { store = store; active_there = refl; spare_there = refl }) now at bytes here done
+        (λ e. cc, λ o. absurd (begun_closed s ready o))
+        (λ e. cc, λ over. absurd (large s (at + length bytes) fits over.1)) worked).1
 
     -- A `put` that was broken off.
     pub put_broken : (fault : WriteFault) → CallFailed fault s (Put at bytes) now → PutLeaves s at bytes (broken fault) now
-    put_broken fault failed = put_leaves {T = Unit {0}} {s = s} {v = s} (λ i. s) store now at bytes here (broken fault)
-        (put_refuses {T = Unit {0}} s (broken fault) (λ e. absurd (no_other fault e), λ o. absurd (begun_closed s ready o)) at bytes
-        (λ e. absurd (not_large fault e), λ over. absurd (large s (at + length bytes) fits over.1)))
-        (changes_broken fault s now (Put at bytes) failed)
+    put_broken fault failed =
+        (put_done {T = Unit {0}} {s = s} {v = s} refl (record { store = store; active_there = refl; spare_there = refl }) now at bytes here
+        (broken fault) (λ e. absurd (no_other fault e), λ o. absurd (begun_closed s ready o))
+        (λ e. absurd (not_large fault e), λ over. absurd (large s (at + length bytes) fits over.1))
+        (changes_broken fault s now (Put at bytes) failed)).1
 
   module _ (len : ℕ) (within : len ≤ s.put_end) (ready : is_begun s ≡ true) where
     -- A `commit` whose writes worked.

@@ -175,8 +175,8 @@ module _ (f : Formatting) (image was flash : List ℕ) (way : IsUnderWay f image
             front = way.front;
             series = way.series;
             reached = subst (λ (k : ℕ). IsReached left k) (sym count) (reached_step left f.done p way.reached piece);
-            flash_is = (was_written (mapped (grain_within f) old) p.write.at p.write.bytes (mapped (grain_within f) now)
-                (omega (arith, fits, there.size)) (inr lied) stands).bytes
+            flash_is = (was_written {old = mapped (grain_within f) old} {at = p.write.at} {new = p.write.bytes}
+                {now = mapped (grain_within f) now} (omega (arith, fits, there.size)) (inr lied) stands).bytes
                 ∙ sym (step_carried writes was before p.write way_within bit)
                 ∙ ap (λ (k : ℕ). carried was writes k) is;
           }

@@ -46,5 +46,6 @@ module _ (s : MediumState) (image : List ℕ) (can : CanFormat s image) where
   pub formatted : (now : MediumState) → AllWrites s (format_series s image) now → Active now image
   formatted now all =
       let kept = all_keep 0 size (format_series s image) s now (omega arith) format_inside all in
-      active_on s now 0 (slot_size now.bytes) image (all_grain (format_series s image) s now all) kept.size can.sized.whole
+      active_on {m = s} 0 (slot_size now.bytes) image (record { grain = all_grain (format_series s image) s now all; size = kept.size })
+      can.sized.whole
       (format_done s.grain s now image (two_slots s can.sized) can.sized.whole can.fits all)

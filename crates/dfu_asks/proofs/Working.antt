@@ -129,7 +129,7 @@ module _ (c : Setting) (w : Grain) (b held : List ℕ) (end : ℕ) (j : Job) (le
   unit_is = ap (λ (x : MediumState). x.grain) medium
 
   shape : is_shaped s ≡ true
-  shape = shaped s store
+  shape = shaped store
 
   small : (n : ℕ) → n ≤ room_of s → n ≤ 2 ^ 24
   small n le = omega (arith, le, room_capacity s, store.has_image.active.sized.bound)
@@ -184,7 +184,7 @@ module _ (c : Setting) (w : Grain) (b held : List ℕ) (end : ℕ) (j : Job) (le
       (series_of_commit s n j w end held b unit_is whole.put job) all))
 
   shaped_left : (x : SlotsState) → IsStore x → IsTrue (is_shaped x && true)
-  shaped_left x st = sound_shape (is_shaped x) (shaped x st)
+  shaped_left x st = sound_shape (is_shaped x) (shaped st)
     where
       sound_shape : (p : Bool) → p ≡ true → IsTrue (p && true)
       sound_shape p e = grind (arith, common_steps)
@@ -213,7 +213,7 @@ module _ (c : Setting) (w : Grain) (b held : List ℕ) (end : ℕ) (j : Job) (le
         );
         store = got.1.store;
         sound = written_sound (mode.DownloadIdle (capped n (length b)) number) (length b) (capped n (length b)) number left (inr refl)
-            (omega (arith, cap, next.some)) (omega (arith, cap, next.room, got.1.room)) (shaped left got.1.store)
+            (omega (arith, cap, next.some)) (omega (arith, cap, next.room, got.1.room)) (shaped {s = left} got.1.store)
             (subst (λ (k : ℕ). is_put k left ≡ true) (sym cap) got.1.put);
       }
   works (mode.DownloadBusy n number passed) asked sound due all a out says =
@@ -234,7 +234,7 @@ module _ (c : Setting) (w : Grain) (b held : List ℕ) (end : ℕ) (j : Job) (le
         store = got.1.store;
         sound =
             written_sound (mode.DownloadSyncWritten (capped n (length b)) number) (length b) (capped n (length b)) number left (inl refl)
-            (omega (arith, cap, next.some)) (omega (arith, cap, next.room, got.1.room)) (shaped left got.1.store)
+            (omega (arith, cap, next.some)) (omega (arith, cap, next.room, got.1.room)) (shaped {s = left} got.1.store)
             (subst (λ (k : ℕ). is_put k left ≡ true) (sym cap) got.1.put);
       }
   works (mode.ManifestSync n) asked sound due all a out says =

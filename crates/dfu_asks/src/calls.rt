@@ -16,7 +16,6 @@ ghost use Rattle.dfu_asks.specs.Refused.{IsKept, IsUnfit, IsRefused, IsServed};
 ghost use Rattle.dfu_device.specs.Lent.{answer_room};
 
 use crate::due::{asked_now, passes_now};
-use crate::finish::{code_of, state_of};
 use crate::{Asking, Mapped, Refusal, Reply, Sector, Work};
 use arrayvec::ArrayVec;
 use dfu_device::{Answer, Config, LentBlock, LentDevice, Mode};
@@ -80,14 +79,14 @@ impl<'b> Asking<'b> {
     pub fn state(&self) -> State
         ensures { (spare block : List ℕ) → result ≡ state_of (stage_of self.now.mode spare block) }
     {
-        state_of(self.mode)
+        self.mode.state()
     }
 
     /// The status code (USB DFU 1.1, section 6.1.2, bStatus).
     pub fn code(&self) -> Code
         ensures { (spare block : List ℕ) → result ≡ code_of (stage_of self.now.mode spare block) }
     {
-        code_of(self.mode)
+        self.mode.code()
     }
 
     /// Answers a setup with its body, as `Device::handle_into`; or the row writes, and its writes are asked for now.

@@ -12,36 +12,7 @@ use crate::piece::copy_joined;
 use arrayvec::ArrayVec;
 use dfu_device::{Answer, Block, Config, Mode};
 use dfu_slots::{Unit, WriteFault};
-use dfu_wire::{Code, State, Status};
-
-// The state of the standard that a mode is.
-pub(crate) fn state_of(mode: Mode) -> State
-    ensures { (spare block : List ℕ) → result ≡ state_of (stage_of mode spare block) }
-{
-    match mode {
-        Mode::AppIdle => State::AppIdle,
-        Mode::AppDetach { .. } => State::AppDetach,
-        Mode::DfuIdle => State::DfuIdle,
-        Mode::DownloadSync { .. } | Mode::DownloadSyncWritten { .. } => State::DownloadSync,
-        Mode::DownloadBusy { .. } => State::DownloadBusy,
-        Mode::DownloadIdle { .. } => State::DownloadIdle,
-        Mode::ManifestSync { .. } | Mode::ManifestSyncComplete => State::ManifestSync,
-        Mode::Manifest { .. } => State::Manifest,
-        Mode::ManifestWaitReset => State::ManifestWaitReset,
-        Mode::UploadIdle { .. } => State::UploadIdle,
-        Mode::Error { .. } => State::Error,
-    }
-}
-
-// The status code of a mode.
-pub(crate) fn code_of(mode: Mode) -> Code
-    ensures { (spare block : List ℕ) → result ≡ code_of (stage_of mode spare block) }
-{
-    match mode {
-        Mode::Error { code } => code,
-        _ => Code::Ok,
-    }
-}
+use dfu_wire::{Code, Status};
 
 // The six bytes of the status of a mode in which no host is to wait.
 fn status_of(mode: Mode) -> [u8; 6]
@@ -50,7 +21,7 @@ fn status_of(mode: Mode) -> [u8; 6]
         (take len result) }
     ensures size { length result ≡ 6 }
 {
-    let Ok(status) = Status::new(code_of(mode), 0, state_of(mode)) else {
+    let Ok(status) = Status::new(mode.code(), 0, mode.state()) else {
         unreachable!()
     };
     status.encode()

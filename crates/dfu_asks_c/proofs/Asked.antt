@@ -11,7 +11,7 @@ use Rattle.dfu_device.specs.declared.answer.Answer.TheVariants as answer
 use Rattle.dfu_device.specs.declared.mode.Mode.{Mode}
 use Rattle.dfu_device.specs.Stage.{Profile}
 use Rattle.dfu_device.specs.Table.{plan}
-use Rattle.dfu_device.specs.Shown.{profile}
+use Rattle.dfu_device.specs.Shown.{profile, profile_of}
 use Rattle.dfu_device.specs.Parts.{stage_of, is_sound, is_filled}
 use Rattle.dfu_device.specs.Rows.{Handles, meant, body_length, setup_plan}
 use Rattle.dfu_asks.specs.declared.asking.Asking.{Asking}
@@ -24,9 +24,12 @@ use Rattle.dfu_c_parts.specs.declared.config.DfuConfig.{DfuConfig}
 use Rattle.dfu_c_parts.specs.declared.record.DfuDevice.{DfuDevice}
 use Rattle.dfu_c_parts.specs.Config.{setting_of, transfer_of}
 use Rattle.dfu_c_parts.specs.Record.{HasMode, held_in}
-use Rattle.dfu_c_parts.specs.Stalls.{verdict, HasLimits, HoldsWritten, HasLength}
+use Rattle.dfu_device.specs.Decision.{HoldsWritten, HasLength}
+use Rattle.dfu_device.proofs.Before.{has_length}
+use Rattle.dfu_device.proofs.Carried.{holds_written}
+use Rattle.dfu_c_parts.specs.Stalls.{verdict}
 use Rattle.dfu_c_parts.specs.Long.{after_long}
-use Rattle.dfu_c_parts.proofs.Setups.{served_stalls, has_length, holds_written, told_row}
+use Rattle.dfu_c_parts.proofs.Setups.{served_stalls, told_row}
 use Rattle.dfu_c_parts.proofs.LongSetups.{after_free, long_elsewhere, long_here}
 use Rattle.dfu_asks_c.specs.declared.asking.DfuAsking.{DfuAsking}
 use Rattle.dfu_asks_c.specs.Asking.{IsAsking, HasJob, HasWork}
@@ -42,9 +45,9 @@ room_in a flash = refl
 module _ (c : DfuConfig) (r : DfuAsking) (size : ℕ) (setup : List ℕ) (p : Setup) (q : Asked) (m : Mode) (b : Bool)
     (the_setup : (x : Setup) → IsSetup x setup → p ≡ x) (the_request : (x : Asked) → Asks p x → q ≡ x)
     (the_mode : (x : Mode) → HasMode r.device x → m ≡ x)
-    (said : (x : Profile) (image spare unwritten body : List ℕ)
-    → HasLimits x (setting_of c).functional (setting_of c).least (size / 2 - 2 * gate_room (grain_of c r.sector))
-    → HoldsWritten m spare → HasLength q body → Some b ≡ verdict (plan x image (stage_of m spare unwritten) (meant q body))) where
+    (said : (image spare unwritten body : List ℕ) → HoldsWritten m spare → HasLength q body
+    → Some b ≡ verdict (plan (profile_of (setting_of c) (size / 2 - 2 * gate_room (grain_of c r.sector))) image
+    (stage_of m spare unwritten) (meant q body))) where
   -- So it is said of the device.
   stalls_device : (block flash : List ℕ) (a : Asking) → IsAsking c r block a → IsDevice a flash → length flash ≡ size → (body : List ℕ)
       → length body ≡ body_length p → Asks p q → Some b ≡ verdict (setup_plan (device_in a flash) p q body)
@@ -53,18 +56,14 @@ module _ (c : DfuConfig) (r : DfuAsking) (size : ℕ) (setup : List ℕ) (p : Se
       let d = device_in a flash in
       let same : m ≡ a.mode = the_mode a.mode asking.kept.mode in
       let stage_is : d.stage ≡ stage_of m (spare_of store) (block_in a) = λ i. stage_of (sym same i) (spare_of store) (block_in a) in
-      said (profile d) (image_of d.slots) (spare_of store) (block_in a) body
-      (record {
-        can_download = ap (λ s. s.functional.can_download) asking.kept.config;
-        can_upload = ap (λ s. s.functional.can_upload) asking.kept.config;
-        transfer = ap (λ s. s.functional.transfer) asking.kept.config;
-        least = ap (λ s. s.least) asking.kept.config;
-        capacity = room_in a flash
-            ∙ (λ i. size_is i / 2 - 2 * gate_room (record { unit = asking.kept.unit i; sector = asking.kept.sector i }));
-      })
+      let room : room_of store ≡ size / 2 - 2 * gate_room (grain_of c r.sector) = room_in a flash
+      ∙ (λ i. size_is i / 2 - 2 * gate_room (record { unit = asking.kept.unit i; sector = asking.kept.sector i })) in
+      subst (λ (x : Profile). Some b ≡ verdict (plan x (image_of d.slots) (stage_of m (spare_of store) (block_in a)) (meant q body)))
+      (λ i. profile_of (sym asking.kept.config i) (sym room i))
+      (said (image_of d.slots) (spare_of store) (block_in a) body
       (holds_written m (length (block_in a)) store
       (subst (λ x. IsTrue (is_sound x (length (block_in a)) store)) (sym same) device.sound))
-      (has_length p q body asks fits)
+      (has_length p q body asks fits))
       ∙ ap (λ x. verdict (plan (profile d) (image_of d.slots) x (meant q body))) (sym stage_is)
       ∙ sym (served_stalls d m (spare_of store) (block_in a) p q body stage_is (eq-eqb (length body) (body_length p) fits))
 

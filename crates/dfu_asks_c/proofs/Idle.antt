@@ -7,7 +7,7 @@ use Rattle.dfu_slots.proofs.Seeing.{shaped}
 
 -- A store is sound where nothing is put.
 pub idle_sound : (s : SlotsState) → IsStore s → IsTrue (is_shaped s && true)
-idle_sound s store = both (is_shaped s) (shaped s store)
+idle_sound s store = both (is_shaped s) (shaped store)
   where
     both : (p : Bool) → p ≡ true → IsTrue (p && true)
     both p e = grind (arith, common_steps)

@@ -1,22 +1,21 @@
 -- What is said of a setup before its body is there is so, whatever comes of it.
 use Rattle.std.proofs.Common.{◌≡◌, ◌==◌, Bool, true, false, IsTrue, Option, Some, None, ℕ, ℤ, pos, List, length, refl, sym, ap, ◌∙◌, subst, arith, if◌then◌else◌}
-use Rattle.std.proofs.lemmas.List.{length-take-le}
 use Rattle.dfu_wire.specs.declared.setups.Setup.{Setup}
 use Rattle.dfu_wire.specs.declared.functionals.Functional.{Functional}
 use Rattle.dfu_wire.specs.declared.requests.Request.{Request as Asked}
 use Rattle.dfu_wire.specs.declared.requests.Request.TheVariants as asked
 use Rattle.dfu_wire.specs.Setup.{IsSetup}
 use Rattle.dfu_wire.specs.Request.{Asks}
-use Rattle.dfu_slots.specs.Seen.{SlotsState, image_of, spare_of}
+use Rattle.dfu_slots.specs.Seen.{image_of}
 use Rattle.dfu_device.specs.declared.answer.Answer.{Answer}
 use Rattle.dfu_device.specs.declared.mode.Mode.{Mode}
-use Rattle.dfu_device.specs.declared.mode.Mode.TheVariants as mode
-use Rattle.dfu_device.specs.Stage.{Profile, OtherRequest}
+use Rattle.dfu_device.specs.Stage.{Profile, Stage, Request, OtherRequest}
 use Rattle.dfu_device.specs.Table.{Plan, plan}
-use Rattle.dfu_device.specs.Shown.{Shown, profile}
-use Rattle.dfu_device.specs.Parts.{stage_of, is_sound}
+use Rattle.dfu_device.specs.Setting.{Setting}
+use Rattle.dfu_device.specs.Shown.{Shown, profile, profile_of}
+use Rattle.dfu_device.specs.Parts.{stage_of}
 use Rattle.dfu_device.specs.Rows.{Done, Handles, handled_as, meant, asked_length, body_length, setup_plan}
-use Rattle.dfu_c_parts.specs.Stalls.{verdict, HasLimits, HoldsWritten, HasLength, IsBodyOf, SaysStall}
+use Rattle.dfu_c_parts.specs.Stalls.{verdict, IsBodyOf, SaysStall}
 use Rattle.dfu_c_parts.proofs.StallPlans.{done_stall, done_other}
 use Rattle.dfu_c_parts.proofs.LongPlans.{plan_other}
 
@@ -45,41 +44,12 @@ served_stalls d m spare unwritten p asked.NotDfu body stage_is fits =
     sym (ap (λ s. verdict (plan (profile d) (image_of d.slots) s OtherRequest)) stage_is
     ∙ ap verdict (plan_other (profile d) (image_of d.slots) m spare unwritten))
 
--- The body of a DNLOAD has the length that the request says.
-pub has_length : (p : Setup) (q : Asked) (body : List ℕ) → Asks p q → length body ≡ body_length p → HasLength q body
-has_length p (asked.Detach timeout) body asks fits = tt
-has_length p (asked.Dnload block len) body asks fits =
-    fits ∙ (λ i. if asks.0.kind i == 0x21 then p.length else 0) ∙ sym asks.2
-has_length p (asked.Upload block len) body asks fits = tt
-has_length p (asked.GetStatus len) body asks fits = tt
-has_length p asked.ClrStatus body asks fits = tt
-has_length p (asked.GetState len) body asks fits = tt
-has_length p asked.Abort body asks fits = tt
-has_length p asked.OtherClass body asks fits = tt
-has_length p asked.NotDfu body asks fits = tt
-
--- What is said to be written stands in the spare slot of a device.
-pub holds_written : (m : Mode) (n : ℕ) (s : SlotsState) → IsTrue (is_sound m n s) → HoldsWritten m (spare_of s)
-holds_written mode.AppIdle n s sound = tt
-holds_written (mode.AppDetach timer passed) n s sound = tt
-holds_written mode.DfuIdle n s sound = tt
-holds_written (mode.DownloadSync written number) n s sound = tt
-holds_written (mode.DownloadSyncWritten written number) n s sound = tt
-holds_written (mode.DownloadBusy written number passed) n s sound = tt
-holds_written (mode.DownloadIdle written number) n s sound = length-take-le written (spare_of s) (grind (arith, sound))
-holds_written (mode.ManifestSync written) n s sound = tt
-holds_written mode.ManifestSyncComplete n s sound = tt
-holds_written (mode.Manifest written passed) n s sound = tt
-holds_written mode.ManifestWaitReset n s sound = tt
-holds_written (mode.UploadIdle place number) n s sound = tt
-holds_written (mode.Error code) n s sound = tt
-
--- What decides on a stall is the same of a descriptor that is the same, and of a room that is.
-pub same_limits : (x : Profile) (f g : Functional) (least room size : ℕ) → f ≡ g → room ≡ size → HasLimits x g least size
-    → HasLimits x f least room
-same_limits x f g least room size is room_is limits =
-    subst (λ (h : Functional). HasLimits x h least room) (sym is)
-    (subst (λ (n : ℕ). HasLimits x g least n) (sym room_is) limits)
+-- What is said by the profile that the code read is said by that of the configuration, where the descriptor and the room are the same.
+pub same_profile : (s : Setting) (image : List ℕ) (stage : Stage) (r : Request) {f : Functional} {read room : ℕ} {b : Bool}
+    → f ≡ s.functional → read ≡ room → Some b ≡ verdict (plan (profile_of (record s { functional = f }) read) image stage r)
+    → Some b ≡ verdict (plan (profile_of s room) image stage r)
+same_profile s image stage r {b = b} is room_is said =
+    subst (λ (c : Profile). Some b ≡ verdict (plan c image stage r)) (λ i. profile_of (record s { functional = is i }) (room_is i)) said
 
 module _ (setup : List ℕ) (p : Setup) (q : Asked) (b : Bool) (the_setup : (x : Setup) → IsSetup x setup → p ≡ x)
     (the_request : (x : Asked) → Asks p x → q ≡ x) where

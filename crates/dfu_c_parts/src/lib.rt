@@ -13,5 +13,5 @@ pub use config::{DfuConfig, config_of, functional_of, is_allowed, unit_of};
 pub use long::{after_long, is_long};
 pub use place::DfuPlace;
 pub use record::{DfuDevice, has_mode, held_of, mode_of, set_held, set_mode};
-pub use stalls::{Limits, room_of, will_stall};
+pub use stalls::{room_of, will_stall};
 pub use version::VERSION;

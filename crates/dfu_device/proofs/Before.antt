@@ -1,10 +1,12 @@
 -- The rules before the table.
-use Rattle.std.proofs.Common.{◌≡◌, ◌≢◌, ◌==◌, true, false, ℕ, List, length, refl, ◌∙◌}
+use Rattle.std.proofs.Common.{◌≡◌, ◌≢◌, ◌==◌, true, false, ℕ, List, length, if◌then◌else◌, refl, sym, ◌∙◌}
 use Rattle.dfu_wire.specs.declared.setups.Setup.{Setup}
 use Rattle.dfu_wire.specs.declared.requests.Request.{Request as Asked}
 use Rattle.dfu_wire.specs.declared.requests.Request.TheVariants as asked
 use Rattle.dfu_device.specs.declared.answer.Answer.{Answer}
+use Rattle.dfu_wire.specs.Request.{Asks}
 use Rattle.dfu_device.specs.Stage.{Stall}
+use Rattle.dfu_device.specs.Decision.{HasLength}
 use Rattle.dfu_device.specs.Shown.{Shown}
 use Rattle.dfu_device.specs.Rows.{Answers, Done, Serves, is_served, body_length, setup_plan, asked_length}
 
@@ -25,3 +27,9 @@ refused_class p q body n w a out other off says = refused p q body n w a out (se
 pub served_class : (p : Setup) (q : Asked) (body : List ℕ) (w w' : Shown) (a : Answer) (out : List ℕ) → q ≢ asked.NotDfu
     → (length body == body_length p) ≡ true → Serves q body w a out w' → Done (setup_plan w p q body) (asked_length q) w a out w'
 served_class p q body w w' a out other on row = rw (served_is p q body other ∙ on) row
+
+-- The body of a DNLOAD has the length that the request says.
+pub has_length : (p : Setup) (q : Asked) (body : List ℕ) → Asks p q → length body ≡ body_length p → HasLength q body
+has_length p (asked.Dnload block len) body asks fits =
+    fits ∙ (λ i. if asks.0.kind i == 0x21 then p.length else 0) ∙ sym asks.2
+has_length p q body asks fits = tt

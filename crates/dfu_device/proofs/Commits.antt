@@ -1,5 +1,5 @@
 -- The call of the slot store that puts an image in place.
-use Rattle.std.proofs.Common.{◌≡◌, ◌⊎◌, ◌&&◌, inl, inr, true, IsTrue, ℕ, ◌+◌, ◌≤◌, ◌<◌, ◌==◌, ◌||◌, nat_le, nat_lt, List, [], ◌∷◌, length, take, refl, sym, subst, arith}
+use Rattle.std.proofs.Common.{◌≡◌, ◌⊎◌, ◌&&◌, inl, inr, true, IsTrue, ℕ, ◌+◌, ◌≤◌, ◌<◌, nat_le, nat_lt, List, [], ◌∷◌, length, take, refl, sym, subst, arith}
 use Rattle.std.proofs.lemmas.Grind.{common_steps}
 use Rattle.std.proofs.lemmas.List.{length-take-le}
 use Rattle.dfu_slots.specs.declared.fault.WriteFault.{WriteFault}
@@ -7,7 +7,8 @@ use Rattle.dfu_slots.specs.Seen.{SlotsState, image_of, spare_of, is_begun, room_
 use Rattle.dfu_device.specs.Setting.{Setting}
 use Rattle.dfu_device.specs.declared.mode.Mode.{Mode}
 use Rattle.dfu_device.specs.declared.mode.Mode.TheVariants as mode
-use Rattle.dfu_device.specs.Parts.{shows, stage_of, is_put, is_sound}
+use Rattle.dfu_device.specs.Parts.{shows, stage_of, is_put, is_filled, is_sound}
+use Rattle.dfu_device.specs.Decision.{IsAtRest}
 use Rattle.dfu_device.specs.Table.{commit_code}
 use Rattle.dfu_device.specs.Rows.{Committed, FailedCommit}
 use Rattle.dfu_device.proofs.Calls.{called_one}
@@ -19,22 +20,18 @@ pub record IsReady (s : SlotsState) (n : ℕ) : Type 0 where
   pub room : n ≤ room_of s
   pub spare : n ≤ length (spare_of s)
 
-closed_ready : (b n : ℕ) (s : SlotsState) → IsTrue (is_sound (mode.ManifestSync n) b s) → IsReady s n
-closed_ready b n s sound = record {
+-- The store of a device is shaped.
+pub shaped : (m : Mode) (b : ℕ) (s : SlotsState) → IsTrue (is_sound m b s) → is_shaped s ≡ true
+shaped m b s sound = grind (arith, common_steps)
+
+-- A store that is shaped and has what was taken is ready for a commit.
+pub commit_ready : (b n : ℕ) (s : SlotsState) → is_shaped s ≡ true → IsTrue (is_filled (mode.ManifestSync n) b s) → IsReady s n
+commit_ready b n s shape filled = record {
   begun = grind (arith, common_steps);
   end = grind (arith, common_steps);
   room = grind (arith, common_steps);
   spare = grind (arith, common_steps);
 }
-
-committing_ready : (b n passed : ℕ) (s : SlotsState) → IsTrue (is_sound (mode.Manifest n passed) b s) → IsReady s n
-committing_ready b n passed s sound = closed_ready b n s sound
-
--- A machine that may commit is ready for it.
-pub commit_ready : (m : Mode) (b n : ℕ) (s : SlotsState) → ((passed : ℕ) × (m ≡ mode.Manifest n passed)) ⊎ (m ≡ mode.ManifestSync n)
-    → IsTrue (is_sound m b s) → IsReady s n
-commit_ready m b n s (inl (passed, e)) sound = committing_ready b n passed s (subst (λ (k : Mode). IsTrue (is_sound k b s)) e sound)
-commit_ready m b n s (inr e) sound = closed_ready b n s (subst (λ (k : Mode). IsTrue (is_sound k b s)) e sound)
 
 -- A commit of the bytes taken is one call, whether it worked or not.
 commit_calls : (s now : SlotsState) (n : ℕ) (ending : Ending) → n ≤ length (spare_of s) → DidCall s (Commit n) ending now
@@ -42,7 +39,7 @@ commit_calls : (s now : SlotsState) (n : ℕ) (ending : Ending) → n ≤ length
 commit_calls s now n ending fits d =
     subst (λ (k : ℕ). Called s (Commit k ∷ []) ending now) (sym (length-take-le n (spare_of s) fits)) (called_one s now (Commit n) ending d)
 
-rested : (m : Mode) → (m ≡ mode.DfuIdle) ⊎ (m ≡ mode.ManifestSyncComplete) ⊎ (m ≡ mode.ManifestWaitReset) → (xs ys : List ℕ)
+rested : (m : Mode) → IsAtRest m → (xs ys : List ℕ)
     → stage_of m xs ys ≡ stage_of m [] []
 rested m three xs ys = elim three [ inl e ↦ rw e refl | inr other ↦ elim other [ inl e ↦ rw e refl | inr e ↦ rw e refl ] ]
 
@@ -50,7 +47,7 @@ shaped_sound : (s : SlotsState) → is_shaped s ≡ true → IsTrue (is_shaped s
 shaped_sound s shape = grind (arith, common_steps)
 
 -- A machine that goes on to dfuIDLE, to dfuMANIFEST-SYNC when complete, or to dfuMANIFEST-WAIT-RESET is sound.
-pub rested_sound : (m : Mode) (b : ℕ) (s : SlotsState) → (m ≡ mode.DfuIdle) ⊎ (m ≡ mode.ManifestSyncComplete) ⊎ (m ≡ mode.ManifestWaitReset)
+pub rested_sound : (m : Mode) (b : ℕ) (s : SlotsState) → IsAtRest m
     → is_shaped s ≡ true → IsTrue (is_sound m b s)
 rested_sound m b s three shape =
     let sound : IsTrue (is_shaped s && true) = shaped_sound s shape in
@@ -84,20 +81,14 @@ pub record FindsRoom (s : SlotsState) (n b : ℕ) : Type 0 where
   pub some : 0 < b
   pub room : n + b ≤ room_of s
 
-room_found : (n b : ℕ) (s : SlotsState) → IsTrue (is_shaped s && (nat_lt 0 b && (nat_le (n + b) (room_of s) && ((n == 0) || is_put n s))))
-    → FindsRoom s n b
-room_found n b s sound = record { some = grind (arith, common_steps); room = grind (arith, common_steps) }
-
--- A block that is being written finds room.
-pub block_room : (m : Mode) (b n number : ℕ) (s : SlotsState) → ((passed : ℕ) × (m ≡ mode.DownloadBusy n number passed))
-    ⊎ (m ≡ mode.DownloadSync n number) → IsTrue (is_sound m b s) → FindsRoom s n b
-block_room m b n number s (inl (passed, e)) sound = room_found n b s (subst (λ (k : Mode). IsTrue (is_sound k b s)) e sound)
-block_room m b n number s (inr e) sound = room_found n b s (subst (λ (k : Mode). IsTrue (is_sound k b s)) e sound)
+-- A block that is to be written finds room.
+pub block_room : (n b number : ℕ) (s : SlotsState) → IsTrue (is_filled (mode.DownloadSync n number) b s) → FindsRoom s n b
+block_room n b number s filled = record { some = grind (arith, common_steps); room = grind (arith, common_steps) }
 
 -- A commit that worked is what the table says of it.
 pub committed : (config : Setting) (s now : SlotsState) (next : Mode) (block : List ℕ) (n : ℕ) → IsReady s n
     → DidCall s (Commit n) AllWorked now → image_of now ≡ take n (spare_of s) → room_of now ≡ room_of s
-    → (next ≡ mode.DfuIdle) ⊎ (next ≡ mode.ManifestSyncComplete) ⊎ (next ≡ mode.ManifestWaitReset)
+    → IsAtRest next
     → Committed (take n (spare_of s)) config s (stage_of next [] []) (shows config now next block)
 committed config s now next block n ready d image room three = record {
   config_is = refl;

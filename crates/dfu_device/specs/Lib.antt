@@ -6,6 +6,7 @@ pub mod Setting
 pub mod Shown
 pub mod Parts
 pub mod Rows
+pub mod Decision
 pub mod Lent
 pub mod Cases
 pub mod Came

@@ -1,6 +1,11 @@
 //! An answer before its bytes stand in a buffer.
 
-/// An answer before its bytes stand in a buffer: what a state decides, with no byte made or copied. A status and a state are
+ghost use Rattle.std.specs.Prelude.{◌≡◌};
+ghost use Rattle.dfu_device.specs.inside.Draft.{draft_of};
+
+use crate::reply::Reply;
+
+/// An answer before its bytes stand in a buffer: with no byte made or copied. A status and a state are
 /// those of the machine once it has gone on.
 ///
 /// `asked` is wLength: at most so many bytes are sent.
@@ -16,4 +21,16 @@ pub(crate) enum Draft {
     Piece { place: u32, asked: u16 },
     /// The request is stalled.
     Stall,
+}
+
+/// The draft of a reply, where so many bytes are asked for.
+pub(crate) fn draft_of(reply: Reply, asked: u16) -> Draft
+    ensures { result ≡ draft_of asked reply }
+{
+    match reply {
+        Reply::Ack => Draft::Ack,
+        Reply::Status => Draft::Status { asked },
+        Reply::State => Draft::State { asked },
+        Reply::Stall => Draft::Stall,
+    }
 }

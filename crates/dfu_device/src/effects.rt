@@ -1,20 +1,22 @@
-//! What the states of a device do: a function for each effect.
+//! What a device does: a function for each effect.
 
-ghost use Rattle.std.specs.Prelude.{◌≡◌, ◌<◌, ◌≤◌, ◌+◌, ◌++◌, ◌^◌, ◌⊎◌, ℕ, length, take, List, [], true, false, if◌then◌else◌, OnOk, OnErr, IfErr};
+ghost use Rattle.std.specs.Prelude.{◌≡◌, ◌<◌, ◌≤◌, ◌+◌, ◌++◌, ◌^◌, ◌⊎◌, ℕ, length, take, drop, nat_lt, List, [], IsTrue, true, false, if◌then◌else◌, OnOk, OnErr, IfErr};
 ghost use Rattle.dfu_slots.specs.Medium.{Rose};
 ghost use Rattle.dfu_slots.specs.Seen.{image_of, spare_of, room_of, is_shaped, Called};
 ghost use Rattle.dfu_slots.specs.Changes.{fault_of, ending_of};
-ghost use Rattle.dfu_device.specs.Stage.{InDownloadSyncWritten, InDownloadIdle, InError, poll_of, status_of};
-ghost use Rattle.dfu_device.specs.Table.{write_code, commit_code, block_plan};
+ghost use Rattle.dfu_device.specs.Stage.{poll_of, status_of};
+ghost use Rattle.dfu_device.specs.Table.{write_code, commit_code};
 ghost use Rattle.dfu_device.specs.Shown.{profile};
-ghost use Rattle.dfu_device.specs.Parts.{is_put, stage_of};
+ghost use Rattle.dfu_device.specs.Parts.{is_put, is_filled, stage_of};
 ghost use Rattle.dfu_device.specs.Rows.{Answers, WroteBlock, FailedBlock, Committed, FailedCommit, block_calls};
+ghost use Rattle.dfu_device.specs.Decision.{plan_of, written_stage, IsAtRest, IsPossible, IsSilent};
 ghost use Rattle.dfu_device.specs.inside.Draft.{DraftDone};
 ghost use Rattle.dfu_device.specs.inside.View.{shown};
 
 use crate::Answer;
 use crate::block::Block;
-use crate::draft::Draft;
+use crate::decision::Decision;
+use crate::draft::{Draft, draft_of};
 use crate::machine::Machine;
 use crate::mode::Mode;
 use dfu_slots::{Medium, PutFault, Slots, WriteFault};
@@ -45,45 +47,64 @@ impl<M: Medium, B: Block> Machine<M, B> {
         status.encode()
     }
 
-    /// Stalls, and goes to dfuERROR with a code.
-    pub(crate) fn error(&mut self, code: Code) -> Draft
-        ensures answer { result ≡ Draft.Stall }
-        ensures now { shown self.new ≡ record (shown self.old) { stage = InError code } }
+    /// Carries a decision out, with the body of its request, which asks for so many bytes of a status or of a state.
+    pub(crate) fn carry_out(&mut self, decision: Decision, asked: u16, body: &[u8]) -> Draft
+        requires { IsPossible self.old.config.functional.transfer (length (B.items self.old.block)) (length body.now) self.old.slots decision }
+        ensures row { let w = shown self.old in let spare = spare_of w.slots in
+            DraftDone (plan_of (profile w) (image_of w.slots) spare (B.items self.old.block) body.now decision) asked w result (shown self.new) }
+        ensures silent { IsSilent decision → result ≡ Draft.Ack }
         ensures memory { B.memory self.new.block ≡ B.memory self.old.block }
     {
-        self.mode = Mode::Error { code };
-        Draft::Stall
+        match decision {
+            Decision::Sure { reply, mode } => {
+                self.mode = mode;
+                draft_of(reply, asked)
+            }
+            Decision::Holds { mode } => {
+                self.block.hold(body);
+                self.mode = mode;
+                Draft::Ack
+            }
+            Decision::Sends {
+                place,
+                size,
+                number,
+            } => {
+                self.mode = self.after_piece(place, size, number);
+                Draft::Piece { place, asked: size }
+            }
+            Decision::Writes {
+                reply,
+                written,
+                number,
+                late,
+            } => {
+                let _ = self.write_block(written, number, late);
+                draft_of(reply, asked)
+            }
+            Decision::Commits {
+                reply,
+                written,
+                mode,
+            } => {
+                let _ = self.commit_taken(written, mode);
+                draft_of(reply, asked)
+            }
+        }
     }
 
-    /// Takes a block of a download behind the bytes written, if its length and its number are right.
-    pub(crate) fn take_block(
-        &mut self,
-        written: u32,
-        expected: u16,
-        number: u16,
-        body: &[u8],
-    ) -> Draft
-        requires fits { (written ≡ 0) ⊎ ((0 < written) × (written ≤ room_of self.old.slots) × (is_put written self.old.slots ≡ true)) }
-        requires some { 0 < length body.now }
-        ensures row { DraftDone (block_plan (profile (shown self.old)) (take written (spare_of self.old.slots)) expected number body.now) 0
-            (shown self.old) result (shown self.new) }
-        ensures memory { B.memory self.new.block ≡ B.memory self.old.block }
+    /// Where the device goes once these bytes of its image are sent: fewer than `size` are the last ones.
+    fn after_piece(&self, place: u32, size: u16, number: u16) -> Mode
+        ensures mode { let part = take size (drop place (image_of self.now.slots)) in
+            result ≡ (if nat_lt (length part) size then Mode.DfuIdle else Mode.UploadIdle (place + size) number) }
     {
-        if body.len() > self.config.transfer() as usize {
-            return self.error(Code::StalledPkt);
+        if self.piece_len(place, size) < size {
+            return Mode::DfuIdle;
         }
-        if number != expected {
-            return self.error(Code::Address);
+        Mode::UploadIdle {
+            place: place + u32::from(size),
+            number,
         }
-        if body.len() > (self.slots.capacity() - written) as usize {
-            return self.error(Code::Address);
-        }
-        self.block.hold(body);
-        self.mode = Mode::DownloadSync {
-            written,
-            number: expected.wrapping_add(1),
-        };
-        Draft::Ack
     }
 
     /// Writes the block. It answers the fault of a write that had one; `late` is said where time passed, so
@@ -94,12 +115,11 @@ impl<M: Medium, B: Block> Machine<M, B> {
         number: u16,
         late: bool,
     ) -> Result<(), WriteFault>
-        requires { ((passed : ℕ) × (self.old.mode ≡ Mode.DownloadBusy written number passed))
-            ⊎ (self.old.mode ≡ Mode.DownloadSync written number) }
+        requires { IsTrue (is_filled (Mode.DownloadSync written number) (length (B.items self.old.block)) self.old.slots) }
         ensures done { let before = take written (spare_of self.old.slots) in
             let block = B.items self.old.block in
-            let next = if late then InDownloadSyncWritten (before ++ block) number else InDownloadIdle (before ++ block) number in
-            OnOk result (WroteBlock before block self.old.config self.old.slots next (shown self.new)) }
+            OnOk result (WroteBlock before block self.old.config self.old.slots (written_stage late (before ++ block) number)
+            (shown self.new)) }
         ensures failed { IfErr result (λ fault. FailedBlock fault
             (take written (spare_of self.old.slots)) (B.items self.old.block) self.old.config self.old.slots (shown self.new)) }
         ensures memory { B.memory self.new.block ≡ B.memory self.old.block }
@@ -127,8 +147,8 @@ impl<M: Medium, B: Block> Machine<M, B> {
     /// Makes the bytes taken the active image, and goes on to the next state. It answers the fault of a
     /// write that had one.
     pub(crate) fn commit_taken(&mut self, written: u32, next: Mode) -> Result<(), WriteFault>
-        requires mode { ((passed : ℕ) × (self.old.mode ≡ Mode.Manifest written passed)) ⊎ (self.old.mode ≡ Mode.ManifestSync written) }
-        requires next { (next ≡ Mode.DfuIdle) ⊎ (next ≡ Mode.ManifestSyncComplete) ⊎ (next ≡ Mode.ManifestWaitReset) }
+        requires taken { IsTrue (is_filled (Mode.ManifestSync written) (length (B.items self.old.block)) self.old.slots) }
+        requires next { IsAtRest next }
         ensures done { OnOk result (Committed (take written (spare_of self.old.slots)) self.old.config self.old.slots
             (stage_of next [] []) (shown self.new)) }
         ensures failed { IfErr result (λ fault. FailedCommit fault (take written (spare_of self.old.slots)) self.old.config self.old.slots

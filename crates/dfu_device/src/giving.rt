@@ -1,6 +1,6 @@
 //! The bytes of an answer go into the buffer of the caller.
 
-ghost use Rattle.std.specs.Prelude.{◌≡◌, ◌≤◌, ◌<◌, ◌+◌, ◌++◌, ◌∷◌, max, ℕ, List, [], length, take, drop, slice_range, IfSome, IfNone};
+ghost use Rattle.std.specs.Prelude.{◌≡◌, ◌≤◌, ◌<◌, ◌+◌, ◌++◌, ◌∷◌, ◌^◌, max, ℕ, List, [], length, take, drop, slice_range, IfSome, IfNone};
 ghost use Rattle.dfu_wire.specs.State.{state_byte};
 ghost use Rattle.dfu_slots.specs.Seen.{image_of};
 ghost use Rattle.dfu_device.specs.Stage.{state_of};
@@ -28,7 +28,7 @@ impl<M: Medium, B: Block> Machine<M, B> {
     {
         // Called for its clause `fits`, which `give` needs; what it answers isn't used.
         let _ = self.config.transfer();
-        let draft = self.decide(setup, body);
+        let draft = self.draft(setup, body);
         out.clear();
         self.give(draft, out)
     }
@@ -49,7 +49,7 @@ impl<M: Medium, B: Block> Machine<M, B> {
         if out.len() < usize::from(self.config.transfer()).max(6) {
             return None;
         }
-        let draft = self.decide(setup, body);
+        let draft = self.draft(setup, body);
         Some(self.give_into(draft, out))
     }
 
@@ -101,6 +101,18 @@ impl<M: Medium, B: Block> Machine<M, B> {
             Draft::Piece { place, asked } => (Answer::Bytes, self.put_piece(place, asked, out)),
             Draft::Stall => (Answer::Stall, 0),
         }
+    }
+
+    /// How many bytes of the image stand from `place` on, at most `len`.
+    #[inline(never)]
+    pub(crate) fn piece_len(&self, place: u32, len: u16) -> u16
+        ensures count { result ≡ length (take len (drop place (image_of self.now.slots))) }
+        ensures bytes { slice_range (image_of self.now.slots) place (place + result) ≡ take len (drop place (image_of self.now.slots)) }
+        ensures within { 0 < result → place + result ≤ length (image_of self.now.slots) }
+        ensures fits { 0 < result → place + result ≤ 2 ^ 24 }
+    {
+        let rest = self.slots.active_len().saturating_sub(place);
+        rest.min(len as u32) as u16
     }
 
     /// Puts bytes of the image at the front of a buffer, from `place` on, at most `asked`; and answers how many they are.

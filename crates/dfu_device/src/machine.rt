@@ -1,18 +1,22 @@
 //! The machine inside a device.
 
 ghost use Rattle.std.specs.Prelude.{◌≡◌, ◌≢◌, ◌<◌, ◌≤◌, ◌==◌, ◌^◌, length, ℕ, List, IsTrue, []};
-ghost use Rattle.dfu_slots.specs.Seen.{image_of};
+ghost use Rattle.dfu_slots.specs.Seen.{image_of, room_of};
 ghost use Rattle.dfu_device.specs.Stage.{InAppIdle, state_of, code_of};
 ghost use Rattle.dfu_device.specs.Table.{reset_stage};
-ghost use Rattle.dfu_device.specs.Shown.{Shown, powered_on};
+ghost use Rattle.dfu_device.specs.Shown.{Shown, profile, powered_on};
 ghost use Rattle.dfu_device.specs.Parts.{is_sound};
-ghost use Rattle.dfu_device.specs.Rows.{Handles, body_length};
+ghost use Rattle.dfu_device.specs.Rows.{Handles, Elapses, body_length, asked_length};
 ghost use Rattle.dfu_device.specs.Lent.{answer_room};
+ghost use Rattle.dfu_device.specs.Decision.{profile_in, HasLength};
 ghost use Rattle.dfu_device.specs.inside.Draft.{Drafted, DraftServed, DraftHandled};
 
 use crate::block::Block;
 use crate::draft::Draft;
 use crate::mode::Mode;
+use crate::profile::Profile;
+use crate::table::decide;
+use crate::time_table::decide_time;
 use crate::{Answer, Config};
 use dfu_slots::{Medium, Slots};
 use dfu_wire::{Code, Request, Setup, State};
@@ -59,33 +63,33 @@ impl<M: Medium, B: Block> Machine<M, B> {
     pub(crate) fn state(&self) -> State
         ensures { result ≡ state_of (shown self.now).stage }
     {
-        match self.mode {
-            Mode::AppIdle => State::AppIdle,
-            Mode::AppDetach { .. } => State::AppDetach,
-            Mode::DfuIdle => State::DfuIdle,
-            Mode::DownloadSync { .. } | Mode::DownloadSyncWritten { .. } => State::DownloadSync,
-            Mode::DownloadBusy { .. } => State::DownloadBusy,
-            Mode::DownloadIdle { .. } => State::DownloadIdle,
-            Mode::ManifestSync { .. } | Mode::ManifestSyncComplete => State::ManifestSync,
-            Mode::Manifest { .. } => State::Manifest,
-            Mode::ManifestWaitReset => State::ManifestWaitReset,
-            Mode::UploadIdle { .. } => State::UploadIdle,
-            Mode::Error { .. } => State::Error,
-        }
+        self.mode.state()
     }
 
     /// The status code: that of dfuERROR, and OK in every other state.
     pub(crate) fn code(&self) -> Code
         ensures { result ≡ code_of (shown self.now).stage }
     {
-        match self.mode {
-            Mode::Error { code } => code,
-            _ => Code::Ok,
+        self.mode.code()
+    }
+
+    /// What the table reads of it.
+    fn profile(&self) -> Profile
+        ensures profile { profile_in result ≡ profile (shown self.now) }
+        ensures capacity { result.capacity ≡ room_of self.now.slots }
+        ensures transfer { result.functional.transfer ≡ self.now.config.functional.transfer }
+    {
+        Profile {
+            functional: self.config.functional(),
+            least: self.config.least(),
+            busy_ms: self.config.busy_ms(),
+            manifest_ms: self.config.manifest_ms(),
+            capacity: u64::from(self.slots.capacity()),
         }
     }
 
     /// What a setup with its body comes to: the three rules before the table, then the table.
-    pub(crate) fn decide(&mut self, setup: &[u8; 8], body: &[u8]) -> Draft
+    pub(crate) fn draft(&mut self, setup: &[u8; 8], body: &[u8]) -> Draft
         ensures row { DraftHandled setup.now body.now (shown self.old) result (shown self.new) }
         ensures fits { (a : Answer) (sent : List ℕ) → Drafted result (shown self.new) a sent → length sent ≤ answer_room self.old.config }
         ensures memory { B.memory self.new.block ≡ B.memory self.old.block }
@@ -103,28 +107,23 @@ impl<M: Medium, B: Block> Machine<M, B> {
         }
     }
 
-    /// Decides on a request of the class whose body fits, by the state.
-    #[rattlefmt::skip]
+    /// A request of the class whose body fits: its row of the table.
     fn serve(&mut self, request: Request, body: &[u8]) -> Draft
-        requires fits { (block len : ℕ) → request ≡ Request.Dnload block len → length body.now ≡ len }
+        requires fits { HasLength request body.now }
         ensures row { DraftServed request body.now (shown self.old) result (shown self.new) }
         ensures memory { B.memory self.new.block ≡ B.memory self.old.block }
     {
-        match self.mode {
-            Mode::AppIdle => self.in_app_idle(request),
-            Mode::AppDetach { timer, passed } => self.in_app_detach(timer, passed, request),
-            Mode::DfuIdle => self.in_dfu_idle(request, body),
-            Mode::DownloadSync { written, number } => self.in_download_sync(written, number, request),
-            Mode::DownloadSyncWritten { written, number } => self.in_download_sync_written(written, number, request),
-            Mode::DownloadBusy { .. } => self.in_download_busy(),
-            Mode::DownloadIdle { written, number } => self.in_download_idle(written, number, request, body),
-            Mode::ManifestSync { written } => self.in_manifest_sync(written, request),
-            Mode::ManifestSyncComplete => self.in_manifest_sync_complete(request),
-            Mode::Manifest { .. } => self.in_manifest(),
-            Mode::ManifestWaitReset => self.in_manifest_wait_reset(),
-            Mode::UploadIdle { place, number } => self.in_upload_idle(place, number, request),
-            Mode::Error { code } => self.in_error(code, request),
-        }
+        let decision = decide(&self.profile(), self.mode, request);
+        self.carry_out(decision, asked_length(request), body)
+    }
+
+    /// So many milliseconds pass.
+    pub(crate) fn elapse(&mut self, ms: u32)
+        ensures row { Elapses ms (shown self.old) (shown self.new) }
+        ensures memory { B.memory self.new.block ≡ B.memory self.old.block }
+    {
+        let decision = decide_time(&self.profile(), self.mode, ms);
+        let _ = self.carry_out(decision, 0, &[]);
     }
 
     /// The bus is reset.
@@ -136,6 +135,16 @@ impl<M: Medium, B: Block> Machine<M, B> {
             Mode::AppDetach { .. } => Mode::DfuIdle,
             _ => Mode::AppIdle,
         };
+    }
+}
+
+/// How many bytes of a status or of a state a request asks for: wLength.
+fn asked_length(request: Request) -> u16
+    ensures { result ≡ asked_length request }
+{
+    match request {
+        Request::GetStatus { length } | Request::GetState { length } => length,
+        _ => 0,
     }
 }
 

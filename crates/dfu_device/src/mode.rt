@@ -1,6 +1,10 @@
 //! Where a device stands.
 
-use dfu_wire::Code;
+ghost use Rattle.std.specs.Prelude.{◌≡◌, ℕ, List};
+ghost use Rattle.dfu_device.specs.Stage.{state_of, code_of};
+ghost use Rattle.dfu_device.specs.Parts.{stage_of};
+
+use dfu_wire::{Code, State};
 
 /// Where a device stands: a state of the standard (USB DFU 1.1, section 6.1.2), with what the device keeps there beside its
 /// slot store and the block that is not written. What a mode does not name is forgotten when it is entered.
@@ -79,4 +83,35 @@ pub enum Mode {
         /// The status code.
         code: Code,
     },
+}
+
+impl Mode {
+    /// The state of the standard (USB DFU 1.1, section 6.1.2, bState).
+    pub fn state(self) -> State
+        ensures { (spare block : List ℕ) → result ≡ state_of (stage_of self spare block) }
+    {
+        match self {
+            Mode::AppIdle => State::AppIdle,
+            Mode::AppDetach { .. } => State::AppDetach,
+            Mode::DfuIdle => State::DfuIdle,
+            Mode::DownloadSync { .. } | Mode::DownloadSyncWritten { .. } => State::DownloadSync,
+            Mode::DownloadBusy { .. } => State::DownloadBusy,
+            Mode::DownloadIdle { .. } => State::DownloadIdle,
+            Mode::ManifestSync { .. } | Mode::ManifestSyncComplete => State::ManifestSync,
+            Mode::Manifest { .. } => State::Manifest,
+            Mode::ManifestWaitReset => State::ManifestWaitReset,
+            Mode::UploadIdle { .. } => State::UploadIdle,
+            Mode::Error { .. } => State::Error,
+        }
+    }
+
+    /// The status code: that of dfuERROR, and OK in every other state (USB DFU 1.1, section 6.1.2, bStatus).
+    pub fn code(self) -> Code
+        ensures { (spare block : List ℕ) → result ≡ code_of (stage_of self spare block) }
+    {
+        match self {
+            Mode::Error { code } => code,
+            _ => Code::Ok,
+        }
+    }
 }

@@ -9,15 +9,18 @@ use Rattle.dfu_slots.specs.Seen.{image_of, spare_of, room_of}
 use Rattle.dfu_device.specs.declared.mode.Mode.{Mode}
 use Rattle.dfu_device.specs.Stage.{Profile}
 use Rattle.dfu_device.specs.Table.{plan}
-use Rattle.dfu_device.specs.Shown.{Shown, profile}
+use Rattle.dfu_device.specs.Shown.{Shown, profile, profile_of}
 use Rattle.dfu_device.specs.Parts.{stage_of, is_sound}
 use Rattle.dfu_device.specs.Rows.{meant, body_length, setup_plan}
 use Rattle.dfu_c_parts.specs.declared.config.DfuConfig.{DfuConfig}
 use Rattle.dfu_c_parts.specs.declared.record.DfuDevice.{DfuDevice}
 use Rattle.dfu_c_parts.specs.Config.{setting_of, unit_of, gate_in}
 use Rattle.dfu_c_parts.specs.Record.{HasMode}
-use Rattle.dfu_c_parts.specs.Stalls.{verdict, HasLimits, HoldsWritten, HasLength}
-use Rattle.dfu_c_parts.proofs.Setups.{served_stalls, has_length, holds_written, told_row}
+use Rattle.dfu_device.specs.Decision.{HoldsWritten, HasLength}
+use Rattle.dfu_device.proofs.Before.{has_length}
+use Rattle.dfu_device.proofs.Carried.{holds_written}
+use Rattle.dfu_c_parts.specs.Stalls.{verdict}
+use Rattle.dfu_c_parts.proofs.Setups.{served_stalls, told_row}
 use Rattle.dfu_device_c.specs.Record.{block_in, store_in}
 use Rattle.dfu_device_c.specs.Device.{IsDevice}
 use Rattle.dfu_device_c.specs.Stalls.{ToldStall}
@@ -31,9 +34,9 @@ room_in u r bytes = refl
 module _ (c : DfuConfig) (r : DfuDevice) (size : ℕ) (setup : List ℕ) (p : Setup) (q : Asked) (m : Mode) (b : Bool)
     (the_setup : (x : Setup) → IsSetup x setup → p ≡ x) (the_request : (x : Asked) → Asks p x → q ≡ x)
     (the_mode : (x : Mode) → HasMode r x → m ≡ x)
-    (said : (x : Profile) (image spare unwritten body : List ℕ)
-    → HasLimits x (setting_of c).functional (setting_of c).least (size / 2 - 2 * gate_in (unit_of c))
-    → HoldsWritten m spare → HasLength q body → Some b ≡ verdict (plan x image (stage_of m spare unwritten) (meant q body))) where
+    (said : (image spare unwritten body : List ℕ) → HoldsWritten m spare → HasLength q body
+    → Some b ≡ verdict (plan (profile_of (setting_of c) (size / 2 - 2 * gate_in (unit_of c))) image
+    (stage_of m spare unwritten) (meant q body))) where
   -- So it is said of the device.
   stalls_device : (block bytes : List ℕ) (d : Shown) → IsDevice c r block bytes d → length bytes ≡ size → (body : List ℕ)
       → length body ≡ body_length p
@@ -43,17 +46,14 @@ module _ (c : DfuConfig) (r : DfuDevice) (size : ℕ) (setup : List ℕ) (p : Se
       let same : m ≡ device.mode = the_mode device.mode device.has_mode in
       let stage_is : d.stage ≡ stage_of m (spare_of store) (block_in r block) =
       ap (λ (w : Shown). w.stage) device.device_is ∙ (λ i. stage_of (sym same i) (spare_of store) (block_in r block)) in
-      said (profile d) (image_of d.slots) (spare_of store) (block_in r block) body
-      (record {
-        can_download = ap (λ (w : Shown). w.config.functional.can_download) device.device_is;
-        can_upload = ap (λ (w : Shown). w.config.functional.can_upload) device.device_is;
-        transfer = ap (λ (w : Shown). w.config.functional.transfer) device.device_is;
-        least = ap (λ (w : Shown). w.config.least) device.device_is;
-        capacity = ap (λ (w : Shown). room_of w.slots) device.device_is ∙ room_in (unit_of c) r bytes
-            ∙ ap (λ n. n / 2 - 2 * gate_in (unit_of c)) size_is;
-      })
+      let room : room_of d.slots ≡ size / 2 - 2 * gate_in (unit_of c) = ap (λ (w : Shown). room_of w.slots) device.device_is
+      ∙ room_in (unit_of c) r bytes ∙ ap (λ n. n / 2 - 2 * gate_in (unit_of c)) size_is in
+      subst
+      (λ (x : Profile). Some b ≡ verdict (plan x (image_of d.slots) (stage_of m (spare_of store) (block_in r block)) (meant q body)))
+      (λ i. profile_of (sym (ap (λ (w : Shown). w.config) device.device_is) i) (sym room i))
+      (said (image_of d.slots) (spare_of store) (block_in r block) body
       (holds_written m r.length store (subst (λ x. IsTrue (is_sound x r.length store)) (sym same) device.sound))
-      (has_length p q body asks fits)
+      (has_length p q body asks fits))
       ∙ ap (λ x. verdict (plan (profile d) (image_of d.slots) x (meant q body))) (sym stage_is)
       ∙ sym (served_stalls d m (spare_of store) (block_in r block) p q body stage_is (eq-eqb (length body) (body_length p) fits))
 

@@ -3,10 +3,10 @@ use Rattle.std.proofs.Common.{◌≡◌, inl, inr, ⊎_elim, ◌==◌, Bool, tru
 use Rattle.dfu_slots.specs.declared.unit.Unit.{Unit as WriteUnit}
 use Rattle.dfu_slots.specs.declared.unit.Unit.TheVariants.{Byte, U16, U64, U256}
 use Rattle.dfu_slots.specs.Units.{Grain, unit_size, in_place, gate_size, gate_room, whole_part, filled}
-use Rattle.dfu_slots.specs.Writes.{write_anew, part_writes, commit_writes}
-use Rattle.dfu_slots.specs.Medium.{MediumState, KeepsOutside, AllWrites, written}
+use Rattle.dfu_slots.specs.Writes.{closed_gate, write_anew, part_writes, commit_writes}
+use Rattle.dfu_slots.specs.Medium.{MediumState, Write, KeepsOutside, AllWrites, written}
 use Rattle.dfu_slots.specs.Layout.{slot, slot_size, OPEN, generation, next_generation, gate_unit, header_unit}
-use Rattle.dfu_slots.specs.Image.{gate_of, capacity_of, active_at, spare_at}
+use Rattle.dfu_slots.specs.Image.{gate_of, capacity_of, active_at, spare_at, spare}
 use Rattle.dfu_slots.specs.Known.{place_of}
 use Rattle.dfu_slots.specs.Seen.{SlotsState, store_of, Begin, Put, Commit, writes_of, AllWorked, Called, held_at, data_place}
 use Rattle.dfu_slots.specs.Store.{IsStore}
@@ -15,8 +15,8 @@ use Rattle.dfu_slots.proofs.Stands.{ActiveAt, standing}
 use Rattle.dfu_slots.proofs.Torn.{keeps_same, keeps_both, keeps_wider}
 use Rattle.dfu_slots.proofs.Parts.{slot_outside, length-gate_unit, length-header_unit}
 use Rattle.dfu_slots.proofs.Newest.{places_are, place_end}
-use Rattle.dfu_slots.proofs.Series.{AllInside, ends_keep, all_grain, inside_append}
-use Rattle.dfu_slots.proofs.Begun.{begin_outside, begin_keeps}
+use Rattle.dfu_slots.proofs.Series.{AllInside, ends_keep, all_grain, inside_append, inside_if}
+use Rattle.dfu_slots.proofs.Begun.{closed_most, begin_keeps}
 use Rattle.dfu_slots.proofs.Put.{put_inside, rest_length}
 use Rattle.dfu_slots.proofs.Unread.{named_is}
 use Rattle.dfu_device.specs.declared.answer.Answer.{Answer}
@@ -65,9 +65,16 @@ module _ (mine other : ℕ) (image : List ℕ) where
       → Spares other (slot_size s.medium.bytes) s.medium.bytes now.medium.bytes
       × ActiveAt (gate_of s.medium) now.medium.bytes mine other image
   begin_spares s now a writes =
-      let g = gate_of s.medium in (
-        keeps_wider other (other + g) other (other + slot_size s.medium.bytes) s.medium.bytes now.medium.bytes
-            (begin_outside s.medium.grain s.medium now.medium mine other image a (inl writes)) (omega arith) (omega (arith, a.sized.room)),
+      let g = gate_of s.medium in
+      let old = s.medium.bytes in
+      let place : other ≡ spare_at g old = (places_are g old mine other image a).1 in
+      let end : other + slot_size old ≤ length old = (place_end g old mine other a.sized a.places).1 in
+      let closing : List Write = record { at = spare_at g old; bytes = closed_gate s.medium.grain } ∷ [] in
+      let inside : AllInside other (other + g) (writes_of s Begin) = inside_if other (other + g) ((spare g old).gate == OPEN) closing []
+      (omega (arith, place), omega (arith, place, closed_most s.medium.grain), tt) tt in (
+        keeps_wider other (other + g) other (other + slot_size old) old now.medium.bytes
+            (ends_keep other (other + g) (writes_of s Begin) s.medium now.medium (omega (arith, end, a.sized.room)) inside (inl writes))
+            (omega arith) (omega (arith, a.sized.room)),
         begin_keeps s.medium.grain s.medium now.medium mine other image a (inl writes),
       )
 
@@ -229,7 +236,7 @@ noted_spared c r block bytes seen r' block' bytes' seen' before after p len a ou
     let half : slot_size bytes ≡ slot_size seen = omega (arith, size) in
     let there : place_of first seen ≡ active_at g seen =
     subst (λ (b : List ℕ). place_of first b ≡ active_at g b) (sym seen_is)
-    (named_is (memory_of (unit_of c) (shown (unit_of c) r bytes)) first noted.active).active_there in
+    (named_is {m = memory_of (unit_of c) (shown (unit_of c) r bytes)} {first = first} noted.active).active_there in
     let at_is : q ≡ active.at =
     ap (λ (n : ℕ). if first then 0 else n) half ∙ there
     ∙ sym (places_are g seen active.at active.spare was.store.has_image.image stands).0 in

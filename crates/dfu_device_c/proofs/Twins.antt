@@ -71,7 +71,7 @@ active_alike u xs ys image size first second a =
     let mine = pick a.at (⊎_elim (λ p. inl p.0) (λ p. inr p.0) a.places) in
     let other = pick a.spare (⊎_elim (λ p. inr p.1) (λ p. inl p.1) a.places) in
     record {
-      sized = sized_after (memory_of u xs) (memory_of u ys) a.sized refl size;
+      sized = sized_after {m = memory_of u xs} {n = memory_of u ys} (record { grain = refl; size = size }) a.sized;
       at = a.at;
       spare = a.spare;
       places = ⊎_elim (λ p. inl (p.0, p.1 ∙ half)) (λ p. inr (p.0 ∙ half, p.1)) a.places;

@@ -8,9 +8,9 @@ ghost use Rattle.dfu_device_c.specs.Stalls.{ToldStall};
 ghost use Rattle.dfu_device_c.specs.Due.{due_of, ToldDue};
 
 use dfu_c_parts::{
-    DfuConfig, DfuDevice, Limits, functional_of, is_allowed, mode_of, room_of, unit_of, will_stall,
+    DfuConfig, DfuDevice, functional_of, is_allowed, mode_of, room_of, unit_of, will_stall,
 };
-use dfu_device::Mode;
+use dfu_device::{Mode, Profile};
 use dfu_wire::Setup;
 
 /// Whether `dfu_device_handle` will stall this setup, whatever body of wLength bytes comes with it: 1 or 0. `size` is how many
@@ -31,12 +31,14 @@ pub extern "C" fn dfu_device_would_stall(
     let Some(mode) = mode_of(device) else {
         return -4;
     };
-    let limits = Limits {
+    let profile = Profile {
         functional: functional_of(config),
         least: config.least,
-        room: room_of(unit_of(config), size),
+        busy_ms: config.busy_ms,
+        manifest_ms: config.manifest_ms,
+        capacity: room_of(unit_of(config), size),
     };
-    i32::from(will_stall(&limits, mode, Setup::decode(setup).request()))
+    i32::from(will_stall(&profile, mode, Setup::decode(setup).request()))
 }
 
 // How many milliseconds are left, at least 1.

@@ -1,9 +1,8 @@
 -- What is printed of a script follows from how it ended: the headline is kept event by event.
-use Rattle.std.proofs.Common.{◌≡◌, inl, inr, ℕ, List, [], ◌∷◌, ◌++◌, map, append_assoc, Option, Some, None, Result, Ok, Err, refl, sym, ap, ◌∙◌, subst}
+use Rattle.std.proofs.Common.{◌≡◌, inl, inr, ℕ, List, [], ◌∷◌, ◌++◌, map, Option, Some, None, Result, Ok, Err, refl, sym, ap, ◌∙◌, subst}
 use Rattle.std.proofs.lemmas.List.{map-append}
-use Rattle.std.specs.Prelude.{◌+◌, OnOk, IfErr, IfSome, replicate, unwrap_or}
+use Rattle.std.specs.Prelude.{◌+◌, IfSome, replicate, unwrap_or}
 use Rattle.std.specs.Io.KnownBytes.{Appends}
-use Rattle.dfu_suffix.specs.Writing.{IsOutInPart}
 use Rattle.dfu_slots.specs.Seen.{format_series, image_of}
 use Rattle.dfu_slots.specs.Unarmed.{all_whole}
 use Rattle.dfu_device.specs.Stage.{Stage}
@@ -18,19 +17,19 @@ use Rattle.dfu_sim.specs.Bench.{Bench, ShowsActive}
 use Rattle.dfu_sim.specs.Standing.{IsSteady}
 use Rattle.dfu_sim.specs.Play.{Answered}
 use Rattle.dfu_sim.specs.Bytes.{link_of}
-use Rattle.dfu_sim.specs.Comes.{Comes, refuses, happens, shown_as}
+use Rattle.dfu_sim.specs.Comes.{Comes, refuses, happens}
 use Rattle.dfu_sim.specs.Understood.{ImageShown}
 use Rattle.dfu_sim.specs.Headline.{Begun, HeadlineHolds, IsWaiting}
 use Rattle.dfu_sim.specs.BegunBy.{begun_by}
-use Rattle.dfu_link.specs.Texts.{uploaded_line, told_line, answer_line, refusal_line, line_of_image, image_line, show_line}
-use Rattle.dfu_link.specs.Said.{EventLine, Said, Blank, LimitsTo, Does, Go, GoesOn, Show, Expects}
+use Rattle.dfu_link.specs.Texts.{uploaded_line, told_line, answer_line, refusal_line}
+use Rattle.dfu_link.specs.Said.{Said, Does, Go, GoesOn, Show}
 use Rattle.dfu_link.specs.Lines.{line_of}
-use Rattle.dfu_link.specs.ScriptRun.{Settings, beginning, at_rest, Point, point, events_of, AllCome, none_comes, then_comes, LineActs, skips, limits_to, plays, goes_on, shows, expects, LinesRun, stays, then_runs, SetsUp, Starts, IsRun, WroteRun, blank}
+use Rattle.dfu_link.specs.ScriptRun.{Settings, beginning, at_rest, Point, point, AllCome, none_comes, then_comes, LineActs, skips, limits_to, plays, goes_on, shows, expects, LinesRun, stays, then_runs, SetsUp, Starts, WroteRun, blank}
 use Rattle.dfu_link.specs.Falls.{BreaksIn, in_events as breaks_in_events, in_passes as breaks_in_passes, in_show as breaks_in_show, NextFalls, Falls, no_memory, in_setting, at_start, in_run, Ended}
 use Rattle.dfu_link.specs.Printed.{IsKnownImage, Brings, Events, brought, report_text, EventsPrint, no_event, then_refused, LinePrints, prints_nothing, prints_events, prints_passes, prints_image, LinesPrint, no_line, then_line, StartsWith, TextPrints, WrotePrinted, PartPrints, nothing_out, in_events, in_line, in_image, StopsPrinted, before_start, after_start, HasPrinted}
-use Rattle.dfu_link.proofs.LineBrings.{sessions_in, said_brings, line_brings}
+use Rattle.dfu_link.proofs.LineBrings.{said_brings, line_brings}
 use Rattle.dfu_link.proofs.PrintedTexts.{Refusal, refusal, state_words, state_words_endless}
-use Rattle.dfu_link.proofs.Printing.{session_by, same_events, same_text, one_prints, prepares_keep, prepares_start, ready_starts}
+use Rattle.dfu_link.proofs.Printing.{session_by, same_events, one_prints, prepares_keep, prepares_start, ready_starts}
 use Rattle.dfu_link.proofs.PlayLaws.{replicate_more}
 use Rattle.dfu_sim.proofs.Steady.{comes_follow, uploads_give, rest_is_steady}
 use Rattle.dfu_sim.proofs.HeadlineKept.{keeps_on, holds_at_rest}
@@ -271,14 +270,6 @@ fall_prints shown {g = g} {new = new} (in_run {settings = settings} {first = fir
     after_start (text_prints shown sets_up starts all) falls.split falls.told
     (subst (λ (x : Option (List ℕ)). PartPrints x settings.image all.past' falls.end.at (image_of falls.end.at.device.slots) falls.rest
     falls.mid new) kept (part_of_next shown falls.end _ falls.rest falls.mid new fault all.keeps falls.falls))
-
--- By how a script ended.
-pub ended : (g given : Option (List ℕ)) (old new : Option (List ℕ)) (r : Result Unit ScriptFault)
-    → IfSome given (λ text. OnOk r (WroteRun g text old new)) → IfSome given (λ text. IfErr r (λ f. Falls g text old new f))
-    → IfSome given (λ text. Ended g text old new r)
-ended g None old new r ok fault = tt
-ended g (Some text) old new (Ok done) ok fault = ok
-ended g (Some text) old new (Err f) ok fault = fault
 
 -- What is printed follows from how the script ended.
 pub end_prints : ImageShown → (g given : Option (List ℕ)) (old new : Option (List ℕ)) (r : Result Unit ScriptFault)

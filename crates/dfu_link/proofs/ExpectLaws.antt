@@ -1,12 +1,13 @@
 -- Texts that are printed where a line is expected.
 use Rattle.std.proofs.Common.{◌≡◌, ℕ, List, [], ◌∷◌, ◌++◌, Option, Some, None, refl, sym, ap, ◌∙◌, subst}
 use Rattle.std.proofs.lemmas.List.{append_assoc}
-use Rattle.std.specs.Io.KnownBytes.{Appends, Keeps}
+use Rattle.std.specs.Prelude.{Result, Ok, Err, IsErrAnd}
+use Rattle.std.specs.Io.KnownBytes.{Appends}
 use Rattle.dfu_link.specs.Expecting.{Expectation, Meets, still, Fails}
-use Rattle.dfu_link.specs.inside.Expected.{Prints}
+use Rattle.dfu_link.specs.inside.Expected.{Puts, Prints, PrintsNext}
 use Rattle.dfu_link.specs.declared.scripting.fault.ScriptFault.{ScriptFault}
-use Rattle.dfu_link.specs.declared.scripting.fault.ScriptFault.TheVariants.{BadLine, LateConfig, BadConfig, Expected, NonePrinted, TooLarge, NoMemory, Read, Write}
-use Rattle.dfu_link.proofs.WriteLaws.{appends_none, appends_more, appends_kept}
+use Rattle.dfu_link.specs.declared.scripting.fault.ScriptFault.TheVariants.{Expected, NoMemory, Write}
+use Rattle.dfu_link.proofs.WriteLaws.{appends_none, appends_more, puts_stops}
 
 still_more : (e : Option Expectation) (xs ys : List ℕ) → still e (xs ++ ys) ≡ still (still e xs) ys
 still_more e [] ys = refl
@@ -38,27 +39,26 @@ prints_more {e = e} {old = old} {mid = mid} {new = new} {xs = xs} {ys = ys} h k 
   left = k.left ∙ (ap (λ (x : Option Expectation). still x ys) h.left ∙ sym (still_more e xs ys));
 }
 
--- What was printed is so still where what is held stays.
-pub prints_kept : {e e' : Option Expectation} {old mid new : Option (List ℕ)} {xs : List ℕ} → Prints e old xs e' mid → Keeps mid new
-    → Prints e old xs e' new
-prints_kept {old = old} {mid = mid} {new = new} {xs = xs} h kept = record {
-  told = appends_kept old mid new xs h.told kept;
-  meets = h.meets;
-  left = h.left;
+writer_failed : (r : Result Unit ScriptFault) (e e' : Option Expectation) (old new : Option (List ℕ)) (text : List ℕ) (f : ScriptFault)
+    → Puts text old new r → IsErrAnd r (λ g. g ≡ f) → PrintsNext e old text e' new r
+writer_failed (Ok done) e e' old new text f h same = absurd same
+writer_failed (Err g) e e' old new text f h same = record {
+  ok = tt;
+  err = h.err;
+  fault = subst (λ (x : ScriptFault). Fails e text old new x) (sym h.fault) tt;
 }
+
+-- The writer failed in a front of the text that is printed next.
+pub falls_short : {e e' : Option Expectation} {old new : Option (List ℕ)} {xs text : List ℕ} {f : ScriptFault} {r : Result Unit ScriptFault}
+    (ys : List ℕ) → Puts xs old new (Err f) → IsErrAnd r (λ g. g ≡ f) → text ≡ xs ++ ys → PrintsNext e old text e' new r
+falls_short {e = e} {e' = e'} {old = old} {new = new} {text = text} {f = f} {r = r} ys h same is =
+    writer_failed r e e' old new text f (puts_stops ys h same is) same
 
 -- Where nothing is expected only the writer fails, and it may fail anywhere.
 nothing_fails : (e : Option Expectation) (xs ys : List ℕ) (f : ScriptFault) (a b a' b' : Option (List ℕ)) → Fails None xs a b f
     → Fails e ys a' b' f
 nothing_fails e xs ys Write a b a' b' h = tt
-nothing_fails e xs ys NoMemory a b a' b' h = absurd h
-nothing_fails e xs ys (Expected n) a b a' b' h = absurd h
-nothing_fails e xs ys (BadLine n) a b a' b' h = absurd h
-nothing_fails e xs ys (LateConfig n) a b a' b' h = absurd h
-nothing_fails e xs ys BadConfig a b a' b' h = absurd h
-nothing_fails e xs ys (NonePrinted n) a b a' b' h = absurd h
-nothing_fails e xs ys TooLarge a b a' b' h = absurd h
-nothing_fails e xs ys Read a b a' b' h = absurd h
+nothing_fails e xs ys f a b a' b' h = absurd h
 
 short_now : (e : Expectation) (ys : List ℕ) (f : ScriptFault) (old mid new : Option (List ℕ)) → Appends old mid []
     → Fails (Some e) ys mid new f → Fails (Some e) ys old new f
@@ -74,12 +74,7 @@ short_now e ys (Expected n) old mid new told h = (
     told = appends_more old mid new [] h.1.front told h.1.told;
   },
 )
-short_now e ys (BadLine n) old mid new told h = absurd h
-short_now e ys (LateConfig n) old mid new told h = absurd h
-short_now e ys BadConfig old mid new told h = absurd h
-short_now e ys (NonePrinted n) old mid new told h = absurd h
-short_now e ys TooLarge old mid new told h = absurd h
-short_now e ys Read old mid new told h = absurd h
+short_now e ys f old mid new told h = absurd h
 
 fails_on : (e : Option Expectation) (xs ys : List ℕ) (f : ScriptFault) (old mid new : Option (List ℕ)) → Appends old mid xs
     → Fails (still e xs) ys mid new f → Fails e (xs ++ ys) old new f

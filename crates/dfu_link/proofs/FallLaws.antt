@@ -1,5 +1,5 @@
 -- Where lines fall after others were done.
-use Rattle.std.proofs.Common.{◌≡◌, ℕ, ◌+◌, List, [], ◌∷◌, Option, Some, None, inl, inr, refl, sym, subst, arith}
+use Rattle.std.proofs.Common.{◌≡◌, ℕ, ◌+◌, List, [], ◌∷◌, Option, Some, None, Err, inl, inr, refl, sym, ◌∙◌, subst, arith}
 use Rattle.std.specs.Prelude.{IfSome}
 use Rattle.std.specs.Io.KnownBytes.{IsAtEnd}
 use Rattle.dfu_suffix.specs.Writing.{IsOutInPart}
@@ -12,11 +12,11 @@ use Rattle.dfu_link.specs.Said.{Said, Offer, Does}
 use Rattle.dfu_link.specs.Expecting.{Expectation, Fails}
 use Rattle.dfu_link.specs.Falls.{BreaksIn, in_events, in_passes, in_show, for_file, for_tear, LineFalls, NextFalls}
 use Rattle.dfu_link.specs.TextLimit.{GoesOver, IsStopped, GivesNone}
+use Rattle.dfu_link.specs.inside.Expected.{PrintsNext}
 use Rattle.dfu_link.specs.inside.Source.{SourceState, Takes, GivesLine, StopsSource}
 use Rattle.dfu_link.specs.inside.Moving.{Moves, MovesAndFalls, HasStopped, FindsNoRoom, FindsNoTear}
 use Rattle.dfu_link.specs.declared.scripting.fault.ScriptFault.{ScriptFault}
-use Rattle.dfu_link.specs.declared.scripting.fault.ScriptFault.TheVariants.{BadLine, LateConfig, BadConfig, Expected, NonePrinted, TooLarge, NoMemory, Read, Write}
-use Rattle.dfu_link.proofs.GivenLaws.{if_some}
+use Rattle.dfu_link.specs.declared.scripting.fault.ScriptFault.TheVariants.{BadLine, LateConfig, Expected, NonePrinted, TooLarge, NoMemory, Read, Write}
 use Rattle.dfu_link.proofs.MoveLaws.{moves_trans}
 
 -- A line that falls is within the limit of the text.
@@ -28,9 +28,7 @@ line_stops p k room line left old new NoMemory ends falls = ends
 line_stops p k room line left old new Write ends falls = ends
 line_stops p k room line left old new (Expected n) ends falls = ends
 line_stops p k room line left old new (NonePrinted n) ends falls = ends
-line_stops p k room line left old new BadConfig ends falls = absurd falls
-line_stops p k room line left old new TooLarge ends falls = absurd falls
-line_stops p k room line left old new Read ends falls = absurd falls
+line_stops p k room line left old new f ends falls = absurd falls
 
 line_is_next : (p : Point) (k : ℕ) (line : List ℕ) (lines : List (List ℕ)) (old new : Option (List ℕ)) (f : ScriptFault)
     → LineFalls p k line old new f → NextFalls p k (line ∷ lines) old new f
@@ -40,9 +38,7 @@ line_is_next p k line lines old new NoMemory falls = falls
 line_is_next p k line lines old new Write falls = falls
 line_is_next p k line lines old new (Expected n) falls = falls
 line_is_next p k line lines old new (NonePrinted n) falls = falls
-line_is_next p k line lines old new BadConfig falls = absurd falls
-line_is_next p k line lines old new TooLarge falls = absurd falls
-line_is_next p k line lines old new Read falls = absurd falls
+line_is_next p k line lines old new f falls = absurd falls
 
 taken_falls : (p : Point) (a b : Option (List ℕ)) (room room' k n : ℕ) (line : List ℕ) (old new : Option (List ℕ)) (f : ScriptFault)
     → Takes a room (line ∷ []) b room' → IfSome a (λ left. ¬ GoesOver room left) → n ≡ k → LineFalls p n line old new f
@@ -55,94 +51,19 @@ taken_falls p (Some a) (Some b) room room' k n line old new f took ends is falls
     (line_stops p n room line a old new f ends falls, subst (λ (ls : List (List ℕ)). NextFalls p k ls old new f) (sym took.are) there)
 
 -- The line that a source gave falls.
-pub given_falls : {p q : Point} {s t u : SourceState} {old mid new : Option (List ℕ)} (f : ScriptFault) → Moves p s old q t mid
-    → GivesLine t u → LineFalls q u.number u.line mid new f
-    → MovesAndFalls p s old new f
-given_falls {q = q} {t = t} {u = u} {mid = mid} {new = new} f m given falls = record {
+pub given_falls : {p q : Point} {s t u : SourceState} {old mid new : Option (List ℕ)} {n : ℕ} {line : List ℕ} {f : ScriptFault}
+    → Moves p s old q t mid → GivesLine t u → n ≡ u.number → line ≡ u.line → LineFalls q n line mid new f → MovesAndFalls p s old new f
+given_falls {q = q} {t = t} {u = u} {mid = mid} {new = new} {n = n} {f = f} m given at is falls = record {
   to = q;
   at = t;
   mid = mid;
   moves = m;
-  falls = taken_falls q t.left u.left t.room u.room (t.number + 1) u.number u.line mid new f given.gives.takes given.ends
-      given.gives.count falls;
+  falls = taken_falls q t.left u.left t.room u.room (t.number + 1) n u.line mid new f given.gives.takes given.ends
+      (at ∙ given.gives.count) (subst (λ (xs : List ℕ). LineFalls q n xs mid new f) is falls);
 }
 
 none_over : (room : ℕ) → ¬ GoesOver room []
 none_over room over = absurd (omega (arith, over.over))
-
-no_such : (e : Option Expectation) (text : List ℕ) (old new : Option (List ℕ)) → Fails e text old new TooLarge → ⊥
-no_such None text old new fails = fails
-no_such (Some e) text old new fails = fails
-
-no_read : (e : Option Expectation) (text : List ℕ) (old new : Option (List ℕ)) → Fails e text old new Read → ⊥
-no_read None text old new fails = fails
-no_read (Some e) text old new fails = fails
-
-image_stops : (p : Point) (k : ℕ) (old new : Option (List ℕ)) (f : ScriptFault) → Fails p.next (image_line p.at.device) old new f
-    → IsOutInPart old new (image_line p.at.device) → (room : ℕ) → IsStopped room [] f × NextFalls p k [] old new f
-image_stops p k old new Write fails broke room = (none_over room, (fails, broke))
-image_stops p k old new (Expected n) fails broke room = (none_over room, (fails, broke))
-image_stops p k old new NoMemory fails broke room = (none_over room, (fails, broke))
-image_stops p k old new (BadLine n) fails broke room = (none_over room, (fails, broke))
-image_stops p k old new (LateConfig n) fails broke room = (none_over room, (fails, broke))
-image_stops p k old new (NonePrinted n) fails broke room = (none_over room, (fails, broke))
-image_stops p k old new BadConfig fails broke room = (none_over room, (fails, broke))
-image_stops p k old new TooLarge fails broke room = absurd (no_such p.next (image_line p.at.device) old new fails)
-image_stops p k old new Read fails broke room = absurd (no_read p.next (image_line p.at.device) old new fails)
-
-image_breaks : (p : Point) (a : Option (List ℕ)) (room k : ℕ) (old new : Option (List ℕ)) (f : ScriptFault) → IsAtEnd a
-    → Fails p.next (image_line p.at.device) old new f → IsOutInPart old new (image_line p.at.device)
-    → IfSome a (λ left. IsStopped room left f × NextFalls p k (lines_of left) old new f)
-image_breaks p None room k old new f ended fails broke = tt
-image_breaks p (Some left) room k old new f ended fails broke =
-    subst (λ (xs : List ℕ). IsStopped room xs f × NextFalls p k (lines_of xs) old new f) (sym ended)
-    (image_stops p k old new f fails broke room)
-
--- No line is left, and the line of the image falls.
-pub image_falls : {p q : Point} {s t : SourceState} {old mid new : Option (List ℕ)} (f : ScriptFault) → Moves p s old q t mid
-    → IsAtEnd t.left → Fails q.next (image_line q.at.device) mid new f → IsOutInPart mid new (image_line q.at.device) → MovesAndFalls p s old new f
-image_falls {q = q} {t = t} {mid = mid} {new = new} f m ended fails broke = record {
-  to = q;
-  at = t;
-  mid = mid;
-  moves = m;
-  falls = image_breaks q t.left t.room (t.number + 1) mid new f ended fails broke;
-}
-
-none_falls : (p : Point) (k : ℕ) (lines : List (List ℕ)) (old : Option (List ℕ)) (f : ScriptFault) → GivesNone p.given k lines f
-    → NextFalls p k lines old old f
-none_falls p k lines old TooLarge h = refl
-none_falls p k lines old Read h = refl
-none_falls p k (line ∷ lines) old (BadLine n) h = (h.0, h.1, refl)
-none_falls p k [] old (BadLine n) h = absurd h
-none_falls p k lines old (LateConfig n) h = absurd h
-none_falls p k lines old NoMemory h = absurd h
-none_falls p k lines old BadConfig h = absurd h
-none_falls p k lines old Write h = absurd h
-none_falls p k lines old (Expected n) h = absurd h
-none_falls p k lines old (NonePrinted n) h = absurd h
-
-stops_here : (p : Point) (a : Option (List ℕ)) (room k : ℕ) (old : Option (List ℕ)) (f : ScriptFault)
-    → IfSome a (λ left. IsStopped room left f × GivesNone p.given k (lines_of left) f)
-    → IfSome a (λ left. IsStopped room left f × NextFalls p k (lines_of left) old old f)
-stops_here p None room k old f h = tt
-stops_here p (Some left) room k old f h = (h.0, none_falls p k (lines_of left) old f h.1)
-
--- The source gives no line.
-pub source_falls : {p q : Point} {s t : SourceState} {old mid : Option (List ℕ)} (f : ScriptFault) → Moves p s old q t mid
-    → StopsSource q.given t f → MovesAndFalls p s old mid f
-source_falls {q = q} {t = t} {mid = mid} f m stops = record {
-  to = q;
-  at = t;
-  mid = mid;
-  moves = m;
-  falls = stops_here q t.left t.room (t.number + 1) mid f stops;
-}
-
--- Lines were done, and those after them fall.
-pub falls_after : {p q : Point} {s t : SourceState} {old mid new : Option (List ℕ)} (f : ScriptFault) → Moves p s old q t mid
-    → MovesAndFalls q t mid new f → MovesAndFalls p s old new f
-falls_after f m n = record { to = n.to; at = n.at; mid = n.mid; moves = moves_trans m n.moves; falls = n.falls }
 
 -- The faults at which a text stops.
 abbrev IsStop : ScriptFault → Type 0
@@ -155,12 +76,63 @@ fault_of : (next : Option Expectation) (text : List ℕ) (old new : Option (List
 fault_of next text old new Write fails = tt
 fault_of next text old new (Expected n) fails = tt
 fault_of next text old new NoMemory fails = tt
-fault_of next text old new (BadLine n) fails = absurd fails
-fault_of next text old new (LateConfig n) fails = absurd fails
-fault_of next text old new BadConfig fails = absurd fails
-fault_of next text old new (NonePrinted n) fails = absurd fails
-fault_of next text old new TooLarge fails = absurd fails
-fault_of next text old new Read fails = absurd fails
+fault_of next text old new f fails = absurd fails
+
+image_stops : (p : Point) (k room : ℕ) (old new : Option (List ℕ)) (f : ScriptFault) → IsStop f
+    → Fails p.next (image_line p.at.device) old new f × IsOutInPart old new (image_line p.at.device)
+    → IsStopped room [] f × NextFalls p k [] old new f
+image_stops p k room old new Write stop falls = (none_over room, falls)
+image_stops p k room old new (Expected n) stop falls = (none_over room, falls)
+image_stops p k room old new NoMemory stop falls = (none_over room, falls)
+image_stops p k room old new f stop falls = elim stop [ ]
+
+image_breaks : (p : Point) (a : Option (List ℕ)) (room k : ℕ) (old new : Option (List ℕ)) (f : ScriptFault) → IsAtEnd a
+    → Fails p.next (image_line p.at.device) old new f → IsOutInPart old new (image_line p.at.device)
+    → IfSome a (λ left. IsStopped room left f × NextFalls p k (lines_of left) old new f)
+image_breaks p None room k old new f ended fails broke = tt
+image_breaks p (Some left) room k old new f ended fails broke =
+    subst (λ (xs : List ℕ). IsStopped room xs f × NextFalls p k (lines_of xs) old new f) (sym ended)
+    (image_stops p k room old new f (fault_of p.next _ old new f fails) (fails, broke))
+
+-- No line is left, and the line of the image falls.
+pub image_falls : {p q : Point} {s t : SourceState} {old mid new : Option (List ℕ)} {x : Option Expectation} {f : ScriptFault}
+    → Moves p s old q t mid → IsAtEnd t.left → PrintsNext q.next mid (image_line q.at.device) x new (Err f) → MovesAndFalls p s old new f
+image_falls {q = q} {t = t} {mid = mid} {new = new} {f = f} m ended prints = record {
+  to = q;
+  at = t;
+  mid = mid;
+  moves = m;
+  falls = image_breaks q t.left t.room (t.number + 1) mid new f ended prints.fault prints.err;
+}
+
+none_falls : (p : Point) (k : ℕ) (lines : List (List ℕ)) (old : Option (List ℕ)) (f : ScriptFault) → GivesNone p.given k lines f
+    → NextFalls p k lines old old f
+none_falls p k lines old TooLarge h = refl
+none_falls p k lines old Read h = refl
+none_falls p k (line ∷ lines) old (BadLine n) h = (h.0, h.1, refl)
+none_falls p k lines old f h = absurd h
+
+stops_here : (p : Point) (a : Option (List ℕ)) (room k : ℕ) (old : Option (List ℕ)) (f : ScriptFault)
+    → IfSome a (λ left. IsStopped room left f × GivesNone p.given k (lines_of left) f)
+    → IfSome a (λ left. IsStopped room left f × NextFalls p k (lines_of left) old old f)
+stops_here p None room k old f h = tt
+stops_here p (Some left) room k old f h = (h.0, none_falls p k (lines_of left) old f h.1)
+
+-- The source gives no line.
+pub source_falls : {p q : Point} {s t : SourceState} {old mid : Option (List ℕ)} {f : ScriptFault} → Moves p s old q t mid
+    → StopsSource q.given t f → MovesAndFalls p s old mid f
+source_falls {q = q} {t = t} {mid = mid} {f = f} m stops = record {
+  to = q;
+  at = t;
+  mid = mid;
+  moves = m;
+  falls = stops_here q t.left t.room (t.number + 1) mid f stops;
+}
+
+-- Lines were done, and those after them fall.
+pub falls_after : {p q : Point} {s t : SourceState} {old mid new : Option (List ℕ)} {f : ScriptFault} → Moves p s old q t mid
+    → MovesAndFalls q t mid new f → MovesAndFalls p s old new f
+falls_after m n = record { to = n.to; at = n.at; mid = n.mid; moves = moves_trans m n.moves; falls = n.falls }
 
 break_of : {p : Point} {line : List ℕ} {old new : Option (List ℕ)} (f : ScriptFault) → BreaksIn p line old new f → IsStop f
 break_of f (in_events says broken) = fault_of _ _ _ _ f broken.fails

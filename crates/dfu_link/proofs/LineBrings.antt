@@ -174,36 +174,28 @@ until_brings words said h = bind_some (first words) _ said h (λ w is hw. ends_b
 
 -- Words.
 
--- The word after `go` is this one or another.
-fate_case : {K : Type 0} (s : List ℕ) (k : K) (rest : Option K) (f : K → Option Said) (word : List ℕ) (words : List (List ℕ)) (said : Said)
-    → (cond (bytes_eq word s) (Some k) rest >>= f) ≡ Some said → (f k ≡ Some said → said_brings said ≡ go_brings (s ∷ words))
-    → ((rest >>= f) ≡ Some said → said_brings said ≡ go_brings (word ∷ words)) → said_brings said ≡ go_brings (word ∷ words)
-fate_case s k rest f word words said h one other = if_case (bytes_eq word s) k rest f said h
-    (λ is made. subst (λ (w : List ℕ). said_brings said ≡ go_brings (w ∷ words)) (sym ((bytes_eq-Decides word s).0 is)) (one made)) other
+-- The first word is this one or another.
+word_case : {K : Type 0} (brings : List (List ℕ) → Brings) (s : List ℕ) (k : K) (rest : Option K) (f : K → Option Said) (word : List ℕ)
+    (words : List (List ℕ)) (said : Said)
+    → (cond (bytes_eq word s) (Some k) rest >>= f) ≡ Some said → (f k ≡ Some said → said_brings said ≡ brings (s ∷ words))
+    → ((rest >>= f) ≡ Some said → said_brings said ≡ brings (word ∷ words)) → said_brings said ≡ brings (word ∷ words)
+word_case brings s k rest f word words said h one other = if_case (bytes_eq word s) k rest f said h
+    (λ is made. subst (λ (w : List ℕ). said_brings said ≡ brings (w ∷ words)) (sym ((bytes_eq-Decides word s).0 is)) (one made)) other
 
 go_says : (words : List (List ℕ)) (said : Said) → go_of words ≡ Some said → said_brings said ≡ go_brings words
 unfolding go_of fate_keyword_of
 go_says [] said h = absurd cc
 go_says (word ∷ words) said h =
-    fate_case (codes "pass") _ _ _ word words said h (pass_brings words said) (λ h.
-    fate_case (codes "lostout") _ _ _ word words said h (ends_bring _ words said) (λ h.
-    fate_case (codes "lostback") _ _ _ word words said h (ends_bring _ words said) (λ h.
-    fate_case (codes "twice") _ _ _ word words said h (ends_bring _ words said) (λ h.
-    fate_case (codes "twicelostback") _ _ _ word words said h (ends_bring _ words said) (λ h.
-    fate_case (codes "slip") _ _ _ word words said h (slip_brings words said) (λ h.
-    fate_case (codes "cut") _ _ _ word words said h (harmed_brings _ words said) (λ h.
-    fate_case (codes "fail") _ _ _ word words said h (harmed_brings _ words said) (λ h.
-    fate_case (codes "lie") _ _ _ word words said h (harmed_brings _ words said) (λ h.
-    fate_case (codes "until") _ _ _ word words said h (until_brings words said) (λ h. absurd cc))))))))))
-
--- The first word of a line is this one or another.
-word_case : {K : Type 0} (given : Option (List ℕ)) (s : List ℕ) (k : K) (rest : Option K) (f : K → Option Said) (word : List ℕ)
-    (words : List (List ℕ)) (said : Said)
-    → (cond (bytes_eq word s) (Some k) rest >>= f) ≡ Some said → (f k ≡ Some said → said_brings said ≡ words_bring given (s ∷ words))
-    → ((rest >>= f) ≡ Some said → said_brings said ≡ words_bring given (word ∷ words)) → said_brings said ≡ words_bring given (word ∷ words)
-word_case given s k rest f word words said h one other = if_case (bytes_eq word s) k rest f said h
-    (λ is made. subst (λ (w : List ℕ). said_brings said ≡ words_bring given (w ∷ words))
-    (sym ((bytes_eq-Decides word s).0 is)) (one made)) other
+    word_case go_brings (codes "pass") _ _ _ word words said h (pass_brings words said) (λ h.
+    word_case go_brings (codes "lostout") _ _ _ word words said h (ends_bring _ words said) (λ h.
+    word_case go_brings (codes "lostback") _ _ _ word words said h (ends_bring _ words said) (λ h.
+    word_case go_brings (codes "twice") _ _ _ word words said h (ends_bring _ words said) (λ h.
+    word_case go_brings (codes "twicelostback") _ _ _ word words said h (ends_bring _ words said) (λ h.
+    word_case go_brings (codes "slip") _ _ _ word words said h (slip_brings words said) (λ h.
+    word_case go_brings (codes "cut") _ _ _ word words said h (harmed_brings _ words said) (λ h.
+    word_case go_brings (codes "fail") _ _ _ word words said h (harmed_brings _ words said) (λ h.
+    word_case go_brings (codes "lie") _ _ _ word words said h (harmed_brings _ words said) (λ h.
+    word_case go_brings (codes "until") _ _ _ word words said h (until_brings words said) (λ h. absurd cc))))))))))
 
 some_unless : {A : Type 0} (t : Bool) (x y : A) → cond t None (Some x) ≡ Some y → x ≡ y
 some_unless true x y h = absurd cc
@@ -218,23 +210,23 @@ keyword_says : (given : Option (List ℕ)) (line word : List ℕ) (words : List 
     → (keyword_of word >>= λ k. by_keyword given k line words) ≡ Some said → said_brings said ≡ words_bring given (word ∷ words)
 unfolding keyword_of
 keyword_says given line word words said h =
-    word_case given (codes "ids") _ _ _ word words said h (ids_bring words said) (λ h.
-    word_case given (codes "device") _ _ _ word words said h (device_brings words said) (λ h.
-    word_case given (codes "unit") _ _ _ word words said h (unit_brings words said) (λ h.
-    word_case given (codes "erase") _ _ _ word words said h (erase_brings words said) (λ h.
-    word_case given (codes "capacity") _ _ _ word words said h (capacity_brings words said) (λ h.
-    word_case given (codes "image") _ _ _ word words said h (image_brings words said) (λ h.
-    word_case given (codes "limits") _ _ _ word words said h (limits_bring words said) (λ h.
-    word_case given (codes "offer") _ _ _ word words said h (offer_brings given Install words said) (λ h.
-    word_case given (codes "verify") _ _ _ word words said h (offer_brings given Verify words said) (λ h.
-    word_case given (codes "upload") _ _ _ word words said h (ends_bring (Does Upload) words said) (λ h.
-    word_case given (codes "abort") _ _ _ word words said h (ends_bring (Does Abort) words said) (λ h.
-    word_case given (codes "go") _ _ _ word words said h (go_says words said) (λ h.
-    word_case given (codes "time") _ _ _ word words said h (time_brings words said) (λ h.
-    word_case given (codes "reset") _ _ _ word words said h (ends_bring (Does Reset) words said) (λ h.
-    word_case given (codes "cut") _ _ _ word words said h (ends_bring (Does Cut) words said) (λ h.
-    word_case given (codes "show") _ _ _ word words said h (ends_bring Show words said) (λ h.
-    word_case given (codes "expect") _ _ _ word words said h (expect_brings line said) (λ h. absurd cc)))))))))))))))))
+    word_case (words_bring given) (codes "ids") _ _ _ word words said h (ids_bring words said) (λ h.
+    word_case (words_bring given) (codes "device") _ _ _ word words said h (device_brings words said) (λ h.
+    word_case (words_bring given) (codes "unit") _ _ _ word words said h (unit_brings words said) (λ h.
+    word_case (words_bring given) (codes "erase") _ _ _ word words said h (erase_brings words said) (λ h.
+    word_case (words_bring given) (codes "capacity") _ _ _ word words said h (capacity_brings words said) (λ h.
+    word_case (words_bring given) (codes "image") _ _ _ word words said h (image_brings words said) (λ h.
+    word_case (words_bring given) (codes "limits") _ _ _ word words said h (limits_bring words said) (λ h.
+    word_case (words_bring given) (codes "offer") _ _ _ word words said h (offer_brings given Install words said) (λ h.
+    word_case (words_bring given) (codes "verify") _ _ _ word words said h (offer_brings given Verify words said) (λ h.
+    word_case (words_bring given) (codes "upload") _ _ _ word words said h (ends_bring (Does Upload) words said) (λ h.
+    word_case (words_bring given) (codes "abort") _ _ _ word words said h (ends_bring (Does Abort) words said) (λ h.
+    word_case (words_bring given) (codes "go") _ _ _ word words said h (go_says words said) (λ h.
+    word_case (words_bring given) (codes "time") _ _ _ word words said h (time_brings words said) (λ h.
+    word_case (words_bring given) (codes "reset") _ _ _ word words said h (ends_bring (Does Reset) words said) (λ h.
+    word_case (words_bring given) (codes "cut") _ _ _ word words said h (ends_bring (Does Cut) words said) (λ h.
+    word_case (words_bring given) (codes "show") _ _ _ word words said h (ends_bring Show words said) (λ h.
+    word_case (words_bring given) (codes "expect") _ _ _ word words said h (expect_brings line said) (λ h. absurd cc)))))))))))))))))
 
 -- A comment brings nothing.
 comment_brings : (given : Option (List ℕ)) (word : List ℕ) (words : List (List ℕ)) → is_comment word ≡ true

@@ -1,20 +1,20 @@
 -- Lines and runs put together.
-use Rattle.std.proofs.Common.{◌≡◌, ℕ, ◌+◌, List, [], ◌∷◌, ◌++◌, Option, Some, sym, ap, ◌∙◌, subst, append_assoc, arith, length, length-append}
+use Rattle.std.proofs.Common.{◌≡◌, ℕ, ◌+◌, List, [], ◌∷◌, ◌++◌, Option, Some, Ok, sym, ap, ◌∙◌, subst, append_assoc, arith, length, length-append}
 use Rattle.std.proofs.lemmas.List.{append-nil}
 use Rattle.std.specs.Io.KnownBytes.{Appends, IsAtEnd}
 use Rattle.dfu_device.specs.Shown.{Shown}
 use Rattle.dfu_slots.specs.Medium.{Fuse}
 use Rattle.dfu_slots.specs.Medium.Fuse.{Whole}
-use Rattle.dfu_sim.specs.Play.{given}
+use Rattle.dfu_sim.specs.Bench.{Bench, LinkState}
 use Rattle.dfu_sim.specs.Bytes.{armed}
 use Rattle.dfu_link.specs.Texts.{image_line}
 use Rattle.dfu_link.specs.Said.{Said}
 use Rattle.dfu_link.specs.Lines.{line_of}
 use Rattle.dfu_link.specs.ScriptRun.{Settings, nothing, then_prepares, prepared, at_rest, Point, LineActs, LinesRun, stays, then_runs}
 use Rattle.dfu_link.specs.Expecting.{Expectation}
-use Rattle.dfu_link.specs.inside.Expected.{Prints}
+use Rattle.dfu_link.specs.inside.Expected.{PrintsNext}
 use Rattle.dfu_link.specs.inside.Source.{SourceState, GivesLine}
-use Rattle.dfu_link.specs.inside.Moving.{Steps, Moves, Ends, IsUnarmed, Prepared}
+use Rattle.dfu_link.specs.inside.Moving.{Steps, Moves, Ends, IsUnarmed, LinesDone, all_done, gives_back, Prepared}
 use Rattle.dfu_link.proofs.GivenLaws.{gives_none, gives_trans}
 use Rattle.dfu_link.proofs.WriteLaws.{appends_none, appends_more}
 
@@ -29,10 +29,11 @@ moves_none p s old = record {
 }
 
 -- One line more was done.
-pub moves_then : {p q r : Point} {s t u : SourceState} {old mid new : Option (List ℕ)} → Moves p s old q t mid → GivesLine t u
-    → Steps u.number q u.line mid r new → Moves p s old r u new
-moves_then {q = q} {r = r} {s = s} {t = t} {u = u} {old = old} {mid = mid} {new = new} m given step =
-    let number : u.number ≡ s.number + 1 + length m.done = omega (arith, given.gives.count, m.gives.count) in
+pub moves_then : {p q r : Point} {s t u : SourceState} {old mid new : Option (List ℕ)} {n : ℕ} {line : List ℕ} → Moves p s old q t mid
+    → GivesLine t u → n ≡ u.number → line ≡ u.line → Steps n q line mid r new → Moves p s old r u new
+moves_then {q = q} {r = r} {s = s} {t = t} {u = u} {old = old} {mid = mid} {new = new} {n = n} m given at is did =
+    let number : n ≡ s.number + 1 + length m.done = omega (arith, at, given.gives.count, m.gives.count) in
+    let step = subst (λ (xs : List ℕ). Steps n q xs mid r new) is did in
     record {
       done = m.done ++ u.line ∷ [];
       shown = m.shown ++ step.out;
@@ -65,8 +66,8 @@ moves_trans {p = p} {q = q} {r = r} {s = s} {t = t} {old = old} {mid = mid} {new
 }
 
 -- All lines were done, and the line of the image is out.
-pub ends_now : {p q : Point} {s t : SourceState} {old mid new : Option (List ℕ)} → Moves p s old q t mid → IsAtEnd t.left
-    → {x : Option Expectation} → Prints q.next mid (image_line q.at.device) x new → Ends p s old new
+pub ends_now : {p q : Point} {s t : SourceState} {old mid new : Option (List ℕ)} {x : Option Expectation} {done : Unit {0}}
+    → Moves p s old q t mid → IsAtEnd t.left → PrintsNext q.next mid (image_line q.at.device) x new (Ok done) → Ends p s old new
 ends_now {p = p} {q = q} {s = s} {t = t} {old = old} {mid = mid} {new = new} m ended prints = record {
   done = m.done;
   last = t;
@@ -75,8 +76,8 @@ ends_now {p = p} {q = q} {s = s} {t = t} {old = old} {mid = mid} {new = new} m e
   shown = m.shown;
   end = q;
   runs = m.runs;
-  meets = prints.meets;
-  told = appends_more old mid new m.shown (image_line q.at.device) m.told prints.told;
+  meets = prints.ok.meets;
+  told = appends_more old mid new m.shown (image_line q.at.device) m.told prints.ok.told;
 }
 
 -- Lines were done, and then all that were left.
@@ -97,6 +98,12 @@ ends_after {p = p} {q = q} {s = s} {t = t} {old = old} {mid = mid} {new = new} m
           (appends_more old mid new m.shown (e.shown ++ image) m.told e.told);
     }
 
+-- Lines were done, and then others until no session was live, or all that were left.
+pub lines_after : {p q : Point} {s t u : SourceState} {old mid new : Option (List ℕ)} {to : Bench → Point} {d : Option Shown}
+    → Moves p s old q t mid → LinesDone q t mid to u new d → LinesDone p s old to u new d
+lines_after m (all_done e) = all_done (ends_after m e)
+lines_after m (gives_back n) = gives_back (moves_trans m n)
+
 -- Lines that set.
 
 -- No line has set anything.
@@ -104,16 +111,16 @@ pub prepared_none : (x : Settings) (s : SourceState) → Prepared x s x s
 prepared_none x s = record { done = []; gives = gives_none s; prepares = nothing }
 
 -- One line more has set something.
-pub prepared_then : {x y z : Settings} {s t u : SourceState} (w : Said) → Prepared x s y t → GivesLine t u → line_of y.given u.line ≡ Some w
-    → prepared y w ≡ Some z → Prepared x s z u
-prepared_then {u = u} w p given is does = record {
+pub prepared_then : {x y z : Settings} {s t u : SourceState} {line : List ℕ} (w : Said) → Prepared x s y t → GivesLine t u → line ≡ u.line
+    → line_of y.given line ≡ Some w → prepared y w ≡ Some z → Prepared x s z u
+prepared_then {y = y} {u = u} w p given same is does = record {
   done = p.done ++ u.line ∷ [];
   gives = gives_trans p.gives given.gives;
-  prepares = then_prepares u.line p.prepares is does;
+  prepares = then_prepares u.line p.prepares (ap (line_of y.given) (sym same) ∙ is) does;
 }
 
 -- A device with no session.
 
--- A device that is not armed stays as it is when it is disarmed.
-pub rest_starts : (d : Shown) → IsUnarmed d → at_rest (armed d Whole) ≡ at_rest d
-rest_starts d unarmed = ap (λ (f : Fuse). at_rest (armed d f)) (sym unarmed)
+-- A link over a device that is not armed begins with that device as it is.
+pub rest_starts : {x : LinkState} (d : Shown) → x ≡ record { bench = at_rest (armed d Whole); up = [] } → IsUnarmed d → x.bench ≡ at_rest d
+rest_starts d link unarmed = ap (λ (y : LinkState). y.bench) link ∙ ap (λ (f : Fuse). at_rest (armed d f)) (sym unarmed)

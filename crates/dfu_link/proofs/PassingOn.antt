@@ -1,8 +1,6 @@
 -- The host passes until it reports: what the turns of the loop are.
 use Rattle.std.proofs.Common.{◌≡◌, ◌≢◌, ℕ, ◌+◌, ◌<◌, List, [], ◌∷◌, ◌++◌, length, Option, Some, None, Result, Ok, Err, refl, sym, ap, ◌∙◌, subst, arith}
-use Rattle.std.proofs.lemmas.List.{append-nil}
 use Rattle.std.specs.Prelude.{replicate}
-use Rattle.std.specs.Io.KnownBytes.{Keeps}
 use Rattle.dfu_suffix.specs.Writing.{IsOutInPart}
 use Rattle.dfu_host.specs.declared.limits.Limits.{Limits}
 use Rattle.dfu_host.specs.declared.report.Report.{Report}
@@ -14,14 +12,14 @@ use Rattle.dfu_sim.specs.Happening.{Happening, Goes, Pass, unharmed}
 use Rattle.dfu_sim.specs.Comes.{HasCome}
 use Rattle.dfu_link.specs.Texts.{told_line, answer_line}
 use Rattle.dfu_link.specs.Said.{GoesOn}
-use Rattle.dfu_link.specs.ScriptRun.{AllCome, none_comes, Point, LineActs, goes_on}
-use Rattle.dfu_link.specs.Expecting.{Expectation, Meets, still, Fails}
-use Rattle.dfu_link.specs.inside.Expected.{point_at, Prints}
+use Rattle.dfu_link.specs.ScriptRun.{AllCome, none_comes, LineActs, goes_on}
+use Rattle.dfu_link.specs.Expecting.{Expectation, Meets, still}
+use Rattle.dfu_link.specs.inside.Expected.{point_at, Prints, PrintsNext}
 use Rattle.dfu_link.specs.declared.scripting.fault.ScriptFault.{ScriptFault}
 use Rattle.dfu_link.specs.Falls.{in_passes}
 use Rattle.dfu_link.specs.inside.Moving.{IsSilent, HasActed, HasStopped}
 use Rattle.dfu_link.proofs.WriteLaws.{broke_after}
-use Rattle.dfu_link.proofs.ExpectLaws.{prints_none, prints_more, prints_kept, fails_after}
+use Rattle.dfu_link.proofs.ExpectLaws.{prints_none, prints_more, fails_after}
 use Rattle.dfu_link.proofs.ToldLines.{told_line_is}
 use Rattle.dfu_link.proofs.PlayLaws.{replicate_more, plays_one}
 
@@ -110,11 +108,11 @@ passed_on {b = b} {c' = c'} g limits r {x = x} silent come active other prints =
 
 -- Or it stopped in it.
 pub stopped_on : {b : Bench} {c c' : LinkState} (g : Option (List ℕ)) (limits : Limits) (r : Result (Option Report) LinkFault)
-    {old mid new : Option (List ℕ)} {x y : Option Expectation} (f : ScriptFault) → IsSilent b x old c.bench y mid
-    → HasCome c passes c' r → ShowsActive c'.bench → IsOutInPart mid new (told_line r c'.up)
-    → Fails y (told_line r c'.up) mid new f → HasStopped (point_at g limits x b) GoesOn old new f
-stopped_on {c' = c'} g limits r {old = old} {mid = mid} {new = new} f silent come active broke fails line e =
+    {old mid new : Option (List ℕ)} {x y z : Option Expectation} {f : ScriptFault} → IsSilent b x old c.bench y mid
+    → HasCome c passes c' r → ShowsActive c'.bench → PrintsNext y mid (told_line r c'.up) z new (Err f)
+    → HasStopped (point_at g limits x b) GoesOn old new f
+stopped_on {c' = c'} g limits r {old = old} {mid = mid} {new = new} {f = f} silent come active prints line e =
     let before = silent.prints in
-    in_passes e (goes_on_by g limits r 0 None tt silent come active (part_some broke))
-    (broke_after old mid new [] (told_line r c'.up) before.told broke)
-    (fails_after (told_line r c'.up) new f before fails)
+    in_passes e (goes_on_by g limits r 0 None tt silent come active (part_some prints.err))
+    (broke_after old mid new [] (told_line r c'.up) before.told prints.err)
+    (fails_after (told_line r c'.up) new f before prints.fault)

@@ -1,21 +1,18 @@
 -- What the lines of a script bring, and where it starts.
-use Rattle.std.proofs.Common.{◌≡◌, ℕ, zero, suc, List, [], ◌∷◌, ◌++◌, map, append_assoc, Option, Some, None, Result, Ok, Err, refl, sym, ap, ◌∙◌, subst}
-use Rattle.std.proofs.lemmas.List.{map-append}
-use Rattle.std.specs.Prelude.{OnOk, OnErr, IfSome, replicate}
+use Rattle.std.proofs.Common.{◌≡◌, ℕ, zero, suc, List, [], ◌∷◌, ◌++◌, map, append_assoc, Option, Some, None, Ok, refl, sym, ap, ◌∙◌, subst}
+use Rattle.std.specs.Prelude.{replicate}
 use Rattle.dfu_host.specs.declared.report.Report.{Report}
 use Rattle.dfu_host.specs.declared.limits.Limits.{Limits}
-use Rattle.dfu_link.specs.declared.scripting.fault.ScriptFault.{ScriptFault}
 use Rattle.dfu_sim.specs.Happening.{Happening, Offers, Uploads, Aborts, Goes, Passes, Resets, Cuts}
 use Rattle.dfu_sim.specs.Bench.{Bench}
-use Rattle.dfu_link.specs.Texts.{told_line, refusal_line}
+use Rattle.dfu_link.specs.Texts.{told_line}
 use Rattle.dfu_link.specs.Said.{ConfigLine, TheIds, TheDevice, TheUnit, TheSector, TheCapacity, TheImage, EventLine, Offer, Upload, Abort, Go, Time, Reset, Cut, Said, Blank, Sets, LimitsTo, Does, GoesOn, Show, Expects}
 use Rattle.dfu_link.specs.Lines.{line_of}
-use Rattle.dfu_link.specs.ScriptRun.{Settings, set as set_by, beginning, at_rest, Point, events_of, Prepares, prepared, nothing, then_prepares, IsReady, HasToAct}
+use Rattle.dfu_link.specs.ScriptRun.{Settings, set as set_by, events_of, Prepares, prepared, nothing, then_prepares, IsReady, HasToAct}
 use Rattle.dfu_sim.specs.Headline.{Begun, WithOffer, AsUpload, HeadlineHolds}
 use Rattle.dfu_sim.specs.BegunBy.{begun_by}
-use Rattle.dfu_link.specs.Printed.{Brings, Events, brought, report_text, EventsPrint, no_event, then_prints, then_refused, LinePrints, prints_nothing, prints_events, prints_passes, prints_image, LinesPrint, no_line, then_line, NeedsDevice, StartsWith, at_end, at_line, after_nothing, after_image, TextPrints, WrotePrinted, PartPrints, nothing_out, in_events, in_line, in_image, StopsPrinted, before_start, after_start}
+use Rattle.dfu_link.specs.Printed.{brought, report_text, EventsPrint, then_prints, NeedsDevice, StartsWith, at_end, at_line, after_nothing, after_image}
 use Rattle.dfu_link.proofs.LineBrings.{some_of, sessions_in, set_brings, said_brings, line_brings}
-use Rattle.dfu_link.proofs.PrintedTexts.{Refusal, refusal, state_words, state_words_endless}
 
 -- Events.
 

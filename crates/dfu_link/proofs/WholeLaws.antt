@@ -1,34 +1,35 @@
 -- Whole scripts, put together of their parts.
 use Rattle.std.proofs.Common.{◌≡◌, ℕ, ◌+◌, ◌++◌, List, [], length, Option, Some, None, refl, sym, ap, ◌∙◌, subst, arith}
 use Rattle.std.proofs.lemmas.List.{append-nil}
-use Rattle.std.specs.Prelude.{Bool, IfSome}
+use Rattle.std.specs.Prelude.{Bool, Result, Ok, Err, IfSome, OnOk, IfErr}
 use Rattle.std.specs.Io.KnownBytes.{IsAtEnd, prepend_known}
 use Rattle.dfu_device.specs.Shown.{Shown}
 use Rattle.dfu_link.specs.Words.{lines_of}
 use Rattle.dfu_link.specs.Texts.{image_line}
 use Rattle.dfu_link.specs.TextLimit.{IsStopped, GivesNone}
 use Rattle.dfu_link.specs.ScriptRun.{Settings, beginning, Prepares, Starts, at_rest, Point, point, IsReady, SetsUp, LinesRun, WroteRun}
-use Rattle.dfu_link.specs.Falls.{NextFalls, RunFalls, StartFalls, Falls, no_memory, in_setting, at_start, in_run}
-use Rattle.dfu_link.specs.inside.Source.{SourceState, Took, Gives}
+use Rattle.dfu_link.specs.Falls.{NextFalls, RunFalls, StartFalls, Falls, Ended, no_memory, in_setting, at_start, in_run}
+use Rattle.dfu_link.specs.inside.Source.{SourceState, Next, Took, Gives}
 use Rattle.dfu_link.specs.inside.Moving.{Ends, MovesAndFalls, Configured, StopsSetting, CannotConfigure}
 use Rattle.dfu_link.specs.declared.scripting.fault.ScriptFault.{ScriptFault}
 use Rattle.dfu_link.specs.declared.scripting.fault.ScriptFault.TheVariants.{BadLine, LateConfig, BadConfig, Expected, NonePrinted, TooLarge, NoMemory, Read, Write}
-use Rattle.dfu_link.proofs.GivenLaws.{of_some, took, took_trans, stops_after}
+use Rattle.dfu_link.proofs.GivenLaws.{if_some, of_some, took, took_trans, stops_after}
 
 -- Nothing was taken of a text.
-pub record IsFresh (text : List ℕ) (s : SourceState) : Type 0 where
+record IsFresh (text : List ℕ) (s : SourceState) : Type 0 where
   pub left : s.left ≡ Some text
   pub room : s.room ≡ 16777216
   pub number : s.number ≡ 0
 
--- The source over a reader that tells its text is a fresh one.
-pub is_fresh : (given : Option (List ℕ)) (text : List ℕ) (s : SourceState) → given ≡ Some text → s.left ≡ prepend_known [] given
-    → s.room ≡ 16777216 → s.number ≡ 0 → IsFresh text s
-is_fresh given text s e left room number = record {
+-- What holds for each text of which nothing was taken holds for the one that a reader tells, if it does.
+for_text : (given : Option (List ℕ)) (s : SourceState) (P : List ℕ → Type 0)
+    → (s.left ≡ prepend_known [] given) × (s.room ≡ 16777216) × (s.number ≡ 0) → ((text : List ℕ) → IsFresh text s → P text)
+    → IfSome given P
+for_text given s P (left, room, number) holds = if_some given P (λ text e. holds text (record {
   left = left ∙ ap (prepend_known []) e;
   room = room;
   number = number;
-}
+}))
 
 -- Of a fresh source these lines were taken.
 fresh_took : {text : List ℕ} {s s' : SourceState} {xs : List (List ℕ)} → IsFresh text s → Gives s xs s'
@@ -57,8 +58,7 @@ setting_ends {text = text} old f fresh e stops =
       stops = stops_after f t.2 here.0;
     }) refl
 
--- The lines that set fall.
-pub configure_ends : {g : Option (List ℕ)} {text : List ℕ} {s : SourceState} {x : Settings} (old : Option (List ℕ)) (f : ScriptFault)
+configure_ends : {g : Option (List ℕ)} {text : List ℕ} {s : SourceState} {x : Settings} (old : Option (List ℕ)) (f : ScriptFault)
     → IsFresh text s
     → x ≡ beginning g → CannotConfigure x s f → Falls g text old old f
 configure_ends old NoMemory fresh e falls = no_memory refl
@@ -70,6 +70,13 @@ configure_ends old Read fresh e falls = setting_ends old Read fresh e falls
 configure_ends old Write fresh e falls = setting_ends old Write fresh e falls
 configure_ends old (Expected n) fresh e falls = setting_ends old (Expected n) fresh e falls
 configure_ends old (NonePrinted n) fresh e falls = setting_ends old (NonePrinted n) fresh e falls
+
+-- The lines that set fall.
+pub configure_falls : {g : Option (List ℕ)} (given old : Option (List ℕ)) (f : ScriptFault) {x : Settings} (s : SourceState)
+    → (s.left ≡ prepend_known [] given) × (s.room ≡ 16777216) × (s.number ≡ 0) → x ≡ beginning g → CannotConfigure x s f
+    → IfSome given (λ text. Falls g text old old f)
+configure_falls {g = g} given old f s first e falls =
+    for_text given s (λ text. Falls g text old old f) first (λ text fresh. configure_ends old f fresh e falls)
 
 -- The device has to start.
 abbrev sets_up : {g : Option (List ℕ)} {text : List ℕ} {s s' : SourceState} {x y : Settings} {more : Bool}
@@ -84,8 +91,7 @@ sets_up {y = y} fresh e c =
       ready = of_some c.at.left (λ left. IsReady y (lines_of left)) t.0 t.1 c.ready;
     }
 
--- It does not start.
-pub start_ends : {g : Option (List ℕ)} {text : List ℕ} {s s' : SourceState} {x y : Settings} {more : Bool}
+start_ends : {g : Option (List ℕ)} {text : List ℕ} {s s' : SourceState} {x y : Settings} {more : Bool}
     (old : Option (List ℕ)) (f : ScriptFault)
     → IsFresh text s → x ≡ beginning g → Configured x s y more s' → StartFalls y f → Falls g text old old f
 start_ends old NoMemory fresh e c falls = no_memory refl
@@ -93,13 +99,14 @@ start_ends old BadConfig fresh e c falls =
     let t = fresh_took fresh c.prepared.gives in
     at_start (sets_up fresh e c) falls
     (stops_after BadConfig t.2 (of_some c.at.left (λ left. IsStopped c.at.room left BadConfig) t.0 t.1 c.reached)) refl
-start_ends old (BadLine n) fresh e c falls = absurd falls
-start_ends old (LateConfig n) fresh e c falls = absurd falls
-start_ends old TooLarge fresh e c falls = absurd falls
-start_ends old Read fresh e c falls = absurd falls
-start_ends old Write fresh e c falls = absurd falls
-start_ends old (Expected n) fresh e c falls = absurd falls
-start_ends old (NonePrinted n) fresh e c falls = absurd falls
+start_ends old f fresh e c falls = absurd falls
+
+-- It does not start.
+pub start_falls : {g : Option (List ℕ)} (given old : Option (List ℕ)) (f : ScriptFault) {s s' : SourceState} {x y : Settings} {more : Bool}
+    → (s.left ≡ prepend_known [] given) × (s.room ≡ 16777216) × (s.number ≡ 0) → x ≡ beginning g → Configured x s y more s'
+    → StartFalls y f → IfSome given (λ text. Falls g text old old f)
+start_falls {g = g} given old f {s = s} first e c falls =
+    for_text given s (λ text. Falls g text old old f) first (λ text fresh. start_ends old f fresh e c falls)
 
 at_end : (a : Option (List ℕ)) → IsAtEnd a → IfSome a (λ left. left ≡ [])
 at_end None h = tt
@@ -115,8 +122,7 @@ done_all fresh c ends =
     let empty : u.0 ≡ [] = of_some ends.last.left (λ left. left ≡ []) u.0 u.1 (at_end ends.last.left ends.ended) in
     sym (u.2.are ∙ (ap (λ (zs : List ℕ). ends.done ++ lines_of zs) empty ∙ append-nil ends.done))
 
--- It starts, and all lines after it are done.
-pub run_ends : {g : Option (List ℕ)} {text : List ℕ} {s s' : SourceState} {x y : Settings} {more : Bool} {old new : Option (List ℕ)} (d : Shown)
+run_ends : {g : Option (List ℕ)} {text : List ℕ} {s s' : SourceState} {x y : Settings} {more : Bool} {old new : Option (List ℕ)} (d : Shown)
     → IsFresh text s → x ≡ beginning g → (c : Configured x s y more s') → Starts y d → Ends (point y (at_rest d)) c.at old new
     → WroteRun g text old new
 run_ends {text = text} {y = y} d fresh e c starts ends =
@@ -146,8 +152,7 @@ run_ends {text = text} {y = y} d fresh e c starts ends =
       told = ends.told;
     }
 
--- It starts, and of the lines after it one falls.
-pub run_falls : {g : Option (List ℕ)} {text : List ℕ} {s s' : SourceState} {x y : Settings} {more : Bool} {old new : Option (List ℕ)} (d : Shown)
+run_falls : {g : Option (List ℕ)} {text : List ℕ} {s s' : SourceState} {x y : Settings} {more : Bool} {old new : Option (List ℕ)} (d : Shown)
     (f : ScriptFault) → IsFresh text s → x ≡ beginning g → (c : Configured x s y more s') → Starts y d
     → MovesAndFalls (point y (at_rest d)) c.at old new f → Falls g text old new f
 run_falls {y = y} {new = new} d f fresh e c starts falls =
@@ -170,3 +175,15 @@ run_falls {y = y} {new = new} d f fresh e c starts falls =
           (omega (arith, m.gives.count, c.prepared.gives.count, fresh.number)) here.1;
     } in
     in_run (sets_up fresh e c) starts runs (stops_after f (took_trans t.2 u.2) here.0)
+
+-- It starts, and all lines after it are done, or one falls.
+pub run_ended : (r : Result Unit ScriptFault) {g : Option (List ℕ)} (given old new : Option (List ℕ)) (d : Shown) {s s' : SourceState}
+    {x y : Settings} {more : Bool} → (s.left ≡ prepend_known [] given) × (s.room ≡ 16777216) × (s.number ≡ 0) → x ≡ beginning g
+    → Configured x s y more s' → Starts y d
+    → OnOk r ((t : SourceState) → Next t more s' → Ends (point y (at_rest d)) t old new)
+    → IfErr r (λ f. (t : SourceState) → Next t more s' → MovesAndFalls (point y (at_rest d)) t old new f)
+    → IfSome given (λ text. Ended g text old new r)
+run_ended (Ok it) {g = g} given old new d {s = s} first e c starts ends falls =
+    for_text given s (λ text. WroteRun g text old new) first (λ text fresh. run_ends d fresh e c starts (ends c.at c.next))
+run_ended (Err f) {g = g} given old new d {s = s} first e c starts ends falls =
+    for_text given s (λ text. Falls g text old new f) first (λ text fresh. run_falls d f fresh e c starts (falls c.at c.next))

@@ -1,9 +1,11 @@
 -- What is out of texts that are written one after the other.
-use Rattle.std.proofs.Common.{ℕ, List, [], ◌++◌, length-append, Option, Some, None, refl, sym, ap, ◌∙◌, arith}
+use Rattle.std.proofs.Common.{◌≡◌, ℕ, List, [], ◌++◌, length-append, Option, Some, None, sym, ap, ◌∙◌, subst, arith}
 use Rattle.std.proofs.lemmas.List.{append_assoc, append-nil}
-use Rattle.std.specs.Io.KnownBytes.{Appends, Keeps}
-use Rattle.std.specs.Prelude.{Result, Ok, Err, OnErr, OnOk, IfErr}
+use Rattle.std.specs.Io.KnownBytes.{Appends}
+use Rattle.std.specs.Prelude.{Result, Ok, Err, IsErrAnd}
 use Rattle.dfu_suffix.specs.Writing.{IsOutInPart}
+use Rattle.dfu_link.specs.declared.scripting.fault.ScriptFault.{ScriptFault}
+use Rattle.dfu_link.specs.inside.Expected.{Puts}
 
 -- Nothing is out.
 pub appends_none : (old : Option (List ℕ)) → Appends old old []
@@ -40,44 +42,24 @@ broke_after old mid new xs ys h b =
       told = appends_more old mid new xs b.front h b.told;
     }
 
--- What holds at all holds of an error.
-pub on_err : {A E : Type 0} (r : Result A E) (P : Type 0) → P → OnErr r P
-on_err (Ok x) P h = tt
-on_err (Err e) P h = h
+both_put : (r : Result Unit ScriptFault) (old mid new : Option (List ℕ)) (xs ys : List ℕ) → Appends old mid xs → Puts ys mid new r
+    → Puts (xs ++ ys) old new r
+both_put (Ok done) old mid new xs ys h k = record { ok = appends_more old mid new xs ys h k.ok; err = tt; fault = tt }
+both_put (Err f) old mid new xs ys h k = record { ok = tt; err = broke_after old mid new xs ys h k.err; fault = k.fault }
 
--- What holds of an error may be weakened.
-pub on_err_map : {A E : Type 0} (r : Result A E) (P Q : Type 0) → (P → Q) → OnErr r P → OnErr r Q
-on_err_map (Ok x) P Q f h = tt
-on_err_map (Err e) P Q f h = f h
+-- One text is out, and then it went so with another: so it went with both.
+pub puts_then : {old mid new : Option (List ℕ)} {xs ys text : List ℕ} {done : Unit {0}} {r : Result Unit ScriptFault}
+    → Puts xs old mid (Ok done) → Puts ys mid new r → text ≡ xs ++ ys → Puts text old new r
+puts_then {old = old} {mid = mid} {new = new} {xs = xs} {ys = ys} {r = r} h k e =
+    subst (λ (zs : List ℕ). Puts zs old new r) (sym e) (both_put r old mid new xs ys h.ok k)
 
--- What follows of each fault holds of an error.
-pub on_err_from : {A E : Type 0} (r : Result A E) (P : E → Type 0) (Q : Type 0) → ((e : E) → P e → Q) → IfErr r P → OnErr r Q
-on_err_from (Ok x) P Q f h = tt
-on_err_from (Err e) P Q f h = f e h
+one_stops : (r : Result Unit ScriptFault) (old new : Option (List ℕ)) (xs ys : List ℕ) (f : ScriptFault) → Puts xs old new (Err f)
+    → IsErrAnd r (λ e. e ≡ f) → Puts (xs ++ ys) old new r
+one_stops (Ok done) old new xs ys f h same = absurd same
+one_stops (Err e) old new xs ys f h same = record { ok = tt; err = broke_before old new xs ys h.err; fault = same ∙ h.fault }
 
--- What holds of success may be weakened.
-pub on_ok_map : {A E : Type 0} (r : Result A E) (P Q : Type 0) → (P → Q) → OnOk r P → OnOk r Q
-on_ok_map (Ok x) P Q f h = f h
-on_ok_map (Err e) P Q f h = tt
-
--- What holds of a fault may be weakened.
-pub if_err_map : {A E : Type 0} (r : Result A E) (P Q : E → Type 0) → ((e : E) → P e → Q e) → IfErr r P → IfErr r Q
-if_err_map (Ok x) P Q f h = tt
-if_err_map (Err e) P Q f h = f e h
-
--- Two things that hold of a fault hold together.
-pub if_err_both : {A E : Type 0} (r : Result A E) (P : E → Type 0) (B : Type 0) → IfErr r P → OnErr r B → IfErr r (λ e. P e × B)
-if_err_both (Ok x) P B h k = tt
-if_err_both (Err e) P B h k = (h, k)
-
--- What is out is out still where what is held stays.
-pub appends_kept : (old mid new : Option (List ℕ)) (xs : List ℕ) → Appends old mid xs → Keeps mid new → Appends old new xs
-appends_kept None mid new xs h k = tt
-appends_kept (Some a) None new xs h k = absurd h
-appends_kept (Some a) (Some b) None xs h k = absurd k
-appends_kept (Some a) (Some b) (Some c) xs h k = k ∙ h
-
--- What is held is kept where nothing is written.
-pub keeps_same : (held : Option (List ℕ)) → Keeps held held
-keeps_same None = tt
-keeps_same (Some a) = refl
+-- The writer failed in one text, and another was to follow: so it failed in both.
+pub puts_stops : {old new : Option (List ℕ)} {xs text : List ℕ} {f : ScriptFault} {r : Result Unit ScriptFault} (ys : List ℕ)
+    → Puts xs old new (Err f) → IsErrAnd r (λ e. e ≡ f) → text ≡ xs ++ ys → Puts text old new r
+puts_stops {old = old} {new = new} {xs = xs} {f = f} {r = r} ys h same e =
+    subst (λ (zs : List ℕ). Puts zs old new r) (sym e) (one_stops r old new xs ys f h same)

@@ -6,7 +6,7 @@
 #![tactic(auto)]
 
 mod scripting;
-mod tracing;
+mod watch;
 
 pub use dfu_sim::{Aim, Event, Fate, LinkFault, OfferFault, Stop, World, laws, run};
 pub use scripting::{ScriptFault, script, script_traced, script_traced_with, script_with};

@@ -37,21 +37,19 @@ taken : {p : List ℕ} (offers : List (List ℕ)) (t : ℕ) (i : List ℕ) (q : 
 taken {p = p} offers t i q up n more b f e = subst (λ (x : List ℕ). Begins t (shown offers i q (Loading p) up)
     (shown offers i (Some x) (Loading p) up)) (sym e) (takes n refl b f)
 
-moved : {offers : List (List ℕ)} {p : List ℕ} {t : ℕ} {i j : List ℕ} {q r : Option (List ℕ)} (up : List ℕ) → ImageMoves offers p t i q j r
-    → Moved t (shown offers i q (Loading p) up) (shown offers j r (Loading p) up)
-moved up (quietly stays) = record { mid = _; first_part = begins_not; last_part = ends_not }
-moved up (quietly forgets) = record { mid = _; first_part = begins_not; last_part = drops }
-moved up (quietly (commits h)) = record { mid = _; first_part = installs refl h; last_part = ends_not }
-moved {offers = offers} {p = p} {t = t} {i = i} {q = q} up (takes_block n more b f e) =
-    record { mid = _; first_part = taken offers t i q up n more b f e; last_part = ends_not }
-moved {offers = offers} {p = p} {t = t} {i = i} {q = q} up (loses_block n more b f e) =
-    record { mid = _; first_part = taken offers t i q up n more b f e; last_part = drops }
-
 moved_quiet : {offers : List (List ℕ)} {t : ℕ} {i j : List ℕ} {q r : Option (List ℕ)} (live : Live) (up : List ℕ) → Quiet offers i q j r
     → Moved t (shown offers i q live up) (shown offers j r live up)
 moved_quiet live up stays = record { mid = _; first_part = begins_not; last_part = ends_not }
 moved_quiet live up forgets = record { mid = _; first_part = begins_not; last_part = drops }
 moved_quiet live up (commits h) = record { mid = _; first_part = installs refl h; last_part = ends_not }
+
+moved : {offers : List (List ℕ)} {p : List ℕ} {t : ℕ} {i j : List ℕ} {q r : Option (List ℕ)} (up : List ℕ) → ImageMoves offers p t i q j r
+    → Moved t (shown offers i q (Loading p) up) (shown offers j r (Loading p) up)
+moved {p = p} up (quietly q) = moved_quiet (Loading p) up q
+moved {offers = offers} {p = p} {t = t} {i = i} {q = q} up (takes_block n more b f e) =
+    record { mid = _; first_part = taken offers t i q up n more b f e; last_part = ends_not }
+moved {offers = offers} {p = p} {t = t} {i = i} {q = q} up (loses_block n more b f e) =
+    record { mid = _; first_part = taken offers t i q up n more b f e; last_part = drops }
 
 -- What is shown after an event.
 pub record Simulated (c : Profile) (offers : List (List ℕ)) (w : Link) (up : List ℕ) (kind : Kind) (r : Played)

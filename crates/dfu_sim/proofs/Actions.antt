@@ -17,7 +17,7 @@ use Rattle.dfu_sim.specs.declared.back.Back.{Back}
 use Rattle.dfu_sim.specs.declared.course.Handling.{Handling}
 use Rattle.dfu_sim.specs.declared.course.Handling.TheVariants.{Late}
 use Rattle.dfu_sim.specs.declared.course.Harming.{Harming}
-use Rattle.dfu_sim.specs.declared.course.Harming.TheVariants.{NoWrite, CutsPower, FailsWrite, LiesInWrite}
+use Rattle.dfu_sim.specs.declared.course.Harming.TheVariants.{CutsPower}
 use Rattle.dfu_sim.specs.Course.{Course}
 use Rattle.dfu_sim.specs.Play.{heard_as, remembered, reached, heard_back, heard_over, over, waits_for, slipped, acted}
 use Rattle.dfu_sim.specs.Bytes.{armed, bus_was_reset, HearsAnswer, HearsBack, Reaches, unseen, once, again, late, came_back, ended_back, Sends, Waits, Slips, ResetsBus, Acts}
@@ -48,12 +48,8 @@ heard_by_course : (d : Deed) (harming : Harming) (back : Bool) (came : Back) (ou
     → HearsBack d (ended_back harming (came_back back came)) out heard
     → (room : Bool) × (heard ≡ remembered (heard_over harming (heard_back back x)) room)
 heard_by_course d CutsPower back came out heard x f h = (true, h)
-heard_by_course d NoWrite true came out heard x f h = f heard h
-heard_by_course d NoWrite false came out heard x f h = (true, h)
-heard_by_course d FailsWrite true came out heard x f h = f heard h
-heard_by_course d LiesInWrite true came out heard x f h = f heard h
-heard_by_course d FailsWrite false came out heard x f h = (true, h)
-heard_by_course d LiesInWrite false came out heard x f h = (true, h)
+heard_by_course d harming true came out heard x f h = f heard h
+heard_by_course d harming false came out heard x f h = (true, h)
 
 module _ (q : Asked) (setup body : List ℕ) (is : IsHosts q body) (asked : IsAsked q setup) where
   came_by : (w w' : Shown) (a : Answer) (out : List ℕ) → Handles setup body w a out w'

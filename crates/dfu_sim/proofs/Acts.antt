@@ -1,5 +1,5 @@
 -- The parts of an action, put together.
-use Rattle.std.proofs.Common.{◌≡◌, ℕ, List, refl, sym, subst}
+use Rattle.std.proofs.Common.{◌≡◌, ℕ, List, sym, subst}
 use Rattle.std.specs.Borrow.{Bor}
 use Rattle.dfu_slots.specs.Medium.Fuse.{Whole}
 use Rattle.dfu_wire.specs.declared.requests.Request.{Request as Asked}
@@ -9,12 +9,11 @@ use Rattle.dfu_host.specs.declared.action.Action.TheVariants as action
 use Rattle.dfu_host.specs.declared.seen.Seen.{Seen}
 use Rattle.dfu_host.specs.declared.seen.Seen.TheVariants as seen
 use Rattle.dfu_host.specs.Host.{HostState}
-use Rattle.dfu_host.specs.Table.{deed}
 use Rattle.dfu_host.specs.Phases.{Deed, Send, Wait, Reset, Heard, Waited, WasReset}
 use Rattle.dfu_host.specs.Wire.{Spells, Hears}
 use Rattle.dfu_sim.specs.declared.back.Back.{Back}
 use Rattle.dfu_sim.specs.declared.course.Harming.{Harming}
-use Rattle.dfu_sim.specs.declared.course.Harming.TheVariants.{NoWrite, CutsPower, FailsWrite, LiesInWrite}
+use Rattle.dfu_sim.specs.declared.course.Harming.TheVariants.{CutsPower}
 use Rattle.dfu_sim.specs.Course.{Course}
 use Rattle.dfu_sim.specs.Happening.{Harm}
 use Rattle.dfu_sim.specs.Play.{heard_over, waits_for}
@@ -32,19 +31,11 @@ sends_by {body = body} {out = out} course {came = came} h e q heard r = record {
   hears = subst (λ (x : Back). HearsBack (Send q body) x out heard) e r;
 }
 
-waited_heard : (harming : Harming) (d : Deed) (heard : Heard) → Hears d (seen_over harming seen.Waited) heard
-    → heard ≡ heard_over harming Waited
-waited_heard NoWrite d heard h = h
-waited_heard CutsPower d heard h = h
-waited_heard FailsWrite d heard h = h
-waited_heard LiesInWrite d heard h = h
-
-reset_heard : (harming : Harming) (d : Deed) (heard : Heard) → Hears d (seen_over harming seen.WasReset) heard
-    → heard ≡ heard_over harming WasReset
-reset_heard NoWrite d heard h = h
-reset_heard CutsPower d heard h = h
-reset_heard FailsWrite d heard h = h
-reset_heard LiesInWrite d heard h = h
+-- At the end of an action a host hears of what it saw, or after a cut of the restart.
+seen_heard : (harming : Harming) (d : Deed) (s : Seen) (heard x : Heard) → (Hears d s heard → heard ≡ x)
+    → Hears d (seen_over harming s) heard → heard ≡ heard_over harming x
+seen_heard CutsPower d s heard x f h = h
+seen_heard harming d s heard x f h = f h
 
 -- A wait in which this time passes, and of which this is seen.
 pub waits_by : {time : ℕ} (ms : ℕ) (w w' : Shown) (course : Course) {seen_is : Seen}
@@ -52,7 +43,7 @@ pub waits_by : {time : ℕ} (ms : ℕ) (w w' : Shown) (course : Course) {seen_is
     → seen_is ≡ seen_over course.harming seen.Waited → (d : Deed) (heard : Heard) → Hears d seen_is heard → Waits ms course w w' heard
 waits_by ms w w' course e t k d heard h = (
   subst (λ (n : ℕ). Elapses n w w') t e,
-  waited_heard course.harming d heard (subst (λ (x : Seen). Hears d x heard) k h),
+  seen_heard course.harming d seen.Waited heard Waited (λ h. h) (subst (λ (x : Seen). Hears d x heard) k h),
 )
 
 -- A reset of the bus after which time may slip in, and of which this is seen.
@@ -61,7 +52,7 @@ pub resets_by : {mid : Shown} (w w' : Shown) (course : Course) {seen_is : Seen} 
     → ResetsBus course w w' heard
 resets_by w w' course r e k d heard h = (
   subst (λ (x : Shown). Slips course.handling x w') r e,
-  reset_heard course.harming d heard (subst (λ (x : Seen). Hears d x heard) k h),
+  seen_heard course.harming d seen.WasReset heard WasReset (λ h. h) (subst (λ (x : Seen). Hears d x heard) k h),
 )
 
 -- A request, a wait and a reset that a host asks for.

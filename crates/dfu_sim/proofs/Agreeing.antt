@@ -45,10 +45,8 @@ closed_sound (InManifest taken passed) rest = inl refl
 closed_sound stage rest = tt
 
 goal_offered : (goal : Goal) (a : List (List ℕ)) → IsLiveOffer (a ++ goal_in goal) (live_goal goal)
-goal_offered (ToLoad payload) a = one_right a (payload ∷ []) payload (inl refl)
 goal_offered ToFetch a = tt
-goal_offered (ToVerify payload) a = one_right a (payload ∷ []) payload (inl refl)
-goal_offered (ToCompare payload) a = one_right a (payload ∷ []) payload (inl refl)
+goal_offered goal a = one_right a (goal_in goal) _ (inl refl)
 
 -- The payload of a live session is one of these offers.
 pub live_offered : (session : Session) (a : List (List ℕ)) → IsLiveOffer (a ++ session_in session) (live_of session)

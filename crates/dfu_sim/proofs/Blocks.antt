@@ -12,9 +12,9 @@ use Rattle.dfu_host.specs.Phases.{ToLoad, Phase, Block, Ask, Close, AskLast, Not
 use Rattle.dfu_host.specs.Table.{row}
 use Rattle.dfu_sim.specs.Session.{IsOneOf, IsFirst}
 use Rattle.dfu_sim.specs.declared.course.Handling.{Handling}
-use Rattle.dfu_sim.specs.declared.course.Handling.TheVariants.{Unseen, Once, Again, Late}
+use Rattle.dfu_sim.specs.declared.course.Handling.TheVariants.{Unseen, Again}
 use Rattle.dfu_sim.specs.declared.course.Harming.{Harming}
-use Rattle.dfu_sim.specs.declared.course.Harming.TheVariants.{NoWrite, CutsPower, FailsWrite, LiesInWrite}
+use Rattle.dfu_sim.specs.declared.course.Harming.TheVariants.{CutsPower}
 use Rattle.dfu_sim.specs.Course.{Course}
 use Rattle.dfu_sim.specs.Opening.{task_for}
 use Rattle.dfu_sim.specs.Play.{Passed, reached, heard_back, ends_by, sent}
@@ -60,10 +60,8 @@ module _ (c : Profile) (offers : List (List ℕ)) (p : List ℕ) where
       → ImageMoves offers p c.transfer s.image (pending_of s.stage) d.device.image (pending_of d.device.stage)
       → IsSound offers d.device.stage
       → Fact c p (row (task_for c (ToLoad p)) phase d.heard) d.device → GoesWell phase s (ends_by harming d)
-  ended_well phase s NoWrite d m h n = record { moves = m; sound = h; next = if_some d.heard _ n }
   ended_well phase s CutsPower d m h n = record { moves = cut_moves m; sound = tt; next = tt }
-  ended_well phase s FailsWrite d m h n = record { moves = m; sound = h; next = if_some d.heard _ n }
-  ended_well phase s LiesInWrite d m h n = record { moves = m; sound = h; next = if_some d.heard _ n }
+  ended_well phase s harming d m h n = record { moves = m; sound = h; next = if_some d.heard _ n }
 
   goes_well : (phase : Phase) (s : Situation) (harming : Harming) (back : Bool) (d : Passed) → Reached phase s d
       → GoesWell phase s (ends_by harming (record { device = d.device; heard = heard_back back d.heard }))
@@ -74,36 +72,29 @@ module _ (c : Profile) (offers : List (List ℕ)) (p : List ℕ) where
   block_fault : (n num : ℕ) (body : List ℕ) (s : Situation) (code : Code) → n < length (blocks p c.transfer) → Fact c p (Ask n) s
       → IsSound offers s.stage → (how : Handling) (l k : Luck) → Reached (Block n) s (reached c s (Dnload num body) (error code) how l k)
   block_fault n num body s code b a h Unseen l k = record { moves = quietly stays; sound = h; next = a; lost = a }
-  block_fault n num body s code b a h Once l k = record { moves = quietly forgets; sound = tt; next = tt; lost = (b, tt) }
-  block_fault n num body s code b a h Again l k = record { moves = quietly forgets; sound = tt; next = tt; lost = (b, tt) }
-  block_fault n num body s code b a h (Late ms) l k = record { moves = quietly forgets; sound = tt; next = tt; lost = (b, tt) }
+  block_fault n num body s code b a h how l k = record { moves = quietly forgets; sound = tt; next = tt; lost = (b, tt) }
 
   block_taken : (n num : ℕ) (before body : List ℕ) (number : ℕ) (s : Situation) → n < length (blocks p c.transfer) → Fact c p (Ask n) s
       → IsSound offers s.stage → IsFirst p c.transfer n (pending_of s.stage) → before ++ body ≡ first p c.transfer (suc n)
       → (how : Handling) (l k : Luck) → Reached (Block n) s
       (reached c s (Dnload num body) (Sure Ack (InDownloadSync before body number)) how l k)
   block_taken n num before body number s b a h f e Unseen l k = record { moves = quietly stays; sound = h; next = a; lost = a }
-  block_taken n num before body number s b a h f e Once l k =
-      record { moves = takes_block n _ b f e; sound = tt; next = (b, e); lost = (b, e) }
   block_taken n num before body number s b a h f e Again l k =
       record { moves = loses_block n _ b f e; sound = tt; next = tt; lost = (b, tt) }
-  block_taken n num before body number s b a h f e (Late ms) l k =
+  block_taken n num before body number s b a h f e how l k =
       record { moves = takes_block n _ b f e; sound = tt; next = (b, e); lost = (b, e) }
 
   close_fault : (num : ℕ) (s : Situation) (code : Code) → Fact c p AskLast s → IsSound offers s.stage → (how : Handling) (l k : Luck)
       → Reached Close s (reached c s (Dnload num []) (error code) how l k)
   close_fault num s code a h Unseen l k = record { moves = quietly stays; sound = h; next = a; lost = a }
-  close_fault num s code a h Once l k = record { moves = quietly forgets; sound = tt; next = tt; lost = tt }
-  close_fault num s code a h Again l k = record { moves = quietly forgets; sound = tt; next = tt; lost = tt }
-  close_fault num s code a h (Late ms) l k = record { moves = quietly forgets; sound = tt; next = tt; lost = tt }
+  close_fault num s code a h how l k = record { moves = quietly forgets; sound = tt; next = tt; lost = tt }
 
   close_taken : (num : ℕ) (image taken : List ℕ) (number : ℕ) → taken ≡ p → IsOneOf taken offers → (how : Handling) (l k : Luck)
       → let s : Situation = record { image = image; stage = InDownloadIdle taken number } in
       Reached Close s (reached c s (Dnload num []) (Sure Ack (InManifestSync taken)) how l k)
   close_taken num image taken number e o Unseen l k = record { moves = quietly stays; sound = tt; next = e; lost = e }
-  close_taken num image taken number e o Once l k = record { moves = quietly stays; sound = o; next = e; lost = e }
   close_taken num image taken number e o Again l k = record { moves = quietly forgets; sound = tt; next = tt; lost = tt }
-  close_taken num image taken number e o (Late ms) l k = record { moves = quietly stays; sound = o; next = e; lost = e }
+  close_taken num image taken number e o how l k = record { moves = quietly stays; sound = o; next = e; lost = e }
 
 -- Cases on the plan of a block.
 block_cases : (P : Plan → Type 0) (c : Profile) (before : List ℕ) (expected number : ℕ) (body : List ℕ) → ((code : Code) → P (error code))

@@ -1,7 +1,6 @@
 -- A run step by step, with what each step ensures.
-use Rattle.std.proofs.Common.{◌≡◌, ◌⊎◌, inl, inr, ℕ, zero, suc, ◌+◌, ◌<◌, ◌≤◌, List, [], ◌∷◌, ◌++◌, length, take, drop, map, get_or, Option, Result, Ok, Err, refl, sym, ap, ◌∙◌, subst, arith, append_assoc}
-use Rattle.std.proofs.lemmas.List.{append-nil}
-use Rattle.std.proofs.lemmas.List.{take_all, length-map}
+use Rattle.std.proofs.Common.{◌≡◌, ◌⊎◌, inl, inr, ℕ, ◌+◌, ◌<◌, ◌≤◌, List, [], ◌∷◌, ◌++◌, length, take, map, get_or, Option, Result, Ok, Err, refl, sym, ap, ◌∙◌, subst, arith, append_assoc}
+use Rattle.std.proofs.lemmas.List.{append-nil, take_all, take-map, map_more, drop-map, drop_more, length-map}
 use Rattle.dfu_slots.specs.Medium.{MediumState}
 use Rattle.dfu_slots.specs.Image.{Active}
 use Rattle.dfu_device.specs.Stage.{Profile}
@@ -16,7 +15,7 @@ use Rattle.dfu_sim.specs.Agreement.{AgreesOn}
 use Rattle.dfu_sim.proofs.Saying.{only_offered}
 use Rattle.dfu_sim.specs.Bench.{Bench, LinkState, linked}
 use Rattle.dfu_sim.specs.Giving.{Gives}
-use Rattle.dfu_sim.specs.Happening.{Happening, happening}
+use Rattle.dfu_sim.specs.Happening.{Happening, Resets, happening}
 use Rattle.dfu_sim.specs.Refusing.{IsRefused}
 use Rattle.dfu_sim.specs.Comes.{Comes, refuses, happens, shown_as, gave_of, HasCome}
 use Rattle.dfu_sim.specs.Following.{IsFollowed}
@@ -89,31 +88,6 @@ chain_follows {b = b} (one_more {mid = mid} {hs = hs} {reports = reports} s more
     follows_run m (f.kind ∷ rest.kinds) rest.after agrees (f.is, rest.are)
     (and_then f.step (subst (λ (c : Profile). Legal c.tolerant c.transfer f.after rest.kinds reports rest.after) e rest.legal)) rest.agrees
 
--- The list of what happens, along a loop.
-
-take_suc : (f : GivenEvent → Happening) (events : List GivenEvent) (n : ℕ) (d : GivenEvent) → n < length events
-    → take (suc n) (map f events) ≡ take n (map f events) ++ f (get_or events n d) ∷ []
-take_suc f [] n d h = absurd (omega (arith, h))
-take_suc f (event ∷ events) zero d h = refl
-take_suc f (event ∷ events) (suc n) d h = ap (λ (hs : List Happening). f event ∷ hs) (take_suc f events n d (omega (arith, h)))
-
--- One event more is the next of the list.
-pub take_next : (f : GivenEvent → Happening) (events : List GivenEvent) (n : ℕ) (d : GivenEvent) → n < length events
-    → take (n + 1) (map f events) ≡ take n (map f events) ++ f (get_or events n d) ∷ []
-take_next f events n d h = let e : n + 1 ≡ suc n = omega arith in ap (λ (k : ℕ). take k (map f events)) e ∙ take_suc f events n d h
-
-drop_next : (f : GivenEvent → Happening) (events : List GivenEvent) (n : ℕ) (d : GivenEvent) → n < length events
-    → drop n (map f events) ≡ f (get_or events n d) ∷ drop (suc n) (map f events)
-drop_next f [] n d h = absurd (omega (arith, h))
-drop_next f (event ∷ events) zero d h = refl
-drop_next f (event ∷ events) (suc n) d h = drop_next f events n d (omega (arith, h))
-
--- Something is next.
-pub some_next : (hs : List Happening) (n : ℕ) → n < length hs → (next : Happening) × (more : List Happening) × (drop n hs ≡ next ∷ more)
-some_next [] n h = absurd (omega (arith, h))
-some_next (g ∷ hs) zero h = (g, hs, refl)
-some_next (g ∷ hs) (suc n) h = some_next hs n (omega (arith, h))
-
 -- Refusals.
 
 refused_of : {b b' : Bench} {h : Happening} {answer : Result Answered LinkFault} (up : List ℕ) (why : LinkFault) → Comes b h b' answer
@@ -145,7 +119,10 @@ pub ran_on : {b mid b' : LinkState} {reports : List Report} {report : Option Rep
     → n < length events → Ran b events n reports mid
     → Stepped mid (happening (get_or events n d)) b' report → Ran b events (n + 1) (reports ++ said report) b'
 ran_on {b = b} {b' = b'} {reports = reports} {report = report} events n d h chain s =
-    subst (λ (hs : List Happening). Chain b hs (reports ++ said report) b') (sym (take_next happening events n d h)) (chain_on chain s)
+    let next : take (n + 1) (happenings events) ≡ take n (happenings events) ++ happening (get_or events n d) ∷ [] =
+    take-map happening (n + 1) events ∙ map_more happening events n d h
+    ∙ ap (λ (hs : List Happening). hs ++ happening (get_or events n d) ∷ []) (sym (take-map happening n events)) in
+    subst (λ (hs : List Happening). Chain b hs (reports ++ said report) b') (sym next) (chain_on chain s)
 
 -- What a run that stops ensures.
 pub record Stopped (b : LinkState) (hs : List Happening) (why : LinkFault) (at : ℕ) (reports : List Report) (b' : LinkState) : Type 0 where
@@ -156,8 +133,8 @@ pub record Stopped (b : LinkState) (hs : List Happening) (why : LinkFault) (at :
 pub stopped_full : {b mid : LinkState} {reports : List Report} (events : List GivenEvent) (n : ℕ) → n < length events
     → Ran b events n reports mid → Stopped b (happenings events) fault.NoMemory n reports mid
 stopped_full events n h chain =
-    let x = some_next (happenings events) n (omega (arith, h, length-map events happening)) in
-    record { runs = record { next = x.0; more = x.1; here = x.2; before = chain_runs chain; why = tt }; chain = chain }
+    let here = drop_more (happenings events) n Resets (omega (arith, h, length-map events happening)) in
+    record { runs = record { next = _; more = _; here = here; before = chain_runs chain; why = tt }; chain = chain }
 
 -- A run that stops at an event that is refused.
 pub stopped_refused : {b mid b' : LinkState} {reports : List Report} {why : LinkFault} (events : List GivenEvent) (n : ℕ) (d : GivenEvent)
@@ -169,7 +146,7 @@ stopped_refused {b = b} {mid = mid} {reports = reports} {why = why} events n d h
       runs = record {
         next = happening (get_or events n d);
         more = _;
-        here = drop_next happening events n d h;
+        here = drop-map happening n events ∙ ap (map happening) (drop_more events n d h);
         before = chain_runs chain;
         why = stop_why mid.bench (happening (get_or events n d)) why r.1;
       };

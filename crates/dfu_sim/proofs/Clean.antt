@@ -12,7 +12,8 @@ use Rattle.dfu_sim.specs.declared.aim.Aim.TheVariants.{Install, Verify}
 use Rattle.dfu_sim.specs.Play.{Link, silent}
 use Rattle.dfu_sim.specs.CleanRun.{actions_of, PassesTo, Quietly, there, resting, InstalledAfter, CleanRun}
 use Rattle.dfu_sim.proofs.Blocks.{not_empty}
-use Rattle.dfu_sim.proofs.Passes.{split, both_ways, at, Leads}
+use Rattle.dfu_sim.proofs.Choices.{split}
+use Rattle.dfu_sim.proofs.Passes.{both_ways, at, Leads}
 use Rattle.dfu_sim.proofs.Turns.{BlockFits, whole_run}
 use Rattle.dfu_sim.proofs.Verified.{verified_passes}
 use Rattle.dfu_sim.proofs.CleanCompare.{whole_comparison}
@@ -72,16 +73,15 @@ module _ (c : Profile) (p : List ℕ) (again : ℕ) where
 
   -- A download that has just begun.
   installs : (i : List ℕ) (left : ℕ) → Leads c (ToLoad p) again i InAppIdle Find most p InDfuIdle (Last Installed)
-      → suc most ≤ left → InstalledAfter c (at c (ToLoad p) again i InAppIdle Find left) (suc most) p Installed
+      → clean b c.busy c.manifest ≤ left
+      → InstalledAfter c (at c (ToLoad p) again i InAppIdle Find left) (clean b c.busy c.manifest) p Installed
   installs i left leads budget =
-      let l : ℕ = left - suc most in
-      let total : most + suc l ≡ left = omega (arith, budget) in
-      let less : suc most - 1 ≡ most = omega arith in
+      let l : ℕ = left - clean b c.busy c.manifest in
+      let total : most + suc l ≡ left = omega (arith, budget, clean_is b c.busy c.manifest) in
       let before : Link = at c (ToLoad p) again p InDfuIdle (Last Installed) (suc l) in
       record {
         before = before;
-        quiet = subst (λ z. Quietly c (at c (ToLoad p) again i InAppIdle Find left) z before) (sym less)
-            (subst (λ z. Quietly c (at c (ToLoad p) again i InAppIdle Find z) most before) total (leads.by l));
+        quiet = subst (λ z. Quietly c (at c (ToLoad p) again i InAppIdle Find z) most before) total (leads.by l);
         last = installs_last c p again (suc l);
       }
 
@@ -101,13 +101,14 @@ module _ (c : Profile) (p : List ℕ) (again : ℕ) where
   -- A download that is to be verified and has just begun.
   verifies : (i : List ℕ) (left : ℕ) → Leads c (ToLoad p) again i InAppIdle Find most p InDfuIdle (Last Installed)
       → Leads c (ToCompare p) again p InAppIdle Find compares p InDfuIdle (Last Verified)
-      → suc (most + suc compares) ≤ left
-      → InstalledAfter c (at c (ToVerify p) again i InAppIdle Find left) (suc (most + suc compares)) p Verified
+      → clean b c.busy c.manifest + 6 + length p / c.transfer ≤ left
+      → InstalledAfter c (at c (ToVerify p) again i InAppIdle Find left) (clean b c.busy c.manifest + 6 + length p / c.transfer) p Verified
   verifies i left downloaded compared budget =
-      let l : ℕ = left - suc (most + suc compares) in
+      let l : ℕ = left - (clean b c.busy c.manifest + 6 + length p / c.transfer) in
       let rest : ℕ = compares + l in
-      let total : most + suc (suc rest) ≡ left = omega (arith, budget) in
-      let less : suc (most + suc compares) - 1 ≡ most + suc compares = omega arith in
+      let total : most + suc (suc rest) ≡ left = omega (arith, budget, clean_is b c.busy c.manifest) in
+      let less : most + suc compares ≡ clean b c.busy c.manifest + 6 + length p / c.transfer - 1 =
+      omega (arith, clean_is b c.busy c.manifest) in
       let same : compares + suc l ≡ suc rest = omega arith in
       let before : Link = at c (ToCompare p) again p InDfuIdle (Last Verified) (suc l) in
       let download : Quietly c (at c (ToVerify p) again i InAppIdle Find (most + suc (suc rest))) most
@@ -117,7 +118,7 @@ module _ (c : Profile) (p : List ℕ) (again : ℕ) where
       (subst (λ z. Quietly c (at c (ToCompare p) again p InAppIdle Find z) compares before) same (compared.by l)) in
       record {
         before = before;
-        quiet = subst (λ z. Quietly c (at c (ToVerify p) again i InAppIdle Find left) z before) (sym less)
+        quiet = subst (λ z. Quietly c (at c (ToVerify p) again i InAppIdle Find left) z before) less
             (subst (λ z. Quietly c (at c (ToVerify p) again i InAppIdle Find z) (most + suc compares) before) total
             (both_ways download comparison));
         last = verifies_last (suc l);
@@ -132,22 +133,10 @@ takes_actions Verify t busy manifest payload = omega (arith, clean_is (length (b
 pub clean_run : CleanRun
 clean_run c Install image payload limits tol can sized long least room parts budget other memory =
     let some : 0 < length (blocks payload c.transfer) = block_counts payload c.transfer 0 sized (omega (arith, long)) in
-    let total = clean_is (length (blocks payload c.transfer)) c.busy c.manifest in
-    let k : ℕ = clean (length (blocks payload c.transfer)) c.busy c.manifest in
-    let same : suc (k - 1) ≡ k = omega (arith, total) in
-    subst (λ z. InstalledAfter c (at c (ToLoad payload) limits.restarts image InAppIdle Find (max 1 limits.actions)) z payload Installed)
-    same
-    (installs c payload limits.restarts image (max 1 limits.actions)
-    (downloads c payload limits.restarts image tol can sized some least room)
-    (omega (arith, budget, same)))
+    installs c payload limits.restarts image (max 1 limits.actions)
+    (downloads c payload limits.restarts image tol can sized some least room) (omega (arith, budget))
 clean_run c Verify image payload limits tol can sized long least room parts budget other memory =
     let some : 0 < length (blocks payload c.transfer) = block_counts payload c.transfer 0 sized (omega (arith, long)) in
-    let total = clean_is (length (blocks payload c.transfer)) c.busy c.manifest in
-    let k : ℕ = clean (length (blocks payload c.transfer)) c.busy c.manifest in
-    let q : ℕ = length payload / c.transfer in
-    let same : suc (k - 1 + suc (1 + (1 + (1 + (1 + (q + 1)))))) ≡ k + 6 + q = omega (arith, total) in
-    subst (λ z. InstalledAfter c (at c (ToVerify payload) limits.restarts image InAppIdle Find (max 1 limits.actions)) z payload Verified)
-    same
-    (verifies c payload limits.restarts image (max 1 limits.actions)
+    verifies c payload limits.restarts image (max 1 limits.actions)
     (downloads c payload limits.restarts image tol can.0 sized some least room)
-    (whole_comparison c payload limits.restarts can.1 sized parts) (omega (arith, budget, same)))
+    (whole_comparison c payload limits.restarts can.1 sized parts) (omega (arith, budget))

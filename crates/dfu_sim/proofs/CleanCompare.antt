@@ -1,5 +1,5 @@
 -- The phases of a clean comparison: each block of the image comes back, and what is behind the last full one.
-use Rattle.std.proofs.Common.{◌≡◌, ℕ, zero, suc, ◌+◌, ◌*◌, ◌%◌, ◌/◌, ◌<◌, ◌≤◌, ◌==◌, nat_lt, true, false, if◌then◌else◌, List, [], length, slice_index_or, take, drop, refl, sym, ap, ◌∙◌, subst, arith, length-take, length-drop}
+use Rattle.std.proofs.Common.{◌≡◌, ℕ, zero, suc, ◌+◌, ◌-◌, ◌*◌, ◌%◌, ◌/◌, ◌<◌, ◌≤◌, ◌==◌, nat_lt, min, Bool, true, false, if◌then◌else◌, List, [], length, slice_index_or, take, drop, refl, sym, ap, ◌∙◌, subst, arith, length-take, length-drop}
 use Rattle.std.proofs.Math.Nat.{suc-mul, div-mul-le_self, lt-div-mul-add}
 use Rattle.std.proofs.lemmas.Bool.Decides.{nat_tests}
 use Rattle.std.proofs.lemmas.Slice.Eq.{bytes_eq-Decides}
@@ -7,11 +7,12 @@ use Rattle.std.specs.Str.{bytes_eq}
 use Rattle.dfu_device.specs.Stage.{Data, Upload, Profile, Stage, InAppIdle, InDfuIdle, InUploadIdle}
 use Rattle.dfu_device.specs.Table.{Plan, Sure, plan, next_number}
 use Rattle.dfu_device.specs.Outcome.{Works, outcome}
-use Rattle.dfu_host.specs.declared.report.Report.TheVariants.{Verified}
+use Rattle.dfu_host.specs.declared.report.Report.TheVariants.{TooManyBlocks, Verified}
 use Rattle.dfu_host.specs.Blocks.{blocks}
 use Rattle.dfu_host.specs.BlockLaws.{block_at}
-use Rattle.dfu_host.specs.Phases.{ToCompare, Phase, Find, Compare, Last, Part}
+use Rattle.dfu_host.specs.Phases.{ToCompare, Phase, Find, Compare, Last, Over, Part}
 use Rattle.dfu_host.specs.Table.{compared}
+use Rattle.dfu_host.specs.Host.{IsOn}
 use Rattle.dfu_sim.specs.Play.{heard_as, Passed}
 use Rattle.dfu_sim.proofs.Passes.{Leads, leads_on, none, one, one_by}
 use Rattle.dfu_sim.proofs.Finding.{find_app, detach, enter}
@@ -65,43 +66,38 @@ module _ (c : Profile) (p : List ℕ) (again : ℕ) where
     fits k = let e : length (part k) ≤ c.transfer = omega (arith, length-take c.transfer (drop (k * c.transfer) p)) in
         grind (arith, nat_tests)
 
+    -- How long a part is.
+    size : (k : ℕ) → length (part k) ≡ min c.transfer (length p - k * c.transfer)
+    size k = omega (arith, length-take c.transfer (drop (k * c.transfer) p), length-drop (k * c.transfer) p)
+
+    -- One part, full or not.
+    part_goes : (k : ℕ) (short : Bool) (stage : Stage) (next : Phase) → nat_lt (length (part k)) c.transfer ≡ short
+        → (if short then Sure (Data (part k)) InDfuIdle else Sure (Data (part k)) (Given (suc k))) ≡ Sure (Data (part k)) stage
+        → (if short then Last Verified else if suc k == 65535 then Over TooManyBlocks else Compare (suc k)) ≡ next → IsOn next
+        → GoesWell (Given k) (Compare k) 1 stage next
+    part_goes k short stage next e gave row on =
+        one_by c (ToCompare p) again (Part (part k)) (compared c.transfer k (block k) (part k))
+        (λ l. answered _ stage (part k) (gives k can sized ∙ rw e gave)) (λ l room. refl) (rw (fits k, same k, e) row) on
+
     -- A full part.
     full : (k : ℕ) → suc k < 65535 → suc k * c.transfer ≤ length p → GoesWell (Given k) (Compare k) 1 (Given (suc k)) (Compare (suc k))
     full k less inside =
-        let size : length (part k) ≡ c.transfer = omega (
-          arith,
-          length-take c.transfer (drop (k * c.transfer) p),
-          length-drop (k * c.transfer) p,
-          suc-mul k c.transfer,
-          inside,
-        ) in
-        let long : nat_lt (length (part k)) c.transfer ≡ false = grind (arith, nat_tests) in
+        let long : nat_lt (length (part k)) c.transfer ≡ false = grind (arith, nat_tests, size k, suc-mul k c.transfer) in
         let more : (suc k == 65535) ≡ false = grind (arith, nat_tests) in
-        let row : compared c.transfer k (block k) (part k) ≡ Compare (suc k) = rw (fits k, same k, long, more) refl in
-        one_by c (ToCompare p) again (Part (part k)) (compared c.transfer k (block k) (part k))
-        (λ l. answered _ (Given (suc k)) (part k) (gives k can sized ∙ rw long refl)) (λ l room. refl) row tt
+        part_goes k false (Given (suc k)) (Compare (suc k)) long refl (rw more refl) tt
 
     -- The last one.
     last : (k : ℕ) → length p < suc k * c.transfer → GoesWell (Given k) (Compare k) 1 InDfuIdle (Last Verified)
     last k past =
-        let size : length (part k) < c.transfer = omega (
-          arith,
-          length-take c.transfer (drop (k * c.transfer) p),
-          length-drop (k * c.transfer) p,
-          suc-mul k c.transfer,
-          past,
-        ) in
-        let short : nat_lt (length (part k)) c.transfer ≡ true = grind (arith, nat_tests) in
-        let row : compared c.transfer k (block k) (part k) ≡ Last Verified = rw (fits k, same k, short) refl in
-        one_by c (ToCompare p) again (Part (part k)) (compared c.transfer k (block k) (part k))
-        (λ l. answered _ InDfuIdle (part k) (gives k can sized ∙ rw short refl)) (λ l room. refl) row tt
+        let short : nat_lt (length (part k)) c.transfer ≡ true = grind (arith, nat_tests, size k, suc-mul k c.transfer) in
+        part_goes k true InDfuIdle (Last Verified) short refl refl tt
 
     parts : (k : ℕ) → k < 65535 → k * c.transfer ≤ length p → GoesWell InDfuIdle (Compare 0) k (Given k) (Compare k)
     parts zero less inside = none c (ToCompare p) again
     parts (suc k) less inside =
         let n : k + 1 ≡ suc k = omega arith in
         subst (λ z. GoesWell InDfuIdle (Compare 0) z (Given (suc k)) (Compare (suc k))) n
-        (leads_on c (ToCompare p) again (parts k (omega (arith, less)) (omega (arith, inside, suc-mul k c.transfer))) (full k less inside))
+        (leads_on (parts k (omega (arith, less)) (omega (arith, inside, suc-mul k c.transfer))) (full k less inside))
 
     -- From appIDLE to the last phase.
     pub whole_comparison : length p / c.transfer < 65535 → GoesWell InAppIdle Find (1 + (1 + (1 + (1 + (length p / c.transfer + 1)))))
@@ -111,6 +107,5 @@ module _ (c : Profile) (p : List ℕ) (again : ℕ) where
         let low : q * c.transfer ≤ length p = div-mul-le_self (length p) c.transfer in
         let high : length p < q * c.transfer + c.transfer = lt-div-mul-add {a = length p} sized in
         let past : length p < suc q * c.transfer = omega (arith, high, suc-mul q c.transfer) in
-        leads_on c (ToCompare p) again (find_app c (ToCompare p) again p) (leads_on c (ToCompare p) again (detach c (ToCompare p) again p)
-        (leads_on c (ToCompare p) again (enter c (ToCompare p) again p _) (leads_on c (ToCompare p) again find_idle
-        (leads_on c (ToCompare p) again (parts q less low) (last q past)))))
+        leads_on (find_app c (ToCompare p) again p) (leads_on (detach c (ToCompare p) again p)
+        (leads_on (enter c (ToCompare p) again p _) (leads_on find_idle (leads_on (parts q less low) (last q past)))))

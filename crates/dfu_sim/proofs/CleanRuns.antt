@@ -147,11 +147,9 @@ has_begun b mid report aim file limits payload can s =
       told = lead.told;
     }
 
--- The whole run.
-clean_chain : {b b' : Bench} {reports : List Report} (aim : Aim) (file : List ℕ) (limits : Limits) (payload : List ℕ) (count : ℕ)
-    → CanInstall b aim file limits payload → count ≤ clean_passes aim b.device.config payload
-    → SureSteps b (offer_and_passes aim file limits count) reports b' → InstallsCleanly b aim payload count reports b'
-clean_chain {b = b} {b' = b'} aim file limits payload count can most (one_step {mid = mid} {report = report} {reports = later} s more) =
+-- Steps that come as a clean run does report as one.
+pub steps_install : StepsInstall
+steps_install b b' aim file limits payload count reports can most (one_step {mid = mid} {report = report} {reports = later} s more) =
     let n : ℕ = clean_passes aim b.device.config payload in
     let x = has_begun b mid report aim file limits payload can s in
     let some : suc (n - 1) ≡ n = omega (
@@ -169,15 +167,10 @@ clean_chain {b = b} {b' = b'} aim file limits payload count can most (one_step {
     }
 
 -- A run over all events of a clean run reports as it should.
-pub ran_clean : {w w' : LinkState} {hs : List Happening} {reports : List Report} (aim : Aim) (file : List ℕ) (limits : Limits)
-    (payload : List ℕ)
-    (count : ℕ) → Chain w hs reports w' → CanInstall w.bench aim file limits payload
+pub ran_clean : {w w' : LinkState} {hs : List Happening} {reports : List Report} → Chain w hs reports w'
+    → (aim : Aim) (file : List ℕ) (limits : Limits) (payload : List ℕ) (count : ℕ) → CanInstall w.bench aim file limits payload
     → hs ≡ offer_and_passes aim file limits count → count ≤ clean_passes aim w.bench.device.config payload
     → InstallsCleanly w.bench aim payload count reports w'.bench
-ran_clean {w = w} {w' = w'} {reports = reports} aim file limits payload count chain can is most =
-    clean_chain aim file limits payload count can most (subst (λ (x : List Happening). SureSteps w.bench x reports w'.bench) is
-    (sure_chain chain))
-
--- Steps that come as a clean run does report as one.
-pub steps_install : StepsInstall
-steps_install b b' aim file limits payload count reports can most steps = clean_chain aim file limits payload count can most steps
+ran_clean {w = w} {w' = w'} {reports = reports} chain aim file limits payload count can is most =
+    steps_install w.bench w'.bench aim file limits payload count reports can most
+    (subst (λ (x : List Happening). SureSteps w.bench x reports w'.bench) is (sure_chain chain))

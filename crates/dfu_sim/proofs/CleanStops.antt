@@ -8,7 +8,7 @@ use Rattle.dfu_host.specs.declared.limits.Limits.{Limits}
 use Rattle.dfu_host.specs.declared.report.Report.{Report}
 use Rattle.dfu_sim.specs.Session.{said}
 use Rattle.dfu_sim.specs.declared.aim.Aim.{Aim}
-use Rattle.dfu_sim.specs.Happening.{Pass, Happening, Offers, Uploads, Aborts, Goes, Passes, Resets, Cuts}
+use Rattle.dfu_sim.specs.Happening.{Pass, Happening, Offers, Aborts}
 use Rattle.dfu_sim.specs.Play.{Link, Played, gone}
 use Rattle.dfu_sim.specs.Bench.{Session, Nobody, Bench, LinkState}
 use Rattle.dfu_sim.specs.CleanRun.{report_of, PassesTo, Quietly, here, there, resting}
@@ -65,25 +65,16 @@ next_pass (suc count) (suc k) e = let x = next_pass count k e in (omega (arith, 
 
 -- No event is refused for want of memory.
 never_full : (b : Bench) (h : Happening) → ¬ IsRefused b h fault.NoMemory
-never_full b (Offers aim file limits) refused = refused
-never_full b (Uploads limits) refused = refused
 never_full b Aborts refused = refused
-never_full b (Goes f harm) refused = refused
-never_full b (Passes ms) refused = refused
-never_full b Resets refused = refused
-never_full b Cuts refused = refused
-
-record StopsCleanly (why : LinkFault) (reports : List Report) : Type 0 where
-  pub fault : why ≡ fault.NoMemory
-  pub none : reports ≡ []
+never_full b h refused = refused
 
 clean_stop : {b b' : Bench} {next : Happening} {more : List Happening} {why : LinkFault} {reports : List Report} (aim : Aim) (file : List ℕ)
     (limits : Limits) (payload : List ℕ) (count at : ℕ) → CanInstall b aim file limits payload
     → count ≤ clean_passes aim b.device.config payload → drop at (offer_and_passes aim file limits count) ≡ next ∷ more
-    → SureSteps b (take at (offer_and_passes aim file limits count)) reports b' → IsStop b' next why → StopsCleanly why reports
+    → SureSteps b (take at (offer_and_passes aim file limits count)) reports b' → IsStop b' next why → (why ≡ fault.NoMemory) × (reports ≡ [])
 clean_stop {b = b} {next = next} {why = why} aim file limits payload count zero can most next_is no_step stop =
     let same : next ≡ Offers aim file limits = cc in
-    record { fault = offer_stands b aim file limits payload can why (subst (λ (h : Happening). IsStop b h why) same stop); none = refl }
+    (offer_stands b aim file limits payload can why (subst (λ (h : Happening). IsStop b h why) same stop), refl)
 clean_stop {b = b} {b' = b'} {why = why} aim file limits payload count (suc k) can most next_is
     (one_step {mid = mid} {report = report} {reports = later} s more) stop =
     let n : ℕ = clean_passes aim b.device.config payload in
@@ -91,29 +82,24 @@ clean_stop {b = b} {b' = b'} {why = why} aim file limits payload count (suc k) c
     let x = has_begun b mid report aim file limits payload can s in
     let cut : take k (replicate count pass) ≡ replicate k pass = take-replicate k count pass (omega (arith, y.0)) in
     let q = quiet_passes k (n - 1) (omega (arith, y.0, most)) (subst (λ (hs : List Happening). SureSteps mid hs later b') cut more) x.fixed
-    x.quiet in
-    record {
-      fault = pass_stands b' (λ e. nobody_installs (profile b.device) x.before (resting payload) (report_of aim) x.last
-          (nobody_stays q.rest e)) why
-          (subst (λ (h : Happening). IsStop b' h why) y.1 stop);
-      none = ap (λ (r : Option Report). said r ++ later) x.told ∙ q.none;
-    }
+    x.quiet in (
+      pass_stands b' (λ e. nobody_installs (profile b.device) x.before (resting payload) (report_of aim) x.last
+          (nobody_stays q.rest e)) why (subst (λ (h : Happening). IsStop b' h why) y.1 stop),
+      ap (λ (r : Option Report). said r ++ later) x.told ∙ q.none,
+    )
 
 -- A run that stops before the end of a clean run had no memory, and reported nothing.
-pub stopped_clean : {w w' : LinkState} {hs : List Happening} {why : LinkFault} {at : ℕ} {reports : List Report} (aim : Aim) (file : List ℕ)
-    (limits : Limits) (payload : List ℕ) (count : ℕ) → Stopped w hs why at reports w'
+pub stopped_clean : {w w' : LinkState} {hs : List Happening} {why : LinkFault} {at : ℕ} {reports : List Report}
+    → Stopped w hs why at reports w' → (aim : Aim) (file : List ℕ) (limits : Limits) (payload : List ℕ) (count : ℕ)
     → CanInstall w.bench aim file limits payload → hs ≡ offer_and_passes aim file limits count
-    → count ≤ clean_passes aim w.bench.device.config payload
-    → (why ≡ fault.NoMemory) × (reports ≡ [])
-stopped_clean {w = w} {w' = w'} {at = at} {reports = reports} aim file limits payload count s can is most =
-    let x =
-    clean_stop aim file limits payload count at can most (subst (λ (hs : List Happening). drop at hs ≡ s.runs.next ∷ s.runs.more) is
-    s.runs.here)
-    (subst (λ (hs : List Happening). SureSteps w.bench (take at hs) reports w'.bench) is (sure_chain s.chain)) s.runs.why in
-    (x.fault, x.none)
+    → count ≤ clean_passes aim w.bench.device.config payload → (why ≡ fault.NoMemory) × (reports ≡ [])
+stopped_clean {w = w} {w' = w'} {at = at} {reports = reports} s aim file limits payload count can is most =
+    clean_stop aim file limits payload count at can most
+    (subst (λ (hs : List Happening). drop at hs ≡ s.runs.next ∷ s.runs.more) is s.runs.here)
+    (subst (λ (hs : List Happening). SureSteps w.bench (take at hs) reports w'.bench) is (sure_chain s.chain)) s.runs.why
 
 -- No step of a clean run is refused.
 pub steps_stand : StepsStand
 steps_stand b b' aim file limits payload count at reports next more why can most steps next_is refused =
     let x = clean_stop aim file limits payload count at can most next_is steps (stop_why b' next why refused) in
-    never_full b' next (subst (λ (f : LinkFault). IsRefused b' next f) x.fault refused)
+    never_full b' next (subst (λ (f : LinkFault). IsRefused b' next f) x.0 refused)

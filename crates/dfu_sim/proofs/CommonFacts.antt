@@ -4,48 +4,21 @@ use Rattle.dfu_wire.specs.declared.states.State.TheVariants.{DfuIdle}
 use Rattle.dfu_device.specs.Stage.{Profile, Stage, InDfuIdle}
 use Rattle.dfu_device.specs.Outcome.{Situation}
 use Rattle.dfu_host.specs.declared.report.Report.{Report}
-use Rattle.dfu_host.specs.declared.report.Report.TheVariants.{Installed, Aborted, Refused, Verified}
-use Rattle.dfu_host.specs.Phases.{Goal, ToLoad, ToFetch, ToVerify, ToCompare, Phase, Find, FindAgain, Detach, Enter, Clear, Quit, WaitFind, ResetFind, Trouble, Fetch, LastUploaded, Compare, Last, GiveUp, Over, OverUploaded}
+use Rattle.dfu_host.specs.declared.report.Report.TheVariants.{Installed, Aborted, Refused}
+use Rattle.dfu_host.specs.Phases.{Goal, ToLoad, ToFetch, ToVerify, ToCompare, Phase, Find, Over}
 use Rattle.dfu_host.specs.Table.{start_of}
 use Rattle.dfu_host.specs.CommonPhases.{IsCommon, CommonHolds}
 use Rattle.dfu_sim.specs.Opening.{task_for}
 use Rattle.dfu_sim.specs.Session.{PromisesNothing}
-use Rattle.dfu_sim.specs.Fact.{IsInApp, Begun, EndsAs, Fetches, Fact, FetchFact, CompareFact, GoalFact, HasBlocks}
+use Rattle.dfu_sim.specs.Fact.{IsInApp, Begun, EndsAs, Fetches, GoalFact, HasBlocks}
 use Rattle.dfu_sim.proofs.Tells.{Tells, ToldBy}
 
 module _ (c : Profile) where
-  load_anywhere : (p : List ℕ) (d : Situation) (phase : Phase) → IsCommon phase → Fact c p phase d
-  load_anywhere p d Find h = tt
-  load_anywhere p d FindAgain h = tt
-  load_anywhere p d Detach h = tt
-  load_anywhere p d Enter h = tt
-  load_anywhere p d Clear h = tt
-  load_anywhere p d Quit h = tt
-  load_anywhere p d (WaitFind poll) h = tt
-  load_anywhere p d ResetFind h = tt
-  load_anywhere p d Trouble h = tt
-  load_anywhere p d GiveUp h = tt
-  load_anywhere p d phase h = elim h [ ]
-
-  fetch_anywhere : (d : Situation) (phase : Phase) → IsCommon phase → FetchFact phase d
-  fetch_anywhere d (Fetch k kept) h = elim h [ ]
-  fetch_anywhere d (LastUploaded kept) h = elim h [ ]
-  fetch_anywhere d (Over report) h = elim h [ ]
-  fetch_anywhere d (OverUploaded kept) h = elim h [ ]
-  fetch_anywhere d phase h = h
-
-  compare_anywhere : (p : List ℕ) (d : Situation) (phase : Phase) → IsCommon phase → CompareFact c p phase d
-  compare_anywhere p d (Compare k) h = elim h [ ]
-  compare_anywhere p d (Last report) h = elim h [ ]
-  compare_anywhere p d (Over report) h = elim h [ ]
-  compare_anywhere p d phase h = h
-
   -- Nothing has to be known of the device in a common phase.
   pub goal_anywhere : (g : Goal) (d : Situation) (phase : Phase) → IsCommon phase → GoalFact c g phase d
-  goal_anywhere (ToLoad p) d phase h = load_anywhere p d phase h
-  goal_anywhere ToFetch d phase h = fetch_anywhere d phase h
-  goal_anywhere (ToVerify p) d phase h = load_anywhere p d phase h
-  goal_anywhere (ToCompare p) d phase h = compare_anywhere p d phase h
+  goal_anywhere ToFetch d Find h = tt
+  goal_anywhere g d Find h = tt
+  goal_anywhere g d phase h = search
 
   load_begins : (p : List ℕ) (stage : Stage) → Tells DfuIdle stage → Begun p c.transfer 0 stage
   load_begins p InDfuIdle h = refl
@@ -60,21 +33,18 @@ module _ (c : Profile) where
   CommonFacts g d = CommonHolds (task_for c g) (λ phase. GoalFact c g phase d) (λ heard. ToldBy heard d.stage)
 
   goal_begins : (g : Goal) → HasBlocks c g → (d : Situation) → Tells DfuIdle d.stage → GoalFact c g (start_of g) d
-  goal_begins (ToLoad p) some d t = (some, load_begins p d.stage t)
   goal_begins ToFetch some d t = (omega arith, fetch_begins d.image d.stage t)
-  goal_begins (ToVerify p) some d t = (some, load_begins p d.stage t)
   goal_begins (ToCompare p) some d t = (omega arith, fetch_begins d.image d.stage t)
+  goal_begins (ToLoad p) some d t = (some, load_begins p d.stage t)
+  goal_begins (ToVerify p) some d t = (some, load_begins p d.stage t)
 
   ends_plain : (p : List ℕ) (d : Situation) (report : Report) → PromisesNothing report → EndsAs c p d IsInApp report
   ends_plain p d Installed h = elim h [ ]
-  ends_plain p d Verified h = elim h [ ]
-  ends_plain p d report h = h
+  ends_plain p d report h = search
 
   over_plain : (g : Goal) (d : Situation) (report : Report) → PromisesNothing report → GoalFact c g (Over report) d
-  over_plain (ToLoad p) d report h = ends_plain p d report h
   over_plain ToFetch d report h = h
-  over_plain (ToVerify p) d report h = ends_plain p d report h
-  over_plain (ToCompare p) d report h = ends_plain p d report h
+  over_plain g d report h = ends_plain _ d report h
 
   -- The facts of each session are.
   pub common_facts : (g : Goal) → HasBlocks c g → (d : Situation) → CommonFacts g d

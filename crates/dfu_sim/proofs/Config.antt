@@ -1,36 +1,30 @@
 -- A device stays what it is set up as, whatever happens to it.
-use Rattle.std.proofs.Common.{◌≡◌, ℕ, List, [], refl, ap, ◌∙◌, inl, inr}
+use Rattle.std.proofs.Common.{◌≡◌, ℕ, List, [], refl, ap, ◌∙◌}
 use Rattle.dfu_device.specs.declared.answer.Answer.{Answer}
 use Rattle.dfu_device.specs.declared.answer.Answer.TheVariants as answer
-use Rattle.dfu_device.specs.Table.{Plan, Sure, Writes, Commits, time_plan}
+use Rattle.dfu_device.specs.Table.{time_plan}
 use Rattle.dfu_device.specs.Shown.{Shown, profile}
-use Rattle.dfu_device.specs.Rows.{asked_length, setup_plan, Done, Handles, handled_as, Elapses}
+use Rattle.dfu_device.specs.Rows.{asked_length, setup_plan, Handles, handled_as, Elapses}
 use Rattle.dfu_host.specs.Phases.{Deed, Send, Wait, Reset, Done as IsDone, Heard}
 use Rattle.dfu_host.specs.Table.{deed}
 use Rattle.dfu_sim.specs.declared.back.Back.{Back}
 use Rattle.dfu_sim.specs.declared.course.Handling.{Handling}
 use Rattle.dfu_sim.specs.declared.course.Handling.TheVariants.{Late}
 use Rattle.dfu_sim.specs.declared.course.Harming.{Harming}
-use Rattle.dfu_sim.specs.declared.course.Harming.TheVariants.{NoWrite, CutsPower, FailsWrite, LiesInWrite}
+use Rattle.dfu_sim.specs.declared.course.Harming.TheVariants.{CutsPower}
 use Rattle.dfu_sim.specs.Course.{Course, course_of}
-use Rattle.dfu_sim.specs.Happening.{Happening, Offers, Uploads, Aborts, Goes, Passes, Resets, Cuts}
+use Rattle.dfu_sim.specs.Happening.{Happening, Goes, Passes}
 use Rattle.dfu_sim.specs.Play.{waits_for, Answered}
 use Rattle.dfu_sim.specs.Bytes.{fuse_of, armed, bus_was_reset, Reaches, unseen, once, again, late, Slips, Acts, left_by, Happens}
 use Rattle.dfu_sim.specs.Bench.{Bench}
-
-done_config : (p : Plan) (len : ℕ) (w : Shown) (a : Answer) (out : List ℕ) (w' : Shown) → Done p len w a out w' → w'.config ≡ w.config
-done_config (Sure reply stage) len w a out w' (says, is) = ap (λ (x : Shown). x.config) is
-done_config (Writes before block reply stage bad) len w a out w' (inl (says, h)) = h.config_is
-done_config (Writes before block reply stage bad) len w a out w' (inr (fault, says, h)) = h.config_is
-done_config (Commits taken reply stage bad) len w a out w' (inl (says, h)) = h.config_is
-done_config (Commits taken reply stage bad) len w a out w' (inr (fault, says, h)) = h.config_is
+use Rattle.dfu_sim.proofs.DoneOnce.{done_ends}
 
 handles_config : {setup body out : List ℕ} {w w' : Shown} {a : Answer} → Handles setup body w a out w' → w'.config ≡ w.config
 handles_config {body = body} {out = out} {w = w} {w' = w'} {a = a} (handled_as p q reads asks done) =
-    done_config (setup_plan w p q body) (asked_length q) w a out w' done
+    (done_ends (setup_plan w p q body) (asked_length q) w a out w' done).config
 
 elapses_config : (ms : ℕ) (w w' : Shown) → Elapses ms w w' → w'.config ≡ w.config
-elapses_config ms w w' h = done_config (time_plan (profile w) w.stage ms) 0 w answer.Ack [] w' h
+elapses_config ms w w' h = (done_ends (time_plan (profile w) w.stage ms) 0 w answer.Ack [] w' h).config
 
 reaches_config : {setup body : List ℕ} {how : Handling} {w w' : Shown} {came : Back} {out : List ℕ}
     → Reaches setup body how w came out w' → w'.config ≡ w.config
@@ -50,21 +44,15 @@ acts_config Reset f w w' heard h = slips_config f.handling (bus_was_reset w) w' 
 acts_config (IsDone report) f w w' heard h = elim h [ ]
 
 after_config : (harming : Harming) (w : Shown) → (left_by harming w).config ≡ w.config
-after_config NoWrite w = refl
 after_config CutsPower w = refl
-after_config FailsWrite w = refl
-after_config LiesInWrite w = refl
+after_config harming w = refl
 
 -- No event changes what a device is set up as.
 pub happens_config : (event : Happening) (b b' : Bench) (answer : Answered) → Happens event b b' answer
     → b'.device.config ≡ b.device.config
-happens_config (Offers aim payload limits) b b' answer (e, f) = ap (λ (x : Bench). x.device.config) e
-happens_config (Uploads limits) b b' answer (e, f) = ap (λ (x : Bench). x.device.config) e
-happens_config Aborts b b' answer (e, f) = ap (λ (x : Bench). x.device.config) e
 happens_config (Goes fate harm) b b' answer g =
     ap (λ (x : Shown). x.config) g.gone.device ∙ after_config (course_of fate).harming g.gone.last
     ∙ acts_config (deed g.host.task g.host.phase) (course_of fate) (armed b.device (fuse_of (course_of fate).harming harm)) g.gone.last
     g.gone.acted.heard g.gone.acted.acts
 happens_config (Passes ms) b b' answer (e, s, n) = elapses_config ms b.device b'.device e
-happens_config Resets b b' answer (e, f) = ap (λ (x : Bench). x.device.config) e
-happens_config Cuts b b' answer (e, f) = ap (λ (x : Bench). x.device.config) e
+happens_config event b b' answer h = ap (λ (x : Bench). x.device.config) h.0

@@ -10,7 +10,7 @@ use Rattle.dfu_host.specs.TaskLaws.{after_same_device}
 use Rattle.dfu_device.specs.Stage.{Profile}
 use Rattle.dfu_device.specs.Outcome.{Situation}
 use Rattle.dfu_sim.specs.Course.{Course}
-use Rattle.dfu_sim.specs.Happening.{Happening, Offers, Uploads, Aborts, Goes, Passes, Resets, Cuts}
+use Rattle.dfu_sim.specs.Happening.{Happening, Aborts, Goes, Passes, Resets, Cuts}
 use Rattle.dfu_sim.specs.Play.{Answered, settled, took, told, aborted}
 use Rattle.dfu_sim.specs.Bench.{Session, Nobody, Hosted, Bench}
 use Rattle.dfu_sim.specs.Fact.{SessionFact}
@@ -104,8 +104,6 @@ acted_counted course w w' h h' some c acted = subst (λ (x : HostState). IsCount
 -- After each event what a live session keeps is counted.
 pub happens_counted : (event : Happening) (b b' : Bench) (answer : Answered) → SendsBytes b.session → IsCountedIn b.session
     → Happens event b b' answer → IsCountedIn b'.session
-happens_counted (Offers aim payload limits) b b' answer some c (e, f) = subst (λ (x : Bench). IsCountedIn x.session) (sym e) tt
-happens_counted (Uploads limits) b b' answer some c (e, f) = subst (λ (x : Bench). IsCountedIn x.session) (sym e) tt
 happens_counted Aborts b b' answer some c (e, f) = subst (λ (x : Bench). IsCountedIn x.session) (sym e) (aborted_counted b.session c)
 happens_counted (Goes fate harm) b b' answer some c g = subst IsCountedIn (sym g.session)
     (took_counted g.host g.gone.acted.heard (subst SendsBytes g.live some) (subst IsCountedIn g.live c))
@@ -113,13 +111,11 @@ happens_counted (Passes ms) b b' answer some c (e, s, n) = subst IsCountedIn (sy
 happens_counted Resets b b' answer some c (e, f) = subst (λ (x : Bench). IsCountedIn x.session) (sym e)
     (told_counted b.session some c)
 happens_counted Cuts b b' answer some c (e, f) = subst (λ (x : Bench). IsCountedIn x.session) (sym e) (told_counted b.session some c)
+happens_counted event b b' answer some c h = subst (λ (x : Bench). IsCountedIn x.session) (sym h.0) tt
 
 -- What an answer gives, by the device's transfer size.
 pub happens_fits : (p : Profile) (s : Situation) (event : Happening) (b b' : Bench) (answer : Answered)
     → SessionFact p s b.session → SendsBytes b.session → IsCountedIn b.session → Happens event b b' answer → Fits p.transfer answer
-happens_fits p s (Offers aim payload limits) b b' answer f some c (e, a) = subst (Fits p.transfer) (sym a) tt
-happens_fits p s (Uploads limits) b b' answer f some c (e, a) = subst (Fits p.transfer) (sym a) tt
-happens_fits p s Aborts b b' answer f some c (e, a) = subst (Fits p.transfer) (sym a) tt
 happens_fits p s (Goes fate harm) b b' answer f some c g =
     let fact = subst (SessionFact p s) g.live f in
     subst (Fits p.transfer) (sym g.answered) (subst (λ (n : ℕ). Fits n (took g.host g.gone.acted.heard).answer) fact.task_is.transfer
@@ -127,3 +123,4 @@ happens_fits p s (Goes fate harm) b b' answer f some c g =
 happens_fits p s (Passes ms) b b' answer f some c (e, k, a) = subst (Fits p.transfer) (sym a) tt
 happens_fits p s Resets b b' answer f some c (e, a) = subst (Fits p.transfer) (sym a) (told_fits p s b.session f some c)
 happens_fits p s Cuts b b' answer f some c (e, a) = subst (Fits p.transfer) (sym a) (told_fits p s b.session f some c)
+happens_fits p s event b b' answer f some c h = subst (Fits p.transfer) (sym h.1) tt

@@ -1,13 +1,11 @@
 -- A plan that is carried out twice from one device: there is one reply, and the devices are the same.
 use Rattle.std.proofs.Common.{◌≡◌, inl, inr, ℕ, List, ◌∷◌, [], length, refl, sym, ap, ◌∙◌, subst}
-use Rattle.dfu_slots.specs.declared.fault.WriteFault.{WriteFault}
 use Rattle.dfu_slots.specs.Medium.Fuse.{Whole}
 use Rattle.dfu_slots.specs.Seen.{SlotsState, image_of, Call, Commit, Ending, AllWorked, BrokenBy, Called}
 use Rattle.dfu_slots.specs.OneWrite.{IsKnown}
 use Rattle.dfu_slots.specs.Determined.{SameStore, called_one, called_same_end}
 use Rattle.dfu_device.specs.declared.answer.Answer.{Answer}
-use Rattle.dfu_device.specs.Stage.{InError}
-use Rattle.dfu_device.specs.Table.{Plan, Sure, Writes, Commits, write_code, commit_code}
+use Rattle.dfu_device.specs.Table.{Plan, Sure, Writes, Commits}
 use Rattle.dfu_device.specs.Outcome.{Luck, Works, FailsOld, outcome}
 use Rattle.dfu_device.specs.Shown.{Shown}
 use Rattle.dfu_device.specs.Rows.{Answers, block_calls, Done}
@@ -52,72 +50,56 @@ pub record DoneOnce (p : Plan) (len : ℕ) (w w' v' : Shown) (a b : Answer) (out
   pub second : Answers len (outcome (image_of w.slots) p luck).reply b other
   pub device : SameDevice w' v'
 
--- The same calls with the same end leave the same device, where they leave the same of the rest.
-same_calls : (calls : List Call) (ending : Ending) (w w' v' : Shown) → IsKnown w.slots.medium.fuse → w'.config ≡ v'.config
-    → w'.stage ≡ v'.stage
-    → Called w.slots calls ending w'.slots → Called w.slots calls ending v'.slots → SameDevice w' v'
-same_calls calls ending w w' v' known config stage h k = record {
-  config = config;
-  stage = stage;
-  store = called_same_end calls ending w.slots w.slots w'.slots v'.slots (same_store w.slots) known h k;
+-- What a plan calls of the slot store.
+abbrev calls_of : Plan → List Call
+calls_of (Sure reply stage) = []
+calls_of (Writes before block reply stage bad) = block_calls before block
+calls_of (Commits taken reply stage bad) = Commit (length taken) ∷ []
+
+-- The luck of a plan whose calls end like this, but for the image that a failed commit leaves.
+abbrev luck_of : Ending → Luck
+luck_of AllWorked = Works
+luck_of (BrokenBy fault) = FailsOld fault
+
+-- What was carried out, by how its calls ended.
+pub record Ended (p : Plan) (len : ℕ) (w : Shown) (a : Answer) (out : List ℕ) (w' : Shown) : Type 0 where
+  pub ending : Ending
+  pub answers : Answers len (outcome (image_of w.slots) p (luck_of ending)).reply a out
+  pub config : w'.config ≡ w.config
+  pub stage : w'.stage ≡ (outcome (image_of w.slots) p (luck_of ending)).after.stage
+  pub called : Called w.slots (calls_of p) ending w'.slots
+
+-- Each plan that was carried out ended so.
+pub done_ends : (p : Plan) (len : ℕ) (w : Shown) (a : Answer) (out : List ℕ) (w' : Shown) → Done p len w a out w'
+    → Ended p len w a out w'
+done_ends (Sure reply stage) len w a out w' h = record {
+  ending = AllWorked;
+  answers = h.0;
+  config = ap (λ (x : Shown). x.config) h.1;
+  stage = ap (λ (x : Shown). x.stage) h.1;
+  called = ap (λ (x : Shown). x.slots) h.1;
 }
-
--- What broke a call off is one fault, and a call that worked was not broken off.
-fault_one : {f g : WriteFault} → BrokenBy f ≡ BrokenBy g → f ≡ g
-fault_one q = cc
-
-not_broken : {f : WriteFault} → AllWorked ≡ BrokenBy f → ⊥
-not_broken q = cc
-
--- The same calls end alike.
-ends_alike : (calls : List Call) (e d : Ending) (w w' v' : Shown) → IsKnown w.slots.medium.fuse → Called w.slots calls e w'.slots
-    → Called w.slots calls d v'.slots → e ≡ d
-ends_alike calls e d w w' v' known h k = called_one calls e d w.slots w.slots w'.slots v'.slots (same_store w.slots) known h k
+done_ends p len w a out w' (inl (says, h)) =
+    record { ending = AllWorked; answers = says; config = h.config_is; stage = h.stage_is; called = h.calls }
+done_ends p len w a out w' (inr (fault, says, h)) =
+    record { ending = BrokenBy fault; answers = says; config = h.config_is; stage = h.stage_is; called = h.calls }
 
 -- From one device, with a fuse that is known, a plan is carried out in one way.
 pub done_once : (p : Plan) (len : ℕ) (w w' v' : Shown) (a b : Answer) (out other : List ℕ) → IsKnown w.slots.medium.fuse
     → Done p len w a out w' → Done p len w b other v' → DoneOnce p len w w' v' a b out other
-done_once (Sure reply stage) len w w' v' a b out other known (says, is) (says2, is2) =
-    record { luck = Works; first = says; second = says2; device = same_device (is ∙ sym is2) }
-done_once (Writes before block reply stage bad) len w w' v' a b out other known (inl (says, h)) (inl (says2, k)) = record {
-  luck = Works;
-  first = says;
-  second = says2;
-  device = same_calls (block_calls before block) AllWorked w w' v' known (h.config_is ∙ sym k.config_is) (h.stage_is ∙ sym k.stage_is)
-      h.calls k.calls;
-}
-done_once (Writes before block reply stage bad) len w w' v' a b out other known (inr (f, says, h)) (inr (g, says2, k)) =
-    let one : f ≡ g = fault_one (ends_alike (block_calls before block) (BrokenBy f) (BrokenBy g) w w' v' known h.calls k.calls) in
+done_once p len w w' v' a b out other known h k =
+    let x = done_ends p len w a out w' h in
+    let y = done_ends p len w b other v' k in
+    let same : x.ending ≡ y.ending = called_one (calls_of p) x.ending y.ending w.slots w.slots w'.slots v'.slots (same_store w.slots) known
+    x.called y.called in
     record {
-      luck = FailsOld f;
-      first = says;
-      second = subst (λ (x : WriteFault). Answers len (bad x) b other) (sym one) says2;
-      device = same_calls (block_calls before block) (BrokenBy f) w w' v' known (h.config_is ∙ sym k.config_is)
-          (h.stage_is ∙ ap (λ (x : WriteFault). InError (write_code x)) one ∙ sym k.stage_is) h.calls
-          (subst (λ (x : WriteFault). Called w.slots (block_calls before block) (BrokenBy x) v'.slots) (sym one) k.calls);
+      luck = luck_of x.ending;
+      first = x.answers;
+      second = subst (λ (e : Ending). Answers len (outcome (image_of w.slots) p (luck_of e)).reply b other) (sym same) y.answers;
+      device = record {
+        config = x.config ∙ sym y.config;
+        stage = x.stage ∙ ap (λ (e : Ending). (outcome (image_of w.slots) p (luck_of e)).after.stage) same ∙ sym y.stage;
+        store = called_same_end (calls_of p) x.ending w.slots w.slots w'.slots v'.slots (same_store w.slots) known x.called
+            (subst (λ (e : Ending). Called w.slots (calls_of p) e v'.slots) (sym same) y.called);
+      };
     }
-done_once (Writes before block reply stage bad) len w w' v' a b out other known (inl (says, h)) (inr (g, says2, k)) =
-    absurd (not_broken (ends_alike (block_calls before block) AllWorked (BrokenBy g) w w' v' known h.calls k.calls))
-done_once (Writes before block reply stage bad) len w w' v' a b out other known (inr (f, says, h)) (inl (says2, k)) =
-    absurd (not_broken (ends_alike (block_calls before block) AllWorked (BrokenBy f) w v' w' known k.calls h.calls))
-done_once (Commits taken reply stage bad) len w w' v' a b out other known (inl (says, h)) (inl (says2, k)) = record {
-  luck = Works;
-  first = says;
-  second = says2;
-  device = same_calls (Commit (length taken) ∷ []) AllWorked w w' v' known (h.config_is ∙ sym k.config_is) (h.stage_is ∙ sym k.stage_is)
-      h.calls k.calls;
-}
-done_once (Commits taken reply stage bad) len w w' v' a b out other known (inr (f, says, h)) (inr (g, says2, k)) =
-    let one : f ≡ g = fault_one (ends_alike (Commit (length taken) ∷ []) (BrokenBy f) (BrokenBy g) w w' v' known h.calls k.calls) in
-    record {
-      luck = FailsOld f;
-      first = says;
-      second = subst (λ (x : WriteFault). Answers len (bad x) b other) (sym one) says2;
-      device = same_calls (Commit (length taken) ∷ []) (BrokenBy f) w w' v' known (h.config_is ∙ sym k.config_is)
-          (h.stage_is ∙ ap (λ (x : WriteFault). InError (commit_code x)) one ∙ sym k.stage_is) h.calls
-          (subst (λ (x : WriteFault). Called w.slots (Commit (length taken) ∷ []) (BrokenBy x) v'.slots) (sym one) k.calls);
-    }
-done_once (Commits taken reply stage bad) len w w' v' a b out other known (inl (says, h)) (inr (g, says2, k)) =
-    absurd (not_broken (ends_alike (Commit (length taken) ∷ []) AllWorked (BrokenBy g) w w' v' known h.calls k.calls))
-done_once (Commits taken reply stage bad) len w w' v' a b out other known (inr (f, says, h)) (inl (says2, k)) =
-    absurd (not_broken (ends_alike (Commit (length taken) ∷ []) AllWorked (BrokenBy f) w v' w' known k.calls h.calls))

@@ -120,7 +120,6 @@ module _ (c : Profile) where
         };
         done = λ e. elim e [ ];
       }
-  simulated offers s (Hosted h) up (Offers aim payload limits) l k room z a q o f = elim a [ ]
   simulated offers s Nobody up (Uploads limits) l k room z a q o f =
       record {
         step = uploads refl;
@@ -129,8 +128,6 @@ module _ (c : Profile) where
         fact = record { task_is = goes_by c ToFetch; on = tt; some = tt; fact = tt };
         done = λ e. elim e [ ];
       }
-  simulated offers s (Hosted h) up (Uploads limits) l k room z a q o f = elim a [ ]
-  simulated offers s Nobody up Aborts l k room z a q o f = elim a [ ]
   simulated offers s (Hosted h) up Aborts l k room z a q o f =
       subst (λ (x : HostState). Simulated c offers (record { device = s; session = Hosted h }) up (kind_of Aborts)
       (record { link = record { device = s; session = Hosted x }; answer = silent }) offers) (sym (gives_up h h.phase f.on))
@@ -146,7 +143,6 @@ module _ (c : Profile) where
         };
         done = λ e. elim e [ ];
       })
-  simulated offers s Nobody up (Goes fate harm) l k room z a q o f = elim a [ ]
   simulated offers s (Hosted h) up (Goes fate harm) l k room z a q o f = go_simulated c z offers s h up fate l k room q o f
   simulated offers s session up (Passes ms) l k room z a q o f =
       let t = time_steps c offers s.image ms s.stage (live_of session) up q in
@@ -154,6 +150,7 @@ module _ (c : Profile) where
   simulated offers s session up Resets l k room z a q o f =
       restart_simulated c offers s (reset_stage s.stage) session up (nothing_pends c offers s.stage) (nothing_closed c offers s.stage) o f
   simulated offers s session up Cuts l k room z a q o f = restart_simulated c offers s InAppIdle session up refl tt o f
+  simulated offers s session up event l k room z a q o f = elim a [ ]
 
   -- A machine that agrees is the one that is shown.
   is_shown : (w : Link) (up : List ℕ) (m : Machine) → Agrees w up m

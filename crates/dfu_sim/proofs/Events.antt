@@ -15,79 +15,57 @@ use Rattle.dfu_host.specs.declared.report.Report.{Report}
 use Rattle.dfu_host.specs.Host.{HostState, started}
 use Rattle.dfu_sim.specs.declared.aim.Aim.{Aim}
 use Rattle.dfu_sim.specs.declared.aim.Aim.TheVariants.{Install, Verify}
+use Rattle.dfu_sim.specs.declared.fault.LinkFault.{LinkFault}
 use Rattle.dfu_sim.specs.declared.fault.LinkFault.TheVariants as fault
-use Rattle.dfu_sim.specs.declared.fault.OfferFault.{OfferFault}
 use Rattle.dfu_sim.specs.declared.fault.OfferFault.TheVariants as offer_fault
 use Rattle.dfu_sim.specs.Course.{course_of}
-use Rattle.dfu_sim.specs.Happening.{Fate, Harm, Offers, Goes, Passes, Resets, Cuts}
+use Rattle.dfu_sim.specs.Happening.{Fate, Harm, Happening, Offers, Goes, Passes}
 use Rattle.dfu_sim.specs.Opening.{goal_of}
-use Rattle.dfu_sim.specs.Play.{given, silent, told, took, settled, IsAllowed}
-use Rattle.dfu_sim.specs.Bench.{Session, Nobody, Hosted}
-use Rattle.dfu_sim.specs.Bytes.{powered_up, bus_was_reset, HostActsArmed}
-use Rattle.dfu_sim.specs.Refusing.{first_offer_fault, IsOffered, IsBadOffer}
-use Rattle.dfu_sim.specs.Comes.{refuses, happens, HasCome, HasComeAlone}
+use Rattle.dfu_sim.specs.Play.{Answered, given, silent, Took, told, took, settled, IsAllowed}
+use Rattle.dfu_sim.specs.Bench.{Session, Nobody, Hosted, Bench, linked}
+use Rattle.dfu_sim.specs.Bytes.{HostActsArmed, Happens, BytePlay}
+use Rattle.dfu_sim.specs.Refusing.{first_offer_fault, IsOffered, IsBadOffer, IsRefused}
+use Rattle.dfu_sim.specs.Comes.{Means, refuses, happens, GivesWithUploaded, HasCome, HasComeAlone}
 use Rattle.dfu_sim.specs.Standing.{session_of, given_by, bench_of, link_state, SendsBytes, IsCountedIn}
 use Rattle.dfu_sim.specs.inside.Acting.{ended, HasBegun}
 use Rattle.dfu_sim.proofs.Counted.{took_whole, told_whole}
 
-time_allowed : (s : Session) (ms : ℕ) → IsAllowed s (Passes ms)
-time_allowed Nobody ms = tt
-time_allowed (Hosted h) ms = tt
+-- What may come with a session and without one may come.
+any_session : (s : Session) (h : Happening) → IsAllowed Nobody h → ((k : HostState) → IsAllowed (Hosted k) h) → IsAllowed s h
+any_session Nobody h none live = none
+any_session (Hosted k) h none live = live k
 
-reset_allowed : (s : Session) → IsAllowed s Resets
-reset_allowed Nobody = tt
-reset_allowed (Hosted h) = tt
+-- An event that is refused changes nothing.
+pub refused_comes : (b : Bench) (h : Happening) (why : LinkFault) → IsRefused b h why → HasComeAlone b h b (Err why)
+refused_comes b h why is up = record { answer = Err why; comes = refuses is; whole = tt; up_is = refl; told = refl }
 
-cut_allowed : (s : Session) → IsAllowed s Cuts
-cut_allowed Nobody = tt
-cut_allowed (Hosted h) = tt
+-- An event that is not refused, with its answer.
+pub event_comes : {b b' : Bench} {h : Happening} {up up' : List ℕ} {report : Option Report} (event : Happening) (answer : Answered)
+    → Means b.device.config h event → BytePlay b event b' answer → GivesWithUploaded (Ok answer) → up' ≡ given answer.gave up
+    → report ≡ answer.report → HasCome (linked b up) h (linked b' up') (Ok report)
+event_comes event answer means play whole kept says =
+    record { answer = Ok answer; comes = happens {event = event} means play; whole = whole; up_is = kept; told = ap Ok says }
 
 -- Time that passes.
 pub time_comes : (ms : ℕ) (w w' : Shown) (host gave : Option HostState) → w.slots.medium.fuse ≡ Whole → Elapses ms w w'
     → HasCome (link_state w host gave) (Passes ms) (link_state w' host gave) (Ok None)
-time_comes ms w w' host gave e row = record {
-  answer = Ok silent;
-  whole = tt;
-  up_is = refl;
-  comes = happens {event = Passes ms} refl
-      (record { allowed = time_allowed (session_of host) ms; unarmed = e; happens = (row, refl, refl) });
-  told = refl;
-}
+time_comes ms w w' host gave e row = event_comes (Passes ms) silent refl (record {
+  allowed = any_session (session_of host) (Passes ms) tt (λ k. tt);
+  unarmed = e;
+  happens = (row, refl, refl);
+}) tt refl refl
 
--- A reset of the bus, not by the host.
-pub reset_comes : (w w' : Shown) (host host' gave gave' : Option HostState) (report : Option Report) → SendsBytes (session_of host)
-    → IsCountedIn (session_of host) → w.slots.medium.fuse ≡ Whole → w' ≡ bus_was_reset w
-    → session_of host' ≡ (told (session_of host)).session
+-- A restart that comes from outside: a reset of the bus, or a cut of the power.
+pub restart_comes : (h : Happening) (w w' : Shown) (host host' gave gave' : Option HostState) (report : Option Report)
+    → Means w.config h h → IsAllowed Nobody h → ((k : HostState) → IsAllowed (Hosted k) h) → SendsBytes (session_of host)
+    → IsCountedIn (session_of host) → w.slots.medium.fuse ≡ Whole
+    → Happens h (bench_of w host) (bench_of w' host') (told (session_of host)).answer
     → given_by gave' ≡ given (told (session_of host)).answer.gave (given_by gave) → report ≡ (told (session_of host)).answer.report
-    → HasCome (link_state w host gave) Resets (link_state w' host' gave') (Ok report)
-reset_comes w w' host host' gave gave' report sized counted e device session kept says = record {
-  answer = Ok (told (session_of host)).answer;
-  whole = told_whole (session_of host) sized counted;
-  up_is = kept;
-  comes = happens {event = Resets} refl (record {
-    allowed = reset_allowed (session_of host);
-    unarmed = e;
-    happens = ((λ i. record { device = device i; session = session i }), refl);
-  });
-  told = ap Ok says;
-}
-
--- A cut of the power, not in an action of the host.
-pub cut_comes : (w w' : Shown) (host host' gave gave' : Option HostState) (report : Option Report) → SendsBytes (session_of host)
-    → IsCountedIn (session_of host) → w.slots.medium.fuse ≡ Whole → w' ≡ powered_up w → session_of host' ≡ (told (session_of host)).session
-    → given_by gave' ≡ given (told (session_of host)).answer.gave (given_by gave) → report ≡ (told (session_of host)).answer.report
-    → HasCome (link_state w host gave) Cuts (link_state w' host' gave') (Ok report)
-cut_comes w w' host host' gave gave' report sized counted e device session kept says = record {
-  answer = Ok (told (session_of host)).answer;
-  whole = told_whole (session_of host) sized counted;
-  up_is = kept;
-  comes = happens {event = Cuts} refl (record {
-    allowed = cut_allowed (session_of host);
-    unarmed = e;
-    happens = ((λ i. record { device = device i; session = session i }), refl);
-  });
-  told = ap Ok says;
-}
+    → HasCome (link_state w host gave) h (link_state w' host' gave') (Ok report)
+restart_comes h w w' host host' gave gave' report means none live sized counted e row kept says =
+    event_comes h (told (session_of host)).answer means
+    (record { allowed = any_session (session_of host) h none live; unarmed = e; happens = row })
+    (told_whole (session_of host) sized counted) kept says
 
 -- The host's next action.
 pub go_comes : (fate : Fate) (harm : Harm) (w w' : Shown) (h h' : HostState) (host' gave gave' : Option HostState) (report : Option Report)
@@ -95,29 +73,26 @@ pub go_comes : (fate : Fate) (harm : Harm) (w w' : Shown) (h h' : HostState) (ho
     → session_of host' ≡ (ended (Hosted h')).session → given_by gave' ≡ given (ended (Hosted h')).answer.gave (given_by gave)
     → report ≡ (ended (Hosted h')).answer.report
     → HasCome (link_state w (Some h) gave) (Goes fate harm) (link_state w' host' gave') (Ok report)
-go_comes fate harm w w' h h' host' gave gave' report sized counted e gone session kept says = record {
-  answer = Ok (took h gone.acted.heard).answer;
-  whole = took_whole h gone.acted.heard sized counted;
-  up_is = kept ∙ ap (λ (x : HostState). given (settled x x.phase).answer.gave (given_by gave)) gone.acted.same;
-  comes = happens {event = Goes fate harm} refl (record {
-    allowed = tt;
-    unarmed = e;
-    happens = record {
-      host = h;
-      live = refl;
-      next = h';
-      gone = gone;
-      session = session ∙ ap (λ (x : HostState). (settled x x.phase).session) gone.acted.same;
-      answered = refl;
-    };
-  });
-  told = ap Ok (says ∙ ap (λ (x : HostState). (settled x x.phase).answer.report) gone.acted.same);
-}
+go_comes fate harm w w' h h' host' gave gave' report sized counted e gone session kept says =
+    let same : ended (Hosted h') ≡ took h gone.acted.heard = ap (λ (x : HostState). settled x x.phase) gone.acted.same in
+    event_comes (Goes fate harm) (took h gone.acted.heard).answer refl (record {
+      allowed = tt;
+      unarmed = e;
+      happens = record {
+        host = h;
+        live = refl;
+        next = h';
+        gone = gone;
+        session = session ∙ ap (λ (t : Took). t.session) same;
+        answered = refl;
+      };
+    }) (took_whole h gone.acted.heard sized counted) (kept ∙ ap (λ (t : Took). given t.answer.gave (given_by gave)) same)
+    (says ∙ ap (λ (t : Took). t.answer.report) same)
 
 -- An action where no session is live.
 pub go_refused : (f : Fate) (harm : Harm) (w : Shown) (gave : Option HostState)
     → HasCome (link_state w None gave) (Goes f harm) (link_state w None gave) (Err fault.NoHost)
-go_refused f harm w gave = record { answer = Err fault.NoHost; comes = refuses refl; whole = tt; up_is = refl; told = refl }
+go_refused f harm w gave = refused_comes (bench_of w None) (Goes f harm) fault.NoHost refl (given_by gave)
 
 -- The first of these faults is none, so it is none of them.
 pub not_first : (t : Bool) (fault : HostFault) (rest : Option HostFault) → cond t (Some fault) rest ≡ None → (t ≡ false) × (rest ≡ None)
@@ -138,14 +113,12 @@ record NoFault (aim : Aim) (payload : List ℕ) (f : Functional) : Type 0 where
 no_fault : (aim : Aim) (file : Content) (f : Functional) (ids : Ids) → first_offer_fault aim file f ids ≡ None → NoFault aim file.payload f
 no_fault Install file f ids e =
     let a = not_first (length file.payload == 0) _ _ e in
-    let b = not_first (not (is_for file.ids ids)) _ _ a.1 in
-    let d = not_first (not f.can_download) _ _ b.1 in
+    let d = not_first (not f.can_download) _ _ (not_first (not (is_for file.ids ids)) _ _ a.1).1 in
     let z = not_first (f.transfer == 0) _ _ d.1 in
     record { some = a.0; loads = is_true f.can_download d.0; gives = λ other. absurd cc; sized = z.0 }
 no_fault Verify file f ids e =
     let a = not_first (length file.payload == 0) _ _ e in
-    let b = not_first (not (is_for file.ids ids)) _ _ a.1 in
-    let d = not_first (not f.can_download) _ _ b.1 in
+    let d = not_first (not f.can_download) _ _ (not_first (not (is_for file.ids ids)) _ _ a.1).1 in
     let u = not_first (not f.can_upload) _ _ d.1 in
     let z = not_first (f.transfer == 0) _ _ u.1 in
     record { some = a.0; loads = is_true f.can_download d.0; gives = λ same. is_true f.can_upload u.0; sized = z.0 }
@@ -169,43 +142,35 @@ can_download offered = (offered_so offered).loads
 pub can_upload : {s : Setting} {file payload : List ℕ} → IsOffered s Verify file payload → s.functional.can_upload ≡ true
 can_upload offered = (offered_so offered).gives refl
 
--- An offer while a session is live.
-pub offer_busy : (aim : Aim) (file : List ℕ) (limits : Limits) (w : Shown) (host : Option HostState) → is_some host ≡ true
-    → HasComeAlone (bench_of w host) (Offers aim file limits) (bench_of w host) (Err fault.HostBusy)
-offer_busy aim file limits w (Some h) e up =
-    record { answer = Err fault.HostBusy; comes = refuses tt; whole = tt; up_is = refl; told = refl }
-offer_busy aim file limits w None e up = absurd cc
+-- An event that can't come while a session is live.
+pub busy_comes : (h : Happening) (w : Shown) (host : Option HostState)
+    → ((k : HostState) → IsRefused (bench_of w (Some k)) h fault.HostBusy) → is_some host ≡ true
+    → HasComeAlone (bench_of w host) h (bench_of w host) (Err fault.HostBusy)
+busy_comes h w (Some k) busy e = refused_comes (bench_of w (Some k)) h fault.HostBusy (busy k)
+busy_comes h w None busy e = absurd cc
 
--- An offer of a file that is not taken.
-pub offer_refused : (aim : Aim) (file : List ℕ) (limits : Limits) (w : Shown) (host : Option HostState) (why : OfferFault)
-    → is_some host ≡ false
-    → IsBadOffer w.config aim file why → HasComeAlone (bench_of w host) (Offers aim file limits) (bench_of w host)
-    (Err (fault.BadOffer why))
-offer_refused aim file limits w None why e bad up = record {
-  answer = Err (fault.BadOffer why);
-  comes = refuses (refl, bad);
-  whole = tt;
-  up_is = refl;
-  told = refl;
-}
-offer_refused aim file limits w (Some h) why e bad up = absurd cc
+-- An event that is refused while no session is live.
+pub idle_refused : (h : Happening) (why : LinkFault) (w : Shown) (host : Option HostState) → is_some host ≡ false
+    → IsRefused (bench_of w None) h why → HasComeAlone (bench_of w host) h (bench_of w host) (Err why)
+idle_refused h why w None e is = refused_comes (bench_of w None) h why is
+idle_refused h why w (Some k) e is = absurd cc
+
+-- An event with which a session begins.
+pub begins_comes : (h event : Happening) (w : Shown) (host : Option HostState) (k : HostState) → is_some host ≡ false
+    → w.slots.medium.fuse ≡ Whole → Means w.config h event → IsAllowed Nobody event
+    → Happens event (bench_of w None) (bench_of w (Some k)) silent → HasComeAlone (bench_of w host) h (bench_of w (Some k)) (Ok None)
+begins_comes h event w None k n e means allowed row up =
+    event_comes event silent means (record { allowed = allowed; unarmed = e; happens = row }) tt refl refl
+begins_comes h event w (Some j) k n e means allowed row up = absurd cc
 
 -- An offer with which a session begins.
 pub offer_comes : (aim : Aim) (file : List ℕ) (limits : Limits) (w : Shown) (host : Option HostState) (h : HostState) → is_some host ≡ false
     → w.slots.medium.fuse ≡ Whole → HasBegun w.config aim file limits h
     → HasComeAlone (bench_of w host) (Offers aim file limits) (bench_of w (Some h)) (Ok None)
-offer_comes aim file limits w None h n e begun up = record {
-  answer = Ok silent;
-  whole = tt;
-  up_is = refl;
-  comes = happens {event = Offers aim begun.content.payload limits} (begun.content.payload, begun.offered, refl) (record {
-    allowed = bytes_of begun.offered;
-    unarmed = e;
-    happens = ((λ i. record { device = w; session = Hosted (begun.host i) }), refl);
-  });
-  told = refl;
-}
-offer_comes aim file limits w (Some h) k n e begun up = absurd cc
+offer_comes aim file limits w host h n e begun =
+    begins_comes (Offers aim file limits) (Offers aim begun.content.payload limits) w host h n e
+    (begun.content.payload, begun.offered, refl) (bytes_of begun.offered)
+    ((λ i. record { device = w; session = Hosted (begun.host i) }), refl)
 
 -- The faults of a session that is offered go by the payload and the identifiers alone.
 pub same_fault : (aim : Aim) (c d : Content) (f : Functional) (ids : Ids) → c.payload ≡ d.payload → c.ids ≡ d.ids

@@ -1,20 +1,20 @@
 -- What an action that asks, waits or resets does to the device, whatever its fate.
 use Rattle.std.proofs.Common.{◌≡◌, ℕ, Bool, true, false, List, refl}
-use Rattle.dfu_device.specs.Stage.{Request, GetStatus, GetState, Profile}
+use Rattle.dfu_device.specs.Stage.{Request, Profile}
 use Rattle.dfu_device.specs.Table.{plan, reset_stage}
 use Rattle.dfu_device.specs.Outcome.{Situation, Luck, handled, was_reset, powered}
 use Rattle.dfu_host.specs.Phases.{Phase, Heard, Part, Nothing, Restarted}
 use Rattle.dfu_sim.specs.declared.course.Handling.{Handling}
 use Rattle.dfu_sim.specs.declared.course.Handling.TheVariants.{Unseen, Once, Again, Late}
 use Rattle.dfu_sim.specs.declared.course.Harming.{Harming}
-use Rattle.dfu_sim.specs.declared.course.Harming.TheVariants.{NoWrite, CutsPower, FailsWrite, LiesInWrite}
+use Rattle.dfu_sim.specs.declared.course.Harming.TheVariants.{CutsPower}
 use Rattle.dfu_sim.specs.Course.{Course}
 use Rattle.dfu_sim.specs.Play.{heard_as, remembered, Passed, reached, heard_back, over, ends_by, slipped, waits_for, sent, waited, bus_reset}
 use Rattle.dfu_sim.specs.LinkAgreement.{IsSound}
 use Rattle.dfu_sim.specs.Fact.{Fact}
 use Rattle.dfu_sim.proofs.Quiet.{stays, forgets, IsQuiet, IsPolite, quiet_polite, quiet_time, quiet_reset, quiet_then}
-use Rattle.dfu_sim.proofs.Tells.{ToldBy, told_time, status_told, state_told}
-use Rattle.dfu_sim.proofs.Kept.{AsksStatus, AsksState, fact_status, fact_state, fact_time}
+use Rattle.dfu_sim.proofs.Tells.{ToldBy, Asks, told_time, told_asked}
+use Rattle.dfu_sim.proofs.Kept.{fact_asked, fact_time}
 
 -- Where the host hears anything but a restart.
 abbrev pub IfHeard : Heard → (Heard → Type 0) → Type 0
@@ -30,9 +30,7 @@ if_some heard P h = h
 pub if_ended : (harming : Harming) (d : Passed) (P : Heard → Situation → Type 0) → P d.heard d.device
     → IfHeard (ends_by harming d).heard (λ heard. P heard (ends_by harming d).device)
 if_ended CutsPower d P h = tt
-if_ended NoWrite d P h = if_some d.heard (λ heard. P heard d.device) h
-if_ended FailsWrite d P h = if_some d.heard (λ heard. P heard d.device) h
-if_ended LiesInWrite d P h = if_some d.heard (λ heard. P heard d.device) h
+if_ended harming d P h = if_some d.heard (λ heard. P heard d.device) h
 
 -- What holds of what is heard may be weakened.
 pub if_heard : {P Q : Heard → Type 0} (heard : Heard) → ((x : Heard) → P x → Q x) → IfHeard heard P → IfHeard heard Q
@@ -60,10 +58,8 @@ module _ (c : Profile) (offers : List (List ℕ)) where
 
   -- The end of an action is quiet.
   ended_quiet : (s d : Situation) (harming : Harming) → IsQuiet offers s d → IsQuiet offers s (over harming d)
-  ended_quiet s d NoWrite q = q
   ended_quiet s d CutsPower q = quiet_then q (quiet_power _)
-  ended_quiet s d FailsWrite q = q
-  ended_quiet s d LiesInWrite q = q
+  ended_quiet s d harming q = q
 
   reached_quiet : (s : Situation) (r : Request) (how : Handling) (l k : Luck) → IsPolite r → IsSound offers s.stage
       → IsQuiet offers s (reached c s r (plan c s.image s.stage r) how l k).device
@@ -109,54 +105,29 @@ module _ (c : Profile) (offers : List (List ℕ)) where
   sent_knows p phase harming false d k = if_ended harming (record { device = d.device; heard = Nothing })
       (λ heard x. Knows p phase x heard) (record { fact = k.fact; told = tt })
 
-  status_reached : (p : List ℕ) (phase : Phase) (s : Situation) (how : Handling) (l k : Luck) → AsksStatus c s.image phase
-      → Fact c p phase s
-      → let d = reached c s GetStatus (plan c s.image s.stage GetStatus) how l k in Knows p phase d.device d.heard
-  status_reached p phase s Unseen l k a h = record { fact = h; told = tt }
-  status_reached p phase s Once l k a h = record {
-    fact = fact_status c s.image p phase s.stage a h l;
-    told = status_told c s.image s.stage l;
+  asked_reached : (r : Request) (p : List ℕ) (phase : Phase) (s : Situation) (how : Handling) (l k : Luck) → Asks r phase
+      → Fact c p phase s → let d = reached c s r (plan c s.image s.stage r) how l k in Knows p phase d.device d.heard
+  asked_reached r p phase s Unseen l k a h = record { fact = h; told = tt }
+  asked_reached r p phase s Once l k a h = record {
+    fact = fact_asked c s.image r p phase s.stage a h l;
+    told = told_asked c s.image r phase s.stage a l;
   }
-  status_reached p phase s Again l k a h = let o = (handled c s GetStatus l).after in
+  asked_reached r p phase s Again l k a h = let o = (handled c s r l).after in
       record {
-        fact = fact_status c o.image p phase o.stage a (fact_status c s.image p phase s.stage a h l) k;
-        told = status_told c o.image o.stage k;
+        fact = fact_asked c o.image r p phase o.stage a (fact_asked c s.image r p phase s.stage a h l) k;
+        told = told_asked c o.image r phase o.stage a k;
       }
-  status_reached p phase s (Late ms) l k a h = let o = handled c s GetStatus l in
+  asked_reached r p phase s (Late ms) l k a h = let o = handled c s r l in
       record {
-        fact = fact_time c o.after.image p phase ms o.after.stage (fact_status c s.image p phase s.stage a h l) k;
-        told = told_time c o.after.image (heard_as o.reply) o.after.stage ms k (status_told c s.image s.stage l);
-      }
-
-  -- GETSTATUS keeps what is known, by each course.
-  pub status_knows : (p : List ℕ) (phase : Phase) (s : Situation) (course : Course) (l k : Luck) → AsksStatus c s.image phase
-      → Fact c p phase s → KnowsIf p phase (sent c s GetStatus course l k)
-  status_knows p phase s course l k a h =
-      sent_knows p phase course.harming course.back _ (status_reached p phase s course.handling l k a h)
-
-  state_reached : (p : List ℕ) (phase : Phase) (s : Situation) (how : Handling) (l k : Luck) → AsksState c s.image phase → Fact c p phase s
-      → let d = reached c s GetState (plan c s.image s.stage GetState) how l k in Knows p phase d.device d.heard
-  state_reached p phase s Unseen l k a h = record { fact = h; told = tt }
-  state_reached p phase s Once l k a h = record {
-    fact = fact_state c s.image p phase s.stage a h l;
-    told = state_told c s.image s.stage l;
-  }
-  state_reached p phase s Again l k a h = let o = (handled c s GetState l).after in
-      record {
-        fact = fact_state c o.image p phase o.stage a (fact_state c s.image p phase s.stage a h l) k;
-        told = state_told c o.image o.stage k;
-      }
-  state_reached p phase s (Late ms) l k a h = let o = handled c s GetState l in
-      record {
-        fact = fact_time c o.after.image p phase ms o.after.stage (fact_state c s.image p phase s.stage a h l) k;
-        told = told_time c o.after.image (heard_as o.reply) o.after.stage ms k (state_told c s.image s.stage l);
+        fact = fact_time c o.after.image p phase ms o.after.stage (fact_asked c s.image r p phase s.stage a h l) k;
+        told = told_time c o.after.image (heard_as o.reply) o.after.stage ms k (told_asked c s.image r phase s.stage a l);
       }
 
-  -- GETSTATE keeps what is known, by each course.
-  pub state_knows : (p : List ℕ) (phase : Phase) (s : Situation) (course : Course) (l k : Luck) → AsksState c s.image phase
-      → Fact c p phase s → KnowsIf p phase (sent c s GetState course l k)
-  state_knows p phase s course l k a h =
-      sent_knows p phase course.harming course.back _ (state_reached p phase s course.handling l k a h)
+  -- What a phase asks for keeps what is known, by each course.
+  pub asked_knows : (r : Request) (p : List ℕ) (phase : Phase) (s : Situation) (course : Course) (l k : Luck) → Asks r phase
+      → Fact c p phase s → KnowsIf p phase (sent c s r course l k)
+  asked_knows r p phase s course l k a h =
+      sent_knows p phase course.harming course.back _ (asked_reached r p phase s course.handling l k a h)
 
   -- After a reset of the bus.
   pub slipped_fact : (p : List ℕ) (phase : Phase) (s : Situation) (how : Handling) (l : Luck) → Fact c p phase (was_reset s)

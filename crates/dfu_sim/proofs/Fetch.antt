@@ -1,5 +1,5 @@
 -- The phase that fetches a part of the active image.
-use Rattle.std.proofs.Common.{◌≡◌, ℕ, suc, ◌+◌, ◌%◌, ◌<◌, ◌≤◌, ◌==◌, nat_lt, not, Bool, true, false, cond, List, [], ◌++◌, length, take, drop, None, refl, sym, ap, ◌∙◌, subst, arith, take-append-drop, length-take, take_all, take-add}
+use Rattle.std.proofs.Common.{◌≡◌, ℕ, suc, ◌+◌, ◌%◌, ◌<◌, ◌≤◌, ◌==◌, nat_lt, not, Bool, true, false, List, [], ◌++◌, length, take, drop, None, sym, ap, ◌∙◌, arith, take-append-drop, length-take, take_all, take-add}
 use Rattle.std.proofs.lemmas.Bool.Decides.{nat_tests}
 use Rattle.dfu_wire.specs.declared.codes.Code.{Code}
 use Rattle.dfu_wire.specs.declared.codes.Code.TheVariants.{StalledPkt as ErrStalledPkt, Address as ErrAddress}
@@ -7,18 +7,18 @@ use Rattle.dfu_device.specs.Stage.{Upload, Data, Profile, Stage, InDfuIdle, InUp
 use Rattle.dfu_device.specs.Table.{Plan, Sure, error, plan, upload_plan, next_number}
 use Rattle.dfu_device.specs.Outcome.{Situation, Luck, outcome}
 use Rattle.dfu_device.specs.Cases.{either_way}
-use Rattle.dfu_host.specs.declared.report.Report.TheVariants.{TooManyBlocks}
-use Rattle.dfu_host.specs.Phases.{ToFetch, Find, Fetch, LastUploaded, Over, Nothing}
+use Rattle.dfu_host.specs.Phases.{ToFetch, Phase, Nothing}
 use Rattle.dfu_host.specs.Table.{fetched, on_part}
 use Rattle.dfu_sim.specs.declared.course.Handling.{Handling}
-use Rattle.dfu_sim.specs.declared.course.Handling.TheVariants.{Unseen, Once, Again, Late}
+use Rattle.dfu_sim.specs.declared.course.Handling.TheVariants.{Unseen, Again}
 use Rattle.dfu_sim.specs.declared.course.Harming.{Harming}
-use Rattle.dfu_sim.specs.declared.course.Harming.TheVariants.{NoWrite, CutsPower, FailsWrite, LiesInWrite}
+use Rattle.dfu_sim.specs.declared.course.Harming.TheVariants.{CutsPower}
 use Rattle.dfu_sim.specs.Course.{Course}
 use Rattle.dfu_sim.specs.Play.{heard_as, Passed, reached, heard_back, ends_by, sent}
 use Rattle.dfu_sim.specs.LinkAgreement.{pending_of, IsSound}
 use Rattle.dfu_sim.specs.Fact.{Fetches, FetchFact}
 use Rattle.dfu_sim.proofs.Quiet.{Quiet, stays, forgets, quiet_on}
+use Rattle.dfu_sim.proofs.Choices.{on_test}
 use Rattle.dfu_sim.proofs.Fates.{if_some}
 use Rattle.dfu_sim.proofs.GoCommon.{GoesQuietly}
 
@@ -34,10 +34,8 @@ module _ (c : Profile) (offers : List (List ℕ)) (k : ℕ) (kept : List ℕ) wh
     next : FetchFact (on_part c.transfer k kept d.heard) d.device
 
   ended_fetch : (s : Situation) (harming : Harming) (d : Passed) → Reached s d → Fetched s (ends_by harming d)
-  ended_fetch s NoWrite d r = record { quiet = record { moves = r.moves; sound = r.sound }; next = if_some d.heard _ r.next }
   ended_fetch s CutsPower d r = record { quiet = record { moves = quiet_on r.moves forgets; sound = tt }; next = tt }
-  ended_fetch s FailsWrite d r = record { quiet = record { moves = r.moves; sound = r.sound }; next = if_some d.heard _ r.next }
-  ended_fetch s LiesInWrite d r = record { quiet = record { moves = r.moves; sound = r.sound }; next = if_some d.heard _ r.next }
+  ended_fetch s harming d r = record { quiet = record { moves = r.moves; sound = r.sound }; next = if_some d.heard _ r.next }
 
   fetched_by : (s : Situation) (harming : Harming) (back : Bool) (d : Passed) → Reached s d
       → Fetched s (ends_by harming (record { device = d.device; heard = heard_back back d.heard }))
@@ -48,9 +46,7 @@ module _ (c : Profile) (offers : List (List ℕ)) (k : ℕ) (kept : List ℕ) wh
   fetch_fault : (number size : ℕ) (s : Situation) (code : Code) → IsSound offers s.stage → (how : Handling) (l r : Luck)
       → Reached s (reached c s (Upload number size) (error code) how l r)
   fetch_fault number size s code h Unseen l r = record { moves = stays; sound = h; next = tt }
-  fetch_fault number size s code h Once l r = record { moves = forgets; sound = tt; next = tt }
-  fetch_fault number size s code h Again l r = record { moves = forgets; sound = tt; next = tt }
-  fetch_fault number size s code h (Late ms) l r = record { moves = forgets; sound = tt; next = tt }
+  fetch_fault number size s code h how l r = record { moves = forgets; sound = tt; next = tt }
 
   -- The end of the image.
   part_ends : (image : List ℕ) (place t : ℕ) → length (take t (drop place image)) < t → kept ≡ take place image
@@ -65,25 +61,15 @@ module _ (c : Profile) (offers : List (List ℕ)) (k : ℕ) (kept : List ℕ) wh
   short_after image part h e =
       let f : (length part == c.transfer) ≡ false = grind (arith, nat_tests) in
       let g : nat_lt (length part) c.transfer ≡ true = grind (arith, nat_tests) in
-      subst (λ t. FetchFact (cond t (cond (suc k == 65535) (Over TooManyBlocks) (Fetch (suc k) (kept ++ part)))
-      (cond (nat_lt (length part) c.transfer) (LastUploaded (kept ++ part)) Find)) (record { image = image; stage = InDfuIdle })) (sym f)
-      (subst (λ t. FetchFact (cond t (LastUploaded (kept ++ part)) Find) (record { image = image; stage = InDfuIdle })) (sym g) (e, tt))
-
-  many_after : (image part : List ℕ) (place number : ℕ) (t : Bool) → (suc k == 65535) ≡ t → k < 65535 → number ≡ suc k % 65536
-      → kept ++ part ≡ take place image → FetchFact (cond t (Over TooManyBlocks) (Fetch (suc k) (kept ++ part)))
-      (record { image = image; stage = InUploadIdle place number })
-  many_after image part place number true f b n e = tt
-  many_after image part place number false f b n e = (grind (arith, nat_tests), (omega arith, n, e))
+      rw (f, g) (e, tt)
 
   full_after : (image part : List ℕ) (place number : ℕ) → k < 65535 → length part ≡ c.transfer → number ≡ suc k % 65536
       → kept ++ part ≡ take place image → FetchFact (fetched c.transfer k kept part)
       (record { image = image; stage = InUploadIdle place number })
   full_after image part place number b h n e =
       let f : (length part == c.transfer) ≡ true = grind (arith, nat_tests) in
-      subst (λ t. FetchFact (cond t (cond (suc k == 65535) (Over TooManyBlocks) (Fetch (suc k) (kept ++ part)))
-      (cond (nat_lt (length part) c.transfer) (LastUploaded (kept ++ part)) Find))
-      (record { image = image; stage = InUploadIdle place number })) (sym f)
-      (many_after image part place number (suc k == 65535) refl b n e)
+      rw f (on_test (λ (x : Phase). FetchFact x (record { image = image; stage = InUploadIdle place number })) (suc k == 65535) _ _
+      (λ many. tt) (λ fewer. (grind (arith, nat_tests), (omega arith, n, e))))
 
   upload_cases : (P : Plan → Type 0) (image : List ℕ) (place expected number : ℕ) → let part = take c.transfer (drop place image) in
       ((code : Code) → P (error code)) →
@@ -94,21 +80,10 @@ module _ (c : Profile) (offers : List (List ℕ)) (k : ℕ) (kept : List ℕ) wh
       let part = take c.transfer (drop place image) in
       either_way P (c.transfer == 0) _ _ (pf ErrStalledPkt)
       (either_way P (nat_lt c.transfer c.transfer) _ _ (pf ErrStalledPkt)
-      (by_number (number == expected) refl))
-    where
-      by_short : (t : Bool) → nat_lt (length (take c.transfer (drop place image))) c.transfer ≡ t → number ≡ expected →
-          P (cond t (Sure (Data (take c.transfer (drop place image))) InDfuIdle)
-          (Sure (Data (take c.transfer (drop place image))) (InUploadIdle (place + c.transfer) (next_number expected))))
-      by_short true e n = ps n (grind (arith, nat_tests))
-      by_short false e n = pl n (let h : c.transfer ≤ length (take c.transfer (drop place image)) = grind (arith, nat_tests) in
-          omega (arith, length-take c.transfer (drop place image)))
-
-      by_number : (t : Bool) → (number == expected) ≡ t → P (cond (not t) (error ErrAddress)
-          (cond (nat_lt (length (take c.transfer (drop place image))) c.transfer)
-          (Sure (Data (take c.transfer (drop place image))) InDfuIdle)
-          (Sure (Data (take c.transfer (drop place image))) (InUploadIdle (place + c.transfer) (next_number expected)))))
-      by_number true e = by_short (nat_lt (length (take c.transfer (drop place image))) c.transfer) refl (grind (arith, nat_tests))
-      by_number false e = pf ErrAddress
+      (on_test P (not (number == expected)) _ _ (λ e. pf ErrAddress)
+      (λ e. let n : number ≡ expected = grind (arith, nat_tests) in
+      on_test P (nat_lt (length part) c.transfer) _ _ (λ f. ps n (grind (arith, nat_tests))) (λ f. pl n
+      (let h : c.transfer ≤ length part = grind (arith, nat_tests) in omega (arith, length-take c.transfer (drop place image)))))))
 
   -- A second time.
   record Second (image : List ℕ) (p : Plan) : Type 0 where
@@ -145,18 +120,16 @@ module _ (c : Profile) (offers : List (List ℕ)) (k : ℕ) (kept : List ℕ) wh
       → Second s.image (plan c s.image InDfuIdle (Upload (k % 65536) c.transfer)) → (how : Handling) (l r : Luck)
       → Reached s (reached c s (Upload (k % 65536) c.transfer) (Sure (Data part) InDfuIdle) how l r)
   sent_part part s h n q Unseen l r = record { moves = stays; sound = h; next = tt }
-  sent_part part s h n q Once l r = record { moves = forgets; sound = tt; next = n }
   sent_part part s h n q Again l r = record { moves = quiet_on forgets (q.moves r); sound = q.sound r; next = q.next r }
-  sent_part part s h n q (Late ms) l r = record { moves = forgets; sound = tt; next = n }
+  sent_part part s h n q how l r = record { moves = forgets; sound = tt; next = n }
 
   sent_full : (part : List ℕ) (place number : ℕ) (s : Situation) → IsSound offers s.stage
       → FetchFact (fetched c.transfer k kept part) (record { image = s.image; stage = InUploadIdle place number })
       → Second s.image (plan c s.image (InUploadIdle place number) (Upload (k % 65536) c.transfer)) → (how : Handling) (l r : Luck)
       → Reached s (reached c s (Upload (k % 65536) c.transfer) (Sure (Data part) (InUploadIdle place number)) how l r)
   sent_full part place number s h n q Unseen l r = record { moves = stays; sound = h; next = tt }
-  sent_full part place number s h n q Once l r = record { moves = forgets; sound = tt; next = n }
   sent_full part place number s h n q Again l r = record { moves = quiet_on forgets (q.moves r); sound = q.sound r; next = q.next r }
-  sent_full part place number s h n q (Late ms) l r = record { moves = forgets; sound = tt; next = n }
+  sent_full part place number s h n q how l r = record { moves = forgets; sound = tt; next = n }
 
   -- A second time, where the number is past.
   past : (image : List ℕ) (place number : ℕ) → number ≡ k % 65536
@@ -165,6 +138,19 @@ module _ (c : Profile) (offers : List (List ℕ)) (k : ℕ) (kept : List ℕ) wh
       upload_cases (Second image) image place (next_number number) (k % 65536) (second_fault image)
       (λ n h. absurd (omega arith)) (λ n h. absurd (omega arith))
 
+  -- A request for the next part, if what was kept is the image as far as this place.
+  goes_on : (s : Situation) (place expected : ℕ) → k < 65535 → expected ≡ k % 65536 → kept ≡ take place s.image → (k ≡ 0 → kept ≡ [])
+      → IsSound offers s.stage → (how : Handling) (l r : Luck)
+      → Reached s (reached c s (Upload (k % 65536) c.transfer) (upload_plan c s.image place expected (k % 65536) c.transfer) how l r)
+  goes_on s place expected b f e z h how l r =
+      upload_cases (λ p. Reached s (reached c s (Upload (k % 65536) c.transfer) p how l r)) s.image place expected (k % 65536)
+      (λ code. fetch_fault (k % 65536) c.transfer s code h how l r)
+      (λ n g. sent_part _ s h (short_after s.image _ g (part_ends s.image place c.transfer g e))
+      (from_idle s.image b z) how l r)
+      (λ n g. sent_full _ _ _ s h (full_after s.image _ _ _ b g (omega (arith, f))
+      (ap (λ x. x ++ take c.transfer (drop place s.image)) e ∙ sym (take-add place c.transfer s.image)))
+      (past s.image _ expected (sym n)) how l r)
+
   -- The phase that fetches part k goes well by each course.
   pub go_fetch : (image : List ℕ) (stage : Stage) → k < 65535 → Fetches k kept image stage → IsSound offers stage
       → (course : Course) (l r : Luck) → let s : Situation = record { image = image; stage = stage } in
@@ -172,23 +158,12 @@ module _ (c : Profile) (offers : List (List ℕ)) (k : ℕ) (kept : List ℕ) wh
   go_fetch image InDfuIdle b f h course l r =
       let s : Situation = record { image = image; stage = InDfuIdle } in
       let how = course.handling in
-      let P : Plan → Type 0 = λ p. Reached s (reached c s (Upload (k % 65536) c.transfer) p how l r) in
       fetched_by s course.harming course.back _
-      (either_way P c.can_upload _ _
-      (upload_cases P image 0 0 (k % 65536) (λ code. fetch_fault (k % 65536) c.transfer s code h how l r)
-      (λ n g. sent_part _ s h (short_after image _ g (part_ends image 0 c.transfer g f.1)) (from_idle image b (λ e. f.1)) how l r)
-      (λ n g. sent_full _ _ _ s h (full_after image _ _ _ b g (omega (arith, f.0))
-      (ap (λ x. x ++ take c.transfer (drop 0 image)) f.1 ∙ sym (take-add 0 c.transfer image))) (past image _ 0 (sym n)) how l r))
+      (either_way (λ p. Reached s (reached c s (Upload (k % 65536) c.transfer) p how l r)) c.can_upload _ _
+      (goes_on s 0 0 b (omega (arith, f.0)) f.1 (λ e. f.1) h how l r)
       (fetch_fault (k % 65536) c.transfer s ErrStalledPkt h how l r))
   go_fetch image (InUploadIdle place number) b f h course l r =
-      let s : Situation = record { image = image; stage = InUploadIdle place number } in
-      let how = course.handling in
-      let P : Plan → Type 0 = λ p. Reached s (reached c s (Upload (k % 65536) c.transfer) p how l r) in
-      fetched_by s course.harming course.back _
-      (upload_cases P image place number (k % 65536) (λ code. fetch_fault (k % 65536) c.transfer s code h how l r)
-      (λ n g. sent_part _ s h (short_after image _ g (part_ends image place c.transfer g f.2))
-      (from_idle image b (λ e. absurd (omega (arith, f.0)))) how l r)
-      (λ n g. sent_full _ _ _ s h (full_after image _ _ _ b g (omega (arith, f.1))
-      (ap (λ x. x ++ take c.transfer (drop place image)) f.2 ∙ sym (take-add place c.transfer image))) (past image _ number (sym n))
-      how l r))
+      fetched_by _ course.harming course.back _
+      (goes_on (record { image = image; stage = InUploadIdle place number }) place number b f.1 f.2 (λ e. absurd (omega (arith, f.0))) h
+      course.handling l r)
   go_fetch image stage b f h course l r = elim f [ ]

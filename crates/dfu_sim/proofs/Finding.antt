@@ -3,7 +3,8 @@ use Rattle.std.proofs.Common.{◌≡◌, ℕ, ◌==◌, max, min, false, List, a
 use Rattle.std.proofs.lemmas.Bool.Decides.{nat_tests}
 use Rattle.dfu_device.specs.Stage.{Profile, InAppIdle, InAppDetach, InDfuIdle}
 use Rattle.dfu_host.specs.Phases.{Goal, Find, Detach, Enter}
-use Rattle.dfu_sim.proofs.Passes.{split, Leads, one}
+use Rattle.dfu_sim.proofs.Choices.{split}
+use Rattle.dfu_sim.proofs.Passes.{Leads, one}
 
 module _ (c : Profile) (g : Goal) (again : ℕ) where
   -- The host finds the device in appIDLE.

@@ -1,6 +1,6 @@
 -- One action of the host in a phase that each session has, whatever the session is for, and with each fate.
 use Rattle.std.proofs.Common.{ℕ, max, List, []}
-use Rattle.dfu_device.specs.Stage.{Detach as AskDetach, GetStatus, ClrStatus, Abort, Profile}
+use Rattle.dfu_device.specs.Stage.{Request, Detach as AskDetach, GetStatus, ClrStatus, Abort, Profile}
 use Rattle.dfu_device.specs.Outcome.{Situation, Luck, elapsed, was_reset}
 use Rattle.dfu_device.specs.Cases.{either_way}
 use Rattle.dfu_host.specs.Phases.{Goal, Phase, Find, FindAgain, Detach, Enter, Clear, Quit, WaitFind, ResetFind, Trouble, GiveUp, Heard}
@@ -11,10 +11,10 @@ use Rattle.dfu_sim.specs.Course.{Course}
 use Rattle.dfu_sim.specs.Opening.{task_for}
 use Rattle.dfu_sim.specs.Play.{Passed, slipped, waits_for, sent, waited, bus_reset, acted}
 use Rattle.dfu_sim.specs.LinkAgreement.{IsSound}
-use Rattle.dfu_sim.specs.Fact.{GoalFact, HasBlocks}
-use Rattle.dfu_sim.proofs.Quiet.{IsQuiet}
-use Rattle.dfu_sim.proofs.Tells.{ToldBy}
-use Rattle.dfu_sim.proofs.Fates.{IfHeard, if_ended, if_heard, any_heard, Knows, sent_quiet, waited_quiet, bus_reset_quiet, status_knows}
+use Rattle.dfu_sim.specs.Fact.{Fact, GoalFact, HasBlocks}
+use Rattle.dfu_sim.proofs.Quiet.{IsQuiet, IsPolite}
+use Rattle.dfu_sim.proofs.Tells.{ToldBy, Asks}
+use Rattle.dfu_sim.proofs.Fates.{IfHeard, if_ended, if_heard, any_heard, Knows, sent_quiet, waited_quiet, bus_reset_quiet, asked_knows}
 use Rattle.dfu_sim.proofs.CommonFacts.{common_facts}
 
 module _ (c : Profile) (offers : List (List ℕ)) (g : Goal) where
@@ -41,6 +41,18 @@ module _ (c : Profile) (offers : List (List ℕ)) (g : Goal) where
     next = if_ended course.harming _ (λ heard x. GoalFact c g (on_reset heard next again) x) f;
   }
 
+  -- A phase that asks goes quietly, if the fact of the phase after it comes of what is known then.
+  pub go_asking : (r : Request) (p : List ℕ) (phase : Phase) (follows : Heard → Phase) (s : Situation) → IsPolite r → Asks r phase
+      → Fact c p phase s → IsSound offers s.stage → (course : Course) (l k : Luck)
+      → ((d : Situation) (heard : Heard) → Knows c offers p phase d heard → GoalFact c g (follows heard) d)
+      → GoesQuietly follows s (sent c s r course l k)
+  go_asking r p phase follows s polite a h q course l k f = let d = sent c s r course l k in
+      record {
+        quiet = sent_quiet c offers s r course l k polite q;
+        next = if_heard {P = Knows c offers p phase d.device} {Q = λ heard. GoalFact c g (follows heard) d.device} d.heard
+            (f d.device) (asked_knows c offers r p phase s course l k a h);
+      }
+
   module _ (some : HasBlocks c g) where
     -- The phase that follows, by what is heard.
     abbrev Follows : Phase → Heard → Phase
@@ -49,14 +61,9 @@ module _ (c : Profile) (offers : List (List ℕ)) (g : Goal) where
     -- A phase that asks for the status. What is known of the device is what is known in Find, which is nothing.
     seeks : (phase : Phase) (s : Situation) → IsCommon phase → IsSound offers s.stage → (course : Course) (l k : Luck)
         → GoesQuietly (Follows phase) s (sent c s GetStatus course l k)
-    seeks phase s a q course l k = let d = sent c s GetStatus course l k in
-        record {
-          quiet = sent_quiet c offers s GetStatus course l k tt q;
-          next = if_heard {P = Knows c offers [] Find d.device} {Q = λ heard. GoalFact c g (Follows phase heard) d.device} d.heard
-              (λ heard w. after_common (task_for c g) (λ x. GoalFact c g x d.device) (λ x. ToldBy x d.device.stage)
-              (common_facts c g some d.device) phase heard a (λ x. w.told))
-              (status_knows c offers [] Find s course l k tt tt);
-        }
+    seeks phase s a q course l k = go_asking GetStatus [] Find (Follows phase) s tt tt tt q course l k
+        (λ d heard w. after_common (task_for c g) (λ x. GoalFact c g x d) (λ x. ToldBy x d.stage) (common_facts c g some d) phase heard a
+        (λ x. w.told))
 
     -- A phase that brings the device on, whatever is heard.
     brings : (phase : Phase) (s : Situation) (d : Passed) → IsCommon phase → (IsSeeking phase → ⊥) → IsQuiet offers s d.device

@@ -1,14 +1,14 @@
 -- One action of a host that compares the active image with a payload, in each phase and with each fate.
-use Rattle.std.proofs.Common.{◌≡◌, ℕ, suc, ◌<◌, ◌==◌, nat_lt, Bool, true, false, cond, List, [], ◌++◌, length, slice_index_or, refl, sym, ap, ◌∙◌, subst, arith}
+use Rattle.std.proofs.Common.{◌≡◌, ℕ, suc, ◌<◌, ◌==◌, nat_lt, true, false, List, [], ◌++◌, length, slice_index_or, sym, ap, ◌∙◌, subst, arith}
 use Rattle.std.specs.Str.{bytes_eq}
 use Rattle.std.proofs.lemmas.Bool.Decides.{nat_tests}
 use Rattle.std.proofs.lemmas.Slice.Eq.{bytes_eq-Decides}
 use Rattle.dfu_device.specs.Stage.{Profile}
 use Rattle.dfu_device.specs.Outcome.{Situation, Luck}
-use Rattle.dfu_host.specs.declared.report.Report.TheVariants.{TooManyBlocks, Verified, Different}
+use Rattle.dfu_host.specs.declared.report.Report.TheVariants.{Verified}
 use Rattle.dfu_host.specs.Blocks.{blocks, first}
 use Rattle.dfu_host.specs.BlockLaws.{first_next, last_short}
-use Rattle.dfu_host.specs.Phases.{ToCompare, Phase, Find, Fetch, LastUploaded, Compare, Last, Over, OverUploaded, Heard, Part}
+use Rattle.dfu_host.specs.Phases.{ToCompare, Phase, Fetch, LastUploaded, Compare, Last, Over, Heard, Part}
 use Rattle.dfu_host.specs.Table.{deed, fetched, on_part, on_compared, row}
 use Rattle.dfu_host.specs.Host.{IsOn}
 use Rattle.dfu_sim.specs.Course.{Course}
@@ -16,6 +16,7 @@ use Rattle.dfu_sim.specs.Opening.{task_for}
 use Rattle.dfu_sim.specs.Play.{acted}
 use Rattle.dfu_sim.specs.LinkAgreement.{IsSound}
 use Rattle.dfu_sim.specs.Fact.{Fetches, FetchFact, CompareFact}
+use Rattle.dfu_sim.proofs.Choices.{on_test}
 use Rattle.dfu_sim.proofs.Fates.{if_heard}
 use Rattle.dfu_sim.proofs.Fetch.{go_fetch}
 use Rattle.dfu_sim.proofs.GoCommon.{GoesQuietly, go_reset, go_common}
@@ -45,40 +46,26 @@ module _ (c : Profile) (offers : List (List ℕ)) (p : List ℕ) (some : 0 < len
       (sym f.0 ∙ whole, f.1)
 
   -- A full part is block k, so that the image goes on as the payload does.
-  full_same : (k : ℕ) (part : List ℕ) (d : Situation) (many : Bool) → (suc k == 65535) ≡ many → length part ≡ c.transfer → part ≡ block k
-      → FetchedSo k part d → CompareFact c p (cond many (Over TooManyBlocks) (Compare (suc k))) d
-  full_same k part d true e size same h = tt
-  full_same k part d false e size same h =
+  full_same : (k : ℕ) (part : List ℕ) (d : Situation) → (suc k == 65535) ≡ false → length part ≡ c.transfer → part ≡ block k
+      → FetchedSo k part d → CompareFact c p (Compare (suc k)) d
+  full_same k part d fewer size same h =
       let full : (length part == c.transfer) ≡ true = grind (arith, nat_tests) in
-      let f : FetchFact (Fetch (suc k) (front k ++ part)) d = rw (full, e) at h in
+      let f : FetchFact (Fetch (suc k) (front k ++ part)) d = rw (full, fewer) at h in
       let long : 0 < length (block k) = subst (λ (x : List ℕ). 0 < length x) same (omega (arith, size, sized)) in
       let more : front k ++ part ≡ front (suc k) = ap (λ x. front k ++ x) same ∙ sym (first_next p c.transfer k long) in
       (f.0, subst (λ (x : List ℕ). Fetches (suc k) x d.image d.stage) more f.1)
 
-  by_size : (k : ℕ) (part : List ℕ) (d : Situation) (short : Bool) → nat_lt c.transfer (length part) ≡ false
-      → nat_lt (length part) c.transfer ≡ short → part ≡ block k → FetchedSo k part d
-      → CompareFact c p (cond short (Last Verified) (cond (suc k == 65535) (Over TooManyBlocks) (Compare (suc k)))) d
-  by_size k part d true fits e same h = short_same k part d e same h
-  by_size k part d false fits e same h = full_same k part d (suc k == 65535) refl (grind (arith, nat_tests)) same h
-
-  by_bytes : (k : ℕ) (part : List ℕ) (d : Situation) (same : Bool) → nat_lt c.transfer (length part) ≡ false
-      → bytes_eq part (block k) ≡ same → FetchedSo k part d
-      → CompareFact c p (cond same (cond (nat_lt (length part) c.transfer) (Last Verified)
-      (cond (suc k == 65535) (Over TooManyBlocks) (Compare (suc k)))) (Last Different)) d
-  by_bytes k part d true fits e h =
-      by_size k part d (nat_lt (length part) c.transfer) fits refl ((bytes_eq-Decides part (block k)).0 e) h
-  by_bytes k part d false fits e h = tt
-
-  by_length : (k : ℕ) (part : List ℕ) (d : Situation) (long : Bool) → nat_lt c.transfer (length part) ≡ long → FetchedSo k part d
-      → CompareFact c p (cond long Find (cond (bytes_eq part (block k)) (cond (nat_lt (length part) c.transfer) (Last Verified)
-      (cond (suc k == 65535) (Over TooManyBlocks) (Compare (suc k)))) (Last Different))) d
-  by_length k part d true e h = tt
-  by_length k part d false e h = by_bytes k part d (bytes_eq part (block k)) e refl h
-
   -- What is known where a part was fetched behind the first k blocks is known where it was compared with block k.
   compared_fact : (k : ℕ) (heard : Heard) (d : Situation) → FetchFact (on_part c.transfer k (front k) heard) d
       → CompareFact c p (on_compared c.transfer k (block k) heard) d
-  compared_fact k (Part part) d h = by_length k part d (nat_lt c.transfer (length part)) refl h
+  compared_fact k (Part part) d h =
+      let P : Phase → Type 0 = λ x. CompareFact c p x d in
+      on_test P (nat_lt c.transfer (length part)) _ _ (λ long. tt)
+      (λ fits. on_test P (bytes_eq part (block k)) _ _
+      (λ e. let same = (bytes_eq-Decides part (block k)).0 e in
+      on_test P (nat_lt (length part) c.transfer) _ _ (λ short. short_same k part d short same h)
+      (λ full. on_test P (suc k == 65535) _ _ (λ many. tt) (λ fewer. full_same k part d fewer (grind (arith, nat_tests)) same h)))
+      (λ other. tt))
   compared_fact k heard d h = tt
 
   -- Each phase of a host that compares and is not done goes quietly by each course.
@@ -93,5 +80,4 @@ module _ (c : Profile) (offers : List (List ℕ)) (p : List ℕ) (some : 0 < len
   go_compare (Last report) s on h q course l r =
       go_reset c offers (ToCompare p) (Over report) (Last report) s course l (last_ends c offers p some sized s report course.handling l h)
   go_compare (Over report) s on h q course l r = elim on [ ]
-  go_compare (OverUploaded kept) s on h q course l r = elim on [ ]
   go_compare phase s on h q course l r = go_common c offers (ToCompare p) some phase s h q course l r

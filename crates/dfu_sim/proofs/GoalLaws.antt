@@ -2,7 +2,7 @@
 use Rattle.std.proofs.Common.{◌≡◌, List, ℕ, refl}
 use Rattle.dfu_device.specs.Stage.{Profile}
 use Rattle.dfu_device.specs.Outcome.{Situation}
-use Rattle.dfu_host.specs.Phases.{Goal, ToLoad, ToFetch, ToVerify, ToCompare, Phase, Find, Last, Heard, WasReset}
+use Rattle.dfu_host.specs.Phases.{Goal, ToLoad, ToVerify, Phase, Find, Last, Heard, WasReset}
 use Rattle.dfu_host.specs.Table.{deed, row, checked, goal_after}
 use Rattle.dfu_sim.specs.Opening.{task_for}
 use Rattle.dfu_sim.specs.Agreement.{live_goal}
@@ -15,10 +15,8 @@ after_goal P g x y (Last report) heard = x
 after_goal P g x y phase heard = x
 
 live_checked : (g : Goal) → live_goal (checked g) ≡ live_goal g
-live_checked (ToLoad p) = refl
-live_checked ToFetch = refl
 live_checked (ToVerify p) = refl
-live_checked (ToCompare p) = refl
+live_checked g = refl
 
 -- What is live stays.
 pub live_after : (g : Goal) (phase : Phase) (heard : Heard) → live_goal (goal_after g phase heard) ≡ live_goal g

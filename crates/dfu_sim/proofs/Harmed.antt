@@ -16,16 +16,18 @@ use Rattle.dfu_host.specs.Host.{HostState}
 use Rattle.dfu_host.specs.Wire.{IsAsked}
 use Rattle.dfu_sim.specs.declared.back.Back.{Back}
 use Rattle.dfu_sim.specs.declared.back.Back.TheVariants as back
-use Rattle.dfu_sim.specs.declared.course.Handling.TheVariants.{Once}
+use Rattle.dfu_sim.specs.declared.course.Handling.{Handling}
+use Rattle.dfu_sim.specs.declared.course.Handling.TheVariants.{Once, Late}
 use Rattle.dfu_sim.specs.declared.course.Harming.{Harming}
-use Rattle.dfu_sim.specs.declared.course.Harming.TheVariants.{NoWrite, CutsPower, FailsWrite, LiesInWrite}
+use Rattle.dfu_sim.specs.declared.course.Harming.TheVariants.{NoWrite, CutsPower}
 use Rattle.dfu_sim.specs.Course.{course_of}
 use Rattle.dfu_sim.specs.Happening.{Fate, CutIn, Fail, Lie, Harm, Happening}
 use Rattle.dfu_sim.specs.Bench.{Hosted, Bench}
-use Rattle.dfu_sim.specs.Play.{Answered, took, heard_as, remembered}
-use Rattle.dfu_sim.specs.Bytes.{fuse_of, armed, HearsBack, Reaches, once, Sends, Acts, left_by, NextAction, Happens}
+use Rattle.dfu_sim.specs.Play.{Answered, took, heard_as, remembered, heard_over, waits_for}
+use Rattle.dfu_sim.specs.Bytes.{fuse_of, armed, bus_was_reset, HearsBack, Reaches, once, Sends, Slips, Acts, left_by, NextAction, Happens}
 use Rattle.dfu_sim.specs.Comes.{happens}
 use Rattle.dfu_sim.specs.OneResult.{SameDevice, AreOne, HarmsAWrite, OneResult}
+use Rattle.dfu_sim.proofs.Fates.{all_remembered}
 use Rattle.dfu_sim.proofs.DoneOnce.{same_device, powered_same, disarmed_same, DoneOnce, done_once}
 use Rattle.dfu_sim.proofs.Replies.{IsHosts, HostsDeed, hosts_deed, plan_heard, served}
 
@@ -35,6 +37,10 @@ record ActedOnce (w' v' : Shown) (heard other : Heard) : Type 0 where
   hears : Heard
   first : (room : Bool) × (heard ≡ remembered hears room)
   second : (room : Bool) × (other ≡ remembered hears room)
+
+one_heard : {w' v' : Shown} {heard other : Heard} (x : Heard) → SameDevice w' v' → heard ≡ x → other ≡ x → ActedOnce w' v' heard other
+one_heard x same e f =
+    record { device = same; hears = x; first = (true, e ∙ all_remembered x); second = (true, f ∙ all_remembered x) }
 
 -- A request that is handled once: there is one answer.
 reached_once : {setup body : List ℕ} {w w' : Shown} {came : Back} {out : List ℕ} → Reaches setup body Once w came out w'
@@ -81,12 +87,17 @@ module _ (q : Asked) (body : List ℕ) (is : IsHosts q body) (w : Shown) (known 
       let a = reached_once h.reaches in
       let b = reached_once k.reaches in
       let x = handled_once setup setup2 w' v' a.0 b.0 h.out k.out asked asked2 a.2 b.2 in
-      record { device = x.device; hears = Restarted; first = (true, h.hears); second = (true, k.hears) }
+      one_heard Restarted x.device h.hears k.hears
   sends_once Fail setup setup2 w' v' heard heard2 harms asked asked2 h k =
       answered_once setup setup2 w' v' heard heard2 h.came k.came h.out k.out asked asked2 h.reaches k.reaches h.hears k.hears
   sends_once Lie setup setup2 w' v' heard heard2 harms asked asked2 h k =
       answered_once setup setup2 w' v' heard heard2 h.came k.came h.out k.out asked asked2 h.reaches k.reaches h.hears k.hears
   sends_once fate setup setup2 w' v' heard heard2 harms asked asked2 h k = elim harms [ ]
+
+slips_once : (how : Handling) (w w' v' : Shown) → IsKnown w.slots.medium.fuse → Slips how w w' → Slips how w v' → SameDevice w' v'
+slips_once (Late ms) w w' v' known h k =
+    (done_once (time_plan (profile w) w.stage ms) 0 w w' v' answer.Ack answer.Ack [] [] known h k).device
+slips_once how w w' v' known h k = same_device (h ∙ sym k)
 
 -- An action in which a write is harmed, from one device.
 acts_once : (d : Deed) (fate : Fate) (w w' v' : Shown) (heard heard2 : Heard) → HostsDeed d
@@ -94,37 +105,21 @@ acts_once : (d : Deed) (fate : Fate) (w w' v' : Shown) (heard heard2 : Heard) �
     → Acts d (course_of fate) w v' heard2 → ActedOnce w' v' heard heard2
 acts_once (Send q body) fate w w' v' heard heard2 is harms known (setup, asked, h) (setup2, asked2, k) =
     sends_once q body is w known fate setup setup2 w' v' heard heard2 harms asked asked2 h k
-acts_once (Wait ms) CutIn w w' v' heard heard2 is harms known (h, e) (k, f) =
-    let x = done_once (time_plan (profile w) w.stage ms) 0 w w' v' answer.Ack answer.Ack [] [] known h k in
-    record { device = x.device; hears = Restarted; first = (true, e); second = (true, f) }
-acts_once (Wait ms) Fail w w' v' heard heard2 is harms known (h, e) (k, f) =
-    let x = done_once (time_plan (profile w) w.stage ms) 0 w w' v' answer.Ack answer.Ack [] [] known h k in
-    record { device = x.device; hears = Waited; first = (true, e); second = (true, f) }
-acts_once (Wait ms) Lie w w' v' heard heard2 is harms known (h, e) (k, f) =
-    let x = done_once (time_plan (profile w) w.stage ms) 0 w w' v' answer.Ack answer.Ack [] [] known h k in
-    record { device = x.device; hears = Waited; first = (true, e); second = (true, f) }
-acts_once Reset CutIn w w' v' heard heard2 is harms known (h, e) (k, f) =
-    record { device = same_device (h ∙ sym k); hears = Restarted; first = (true, e); second = (true, f) }
-acts_once Reset Fail w w' v' heard heard2 is harms known (h, e) (k, f) =
-    record { device = same_device (h ∙ sym k); hears = WasReset; first = (true, e); second = (true, f) }
-acts_once Reset Lie w w' v' heard heard2 is harms known (h, e) (k, f) =
-    record { device = same_device (h ∙ sym k); hears = WasReset; first = (true, e); second = (true, f) }
-acts_once (Wait ms) fate w w' v' heard heard2 is harms known h k = elim harms [ ]
-acts_once Reset fate w w' v' heard heard2 is harms known h k = elim harms [ ]
+acts_once (Wait ms) fate w w' v' heard heard2 is harms known (h, e) (k, f) =
+    let time = time_plan (profile w) w.stage (waits_for (course_of fate).handling ms) in
+    one_heard (heard_over (course_of fate).harming Waited) (done_once time 0 w w' v' answer.Ack answer.Ack [] [] known h k).device e f
+acts_once Reset fate w w' v' heard heard2 is harms known (h, e) (k, f) =
+    one_heard (heard_over (course_of fate).harming WasReset) (slips_once (course_of fate).handling (bus_was_reset w) w' v' known h k) e f
 acts_once (IsDone report) fate w w' v' heard heard2 is harms known h k = absurd h
 
 -- The fuse of an action in which a write is harmed is known.
 fuse_known : (harming : Harming) (harm : Harm) → HarmsAWrite harming → IsKnown (fuse_of harming harm)
 fuse_known NoWrite harm harms = elim harms [ ]
-fuse_known CutsPower harm harms = tt
-fuse_known FailsWrite harm harms = tt
-fuse_known LiesInWrite harm harms = tt
+fuse_known harming harm harms = tt
 
 left_same : (harming : Harming) {w v : Shown} → SameDevice w v → SameDevice (left_by harming w) (left_by harming v)
-left_same NoWrite same = disarmed_same same
 left_same CutsPower same = powered_same same
-left_same FailsWrite same = disarmed_same same
-left_same LiesInWrite same = disarmed_same same
+left_same harming same = disarmed_same same
 
 hosted_one : (h k : HostState) → Hosted h ≡ Hosted k → k ≡ h
 hosted_one h k e = sym cc
@@ -147,19 +142,12 @@ action_once fate harm b c d x y harms g k =
       rule = λ room. took g.host (remembered one.hears room);
       first = (
         one.first.0,
-        λ i. record {
-          session = (ap (λ (z : Heard). (took g.host z).session) (sym one.first.1) ∙ sym g.session) i;
-          answer = (ap (λ (z : Heard). (took g.host z).answer) (sym one.first.1) ∙ sym g.answered) i;
-        },
+        ap (λ (z : Heard). took g.host z) (sym one.first.1) ∙ (λ i. record { session = sym g.session i; answer = sym g.answered i }),
       );
       second = (
         one.second.0,
-        λ i. record {
-          session = (ap (λ (z : Heard). (took g.host z).session) (sym one.second.1)
-              ∙ ap (λ (h : HostState). (took h k.gone.acted.heard).session) (sym same) ∙ sym k.session) i;
-          answer = (ap (λ (z : Heard). (took g.host z).answer) (sym one.second.1)
-              ∙ ap (λ (h : HostState). (took h k.gone.acted.heard).answer) (sym same) ∙ sym k.answered) i;
-        },
+        ap (λ (z : Heard). took g.host z) (sym one.second.1) ∙ ap (λ (h : HostState). took h k.gone.acted.heard) (sym same)
+            ∙ (λ i. record { session = sym k.session i; answer = sym k.answered i }),
       );
     }
 

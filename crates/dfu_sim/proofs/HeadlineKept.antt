@@ -2,10 +2,10 @@
 use Rattle.std.proofs.Common.{◌≡◌, ◌⊎◌, inl, inr, ℕ, List, [], ◌∷◌, ◌++◌, map, take, Option, Result, Ok, Err, refl, sym, ◌∙◌, subst}
 use Rattle.std.proofs.lemmas.List.{take-map}
 use Rattle.dfu_device.specs.Stage.{Stage, InAppIdle, InManifestSync, InManifest}
-use Rattle.dfu_host.specs.Phases.{Goal, ToLoad, ToFetch, ToVerify, ToCompare}
+use Rattle.dfu_host.specs.Phases.{Goal, ToFetch}
 use Rattle.dfu_host.specs.declared.report.Report.{Report}
 use Rattle.dfu_sim.specs.declared.event.Event.{Event}
-use Rattle.dfu_sim.specs.declared.event.Event.TheVariants.{Offer, OfferVerified, Upload, Abort, Go, Time, Reset, Cut}
+use Rattle.dfu_sim.specs.declared.event.Event.TheVariants.{Abort}
 use Rattle.dfu_sim.specs.declared.fault.LinkFault.{LinkFault}
 use Rattle.dfu_sim.specs.Session.{Machine, Loading, IsOneOf, SaysInPlace}
 use Rattle.dfu_sim.specs.Agreement.{AgreesOn, intake_of, live_of, live_goal, IsShutOffer}
@@ -54,30 +54,24 @@ waits_offered (InManifest taken passed) offers x one is = subst (λ (y : List �
 waits_offered stage offers x one is = absurd is
 
 lives_in_goal : (goal : Goal) (x : List ℕ) → IsOneOf x (goal_in goal) → IsGoalPayload goal x
-lives_in_goal (ToLoad payload) x one = the_one x payload one
 lives_in_goal ToFetch x one = one
-lives_in_goal (ToVerify payload) x one = the_one x payload one
-lives_in_goal (ToCompare payload) x one = the_one x payload one
+lives_in_goal goal x one = the_one x _ one
 
 lives_in : (session : Session) (x : List ℕ) → IsOneOf x (session_in session) → IsLivePayload session x
 lives_in Nobody x one = one
 lives_in (Hosted h) x one = lives_in_goal h.task.goal x one
 
 goal_loads : (goal : Goal) (x : List ℕ) → live_goal goal ≡ Loading x → IsGoalPayload goal x
-goal_loads (ToLoad payload) x e = cc
 goal_loads ToFetch x e = absurd cc
-goal_loads (ToVerify payload) x e = cc
-goal_loads (ToCompare payload) x e = cc
+goal_loads goal x e = cc
 
 session_loads : (session : Session) (x : List ℕ) → live_of session ≡ Loading x → IsLivePayload session x
 session_loads Nobody x e = absurd cc
 session_loads (Hosted h) x e = goal_loads h.task.goal x e
 
 loads_goal : (goal : Goal) (x : List ℕ) → IsGoalPayload goal x → live_goal goal ≡ Loading x
-loads_goal (ToLoad payload) x is = cc
 loads_goal ToFetch x is = absurd is
-loads_goal (ToVerify payload) x is = cc
-loads_goal (ToCompare payload) x is = cc
+loads_goal goal x is = cc
 
 -- The payload of a live session is the one that the machine loads.
 pub loads_session : (session : Session) (x : List ℕ) → IsLivePayload session x → live_of session ≡ Loading x
@@ -136,21 +130,15 @@ keeps_on {w = w} h follow k = holds_after h (past_then k) (follow (machine_at w 
 -- The events of callers.
 
 begun_same : (event : Event) (past : List Begun) → begun_by (happening event) past ≡ begun event past
-begun_same (Offer file limits) past = refl
-begun_same (OfferVerified file limits) past = refl
-begun_same (Upload limits) past = refl
 begun_same Abort past = refl
-begun_same (Go fate) past = refl
-begun_same (Time ms) past = refl
-begun_same Reset past = refl
-begun_same Cut past = refl
+begun_same event past = refl
 
 keeps : {factory : List ℕ} {past : List Begun} {before : Option Report} {w w' : LinkState} (event : Event) {report : Option Report}
     → ((m : Machine) → AgreesOn w.bench w.up m → IsFollowed w (happening event) w' report m) → HeadlineHolds factory past before w.bench
     → HeadlineHolds factory (begun event past) report w'.bench
-keeps {factory = factory} {past = past} {w = w} {w' = w'} event {report = report} follow k =
+keeps {factory = factory} {past = past} {w' = w'} event {report = report} follow k =
     subst (λ (sessions : List Begun). HeadlineHolds factory sessions report w'.bench) (begun_same event past)
-    (holds_after (happening event) (past_then k) (follow (machine_at w k.says.image) (agrees_then k)))
+    (keeps_on (happening event) follow k)
 
 -- An event that each session machine follows keeps the headline.
 pub step_keeps : (w w' : LinkState) (event : Event) (result : Result (Option Report) LinkFault) → AllFollow w (happening event) w' result

@@ -1,14 +1,15 @@
 -- Which facts stay as the host polls and as time passes.
 use Rattle.std.proofs.Common.{◌≡◌, ℕ, suc, ◌+◌, ◌==◌, nat_le, List}
-use Rattle.dfu_device.specs.Stage.{GetStatus, GetState, Ack, Profile, Stage, InAppIdle, InDfuIdle, InDownloadSync, InDownloadSyncWritten, InDownloadBusy, InDownloadIdle, InManifestSync, InManifestSyncComplete, InManifest, InManifestWaitReset, InError}
+use Rattle.dfu_device.specs.Stage.{Request, GetStatus, GetState, Ack, Profile, Stage, InAppIdle, InDfuIdle, InDownloadSync, InDownloadBusy, InDownloadIdle, InManifestSync, InManifestSyncComplete, InManifest, InManifestWaitReset}
 use Rattle.dfu_device.specs.Table.{Plan, Commits, plan, time_plan}
 use Rattle.dfu_device.specs.Outcome.{Situation, Luck, Works, FailsOld, FailsNew, outcome}
 use Rattle.dfu_device.specs.Cases.{either_way}
 use Rattle.dfu_host.specs.declared.report.Report.{Report}
 use Rattle.dfu_host.specs.declared.report.Report.TheVariants.{Installed, Verified}
 use Rattle.dfu_host.specs.Blocks.{first}
-use Rattle.dfu_host.specs.Phases.{Phase, Find, FindAgain, Block, Ask, Poll, WaitPoll, Close, AskLast, Manifest, WaitManifest, Trouble, Fetch, LastUploaded, Compare, Last, Over, OverUploaded}
+use Rattle.dfu_host.specs.Phases.{Phase, Block, Ask, Poll, WaitPoll, Close, AskLast, Manifest, WaitManifest, Last, Over}
 use Rattle.dfu_sim.specs.Fact.{IsIdle, IsInApp, Begun, Asking, BlockIn, AllTaken, AskingLast, Managing, EndsAs, Fact}
+use Rattle.dfu_sim.proofs.Tells.{Asks}
 
 module _ (c : Profile) (i : List ℕ) where
   -- After a plan, whatever the medium does.
@@ -19,34 +20,21 @@ module _ (c : Profile) (i : List ℕ) where
   holds_status x (InDownloadSync before block number) h =
       either_way (Then (λ s. BlockIn x s.stage)) (c.busy == 0) _ _ (elim [ Works ↦ h | FailsOld fault ↦ tt | FailsNew fault ↦ tt ])
       (λ luck. h)
-  holds_status x (InDownloadSyncWritten taken number) h = λ luck. h
-  holds_status x (InDownloadBusy before block number passed) h = λ luck. tt
-  holds_status x (InDownloadIdle taken number) h = λ luck. h
-  holds_status x (InError code) h = λ luck. tt
-  holds_status x stage h = λ luck. elim h [ ]
+  holds_status x stage h = λ luck. search
 
   holds_time : (x : List ℕ) (ms : ℕ) (stage : Stage) → BlockIn x stage → Then (λ s. BlockIn x s.stage) (time_plan c stage ms)
   holds_time x ms (InDownloadBusy before block number passed) h =
       let F : Plan → Type 0 = Then (λ s. BlockIn x s.stage) in
       either_way F (ms == 0) _ _ (λ luck. h)
       (either_way F (nat_le c.busy (passed + ms)) _ _ (elim [ Works ↦ h | FailsOld fault ↦ tt | FailsNew fault ↦ tt ]) (λ luck. h))
-  holds_time x ms (InDownloadSync before block number) h = λ luck. h
-  holds_time x ms (InDownloadSyncWritten taken number) h = λ luck. h
-  holds_time x ms (InDownloadIdle taken number) h = λ luck. h
-  holds_time x ms (InError code) h = λ luck. tt
-  holds_time x ms stage h = λ luck. elim h [ ]
+  holds_time x ms stage h = λ luck. search
 
   managing_status : (p : List ℕ) (stage : Stage) → Managing p i stage → Then (λ s. Managing p s.image s.stage) (plan c i stage GetStatus)
   managing_status p (InManifestSync taken) h =
       either_way (Then (λ s. Managing p s.image s.stage)) (c.manifest == 0) _ _
       (elim [ Works ↦ h | FailsOld fault ↦ tt | FailsNew fault ↦ tt ])
       (λ luck. h)
-  managing_status p (InManifest taken passed) h = λ luck. tt
-  managing_status p InManifestSyncComplete h = λ luck. h
-  managing_status p InDfuIdle h = λ luck. h
-  managing_status p InManifestWaitReset h = λ luck. h
-  managing_status p (InError code) h = λ luck. tt
-  managing_status p stage h = λ luck. elim h [ ]
+  managing_status p stage h = λ luck. search
 
   managing_time : (p : List ℕ) (ms : ℕ) (stage : Stage) → Managing p i stage → Then (λ s. Managing p s.image s.stage) (time_plan c stage ms)
   managing_time p ms (InManifest taken passed) h =
@@ -57,43 +45,27 @@ module _ (c : Profile) (i : List ℕ) where
       (elim [ Works ↦ h | FailsOld fault ↦ tt | FailsNew fault ↦ tt ])
       (elim [ Works ↦ h | FailsOld fault ↦ tt | FailsNew fault ↦ tt ]))
       (λ luck. h))
-  managing_time p ms (InManifestSync taken) h = λ luck. h
-  managing_time p ms InManifestSyncComplete h = λ luck. h
-  managing_time p ms InDfuIdle h = λ luck. h
-  managing_time p ms InManifestWaitReset h = λ luck. h
-  managing_time p ms (InError code) h = λ luck. tt
-  managing_time p ms stage h = λ luck. elim h [ ]
+  managing_time p ms stage h = λ luck. search
 
   asking_state : (p : List ℕ) (t n : ℕ) (stage : Stage) → Asking p t n stage → Then (λ s. Asking p t n s.stage) (plan c i stage GetState)
   asking_state p t n InDfuIdle h luck = h
-  asking_state p t n (InDownloadIdle taken number) h luck = h
-  asking_state p t n (InDownloadSync before block number) h luck = h
-  asking_state p t n (InError code) h luck = tt
-  asking_state p t n stage h luck = elim h [ ]
+  asking_state p t n stage h luck = search
 
   asking_time : (p : List ℕ) (t n ms : ℕ) (stage : Stage) → Asking p t n stage → Then (λ s. Asking p t n s.stage) (time_plan c stage ms)
   asking_time p t n ms InDfuIdle h luck = h
-  asking_time p t n ms (InDownloadIdle taken number) h luck = h
-  asking_time p t n ms (InDownloadSync before block number) h luck = h
-  asking_time p t n ms (InError code) h luck = tt
-  asking_time p t n ms stage h luck = elim h [ ]
+  asking_time p t n ms stage h luck = search
 
   begun_time : (p : List ℕ) (t n ms : ℕ) (stage : Stage) → Begun p t n stage → Then (λ s. Begun p t n s.stage) (time_plan c stage ms)
   begun_time p t n ms InDfuIdle h luck = h
-  begun_time p t n ms (InDownloadIdle taken number) h luck = h
-  begun_time p t n ms stage h luck = elim h [ ]
+  begun_time p t n ms stage h luck = search
 
   last_state : (p : List ℕ) (stage : Stage) → AskingLast p stage → Then (λ s. AskingLast p s.stage) (plan c i stage GetState)
   last_state p (InDownloadIdle taken number) h luck = h
-  last_state p (InManifestSync taken) h luck = h
-  last_state p (InError code) h luck = tt
-  last_state p stage h luck = elim h [ ]
+  last_state p stage h luck = search
 
   last_time : (p : List ℕ) (ms : ℕ) (stage : Stage) → AskingLast p stage → Then (λ s. AskingLast p s.stage) (time_plan c stage ms)
   last_time p ms (InDownloadIdle taken number) h luck = h
-  last_time p ms (InManifestSync taken) h luck = h
-  last_time p ms (InError code) h luck = tt
-  last_time p ms stage h luck = elim h [ ]
+  last_time p ms stage h luck = search
 
   whole_time : (p : List ℕ) (ms : ℕ) (stage : Stage) → AllTaken p stage → Then (λ s. AllTaken p s.stage) (time_plan c stage ms)
   whole_time p ms (InDownloadIdle taken number) h luck = h
@@ -134,40 +106,13 @@ module _ (c : Profile) (i : List ℕ) where
   fact_time p (WaitManifest poll) ms stage h luck = managing_time p ms stage h luck
   fact_time p (Last report) ms stage h luck = last_report_time p ms report stage h luck
   fact_time p (Over report) ms stage h luck = over_time p ms report stage h luck
-  fact_time p (Fetch k kept) ms stage h luck = elim h [ ]
-  fact_time p (LastUploaded kept) ms stage h luck = elim h [ ]
-  fact_time p (OverUploaded kept) ms stage h luck = elim h [ ]
-  fact_time p (Compare k) ms stage h luck = elim h [ ]
-  fact_time p phase ms stage h luck = tt
+  fact_time p phase ms stage h luck = h
 
-  -- The phases that ask for the status, and what they know.
-  abbrev pub AsksStatus : Phase → Type 0
-  AsksStatus Find = Unit {0}
-  AsksStatus FindAgain = Unit {0}
-  AsksStatus Trouble = Unit {0}
-  AsksStatus (Poll n) = Unit {0}
-  AsksStatus Manifest = Unit {0}
-  AsksStatus phase = ⊥
-
-  -- A phase that asks for the state alone.
-  abbrev pub AsksState : Phase → Type 0
-  AsksState (Ask n) = Unit {0}
-  AsksState AskLast = Unit {0}
-  AsksState phase = ⊥
-
-  -- GETSTATUS keeps the fact of the phases that ask for it.
-  pub fact_status : (p : List ℕ) (phase : Phase) (stage : Stage) → AsksStatus phase → Fact c p phase (record { image = i; stage = stage })
-      → Then (Fact c p phase) (plan c i stage GetStatus)
-  fact_status p (Poll n) stage a h luck = (h.0, holds_status (first p c.transfer (suc n)) stage h.1 luck)
-  fact_status p Manifest stage a h luck = managing_status p stage h luck
-  fact_status p Find stage a h luck = tt
-  fact_status p FindAgain stage a h luck = tt
-  fact_status p Trouble stage a h luck = tt
-  fact_status p phase stage a h luck = elim a [ ]
-
-  -- GETSTATE keeps the fact of the phases that ask for it.
-  pub fact_state : (p : List ℕ) (phase : Phase) (stage : Stage) → AsksState phase → Fact c p phase (record { image = i; stage = stage })
-      → Then (Fact c p phase) (plan c i stage GetState)
-  fact_state p (Ask n) stage a h luck = (h.0, asking_state p c.transfer n stage h.1 luck)
-  fact_state p AskLast stage a h luck = last_state p stage h luck
-  fact_state p phase stage a h luck = elim a [ ]
+  -- What a phase asks for keeps its fact.
+  pub fact_asked : (r : Request) (p : List ℕ) (phase : Phase) (stage : Stage) → Asks r phase
+      → Fact c p phase (record { image = i; stage = stage }) → Then (Fact c p phase) (plan c i stage r)
+  fact_asked GetStatus p (Poll n) stage a h luck = (h.0, holds_status (first p c.transfer (suc n)) stage h.1 luck)
+  fact_asked GetStatus p Manifest stage a h luck = managing_status p stage h luck
+  fact_asked GetState p (Ask n) stage a h luck = (h.0, asking_state p c.transfer n stage h.1 luck)
+  fact_asked GetState p AskLast stage a h luck = last_state p stage h luck
+  fact_asked r p phase stage a h luck = search

@@ -1,3 +1,4 @@
+pub mod Choices
 pub mod Quiet
 pub mod Tells
 pub mod Kept
@@ -21,7 +22,6 @@ pub mod Verified
 pub mod CleanCompare
 pub mod Turns
 pub mod Clean
-pub mod Reserved
 pub mod Saying
 pub mod Replies
 pub mod Actions
@@ -38,6 +38,6 @@ pub mod Offered
 pub mod HeadlineKept
 pub mod CleanRuns
 pub mod CleanStops
-mod DoneOnce
+pub mod DoneOnce
 mod Harmed
 pub mod Refusals

@@ -1,10 +1,10 @@
 -- What a session machine has was offered by the sessions that have begun.
 use Rattle.std.proofs.Common.{◌≡◌, ◌⊎◌, inl, inr, ℕ, Bool, List, [], ◌∷◌, ◌++◌, Option, sym, ◌∙◌, subst}
 use Rattle.dfu_host.specs.declared.report.Report.{Report}
-use Rattle.dfu_sim.specs.Session.{Machine, Loading, IsOneOf, Says, says_not, says_installed, says_verified, says_uploaded, says_other, Kind, AnOffer, AnUpload, SaysInPlace, Step, offered, uploads, aborts, passes, passes_installed, restarts, goes, stops, and_then, said}
+use Rattle.dfu_sim.specs.Session.{Machine, Loading, IsOneOf, Says, says_not, Kind, AnOffer, AnUpload, SaysInPlace, Step, offered, uploads, restarts, goes, stops, and_then, said}
 use Rattle.dfu_sim.specs.Simulation.{offers_after}
 use Rattle.dfu_sim.specs.Bench.{LinkState}
-use Rattle.dfu_sim.specs.Happening.{Happening, Offers, Uploads, Aborts, Goes, Passes, Resets, Cuts}
+use Rattle.dfu_sim.specs.Happening.{Happening, Offers, Uploads}
 use Rattle.dfu_sim.specs.Following.{IsOfKind, IsFollowed}
 use Rattle.dfu_sim.specs.BegunBy.{begun_by}
 use Rattle.dfu_sim.specs.Headline.{Begun, IsPayload, WasOffered, IsLastPayload}
@@ -15,10 +15,7 @@ use Rattle.dfu_sim.proofs.Saying.{begins_live, ends_live, only_offered, step_liv
 says_live : {tolerant : Bool} {m m' : Machine} {report : Option Report} (x : List ℕ) → Says tolerant m report m' → m'.live ≡ Loading x
     → m.live ≡ Loading x
 says_live x says_not e = e
-says_live x (says_installed live none tolerant) e = absurd cc
-says_live x (says_verified live none) e = absurd cc
-says_live x (says_uploaded live) e = absurd cc
-says_live x (says_other plain one) e = absurd cc
+says_live x s e = absurd cc
 
 -- After an event of this kind this payload can be live: the event offered it, or it was live before.
 abbrev IsLiveBy : Kind → Machine → List ℕ → Type 0
@@ -30,22 +27,16 @@ live_by : {tolerant : Bool} {t : ℕ} {kind : Kind} {m m' : Machine} {report : O
     → Step tolerant t kind m report m' → m'.live ≡ Loading x → IsLiveBy kind m x
 live_by x (offered none) e = cc
 live_by x (uploads none) e = absurd cc
-live_by x aborts e = e
-live_by x passes e = e
-live_by x (passes_installed some h) e = e
 live_by x (restarts s plain) e = says_live x s e
 live_by x (goes b d s) e = sym (ends_live d ∙ begins_live b) ∙ says_live x s e
+live_by x s e = e
 
 in_place_by : {tolerant : Bool} {t : ℕ} {kind : Kind} {m m' : Machine} {report : Option Report} → Step tolerant t kind m report m'
     → SaysInPlace report → IsLiveBy kind m m'.cur
-in_place_by (offered none) e = elim e [ ]
-in_place_by (uploads none) e = elim e [ ]
-in_place_by aborts e = elim e [ ]
-in_place_by passes e = elim e [ ]
-in_place_by (passes_installed some h) e = elim e [ ]
 in_place_by {tolerant = tolerant} {t = t} {m = m} (restarts s plain) e =
     step_live {tolerant = tolerant} {t = t} (restarts {m = m} s plain) e
 in_place_by {tolerant = tolerant} {t = t} (goes b d s) e = step_live {tolerant = tolerant} {t = t} (goes b d s) e
+in_place_by s e = elim e [ ]
 
 -- What was offered.
 
@@ -57,12 +48,7 @@ pub record IsOfPast (factory : List ℕ) (past : List Begun) (m : Machine) : Typ
 
 still_offered : (h : Happening) (past : List Begun) (x : List ℕ) → WasOffered past x → WasOffered (begun_by h past) x
 still_offered (Offers aim file limits) past x was = inr was
-still_offered (Uploads limits) past x was = was
-still_offered Aborts past x was = was
-still_offered (Goes fate harm) past x was = was
-still_offered (Passes ms) past x was = was
-still_offered Resets past x was = was
-still_offered Cuts past x was = was
+still_offered h past x was = was
 
 -- Each offer of the machine after an event was offered: by this event, or before it.
 offers_on : (h : Happening) (kind : Kind) (past : List Begun) (offers : List (List ℕ)) (x : List ℕ) → IsOfKind h kind
@@ -73,12 +59,7 @@ offers_on (Offers aim file limits) kind past offers x is all one =
       | inl e ↦ inl (subst (λ (y : List ℕ). IsPayload y file) (sym e) (is.1, is.2, is.3, is.4))
       | inr old ↦ inr (all x old)
     ]
-offers_on (Uploads limits) kind past offers x is all one = all x (subst (λ (k : Kind). IsOneOf x (offers_after (k ∷ []) offers)) is one)
-offers_on Aborts kind past offers x is all one = all x (subst (λ (k : Kind). IsOneOf x (offers_after (k ∷ []) offers)) is one)
-offers_on (Goes fate harm) kind past offers x is all one = all x (subst (λ (k : Kind). IsOneOf x (offers_after (k ∷ []) offers)) is one)
-offers_on (Passes ms) kind past offers x is all one = all x (subst (λ (k : Kind). IsOneOf x (offers_after (k ∷ []) offers)) is one)
-offers_on Resets kind past offers x is all one = all x (subst (λ (k : Kind). IsOneOf x (offers_after (k ∷ []) offers)) is one)
-offers_on Cuts kind past offers x is all one = all x (subst (λ (k : Kind). IsOneOf x (offers_after (k ∷ []) offers)) is one)
+offers_on h kind past offers x is all one = all x (subst (λ (k : Kind). IsOneOf x (offers_after (k ∷ []) offers)) is one)
 
 -- A payload that can be live after an event is that of the last session.
 last_on : (h : Happening) (kind : Kind) (past : List Begun) (m : Machine) (x : List ℕ) → IsOfKind h kind
@@ -87,11 +68,7 @@ last_on (Offers aim file limits) kind past m x is all by =
     let same : is.0 ≡ x = subst (λ (k : Kind). IsLiveBy k m x) is.5 by in
     subst (λ (y : List ℕ). IsPayload y file) same (is.1, is.2, is.3, is.4)
 last_on (Uploads limits) kind past m x is all by = absurd (subst (λ (k : Kind). IsLiveBy k m x) is by)
-last_on Aborts kind past m x is all by = all x (subst (λ (k : Kind). IsLiveBy k m x) is by)
-last_on (Goes fate harm) kind past m x is all by = all x (subst (λ (k : Kind). IsLiveBy k m x) is by)
-last_on (Passes ms) kind past m x is all by = all x (subst (λ (k : Kind). IsLiveBy k m x) is by)
-last_on Resets kind past m x is all by = all x (subst (λ (k : Kind). IsLiveBy k m x) is by)
-last_on Cuts kind past m x is all by = all x (subst (λ (k : Kind). IsLiveBy k m x) is by)
+last_on h kind past m x is all by = all x (subst (λ (k : Kind). IsLiveBy k m x) is by)
 
 -- It stays so with each event that the machine follows.
 pub past_on : {factory : List ℕ} {past : List Begun} {m : Machine} {w w' : LinkState} (h : Happening) {report : Option Report}

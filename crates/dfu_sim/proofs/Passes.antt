@@ -1,5 +1,5 @@
 -- Passes of a session, one after the other, for every budget.
-use Rattle.std.proofs.Common.{◌≡◌, ℕ, suc, ◌+◌, Bool, true, false, List, refl, ap, ◌∙◌, subst, arith}
+use Rattle.std.proofs.Common.{◌≡◌, ℕ, suc, ◌+◌, Bool, List, refl, ap, ◌∙◌, subst, arith}
 use Rattle.dfu_device.specs.Stage.{Profile, Stage}
 use Rattle.dfu_device.specs.Outcome.{Luck, Works}
 use Rattle.dfu_host.specs.Phases.{Goal, Phase, Over, OverUploaded, Heard}
@@ -18,11 +18,6 @@ both_ways {c = c} {a = a} {d = d} {k = k} here q = subst (λ n. Quietly c a n d)
 both_ways {c = c} {a = a} {d = d} {k = k} (there {n = j} e q) r =
     subst (λ n. Quietly c a n d) (let e : suc (j + k) ≡ suc j + k = omega arith in e) (there e (both_ways q r))
 
--- Cases on a test, with its equation.
-pub split : {P : Type 0} (t : Bool) → (t ≡ true → P) → (t ≡ false → P) → P
-split true f g = f refl
-split false f g = g refl
-
 module _ (c : Profile) (goal : Goal) (again : ℕ) where
   -- The host of a session with this goal, in a phase.
   abbrev pub host_at : Phase → ℕ → HostState
@@ -35,19 +30,6 @@ module _ (c : Profile) (goal : Goal) (again : ℕ) where
   -- With budget enough, k passes lead from one phase to another.
   pub record Leads (i : List ℕ) (s : Stage) (phase : Phase) (k : ℕ) (j : List ℕ) (t : Stage) (next : Phase) : Type 0 where
     pub by : (l : ℕ) → Quietly c (at i s phase (k + suc l)) k (at j t next (suc l))
-
-  -- Passes lead on to where more passes lead.
-  pub leads_on : {i j m : List ℕ} {s t u : Stage} {a b d : Phase} {k n : ℕ} → Leads i s a k j t b → Leads j t b n m u d
-      → Leads i s a (k + n) m u d
-  leads_on {i = i} {j = j} {m = m} {s = s} {t = t} {u = u} {a = a} {b = b} {d = d} {k = k} {n = n} x y = record {
-    by = λ l.
-        let e : n + suc l ≡ suc (n + l) = omega arith in
-        let f : k + suc (n + l) ≡ k + n + suc l = omega arith in
-        let q : Quietly c (at i s a (k + suc (n + l))) k (at j t b (suc (n + l))) = x.by (n + l) in
-        let r = y.by l in
-        subst (λ z. Quietly c (at i s a z) (k + n) (at m u d (suc l))) f
-        (both_ways q (subst (λ z. Quietly c (at j t b z) n (at m u d (suc l))) e r));
-  }
 
   -- No pass leads nowhere else.
   pub none : {i : List ℕ} {s : Stage} {phase : Phase} → Leads i s phase 0 i s phase
@@ -86,3 +68,19 @@ module _ (c : Profile) (goal : Goal) (again : ℕ) where
       record { link = record { device = d.device; session = q.session }; answer = q.answer }) (e k)
       ∙ ap (λ (q : Took). record { link = record { device = record { image = j; stage = t }; session = q.session }; answer = q.answer })
       (f l room ∙ ap (λ x. comes_to x l) g ∙ comes_on next l on))
+
+-- Passes lead on to where more passes lead.
+pub leads_on : {c : Profile} {goal : Goal} {again : ℕ} {i j m : List ℕ} {s t u : Stage} {a b d : Phase} {k n : ℕ}
+    → Leads c goal again i s a k j t b → Leads c goal again j t b n m u d → Leads c goal again i s a (k + n) m u d
+leads_on {c = c} {goal = goal} {again = again} {i = i} {j = j} {m = m} {s = s} {t = t} {u = u} {a = a} {b = b} {d = d} {k = k} {n = n} x y =
+    record {
+      by = λ l.
+          let from = at c goal again i s a in
+          let mid = at c goal again j t b in
+          let end = at c goal again m u d (suc l) in
+          let e : n + suc l ≡ suc (n + l) = omega arith in
+          let f : k + suc (n + l) ≡ k + n + suc l = omega arith in
+          let q : Quietly c (from (k + suc (n + l))) k (mid (suc (n + l))) = x.by (n + l) in
+          let r = y.by l in
+          subst (λ z. Quietly c (from z) (k + n) end) f (both_ways q (subst (λ z. Quietly c (mid z) n end) e r));
+    }

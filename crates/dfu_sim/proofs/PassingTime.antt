@@ -1,5 +1,5 @@
 -- Time that passes between the actions of a host.
-use Rattle.std.proofs.Common.{◌≡◌, ℕ, ◌+◌, ◌==◌, nat_le, max, List, ◌++◌, Some, None, refl}
+use Rattle.std.proofs.Common.{◌≡◌, ℕ, ◌+◌, ◌==◌, nat_le, max, List, None, refl}
 use Rattle.dfu_device.specs.Stage.{Ack, Profile, Stage, InAppDetach, InDfuIdle, InDownloadBusy, InManifestSyncComplete, InManifest, InManifestWaitReset, InUploadIdle}
 use Rattle.dfu_device.specs.Table.{Plan, Commits, time_plan}
 use Rattle.dfu_device.specs.Outcome.{Situation, Works, outcome, elapsed}
@@ -15,27 +15,25 @@ use Rattle.dfu_sim.proofs.Kept.{fact_time}
 use Rattle.dfu_sim.proofs.Taking.{shown}
 
 module _ (c : Profile) (offers : List (List ℕ)) where
-  -- Time that passes installs what was closed, or does nothing.
-  pub time_steps : (i : List ℕ) (ms : ℕ) (stage : Stage) (live : Live) (up : List ℕ) → IsSound offers stage →
-      let s = (outcome i (time_plan c stage ms) Works).after in
+  -- What comes of this plan of a time is a step of the session machine, and bytes that were closed stay an offer.
+  abbrev pub Steps : List ℕ → Stage → Live → List ℕ → Plan → Type 0
+  Steps i stage live up p = let s = (outcome i p Works).after in
       Step c.tolerant c.transfer ATime (shown offers i (pending_of stage) live up) None (shown offers s.image (pending_of s.stage) live up)
       × IsSound offers s.stage
+
+  -- Time that passes installs what was closed, or does nothing.
+  pub time_steps : (i : List ℕ) (ms : ℕ) (stage : Stage) (live : Live) (up : List ℕ) → IsSound offers stage
+      → Steps i stage live up (time_plan c stage ms)
   time_steps i ms (InAppDetach timer passed) live up h =
-      let P : Plan → Type 0 = λ p. let s = (outcome i p Works).after in
-      Step c.tolerant c.transfer ATime (shown offers i None live up) None (shown offers s.image (pending_of s.stage) live up)
-      × IsSound offers s.stage in
+      let P : Plan → Type 0 = Steps i (InAppDetach timer passed) live up in
       either_way P (ms == 0) _ _ (passes, tt)
       (either_way P c.will_detach _ _ (passes, tt)
       (either_way P (nat_le (max 1 timer) (passed + ms)) _ _ (passes, tt) (passes, tt)))
   time_steps i ms (InDownloadBusy before block number passed) live up h =
-      let P : Plan → Type 0 = λ p. let s = (outcome i p Works).after in
-      Step c.tolerant c.transfer ATime (shown offers i (Some (before ++ block)) live up) None
-      (shown offers s.image (pending_of s.stage) live up) × IsSound offers s.stage in
+      let P : Plan → Type 0 = Steps i (InDownloadBusy before block number passed) live up in
       either_way P (ms == 0) _ _ (passes, tt) (either_way P (nat_le c.busy (passed + ms)) _ _ (passes, tt) (passes, tt))
   time_steps i ms (InManifest taken passed) live up h =
-      let P : Plan → Type 0 = λ p. let s = (outcome i p Works).after in
-      Step c.tolerant c.transfer ATime (shown offers i (Some taken) live up) None (shown offers s.image (pending_of s.stage) live up)
-      × IsSound offers s.stage in
+      let P : Plan → Type 0 = Steps i (InManifest taken passed) live up in
       either_way P (ms == 0) _ _ (passes, h)
       (either_way P (nat_le c.manifest (passed + ms)) _ _
       (either_way (λ st. P (Commits taken Ack st (λ fault. Ack))) c.tolerant InManifestSyncComplete InManifestWaitReset

@@ -10,9 +10,9 @@ use Rattle.dfu_device.specs.Came.{time_came}
 use Rattle.dfu_host.specs.Phases.{Phase, Fetch, Deed, Heard, Part, NoRoom}
 use Rattle.dfu_host.specs.Table.{deed}
 use Rattle.dfu_host.specs.Host.{wants_memory}
-use Rattle.dfu_sim.specs.Happening.{Fate, Harm, Happening, Offers, Uploads, Aborts, Goes, Passes, Resets, Cuts}
+use Rattle.dfu_sim.specs.Happening.{Fate, Harm, Happening, Goes, Passes, Cuts}
 use Rattle.dfu_sim.specs.declared.course.Harming.{Harming}
-use Rattle.dfu_sim.specs.declared.course.Harming.TheVariants.{NoWrite, CutsPower, FailsWrite, LiesInWrite}
+use Rattle.dfu_sim.specs.declared.course.Harming.TheVariants.{CutsPower}
 use Rattle.dfu_sim.specs.Course.{Course, course_of}
 use Rattle.dfu_sim.specs.Play.{Answered, remembered, has_room, over, acted, took, told, played, gone, IsAllowed}
 use Rattle.dfu_sim.specs.Bench.{Session, Bench}
@@ -36,22 +36,16 @@ powered_profile : (w : Shown) → profile (powered_up w) ≡ profile w
 powered_profile w = λ k. record (profile w) { capacity = room_restarted w.slots Whole k }
 
 after_situation : (harming : Harming) (w : Shown) → situation (left_by harming w) ≡ over harming (situation w)
-after_situation NoWrite w = armed_situation w Whole
 after_situation CutsPower w = powered_situation w
-after_situation FailsWrite w = armed_situation w Whole
-after_situation LiesInWrite w = armed_situation w Whole
+after_situation harming w = armed_situation w Whole
 
 after_profile : (harming : Harming) (w : Shown) → profile (left_by harming w) ≡ profile w
-after_profile NoWrite w = armed_profile w Whole
 after_profile CutsPower w = powered_profile w
-after_profile FailsWrite w = armed_profile w Whole
-after_profile LiesInWrite w = armed_profile w Whole
+after_profile harming w = armed_profile w Whole
 
 after_whole : (harming : Harming) (w : Shown) → (left_by harming w).slots.medium.fuse ≡ Whole
-after_whole NoWrite w = refl
 after_whole CutsPower w = refl
-after_whole FailsWrite w = refl
-after_whole LiesInWrite w = refl
+after_whole harming w = refl
 
 -- The fuse of the medium in an event: only an action can be harmed.
 abbrev pub fuse_in : Happening → Fuse
@@ -106,30 +100,30 @@ goes_show fate harm b b' answer allowed g =
       );
     }
 
--- An event that comes at once to this bench, whatever the medium does.
-at_once : (b b' now : Bench) (event : Happening) (answer said : Answered) → IsAllowed b.session event → b.device.slots.medium.fuse ≡ Whole
+-- An event that goes at the luck that the medium works, whatever it does.
+at_luck : (b b' : Bench) (event : Happening) (answer : Answered) → IsAllowed b.session event
+    → played (profile b.device) (link_of b) event Works Works true ≡ record { link = link_of b'; answer = answer }
+    → profile b'.device ≡ profile b.device → b'.device.slots.medium.fuse ≡ Whole → Showed b event Whole b' answer
+at_luck b b' event answer allowed same fixed whole = record {
+  shown = record {
+    play = record { allowed = allowed; first = Works; second = Works; room = true; same = same };
+    fixed = fixed;
+    unarmed = whole;
+  };
+  sure = λ always. (true, same);
+}
+
+-- An event that comes at once to this bench.
+at_once : (b b' now : Bench) (event : Happening) (answer said : Answered) → IsAllowed b.session event
     → played (profile b.device) (link_of b) event Works Works true ≡ record { link = link_of now; answer = said }
     → profile now.device ≡ profile b.device → now.device.slots.medium.fuse ≡ Whole
     → b' ≡ now → answer ≡ said → Showed b event Whole b' answer
-at_once b b' now event answer said allowed unarmed same fixed whole e f =
-    let there : played (profile b.device) (link_of b) event Works Works true ≡ record { link = link_of b'; answer = answer } = same
-    ∙ (λ i. record { link = link_of (sym e i); answer = sym f i }) in
-    record {
-      shown = record {
-        play = record { allowed = allowed; first = Works; second = Works; room = true; same = there };
-        fixed = ap (λ (z : Bench). profile z.device) e ∙ fixed;
-        unarmed = ap (λ (z : Bench). z.device.slots.medium.fuse) e ∙ whole;
-      };
-      sure = λ whole. (true, there);
-    }
+at_once b b' now event answer said allowed same fixed whole e f =
+    at_luck b b' event answer allowed (same ∙ (λ i. record { link = link_of (sym e i); answer = sym f i }))
+    (ap (λ (z : Bench). profile z.device) e ∙ fixed) (ap (λ (z : Bench). z.device.slots.medium.fuse) e ∙ whole)
 
 shows : (event : Happening) (b b' : Bench) (answer : Answered) → IsAllowed b.session event → b.device.slots.medium.fuse ≡ Whole
     → Happens event b b' answer → Showed b event (fuse_in event) b' answer
-shows (Offers aim payload limits) b b' answer allowed unarmed (e, f) =
-    at_once b b' _ (Offers aim payload limits) answer _ allowed unarmed refl refl unarmed e f
-shows (Uploads limits) b b' answer allowed unarmed (e, f) =
-    at_once b b' _ (Uploads limits) answer _ allowed unarmed refl refl unarmed e f
-shows Aborts b b' answer allowed unarmed (e, f) = at_once b b' _ Aborts answer _ allowed unarmed refl refl unarmed e f
 shows (Goes fate harm) b b' answer allowed unarmed g = goes_show fate harm b b' answer allowed g
 shows (Passes ms) b b' answer allowed unarmed (e, s, n) =
     let y = time_came ms b.device b'.device e in
@@ -137,24 +131,13 @@ shows (Passes ms) b b' answer allowed unarmed (e, s, n) =
     let there : elapsed (profile b.device) (situation b.device) ms Works
     ≡ situation b'.device = ap (λ (l : Luck). elapsed (profile b.device) (situation b.device) ms l) (sym works.0)
     ∙ ap (λ (o : Outcome). o.after) y.same in
-    let same : played (profile b.device) (link_of b) (Passes ms) Works Works true
-    ≡ record { link = link_of b'; answer = answer } = λ i. record {
-      link = record { device = there i; session = sym s i };
-      answer = sym n i;
-    } in
-    record {
-      shown = record {
-        play = record { allowed = allowed; first = Works; second = Works; room = true; same = same };
-        fixed = y.fixed;
-        unarmed = works.1;
-      };
-      sure = λ whole. (true, same);
-    }
-shows Resets b b' answer allowed unarmed (e, f) = at_once b b' _ Resets answer _ allowed unarmed refl refl unarmed e f
+    at_luck b b' (Passes ms) answer allowed
+    (λ i. record { link = record { device = there i; session = sym s i }; answer = sym n i }) y.fixed works.1
 shows Cuts b b' answer allowed unarmed (e, f) =
-    at_once b b' _ Cuts answer _ allowed unarmed (λ i. let t = told b.session in
+    at_once b b' _ Cuts answer _ allowed (λ i. let t = told b.session in
     record { link = record { device = sym (powered_situation b.device) i; session = t.session }; answer = t.answer })
     (powered_profile b.device) refl e f
+shows event b b' answer allowed unarmed h = at_once b b' _ event answer _ allowed refl refl unarmed h.0 h.1
 
 -- Each play with its bytes is a play of the links that are shown.
 pub bytes_show : BytesShow

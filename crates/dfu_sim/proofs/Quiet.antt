@@ -1,7 +1,7 @@
 -- What the device does when no block is sent to it.
 use Rattle.std.proofs.Common.{◌≡◌, ℕ, ◌+◌, ◌==◌, nat_le, max, List, ◌++◌, Option, Some, None, refl, sym, ◌∙◌, subst}
 use Rattle.dfu_slots.specs.declared.fault.WriteFault.{WriteFault}
-use Rattle.dfu_device.specs.Stage.{Request, Detach as AskDetach, Dnload, Upload, GetStatus, ClrStatus, GetState, Abort, OtherRequest, Reply, Ack, Profile, Stage, InAppIdle, InAppDetach, InDfuIdle, InDownloadSync, InDownloadSyncWritten, InDownloadBusy, InDownloadIdle, InManifestSync, InManifestSyncComplete, InManifest, InManifestWaitReset, InUploadIdle, InError}
+use Rattle.dfu_device.specs.Stage.{Request, Dnload, Upload, GetStatus, GetState, OtherRequest, Reply, Ack, Profile, Stage, InAppIdle, InAppDetach, InDfuIdle, InDownloadSync, InDownloadSyncWritten, InDownloadBusy, InDownloadIdle, InManifestSync, InManifestSyncComplete, InManifest, InManifestWaitReset}
 use Rattle.dfu_device.specs.Table.{Plan, Writes, Commits, plan, time_plan}
 use Rattle.dfu_device.specs.Outcome.{Situation, Luck, Works, FailsOld, FailsNew, outcome, was_reset}
 use Rattle.dfu_device.specs.Cases.{either_way}
@@ -49,8 +49,7 @@ module _ (c : Profile) (offers : List (List ℕ)) (i : List ℕ) where
       → After c offers (At stage) (Writes before block a next b)
   quiet_writing stage before block a b number next e f h Works =
       record { moves = subst (λ q. Quiet offers i (pending_of stage) i q) (e ∙ sym f) stays; sound = h }
-  quiet_writing stage before block a b number next e f h (FailsOld fault) = record { moves = forgets; sound = tt }
-  quiet_writing stage before block a b number next e f h (FailsNew fault) = record { moves = forgets; sound = tt }
+  quiet_writing stage before block a b number next e f h luck = record { moves = forgets; sound = tt }
 
   quiet_commit : (stage : Stage) (taken : List ℕ) (a : Reply) (b : WriteFault → Reply) (next : Stage) → pending_of stage ≡ Some taken
       → IsOneOf taken offers → pending_of next ≡ None → IsSound offers next → After c offers (At stage) (Commits taken a next b)
@@ -67,26 +66,18 @@ module _ (c : Profile) (offers : List (List ℕ)) (i : List ℕ) where
 
   -- GETSTATUS is quiet in each state.
   pub quiet_status : (stage : Stage) → IsSound offers stage → After c offers (At stage) (plan c i stage GetStatus)
-  quiet_status InAppIdle h luck = record { moves = stays; sound = tt }
-  quiet_status (InAppDetach timer passed) h luck = record { moves = stays; sound = tt }
-  quiet_status InDfuIdle h luck = record { moves = stays; sound = tt }
   quiet_status (InDownloadSync before block number) h luck =
       either_way (λ p. IsQuiet offers (At (InDownloadSync before block number)) (outcome i p luck).after) (c.busy == 0) _ _
       (quiet_writing (InDownloadSync before block number) before block _ _ number
       (InDownloadIdle (before ++ block) number) refl refl tt luck)
       (record { moves = stays; sound = tt })
-  quiet_status (InDownloadSyncWritten taken number) h luck = record { moves = stays; sound = tt }
   quiet_status (InDownloadBusy before block number passed) h luck = record { moves = forgets; sound = tt }
-  quiet_status (InDownloadIdle taken number) h luck = record { moves = stays; sound = tt }
   quiet_status (InManifestSync taken) h luck =
       either_way (λ p. IsQuiet offers (At (InManifestSync taken)) (outcome i p luck).after) (c.manifest == 0) _ _
       (quiet_commit (InManifestSync taken) taken _ _ InDfuIdle refl h refl tt luck)
       (record { moves = stays; sound = h })
-  quiet_status InManifestSyncComplete h luck = record { moves = stays; sound = tt }
   quiet_status (InManifest taken passed) h luck = record { moves = forgets; sound = tt }
-  quiet_status InManifestWaitReset h luck = record { moves = stays; sound = tt }
-  quiet_status (InUploadIdle place number) h luck = record { moves = stays; sound = tt }
-  quiet_status (InError code) h luck = record { moves = stays; sound = tt }
+  quiet_status stage h luck = record { moves = stays; sound = h }
 
   quiet_state : (stage : Stage) → IsSound offers stage → After c offers (At stage) (plan c i stage GetState)
   quiet_state InAppIdle h luck = record { moves = stays; sound = tt }
@@ -98,15 +89,11 @@ module _ (c : Profile) (offers : List (List ℕ)) (i : List ℕ) where
   pub quiet_polite : (r : Request) (stage : Stage) → IsPolite r → IsSound offers stage → After c offers (At stage) (plan c i stage r)
   quiet_polite GetStatus stage p h luck = quiet_status stage h luck
   quiet_polite GetState stage p h luck = quiet_state stage h luck
-  quiet_polite (AskDetach timeout) InAppIdle p h luck = record { moves = forgets; sound = tt }
-  quiet_polite (AskDetach timeout) stage p h luck = record { moves = forgets; sound = tt }
-  quiet_polite ClrStatus InAppIdle p h luck = record { moves = forgets; sound = tt }
-  quiet_polite ClrStatus stage p h luck = record { moves = forgets; sound = tt }
-  quiet_polite Abort InAppIdle p h luck = record { moves = forgets; sound = tt }
-  quiet_polite Abort stage p h luck = record { moves = forgets; sound = tt }
   quiet_polite (Dnload number body) stage p h luck = elim p [ ]
   quiet_polite (Upload number size) stage p h luck = elim p [ ]
   quiet_polite OtherRequest stage p h luck = elim p [ ]
+  quiet_polite r InAppIdle p h luck = record { moves = forgets; sound = tt }
+  quiet_polite r stage p h luck = record { moves = forgets; sound = tt }
 
   -- Time is quiet in each state.
   pub quiet_time : (ms : ℕ) (stage : Stage) → IsSound offers stage → After c offers (At stage) (time_plan c stage ms)

@@ -3,14 +3,14 @@ use Rattle.std.proofs.Common.{◌≡◌, ℕ, List, Option, Some, None, refl, sy
 use Rattle.dfu_suffix.proofs.ForCallers.{never_both, one_reading}
 use Rattle.dfu_host.specs.declared.fault.HostFault.{HostFault}
 use Rattle.dfu_sim.specs.declared.aim.Aim.{Aim}
-use Rattle.dfu_host.specs.declared.limits.Limits.{Limits}
+use Rattle.dfu_host.specs.Host.{HostState}
 use Rattle.dfu_device.specs.Setting.{Setting}
 use Rattle.dfu_sim.specs.declared.fault.LinkFault.TheVariants as fault
 use Rattle.dfu_sim.specs.declared.fault.OfferFault.{OfferFault}
 use Rattle.dfu_sim.specs.declared.fault.OfferFault.TheVariants as offer_fault
 use Rattle.dfu_sim.specs.Play.{IsAllowed}
 use Rattle.dfu_sim.specs.Bench.{Session, Nobody, Hosted}
-use Rattle.dfu_sim.specs.Happening.{Offers, Uploads, Aborts, Goes, Passes, Resets, Cuts}
+use Rattle.dfu_sim.specs.Happening.{Happening, Offers, Uploads, Aborts, Goes}
 use Rattle.dfu_sim.specs.Refusing.{first_offer_fault, IsOffered, IsBadOffer, CanGive, IsBadUpload, IsLive}
 use Rattle.dfu_sim.proofs.Events.{same_fault}
 use Rattle.dfu_sim.specs.OneAnswer.{OneRefusal, RefusedIsNoPlay, OneEvent}
@@ -53,49 +53,31 @@ bad_or_given s why x gives = x
 
 -- An event is refused as one fault.
 pub one_refusal : OneRefusal
-one_refusal b (Offers aim file limits) fault.HostBusy fault.HostBusy x y = refl
 one_refusal b (Offers aim file limits) fault.HostBusy (fault.BadOffer g) x y = absurd (subst IsLive y.0 x)
-one_refusal b (Offers aim file limits) fault.HostBusy other x y = elim y [ ]
 one_refusal b (Offers aim file limits) (fault.BadOffer f) fault.HostBusy x y = absurd (subst IsLive x.0 y)
 one_refusal b (Offers aim file limits) (fault.BadOffer f) (fault.BadOffer g) x y =
     ap (λ (why : OfferFault). fault.BadOffer why) (one_bad b.device.config aim file f g x.1 y.1)
-one_refusal b (Offers aim file limits) (fault.BadOffer f) other x y = elim y [ ]
-one_refusal b (Offers aim file limits) why other x y = elim x [ ]
-one_refusal b (Uploads limits) fault.HostBusy fault.HostBusy x y = refl
 one_refusal b (Uploads limits) fault.HostBusy (fault.BadOffer g) x y = absurd (subst IsLive y.0 x)
-one_refusal b (Uploads limits) fault.HostBusy other x y = elim y [ ]
 one_refusal b (Uploads limits) (fault.BadOffer f) fault.HostBusy x y = absurd (subst IsLive x.0 y)
 one_refusal b (Uploads limits) (fault.BadOffer f) (fault.BadOffer g) x y =
     ap (λ (why : OfferFault). fault.BadOffer why) (one_bad_upload b.device.config f g x.1 y.1)
-one_refusal b (Uploads limits) (fault.BadOffer f) other x y = elim y [ ]
-one_refusal b (Uploads limits) why other x y = elim x [ ]
 one_refusal b Aborts fault.NoHost fault.NoHost x y = refl
-one_refusal b Aborts fault.NoHost other x y = elim y [ ]
-one_refusal b Aborts why other x y = elim x [ ]
 one_refusal b (Goes fate harm) fault.NoHost fault.NoHost x y = refl
-one_refusal b (Goes fate harm) fault.NoHost other x y = elim y [ ]
-one_refusal b (Goes fate harm) why other x y = elim x [ ]
-one_refusal b (Passes ms) why other x y = elim x [ ]
-one_refusal b Resets why other x y = elim x [ ]
-one_refusal b Cuts why other x y = elim x [ ]
+one_refusal b h why other x y = search
 
 -- No play.
 
-busy_no_offer : (s : Session) (aim : Aim) (payload : List ℕ) (limits : Limits) → IsLive s → IsAllowed s (Offers aim payload limits) → ⊥
-busy_no_offer Nobody aim payload limits live a = live
-busy_no_offer (Hosted h) aim payload limits live a = a
-
-busy_no_upload : (s : Session) (limits : Limits) → IsLive s → IsAllowed s (Uploads limits) → ⊥
-busy_no_upload Nobody limits live a = live
-busy_no_upload (Hosted h) limits live a = a
+busy_no : (s : Session) (h : Happening) → ((k : HostState) → IsAllowed (Hosted k) h → ⊥) → IsLive s → IsAllowed s h → ⊥
+busy_no Nobody h never live a = live
+busy_no (Hosted k) h never live a = never k a
 
 -- An event that is refused is no play.
 pub refused_no_play : RefusedIsNoPlay
 refused_no_play b (Offers aim file limits) fault.HostBusy event x m a =
-    busy_no_offer b.session aim m.0 limits x (subst (IsAllowed b.session) m.2 a)
+    busy_no b.session (Offers aim m.0 limits) (λ k no. no) x (subst (IsAllowed b.session) m.2 a)
 refused_no_play b (Offers aim file limits) (fault.BadOffer f) event x m a = offered_not_bad b.device.config aim file m.0 f m.1 x.1
 refused_no_play b (Uploads limits) fault.HostBusy event x m a =
-    busy_no_upload b.session limits x (subst (IsAllowed b.session) m.1 a)
+    busy_no b.session (Uploads limits) (λ k no. no) x (subst (IsAllowed b.session) m.1 a)
 refused_no_play b (Uploads limits) (fault.BadOffer f) event x m a = bad_or_given b.device.config f x.1 m.0
 refused_no_play b Aborts fault.NoHost event x m a =
     subst (λ (s : Session). IsAllowed s Aborts) x (subst (IsAllowed b.session) m a)

@@ -1,11 +1,11 @@
 -- What a device answers fits the request, and is heard as it was meant.
-use Rattle.std.proofs.Common.{◌≡◌, ℕ, ◌==◌, Bool, true, false, List, [], ◌∷◌, length, take, refl, sym, ap, ◌∙◌, subst, arith, inl, inr}
+use Rattle.std.proofs.Common.{◌≡◌, ℕ, ◌==◌, Bool, true, false, List, [], ◌∷◌, length, take, sym, ap, ◌∙◌, subst, arith, inl, inr}
 use Rattle.std.proofs.lemmas.Bool.Decides.{nat_tests}
 use Rattle.dfu_device.specs.Stage.{Reply, Ack, StatusOf, StateOf, Data, Stall, Profile, Stage}
 use Rattle.dfu_device.specs.Table.{plan}
 use Rattle.dfu_device.specs.Outcome.{Luck, outcome}
 use Rattle.dfu_device.specs.Cases.{either_way}
-use Rattle.dfu_host.specs.Phases.{Task, Phase, Find, FindAgain, Detach, Enter, Clear, Quit, Block, Ask, Poll, Close, AskLast, Manifest, Trouble, Fetch, Compare, GiveUp, Deed, Send, Heard, Acked, Part, Stalled}
+use Rattle.dfu_host.specs.Phases.{Task, Phase, Enter, Deed, Send, Heard, Part}
 use Rattle.dfu_host.specs.Table.{deed}
 use Rattle.dfu_sim.specs.Play.{heard_as, remembered}
 use Rattle.dfu_wire.specs.declared.requests.Request.{Request as Asked}
@@ -19,7 +19,7 @@ use Rattle.dfu_device.specs.declared.answer.Answer.TheVariants as answer
 use Rattle.dfu_device.specs.Rows.{meant, asked_length, Answers, body_length, is_served}
 use Rattle.dfu_device.specs.Came.{status_whole}
 use Rattle.dfu_device.specs.RowForms.{given, Fits, row_form, row_fits}
-use Rattle.dfu_host.specs.Wire.{HearsBytes, ReadsState}
+use Rattle.dfu_host.specs.Wire.{ReadsState}
 use Rattle.dfu_host.specs.WireLaws.{status_understood, state_understood}
 use Rattle.dfu_sim.specs.Bytes.{HearsAnswer}
 use Rattle.dfu_sim.specs.Understood.{Understood}
@@ -42,36 +42,16 @@ HostsDeed d = Unit {0}
 
 -- What a host does in each phase is such an action.
 pub hosts_deed : (task : Task) (phase : Phase) → HostsDeed (deed task phase)
-hosts_deed task Find = (refl, refl)
-hosts_deed task FindAgain = (refl, refl)
-hosts_deed task Detach = refl
 hosts_deed task Enter = either_way HostsDeed task.will_detach _ _ tt tt
-hosts_deed task Clear = refl
-hosts_deed task Quit = refl
-hosts_deed task (Block n) = refl
-hosts_deed task (Ask n) = (refl, refl)
-hosts_deed task (Poll n) = (refl, refl)
-hosts_deed task Close = refl
-hosts_deed task AskLast = (refl, refl)
-hosts_deed task Manifest = (refl, refl)
-hosts_deed task Trouble = (refl, refl)
-hosts_deed task (Fetch k kept) = refl
-hosts_deed task (Compare k) = refl
-hosts_deed task GiveUp = refl
-hosts_deed task phase = tt
+hosts_deed task phase = search
 
 -- A request that a host sends is one of those.
 pub hosts : (task : Task) (phase : Phase) (q : Asked) (body : List ℕ) → deed task phase ≡ Send q body → IsHosts q body
 hosts task phase q body e = subst HostsDeed e (hosts_deed task phase)
 
-heard_stall : (d : Deed) (a : Answer) (out : List ℕ) (heard : Heard) → a ≡ answer.Stall → HearsAnswer d a out heard → heard ≡ Stalled
-heard_stall d a out heard e h = subst (λ (x : Answer). HearsAnswer d x out heard) e h
-
-heard_ack : (d : Deed) (a : Answer) (out : List ℕ) (heard : Heard) → a ≡ answer.Ack → HearsAnswer d a out heard → heard ≡ Acked
-heard_ack d a out heard e h = subst (λ (x : Answer). HearsAnswer d x out heard) e h
-
-heard_bytes : (d : Deed) (a : Answer) (out : List ℕ) (heard : Heard) → a ≡ answer.Bytes → HearsAnswer d a out heard → HearsBytes d out heard
-heard_bytes d a out heard e h = subst (λ (x : Answer). HearsAnswer d x out heard) e h
+-- What is heard of an answer is heard of the same answer, by another name.
+heard_same : (d : Deed) (a x : Answer) (out : List ℕ) (heard : Heard) → a ≡ x → HearsAnswer d a out heard → HearsAnswer d x out heard
+heard_same d a x out heard e h = subst (λ (y : Answer). HearsAnswer d y out heard) e h
 
 abbrev HeardAs : Reply → Heard → Type 0
 HeardAs reply heard = (room : Bool) × (heard ≡ remembered (heard_as reply) room)
@@ -80,38 +60,27 @@ HeardAs reply heard = (room : Bool) × (heard ≡ remembered (heard_as reply) ro
 pub reply_heard : (most : ℕ) (q : Asked) (body : List ℕ) (reply : Reply) (a : Answer) (out : List ℕ) (heard : Heard) → IsHosts q body
     → Fits most reply (meant q body)
     → Answers (asked_length q) reply a out → HearsAnswer (Send q body) a out heard → HeardAs reply heard
+reply_heard most q body Stall a out heard i f says h = (true, heard_same (Send q body) a answer.Stall out heard says.0 h)
+reply_heard most q body Ack a out heard i f says h = (true, heard_same (Send q body) a answer.Ack out heard says.0 h)
 reply_heard most (request.GetStatus len) body (StatusOf code poll state) a out heard i f says h =
     let whole : (a ≡ answer.Bytes) × IsStatus (record { code = code; poll_ms = poll; state = state }) out = status_whole len code poll state
     a out (omega (arith, i.0)) says in (
       true,
       status_understood (record { code = code; poll_ms = poll; state = state }) out heard whole.1
-          (heard_bytes (Send (request.GetStatus len) body) a out heard whole.0 h),
+          (heard_same (Send (request.GetStatus len) body) a answer.Bytes out heard whole.0 h),
     )
-reply_heard most (request.GetStatus len) body Stall a out heard i f says h =
-    (true, heard_stall (Send (request.GetStatus len) body) a out heard says.0 h)
-reply_heard most (request.GetStatus len) body reply a out heard i f says h = elim f [ ]
 reply_heard most (request.GetState len) body (StateOf state) a out heard i f says h =
     let whole : out ≡ state_byte state ∷ [] = says.1 ∙ ap (λ n. take n (state_byte state ∷ [])) i.0 in (
       true,
       state_understood state heard (subst (λ l. ReadsState l heard) whole
-          (heard_bytes (Send (request.GetState len) body) a out heard says.0 h)),
+          (heard_same (Send (request.GetState len) body) a answer.Bytes out heard says.0 h)),
     )
-reply_heard most (request.GetState len) body Stall a out heard i f says h =
-    (true, heard_stall (Send (request.GetState len) body) a out heard says.0 h)
-reply_heard most (request.GetState len) body reply a out heard i f says h = elim f [ ]
 reply_heard most (request.Upload block len) body (Data bytes) a out heard i f says h =
-    elim (heard_bytes (Send (request.Upload block len) body) a out heard says.0 h) [
+    elim (heard_same (Send (request.Upload block len) body) a answer.Bytes out heard says.0 h) [
       | inl part ↦ (true, part ∙ ap Part says.1)
       | inr (none, needs) ↦ (false, none)
     ]
-reply_heard most (request.Upload block len) body Stall a out heard i f says h =
-    (true, heard_stall (Send (request.Upload block len) body) a out heard says.0 h)
-reply_heard most (request.Upload block len) body reply a out heard i f says h = elim f [ ]
-reply_heard most request.OtherClass body reply a out heard i f says h = elim i [ ]
-reply_heard most request.NotDfu body reply a out heard i f says h = elim i [ ]
-reply_heard most q body Ack a out heard i f says h = (true, heard_ack (Send q body) a out heard says.0 h)
-reply_heard most q body Stall a out heard i f says h = (true, heard_stall (Send q body) a out heard says.0 h)
-reply_heard most q body reply a out heard i f says h = elim f [ ]
+reply_heard most q body reply a out heard i f says h = search
 
 -- What a plan of the table answers.
 pub plan_heard : (q : Asked) (body : List ℕ) (c : Profile) (i : List ℕ) (st : Stage) (luck : Luck) (a : Answer) (out : List ℕ)
@@ -137,12 +106,10 @@ in_served p body k e = let f : (p.kind == 0x21) ≡ false = grind (arith, nat_te
 
 -- What a host sends goes by the device's table.
 pub served : (p : Setup) (q : Asked) (body : List ℕ) → IsHosts q body → Asks p q → is_served p q body ≡ true
-served p (request.Detach timeout) body i a = out_served p body a.0.kind (ap length i ∙ sym a.1)
 served p (request.Dnload block len) body i a = out_served p body a.0.kind (sym i ∙ a.2)
 served p (request.Upload block len) body i a = in_served p body a.0.kind (ap length i)
 served p (request.GetStatus len) body i a = in_served p body a.0.kind (ap length i.1)
-served p request.ClrStatus body i a = out_served p body a.0.kind (ap length i ∙ sym a.1)
 served p (request.GetState len) body i a = in_served p body a.0.kind (ap length i.1)
-served p request.Abort body i a = out_served p body a.0.kind (ap length i ∙ sym a.1)
 served p request.OtherClass body i a = elim i [ ]
 served p request.NotDfu body i a = elim i [ ]
+served p q body i a = out_served p body a.0.kind (ap length i ∙ sym a.1)

@@ -2,14 +2,13 @@
 use Rattle.std.proofs.Common.{◌≡◌, ◌⊎◌, ℕ, Bool, List, [], ◌∷◌, Option, Some, refl, sym, ap, ◌∙◌, subst, inl, inr}
 use Rattle.dfu_host.specs.declared.report.Report.{Report}
 use Rattle.dfu_host.specs.declared.report.Report.TheVariants.{Installed, Uploaded, Verified}
-use Rattle.dfu_sim.specs.Session.{Machine, Loading, IsOneOf, Begins, begins_not, takes, installs, Ends, ends_not, drops, Says, says_not, says_installed, says_verified, says_uploaded, says_other, Kind, AnOffer, SaysInPlace, SaysNoPromise, Step, offered, uploads, aborts, passes, passes_installed, restarts, goes, stops, and_then}
+use Rattle.dfu_sim.specs.Session.{Machine, Loading, IsOneOf, Begins, begins_not, installs, Ends, ends_not, drops, Says, says_not, says_installed, says_verified, says_uploaded, says_other, Kind, AnOffer, SaysInPlace, SaysNoPromise, Step, passes_installed, restarts, goes, stops, and_then}
 use Rattle.dfu_sim.specs.Simulation.{offers_after, OnlyOffered}
 
 -- Taking or installing leaves the live session as it is.
 pub begins_live : {t : ℕ} {m m' : Machine} → Begins t m m' → m'.live ≡ m.live
 begins_live begins_not = refl
-begins_live (takes n live b f) = refl
-begins_live (installs some h) = refl
+begins_live b = refl
 
 -- Dropping what is pending leaves the live session as it is.
 pub ends_live : {m m' : Machine} → Ends m m' → m'.live ≡ m.live
@@ -17,56 +16,44 @@ ends_live ends_not = refl
 ends_live drops = refl
 
 -- A report that promises nothing doesn't say that the payload is in place.
-not_in_place : (report : Option Report) → SaysNoPromise report → SaysInPlace report → ⊥
+pub not_in_place : (report : Option Report) → SaysNoPromise report → SaysInPlace report → ⊥
 not_in_place (Some Installed) plain e = plain
 not_in_place (Some Verified) plain e = plain
 not_in_place report plain e = e
 
 says_live : {tolerant : Bool} {m m' : Machine} {report : Option Report} → Says tolerant m report m' → SaysInPlace report
     → m.live ≡ Loading m'.cur
-says_live says_not e = elim e [ ]
 says_live (says_installed live none tolerant) e = live
 says_live (says_verified live none) e = live
-says_live (says_uploaded live) e = elim e [ ]
 says_live (says_other {report = report} plain one) e = absurd (not_in_place (Some report) plain e)
+says_live s e = elim e [ ]
 
 -- Where Installed or Verified is said, the payload of the live session is the active image.
 pub step_live : {tolerant : Bool} {t : ℕ} {kind : Kind} {m m' : Machine} {report : Option Report} → Step tolerant t kind m report m'
     → SaysInPlace report → m.live ≡ Loading m'.cur
-step_live (offered none) e = elim e [ ]
-step_live (uploads none) e = elim e [ ]
-step_live aborts e = elim e [ ]
-step_live passes e = elim e [ ]
-step_live (passes_installed some h) e = elim e [ ]
 step_live {report = report} (restarts s plain) e = absurd (not_in_place report plain e)
 step_live (goes b d s) e = sym (ends_live d ∙ begins_live b) ∙ says_live s e
+step_live s e = elim e [ ]
 
 says_up : {tolerant : Bool} {m m' : Machine} {report : Option Report} → Says tolerant m report m' → report ≡ Some Uploaded → m'.up ≡ m'.cur
-says_up says_not e = absurd cc
-says_up (says_installed live none tolerant) e = absurd cc
-says_up (says_verified live none) e = absurd cc
 says_up (says_uploaded live) e = refl
 says_up (says_other plain one) e = absurd (subst SaysNoPromise e plain)
+says_up s e = absurd cc
 
 -- Where Uploaded is said, what was uploaded is the active image.
 pub step_up : {tolerant : Bool} {t : ℕ} {kind : Kind} {m m' : Machine} {report : Option Report} → Step tolerant t kind m report m'
     → report ≡ Some Uploaded → m'.up ≡ m'.cur
-step_up (offered none) e = absurd cc
-step_up (uploads none) e = absurd cc
-step_up aborts e = absurd cc
-step_up passes e = absurd cc
-step_up (passes_installed some h) e = absurd cc
 step_up (restarts s plain) e = absurd (subst SaysNoPromise e plain)
 step_up (goes b d s) e = says_up s e
+step_up s e = absurd cc
 
 -- The active image stays, or becomes one of these.
 abbrev Comes : List (List ℕ) → Machine → Machine → Type 0
 Comes offers m m' = (m'.cur ≡ m.cur) ⊎ IsOneOf m'.cur offers
 
 begins_comes : {t : ℕ} {m m' : Machine} → Begins t m m' → (m'.offers ≡ m.offers) × Comes m.offers m m'
-begins_comes begins_not = (refl, inl refl)
-begins_comes (takes n live b f) = (refl, inl refl)
 begins_comes (installs some h) = (refl, inr h)
+begins_comes b = (refl, inl refl)
 
 ends_same : {m m' : Machine} → Ends m m' → (m'.offers ≡ m.offers) × (m'.cur ≡ m.cur)
 ends_same ends_not = (refl, refl)
@@ -75,10 +62,7 @@ ends_same drops = (refl, refl)
 says_same : {tolerant : Bool} {m m' : Machine} {report : Option Report} → Says tolerant m report m'
     → (m'.offers ≡ m.offers) × (m'.cur ≡ m.cur)
 says_same says_not = (refl, refl)
-says_same (says_installed live none tolerant) = (refl, refl)
-says_same (says_verified live none) = (refl, refl)
-says_same (says_uploaded live) = (refl, refl)
-says_same (says_other plain one) = (refl, refl)
+says_same s = (refl, refl)
 
 -- The offers after one event.
 abbrev one_more : Kind → List (List ℕ) → List (List ℕ)
@@ -91,10 +75,6 @@ comes_on offers x y z (inr h) f = inr (subst (λ w. IsOneOf w offers) (sym f) h)
 
 step_comes : {tolerant : Bool} {t : ℕ} {kind : Kind} {m m' : Machine} {report : Option Report} → Step tolerant t kind m report m'
     → (m'.offers ≡ one_more kind m.offers) × Comes m.offers m m'
-step_comes (offered none) = (refl, inl refl)
-step_comes (uploads none) = (refl, inl refl)
-step_comes aborts = (refl, inl refl)
-step_comes passes = (refl, inl refl)
 step_comes (passes_installed some h) = (refl, inr h)
 step_comes (restarts s plain) = ((says_same s).0, inl (says_same s).1)
 step_comes {m = m} {m' = m'} (goes {m1 = m1} b d s) = (
@@ -102,6 +82,7 @@ step_comes {m = m} {m' = m'} (goes {m1 = m1} b d s) = (
   comes_on m.offers m.cur m1.cur m'.cur (begins_comes b).1
       ((says_same s).1 ∙ (ends_same d).1),
 )
+step_comes s = (refl, inl refl)
 
 more_offered : (x : List ℕ) (kind : Kind) (offers : List (List ℕ)) → IsOneOf x offers → IsOneOf x (one_more kind offers)
 more_offered x (AnOffer payload) offers h = inr h

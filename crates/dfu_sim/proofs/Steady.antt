@@ -10,7 +10,7 @@ use Rattle.dfu_sim.specs.declared.fault.LinkFault.{LinkFault}
 use Rattle.dfu_sim.specs.Session.{Machine, Loading}
 use Rattle.dfu_sim.specs.Play.{kind_of, Answered, given, IsAllowed}
 use Rattle.dfu_sim.specs.declared.course.Harming.{Harming}
-use Rattle.dfu_sim.specs.declared.course.Harming.TheVariants.{NoWrite, CutsPower, FailsWrite, LiesInWrite}
+use Rattle.dfu_sim.specs.declared.course.Harming.TheVariants.{NoWrite}
 use Rattle.dfu_sim.specs.Course.{course_of}
 use Rattle.dfu_sim.specs.Happening.{Harm, Happening, Offers, Uploads, Goes, Passes, Resets, Cuts}
 use Rattle.dfu_sim.specs.Bench.{Session, Nobody, Hosted, Bench, ShowsActive, LinkState, linked}
@@ -79,30 +79,48 @@ sized_by c w (Hosted host) f (inr e) = absurd cc
 
 -- One event.
 
-follows_play : (b b' : Bench) (event : Happening) (answer : Answered) (up : List ℕ) (m : Machine) → IsSteady b
-    → BeginsSized b.device.config.functional.transfer event → BytePlay b event b' answer → Agrees (link_of b) up m
-    → Follows (profile b.device) m event (link_of b') (given answer.gave up) answer.report
-follows_play b b' event answer up m steady begins play agrees =
-    follows_sized (profile b.device) (link_of b) (link_of b') up m event answer
-    (sizes b.device b.session event begins steady.fact steady.sized) steady.fact agrees (bytes_show b b' event answer play).play
+module _ {b b' : Bench} {event : Happening} {answer : Answered} (steady : IsSteady b)
+    (begins : BeginsSized b.device.config.functional.transfer event) (play : BytePlay b event b' answer) where
+  -- The session machine follows a play.
+  follows_play : (up : List ℕ) (m : Machine) → Agrees (link_of b) up m
+      → Follows (profile b.device) m event (link_of b') (given answer.gave up) answer.report
+  follows_play up m agrees =
+      follows_sized (profile b.device) (link_of b) (link_of b') up m event answer
+      (sizes b.device b.session event begins steady.fact steady.sized) steady.fact agrees (bytes_show b b' event answer play).play
 
-play_steady : (b b' : Bench) (event : Happening) (answer : Answered) → IsSteady b → BeginsSized b.device.config.functional.transfer event
-    → BytePlay b event b' answer → IsSteady b'
-play_steady b b' event answer steady begins play =
-    let s : Shows b event b' answer = bytes_show b b' event answer play in
-    let f = follows_play b b' event answer [] (machine_of (link_of b) []) steady begins play (machine_agrees (link_of b) []) in
-    record {
-      fact = subst (λ (c : Profile). SessionFact c (situation b'.device) b'.session) (sym s.fixed) f.fact;
-      unarmed = s.unarmed;
-      counted = happens_counted event b b' answer steady.sized steady.counted play.happens;
-      sized = sized_by (profile b.device) b'.device b'.session f.fact
-          (sized_or_none b.device b.session event b' answer begins steady.fact steady.sized play.allowed play.happens);
-    }
+  play_steady : IsSteady b'
+  play_steady =
+      let s : Shows b event b' answer = bytes_show b b' event answer play in
+      let f = follows_play [] (machine_of (link_of b) []) (machine_agrees (link_of b) []) in
+      record {
+        fact = subst (λ (c : Profile). SessionFact c (situation b'.device) b'.session) (sym s.fixed) f.fact;
+        unarmed = s.unarmed;
+        counted = happens_counted event b b' answer steady.sized steady.counted play.happens;
+        sized = sized_by (profile b.device) b'.device b'.session f.fact
+            (sized_or_none b.device b.session event b' answer begins steady.fact steady.sized play.allowed play.happens);
+      }
+
+  -- The active image is given, where Uploaded is reported.
+  image_given : (up : List ℕ) → answer.report ≡ Some Uploaded → given answer.gave up ≡ (link_of b').device.image
+  image_given up e =
+      let f = follows_play up (machine_of (link_of b) up) (machine_agrees (link_of b) up) in
+      sym f.agrees.up_is ∙ (step_up f.step e ∙ f.agrees.cur)
+
+  play_fits : FitsIn b.device.config.functional.transfer answer.report answer.gave
+  play_fits = happens_fits (profile b.device) (situation b.device) event b b' answer steady.fact steady.sized steady.counted play.happens
+
+-- What holds of what comes of an event holds of what its caller is told.
+told_so : {w w' : LinkState} {h : Happening} {result : Result (Option Report) LinkFault}
+    (P : LinkState → Result (Option Report) LinkFault → Type 0) (x : HasCome w h w' result)
+    → P (linked w'.bench (given (gave_of x.answer) w.up)) (shown_as x.answer) → P w' result
+told_so {w = w} {w' = w'} {result = result} P x p =
+    subst (λ (up : List ℕ). P (linked w'.bench up) result) (sym x.up_is)
+    (subst (λ (r : Result (Option Report) LinkFault). P (linked w'.bench (given (gave_of x.answer) w.up)) r) (sym x.told) p)
 
 comes_steady : {b b' : Bench} {h : Happening} {answer : Result Answered LinkFault} → IsSteady b → Comes b h b' answer → IsSteady b'
 comes_steady steady (refuses why) = steady
-comes_steady {b = b} {b' = b'} {h = h} steady (happens {event = event} {answer = answer} means play) =
-    play_steady b b' event answer steady (begins_sized b.device.config h event means) play
+comes_steady {b = b} {h = h} steady (happens {event = event} means play) =
+    play_steady steady (begins_sized b.device.config h event means) play
 
 -- What holds of a link between events holds after each event that comes.
 pub come_steady : {w w' : LinkState} {h : Happening} {result : Result (Option Report) LinkFault} → IsSteady w.bench → HasCome w h w' result
@@ -115,8 +133,7 @@ pub comes_follow : ImageShown → {b b' : Bench} {h : Happening} {answer : Resul
     → Comes b h b' answer → AllFollow (linked b up) h (linked b' (given (gave_of answer) up)) (shown_as answer)
 comes_follow shown up steady shows (refuses why) = refl
 comes_follow shown {b = b} {b' = b'} {h = h} up steady shows (happens {event = event} {answer = answer} means play) = λ m agrees.
-    let f = follows_play b b' event answer up m steady (begins_sized b.device.config h event means) play
-    (link_agrees shown b up m agrees) in
+    let f = follows_play steady (begins_sized b.device.config h event means) play up m (link_agrees shown b up m agrees) in
     record {
       kind = kind_of event;
       is = kind_is b.device.config h event means;
@@ -129,21 +146,10 @@ comes_follow shown {b = b} {b' = b'} {h = h} up steady shows (happens {event = e
 -- The session machine follows each event that comes.
 pub come_follow : ImageShown → {w w' : LinkState} {h : Happening} {result : Result (Option Report) LinkFault} → IsSteady w.bench
     → ShowsActive w'.bench → HasCome w h w' result → AllFollow w h w' result
-come_follow shown {w = w} {w' = w'} {h = h} {result = result} steady shows x =
-    let follow = comes_follow shown w.up steady shows x.comes in
-    subst (λ (up : List ℕ). AllFollow w h (linked w'.bench up) result) (sym x.up_is)
-    (subst (λ (r : Result (Option Report) LinkFault). AllFollow w h (linked w'.bench (given (gave_of x.answer) w.up)) r) (sym x.told)
-    follow)
+come_follow shown {w = w} {h = h} steady shows x =
+    told_so (λ v r. AllFollow w h v r) x (comes_follow shown w.up steady shows x.comes)
 
 -- What an upload gives.
-
--- The active image, where Uploaded is reported.
-image_given : (b b' : Bench) (event : Happening) (answer : Answered) (up : List ℕ) → IsSteady b
-    → BeginsSized b.device.config.functional.transfer event → BytePlay b event b' answer → answer.report ≡ Some Uploaded
-    → given answer.gave up ≡ (link_of b').device.image
-image_given b b' event answer up steady begins play e =
-    let f = follows_play b b' event answer up (machine_of (link_of b) up) steady begins play (machine_agrees (link_of b) up) in
-    sym f.agrees.up_is ∙ (step_up f.step e ∙ f.agrees.cur)
 
 gives_in : (b' : Bench) (up : List ℕ) (report : Option Report) (gave : Option (List ℕ)) (w : LinkState) → w.up ≡ up
     → FitsIn b'.device.config.functional.transfer report gave → (report ≡ Some Uploaded → given gave up ≡ (link_of b').device.image)
@@ -157,20 +163,16 @@ comes_give : {b b' : Bench} {h : Happening} {answer : Result Answered LinkFault}
     → Gives (linked b up) (linked b' (given (gave_of answer) up)) (shown_as answer)
 comes_give up steady (refuses why) = refl
 comes_give {b = b} {b' = b'} {h = h} up steady (happens {event = event} {answer = answer} means play) =
-    let fits = happens_fits (profile b.device) (situation b.device) event b b' answer steady.fact steady.sized steady.counted
-    play.happens in
+    let begins = begins_sized b.device.config h event means in
     let same : b.device.config.functional.transfer ≡ b'.device.config.functional.transfer = ap (λ (s : Setting). s.functional.transfer)
     (sym (happens_config event b b' answer play.happens)) in
-    gives_in b' up answer.report answer.gave (linked b up) refl (subst (λ (n : ℕ). FitsIn n answer.report answer.gave) same fits)
-    (image_given b b' event answer up steady (begins_sized b.device.config h event means) play)
+    gives_in b' up answer.report answer.gave (linked b up) refl
+    (subst (λ (n : ℕ). FitsIn n answer.report answer.gave) same (play_fits steady begins play)) (image_given steady begins play up)
 
 -- Each event that comes gives what it should.
 pub come_gives : {w w' : LinkState} {h : Happening} {result : Result (Option Report) LinkFault} → IsSteady w.bench → HasCome w h w' result
     → Gives w w' result
-come_gives {w = w} {w' = w'} {result = result} steady x =
-    let gives = comes_give w.up steady x.comes in
-    subst (λ (up : List ℕ). Gives w (linked w'.bench up) result) (sym x.up_is)
-    (subst (λ (r : Result (Option Report) LinkFault). Gives w (linked w'.bench (given (gave_of x.answer) w.up)) r) (sym x.told) gives)
+come_gives {w = w} steady x = told_so (λ v r. Gives w v r) x (comes_give w.up steady x.comes)
 
 gave_image : (t : ℕ) (up image : List ℕ) (report : Option Report) (gave : Option (List ℕ)) → FitsIn t report gave → given gave up ≡ image
     → report ≡ Some Uploaded → gave ≡ Some image
@@ -184,10 +186,9 @@ GivesThen b (Err fault) = Unit {0}
 gives_then : {b b' : Bench} {h : Happening} {result : Result Answered LinkFault} → IsSteady b → Comes b h b' result → GivesThen b' result
 gives_then steady (refuses why) = tt
 gives_then {b = b} {b' = b'} {h = h} steady (happens {event = event} {answer = answer} means play) = λ e.
-    gave_image (profile b.device).transfer [] (link_of b').device.image answer.report answer.gave
-    (happens_fits (profile b.device) (situation b.device) event b b' answer steady.fact steady.sized steady.counted
-    play.happens)
-    (image_given b b' event answer [] steady (begins_sized b.device.config h event means) play e) e
+    let begins = begins_sized b.device.config h event means in
+    gave_image b.device.config.functional.transfer [] (link_of b').device.image answer.report answer.gave (play_fits steady begins play)
+    (image_given steady begins play [] e) e
 
 -- With Uploaded come the bytes of the active image.
 pub uploads_give : UploadsGive
@@ -201,9 +202,7 @@ rest_is_steady device unarmed = record { fact = tt; unarmed = unarmed; sized = t
 
 unharmed_whole : (harming : Harming) (harm : Harm) → HarmsNothing harming → fuse_of harming harm ≡ Whole
 unharmed_whole NoWrite harm h = refl
-unharmed_whole CutsPower harm h = elim h [ ]
-unharmed_whole FailsWrite harm h = elim h [ ]
-unharmed_whole LiesInWrite harm h = elim h [ ]
+unharmed_whole harming harm h = elim h [ ]
 
 harmless_whole : (event : Happening) → IsHarmless event → fuse_in event ≡ Whole
 harmless_whole (Goes fate harm) h = unharmed_whole (course_of fate).harming harm h
@@ -232,5 +231,4 @@ comes_sure {b = b} {b' = b'} {h = h} (happens {event = event} {answer = answer} 
 -- Each event that comes goes as the table of fates says, where no write is harmed.
 pub come_sure : {w w' : LinkState} {h : Happening} {result : Result (Option Report) LinkFault} → HasCome w h w' result
     → AllSure w.bench h w'.bench result
-come_sure {w = w} {w' = w'} {h = h} x = subst (λ (r : Result (Option Report) LinkFault). AllSure w.bench h w'.bench r) (sym x.told)
-    (comes_sure x.comes)
+come_sure {w = w} {h = h} x = told_so (λ v r. AllSure w.bench h v.bench r) x (comes_sure x.comes)

@@ -15,6 +15,7 @@ use Rattle.dfu_sim.specs.Play.{given, Took, settled, took, remembered, has_room}
 use Rattle.dfu_sim.specs.LinkAgreement.{pending_of}
 use Rattle.dfu_sim.specs.Agreement.{live_goal, live_of, IsLiveOffer}
 use Rattle.dfu_sim.specs.Fact.{IsInApp, EndsAs, GoalFact, HasBlocks, GoesBy, SessionFact}
+use Rattle.dfu_sim.proofs.Saying.{not_in_place}
 use Rattle.dfu_sim.proofs.Fates.{IfHeard, all_remembered}
 use Rattle.dfu_sim.proofs.CommonFacts.{goal_anywhere}
 use Rattle.dfu_sim.proofs.GoalLaws.{after_goal, live_after, Next}
@@ -53,10 +54,8 @@ module _ (c : Profile) (offers : List (List ℕ)) where
     pub done : SaysInPlace t.answer.report → s.stage ≡ InAppIdle
 
   live_goal_one : (g : Goal) → live_goal g ≢ NoOne
-  live_goal_one (ToLoad p) e = cc
   live_goal_one ToFetch e = cc
-  live_goal_one (ToVerify p) e = cc
-  live_goal_one (ToCompare p) e = cc
+  live_goal_one g e = cc
 
   -- A session that is over with this report, and gives nothing.
   abbrev Ended : Report → Took
@@ -88,9 +87,12 @@ module _ (c : Profile) (offers : List (List ℕ)) where
 
   plain_well : (s : Situation) (g : Goal) (up : List ℕ) (report : Report) → PromisesNothing report
       → TookWell s (live_goal g) up (Ended report)
-  plain_well s g up Installed h = elim h [ ]
-  plain_well s g up Verified h = elim h [ ]
-  plain_well s g up report h = record { says = says_other h (live_goal_one g); fact = tt; offer = tt; done = λ e. elim e [ ] }
+  plain_well s g up report h = record {
+    says = says_other h (live_goal_one g);
+    fact = tt;
+    offer = tt;
+    done = λ e. absurd (not_in_place (Some report) h e);
+  }
 
   uploaded_well : (s : Situation) (up kept : List ℕ) → kept ≡ s.image
       → TookWell s Fetching up (record { session = Nobody; answer = record { report = Some Uploaded; gave = Some kept } })
@@ -132,10 +134,8 @@ module _ (c : Profile) (offers : List (List ℕ)) where
 
   ended_well : (s : Situation) (g : Goal) (up : List ℕ) (report : Report) → GoalFact c g (Over report) s
       → TookWell s (live_goal g) up (Ended report)
-  ended_well s (ToLoad p) up report f = over_well s.image s.stage p up report f
   ended_well s ToFetch up report f = plain_well s ToFetch up report f
-  ended_well s (ToVerify p) up report f = over_well s.image s.stage p up report f
-  ended_well s (ToCompare p) up report f = over_well s.image s.stage p up report f
+  ended_well s g up report f = over_well s.image s.stage _ up report f
 
   kept_well : (s : Situation) (g : Goal) (up kept : List ℕ) → GoalFact c g (OverUploaded kept) s
       → TookWell s (live_goal g) up (record { session = Nobody; answer = record { report = Some Uploaded; gave = Some kept } })
@@ -164,19 +164,15 @@ module _ (c : Profile) (offers : List (List ℕ)) where
       (restarted_well s h up h.phase h.restarts (record { task_is = e; offer = o; some = some }))
 
   lives_checked : (g : Goal) → Lives (task_for c g) → Lives (task_for c (checked g))
-  lives_checked (ToLoad p) v = v
-  lives_checked ToFetch v = v
   lives_checked (ToVerify p) v = record { task_is = goes_by c (ToCompare p); offer = v.offer; some = v.some }
-  lives_checked (ToCompare p) v = v
+  lives_checked g v = v
 
   last_well : (s : Situation) (g : Goal) (up : List ℕ) (phase : Phase) (left again : ℕ) → Lives (task_for c g)
       → let q = left_by (record { task = task_for c g; phase = phase; actions = left; restarts = again }) phase true in
       TookWell s (live_goal g) up (settled q q.phase)
-  last_well s (ToLoad p) up phase left again v = plain_well s (ToLoad p) up Unconfirmed tt
-  last_well s ToFetch up phase left again v = plain_well s ToFetch up Unconfirmed tt
   last_well s (ToVerify p) up phase left again v = budget_well s (task_for c (ToCompare p)) up Find (pred left) again
       (lives_checked (ToVerify p) v) tt (goal_anywhere c (ToCompare p) s Find tt)
-  last_well s (ToCompare p) up phase left again v = plain_well s (ToCompare p) up Unconfirmed tt
+  last_well s g up phase left again v = plain_well s g up Unconfirmed tt
 
   -- No event of a link tells that its device left of itself. It would keep what holds.
   left_well : (s : Situation) (g : Goal) (up : List ℕ) (phase : Phase) (left again : ℕ) (behind : Bool) → Lives (task_for c g)

@@ -1,12 +1,12 @@
--- What an answer tells of the device.
-use Rattle.std.proofs.Common.{ℕ, ◌==◌, List, ◌++◌}
+-- What a phase asks for, and what an answer tells of the device.
+use Rattle.std.proofs.Common.{ℕ, ◌==◌, List}
 use Rattle.dfu_wire.specs.declared.states.State.{State}
 use Rattle.dfu_wire.specs.declared.states.State.TheVariants.{DfuIdle, DownloadSync, DownloadIdle, ManifestSync}
-use Rattle.dfu_device.specs.Stage.{GetStatus, GetState, Profile, Stage, InAppIdle, InDfuIdle, InDownloadSync, InDownloadSyncWritten, InDownloadIdle, InManifestSync, InManifestSyncComplete, InError, status_of}
-use Rattle.dfu_device.specs.Table.{Writes, Commits, write_code, commit_code, plan, time_plan}
+use Rattle.dfu_device.specs.Stage.{Request, GetStatus, GetState, Profile, Stage, InAppIdle, InDfuIdle, InDownloadSync, InDownloadSyncWritten, InDownloadIdle, InManifestSync, InManifestSyncComplete}
+use Rattle.dfu_device.specs.Table.{Plan, plan, time_plan}
 use Rattle.dfu_device.specs.Outcome.{Luck, Works, FailsOld, FailsNew, outcome}
 use Rattle.dfu_device.specs.Cases.{either_way}
-use Rattle.dfu_host.specs.Phases.{Heard, Status, StateIs}
+use Rattle.dfu_host.specs.Phases.{Phase, Find, FindAgain, Ask, Poll, AskLast, Manifest, Trouble, Heard, Status, StateIs}
 use Rattle.dfu_sim.specs.Play.{heard_as}
 
 -- A state that was told, where it stays as time passes.
@@ -23,6 +23,17 @@ Tells ManifestSync InManifestSyncComplete = Unit {0}
 Tells ManifestSync stage = ⊥
 Tells state stage = Unit {0}
 
+-- The phases that ask for this: the status, or the state alone.
+abbrev pub Asks : Request → Phase → Type 0
+Asks GetStatus Find = Unit {0}
+Asks GetStatus FindAgain = Unit {0}
+Asks GetStatus Trouble = Unit {0}
+Asks GetStatus (Poll n) = Unit {0}
+Asks GetStatus Manifest = Unit {0}
+Asks GetState (Ask n) = Unit {0}
+Asks GetState AskLast = Unit {0}
+Asks request phase = ⊥
+
 -- What was heard tells of the state that the device is in.
 abbrev pub ToldBy : Heard → Stage → Type 0
 ToldBy (Status code poll state) stage = Tells state stage
@@ -38,11 +49,9 @@ module _ (c : Profile) (i : List ℕ) where
   tells_time DownloadIdle (InDownloadIdle taken number) ms luck h = tt
   tells_time DownloadIdle stage ms luck h = elim h [ ]
   tells_time DownloadSync (InDownloadSync before block number) ms luck h = tt
-  tells_time DownloadSync (InDownloadSyncWritten taken number) ms luck h = tt
-  tells_time DownloadSync stage ms luck h = elim h [ ]
+  tells_time DownloadSync stage ms luck h = search
   tells_time ManifestSync (InManifestSync taken) ms luck h = tt
-  tells_time ManifestSync InManifestSyncComplete ms luck h = tt
-  tells_time ManifestSync stage ms luck h = elim h [ ]
+  tells_time ManifestSync stage ms luck h = search
   tells_time state stage ms luck h = tt
 
   -- What was told still holds as time passes.
@@ -52,25 +61,17 @@ module _ (c : Profile) (i : List ℕ) where
   told_time (StateIs state) stage ms luck h = tells_time state stage ms luck h
   told_time heard stage ms luck h = tt
 
-  -- The answer to GETSTATUS.
-  pub status_told : (stage : Stage) (luck : Luck) → ToldBy (heard_as (outcome i (plan c i stage GetStatus) luck).reply)
-      (outcome i (plan c i stage GetStatus) luck).after.stage
-  status_told (InDownloadSync before block number) luck =
-      either_way (λ p. ToldBy (heard_as (outcome i p luck).reply) (outcome i p luck).after.stage) (c.busy == 0) _ _
-      (elim luck as (λ l. let o = outcome i (Writes before block (status_of c (InDownloadIdle (before ++ block) number))
-      (InDownloadIdle (before ++ block) number) (λ fault. status_of c (InError (write_code fault)))) l in
-      ToldBy (heard_as o.reply) o.after.stage) [ Works ↦ tt | FailsOld fault ↦ tt | FailsNew fault ↦ tt ])
-      tt
-  status_told (InManifestSync taken) luck =
-      either_way (λ p. ToldBy (heard_as (outcome i p luck).reply) (outcome i p luck).after.stage) (c.manifest == 0) _ _
-      (elim luck as (λ l. let o = outcome i
-      (Commits taken (status_of c InDfuIdle) InDfuIdle (λ fault. status_of c (InError (commit_code fault)))) l in
-      ToldBy (heard_as o.reply) o.after.stage) [ Works ↦ tt | FailsOld fault ↦ tt | FailsNew fault ↦ tt ])
-      tt
-  status_told stage luck = tt
+  -- What is answered by this plan tells of the device.
+  abbrev Told : Plan → Type 0
+  Told p = (luck : Luck) → ToldBy (heard_as (outcome i p luck).reply) (outcome i p luck).after.stage
 
-  -- What GETSTATE tells holds of the device.
-  pub state_told : (stage : Stage) (luck : Luck) → ToldBy (heard_as (outcome i (plan c i stage GetState) luck).reply)
-      (outcome i (plan c i stage GetState) luck).after.stage
-  state_told InAppIdle luck = tt
-  state_told stage luck = tt
+  -- The answer to what a phase asks for tells of the device.
+  pub told_asked : (r : Request) (phase : Phase) (stage : Stage) → Asks r phase → Told (plan c i stage r)
+  told_asked GetStatus phase (InDownloadSync before block number) a =
+      either_way Told (c.busy == 0) _ _ (elim [ Works ↦ tt | FailsOld fault ↦ tt | FailsNew fault ↦ tt ]) (λ luck. tt)
+  told_asked GetStatus phase (InManifestSync taken) a =
+      either_way Told (c.manifest == 0) _ _ (elim [ Works ↦ tt | FailsOld fault ↦ tt | FailsNew fault ↦ tt ]) (λ luck. tt)
+  told_asked GetStatus phase stage a = λ luck. tt
+  told_asked GetState phase InAppIdle a = λ luck. tt
+  told_asked GetState phase stage a = λ luck. tt
+  told_asked r phase stage a = elim a [ ]

@@ -11,10 +11,9 @@ use Rattle.dfu_host.specs.Blocks.{blocks, first}
 use Rattle.dfu_host.specs.BlockLaws.{first_suc}
 use Rattle.dfu_host.specs.Phases.{ToLoad, Phase, Find, Block, Poll, WaitPoll, Close, Manifest, WaitManifest, Last, Acked, Status, Waited}
 use Rattle.dfu_host.specs.Host.{IsOn}
-use Rattle.dfu_sim.specs.Happening.{Pass}
-use Rattle.dfu_sim.specs.Course.{course_of}
-use Rattle.dfu_sim.specs.Play.{heard_as, Passed, waited}
-use Rattle.dfu_sim.proofs.Passes.{split, Leads, leads_on, none, one, one_by}
+use Rattle.dfu_sim.specs.Play.{heard_as, Passed}
+use Rattle.dfu_sim.proofs.Choices.{split}
+use Rattle.dfu_sim.proofs.Passes.{Leads, leads_on, none, one, one_by}
 use Rattle.dfu_sim.proofs.Finding.{find_app, detach, enter}
 
 module _ (c : Profile) (p : List ℕ) (again : ℕ) where
@@ -28,24 +27,24 @@ module _ (c : Profile) (p : List ℕ) (again : ℕ) where
   pub find_idle : (i : List ℕ) → GoesWell i InDfuIdle Find 1 i InDfuIdle (Block 0)
   find_idle i = one c (ToLoad p) again (λ l k room. refl)
 
+  -- What a wait comes to, by the plan of its time.
+  waits : (i : List ℕ) {p q : Plan} → p ≡ q → ◌≡◌ {A = Passed} (record { device = (outcome i p Works).after; heard = Waited })
+      (record { device = (outcome i q Works).after; heard = Waited })
+  waits i e = ap (λ (q : Plan). record { device = (outcome i q Works).after; heard = Waited }) e
+
   sync : (i before body : List ℕ) (number n : ℕ) (next : Phase) → cond (suc n == b) Close (Block (suc n)) ≡ next → IsOn next
       → GoesWell i (InDownloadSync before body number) (Poll n) (cond (c.busy == 0) 1 3) i (InDownloadIdle (before ++ body) number) next
   sync i before body number n next e on = split (c.busy == 0)
       (λ f. rw f (one_by c (ToLoad p) again (Status NoFault 0 DownloadIdle) _ (λ k. rw f) (λ l room. refl) e on))
-      (λ f. rw f (leads_on c (ToLoad p) again {j = i} {t = InDownloadBusy before body number 0} {b = WaitPoll n c.busy} {k = 1} {n = 2}
+      (λ f. rw f (leads_on {j = i} {t = InDownloadBusy before body number 0} {b = WaitPoll n c.busy} {k = 1} {n = 2}
       (one_by c (ToLoad p) again (Status NoFault c.busy DownloadBusy) (WaitPoll n c.busy) (λ k. rw f) (λ l room. refl) refl tt)
-      (leads_on c (ToLoad p) again {j = i} {t = InDownloadSyncWritten (before ++ body) number} {b = Poll n} {k = 1} {n = 1}
-      (one_by c (ToLoad p) again Waited (Poll n) (λ k. busy_wait f) (λ l room. refl) refl tt)
+      (leads_on {j = i} {t = InDownloadSyncWritten (before ++ body) number} {b = Poll n} {k = 1} {n = 1}
+      (one_by c (ToLoad p) again Waited (Poll n) (λ k. waits i (busy_plan f)) (λ l room. refl) refl tt)
       (one_by c (ToLoad p) again (Status NoFault 0 DownloadIdle) _ (λ k. refl) (λ l room. refl) e on))))
     where
       busy_plan : (c.busy == 0) ≡ false → time_plan c (InDownloadBusy before body number 0) c.busy
           ≡ Writes before body Ack (InDownloadSyncWritten (before ++ body) number) (λ fault. Ack)
       busy_plan f = let g : nat_le c.busy (0 + c.busy) ≡ true = grind (arith, nat_tests) in rw (f, g)
-
-      busy_wait : (c.busy == 0) ≡ false
-          → waited c (record { image = i; stage = InDownloadBusy before body number 0 }) c.busy (course_of Pass) Works
-          ≡ record { device = record { image = i; stage = InDownloadSyncWritten (before ++ body) number }; heard = Waited }
-      busy_wait f = ap (λ q. record { device = (outcome i q Works).after; heard = Waited }) (busy_plan f)
 
   -- The end of a download, by a tolerant device.
   pub manifest : (i taken : List ℕ) → c.tolerant ≡ true
@@ -53,20 +52,15 @@ module _ (c : Profile) (p : List ℕ) (again : ℕ) where
       (Last Installed)
   manifest i taken tol = split (c.manifest == 0)
       (λ f. rw f (one_by c (ToLoad p) again (Status NoFault 0 DfuIdle) _ (λ k. rw f) (λ l room. refl) (rw tol) tt))
-      (λ f. rw f (leads_on c (ToLoad p) again {j = i} {t = InManifest taken 0} {b = WaitManifest c.manifest} {k = 1} {n = 2}
+      (λ f. rw f (leads_on {j = i} {t = InManifest taken 0} {b = WaitManifest c.manifest} {k = 1} {n = 2}
       (one_by c (ToLoad p) again (Status NoFault c.manifest Manifesting) _ (λ k. rw f) (λ l room. refl) (rw tol) tt)
-      (leads_on c (ToLoad p) again {j = taken} {t = InManifestSyncComplete} {b = Manifest} {k = 1} {n = 1}
-      (one_by c (ToLoad p) again Waited Manifest (λ k. manifest_wait f) (λ l room. refl) refl tt)
+      (leads_on {j = taken} {t = InManifestSyncComplete} {b = Manifest} {k = 1} {n = 1}
+      (one_by c (ToLoad p) again Waited Manifest (λ k. waits i (manifest_plan f)) (λ l room. refl) refl tt)
       (one_by c (ToLoad p) again (Status NoFault 0 DfuIdle) _ (λ k. refl) (λ l room. refl) (rw tol) tt))))
     where
       manifest_plan : (c.manifest == 0) ≡ false
           → time_plan c (InManifest taken 0) c.manifest ≡ Commits taken Ack InManifestSyncComplete (λ fault. Ack)
       manifest_plan f = let g : nat_le c.manifest (0 + c.manifest) ≡ true = grind (arith, nat_tests) in rw (f, g, tol)
-
-      manifest_wait : (c.manifest == 0) ≡ false
-          → waited c (record { image = i; stage = InManifest taken 0 }) c.manifest (course_of Pass) Works
-          ≡ record { device = record { image = taken; stage = InManifestSyncComplete }; heard = Waited }
-      manifest_wait f = ap (λ q. record { device = (outcome i q Works).after; heard = Waited }) (manifest_plan f)
 
   -- A block that fits.
   block_fits : (before : List ℕ) (expected : ℕ) (body : List ℕ) → length body ≤ c.transfer → length before + length body ≤ c.capacity
@@ -136,7 +130,7 @@ module _ (c : Profile) (p : List ℕ) (again : ℕ) where
       let q : GoesWell i (InDownloadSync (first p c.transfer n) body (suc n % 65536)) (Poll n) (cond (c.busy == 0) 1 3) i
       (InDownloadIdle (first p c.transfer n ++ body) (suc n % 65536)) next =
       sync i (first p c.transfer n) body (suc n % 65536) n next refl (on_next n (suc n == b)) in
-      leads_on c (ToLoad p) again (block i n can f)
+      leads_on (block i n can f)
       (subst (λ z. GoesWell i (InDownloadSync (first p c.transfer n) body (suc n % 65536)) (Poll n) (cond (c.busy == 0) 1 3) i
       (InDownloadIdle z (suc n % 65536)) next) (sym (first_suc p c.transfer n l)) q)
 
@@ -144,26 +138,27 @@ module _ (c : Profile) (p : List ℕ) (again : ℕ) where
     abbrev each : ℕ
     each = 1 + cond (c.busy == 0) 1 3
 
+    -- One block more.
+    next_turn : (i : List ℕ) (n : ℕ) → n < b → GoesWell i InDfuIdle (Block 0) (n * each) i (Taken n) (Block n)
+        → GoesWell i InDfuIdle (Block 0) (suc n * each) i (Taken (suc n)) (cond (suc n == b) Close (Block (suc n)))
+    next_turn i n l q = let f : n * each + each ≡ suc n * each = omega arith in
+        subst (λ z. GoesWell i InDfuIdle (Block 0) z i (Taken (suc n)) (cond (suc n == b) Close (Block (suc n)))) f
+        (leads_on q (turn i n can l (fits n l)))
+
     turns : (i : List ℕ) (n : ℕ) → n < b → GoesWell i InDfuIdle (Block 0) (n * each) i (Taken n) (Block n)
     turns i zero l = let f : 0 ≡ 0 * each = omega arith in
         subst (λ z. GoesWell i InDfuIdle (Block 0) z i InDfuIdle (Block 0)) f (none c (ToLoad p) again)
     turns i (suc n) l =
-        let m : n < b = omega arith in
         let e : (suc n == b) ≡ false = grind (arith, nat_tests) in
-        let f : n * each + each ≡ suc n * each = omega arith in
-        let q : GoesWell i (Taken n) (Block n) each i (Taken (suc n)) (Block (suc n)) = subst
-        (λ t. GoesWell i (Taken n) (Block n) each i (Taken (suc n)) (cond t Close (Block (suc n)))) e (turn i n can m (fits n m)) in
-        subst (λ z. GoesWell i InDfuIdle (Block 0) z i (Taken (suc n)) (Block (suc n))) f (leads_on c (ToLoad p) again (turns i n m) q)
+        let m : n < b = omega arith in
+        rw e at (next_turn i n m (turns i n m))
 
     -- All blocks.
     pub all_turns : (i : List ℕ) (n : ℕ) → suc n ≡ b → GoesWell i InDfuIdle (Block 0) (suc n * each) i (Taken (suc n)) Close
     all_turns i n e =
-        let m : n < b = omega arith in
         let t : (suc n == b) ≡ true = grind (arith, nat_tests) in
-        let f : n * each + each ≡ suc n * each = omega arith in
-        let q : GoesWell i (Taken n) (Block n) each i (Taken (suc n)) Close = subst
-        (λ t. GoesWell i (Taken n) (Block n) each i (Taken (suc n)) (cond t Close (Block (suc n)))) t (turn i n can m (fits n m)) in
-        subst (λ z. GoesWell i InDfuIdle (Block 0) z i (Taken (suc n)) Close) f (leads_on c (ToLoad p) again (turns i n m) q)
+        let m : n < b = omega arith in
+        rw t at (next_turn i n m (turns i n m))
 
     -- From appIDLE to the last phase.
     pub whole_run : (i : List ℕ) (n : ℕ) → suc n ≡ b → c.tolerant ≡ true → c.least ≤ length (first p c.transfer (suc n))
@@ -171,8 +166,6 @@ module _ (c : Profile) (p : List ℕ) (again : ℕ) where
         (first p c.transfer (suc n)) InDfuIdle
         (Last Installed)
     whole_run i n e tol least =
-        leads_on c (ToLoad p) again (find_app c (ToLoad p) again i) (leads_on c (ToLoad p) again (detach c (ToLoad p) again i)
-        (leads_on c (ToLoad p) again (enter c (ToLoad p) again i _) (leads_on c (ToLoad p) again (find_idle i)
-        (leads_on c (ToLoad p) again (all_turns i n e)
-        (leads_on c (ToLoad p) again (close i (first p c.transfer (suc n)) (suc n % 65536) least)
-        (manifest i (first p c.transfer (suc n)) tol))))))
+        leads_on (find_app c (ToLoad p) again i) (leads_on (detach c (ToLoad p) again i)
+        (leads_on (enter c (ToLoad p) again i _) (leads_on (find_idle i) (leads_on (all_turns i n e)
+        (leads_on (close i (first p c.transfer (suc n)) (suc n % 65536) least) (manifest i (first p c.transfer (suc n)) tol))))))

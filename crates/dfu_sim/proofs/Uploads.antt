@@ -1,5 +1,5 @@
 -- Uploads and aborts, put together: a play with its bytes, or a refusal.
-use Rattle.std.proofs.Common.{◌≡◌, ◌↔◌, ◌<◌, ◌==◌, not, is_some, true, false, Option, Some, None, Result, Ok, Err, refl, sym, ap, ◌∙◌, subst, arith}
+use Rattle.std.proofs.Common.{◌≡◌, ◌↔◌, ◌<◌, ◌==◌, not, is_some, false, Option, Some, None, Result, Ok, Err, refl, sym, ap, ◌∙◌, subst, arith}
 use Rattle.std.proofs.lemmas.Bool.Decides.{nat_tests}
 use Rattle.dfu_slots.specs.Medium.Fuse.{Whole}
 use Rattle.dfu_device.specs.Setting.{Setting}
@@ -15,13 +15,13 @@ use Rattle.dfu_sim.specs.declared.fault.LinkFault.{LinkFault}
 use Rattle.dfu_sim.specs.declared.fault.LinkFault.TheVariants as fault
 use Rattle.dfu_sim.specs.declared.fault.OfferFault.TheVariants as offer_fault
 use Rattle.dfu_sim.specs.Play.{silent, aborted}
-use Rattle.dfu_sim.specs.Bench.{Session, Hosted}
+use Rattle.dfu_sim.specs.Bench.{Session, Hosted, linked}
 use Rattle.dfu_sim.specs.Happening.{Uploads, Aborts}
 use Rattle.dfu_sim.specs.Refusing.{CanGive}
-use Rattle.dfu_sim.specs.Comes.{Comes, refuses, happens, HasCome, HasComeAlone}
-use Rattle.dfu_sim.specs.Standing.{session_of, bench_of, link_state}
+use Rattle.dfu_sim.specs.Comes.{HasCome, HasComeAlone}
+use Rattle.dfu_sim.specs.Standing.{session_of, given_by, bench_of, link_state}
 use Rattle.dfu_sim.specs.inside.Acting.{abort_told}
-use Rattle.dfu_sim.proofs.Events.{not_first, none_of}
+use Rattle.dfu_sim.proofs.Events.{refused_comes, event_comes, not_first, idle_refused, begins_comes, none_of}
 
 -- A device that gives its image has blocks of some bytes.
 pub gives_transfer : (s : Setting) → CanGive s → 0 < s.functional.transfer
@@ -31,21 +31,12 @@ gives_transfer s gives =
     let e : (s.functional.transfer == 0) ≡ false = z.0 in
     grind (arith, nat_tests)
 
--- An upload while a session is live.
-pub upload_busy : (limits : Limits) (w : Shown) (host : Option HostState) → is_some host ≡ true
-    → HasComeAlone (bench_of w host) (Uploads limits) (bench_of w host) (Err fault.HostBusy)
-upload_busy limits w (Some h) e up = record { answer = Err fault.HostBusy; comes = refuses tt; whole = tt; up_is = refl; told = refl }
-upload_busy limits w None e up = absurd cc
-
 -- An upload from a device that gives no image.
 pub upload_refused : (limits : Limits) (w : Shown) (host : Option HostState) (f : Functional) (why : HostFault) → is_some host ≡ false
     → f ≡ w.config.functional → first_upload_fault f ≡ Some why
     → HasComeAlone (bench_of w host) (Uploads limits) (bench_of w host) (Err (fault.BadOffer (offer_fault.Host why)))
-upload_refused limits w None f why n e bad up =
-    let first : first_upload_fault w.config.functional ≡ Some why = subst (λ (x : Functional). first_upload_fault x ≡ Some why) e
-    bad in
-    record { answer = Err (fault.BadOffer (offer_fault.Host why)); comes = refuses (refl, first); whole = tt; up_is = refl; told = refl }
-upload_refused limits w (Some h) f why n e bad up = absurd cc
+upload_refused limits w host f why n e bad = idle_refused (Uploads limits) (fault.BadOffer (offer_fault.Host why)) w host n
+    (refl, subst (λ (x : Functional). first_upload_fault x ≡ Some why) e bad)
 
 -- An upload that begins.
 pub upload_comes : (limits : Limits) (w : Shown) (host : Option HostState) (h : HostState) (f : Functional) → is_some host ≡ false
@@ -53,43 +44,21 @@ pub upload_comes : (limits : Limits) (w : Shown) (host : Option HostState) (h : 
     → ((why : HostFault) → (◌≡◌ {A = Result HostState HostFault} (Ok h) (Err why)) ↔ (first_upload_fault f ≡ Some why))
     → h ≡ started f ToFetch limits
     → HasComeAlone (bench_of w host) (Uploads limits) (bench_of w (Some h)) (Ok None)
-upload_comes limits w None h f n e k none is up =
-    let gives : CanGive w.config = subst (λ (x : Functional). first_upload_fault x ≡ None) k
-    (none_of (first_upload_fault f) h none) in
+upload_comes limits w host h f n e k none is =
     let begun : h ≡ started w.config.functional ToFetch limits = is ∙ ap (λ (x : Functional). started x ToFetch limits) k in
-    record {
-      answer = Ok silent;
-      whole = tt;
-      up_is = refl;
-      comes = happens {event = Uploads limits} (gives, refl) (record {
-        allowed = tt;
-        unarmed = e;
-        happens = ((λ i. record { device = w; session = Hosted (begun i) }), refl);
-      });
-      told = refl;
-    }
-upload_comes limits w (Some h) k f n e same none is up = absurd cc
+    begins_comes (Uploads limits) (Uploads limits) w host h n e
+    (subst (λ (x : Functional). first_upload_fault x ≡ None) k (none_of (first_upload_fault f) h none), refl) tt
+    ((λ i. record { device = w; session = Hosted (begun i) }), refl)
 
 -- An abort.
 pub abort_comes : (w : Shown) (host host' gave : Option HostState) (result : Result (Option Report) LinkFault) → w.slots.medium.fuse ≡ Whole
     → session_of host' ≡ aborted (session_of host) → result ≡ abort_told (session_of host)
     → HasCome (link_state w host gave) Aborts (link_state w host' gave) result
-abort_comes w None host' gave result e session says = record {
-  answer = Err fault.NoHost;
-  whole = tt;
-  up_is = refl;
-  comes = subst (λ (s : Session). Comes (bench_of w None) Aborts (record { device = w; session = s }) (Err fault.NoHost)) (sym session)
-      (refuses refl);
-  told = says;
-}
-abort_comes w (Some h) host' gave result e session says = record {
-  answer = Ok silent;
-  whole = tt;
-  up_is = refl;
-  comes = happens {event = Aborts} refl (record {
-    allowed = tt;
-    unarmed = e;
-    happens = ((λ i. record { device = w; session = session i }), refl);
-  });
-  told = says;
-}
+abort_comes w None host' gave result e session says =
+    subst (λ (r : Result (Option Report) LinkFault). HasCome (link_state w None gave) Aborts (link_state w host' gave) r) (sym says)
+    (subst (λ (s : Session). HasCome (link_state w None gave) Aborts (linked (record { device = w; session = s }) (given_by gave))
+    (Err fault.NoHost)) (sym session) (refused_comes (bench_of w None) Aborts fault.NoHost refl (given_by gave)))
+abort_comes w (Some h) host' gave result e session says =
+    subst (λ (r : Result (Option Report) LinkFault). HasCome (link_state w (Some h) gave) Aborts (link_state w host' gave) r) (sym says)
+    (event_comes Aborts silent refl
+    (record { allowed = tt; unarmed = e; happens = ((λ i. record { device = w; session = session i }), refl) }) tt refl refl)

@@ -1,11 +1,11 @@
 -- A download that is to be verified goes as one that is not, up to its last reset.
 use Rattle.std.proofs.Common.{◌≡◌, ℕ, zero, suc, Bool, true, false, List, Some, None, refl, sym, ap, ◌∙◌, subst}
-use Rattle.dfu_device.specs.Stage.{Profile, Reply, Ack, StatusOf, StateOf, Data, Stall}
+use Rattle.dfu_device.specs.Stage.{Profile, Reply, Ack}
 use Rattle.dfu_device.specs.Table.{plan}
 use Rattle.dfu_device.specs.Outcome.{Situation, Luck, Works, outcome}
 use Rattle.dfu_device.specs.Rows.{meant}
 use Rattle.dfu_host.specs.declared.report.Report.{Report}
-use Rattle.dfu_host.specs.Phases.{Goal, ToLoad, ToVerify, Task, Phase, Find, Last, GiveUp, Over, OverUploaded, Deed, Send, Wait, Reset, Done, Heard, Part, WasReset, Restarted, Left}
+use Rattle.dfu_host.specs.Phases.{Goal, ToLoad, ToVerify, Task, Phase, Find, Last, GiveUp, Over, OverUploaded, Deed, Send, Heard, Part, WasReset, Restarted, Left}
 use Rattle.dfu_host.specs.Table.{deed, goal_after, row}
 use Rattle.dfu_host.specs.Host.{HostState, restarted, told, after_phase, after}
 use Rattle.dfu_host.specs.TaskLaws.{after_task}
@@ -24,10 +24,7 @@ IsBefore phase = Unit {0}
 -- No reply is that the device left of itself.
 reply_stays : (r : Reply) → heard_as r ≡ Left → ⊥
 reply_stays Ack e = absurd cc
-reply_stays (StatusOf code poll state) e = absurd cc
-reply_stays (StateOf state) e = absurd cc
-reply_stays (Data bytes) e = absurd cc
-reply_stays Stall e = absurd cc
+reply_stays r e = absurd cc
 
 room_stays : (heard : Heard) (room : Bool) → (heard ≡ Left → ⊥) → remembered heard room ≡ Left → ⊥
 room_stays (Part bytes) false never e = absurd cc
@@ -37,9 +34,7 @@ module _ (c : Profile) (p : List ℕ) where
   -- No pass tells a host that its device left of itself.
   pass_stays : (s : Situation) (d : Deed) (l k : Luck) → (acted c s d (course_of Pass) l k).heard ≡ Left → ⊥
   pass_stays s (Send q body) l k e = reply_stays (outcome s.image (plan c s.image s.stage (meant q body)) l).reply e
-  pass_stays s (Wait ms) l k e = absurd cc
-  pass_stays s Reset l k e = absurd cc
-  pass_stays s (Done report) l k e = absurd cc
+  pass_stays s d l k e = absurd cc
 
   abbrev plain : Task
   plain = task_for c (ToLoad p)
@@ -84,7 +79,6 @@ module _ (c : Profile) (p : List ℕ) where
   after_alike (Over r) heard left again b never = refl
   after_alike (OverUploaded kept) heard left again b never = refl
   after_alike (Last r) heard left again b never = elim b [ ]
-  after_alike Find heard left again b never = told_alike Find heard left again tt never
   after_alike phase heard left again b never = told_alike phase heard left again tt never
 
   -- The session of a download, as one that is to be verified.
@@ -97,8 +91,6 @@ module _ (c : Profile) (p : List ℕ) where
 
   settled_alike : (h : HostState) (phase : Phase) → settled (verifying h) phase ≡ took_verified (settled h phase)
   settled_alike h (Over r) = refl
-  settled_alike h (OverUploaded kept) = refl
-  settled_alike h Find = refl
   settled_alike h phase = refl
 
   took_alike : (phase : Phase) (heard : Heard) (left again : ℕ) → IsBefore phase → (heard ≡ Left → ⊥)
@@ -137,7 +129,6 @@ module _ (c : Profile) (p : List ℕ) where
   settled_download : (h : HostState) (phase : Phase) → h.task ≡ plain → IsDownload (settled h phase).session
   settled_download h (Over r) e = tt
   settled_download h (OverUploaded kept) e = tt
-  settled_download h Find e = e
   settled_download h phase e = e
 
   took_download : (phase : Phase) (heard : Heard) (left again : ℕ) → (heard ≡ Left → ⊥)
@@ -170,29 +161,20 @@ module _ (c : Profile) (p : List ℕ) where
             (room_stays d.heard (has_room phase true) (pass_stays s (deed plain phase) Works Works)));
       }
 
-  link_alike : (w w' : Link) → IsDownload w.session → PassesTo c w w' silent → Alike w w'
-  link_alike w w' e f = by_session w.session refl e
-    where
-      by_session : (session : Session) → w.session ≡ session → IsDownload session → Alike w w'
-      by_session Nobody at e =
-          let x : Link = record { device = w.device; session = Nobody } in
-          let none : PassesTo c x w' silent =
-          subst (λ (z : Session). PassesTo c (record { device = w.device; session = z }) w' silent) at f in
-          let same : x ≡ w' = ap (λ (q : Played). q.link) (none Works true) in
-          subst (λ (z : Session). Alike (record { device = w.device; session = z }) w') (sym at)
-          (record {
-            passes = λ other room. ap played_verified (none other room);
-            stays = subst (λ (z : Link). IsDownload z.session) same tt;
-          })
-      by_session (Hosted h) at e =
-          let is : w.session ≡ Hosted (host plain h.phase h.actions h.restarts) =
-          at ∙ ap (λ (t : Task). Hosted (host t h.phase h.actions h.restarts)) e in
-          subst (λ (z : Session). Alike (record { device = w.device; session = z }) w') (sym is)
-          (pass_alike w.device h.phase h.actions h.restarts w'
-          (subst (λ (z : Session). PassesTo c (record { device = w.device; session = z }) w' silent) is f))
+  link_alike : (s : Situation) (session : Session) (w' : Link) → IsDownload session
+      → PassesTo c (record { device = s; session = session }) w' silent → Alike (record { device = s; session = session }) w'
+  link_alike s Nobody w' e f = record {
+    passes = λ other room. ap played_verified (f other room);
+    stays = subst (λ (z : Link). IsDownload z.session) (ap (λ (q : Played). q.link) (f Works true)) tt;
+  }
+  link_alike s (Hosted h) w' e f =
+      let is : h ≡ host plain h.phase h.actions h.restarts = ap (λ (t : Task). host t h.phase h.actions h.restarts) e in
+      subst (λ (z : HostState). Alike (record { device = s; session = Hosted z }) w') (sym is)
+      (pass_alike s h.phase h.actions h.restarts w'
+      (subst (λ (z : HostState). PassesTo c (record { device = s; session = Hosted z }) w' silent) is f))
 
   -- Passes of a download that report nothing are passes of one that is to be verified.
   pub verified_passes : {w w' : Link} {n : ℕ} → IsDownload w.session → Quietly c w n w' → Quietly c (link_verified w) n (link_verified w')
   verified_passes e here = here
   verified_passes {w = w} e (there {mid = mid} f q) =
-      let x = link_alike w mid e f in there x.passes (verified_passes x.stays q)
+      let x = link_alike w.device w.session mid e f in there x.passes (verified_passes x.stays q)

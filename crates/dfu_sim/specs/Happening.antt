@@ -59,15 +59,10 @@ fate_of (fate.Lie writes tear) = Lie
 
 -- How the fate that a caller names harms a write.
 abbrev pub harm_in : GivenFate → Harm
-harm_in fate.Pass = unharmed
-harm_in fate.LostOut = unharmed
-harm_in fate.LostBack = unharmed
-harm_in fate.Twice = unharmed
-harm_in fate.TwiceLostBack = unharmed
-harm_in (fate.Slip ms) = unharmed
 harm_in (fate.Cut writes tear) = harmed writes tear.now
 harm_in (fate.Fail writes tear) = harmed writes tear.now
 harm_in (fate.Lie writes tear) = harmed writes tear.now
+harm_in f = unharmed
 
 -- What happens, of the event that a caller names.
 abbrev pub happening : GivenEvent → Happening

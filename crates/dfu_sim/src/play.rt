@@ -1,7 +1,6 @@
 //! What each event makes of a device and a host.
 
 ghost use Rattle.std.specs.Prelude.{◌≡◌};
-ghost use Rattle.dfu_sim.specs.Bench.{ShowsActive};
 ghost use Rattle.dfu_sim.specs.Course.{course_of};
 ghost use Rattle.dfu_sim.specs.Play.{given, told, aborted};
 ghost use Rattle.dfu_sim.specs.Standing.{session_of, given_by, bench_of, link_state, IsOnIn, SendsBytes, IsCountedIn, IsSteady};
@@ -124,7 +123,7 @@ fn go<'f, M: Faulty>(
 }
 
 /// An event comes. A refused one changes nothing. `out` is room for an answer.
-fn come<'f, M: Faulty>(
+pub(crate) fn come<'f, M: Faulty>(
     alloc: Global,
     device: &mut Device<M>,
     host: &mut Option<Host<'f>>,
@@ -154,24 +153,4 @@ fn come<'f, M: Faulty>(
             Ok(restart(host, gave))
         }
     }
-}
-
-/// The same, with what the device shows then.
-pub(crate) fn play<'f, M: Faulty>(
-    alloc: Global,
-    device: &mut Device<M>,
-    host: &mut Option<Host<'f>>,
-    gave: &mut Option<Host<'f>>,
-    event: Event<'f, '_>,
-    out: &mut Answered,
-) -> Result<Option<Report>, LinkFault>
-    requires { IsSteady (bench_of device.old host.old) }
-    ensures comes { HasCome (link_state device.old host.old gave.old) (happening event.entry) (link_state device.new host.new gave.new)
-        result }
-    ensures active { ShowsActive (bench_of device.new host.new) }
-{
-    let told = come(alloc, device, host, gave, event, out);
-    // Called for its clause `image`, which `active` needs; what it answers isn't used.
-    let _ = device.slots().capacity();
-    told
 }

@@ -18,7 +18,7 @@ use crate::back::Back;
 use crate::event::Event;
 use crate::fault::LinkFault;
 use crate::laws::image_shown;
-use crate::play::play;
+use crate::play::come;
 use arrayvec::ArrayVec;
 use dfu_device::{Answer, Device};
 use dfu_host::{Action, Host, Phase, Report};
@@ -100,14 +100,17 @@ impl<'f, M: Faulty> World<'f, M> {
     {
         // Called for its law, which `legal` needs: no image but the one that is shown is active.
         image_shown();
-        play(
+        let told = come(
             self.alloc,
             &mut self.device,
             &mut self.host,
             &mut self.gave,
             event,
             &mut self.out,
-        )
+        );
+        // Called for its clause `image`, which `active` needs; what it answers isn't used.
+        let _ = self.device.slots().capacity();
+        told
     }
 
     /// The phase of the host that is live, if one is, and what it asks for next.

@@ -31,8 +31,7 @@ pub begin_refuses : {T : Type 0} (s : SlotsState) (result : Result T PutFault) �
 begin_refuses {T} s (Ok x) broken = never_refuses {T = T} s (Ok x) (λ e. cc) (λ e. cc)
 begin_refuses {T} s (Err Failed) broken = never_refuses {T = T} s (Err Failed) (λ e. cc) (λ e. cc)
 begin_refuses {T} s (Err NotVerified) broken = never_refuses {T = T} s (Err NotVerified) (λ e. cc) (λ e. cc)
-begin_refuses s (Err TooLarge) broken = absurd broken
-begin_refuses s (Err NotBegun) broken = absurd broken
+begin_refuses s (Err _) broken = absurd broken
 
 module _ {T : Type 0} (s : SlotsState) (result : Result T PutFault) (not_begun : IsErrOf result NotBegun ↔ IsOpen (spare_slot s)) where
   not_begun_is : IsErrOf result NotBegun ↔ (is_begun s ≡ false)
@@ -54,7 +53,7 @@ module _ {T : Type 0} (s : SlotsState) (result : Result T PutFault) (not_begun :
   pub commit_refuses : IsStore s → (len : ℕ) → len ≤ s.put_end → ¬ IsErrOf result TooLarge → Refuses s (Commit len) result
   commit_refuses store len le never = record {
     not_begun = not_begun_is;
-    too_large = (λ e. absurd (never e), λ large. absurd (omega (arith, le, puts_room s store, large.1)));
+    too_large = (λ e. absurd (never e), λ large. absurd (omega (arith, le, puts_room store, large.1)));
   }
 
 -- A call came where the store was ready and had the room.
@@ -83,8 +82,7 @@ came_or_not {T} s now kind (Err Failed) refuses failed =
     inl (came {T = T} s now kind (Err Failed) refuses (λ e. cc) (λ e. cc) (inr (WriteFailed, failed.writes)))
 came_or_not {T} s now kind (Err NotVerified) refuses failed =
     inl (came {T = T} s now kind (Err NotVerified) refuses (λ e. cc) (λ e. cc) (inr (WriteNotVerified, failed.writes)))
-came_or_not s now kind (Err TooLarge) refuses same = inr same
-came_or_not s now kind (Err NotBegun) refuses same = inr same
+came_or_not s now kind (Err _) refuses same = inr same
 
 -- What is left by a call that came is left, where it is left by one that was refused.
 pub after_call : {T P : Type 0} (s now : SlotsState) (kind : Call) (result : Result T PutFault) → Refuses s kind result
@@ -132,33 +130,35 @@ did s now kind (Err NotVerified) begun small failed = did_broken WriteNotVerifie
 did s now kind (Err TooLarge) begun small same = absurd (small refl)
 did s now kind (Err NotBegun) begun small same = absurd (begun refl)
 
+-- A call that was broken off made its writes up to one that failed.
+broken_by : {T : Type 0} (s now : SlotsState) (kind : Call) (result : Result T PutFault) → Changes s kind result now → IsBroken result
+    → (fault : WriteFault) × CallFailed fault s kind now
+broken_by s now kind (Err Failed) failed broken = (WriteFailed, failed)
+broken_by s now kind (Err NotVerified) failed broken = (WriteNotVerified, failed)
+broken_by s now kind _ changes broken = absurd broken
+
 call_rose : {T : Type 0} (s now : SlotsState) (kind : Call) (result : Result T PutFault) → Changes s kind result now
     → IsBroken result → Rose s.medium.failures now.medium.failures
-call_rose s now kind (Ok x) changes broken = absurd broken
-call_rose s now kind (Err Failed) failed broken = broken_rose WriteFailed (writes_of s kind) s.medium now.medium failed.writes
-call_rose s now kind (Err NotVerified) failed broken = broken_rose WriteNotVerified (writes_of s kind) s.medium now.medium failed.writes
-call_rose s now kind (Err TooLarge) changes broken = absurd broken
-call_rose s now kind (Err NotBegun) changes broken = absurd broken
+call_rose s now kind result changes broken =
+    let f = broken_by s now kind result changes broken in
+    broken_rose f.0 (writes_of s kind) s.medium now.medium f.1.writes
 
 -- After a fault of a write nothing is held, and the puts end at 0.
 pub failed_fresh : {T : Type 0} (s now : SlotsState) (kind : Call) (result : Result T PutFault) → Changes s kind result now
     → IsBroken result → now ≡ store_on now.medium
-failed_fresh s now kind (Ok x) changes broken = absurd broken
-failed_fresh s now kind (Err Failed) failed broken = fresh_is now.medium now.held now.put_end failed.held_is failed.end_is
-failed_fresh s now kind (Err NotVerified) failed broken = fresh_is now.medium now.held now.put_end failed.held_is failed.end_is
-failed_fresh s now kind (Err TooLarge) changes broken = absurd broken
-failed_fresh s now kind (Err NotBegun) changes broken = absurd broken
+failed_fresh s now kind result changes broken =
+    let f = broken_by s now kind result changes broken in
+    fresh_is now.medium now.held now.put_end f.1.held_is f.1.end_is
 
 -- It is a store, where it is one after a call whose writes all worked.
 pub call_store : {T : Type 0} (s now : SlotsState) (kind : Call) (result : Result T PutFault) → Changes s kind result now → IsStore s
     → HasImage now.medium → OnOk result (IsStore now) → IsStore now
 call_store s now kind (Ok x) worked store has after = after
 call_store s now kind (Err Failed) failed store has after =
-    (fresh_leaves now.medium has now.held now.put_end failed.held_is failed.end_is).store
+    (fresh_leaves has failed.held_is failed.end_is).store
 call_store s now kind (Err NotVerified) failed store has after =
-    (fresh_leaves now.medium has now.held now.put_end failed.held_is failed.end_is).store
-call_store s now kind (Err TooLarge) same store has after = subst IsStore (sym same) store
-call_store s now kind (Err NotBegun) same store has after = subst IsStore (sym same) store
+    (fresh_leaves has failed.held_is failed.end_is).store
+call_store s now kind (Err _) same store has after = subst IsStore (sym same) store
 
 -- What the three calls have in common, of a store that has the room that it had.
 pub call_leaves : {T : Type 0} (s now : SlotsState) (kind : Call) (result : Result T PutFault) → Refuses s kind result
@@ -172,6 +172,6 @@ call_leaves s now kind result refuses changes store room = record {
   failed = failed_fresh s now kind result changes;
   store = store;
   active = image_active now store.has_image;
-  shape = shaped now store;
+  shape = shaped store;
   room = room;
 }

@@ -14,7 +14,7 @@ use Rattle.dfu_slots.specs.Leaves.{Refuses, CommitLeaves}
 use Rattle.dfu_slots.proofs.Stands.{ActiveAt, standing}
 use Rattle.dfu_slots.proofs.Newest.{places_are, place_end}
 use Rattle.dfu_slots.proofs.Multiples.{held_end, held_fits}
-use Rattle.dfu_slots.proofs.Series.{ends_keep, ends_grain}
+use Rattle.dfu_slots.proofs.Series.{SameSize, ends_same}
 use Rattle.dfu_slots.proofs.Committed.{commit_inside, committed, committed_either}
 use Rattle.dfu_slots.proofs.Seeing.{image_is, begun_closed, active_on, room_from, spare_is, fresh_is, fresh_leaves}
 use Rattle.dfu_slots.proofs.AfterCall.{commit_refuses, Came, after_call, after_ok, on_err_of, call_store, call_leaves}
@@ -41,23 +41,20 @@ module _ (s now : SlotsState) (store : IsStore s) (len : ℕ) (le : len ≤ s.pu
   within : len ≤ held_at s + length s.held
   within = omega (arith, le, held_end s store.puts)
 
-  size_after : length now.medium.bytes ≡ length s.medium.bytes
-  size_after =
+  same_after : SameSize s.medium now.medium
+  same_after =
       let a = has.active in
-      (ends_keep a.spare (a.spare + slot_size s.medium.bytes) (writes_of s (Commit len)) s.medium now.medium
+      ends_same a.spare (a.spare + slot_size s.medium.bytes) (writes_of s (Commit len)) s.medium now.medium
       (place_end g s.medium.bytes a.at a.spare (standing a).sized (standing a).places).1
       (commit_inside s.medium.grain s.medium a.at a.spare has.image (standing a) a.sized.whole off
-      (held_at s) s.held room len within (register (take len (spare_of s))) crc_is) came.ends).size
-
-  grain_after : now.medium.grain ≡ s.medium.grain
-  grain_after = ends_grain (writes_of s (Commit len)) s.medium now.medium came.ends
+      (held_at s) s.held room len within (register (take len (spare_of s))) crc_is) came.ends
 
   room_after : room_of now ≡ room_of s
-  room_after = room_from s now grain_after size_after
+  room_after = room_from s now same_after
 
   -- An image that stands on the medium now is its active one.
   active_now : (at spare : ℕ) (image : List ℕ) → ActiveAt g now.medium.bytes at spare image → Active now.medium image
-  active_now at spare image stands = active_on s.medium now.medium at spare image grain_after size_after has.active.sized.whole stands
+  active_now at spare image stands = active_on at spare image same_after has.active.sized.whole stands
 
   new_after : AllWrites s.medium (writes_of s (Commit len)) now.medium → Active now.medium (take len (spare_of s))
   new_after all =
@@ -94,7 +91,7 @@ module _ {T : Type 0} (s now : SlotsState) (store : IsStore s) (len : ℕ) (le :
 
   commit_store : IsStore now
   commit_store = call_store s now (Commit len) result changes store commit_has (after_ok s now (Commit len) result refuses changes
-      (λ came worked. (fresh_leaves now.medium commit_has now.held now.put_end worked.held_is worked.end_is).store))
+      (λ came worked. (fresh_leaves commit_has worked.held_is worked.end_is).store))
 
   commit_kept : (image_of now ≡ image_of s) ⊎ (image_of now ≡ take len (spare_of s))
   commit_kept =
@@ -102,21 +99,21 @@ module _ {T : Type 0} (s now : SlotsState) (store : IsStore s) (len : ℕ) (le :
       ⊎_elim (λ old. inl (sym (image_is now was.image old) ∙ image_is s was.image was.active))
       (λ new. inr (sym (image_is now (take len (spare_of s)) new))) commit_either
 
+  commit_left : CommitLeaves s len result now
+  commit_left = record {
+    common = call_leaves s now (Commit len) result refuses changes commit_store commit_room;
+    image = after_ok s now (Commit len) result refuses changes
+        (λ came worked. sym (image_is now (take len (spare_of s)) (new_after s now store len le came worked.writes)));
+    kept = on_err_of result commit_kept;
+    done = after_ok s now (Commit len) result refuses changes
+        (λ came worked. fresh_is now.medium now.held now.put_end worked.held_is worked.end_is);
+  }
+
 -- What the private `commit` did to the inside of a store that is seen as `v` is what `commit` does to the store.
 pub commit_leaves : {T : Type 0} {s v : SlotsState} → s ≡ v → IsStore s → (now : SlotsState) (len : ℕ) → len ≤ v.put_end
     → (result : Result T PutFault) → (IsErrOf result NotBegun ↔ IsOpen (spare_slot s)) → ¬ IsErrOf result TooLarge
     → Changes s (Commit len) result now → CommitLeaves v len result now
 commit_leaves {T} {s} {v} view store now len asked result not_begun never changes =
     let le : len ≤ s.put_end = subst (λ (x : SlotsState). len ≤ x.put_end) (sym view) asked in
-    let refuses = commit_refuses s result not_begun store len le never in
-    let new = take len (spare_of s) in
     subst (λ (x : SlotsState). CommitLeaves x len result now) view
-    (record {
-      common = call_leaves s now (Commit len) result refuses changes
-          (commit_store s now store len le result refuses changes) (commit_room s now store len le result refuses changes);
-      image = after_ok s now (Commit len) result refuses changes
-          (λ came worked. sym (image_is now new (new_after s now store len le came worked.writes)));
-      kept = on_err_of result (commit_kept s now store len le result refuses changes);
-      done = after_ok s now (Commit len) result refuses changes
-          (λ came worked. fresh_is now.medium now.held now.put_end worked.held_is worked.end_is);
-    })
+    (commit_left s now store len le result (commit_refuses s result not_begun store len le never) changes)

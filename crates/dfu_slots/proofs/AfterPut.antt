@@ -1,9 +1,10 @@
 -- What a store is after `put`.
-use Rattle.std.proofs.Common.{◌≡◌, ℕ, ◌+◌, ◌-◌, ◌*◌, ◌/◌, ◌%◌, ◌≤◌, List, ◌++◌, length, take, Result, sym, ◌∙◌, ap, subst, arith, length-append, take-append-drop}
+use Rattle.std.proofs.Common.{◌≡◌, ℕ, ◌+◌, ◌-◌, ◌*◌, ◌/◌, ◌%◌, ◌≤◌, ◌<◌, List, ◌++◌, length, take, Result, IsErrOf, ◌↔◌, sym, ◌∙◌, ap, subst, arith, length-append, take-append-drop}
 use Rattle.std.proofs.lemmas.List.{length-take-le, append_assoc}
 use Rattle.dfu_slots.specs.declared.fault.PutFault.{PutFault}
+use Rattle.dfu_slots.specs.declared.fault.PutFault.TheVariants.{TooLarge, NotBegun}
 use Rattle.dfu_slots.specs.Units.{unit_size, whole_part, gate_room, Grain}
-use Rattle.dfu_slots.specs.Medium.{KeepsOutside, AllWrites, IsAhead, written}
+use Rattle.dfu_slots.specs.Medium.{AllWrites, IsAhead, written}
 use Rattle.dfu_slots.specs.Writes.{put_writes, put_rest}
 use Rattle.dfu_slots.specs.Layout.{slot_size, Slot, slot, IsOpen}
 use Rattle.dfu_slots.specs.Image.{gate_of, capacity_of, spare_at, spare}
@@ -11,21 +12,21 @@ use Rattle.dfu_slots.specs.Seen.{SlotsState, spare_slot, held_at, data_place, sp
 use Rattle.dfu_slots.specs.Store.{HasPuts, IsStore}
 use Rattle.dfu_slots.specs.Changes.{Changes}
 use Rattle.dfu_slots.specs.Leaves.{Refuses, PutLeaves}
+use Rattle.dfu_slots.specs.inside.Kept.{IsKept}
 use Rattle.dfu_slots.proofs.Stands.{standing}
-use Rattle.dfu_slots.proofs.Parts.{data_length}
-use Rattle.dfu_slots.proofs.Newest.{places_are, place_end, spare_end}
+use Rattle.dfu_slots.proofs.Newest.{places_are, place_end, spare_size}
 use Rattle.dfu_slots.proofs.Sectors.{IsEdge, gate_wide}
 use Rattle.dfu_slots.proofs.Multiples.{part_le, part_more, held_end}
-use Rattle.dfu_slots.proofs.Series.{AllInside, ends_grain}
-use Rattle.dfu_slots.proofs.SpareData.{data_kept, data_keeps, data_spare, data_gate, data_written, spare_front}
-use Rattle.dfu_slots.proofs.ReadBack.{Stand}
+use Rattle.dfu_slots.proofs.Series.{AllInside}
+use Rattle.dfu_slots.proofs.SpareData.{DataLeaves, data_leaves, data_written, spare_front}
+use Rattle.dfu_slots.proofs.Anew.{Left}
 use Rattle.dfu_slots.proofs.Within.{front_written}
 use Rattle.dfu_slots.proofs.Edges.{end_edge}
 use Rattle.dfu_slots.proofs.PutAhead.{put_ahead}
-use Rattle.dfu_slots.proofs.Put.{whole_le, rest_length, put_inside, put_keeps, put_stands, put_written, put_joined, put_behind}
+use Rattle.dfu_slots.proofs.Put.{whole_le, rest_length, put_inside, put_left, put_written, put_joined, put_behind}
 use Rattle.dfu_slots.proofs.Seeing.{room_capacity, begun_closed, spare_is, begun_from_gate}
-use Rattle.dfu_slots.proofs.Stays.{Stays, SamePlaces, stays_places, stays_has, stays_same, stays_image, stays_room, spare_there}
-use Rattle.dfu_slots.proofs.AfterCall.{Came, after_call, after_ok, on_ok_of, call_store, call_leaves}
+use Rattle.dfu_slots.proofs.Stays.{Stays, kept_on, stays_places, stays_has, stays_same, stays_image, stays_room, spare_there}
+use Rattle.dfu_slots.proofs.AfterCall.{put_refuses, Came, after_call, after_ok, on_ok_of, call_store, call_leaves}
 
 module _ (s now : SlotsState) (store : IsStore s) (at : ℕ) (new : List ℕ) (here : at ≡ s.put_end) where
   abbrev g : ℕ
@@ -66,26 +67,17 @@ module _ (s now : SlotsState) (store : IsStore s) (at : ℕ) (new : List ℕ) (h
     shut : ¬ IsOpen (slot g s.medium.bytes store.has_image.active.spare)
     shut = subst (λ (q : ℕ). ¬ IsOpen (slot g s.medium.bytes q)) (sym place) (begun_closed s came.ready)
 
-    grain_is : now.medium.grain ≡ s.medium.grain
-    grain_is = ends_grain (writes_of s (Put at new)) s.medium now.medium came.ends
+    left : DataLeaves g s.medium now.medium store.has_image.active.at store.has_image.active.spare store.has_image.image
+    left =
+        let a = store.has_image.active in
+        data_leaves g (gate_wide s.medium.grain) s.medium now.medium a.at a.spare store.has_image.image (standing a) shut
+        (writes_of s (Put at new)) (inside fits) came.ends
 
     stays_after : Stays s now store.has_image
-    stays_after =
-        let a = store.has_image.active in
-        record {
-          stands = data_keeps g (gate_wide s.medium.grain) s.medium now.medium a.at a.spare store.has_image.image (standing a) shut
-              (writes_of s (Put at new)) (inside fits) came.ends;
-          grain = grain_is;
-          size = (data_kept g (gate_wide s.medium.grain) s.medium now.medium a.at a.spare store.has_image.image (standing a) shut
-              (writes_of s (Put at new)) (inside fits) came.ends).size;
-        }
+    stays_after = record { stands = left.stands; same = left.same }
 
     gate_after : (spare_slot now).gate ≡ (spare_slot s).gate
-    gate_after =
-        let a = store.has_image.active in
-        ap (λ (p : Slot). p.gate) (spare_there s.medium now.medium grain_is)
-        ∙ data_gate g (gate_wide s.medium.grain) s.medium now.medium a.at a.spare store.has_image.image (standing a) shut
-        (writes_of s (Put at new)) (inside fits) came.ends
+    gate_after = ap (λ (p : Slot). p.gate) (spare_there s.medium now.medium left.same.grain) ∙ left.gate
 
   -- After a `put` that is Ok.
   module _ (came : Came s now (Put at new)) (worked : CallWorked s (Put at new) now) where
@@ -113,18 +105,16 @@ module _ (s now : SlotsState) (store : IsStore s) (at : ℕ) (new : List ℕ) (h
     )
 
     data_size : length (spare_slot s).data_bytes ≡ capacity_of s.medium
-    data_size =
-        let sized = (standing store.has_image.active).sized in
-        data_length g s.medium.bytes (spare_at g s.medium.bytes) (spare_end g s.medium.bytes sized) (omega (arith, sized.room))
+    data_size = spare_size g s.medium.bytes (standing store.has_image.active).sized
 
     room : held_at s + length all ≤ length (spare_slot s).data_bytes
     room = omega (arith, data_size, fits came, here, all_length, held_end s store.puts)
 
+    grain : now.medium.grain ≡ s.medium.grain
+    grain = (left came).same.grain
+
     kept : spare_at g now.medium.bytes ≡ spare_at g s.medium.bytes
-    kept =
-        let a = store.has_image.active in
-        data_spare g (gate_wide s.medium.grain) s.medium now.medium a.at a.spare store.has_image.image (standing a)
-        (shut came) (writes_of s (Put at new)) (inside (fits came)) came.ends
+    kept = (left came).spare_stays
 
     end : store.has_image.active.spare + slot_size s.medium.bytes ≤ length s.medium.bytes
     end =
@@ -137,7 +127,6 @@ module _ (s now : SlotsState) (store : IsStore s) (at : ℕ) (new : List ℕ) (h
     ahead_after : IsAhead now.medium (data_place now (held_at now))
     ahead_after =
         let a = store.has_image.active in
-        let grain = grain_is came in
         let p = data_place s (held_at s) in
         let same : data_place s (at - length s.held) ≡ p = ap (λ (n : ℕ). data_place s (n - length s.held)) here in
         let gate : gate_of now.medium ≡ g = ap gate_room grain in
@@ -150,13 +139,11 @@ module _ (s now : SlotsState) (store : IsStore s) (at : ℕ) (new : List ℕ) (h
         (subst (λ (q : ℕ). AllWrites s.medium (put_writes s.medium.grain q s.held new) now.medium) same worked.writes) store.puts.ahead)
 
     puts_after : HasPuts now
-    puts_after =
-        let stays = stays_after came in
-        record {
-          fits = omega (arith, fits came, here, worked.end_is, ap gate_room stays.grain, stays.size);
-          ahead = ahead_after;
-          part = part_is ∙ ap (λ (w : Grain). now.put_end % unit_size w.unit) (sym stays.grain);
-        }
+    puts_after = record {
+      fits = omega (arith, fits came, here, worked.end_is, ap gate_room grain, (left came).same.size);
+      ahead = ahead_after;
+      part = part_is ∙ ap (λ (w : Grain). now.put_end % unit_size w.unit) (sym grain);
+    }
 
     -- The whole units stand behind what stood there.
     data_begins : take (held_at s + whole) (spare_slot now).data_bytes ≡ take (held_at s) (spare_slot s).data_bytes ++ take whole all
@@ -166,21 +153,18 @@ module _ (s now : SlotsState) (store : IsStore s) (at : ℕ) (new : List ℕ) (h
         let to = a.spare + slot_size s.medium.bytes in
         let same : p ≡ data_place s (held_at s) = ap (λ (n : ℕ). data_place s (n - length s.held)) here in
         let high : p + length all ≤ to = omega (arith, place, here, room, data_size, a.sized.room) in
-        ap (λ (q : Slot). take (held_at s + whole) q.data_bytes) (spare_there s.medium now.medium (grain_is came))
+        ap (λ (q : Slot). take (held_at s + whole) q.data_bytes) (spare_there s.medium now.medium grain)
         ∙ ap (λ (n : ℕ). take (held_at s + n) (spare g now.medium.bytes).data_bytes) (sym whole_size)
         ∙ spare_front g s.medium.bytes now.medium.bytes (standing a).sized kept (held_at s) (take whole all) to
         (omega (arith, room, data_size, whole_size, whole_le s.medium.grain s.held new))
-        (subst (λ (q : ℕ). KeepsOutside q to s.medium.bytes now.medium.bytes) same
-        (put_keeps s.medium.grain s.held new s.medium now.medium to p edge high end worked.writes))
-        (subst (λ (q : ℕ). Stand now.medium.bytes q (take whole all)) same
-        (put_stands s.medium.grain s.held new s.medium now.medium to p edge high end worked.writes))
+        (subst (λ (q : ℕ). Left q to (take whole all) s.medium.bytes now.medium.bytes) same
+        (put_left s.medium.grain s.held new s.medium now.medium to p edge high end worked.writes))
 
     data_size_now : length (spare_slot now).data_bytes ≡ capacity_of s.medium
     data_size_now =
-        let sized = (stays_after came).stands.sized in
-        ap (λ (q : Slot). length q.data_bytes) (spare_there s.medium now.medium (grain_is came))
-        ∙ data_length g now.medium.bytes (spare_at g now.medium.bytes) (spare_end g now.medium.bytes sized) (omega (arith, sized.room))
-        ∙ ap (λ (n : ℕ). n / 2 - 2 * g) (stays_after came).size
+        ap (λ (q : Slot). length q.data_bytes) (spare_there s.medium now.medium grain)
+        ∙ spare_size g now.medium.bytes (left came).stands.sized
+        ∙ ap (λ (n : ℕ). n / 2 - 2 * g) (left came).same.size
 
     front_after : take (at + length new) (spare_of now) ≡ take at (spare_of s) ++ new
     front_after =
@@ -205,7 +189,7 @@ module _ (s now : SlotsState) (store : IsStore s) (at : ℕ) (new : List ℕ) (h
     data_now : s.medium.grain.sector ≡ 0 → (spare_slot now).data_bytes ≡ written (spare_slot s).data_bytes (held_at s) (take whole all)
     data_now none =
         let a = store.has_image.active in
-        ap (λ (p : Slot). p.data_bytes) (spare_there s.medium now.medium (grain_is came))
+        ap (λ (p : Slot). p.data_bytes) (spare_there s.medium now.medium grain)
         ∙ data_written g s.medium.bytes now.medium.bytes (standing a).sized kept (held_at s) (take whole all)
         (omega (arith, room, data_size, whole_size, whole_le s.medium.grain s.held new))
         (put_written s.medium.grain s.held new s.medium now.medium (data_place s (at - length s.held)) none
@@ -233,30 +217,33 @@ module _ {T : Type 0} (s now : SlotsState) (store : IsStore s) (at : ℕ) (new :
   put_gate = after_call s now (Put at new) result refuses changes (gate_after s now store at new here)
       (ap (λ (x : SlotsState). (spare_slot x).gate))
 
-  -- The places of the slots stay, whatever it answered.
-  pub put_places : SamePlaces s.medium now.medium
-  put_places = stays_places s now store.has_image put_stays
-
   put_store : IsStore now
   put_store =
       let has = stays_has s now store.has_image put_stays in
       call_store s now (Put at new) result changes store has (after_ok s now (Put at new) result refuses changes
       (λ came worked. record { has_image = has; puts = puts_after s now store at new here came worked }))
 
--- What the private `put` did to the inside of a store that is seen as `v` is what `put` does to the store.
-pub put_leaves : {T : Type 0} {s v : SlotsState} → s ≡ v → IsStore s → (now : SlotsState) (at : ℕ) (new : List ℕ) → at ≡ s.put_end
-    → (result : Result T PutFault) → Refuses s (Put at new) result → Changes s (Put at new) result now → PutLeaves v at new result now
-put_leaves {T} {s} {v} view store now at new here result refuses changes =
-    let stays : Stays s now store.has_image = put_stays s now store at new here result refuses changes in
-    let gate : (spare_slot now).gate ≡ (spare_slot s).gate = put_gate s now store at new here result refuses changes in
-    subst (λ (x : SlotsState). PutLeaves x at new result now) view
-    (record {
-      common = call_leaves s now (Put at new) result refuses changes
-          (put_store s now store at new here result refuses changes) (stays_room s now store.has_image stays);
-      image = stays_image s now store.has_image stays;
-      front = after_ok s now (Put at new) result refuses changes (front_after s now store at new here);
-      spare = after_ok s now (Put at new) result refuses changes (spare_after s now store at new here);
-      end = after_ok s now (Put at new) result refuses changes (λ came worked. worked.end_is);
-      gate = on_ok_of result gate;
-      shut = on_ok_of result (begun_from_gate s now gate);
-    })
+  put_leaves : PutLeaves s at new result now
+  put_leaves = record {
+    common = call_leaves s now (Put at new) result refuses changes put_store (stays_room s now store.has_image put_stays);
+    image = stays_image s now store.has_image put_stays;
+    front = after_ok s now (Put at new) result refuses changes (front_after s now store at new here);
+    spare = after_ok s now (Put at new) result refuses changes (spare_after s now store at new here);
+    end = after_ok s now (Put at new) result refuses changes (λ came worked. worked.end_is);
+    gate = on_ok_of result put_gate;
+    shut = on_ok_of result (begun_from_gate s now put_gate);
+  }
+
+-- What the private `put` did to the inside of a store that is seen as `v` is what `put` does to the store, and its places are kept.
+pub put_done : {T : Type 0} {s v : SlotsState} {active spare : ℕ} → s ≡ v → IsKept s active spare → (now : SlotsState) (at : ℕ)
+    (new : List ℕ) → at ≡ v.put_end → (result : Result T PutFault) → (IsErrOf result NotBegun ↔ IsOpen (spare_slot s))
+    → (IsErrOf result TooLarge ↔ ((¬ IsOpen (spare_slot s)) × (capacity_of s.medium < at + length new)))
+    → Changes s (Put at new) result now → IsKept now active spare × PutLeaves v at new result now
+put_done {T} {s} {v} view kept now at new place result not_begun too_large changes =
+    let store = kept.store in
+    let here : at ≡ s.put_end = place ∙ sym (ap (λ (x : SlotsState). x.put_end) view) in
+    let refuses = put_refuses s result not_begun at new too_large in
+    let leaves = put_leaves s now store at new here result refuses changes in (
+      kept_on kept leaves.common.store (stays_places s now store.has_image (put_stays s now store at new here result refuses changes)),
+      subst (λ (x : SlotsState). PutLeaves x at new result now) view leaves,
+    )

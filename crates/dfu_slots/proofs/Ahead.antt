@@ -3,7 +3,7 @@ use Rattle.std.proofs.Common.{◌≡◌, ◌≢◌, ◌⊎◌, ◌==◌, true, f
 use Rattle.std.proofs.lemmas.List.{length-replicate, get_or-replicate, get_or-take, get_or-drop}
 use Rattle.std.proofs.lemmas.Bool.{cases_lt, eqb-true, eqb-false}
 use Rattle.std.proofs.Math.Nat.{add-mod_right}
-use Rattle.dfu_slots.specs.Units.{Grain}
+use Rattle.dfu_slots.specs.Units.{Grain, IsMultiple}
 use Rattle.dfu_slots.specs.Medium.{MediumState, Write, AllWrites, KeepsOutside, IsErased, IsAhead, IsWritable, written}
 use Rattle.dfu_slots.specs.Image.{IsSized}
 use Rattle.dfu_slots.specs.Writes.{erase_write, erases, write_anew, write_some}
@@ -12,7 +12,15 @@ use Rattle.dfu_slots.proofs.Series.{all_keep, all_parts, all_if, all_unless, all
 use Rattle.dfu_slots.proofs.Sectors.{IsEdge, edge_next}
 use Rattle.dfu_slots.proofs.Edges.{sized_edge}
 use Rattle.dfu_slots.proofs.Anew.{erases_inside}
-use Rattle.dfu_slots.proofs.SizedOn.{anew_is, erases_size}
+use Rattle.dfu_slots.proofs.SizedOn.{anew_is, erases_same}
+
+-- The medium is two slots, and so many bytes may be written there.
+pub record MayWrite (m : MediumState) (at n : ℕ) : Type 0 where
+  pub sized : IsSized m
+  pub ahead : IsAhead m at
+  pub within : at + n ≤ length m.bytes
+  pub place : IsMultiple m.grain.unit at
+  pub whole : IsMultiple m.grain.unit n
 
 -- Where a sector begins, nothing is asked.
 pub edge_ahead : (m : MediumState) (at : ℕ) → IsEdge m.grain.sector at → IsAhead m at
@@ -113,7 +121,7 @@ pub erases_writable : (m e : MediumState) (at n : ℕ) → IsSized m → 0 < m.g
     → AllWrites m (erases m.grain.sector at n) e → IsAhead m at → IsWritable e at n
 erases_writable m e at n sized some fits all ahead other p low high =
     erases_ahead m.grain.sector some at n m e fits (sized_edge m sized some) all (ahead some) p low
-    (omega (arith, high, fits, erases_size m e at n sized some fits all))
+    (omega (arith, high, fits, (erases_same m e at n sized some fits all).size))
     (λ q from to. absurd (omega (arith, from, to, high)))
 
 -- Behind a write the bytes are erased up to the next sector.
@@ -126,7 +134,7 @@ anew_ahead m now at bytes sized fits all ahead other p low high none =
     subst (λ (ws : List Write). AllWrites m ws now) (anew_is m.grain.sector at bytes (λ e. omega (arith, some, e))) all in
     let parts = all_parts (erases m.grain.sector at (length bytes)) (record { at = at; bytes = bytes } ∷ []) m now cut in
     let e = parts.0 in
-    let size : length e.bytes ≡ length m.bytes = erases_size m e at (length bytes) sized some fits parts.1.first in
+    let size = (erases_same m e at (length bytes) sized some fits parts.1.first).size in
     let is : now.bytes ≡ written e.bytes at bytes = ap (λ (s : MediumState). s.bytes) parts.1.second.2 ∙ parts.1.second.1.bytes in
     let torn = written_torn e.bytes at bytes (omega (arith, fits, size)) in
     ap (λ (l : List ℕ). slice_index l p) is

@@ -1,11 +1,11 @@
 -- Writes with the erases before them: where they lie, and what they leave.
-use Rattle.std.proofs.Common.{◌≡◌, ◌≢◌, ⊎_elim, ◌==◌, Bool, true, false, if◌then◌else◌, ℕ, zero, suc, ◌+◌, ◌%◌, ◌≤◌, List, [], ◌∷◌, length, slice_range, refl, sym, ◌∙◌, ap, subst, arith}
+use Rattle.std.proofs.Common.{◌≡◌, ◌≢◌, inl, ⊎_elim, ◌==◌, Bool, true, false, if◌then◌else◌, ℕ, zero, suc, ◌+◌, ◌%◌, ◌≤◌, List, [], ◌∷◌, ◌++◌, length, slice_range, refl, sym, ◌∙◌, ap, subst, arith}
 use Rattle.std.proofs.lemmas.List.{nil_from_length, length-replicate}
 use Rattle.std.proofs.lemmas.Bool.{eqb-true, eqb-false}
 use Rattle.dfu_slots.specs.Medium.{MediumState, Write, KeepsOutside, AllWrites, written}
 use Rattle.dfu_slots.specs.Writes.{erase_write, erases, write_anew, write_some}
-use Rattle.dfu_slots.proofs.Torn.{written_range}
-use Rattle.dfu_slots.proofs.ReadBack.{Stand, none_stand}
+use Rattle.dfu_slots.proofs.Torn.{written_range, range_outside, keeps_both, keeps_wider}
+use Rattle.dfu_slots.proofs.ReadBack.{Stand, none_stand, both_stand}
 use Rattle.dfu_slots.proofs.Series.{AllInside, all_keep, all_parts, all_unless, inside_if, inside_append}
 use Rattle.dfu_slots.proofs.Within.{written_nil}
 use Rattle.dfu_slots.proofs.Sectors.{IsEdge, edge_next}
@@ -48,40 +48,59 @@ pub some_inside : (sector from to at : ℕ) (bytes : List ℕ) → IsEdge sector
 some_inside sector from to at bytes edge low high =
     inside_if from to (length bytes == 0) [] (write_anew sector at bytes) tt (anew_inside sector from to at bytes edge low high)
 
+-- These bytes stand there, and nothing changed in front of them, nor from another place on.
+abbrev pub Left : ℕ → ℕ → List ℕ → List ℕ → List ℕ → Type 0
+Left at to bytes old now = KeepsOutside at to old now × Stand now at bytes
+
+-- What was left there one behind the other was left as a whole.
+pub left_join : (at to n : ℕ) (a c old mid now : List ℕ) → n ≡ length a → at + length a + length c ≤ to → to ≤ length old
+    → Left at to a old mid → Left (at + n) to c mid now → Left at to (a ++ c) old now
+left_join at to n a c old mid now size fits room (first, stands) (second, more) = (
+  keeps_both at to old mid now first (keeps_wider (at + n) to at to mid now second (omega arith) (omega arith)),
+  both_stand now at a c (omega (arith, fits, room, first.size, second.size))
+      (range_outside (at + n) to mid now at (at + length a) second (inl (omega (arith, size))) ∙ stands)
+      (subst (λ (k : ℕ). Stand now (at + k) c) size more),
+)
+
+-- These bytes were written over what the erases left.
+pub record WrittenAnew (at to : ℕ) (bytes old now : List ℕ) : Type 0 where
+  pub left : List ℕ
+  pub erased : KeepsOutside at to old left
+  pub is : now ≡ written left at bytes
+  pub keeps : KeepsOutside at to old now
+
 module _ (sector to at : ℕ) (bytes : List ℕ) (edge : IsEdge sector to) (high : at + length bytes ≤ to) (s now : MediumState)
     (room : to ≤ length s.bytes) where
-  -- It changes nothing in front of its place, nor behind the sector in which it ends.
-  pub anew_keeps : AllWrites s (write_anew sector at bytes) now → KeepsOutside at to s.bytes now.bytes
-  anew_keeps all = all_keep at to (write_anew sector at bytes) s now room (anew_inside sector at to at bytes edge (omega arith) high) all
+  -- A write with its erases changes nothing in front of its place, nor behind the sector in which it ends.
+  pub anew_written : AllWrites s (write_anew sector at bytes) now → WrittenAnew at to bytes s.bytes now.bytes
+  anew_written all =
+      let parts = all_parts (before sector at (length bytes)) (record { at = at; bytes = bytes } ∷ []) s now all in
+      record {
+        left = parts.0.bytes;
+        erased = all_keep at to (before sector at (length bytes)) s parts.0 room
+            (before_inside sector at to at (length bytes) edge (omega arith) high) parts.1.first;
+        is = ap (λ (m : MediumState). m.bytes) parts.1.second.2 ∙ parts.1.second.1.bytes;
+        keeps = all_keep at to (write_anew sector at bytes) s now room (anew_inside sector at to at bytes edge (omega arith) high) all;
+      }
 
-  -- Its bytes were written over what the erases left.
-  pub anew_last : AllWrites s (write_anew sector at bytes) now
-      → (e : MediumState) × KeepsOutside at to s.bytes e.bytes × (now.bytes ≡ written e.bytes at bytes)
-  anew_last all =
-      let parts = all_parts (before sector at (length bytes)) (record { at = at; bytes = bytes } ∷ []) s now all in (
-        parts.0,
-        all_keep at to (before sector at (length bytes)) s parts.0 room
-            (before_inside sector at to at (length bytes) edge (omega arith) high) parts.1.first,
-        ap (λ (m : MediumState). m.bytes) parts.1.second.2 ∙ parts.1.second.1.bytes,
+  -- So its bytes stand there.
+  pub anew_leaves : AllWrites s (write_anew sector at bytes) now → Left at to bytes s.bytes now.bytes
+  anew_leaves all =
+      let w = anew_written all in (
+        w.keeps,
+        ap (λ (l : List ℕ). slice_range l at (at + length bytes)) w.is
+            ∙ written_range w.left at bytes (omega (arith, w.erased.size, high, room)),
       )
 
-  -- So they stand there.
-  pub anew_stands : AllWrites s (write_anew sector at bytes) now → Stand now.bytes at bytes
-  anew_stands all =
-      let last = anew_last all in
-      ap (λ (l : List ℕ). slice_range l at (at + length bytes)) last.2
-      ∙ written_range last.0.bytes at bytes (omega (arith, last.1.size, high, room))
-
   -- The same of some bytes, or of none.
-  pub some_keeps : AllWrites s (write_some sector at bytes) now → KeepsOutside at to s.bytes now.bytes
-  some_keeps all = all_keep at to (write_some sector at bytes) s now room (some_inside sector at to at bytes edge (omega arith) high) all
-
-  pub some_stands : AllWrites s (write_some sector at bytes) now → Stand now.bytes at bytes
-  some_stands all =
-      ⊎_elim
-      (λ none. subst (λ (l : List ℕ). Stand now.bytes at l) (sym (nil_from_length bytes (eqb-true _ _ none.0))) (none_stand now.bytes at))
-      (λ one. anew_stands one.1)
-      (all_unless s now (length bytes == 0) (write_anew sector at bytes) all)
+  pub some_leaves : AllWrites s (write_some sector at bytes) now → Left at to bytes s.bytes now.bytes
+  some_leaves all = (
+    all_keep at to (write_some sector at bytes) s now room (some_inside sector at to at bytes edge (omega arith) high) all,
+    ⊎_elim
+        (λ none. subst (λ (l : List ℕ). Stand now.bytes at l) (sym (nil_from_length bytes (eqb-true _ _ none.0))) (none_stand now.bytes at))
+        (λ one. (anew_leaves one.1).1)
+        (all_unless s now (length bytes == 0) (write_anew sector at bytes) all),
+  )
 
 -- On a medium without sectors a write of some bytes or of none leaves those bytes there, and all others.
 pub some_written : (s now : MediumState) (at : ℕ) (bytes : List ℕ) → AllWrites s (write_some 0 at bytes) now

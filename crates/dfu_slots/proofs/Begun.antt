@@ -13,7 +13,7 @@ use Rattle.dfu_slots.proofs.Torn.{written_range, first_of_range}
 use Rattle.dfu_slots.proofs.Parts.{length-gate_unit, data_outside}
 use Rattle.dfu_slots.proofs.Newest.{places_are, place_end}
 use Rattle.dfu_slots.proofs.Kept.{gate_change}
-use Rattle.dfu_slots.proofs.Series.{AllInside, Ends, ends_keep, ends_if, all_if, inside_if}
+use Rattle.dfu_slots.proofs.Series.{AllInside, Ends, SameSize, ends_keep, ends_same, ends_if, all_if, inside_if}
 
 -- Where the active slot stays, the spare does.
 pub same_spare : (g : ℕ) (old now : List ℕ) (mine other : ℕ) (image : List ℕ) → ActiveAt g old mine other image
@@ -85,8 +85,12 @@ module _ (w : Grain) (s now : MediumState) (mine other : ℕ) (image : List ℕ)
   -- Whether its write worked or failed.
   module _ (ends : Ends s (begin_writes w old) now) where
     -- A `begin` writes nothing outside the gate of the spare.
-    pub begin_outside : KeepsOutside other (other + g) old now.bytes
+    begin_outside : KeepsOutside other (other + g) old now.bytes
     begin_outside = ends_keep other (other + g) (begin_writes w old) s now (omega (arith, end, a.sized.room)) inside ends
+
+    -- The medium has the size that it had.
+    pub begin_same : SameSize s now
+    begin_same = ends_same other (other + g) (begin_writes w old) s now (omega (arith, end, a.sized.room)) inside ends
 
     -- The active image stands where it stood.
     pub begin_keeps : ActiveAt g now.bytes mine other image

@@ -51,13 +51,13 @@ pub blank_piece : (m : List ℕ) (at n : ℕ) (piece : List ℕ) → piece ≡ r
 blank_piece m at n piece is blank = subst (λ (l : List ℕ). Stand m at l) (sym is) (blank_stand m at n blank)
 
 -- An erase whose sector is blank then worked.
-pub was_erased : (old : MediumState) (at n : ℕ) (now : MediumState) → at + n ≤ length old.bytes → WroteOrLied old at (replicate n 255) now
+pub was_erased : {old now : MediumState} {at : ℕ} (n : ℕ) → at + n ≤ length old.bytes → WroteOrLied old at (replicate n 255) now
     → IsBlank now.bytes at n → Wrote old at (replicate n 255) now
-was_erased old at n now room answered blank = was_written old at (replicate n 255) now (omega (arith, blanks n, room)) answered
-    (blank_stand now.bytes at n blank)
+was_erased {now = now} {at = at} n room answered blank =
+    was_written (omega (arith, blanks n, room)) answered (blank_stand now.bytes at n blank)
 
 -- And one whose sector is not lied.
-pub not_erased : (old : MediumState) (at n : ℕ) (now : MediumState) → at + n ≤ length old.bytes → WroteOrLied old at (replicate n 255) now
+pub not_erased : {old now : MediumState} {at : ℕ} (n : ℕ) → at + n ≤ length old.bytes → WroteOrLied old at (replicate n 255) now
     → ¬ IsBlank now.bytes at n → FailedWrite NotVerified old at (replicate n 255) now
-not_erased old at n now room answered missing = not_written old at (replicate n 255) now (omega (arith, blanks n, room)) answered
-    (λ s. missing (stand_blank now.bytes at n s))
+not_erased {now = now} {at = at} n room answered missing =
+    not_written (omega (arith, blanks n, room)) answered (λ s. missing (stand_blank now.bytes at n s))

@@ -1,24 +1,24 @@
 -- What `commit` leaves.
-use Rattle.std.proofs.Common.{◌≡◌, ◌⊎◌, inl, inr, ⊎_elim, ℕ, ◌+◌, ◌-◌, ◌*◌, ◌^◌, ◌≤◌, ◌<◌, List, length, take, drop, replicate, slice_index, slice_range, sym, ◌∙◌, ap, subst, arith}
-use Rattle.std.proofs.lemmas.List.{length-take-le, take_at, take-take}
+use Rattle.std.proofs.Common.{◌≡◌, ◌⊎◌, inl, inr, ⊎_elim, ℕ, ◌+◌, ◌-◌, ◌*◌, ◌^◌, ◌≤◌, ◌<◌, List, length, take, replicate, slice_index, slice_range, sym, ◌∙◌, ap, subst, arith, length-append}
+use Rattle.std.proofs.lemmas.List.{length-take-le}
 use Rattle.std.proofs.lemmas.Bool.{cases_eq}
-use Rattle.std.specs.Int.{w32, from_le_bytes}
-use Rattle.std.proofs.lemmas.Nat.{from_le_bytes-to_le_bytes_4}
 use Rattle.dfu_suffix.specs.Register.{register}
 use Rattle.dfu_slots.specs.declared.fault.WriteFault.{WriteFault}
 use Rattle.dfu_slots.specs.Medium.{MediumState, Write, KeepsOutside, AllWrites, BrokenWrites, written}
-use Rattle.dfu_slots.specs.Layout.{slot_size, capacity, Slot, slot, OPEN, IsOpen, generation, next_generation, header_length, header, HasHeader, gate_unit, header_unit}
+use Rattle.dfu_slots.specs.Layout.{slot_size, capacity, Slot, slot, OPEN, IsOpen, generation, next_generation, header, HasHeader, gate_unit, header_unit}
 use Rattle.dfu_slots.specs.Image.{active_at, spare_at, spare}
 use Rattle.dfu_slots.specs.Units.{Grain, gate_size, gate_room, IsWhole}
 use Rattle.dfu_slots.specs.Writes.{write_anew, commit_writes}
 use Rattle.dfu_slots.proofs.Sectors.{IsEdge, unit_wide, gate_wide}
 use Rattle.dfu_slots.proofs.Edges.{header_edge, data_edge}
-use Rattle.dfu_slots.proofs.Anew.{anew_inside, anew_last}
+use Rattle.dfu_slots.proofs.Anew.{WrittenAnew, anew_inside, anew_written}
 use Rattle.dfu_slots.proofs.Stands.{ActiveAt}
-use Rattle.dfu_slots.proofs.Torn.{written_range, keeps_both, keeps_wider}
-use Rattle.dfu_slots.proofs.Parts.{length-gate_unit, length-header_unit, header_outside, data_outside, slot_outside, data_length, size_kept, sized_kept}
+use Rattle.dfu_slots.proofs.Counting.{header_length_is, header_two}
+use Rattle.dfu_slots.proofs.Torn.{written_torn, written_range, keeps_both, keeps_wider}
+use Rattle.dfu_slots.proofs.ReadBack.{front_stands}
+use Rattle.dfu_slots.proofs.Parts.{length-gate_unit, length-header_unit, header_outside, data_outside, data_length, size_kept, sized_kept}
 use Rattle.dfu_slots.proofs.Newest.{places_are, place_end}
-use Rattle.dfu_slots.proofs.Kept.{closed_change, active_kept}
+use Rattle.dfu_slots.proofs.Kept.{mine_kept, closed_change, active_kept}
 use Rattle.dfu_slots.proofs.Series.{AllInside, all_keep, broken_keep, all_parts, broken_parts}
 use Rattle.dfu_slots.proofs.Begun.{gate_written}
 
@@ -27,19 +27,14 @@ pub header_written : (g : ℕ) → 16 ≤ g → (old : List ℕ) (p gen len crc 
     → slice_range (written old p (header_unit g gen len crc)) p (p + 16) ≡ header 2 gen len crc
 header_written g wide old p gen len crc fits =
     let unit = header_unit g gen len crc in
+    let zeros = replicate {A = ℕ} (g - 16) 0 in
     let size = length-header_unit g gen len crc wide in
-    let whole : slice_range (written old p unit) p (p + length unit) ≡ unit = written_range old p unit (omega (arith, size)) in
-    let d = slice_range (written old p unit) p (p + length unit) in
-    front old p unit 16 (omega (arith, size)) (omega (arith, size)) ∙ take_at (header 2 gen len crc) (replicate (g - 16) 0) 16 (omega arith)
-  where
-    front : (l : List ℕ) (q : ℕ) (new : List ℕ) (n : ℕ) → n ≤ length new → q + length new ≤ length l
-        → slice_range (written l q new) q (q + n) ≡ take n new
-    front l q new n le room =
-        let e : q + n - q ≡ n = omega arith in
-        let f : q + length new - q ≡ length new = omega arith in
-        let d = drop q (written l q new) in
-        ap (λ (k : ℕ). take k d) e ∙ sym (take-take n (length new) d le)
-        ∙ ap (λ (x : List ℕ). take n x) (ap (λ (k : ℕ). take k d) (sym f) ∙ written_range l q new room)
+    let room : p + length unit ≤ length old = omega (arith, size, fits) in
+    let parts = length-append (header 2 gen len crc) zeros in
+    let long : length (header 2 gen len crc) ≡ 16 = omega arith in
+    ap (λ (n : ℕ). slice_range (written old p unit) p (p + n)) (sym long)
+    ∙ front_stands (written old p unit) p (header 2 gen len crc) zeros
+    (omega (arith, (written_torn old p unit room).size, parts, room)) (written_range old p unit room)
 
 -- The gate of a slot whose header and data are a new image's.
 
@@ -71,9 +66,7 @@ module _ (g : ℕ) (wide : 16 ≤ g) (old mid left : List ℕ) (mine other : ℕ
   left_data = data_outside g other (other + g) mid left other torn (inr (omega arith)) ∙ data_is
 
   mine_is : slot g left mine ≡ slot g old mine
-  mine_is =
-      slot_outside g other (other + slot_size old) old left mine left_keeps wide (omega (arith, a.sized.room))
-      (⊎_elim (λ p. inl (omega (arith, p.0, p.1))) (λ p. inr (omega (arith, p.0, p.1))) a.places)
+  mine_is = mine_kept g wide old left mine other image other (other + slot_size old) a left_keeps (omega arith) (omega arith)
 
   image_length : length next_image ≡ len
   image_length = length-take-le len whole fits
@@ -81,26 +74,26 @@ module _ (g : ℕ) (wide : 16 ≤ g) (old mid left : List ℕ) (mine other : ℕ
   generation_is : generation (slot g left other) ≡ gen
   generation_is = ap (λ (h : List ℕ). slice_index h 0) left_head
 
-  length_is : header_length (slot g left other) ≡ len
-  length_is = ap (λ (h : List ℕ). from_le_bytes w32 (take 4 (drop 4 h))) left_head ∙ from_le_bytes-to_le_bytes_4 len bound
-
   -- It has a well-formed header of the new image, whatever its gate is.
-  left_header : (n : ℕ) → n ≡ len → HasHeader (slot g left other) n
-  left_header n same = record {
-    well_formed = inr (left_head ∙ (λ i. header 2 (sym generation_is i) (sym same i) (register (take (sym same i) (sym left_data i)))));
-    fits = omega (arith, ap length left_data, same, fits);
-  }
+  left_header : HasHeader (slot g left other) len
+  left_header = header_two (slot g left other) gen len
+      (left_head ∙ ap (λ (d : List ℕ). header 2 gen len (register (take len d))) (sym left_data))
+      (omega (arith, ap length left_data, fits))
 
   -- Open, it is the newest slot, and has the new image.
   pub opened : IsOpen (slot g left other) → ActiveAt g left other mine next_image
   opened is_open = record {
-    sized = sized_kept g other (other + slot_size old) old left left_keeps a.sized;
+    sized = sized_kept g old left left_keeps.size a.sized;
     places = ⊎_elim (λ p. inr (p.1 ∙ sym left_size, p.0)) (λ p. inl (p.1, p.0 ∙ sym left_size)) a.places;
     newest = record {
-      counts = record { is_open = is_open; intact = λ two. left_header (header_length (slot g left other)) length_is };
+      counts = record {
+        is_open = is_open;
+        intact = λ two.
+            subst (HasHeader (slot g left other)) (sym (header_length_is (slot g left other) len left_header bound)) left_header;
+      };
       newer = inr (generation_is ∙ ap (λ (x : Slot). next_generation (generation x)) (sym mine_is));
     };
-    header_is = left_header (length next_image) image_length;
+    header_is = subst (HasHeader (slot g left other)) (sym image_length) left_header;
     image_is = ap (λ (n : ℕ). take n whole) (sym image_length) ∙ ap (λ (d : List ℕ). take (length next_image) d) (sym left_data);
   }
 
@@ -188,18 +181,17 @@ module _ (w : Grain) (s : MediumState) (mine other : ℕ) (image : List ℕ) (a 
     mid_keeps = keeps_wider (other + g) (other + 2 * g) (other + g) (other + slot_size was) was mid.bytes head_keeps (omega arith)
         (omega (arith, a.sized.room))
 
-    last : (e : MediumState) × KeepsOutside (spare_at g was + g) (other + 2 * g) was e.bytes
-        × (mid.bytes ≡ written e.bytes (spare_at g was + g) head_unit)
-    last = anew_last w.sector (other + 2 * g) (spare_at g was + g) head_unit head_edge (omega (arith, places_of.1, head_length)) s mid
+    last : WrittenAnew (spare_at g was + g) (other + 2 * g) head_unit was mid.bytes
+    last = anew_written w.sector (other + 2 * g) (spare_at g was + g) head_unit head_edge (omega (arith, places_of.1, head_length)) s mid
         (omega (arith, end, a.sized.room)) first
 
     mid_head : (slot g mid.bytes other).header
         ≡ header 2 (next_generation (generation (slot g was mine))) len (register (take len (slot g was other).data_bytes))
     mid_head =
         ap (λ (q : ℕ). slice_range mid.bytes (q + g) (q + g + 16)) places_of.1
-        ∙ ap (λ (l : List ℕ). slice_range l (spare_at g was + g) (spare_at g was + g + 16)) last.2
-        ∙ header_written k (unit_wide w.unit) last.0.bytes (spare_at g was + g) next len crc
-        (omega (arith, last.1.size, places_of.1, end, a.sized.room))
+        ∙ ap (λ (l : List ℕ). slice_range l (spare_at g was + g) (spare_at g was + g + 16)) last.is
+        ∙ header_written k (unit_wide w.unit) last.left (spare_at g was + g) next len crc
+        (omega (arith, last.erased.size, places_of.1, end, a.sized.room))
         ∙ (λ i. header 2 (next_generation (generation (slot g was (sym places_of.0 i)))) len
         (register (take len (slot g was (sym places_of.1 i)).data_bytes)))
 
@@ -217,12 +209,12 @@ module _ (w : Grain) (s : MediumState) (mine other : ℕ) (image : List ℕ) (a 
       let first = parts.1.first in
       let size = (mid_keeps mid first).size in
       let torn = all_keep other (other + g) gate_write mid now (omega (arith, size, end, a.sized.room)) gate_inside parts.1.second in
-      let opens = anew_last w.sector (other + g) (spare_at g was) (gate_unit k OPEN) gate_edge (omega (arith, places_of.1, gate_length)) mid
-      now (omega (arith, size, end, a.sized.room)) parts.1.second in
+      let opens = anew_written w.sector (other + g) (spare_at g was) (gate_unit k OPEN) gate_edge (omega (arith, places_of.1, gate_length))
+      mid now (omega (arith, size, end, a.sized.room)) parts.1.second in
       let is_open : IsOpen (slot g now.bytes other) =
-      ap (λ (q : ℕ). slice_index now.bytes q) places_of.1 ∙ ap (λ (l : List ℕ). slice_index l (spare_at g was)) opens.2
-      ∙ gate_written k (unit_wide w.unit) opens.0.bytes (spare_at g was) OPEN
-      (omega (arith, opens.1.size, size, end, places_of.1, a.sized.room)) in
+      ap (λ (q : ℕ). slice_index now.bytes q) places_of.1 ∙ ap (λ (l : List ℕ). slice_index l (spare_at g was)) opens.is
+      ∙ gate_written k (unit_wide w.unit) opens.left (spare_at g was) OPEN
+      (omega (arith, opens.erased.size, size, end, places_of.1, a.sized.room)) in
       subst (λ (q : ℕ). ActiveAt g now.bytes other mine (take len (slot g was q).data_bytes)) places_of.1
       (opened g wide was mid.bytes now.bytes mine other image a len (slot g was other).data_bytes (omega (arith, whole_length)) bound
       (mid_keeps mid first) torn (mid_head mid first) (mid_data mid first) is_open)

@@ -1,22 +1,24 @@
 -- What `commit` leaves: it writes the bytes that are held, and then installs the image.
-use Rattle.std.proofs.Common.{◌≡◌, ◌⊎◌, inl, inr, ⊎_elim, ℕ, ◌+◌, ◌-◌, ◌*◌, ◌≤◌, List, ◌++◌, length, take, replicate, sym, ◌∙◌, ap, subst, arith, length-append}
+use Rattle.std.proofs.Common.{◌≡◌, ◌⊎◌, inl, inr, ℕ, ◌+◌, ◌-◌, ◌*◌, ◌≤◌, List, ◌++◌, length, take, replicate, sym, ◌∙◌, ap, subst, arith, length-append}
 use Rattle.dfu_slots.specs.declared.unit.Unit.{Unit as WriteUnit}
 use Rattle.dfu_suffix.specs.Register.{register}
-use Rattle.dfu_slots.specs.Units.{Grain, gate_size, gate_room, IsWhole, fill_size, filled}
+use Rattle.dfu_slots.specs.Units.{Grain, gate_room, IsWhole, fill_size, filled}
 use Rattle.dfu_slots.specs.declared.fault.WriteFault.{WriteFault}
 use Rattle.dfu_slots.specs.Medium.{MediumState, Write, AllWrites, BrokenWrites, written}
-use Rattle.dfu_slots.specs.Layout.{slot_size, capacity, Slot, slot, OPEN, IsOpen, generation, next_generation, gate_unit, header_unit}
+use Rattle.dfu_slots.specs.Layout.{slot_size, capacity, Slot, slot, IsOpen, generation, next_generation}
 use Rattle.dfu_slots.specs.Image.{active_at, spare_at, spare}
-use Rattle.dfu_slots.specs.Writes.{write_anew, part_writes, open_writes, commit_writes}
+use Rattle.dfu_slots.specs.Writes.{part_writes, open_writes, commit_writes}
 use Rattle.dfu_slots.proofs.Stands.{ActiveAt}
-use Rattle.dfu_slots.proofs.Parts.{length-gate_unit, length-header_unit, slot_outside, size_kept, data_length}
-use Rattle.dfu_slots.proofs.Newest.{places_are, place_end}
+use Rattle.dfu_slots.proofs.Parts.{size_kept}
+use Rattle.dfu_slots.proofs.Newest.{places_are, place_end, spare_size}
 use Rattle.dfu_slots.proofs.Series.{AllInside, all_parts, broken_parts, inside_append}
-use Rattle.dfu_slots.proofs.Anew.{anew_inside, some_inside, some_keeps, some_stands}
-use Rattle.dfu_slots.proofs.Sectors.{IsEdge, unit_wide, gate_wide}
+use Rattle.dfu_slots.proofs.Anew.{some_inside, some_leaves}
+use Rattle.dfu_slots.proofs.SlotOpened.{open_inside}
+use Rattle.dfu_slots.proofs.Sectors.{IsEdge, gate_wide}
 use Rattle.dfu_slots.proofs.Edges.{end_edge}
 use Rattle.dfu_slots.proofs.Within.{front_shows}
-use Rattle.dfu_slots.proofs.SpareData.{data_kept, data_keeps, data_spare, data_gate_at, spare_front}
+use Rattle.dfu_slots.proofs.SpareData.{DataLeaves, data_leaves, spare_front}
+use Rattle.dfu_slots.proofs.Kept.{mine_kept}
 use Rattle.dfu_slots.proofs.Commit.{commit_done, commit_broken}
 
 module _ (w : Grain) (s : MediumState) (mine other : ℕ) (image : List ℕ) (a : ActiveAt (gate_room w) s.bytes mine other image)
@@ -55,48 +57,29 @@ module _ (w : Grain) (s : MediumState) (mine other : ℕ) (image : List ℕ) (a 
   -- All its writes lie in the spare.
   pub commit_inside : AllInside other (other + slot_size s.bytes) (part ++ commit_writes w s.bytes len crc)
   commit_inside =
-      let head = length-header_unit (gate_size u) (next_generation (generation (slot g s.bytes (active_at g s.bytes)))) len crc
-      (unit_wide u) in
-      let gate = length-gate_unit (gate_size u) OPEN (unit_wide u) in
-      let opening = inside_append other (other + slot_size s.bytes)
-      (write_anew w.sector (spare_at g s.bytes + g)
-      (header_unit (gate_size u) (next_generation (generation (slot g s.bytes (active_at g s.bytes)))) len crc))
-      (write_anew w.sector (spare_at g s.bytes) (gate_unit (gate_size u) OPEN))
-      (anew_inside w.sector other (other + slot_size s.bytes) (spare_at g s.bytes + g)
-      (header_unit (gate_size u) (next_generation (generation (slot g s.bytes (active_at g s.bytes)))) len crc) edge (omega (arith, place))
-      (omega (arith, place, a.sized.room, head)))
-      (anew_inside w.sector other (other + slot_size s.bytes) (spare_at g s.bytes) (gate_unit (gate_size u) OPEN) edge
-      (omega (arith, place))
-      (omega (arith, place, a.sized.room, gate))) in
       inside_append other (other + slot_size s.bytes) part (commit_writes w s.bytes len crc)
       (some_inside w.sector other (other + slot_size s.bytes) from (filled u held) edge (omega (arith, place))
-      (omega (arith, place, room, a.sized.room))) opening
+      (omega (arith, place, room, a.sized.room)))
+      (open_inside w other (other + slot_size s.bytes) (spare_at g s.bytes)
+      (next_generation (generation (slot g s.bytes (active_at g s.bytes)))) len crc edge (omega (arith, place))
+      (omega (arith, place, a.sized.room)))
 
   -- After the held bytes are written.
   module _ (mid : MediumState) (first : AllWrites s part mid) where
-    keeps : ActiveAt g mid.bytes mine other image
-    keeps = data_keeps g wide s mid mine other image a shut part inside (inl first)
+    left : DataLeaves g s mid mine other image
+    left = data_leaves g wide s mid mine other image a shut part inside (inl first)
 
     still_shut : ¬ IsOpen (slot g mid.bytes other)
-    still_shut is_open = shut (sym (data_gate_at g wide s mid mine other image a shut part inside (inl first)) ∙ is_open)
-
-    same_spare : spare_at g mid.bytes ≡ spare_at g s.bytes
-    same_spare = data_spare g wide s mid mine other image a shut part inside (inl first)
+    still_shut is_open = shut (sym left.gate_at ∙ is_open)
 
     size : slot_size mid.bytes ≡ slot_size s.bytes
-    size = size_kept (other + 2 * g) (other + slot_size s.bytes) s.bytes mid.bytes
-        (data_kept g wide s mid mine other image a shut part inside (inl first))
-
-    mine_is : slot g mid.bytes mine ≡ slot g s.bytes mine
-    mine_is =
-        slot_outside g (other + 2 * g) (other + slot_size s.bytes) s.bytes mid.bytes mine
-        (data_kept g wide s mid mine other image a shut part inside (inl first)) wide (omega (arith, a.sized.room))
-        (⊎_elim (λ p. inl (omega (arith, p.0, p.1))) (λ p. inr (omega (arith, p.0, p.1))) a.places)
+    size = size_kept (other + 2 * g) (other + slot_size s.bytes) s.bytes mid.bytes left.kept
 
     same_generation : generation (slot g mid.bytes (active_at g mid.bytes)) ≡ generation (slot g s.bytes (active_at g s.bytes))
     same_generation =
-        ap (λ (q : ℕ). generation (slot g mid.bytes q)) (sym (places_are g mid.bytes mine other image keeps).0)
-        ∙ ap (λ (x : Slot). generation x) mine_is
+        ap (λ (q : ℕ). generation (slot g mid.bytes q)) (sym (places_are g mid.bytes mine other image left.stands).0)
+        ∙ ap (λ (x : Slot). generation x) (mine_kept g wide s.bytes mid.bytes mine other image (other + 2 * g) (other + slot_size s.bytes)
+        a left.kept (omega arith) (omega arith))
         ∙ ap (λ (q : ℕ). generation (slot g s.bytes q)) (places_are g s.bytes mine other image a).0
 
     fits : len ≤ capacity g mid.bytes
@@ -112,24 +95,19 @@ module _ (w : Grain) (s : MediumState) (mine other : ℕ) (image : List ℕ) (a 
     end = (place_end g s.bytes mine other a.sized a.places).1
 
     data_begins : take (k + length (filled u held)) (spare g mid.bytes).data_bytes ≡ take k (spare g s.bytes).data_bytes ++ filled u held
-    data_begins = spare_front g s.bytes mid.bytes a.sized same_spare k (filled u held) (other + slot_size s.bytes) room
-        (some_keeps w.sector (other + slot_size s.bytes) from (filled u held) edge high s mid end first)
-        (some_stands w.sector (other + slot_size s.bytes) from (filled u held) edge high s mid end first)
+    data_begins = spare_front g s.bytes mid.bytes a.sized left.spare_stays k (filled u held) (other + slot_size s.bytes) room
+        (some_leaves w.sector (other + slot_size s.bytes) from (filled u held) edge high s mid end first)
 
     image_is : take len (spare g mid.bytes).data_bytes ≡ new_image
     image_is =
         front_shows (spare g s.bytes).data_bytes (spare g mid.bytes).data_bytes k held (replicate (fill_size u (length held)) 0) len
-        (omega (
-          arith,
-          room,
-          data_length g s.bytes (spare_at g s.bytes) (omega (arith, place, end)) (omega (arith, a.sized.room)),
-        )) le data_begins
+        (omega (arith, room, spare_size g s.bytes a.sized)) le data_begins
 
     -- The writes of the installation are those of the medium before.
     same_writes : commit_writes w s.bytes len crc ≡ commit_writes w mid.bytes len (register (take len (spare g mid.bytes).data_bytes))
     same_writes =
         λ i.
-        open_writes w (sym same_spare i) (next_generation (sym same_generation i)) len
+        open_writes w (sym left.spare_stays i) (next_generation (sym same_generation i)) len
         ((crc_is ∙ ap (λ (l : List ℕ). register l) (sym image_is)) i)
 
   -- All writes came.
@@ -141,18 +119,19 @@ module _ (w : Grain) (s : MediumState) (mine other : ℕ) (image : List ℕ) (a 
       let first = parts.1.first in
       let second = subst (λ (ws : List Write). AllWrites mid ws now) (same_writes mid first) parts.1.second in
       subst (λ (l : List ℕ). ActiveAt g now.bytes other mine l) (image_is mid first)
-      (commit_done w mid mine other image (keeps mid first) (whole_kept mid first) (still_shut mid first) len (fits mid first) now second)
+      (commit_done w mid mine other image (left mid first).stands (whole_kept mid first) (still_shut mid first) len (fits mid first) now
+      second)
 
   -- They came up to one that failed.
   pub committed_either : (fault : WriteFault) (now : MediumState) → BrokenWrites fault s (part ++ commit_writes w s.bytes len crc) now
       → ActiveAt g now.bytes mine other image ⊎ ActiveAt g now.bytes other mine new_image
   committed_either fault now broken = elim (broken_parts fault part (commit_writes w s.bytes len crc) s now broken) [
-    | inl early ↦ inl (data_keeps g wide s now mine other image a shut part inside (inr (fault, early)))
+    | inl early ↦ inl (data_leaves g wide s now mine other image a shut part inside (inr (fault, early))).stands
     | inr late ↦
         let mid = late.0 in
         let first = late.1.first in
         let second = subst (λ (ws : List Write). BrokenWrites fault mid ws now) (same_writes mid first) late.1.second in
         subst (λ (l : List ℕ). ActiveAt g now.bytes mine other image ⊎ ActiveAt g now.bytes other mine l) (image_is mid first)
-        (commit_broken w mid mine other image (keeps mid first) (whole_kept mid first) (still_shut mid first) len
+        (commit_broken w mid mine other image (left mid first).stands (whole_kept mid first) (still_shut mid first) len
         (fits mid first) fault now second)
   ]

@@ -1,5 +1,5 @@
 -- Headers, and what a slot counts by.
-use Rattle.std.proofs.Common.{◌≡◌, inl, inr, ⊎_elim, Bool, true, false, not, ◌&&◌, ◌==◌, nat_le, ℕ, ◌<◌, ◌^◌, List, length, take, drop, slice_index, sym, ◌∙◌, ap, subst, arith, eq-eqb}
+use Rattle.std.proofs.Common.{◌≡◌, inl, inr, ⊎_elim, Bool, true, false, not, ◌&&◌, ◌==◌, nat_le, ℕ, ◌≤◌, ◌<◌, ◌^◌, List, length, take, drop, slice_index, sym, ◌∙◌, ap, subst, arith, eq-eqb}
 use Rattle.std.specs.Int.{w32, from_le_bytes}
 use Rattle.std.proofs.lemmas.Nat.{from_le_bytes-to_le_bytes_4}
 use Rattle.std.proofs.lemmas.Bool.{cases_Bool, both_ways, and_from, and_parts, or_left, or_right, or_cases, not_from_false, not-true, eqb-true, eqb-false, ne_eqb, le-leb, leb-true, cases_eq}
@@ -14,6 +14,14 @@ header_length_is s len has fits = ⊎_elim
     (λ e. ap (λ (h : List ℕ). from_le_bytes w32 (take 4 (drop 4 h))) e ∙ from_le_bytes-to_le_bytes_4 len fits)
     (λ e. ap (λ (h : List ℕ). from_le_bytes w32 (take 4 (drop 4 h))) e ∙ from_le_bytes-to_le_bytes_4 len fits)
     has.well_formed
+
+-- A header of version 2 with the register of the front of the slot's data is well formed.
+pub header_two : (s : Slot) (gen len : ℕ) → s.header ≡ header 2 gen len (register (take len s.data_bytes)) → len ≤ length s.data_bytes
+    → HasHeader s len
+header_two s gen len is fits = record {
+  well_formed = inr (is ∙ (λ i. header 2 (slice_index (sym is i) 0) len (register (take len s.data_bytes))));
+  fits = fits;
+}
 
 -- A well-formed header depends on the header and the data alone.
 pub header_same : (s t : Slot) (len : ℕ) → s.header ≡ t.header → s.data_bytes ≡ t.data_bytes → HasHeader s len → HasHeader t len

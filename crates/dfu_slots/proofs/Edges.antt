@@ -1,10 +1,11 @@
 -- Where sectors begin on a medium of two slots.
-use Rattle.std.proofs.Common.{◌≡◌, ⊎_elim, Bool, true, false, if◌then◌else◌, ℕ, ◌+◌, ◌*◌, List, length, sym, subst, arith}
+use Rattle.std.proofs.Common.{◌≡◌, ⊎_elim, ℕ, ◌+◌, ◌*◌, List, length, sym, subst, arith}
 use Rattle.dfu_slots.specs.Units.{Grain, gate_room, IsWhole}
 use Rattle.dfu_slots.specs.Medium.{MediumState}
 use Rattle.dfu_slots.specs.Layout.{slot_size, capacity, ArePlaces}
-use Rattle.dfu_slots.specs.Image.{gate_of, first_is_active, spare_at, IsSized}
+use Rattle.dfu_slots.specs.Image.{gate_of, active_at, spare_at, IsSized}
 use Rattle.dfu_slots.proofs.Stands.{HasTwoSlots, two_slots}
+use Rattle.dfu_slots.proofs.Newest.{tested_places}
 use Rattle.dfu_slots.proofs.Sectors.{IsEdge, edge_zero, edge_add, room_edge}
 
 module _ (w : Grain) (bytes : List ℕ) (sized : HasTwoSlots (gate_room w) bytes) (whole : IsWhole w (capacity (gate_room w) bytes)) where
@@ -54,18 +55,10 @@ sized_edge m sized = length_edge m.grain m.bytes (two_slots m sized) sized.whole
 
 -- So does the spare begin with one.
 pub spare_edge : (m : MediumState) → IsSized m → IsEdge m.grain.sector (spare_at (gate_of m) m.bytes)
-spare_edge m sized = by_test (first_is_active (gate_of m) m.bytes)
-  where
-    by_test : (b : Bool) → IsEdge m.grain.sector (if b then slot_size m.bytes else 0)
-    by_test true = half_edge m.grain m.bytes (two_slots m sized) sized.whole
-    by_test false = edge_zero m.grain.sector
+spare_edge m sized = place_edge m.grain m.bytes (two_slots m sized) sized.whole (active_at (gate_of m) m.bytes)
+    (spare_at (gate_of m) m.bytes) (tested_places (gate_of m) m.bytes)
 
 -- And so does its data.
 pub spare_data_edge : (m : MediumState) → IsSized m → IsEdge m.grain.sector (spare_at (gate_of m) m.bytes + 2 * gate_of m)
-spare_data_edge m sized =
-    let g = gate_of m in
-    let p = spare_at g m.bytes in
-    let gate = room_edge m.grain (capacity g m.bytes) sized.whole in
-    let e : p + g + g ≡ p + 2 * g = omega arith in
-    subst (λ (n : ℕ). IsEdge m.grain.sector n) e
-    (edge_add m.grain.sector (p + g) g (edge_add m.grain.sector p g (spare_edge m sized) gate) gate)
+spare_data_edge m sized = data_edge m.grain m.bytes (two_slots m sized) sized.whole (active_at (gate_of m) m.bytes)
+    (spare_at (gate_of m) m.bytes) (tested_places (gate_of m) m.bytes)

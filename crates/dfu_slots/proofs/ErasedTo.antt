@@ -5,7 +5,10 @@ use Rattle.std.proofs.lemmas.Bool.{cases_lt, cond-true, cond-false, ne_eqb, eq-e
 use Rattle.std.proofs.Math.Nat.{mod-lt, mod-add-mod, mod_self}
 use Rattle.dfu_slots.specs.declared.fault.WriteFault.{WriteFault}
 use Rattle.dfu_slots.specs.Medium.{MediumState, Write, Wrote, FailedWrite, AllWrites, BrokenWrites}
+use Rattle.dfu_slots.specs.Units.{Grain}
+use Rattle.dfu_slots.specs.Image.{IsSized}
 use Rattle.dfu_slots.specs.Writes.{erase_write, erases}
+use Rattle.dfu_slots.proofs.Edges.{sized_edge}
 use Rattle.dfu_slots.proofs.Torn.{written_torn}
 use Rattle.dfu_slots.proofs.Series.{all_append, broken_later}
 use Rattle.dfu_slots.proofs.Sectors.{mod_next, edge_add, edge_next}
@@ -54,7 +57,10 @@ pub record ErasedTo (old mid : MediumState) (sector at n place : ℕ) : Type 0 w
   pub grain : mid.grain ≡ old.grain
   pub size : length mid.bytes ≡ length old.bytes
 
-module _ (s : MediumState) (sector at n : ℕ) (some : 0 < sector) (fits : at + n ≤ length s.bytes) (end : length s.bytes % sector ≡ 0) where
+module _ (s : MediumState) (at n : ℕ) (sized : IsSized s) (some : 0 < s.grain.sector) (fits : at + n ≤ length s.bytes) where
+  abbrev sector : ℕ
+  sector = s.grain.sector
+
   -- Nothing is erased before the first sector, which may begin at once.
   pub erased_here : at % sector ≡ 0 → ErasedTo s s sector at n at
   erased_here begins =
@@ -84,7 +90,8 @@ module _ (s : MediumState) (sector at n : ℕ) (some : 0 < sector) (fits : at + 
         pieces = erases_skip sector d at n some inner is ∙ ap (λ (k : ℕ). erases sector (at + d) k) rest;
         edge = edge;
         within = ⊎_elim
-            (λ past. absurd (omega (arith, edge_next sector (length s.bytes) (at + d) end edge past, is, inner, fits)))
+            (λ past.
+            absurd (omega (arith, edge_next sector (length s.bytes) (at + d) (sized_edge s sized some) edge past, is, inner, fits)))
             (λ le. le) (cases_lt (length s.bytes) (at + d));
         grain = refl;
         size = refl;
@@ -102,46 +109,62 @@ module _ (s : MediumState) (sector at n : ℕ) (some : 0 < sector) (fits : at + 
         (erased_later (omega (arith, rest))),
   )
 
-module _ (old mid now : MediumState) (sector at n place : ℕ) (large : 1 < sector) (to : ErasedTo old mid sector at n place)
-    (more : place < at + n) (fits : at + n ≤ length old.bytes) (end : length old.bytes % sector ≡ 0) where
-  -- The next sector lies within the medium.
-  pub next_within : place + sector ≤ length mid.bytes
-  next_within = omega (arith, edge_next sector place (length old.bytes) to.edge end (omega (arith, more, fits)), to.size)
+module _ {old mid : MediumState} {at n place : ℕ} (to : ErasedTo old mid old.grain.sector at n place) (sized : IsSized old)
+    (some : 0 < old.grain.sector) (more : place < at + n) (fits : at + n ≤ length old.bytes) where
+  -- So many bytes a sector has.
+  abbrev span : ℕ
+  span = old.grain.sector
 
-  step : erases sector place (at + n - place) ≡ erase_write sector place ∷ erases sector (place + sector) (at + n - place - sector)
-  step = erases_step sector place (at + n - place) large to.edge (omega (arith, more))
+  large : 1 < span
+  large = omega (arith, some, sized.whole.pages)
+
+  same : mid.grain.sector ≡ span
+  same = ap (λ (w : Grain). w.sector) to.grain
+
+  end_there : place + span ≤ length mid.bytes
+  end_there =
+      omega (arith, edge_next span place (length old.bytes) to.edge (sized_edge old sized some) (omega (arith, more, fits)), to.size)
+
+  -- The next sector lies within the medium.
+  pub next_within : place + mid.grain.sector ≤ length mid.bytes
+  next_within = omega (arith, same, end_there)
+
+  step : erases span place (at + n - place) ≡ erase_write span place ∷ erases span (place + span) (at + n - place - span)
+  step = erases_step span place (at + n - place) large to.edge (omega (arith, more))
 
   -- One sector more.
-  pub erased_more : Wrote mid place (replicate sector 255) now → ErasedTo old now sector at n (place + sector)
-  erased_more wrote =
-      let first : List Write = erase_write sector place ∷ [] in
+  pub erased_more : (now : MediumState) → Wrote mid place (replicate mid.grain.sector 255) now
+      → ErasedTo old now span at n (place + span)
+  erased_more now answered =
+      let wrote = subst (λ (k : ℕ). Wrote mid place (replicate k 255) now) same answered in
+      let first : List Write = erase_write span place ∷ [] in
       let kept : length now.bytes ≡ length mid.bytes = ap length wrote.bytes
-      ∙ (written_torn mid.bytes place (replicate sector 255) (omega (arith, next_within, length-replicate {A = ℕ} sector 255))).size in
-      let left : at + n - place - sector ≡ at + n - (place + sector) = omega arith in
+      ∙ (written_torn mid.bytes place (replicate span 255) (omega (arith, end_there, length-replicate {A = ℕ} span 255))).size in
+      let left : at + n - place - span ≡ at + n - (place + span) = omega arith in
       record {
         front = to.front ++ first;
         all = all_append to.front first old mid now to.all (now, wrote, refl);
         pieces = to.pieces ∙ ap (λ (ws : List Write). to.front ++ ws) (step
-            ∙ ap (λ (k : ℕ). erase_write sector place ∷ erases sector (place + sector) k) left)
-            ∙ sym (append_assoc to.front first (erases sector (place + sector) (at + n - (place + sector))));
-        edge = edge_add sector place sector (λ s. to.edge) (λ s. mod_self sector) (omega (arith, large));
-        within = omega (arith, kept, next_within);
+            ∙ ap (λ (k : ℕ). erase_write span place ∷ erases span (place + span) k) left)
+            ∙ sym (append_assoc to.front first (erases span (place + span) (at + n - (place + span))));
+        edge = edge_add span place span (λ s. to.edge) (λ s. mod_self span) (omega (arith, large));
+        within = omega (arith, kept, end_there);
         grain = wrote.grain ∙ to.grain;
         size = kept ∙ to.size;
       }
 
   -- The next erase fails.
-  pub erased_stopped : (fault : WriteFault) → FailedWrite fault mid place (replicate sector 255) now
-      → BrokenWrites fault old (erases sector at n) now
-  erased_stopped fault failed =
+  pub erased_stopped : (now : MediumState) (fault : WriteFault) → FailedWrite fault mid place (replicate mid.grain.sector 255) now
+      → BrokenWrites fault old (erases span at n) now
+  erased_stopped now fault failed =
       subst (λ (ws : List Write). BrokenWrites fault old ws now) (sym (to.pieces ∙ ap (λ (ws : List Write). to.front ++ ws) step))
-      (broken_later fault to.front (erase_write sector place ∷ erases sector (place + sector) (at + n - place - sector)) old mid now to.all
-      (inl failed))
+      (broken_later fault to.front (erase_write span place ∷ erases span (place + span) (at + n - place - span)) old mid now to.all
+      (inl (subst (λ (k : ℕ). FailedWrite fault mid place (replicate k 255) now) same failed)))
 
 -- All of them are erased.
-pub erased_all : (old mid : MediumState) (sector at n place : ℕ) → ErasedTo old mid sector at n place → at + n ≤ place
+pub erased_all : {old mid : MediumState} {sector at n place : ℕ} → ErasedTo old mid sector at n place → at + n ≤ place
     → AllWrites old (erases sector at n) mid
-erased_all old mid sector at n place to done =
+erased_all {old} {mid} {sector} {at} {n} {place} to done =
     let none : at + n - place ≡ 0 = omega (arith, done) in
     subst (λ (ws : List Write). AllWrites old ws mid)
     (sym (to.pieces ∙ ap (λ (k : ℕ). to.front ++ erases sector place k) none ∙ append-nil to.front)) to.all

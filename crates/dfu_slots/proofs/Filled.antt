@@ -3,7 +3,7 @@ use Rattle.std.proofs.Common.{◌≡◌, ◌==◌, ℕ, ◌+◌, ◌-◌, ◌≤
 use Rattle.std.proofs.lemmas.List.{drop-replicate, take-replicate}
 use Rattle.dfu_slots.specs.declared.fault.WriteFault.{WriteFault}
 use Rattle.dfu_slots.specs.declared.unit.Unit.{Unit as WriteUnit}
-use Rattle.dfu_slots.specs.Units.{Grain, gate_size, fill_size, filled}
+use Rattle.dfu_slots.specs.Units.{Grain, IsMultiple, gate_size, fill_size, filled}
 use Rattle.dfu_slots.specs.Medium.{MediumState}
 use Rattle.dfu_slots.specs.Layout.{gate_unit}
 use Rattle.dfu_slots.specs.Writes.{closed_gate, write_some}
@@ -11,8 +11,7 @@ use Rattle.dfu_slots.proofs.Sectors.{unit_wide, gate_most}
 use Rattle.std.proofs.lemmas.Bool.{cond-true, eq-eqb}
 use Rattle.dfu_slots.specs.inside.Series.{Series}
 use Rattle.dfu_slots.proofs.Within.{take_past}
-use Rattle.dfu_slots.proofs.Multiples.{multiple_unit, length-filled, filled_within}
-use Rattle.dfu_slots.proofs.Pieces.{filled_short}
+use Rattle.dfu_slots.proofs.Multiples.{length-filled, filled_within}
 
 -- What was copied to the front of a buffer of zeros.
 pub buffer_is : (bytes copied : List ℕ) (most : ℕ) → copied ≡ bytes
@@ -26,35 +25,19 @@ buffer_front bytes size most fits le =
     take_past bytes (replicate (most - length bytes) 0) size fits
     ∙ ap (λ (l : List ℕ). bytes ++ l) (take-replicate (size - length bytes) (most - length bytes) 0 (omega (arith, le)))
 
--- The bytes and their zeros are at the front of a buffer of 4096 zeros, so that to write this front is to write the filled bytes.
-pub filled_series : {T : Type 0} (m now : MediumState) (v : WriteUnit) → v ≡ m.grain.unit → (at : ℕ) (bytes copied : List ℕ) (zeros : ℕ)
-    → zeros ≡ fill_size v (length bytes) → length bytes ≤ 4096 → copied ≡ bytes
-    → (r : Result T WriteFault)
-    → Series m (write_some m.grain.sector at (take (length bytes + zeros) (copied ++ drop (length bytes) (replicate 4096 0)))) r now
+-- To write as much of such a buffer as bytes and zeros are together is to write the filled bytes.
+pub front_series : {T : Type 0} (m now : MediumState) (at : ℕ) (bytes : List ℕ) (r : Result T WriteFault) (most : ℕ)
+    → IsMultiple m.grain.unit most → {v : WriteUnit} {buffer : List ℕ} {zeros : ℕ} → v ≡ m.grain.unit → zeros ≡ fill_size v (length bytes)
+    → length bytes ≤ most → buffer ≡ bytes ++ replicate (most - length bytes) 0
+    → Series m (write_some m.grain.sector at (take (length bytes + zeros) buffer)) r now
     → Series m (write_some m.grain.sector at (filled m.grain.unit bytes)) r now
-filled_series m now v unit at bytes copied zeros zeros_are short is r series =
+front_series m now at bytes r most whole {zeros = zeros} unit zeros_are short is series =
     let size = length bytes + zeros in
     let count : zeros ≡ fill_size m.grain.unit (length bytes) = zeros_are ∙ ap (λ (u : WriteUnit). fill_size u (length bytes)) unit in
     let behind : size - length bytes ≡ fill_size m.grain.unit (length bytes) = omega (arith, count) in
-    let fits : size ≤ 4096 = omega (arith, filled_short m.grain.unit bytes short, length-filled m.grain.unit bytes, count) in
+    let fits : size ≤ most = omega (arith, filled_within m.grain.unit most bytes whole short, length-filled m.grain.unit bytes, count) in
     subst (λ (l : List ℕ). Series m (write_some m.grain.sector at l) r now)
-    (ap (λ (l : List ℕ). take size l) (buffer_is bytes copied 4096 is) ∙ buffer_front bytes size 4096 (omega arith) fits
-    ∙ ap (λ (n : ℕ). bytes ++ replicate n 0) behind)
-    series
-
--- The same of a buffer of 256 zeros.
-pub part_series : {T : Type 0} (m now : MediumState) (v : WriteUnit) → v ≡ m.grain.unit → (at : ℕ) (bytes buffer : List ℕ) (zeros : ℕ)
-    → zeros ≡ fill_size v (length bytes) → length bytes ≤ 256 → buffer ≡ bytes ++ replicate (256 - length bytes) 0
-    → (r : Result T WriteFault) → Series m (write_some m.grain.sector at (take (length bytes + zeros) buffer)) r now
-    → Series m (write_some m.grain.sector at (filled m.grain.unit bytes)) r now
-part_series m now v unit at bytes buffer zeros zeros_are short is r series =
-    let size = length bytes + zeros in
-    let count : zeros ≡ fill_size m.grain.unit (length bytes) = zeros_are ∙ ap (λ (u : WriteUnit). fill_size u (length bytes)) unit in
-    let behind : size - length bytes ≡ fill_size m.grain.unit (length bytes) = omega (arith, count) in
-    let fits : size ≤ 256 =
-    omega (arith, filled_within m.grain.unit 256 bytes (multiple_unit m.grain.unit) short, length-filled m.grain.unit bytes, count) in
-    subst (λ (l : List ℕ). Series m (write_some m.grain.sector at l) r now)
-    (ap (λ (l : List ℕ). take size l) is ∙ buffer_front bytes size 256 (omega arith) fits ∙ ap (λ (n : ℕ). bytes ++ replicate n 0) behind)
+    (ap (λ (l : List ℕ). take size l) is ∙ buffer_front bytes size most (omega arith) fits ∙ ap (λ (n : ℕ). bytes ++ replicate n 0) behind)
     series
 
 -- A byte 0 at the front of such a buffer is a gate unit that closes the gate, where the medium has no sectors.

@@ -1,41 +1,25 @@
 -- A formatted medium has its image.
-use Rattle.std.proofs.Common.{◌≡◌, ◌≢◌, inl, inr, ⊎_elim, ℕ, zero, suc, ◌+◌, ◌-◌, ◌*◌, ◌/◌, ◌^◌, ◌≤◌, ◌<◌, List, [], ◌∷◌, ◌++◌, length, take, drop, replicate, slice_index, slice_range, refl, sym, ◌∙◌, ap, subst, arith, length-drop, take-append-drop}
+use Rattle.std.proofs.Common.{◌≡◌, ◌≢◌, inl, inr, ⊎_elim, ℕ, zero, suc, ◌+◌, ◌-◌, ◌*◌, ◌≤◌, ◌<◌, List, [], ◌∷◌, length, take, drop, replicate, slice_index, slice_range, refl, sym, ◌∙◌, ap, subst, arith, length-drop, take-append-drop}
 use Rattle.std.proofs.lemmas.List.{length-take, take_all, take_at, drop_all, take-take}
 use Rattle.std.proofs.lemmas.Bool.{cases_lt}
-use Rattle.std.specs.Int.{w32, from_le_bytes}
-use Rattle.std.proofs.lemmas.Nat.{from_le_bytes-to_le_bytes_4}
 use Rattle.dfu_suffix.specs.Register.{register}
 use Rattle.dfu_slots.specs.Units.{Grain, gate_size, gate_room, IsWhole, fill_size, filled}
 use Rattle.dfu_slots.specs.Medium.{MediumState, Write, KeepsOutside, written, AllWrites}
-use Rattle.dfu_slots.specs.Layout.{slot_size, capacity, slot, OPEN, header_length, header, HasHeader, gate_unit, header_unit}
+use Rattle.dfu_slots.specs.Layout.{slot_size, capacity, slot, OPEN, header, HasHeader, gate_unit, header_unit}
 use Rattle.dfu_slots.specs.Writes.{closed_gate, write_anew, piece_writes, image_writes, open_writes, format_writes}
 use Rattle.dfu_slots.proofs.Stands.{HasTwoSlots, ActiveAt}
-use Rattle.dfu_slots.proofs.Torn.{written_torn, range_outside, byte_outside, keeps_same, keeps_both, keeps_wider}
-use Rattle.dfu_slots.proofs.Parts.{length-gate_unit, length-header_unit, data_length}
+use Rattle.dfu_slots.proofs.Counting.{header_length_is, header_two}
+use Rattle.dfu_slots.proofs.Torn.{written_torn, range_outside, byte_outside, keeps_same, keeps_wider}
+use Rattle.dfu_slots.proofs.Parts.{length-gate_unit, length-header_unit, data_length, sized_kept}
 use Rattle.dfu_slots.proofs.Series.{all_parts}
-use Rattle.dfu_slots.proofs.ReadBack.{Stand, none_stand, both_stand, range_is}
-use Rattle.dfu_slots.proofs.Anew.{anew_keeps, anew_stands, anew_last}
+use Rattle.dfu_slots.proofs.ReadBack.{Stand, none_stand, range_is}
+use Rattle.dfu_slots.proofs.Anew.{Left, WrittenAnew, left_join, anew_leaves, anew_written}
 use Rattle.dfu_slots.proofs.Sectors.{IsEdge, unit_wide, gate_wide}
 use Rattle.dfu_slots.proofs.Edges.{half_edge, header_edge, data_edge}
 use Rattle.dfu_slots.proofs.Multiples.{length-filled, filled_within}
 use Rattle.dfu_slots.proofs.Pieces.{pieces_nil}
 use Rattle.dfu_slots.proofs.Begun.{closed_most, closed_written, gate_written}
 use Rattle.dfu_slots.proofs.Commit.{header_written}
-
--- A piece, and what stands behind it.
-pieces_join : (to at : ℕ) (a c s mid now : List ℕ) → length a ≡ 4096 → at + length a + length c ≤ to → to ≤ length s
-    → KeepsOutside at to s mid → Stand mid at a → KeepsOutside (at + 4096) to mid now → Stand now (at + 4096) c
-    → KeepsOutside at to s now × Stand now at (a ++ c)
-pieces_join to at a c s mid now size fits room first stands second more = (
-  keeps_both at to s mid now first (keeps_wider (at + 4096) to at to mid now second (omega arith) (omega arith)),
-  both_stand now at a c (omega (arith, fits, room, first.size, second.size))
-      (range_outside (at + 4096) to mid now at (at + length a) second (inl (omega (arith, size))) ∙ stands)
-      (let there : at + 4096 ≡ at + length a = omega (arith, size) in subst (λ (p : ℕ). Stand now p c) there more),
-)
-
--- What the pieces of these bytes leave there.
-abbrev Left : ℕ → ℕ → List ℕ → List ℕ → List ℕ → Type 0
-Left at to bytes old now = KeepsOutside at to old now × Stand now at bytes
 
 -- A piece lies in the range of the bytes.
 take_fits : (at to : ℕ) (bytes : List ℕ) → at + length bytes ≤ to → at + length (take 4096 bytes) ≤ to
@@ -64,14 +48,13 @@ pieces_long n at to bytes s mid now long le fits room left others =
     let back = length-drop 4096 bytes in
     let more = others (omega (arith, back, le)) (omega (arith, back, fits, long)) (omega (arith, room, left.0.size)) in
     subst (λ (l : List ℕ). Left at to l s now) (take-append-drop 4096 bytes)
-    (pieces_join to at (take 4096 bytes) (drop 4096 bytes) s mid now (omega (arith, front, long))
-    (omega (arith, front, back, fits, long)) room
-    left.0 left.1 more.0 more.1)
+    (left_join at to 4096 (take 4096 bytes) (drop 4096 bytes) s mid now (omega (arith, front, long))
+    (omega (arith, front, back, fits, long)) room left more)
 
 -- The pieces stand there, and nothing changes in front of them, nor behind the sector in which they end.
 pub pieces_stand : (sector to : ℕ) → IsEdge sector to → (n at : ℕ) (bytes : List ℕ) (s now : MediumState) → length bytes ≤ n
     → at + length bytes ≤ to → to ≤ length s.bytes → AllWrites s (piece_writes sector n at bytes) now
-    → KeepsOutside at to s.bytes now.bytes × Stand now.bytes at bytes
+    → Left at to bytes s.bytes now.bytes
 pieces_stand sector to edge zero at [] s now le fits room same =
     (keeps_same at to s.bytes now.bytes (ap (λ (m : MediumState). m.bytes) same), none_stand now.bytes at)
 pieces_stand sector to edge zero at (b ∷ bs) s now le fits room same = absurd (omega arith)
@@ -80,10 +63,7 @@ pieces_stand sector to edge (suc n) at [] s now le fits room same =
 pieces_stand sector to edge (suc n) at (b ∷ bs) s now le fits room all =
     let parts = all_parts (write_anew sector at (take 4096 (b ∷ bs))) (piece_writes sector n (at + 4096) (drop 4096 (b ∷ bs))) s now all in
     let high = take_fits at to (b ∷ bs) fits in
-    let left : Left at to (take 4096 (b ∷ bs)) s.bytes parts.0.bytes = (
-      anew_keeps sector to at (take 4096 (b ∷ bs)) edge high s parts.0 room parts.1.first,
-      anew_stands sector to at (take 4096 (b ∷ bs)) edge high s parts.0 room parts.1.first,
-    ) in
+    let left = anew_leaves sector to at (take 4096 (b ∷ bs)) edge high s parts.0 room parts.1.first in
     ⊎_elim
     (λ short. pieces_short sector n at to (b ∷ bs) s parts.0 now short left parts.1.second)
     (λ long. pieces_long n at to (b ∷ bs) s.bytes parts.0.bytes now.bytes long le fits room left
@@ -116,13 +96,8 @@ module _ (g : ℕ) (wide : 16 ≤ g) (now image units : List ℕ) (sized : HasTw
       (omega (arith, sized.room)) in
       let head : (slot g now 0).header ≡ header 2 0 len crc = first_header in
       let fits : len ≤ length (slot g now 0).data_bytes = omega (arith, room_is, room, least) in
-      let whole : HasHeader (slot g now 0) len = record {
-        well_formed = inr (head ∙ (λ i. header 2 (slice_index (sym head i) 0) len (register (image_front i))));
-        fits = fits;
-      } in
-      let told : header_length (slot g now 0) ≡ len =
-      ap (λ (h : List ℕ). from_le_bytes w32 (take 4 (drop 4 h))) head
-      ∙ from_le_bytes-to_le_bytes_4 len (omega (arith, fits, room_is, sized.bound)) in
+      let whole = header_two (slot g now 0) 0 len (head ∙ ap (λ (l : List ℕ). header 2 0 len (register l)) image_front) fits in
+      let told = header_length_is (slot g now 0) len whole (omega (arith, fits, room_is, sized.bound)) in
       record {
         sized = sized;
         places = inl (refl, refl);
@@ -136,14 +111,6 @@ module _ (g : ℕ) (wide : 16 ≤ g) (now image units : List ℕ) (sized : HasTw
         header_is = whole;
         image_is = image_front;
       }
-
--- A length that stays keeps the two slots.
-sized_on : (g : ℕ) (l m : List ℕ) → HasTwoSlots g l → length m ≡ length l → HasTwoSlots g m
-sized_on g l m sized same = record {
-  even = same ∙ sized.even ∙ ap (λ (n : ℕ). 2 * (n / 2)) (sym same);
-  room = subst (λ (n : ℕ). 2 * g < n / 2) (sym same) sized.room;
-  bound = subst (λ (n : ℕ). n / 2 - 2 * g ≤ 2 ^ 24) (sym same) sized.bound;
-}
 
 -- The steps of a format: both gates are closed, the pieces are written, then the header, and then the gate.
 module _ (w : Grain) (s m1 m2 m3 m4 now : MediumState) (image : List ℕ) (sized : HasTwoSlots (gate_room w) s.bytes)
@@ -190,7 +157,7 @@ module _ (w : Grain) (s m1 m2 m3 m4 now : MediumState) (image : List ℕ) (sized
   size_2 : length m2.bytes ≡ h + h
   size_2 = keeps_2.size ∙ size_1
 
-  stand_3 : KeepsOutside (2 * g) h m2.bytes m3.bytes × Stand m3.bytes (2 * g) units
+  stand_3 : Left (2 * g) h units m2.bytes m3.bytes
   stand_3 = pieces_stand w.sector h (half_edge w s.bytes sized whole) (length units) (2 * g) units m2 m3 (omega arith) room
       (omega (arith, size_2)) all_3
 
@@ -203,36 +170,28 @@ module _ (w : Grain) (s m1 m2 m3 m4 now : MediumState) (image : List ℕ) (sized
   head_fits : 0 + g + length head ≤ 0 + 2 * g
   head_fits = omega (arith, length-header_unit k 0 (length image) (register image) (unit_wide w.unit))
 
-  last_4 : (e : MediumState) × KeepsOutside (0 + g) (0 + 2 * g) m3.bytes e.bytes × (m4.bytes ≡ written e.bytes (0 + g) head)
-  last_4 = anew_last w.sector (0 + 2 * g) (0 + g) head (data_edge w s.bytes sized whole h 0 (inr (refl, refl))) head_fits m3 m4
-      (omega (arith, size_3, sized.room)) all_4
-
-  keeps_4 : KeepsOutside (0 + g) (0 + 2 * g) m3.bytes m4.bytes
-  keeps_4 = anew_keeps w.sector (0 + 2 * g) (0 + g) head (data_edge w s.bytes sized whole h 0 (inr (refl, refl))) head_fits m3 m4
+  anew_4 : WrittenAnew (0 + g) (0 + 2 * g) head m3.bytes m4.bytes
+  anew_4 = anew_written w.sector (0 + 2 * g) (0 + g) head (data_edge w s.bytes sized whole h 0 (inr (refl, refl))) head_fits m3 m4
       (omega (arith, size_3, sized.room)) all_4
 
   size_4 : length m4.bytes ≡ h + h
-  size_4 = keeps_4.size ∙ size_3
+  size_4 = anew_4.keeps.size ∙ size_3
 
   gate_fits : 0 + length (gate_unit k OPEN) ≤ 0 + g
   gate_fits = omega (arith, length-gate_unit k OPEN (unit_wide w.unit))
 
-  last_5 : (e : MediumState) × KeepsOutside 0 (0 + g) m4.bytes e.bytes × (now.bytes ≡ written e.bytes 0 (gate_unit k OPEN))
-  last_5 = anew_last w.sector (0 + g) 0 (gate_unit k OPEN) (header_edge w s.bytes sized whole h 0 (inr (refl, refl))) gate_fits m4 now
-      (omega (arith, size_4, sized.room)) all_5
-
-  keeps_5 : KeepsOutside 0 (0 + g) m4.bytes now.bytes
-  keeps_5 = anew_keeps w.sector (0 + g) 0 (gate_unit k OPEN) (header_edge w s.bytes sized whole h 0 (inr (refl, refl))) gate_fits m4 now
+  anew_5 : WrittenAnew 0 (0 + g) (gate_unit k OPEN) m4.bytes now.bytes
+  anew_5 = anew_written w.sector (0 + g) 0 (gate_unit k OPEN) (header_edge w s.bytes sized whole h 0 (inr (refl, refl))) gate_fits m4 now
       (omega (arith, size_4, sized.room)) all_5
 
   size_5 : length now.bytes ≡ h + h
-  size_5 = keeps_5.size ∙ size_4
+  size_5 = anew_5.keeps.size ∙ size_4
 
   -- The second gate stays as it was closed.
   second_gate : slice_index now.bytes h ≡ slice_index (written s.bytes h (closed_gate w)) h
   second_gate =
-      byte_outside 0 (0 + g) m4.bytes now.bytes h keeps_5 (inr (omega (arith, sized.room)))
-      ∙ byte_outside (0 + g) (0 + 2 * g) m3.bytes m4.bytes h keeps_4 (inr (omega (arith, sized.room)))
+      byte_outside 0 (0 + g) m4.bytes now.bytes h anew_5.keeps (inr (omega (arith, sized.room)))
+      ∙ byte_outside (0 + g) (0 + 2 * g) m3.bytes m4.bytes h anew_4.keeps (inr (omega (arith, sized.room)))
       ∙ byte_outside (2 * g) h m2.bytes m3.bytes h stand_3.0 (inr (omega arith))
       ∙ byte_outside 0 g m1.bytes m2.bytes h keeps_2 (inr (omega (arith, sized.room)))
       ∙ ap (λ (l : List ℕ). slice_index l h) is_1
@@ -243,18 +202,18 @@ module _ (w : Grain) (s m1 m2 m3 m4 now : MediumState) (image : List ℕ) (sized
       let size_is : slot_size now.bytes ≡ h = omega (arith, size_5) in
       let at_2 : 2 * g ≡ 0 + 2 * g = omega arith in
       let gate : slice_index now.bytes 0 ≡ OPEN =
-      ap (λ (l : List ℕ). slice_index l 0) last_5.2
-      ∙ gate_written k (unit_wide w.unit) last_5.0.bytes 0 OPEN (omega (arith, last_5.1.size, size_4, sized.room)) in
+      ap (λ (l : List ℕ). slice_index l 0) anew_5.is
+      ∙ gate_written k (unit_wide w.unit) anew_5.left 0 OPEN (omega (arith, anew_5.erased.size, size_4, sized.room)) in
       let header_is : slice_range now.bytes (0 + g) (0 + g + 16) ≡ header 2 0 (length image) (register image) =
-      range_outside 0 (0 + g) m4.bytes now.bytes (0 + g) (0 + g + 16) keeps_5 (inr (omega arith))
-      ∙ ap (λ (l : List ℕ). slice_range l (0 + g) (0 + g + 16)) last_4.2
-      ∙ header_written k (unit_wide w.unit) last_4.0.bytes (0 + g) 0 (length image) (register image)
-      (omega (arith, last_4.1.size, size_3, sized.room)) in
+      range_outside 0 (0 + g) m4.bytes now.bytes (0 + g) (0 + g + 16) anew_5.keeps (inr (omega arith))
+      ∙ ap (λ (l : List ℕ). slice_range l (0 + g) (0 + g + 16)) anew_4.is
+      ∙ header_written k (unit_wide w.unit) anew_4.left (0 + g) 0 (length image) (register image)
+      (omega (arith, anew_4.erased.size, size_3, sized.room)) in
       let stands : Stand now.bytes (0 + 2 * g) units =
-      range_outside 0 (0 + g) m4.bytes now.bytes (0 + 2 * g) (0 + 2 * g + length units) keeps_5 (inr (omega arith))
-      ∙ range_outside (0 + g) (0 + 2 * g) m3.bytes m4.bytes (0 + 2 * g) (0 + 2 * g + length units) keeps_4 (inr (omega arith))
+      range_outside 0 (0 + g) m4.bytes now.bytes (0 + 2 * g) (0 + 2 * g + length units) anew_5.keeps (inr (omega arith))
+      ∙ range_outside (0 + g) (0 + 2 * g) m3.bytes m4.bytes (0 + 2 * g) (0 + 2 * g + length units) anew_4.keeps (inr (omega arith))
       ∙ subst (λ (p : ℕ). Stand m3.bytes p units) at_2 stand_3.1 in
-      format_active g (gate_wide w) now.bytes image units (sized_on g s.bytes now.bytes sized (size_5 ∙ sym halves))
+      format_active g (gate_wide w) now.bytes image units (sized_kept g s.bytes now.bytes (size_5 ∙ sym halves) sized)
       (omega (arith, size_is, room)) (take_at image (replicate (fill_size w.unit (length image)) 0) (length image) refl) least
       (λ e. closed_written w s.bytes h (omega (arith, halves, sized.room))
       (sym second_gate ∙ ap (λ (p : ℕ). slice_index now.bytes p) (sym size_is) ∙ e))

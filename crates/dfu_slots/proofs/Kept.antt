@@ -12,19 +12,24 @@ abbrev pub StaysNewest : ℕ → List ℕ → List ℕ → ℕ → ℕ → Type 
 StaysNewest g old now mine other = (¬ Counts (slot g now other))
     ⊎ (generation (slot g old mine) ≡ next_generation (generation (slot g now other)))
 
+-- What is changed in the spare slot alone leaves the active slot.
+pub mine_kept : (g : ℕ) → 16 ≤ g → (old now : List ℕ) (mine other : ℕ) (image : List ℕ) (from to : ℕ)
+    → ActiveAt g old mine other image → KeepsOutside from to old now → other ≤ from → to ≤ other + slot_size old
+    → ◌≡◌ {A = Slot} (slot g now mine) (slot g old mine)
+mine_kept g wide old now mine other image from to a keeps above below =
+    slot_outside g from to old now mine keeps wide (omega (arith, a.sized.room))
+    (⊎_elim (λ p. inl (omega (arith, p.0, p.1))) (λ p. inr (omega (arith, p.0, p.1))) a.places)
+
 -- Whatever stands in the spare slot now, the active one stays, if the spare does not count or is one generation behind.
 pub active_kept : (g : ℕ) → 16 ≤ g → (old now : List ℕ) (mine other : ℕ) (image : List ℕ) (from to : ℕ)
     → ActiveAt g old mine other image → KeepsOutside from to old now → other ≤ from → to ≤ other + slot_size old
     → StaysNewest g old now mine other
     → ActiveAt g now mine other image
 active_kept g wide old now mine other image from to a keeps above below newer =
-    let room = a.sized.room in
-    let same : slot g now mine ≡ slot g old mine =
-    slot_outside g from to old now mine keeps wide (omega (arith, room))
-    (⊎_elim (λ p. inl (omega (arith, p.0, p.1))) (λ p. inr (omega (arith, p.0, p.1))) a.places) in
+    let same = mine_kept g wide old now mine other image from to a keeps above below in
     let size = size_kept from to old now keeps in
     record {
-      sized = sized_kept g from to old now keeps a.sized;
+      sized = sized_kept g old now keeps.size a.sized;
       places = ⊎_elim (λ p. inl (p.0, p.1 ∙ sym size)) (λ p. inr (p.0 ∙ sym size, p.1)) a.places;
       newest = subst (λ (s : Slot). IsNewest s (slot g now other)) (sym same) (record { counts = a.newest.counts; newer = newer });
       header_is = subst (λ (s : Slot). HasHeader s (length image)) (sym same) a.header_is;

@@ -2,7 +2,7 @@
 use Rattle.std.proofs.Common.{◌≡◌, Bool, true, false, if◌then◌else◌, ℕ, ◌+◌, ◌-◌, ◌*◌, ◌/◌, ◌%◌, ◌≤◌, ◌<◌, List, length, replicate, sym, ◌∙◌, ap, subst, arith, length-append}
 use Rattle.std.proofs.lemmas.List.{length-replicate}
 use Rattle.dfu_slots.specs.declared.unit.Unit.{Unit as WriteUnit}
-use Rattle.dfu_slots.specs.declared.unit.Unit.TheVariants.{Byte, U16, U64, U256}
+use Rattle.dfu_slots.specs.declared.unit.Unit.TheVariants.{Byte}
 use Rattle.dfu_slots.specs.Units.{IsWhole, unit_size, IsMultiple, whole_part, fill_size, filled, gate_room, Grain}
 use Rattle.dfu_slots.specs.Medium.{MediumState}
 use Rattle.dfu_slots.specs.Layout.{slot_size}
@@ -12,65 +12,51 @@ use Rattle.dfu_slots.specs.Store.{HasPuts}
 use Rattle.dfu_slots.proofs.Stands.{two_slots}
 use Rattle.dfu_slots.proofs.Newest.{spare_end}
 use Rattle.dfu_slots.proofs.Sectors.{room_multiple}
+use Rattle.dfu_slots.proofs.Series.{SameSize}
 
 -- Sums.
 
-multiple_zero : (u : WriteUnit) → IsMultiple u 0
+-- No bytes are whole in every unit.
+pub multiple_zero : (u : WriteUnit) → IsMultiple u 0
 multiple_zero Byte = omega arith
-multiple_zero U16 = omega arith
-multiple_zero U64 = omega arith
-multiple_zero U256 = omega arith
+multiple_zero _ = omega arith
 
 -- A full piece is a multiple of every unit.
 pub multiple_piece : (u : WriteUnit) → IsMultiple u 4096
 multiple_piece Byte = omega arith
-multiple_piece U16 = omega arith
-multiple_piece U64 = omega arith
-multiple_piece U256 = omega arith
+multiple_piece _ = omega arith
 
 -- So is the largest unit.
 pub multiple_unit : (u : WriteUnit) → IsMultiple u 256
 multiple_unit Byte = omega arith
-multiple_unit U16 = omega arith
-multiple_unit U64 = omega arith
-multiple_unit U256 = omega arith
+multiple_unit _ = omega arith
 
 -- The sum of two multiples is one.
 pub multiple_add : (u : WriteUnit) (a b : ℕ) → IsMultiple u a → IsMultiple u b → IsMultiple u (a + b)
 multiple_add Byte a b x y = omega (arith, x, y)
-multiple_add U16 a b x y = omega (arith, x, y)
-multiple_add U64 a b x y = omega (arith, x, y)
-multiple_add U256 a b x y = omega (arith, x, y)
+multiple_add _ a b x y = omega (arith, x, y)
 
 -- A unit is one.
 pub multiple_self : (u : WriteUnit) → IsMultiple u (unit_size u)
 multiple_self Byte = omega arith
-multiple_self U16 = omega arith
-multiple_self U64 = omega arith
-multiple_self U256 = omega arith
+multiple_self _ = omega arith
 
 -- So is what is a unit less.
 pub multiple_less : (u : WriteUnit) (n : ℕ) → IsMultiple u n → IsMultiple u (n - unit_size u)
 multiple_less Byte n x = omega (arith, x)
-multiple_less U16 n x = omega (arith, x)
-multiple_less U64 n x = omega (arith, x)
-multiple_less U256 n x = omega (arith, x)
+multiple_less _ n x = omega (arith, x)
 
 -- Parts.
 
 -- What makes no whole unit of a length is no more than the length.
 pub part_le : (u : WriteUnit) (n : ℕ) → n % unit_size u ≤ n
 part_le Byte n = omega arith
-part_le U16 n = omega arith
-part_le U64 n = omega arith
-part_le U256 n = omega arith
+part_le _ n = omega arith
 
 -- The whole units of a length make a multiple.
 pub multiple_part : (u : WriteUnit) (n : ℕ) → IsMultiple u (whole_part u n)
 multiple_part Byte n = omega arith
-multiple_part U16 n = omega arith
-multiple_part U64 n = omega arith
-multiple_part U256 n = omega arith
+multiple_part _ n = omega arith
 
 -- Of no bytes nothing is left over.
 pub zero_part : (u : WriteUnit) → 0 % unit_size u ≡ 0
@@ -79,32 +65,24 @@ zero_part u = multiple_zero u
 -- What makes no whole unit does not depend on whole units before it.
 pub part_more : (u : WriteUnit) (n k : ℕ) → (n % unit_size u + k) % unit_size u ≡ (n + k) % unit_size u
 part_more Byte n k = omega arith
-part_more U16 n k = omega arith
-part_more U64 n k = omega arith
-part_more U256 n k = omega arith
+part_more _ n k = omega arith
 
 -- More than a whole number of units has one unit more.
 pub unit_more : (u : WriteUnit) (w : ℕ) → IsMultiple u w → 0 < w → unit_size u ≤ w
 unit_more Byte w x some = omega (arith, x, some)
-unit_more U16 w x some = omega (arith, x, some)
-unit_more U64 w x some = omega (arith, x, some)
-unit_more U256 w x some = omega (arith, x, some)
+unit_more _ w x some = omega (arith, x, some)
 
 -- Filled up with zeros.
 
 -- Bytes from a whole place on that end within a whole length do so filled up too.
 fill_fits : (u : WriteUnit) (k n c : ℕ) → IsMultiple u k → IsMultiple u c → k + n ≤ c → k + (n + fill_size u n) ≤ c
 fill_fits Byte k n c x y le = omega (arith, x, y, le)
-fill_fits U16 k n c x y le = omega (arith, x, y, le)
-fill_fits U64 k n c x y le = omega (arith, x, y, le)
-fill_fits U256 k n c x y le = omega (arith, x, y, le)
+fill_fits _ k n c x y le = omega (arith, x, y, le)
 
 -- A length needs as many zeros as one that is a piece shorter.
 pub fill_piece : (u : WriteUnit) (n : ℕ) → 4096 ≤ n → fill_size u (n - 4096) ≡ fill_size u n
 fill_piece Byte n le = omega (arith, le)
-fill_piece U16 n le = omega (arith, le)
-fill_piece U64 n le = omega (arith, le)
-fill_piece U256 n le = omega (arith, le)
+fill_piece _ n le = omega (arith, le)
 
 -- Filled bytes are longer by the zeros.
 pub length-filled : (u : WriteUnit) (bytes : List ℕ) → length (filled u bytes) ≡ length bytes + fill_size u (length bytes)
@@ -122,14 +100,18 @@ filled_within u c bytes whole le = omega
 
 -- The places of a medium.
 
--- The same length and the same unit are those that two slots can have.
-pub sized_after : (m n : MediumState) → IsSized m → n.grain ≡ m.grain → length n.bytes ≡ length m.bytes → IsSized n
-sized_after m n sized grain size = record {
-  even = omega (arith, size, sized.even);
-  room = omega (arith, size, ap gate_room grain, sized.room);
-  bound = omega (arith, size, ap gate_room grain, sized.bound);
-  whole = subst (λ (w : Grain). IsWhole w (length n.bytes / 2 - 2 * gate_room w)) (sym grain)
-      (subst (λ (k : ℕ). IsWhole m.grain (k / 2 - 2 * gate_of m)) (sym size) sized.whole);
+-- What is whole in the data of a slot is so on a medium of the same size.
+pub whole_after : {m n : MediumState} → SameSize m n → IsWhole m.grain (capacity_of m) → IsWhole n.grain (capacity_of n)
+whole_after {m} {n} same whole = subst (λ (w : Grain). IsWhole w (length n.bytes / 2 - 2 * gate_room w)) (sym same.grain)
+    (subst (λ (k : ℕ). IsWhole m.grain (k / 2 - 2 * gate_of m)) (sym same.size) whole)
+
+-- A medium of the same size is two slots too.
+pub sized_after : {m n : MediumState} → SameSize m n → IsSized m → IsSized n
+sized_after same sized = record {
+  even = omega (arith, same.size, sized.even);
+  room = omega (arith, same.size, ap gate_room same.grain, sized.room);
+  bound = omega (arith, same.size, ap gate_room same.grain, sized.bound);
+  whole = whole_after same sized.whole;
 }
 
 -- The spare begins at a whole place.

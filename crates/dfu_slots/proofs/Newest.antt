@@ -1,8 +1,9 @@
 -- The test finds the active slot.
 use Rattle.std.proofs.Common.{◌≡◌, inl, inr, ⊎_elim, not, true, false, ℕ, ◌+◌, ◌≤◌, List, length, sym, ◌∙◌, subst, arith, eq-eqb}
 use Rattle.std.proofs.lemmas.Bool.{and_from, and_left, and_right, or_left, or_right, or_from, or_cases, and_parts, eqb-true, not-true, cases_Bool, not_from_false, not_from_true, ne_eqb, cond-true, cond-false}
-use Rattle.dfu_slots.specs.Layout.{slot_size, Slot, slot, next_generation, ArePlaces}
-use Rattle.dfu_slots.specs.Image.{IsNewest, counts, is_newest, first_is_active, active_at, spare_at}
+use Rattle.dfu_slots.specs.Layout.{slot_size, capacity, Slot, slot, next_generation, ArePlaces}
+use Rattle.dfu_slots.specs.Image.{IsNewest, counts, is_newest, first_is_active, active_at, spare_at, spare}
+use Rattle.dfu_slots.proofs.Parts.{data_length}
 use Rattle.dfu_slots.proofs.Stands.{HasTwoSlots, ActiveAt}
 use Rattle.dfu_slots.proofs.Counting.{counts_true, counts_false, counts_from, counts_not}
 
@@ -46,16 +47,14 @@ places_newest g bytes mine other places newest =
     newest_test _ _ (subst (λ (q : ℕ). IsNewest (slot g bytes q) (slot g bytes (slot_size bytes))) p.0
     (subst (λ (q : ℕ). IsNewest (slot g bytes mine) (slot g bytes q)) p.1 newest)) in (
       p.0 ∙ sym (cond-true (first_is_active g bytes) 0 (slot_size bytes) is_first),
-      p.1
-          ∙ sym (cond-true (first_is_active g bytes) (slot_size bytes) 0 is_first),
+      p.1 ∙ sym (cond-true (first_is_active g bytes) (slot_size bytes) 0 is_first),
     ))
     (λ p.
     let is_second : first_is_active g bytes ≡ false =
     other_test _ _ (subst (λ (q : ℕ). IsNewest (slot g bytes q) (slot g bytes 0)) p.0
     (subst (λ (q : ℕ). IsNewest (slot g bytes mine) (slot g bytes q)) p.1 newest)) in (
       p.0 ∙ sym (cond-false (first_is_active g bytes) 0 (slot_size bytes) is_second),
-      p.1
-          ∙ sym (cond-false (first_is_active g bytes) (slot_size bytes) 0 is_second),
+      p.1 ∙ sym (cond-false (first_is_active g bytes) (slot_size bytes) 0 is_second),
     ))
     places
 
@@ -69,13 +68,11 @@ pub tested_places : (g : ℕ) (bytes : List ℕ) → ArePlaces bytes (active_at 
 tested_places g bytes = elim (cases_Bool (first_is_active g bytes)) [
   | inl first ↦ inl (
     cond-true (first_is_active g bytes) 0 (slot_size bytes) first,
-    cond-true (first_is_active g bytes)
-        (slot_size bytes) 0 first,
+    cond-true (first_is_active g bytes) (slot_size bytes) 0 first,
   )
   | inr second ↦ inr (
     cond-false (first_is_active g bytes) 0 (slot_size bytes) second,
-    cond-false (first_is_active g bytes)
-        (slot_size bytes) 0 second,
+    cond-false (first_is_active g bytes) (slot_size bytes) 0 second,
   )
 ]
 
@@ -93,3 +90,7 @@ active_end g bytes sized = (place_end g bytes (active_at g bytes) (spare_at g by
 -- So is the place of the spare.
 pub spare_end : (g : ℕ) (bytes : List ℕ) → HasTwoSlots g bytes → spare_at g bytes + slot_size bytes ≤ length bytes
 spare_end g bytes sized = (place_end g bytes (active_at g bytes) (spare_at g bytes) sized (tested_places g bytes)).1
+
+-- The spare's data fills what gate and header leave of the slot.
+pub spare_size : (g : ℕ) (bytes : List ℕ) → HasTwoSlots g bytes → length (spare g bytes).data_bytes ≡ capacity g bytes
+spare_size g bytes sized = data_length g bytes (spare_at g bytes) (spare_end g bytes sized) (omega (arith, sized.room))

@@ -74,7 +74,7 @@ module _ (m : MediumState) where
       }
 
   -- The same, at the places that were found.
-  module _ (p q : ℕ) (at_active : p ≡ active_at g m.bytes) (at_spare : q ≡ spare_at g m.bytes) where
+  module _ {p q : ℕ} (at_active : p ≡ active_at g m.bytes) (at_spare : q ≡ spare_at g m.bytes) where
     test_there : (b : Bool) → is_newest (slot_of m p) (slot_of m q) ≡ b → tested ≡ b
     test_there b test = sym (λ i. is_newest (slot_of m (at_active i)) (slot_of m (at_spare i))) ∙ test
 

@@ -44,12 +44,12 @@ header_from g bytes at len out read is fits end room = record {
 pub size_kept : (from to : ℕ) (old now : List ℕ) → KeepsOutside from to old now → slot_size now ≡ slot_size old
 size_kept from to old now keeps = ap (λ (n : ℕ). n / 2) keeps.size
 
--- So it does the two slots.
-pub sized_kept : (g from to : ℕ) (old now : List ℕ) → KeepsOutside from to old now → HasTwoSlots g old → HasTwoSlots g now
-sized_kept g from to old now keeps sized = record {
-  even = omega (arith, keeps.size, sized.even);
-  room = omega (arith, keeps.size, sized.room);
-  bound = omega (arith, keeps.size, sized.bound);
+-- Bytes of the same length are two slots too.
+pub sized_kept : (g : ℕ) (old now : List ℕ) → length now ≡ length old → HasTwoSlots g old → HasTwoSlots g now
+sized_kept g old now same sized = record {
+  even = omega (arith, same, sized.even);
+  room = omega (arith, same, sized.room);
+  bound = omega (arith, same, sized.bound);
 }
 
 module _ (g from to : ℕ) (old now : List ℕ) (p : ℕ) (keeps : KeepsOutside from to old now) where

@@ -13,8 +13,8 @@ use Rattle.dfu_slots.proofs.Series.{AllInside, all_append, broken_first, broken_
 use Rattle.dfu_slots.proofs.Sectors.{IsEdge}
 use Rattle.dfu_slots.proofs.Anew.{anew_inside}
 use Rattle.dfu_slots.proofs.Ahead.{anew_ahead}
-use Rattle.dfu_slots.proofs.SizedOn.{anew_grain, anew_size, anew_sized}
-use Rattle.dfu_slots.proofs.Multiples.{multiple_piece, multiple_add, fill_piece, length-filled, filled_within}
+use Rattle.dfu_slots.proofs.SizedOn.{anew_same}
+use Rattle.dfu_slots.proofs.Multiples.{multiple_piece, multiple_add, fill_piece, length-filled, filled_within, sized_after}
 
 -- No bytes have no pieces.
 pub pieces_nil : (sector n at : ℕ) → piece_writes sector n at [] ≡ []
@@ -70,8 +70,9 @@ some_left (suc n) h = omega arith
 written_none : (s : MediumState) (sector n at : ℕ) (bytes : List ℕ) → length bytes ≤ n → WrittenTo s s sector n at bytes at bytes
 written_none s sector n at bytes le = record { front = []; left = n; all = refl; enough = le; pieces = refl }
 
-module _ (old mid now : MediumState) (sector n at : ℕ) (bytes : List ℕ) (place : ℕ) (rest : List ℕ) (size : ℕ)
-    (is : size ≡ min 4096 (length rest)) (some : 0 < length rest) (w : WrittenTo old mid sector n at bytes place rest) where
+module _ {old mid : MediumState} {sector n at : ℕ} {bytes : List ℕ} {place : ℕ} {rest : List ℕ} {size : ℕ}
+    (w : WrittenTo old mid sector n at bytes place rest) (is : size ≡ min 4096 (length rest)) (some : 0 < length rest)
+    (now : MediumState) where
   -- One piece more.
   written_more : AllWrites mid (write_anew sector place (take size rest)) now
       → WrittenTo old now sector n at bytes (place + size) (drop size rest)
@@ -107,10 +108,10 @@ pieces_one sector (suc n) at (b ∷ bs) short le =
     ∙ append-nil (write_anew sector at (b ∷ bs))
     ∙ sym (cond-false (length (b ∷ bs) == 0) [] (write_anew sector at (b ∷ bs)) (ne_eqb (length (b ∷ bs)) 0 (λ e. omega (arith, e))))
 
-written_last : {T : Type 0} (old mid now : MediumState) (sector n at : ℕ) (bytes : List ℕ) (place : ℕ) (rest : List ℕ)
-    (r : Result T WriteFault) → length rest ≤ 4096 → WrittenTo old mid sector n at bytes place rest
+written_last : {T : Type 0} {old mid : MediumState} {sector n at : ℕ} {bytes : List ℕ} {place : ℕ} {rest : List ℕ}
+    → WrittenTo old mid sector n at bytes place rest → length rest ≤ 4096 → (now : MediumState) (r : Result T WriteFault)
     → Series mid (write_some sector place rest) r now → Series old (piece_writes sector n at bytes) r now
-written_last old mid now sector n at bytes place rest r short w last =
+written_last {T} {old} {mid} {sector} {n} {at} {bytes} {place} {rest} w short now r last =
     subst (λ (ws : List Write). Series old ws r now) (sym w.pieces)
     (series_after w.front (piece_writes sector w.left place rest) old mid now r w.all
     (subst (λ (ws : List Write). Series mid ws r now) (sym (pieces_one sector w.left place rest short w.enough)) last))
@@ -175,8 +176,8 @@ way_begins s at bytes sized ahead within room whole = record {
   told = λ n le. written_none s s.grain.sector n at (filled s.grain.unit bytes) le;
 }
 
-module _ (old mid now : MediumState) (at : ℕ) (bytes : List ℕ) (place : ℕ) (rest : List ℕ) (way : OnTheWay old mid at bytes place rest)
-    (long : 4096 < length rest) where
+module _ {old mid : MediumState} {at : ℕ} {bytes : List ℕ} {place : ℕ} {rest : List ℕ} (way : OnTheWay old mid at bytes place rest)
+    (long : 4096 < length rest) (now : MediumState) where
   abbrev units : List ℕ
   units = filled old.grain.unit rest
 
@@ -201,40 +202,38 @@ module _ (old mid now : MediumState) (at : ℕ) (bytes : List ℕ) (place : ℕ)
   pub way_on : AllWrites mid (write_anew mid.grain.sector place (take 4096 rest)) now
       → OnTheWay old now at bytes (place + 4096) (drop 4096 rest)
   way_on came =
-      let size : length now.bytes ≡ length mid.bytes = anew_size mid now place (take 4096 rest) way.sized piece_fits came in
+      let same = anew_same mid now place (take 4096 rest) way.sized piece_fits came in
       let back = filled_back old.grain.unit rest (omega (arith, long)) in
       record {
-        grain = anew_grain mid now place (take 4096 rest) way.sized piece_fits came ∙ way.grain;
-        sized = anew_sized mid now place (take 4096 rest) way.sized piece_fits came;
+        grain = same.grain ∙ way.grain;
+        sized = sized_after same way.sized;
         ahead =
             let full : length (take 4096 rest) ≡ 4096 = omega (arith, length-take 4096 rest, long) in
             subst (λ (k : ℕ). IsAhead now (place + k)) full
             (anew_ahead mid now place (take 4096 rest) way.sized piece_fits came way.ahead);
-        within = omega (arith, way.within, size, ap length back, length-drop 4096 units, long_units);
+        within = omega (arith, way.within, same.size, ap length back, length-drop 4096 units, long_units);
         room = omega (arith, way.room, length-drop 4096 rest, long);
         whole = multiple_add old.grain.unit place 4096 way.whole (multiple_piece old.grain.unit);
         told = λ n le.
             subst (λ (l : List ℕ). WrittenTo old now old.grain.sector n at (filled old.grain.unit bytes) (place + 4096) l) back
-            (written_more old mid now old.grain.sector n at (filled old.grain.unit bytes) place units 4096 piece_is
-            (omega (arith, long_units)) (way.told n le)
+            (written_more (way.told n le) piece_is (omega (arith, long_units)) now
             (subst (λ (ws : List Write). AllWrites mid ws now) next_is came));
       }
 
   -- The next piece fails.
-  pub way_broken : (fault : WriteFault) (n : ℕ) → length (filled old.grain.unit bytes) ≤ n
-      → BrokenWrites fault mid (write_anew mid.grain.sector place (take 4096 rest)) now
+  pub way_broken : (fault : WriteFault) → BrokenWrites fault mid (write_anew mid.grain.sector place (take 4096 rest)) now
+      → (n : ℕ) → length (filled old.grain.unit bytes) ≤ n
       → BrokenWrites fault old (piece_writes old.grain.sector n at (filled old.grain.unit bytes)) now
-  way_broken fault n le broken =
-      written_stopped old mid now old.grain.sector n at (filled old.grain.unit bytes) place units 4096 piece_is
-      (omega (arith, long_units)) (way.told n le) fault (subst (λ (ws : List Write). BrokenWrites fault mid ws now) next_is broken)
+  way_broken fault broken n le =
+      written_stopped (way.told n le) piece_is (omega (arith, long_units)) now fault
+      (subst (λ (ws : List Write). BrokenWrites fault mid ws now) next_is broken)
 
 -- The last piece.
-pub way_ends : {T : Type 0} (old mid now : MediumState) (at : ℕ) (bytes : List ℕ) (place : ℕ) (rest : List ℕ)
-    → OnTheWay old mid at bytes place rest → length rest ≤ 4096
-    → (r : Result T WriteFault) → Series mid (write_some mid.grain.sector place (filled mid.grain.unit rest)) r now
+pub way_ends : {T : Type 0} {old mid : MediumState} {at : ℕ} {bytes : List ℕ} {place : ℕ} {rest : List ℕ}
+    → OnTheWay old mid at bytes place rest → length rest ≤ 4096 → (now : MediumState) (r : Result T WriteFault)
+    → Series mid (write_some mid.grain.sector place (filled mid.grain.unit rest)) r now
     → (n : ℕ) → length (filled old.grain.unit bytes) ≤ n
     → Series old (piece_writes old.grain.sector n at (filled old.grain.unit bytes)) r now
-way_ends old mid now at bytes place rest way short r last n le =
-    written_last old mid now old.grain.sector n at (filled old.grain.unit bytes) place (filled old.grain.unit rest) r
-    (filled_short old.grain.unit rest short) (way.told n le)
+way_ends {T} {old} {mid} {at} {bytes} {place} {rest} way short now r last n le =
+    written_last (way.told n le) (filled_short old.grain.unit rest short) now r
     (subst (λ (w : Grain). Series mid (write_some w.sector place (filled w.unit rest)) r now) way.grain last)

@@ -1,15 +1,13 @@
 -- The writes of a `put`, and what they leave.
-use Rattle.std.proofs.Common.{◌≡◌, inl, Bool, true, false, if◌then◌else◌, ◌==◌, ℕ, ◌+◌, ◌-◌, ◌≤◌, min, List, ◌++◌, length, take, drop, sym, ◌∙◌, ap, subst, arith, length-append, length-drop, take-append-drop}
+use Rattle.std.proofs.Common.{◌≡◌, Bool, true, false, if◌then◌else◌, ◌==◌, ℕ, ◌+◌, ◌-◌, ◌≤◌, min, List, ◌++◌, length, take, drop, sym, ◌∙◌, ap, subst, arith, length-append, length-drop, take-append-drop}
 use Rattle.std.proofs.lemmas.List.{length-take-le, take-take}
 use Rattle.dfu_slots.specs.declared.unit.Unit.{Unit as WriteUnit}
 use Rattle.dfu_slots.specs.Units.{Grain, unit_size, whole_part}
-use Rattle.dfu_slots.specs.Medium.{MediumState, KeepsOutside, AllWrites, written}
+use Rattle.dfu_slots.specs.Medium.{MediumState, AllWrites, written}
 use Rattle.dfu_slots.specs.Writes.{write_some, head_size, put_writes, put_rest}
-use Rattle.dfu_slots.proofs.Torn.{range_outside, keeps_both, keeps_wider}
-use Rattle.dfu_slots.proofs.ReadBack.{Stand, both_stand}
 use Rattle.dfu_slots.proofs.Sectors.{IsEdge}
 use Rattle.dfu_slots.proofs.Series.{AllInside, all_parts, inside_append}
-use Rattle.dfu_slots.proofs.Anew.{some_inside, some_keeps, some_stands, some_written}
+use Rattle.dfu_slots.proofs.Anew.{Left, some_inside, some_leaves, left_join, some_written}
 use Rattle.dfu_slots.proofs.Within.{written_written}
 
 choice_le : (b : Bool) (m n k : ℕ) → m ≤ k → n ≤ k → (if b then m else n) ≤ k
@@ -70,50 +68,18 @@ module _ (w : Grain) (held bytes : List ℕ) where
 
   module _ (s now : MediumState) (to at : ℕ) (edge : IsEdge w.sector to) (high : at + length all ≤ to) (room : to ≤ length s.bytes)
       (came : AllWrites s (put_writes w at held bytes) now) where
-    abbrev mid : MediumState
-    mid = (all_parts (write_some w.sector at (take head all)) (write_some w.sector (at + head) back) s now came).0
-
-    first_end : at + length (take head all) ≤ to
-    first_end = omega (arith, high, front_length, head_le, whole_le)
-
-    first_keeps : KeepsOutside at to s.bytes mid.bytes
-    first_keeps =
-        some_keeps w.sector to at (take head all) edge first_end s mid room
-        (all_parts (write_some w.sector at (take head all)) (write_some w.sector (at + head) back) s now came).1.first
-
-    first_stands : Stand mid.bytes at (take head all)
-    first_stands =
-        some_stands w.sector to at (take head all) edge first_end s mid room
-        (all_parts (write_some w.sector at (take head all)) (write_some w.sector (at + head) back) s now came).1.first
-
-    second_end : at + head + length back ≤ to
-    second_end = omega (arith, high, back_length, head_le, whole_le)
-
-    second_keeps : KeepsOutside (at + head) to mid.bytes now.bytes
-    second_keeps =
-        some_keeps w.sector to (at + head) back edge second_end mid now (omega (arith, room, first_keeps.size))
-        (all_parts (write_some w.sector at (take head all)) (write_some w.sector (at + head) back) s now came).1.second
-
-    second_stands : Stand now.bytes (at + head) back
-    second_stands =
-        some_stands w.sector to (at + head) back edge second_end mid now (omega (arith, room, first_keeps.size))
-        (all_parts (write_some w.sector at (take head all)) (write_some w.sector (at + head) back) s now came).1.second
-
-    -- In front of them nothing changes.
-    pub put_keeps : KeepsOutside at to s.bytes now.bytes
-    put_keeps = keeps_both at to s.bytes mid.bytes now.bytes first_keeps
-        (keeps_wider (at + head) to at to mid.bytes now.bytes second_keeps (omega arith) (omega arith))
-
-    -- All whole units stand there then.
-    pub put_stands : Stand now.bytes at (take whole all)
-    put_stands =
-        let behind : at + head ≡ at + length (take head all) = omega (arith, front_length) in
-        subst (λ (l : List ℕ). Stand now.bytes at l) front_is
-        (both_stand now.bytes at (take head all) back
-        (omega (arith, room, first_keeps.size, second_keeps.size, high, front_length, back_length, head_le, whole_le))
-        (range_outside (at + head) to mid.bytes now.bytes at (at + length (take head all)) second_keeps (inl (omega (arith, front_length)))
-        ∙ first_stands)
-        (subst (λ (p : ℕ). Stand now.bytes p back) behind second_stands))
+    -- All whole units stand there then, and in front of them nothing changes.
+    pub put_left : Left at to (take whole all) s.bytes now.bytes
+    put_left =
+        let parts = all_parts (write_some w.sector at (take head all)) (write_some w.sector (at + head) back) s now came in
+        let mid = parts.0 in
+        let first = some_leaves w.sector to at (take head all) edge (omega (arith, high, front_length, head_le, whole_le)) s mid room
+        parts.1.first in
+        let second = some_leaves w.sector to (at + head) back edge (omega (arith, high, back_length, head_le, whole_le)) mid now
+        (omega (arith, room, first.0.size)) parts.1.second in
+        subst (λ (l : List ℕ). Left at to l s.bytes now.bytes) front_is
+        (left_join at to head (take head all) back s.bytes mid.bytes now.bytes (sym front_length)
+        (omega (arith, high, front_length, back_length, head_le, whole_le)) room first second)
 
   -- On a medium without sectors they are together one write of all whole units.
   pub put_written : (s now : MediumState) (at : ℕ) → w.sector ≡ 0 → at + length all ≤ length s.bytes

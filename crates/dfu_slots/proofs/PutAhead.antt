@@ -4,8 +4,9 @@ use Rattle.dfu_slots.specs.Units.{Grain, whole_part}
 use Rattle.dfu_slots.specs.Medium.{MediumState, AllWrites, IsAhead}
 use Rattle.dfu_slots.specs.Image.{IsSized}
 use Rattle.dfu_slots.specs.Writes.{head_size, write_some, put_writes}
-use Rattle.dfu_slots.proofs.Series.{all_parts, all_grain}
-use Rattle.dfu_slots.proofs.SizedOn.{some_size, some_sized}
+use Rattle.dfu_slots.proofs.Series.{SameSize, all_parts}
+use Rattle.dfu_slots.proofs.SizedOn.{some_same}
+use Rattle.dfu_slots.proofs.Multiples.{sized_after}
 use Rattle.dfu_slots.proofs.Ahead.{some_ahead}
 use Rattle.dfu_slots.proofs.Put.{head_le, whole_le, front_length, back_length}
 
@@ -28,6 +29,9 @@ module _ (s now : MediumState) (at : ℕ) (held bytes : List ℕ) (sized : IsSiz
 
   module _ (mid : MediumState) (first : AllWrites s (write_some s.grain.sector at (take head all)) mid)
       (second : AllWrites mid (write_some s.grain.sector (at + head) back) now) where
+    same : SameSize s mid
+    same = some_same s mid at (take head all) sized first_fits first
+
     between : IsAhead mid (at + head)
     between = subst (λ (k : ℕ). IsAhead mid (at + k)) (front_length s.grain held bytes)
         (some_ahead s mid at (take head all) sized first_fits first ahead)
@@ -35,7 +39,7 @@ module _ (s now : MediumState) (at : ℕ) (held bytes : List ℕ) (sized : IsSiz
     second_fits : at + head + length back ≤ length mid.bytes
     second_fits = omega (
       arith,
-      some_size s mid at (take head all) sized first_fits first,
+      same.size,
       back_length s.grain held bytes,
       fits,
       head_le s.grain held bytes,
@@ -44,11 +48,10 @@ module _ (s now : MediumState) (at : ℕ) (held bytes : List ℕ) (sized : IsSiz
 
     behind : IsAhead now (at + whole)
     behind =
-        let grain : mid.grain ≡ s.grain = all_grain (write_some s.grain.sector at (take head all)) s mid first in
         let e : at + head + length back ≡ at + whole = omega (arith, back_length s.grain held bytes, head_le s.grain held bytes) in
         subst (λ (k : ℕ). IsAhead now k) e
-        (some_ahead mid now (at + head) back (some_sized s mid at (take head all) sized first_fits first) second_fits
-        (subst (λ (w : Grain). AllWrites mid (write_some w.sector (at + head) back) now) (sym grain) second) between)
+        (some_ahead mid now (at + head) back (sized_after same sized) second_fits
+        (subst (λ (w : Grain). AllWrites mid (write_some w.sector (at + head) back) now) (sym same.grain) second) between)
 
   pub put_ahead : IsAhead now (at + whole)
   put_ahead =

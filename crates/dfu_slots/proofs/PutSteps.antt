@@ -1,6 +1,6 @@
--- The writes of a `put`, as its three ways through the code make them.
+-- The writes of a `put` that fills the unit that was begun.
 use Rattle.std.proofs.Common.{◌≡◌, ◌≢◌, ◌==◌, ℕ, ◌+◌, ◌-◌, ◌%◌, ◌≤◌, ◌<◌, min, List, [], ◌++◌, length, take, drop, Result, OnOk, sym, ◌∙◌, ap, subst, arith, length-append}
-use Rattle.std.proofs.lemmas.List.{nil_from_length, drop_at, drop-take, length-take}
+use Rattle.std.proofs.lemmas.List.{drop_at, drop-take, length-take}
 use Rattle.std.proofs.lemmas.Bool.{cond-false, ne_eqb}
 use Rattle.std.proofs.lemmas.Result.{on_ok_weaker}
 use Rattle.dfu_slots.specs.declared.unit.Unit.{Unit as WriteUnit}
@@ -11,18 +11,11 @@ use Rattle.dfu_slots.specs.Medium.{MediumState, Write, AllWrites, BrokenWrites, 
 use Rattle.dfu_slots.specs.inside.Series.{Series}
 use Rattle.dfu_slots.proofs.Torn.{drop_past}
 use Rattle.dfu_slots.proofs.Within.{take_past}
-use Rattle.dfu_slots.proofs.Multiples.{multiple_add, multiple_self, multiple_less, multiple_part, unit_more}
-use Rattle.dfu_slots.proofs.Ahead.{some_ahead}
-use Rattle.dfu_slots.proofs.SizedOn.{some_size, some_sized}
+use Rattle.dfu_slots.proofs.Multiples.{multiple_add, multiple_self, multiple_less, multiple_part, unit_more, sized_after}
+use Rattle.dfu_slots.proofs.Ahead.{MayWrite, some_ahead}
+use Rattle.dfu_slots.proofs.SizedOn.{some_same}
 use Rattle.dfu_slots.specs.Image.{IsSized}
-use Rattle.dfu_slots.proofs.Put.{head_le}
 use Rattle.dfu_slots.proofs.Series.{all_grain, broken_first, series_after}
-
-empty_writes : (w : Grain) (at : ℕ) (bytes : List ℕ)
-    → put_writes w at [] bytes ≡ write_some w.sector at (take (whole_part w.unit (length bytes)) bytes)
-empty_writes w at bytes =
-    let e : at + 0 ≡ at = omega arith in
-    ap (λ (p : ℕ). write_some w.sector p (take (whole_part w.unit (length bytes)) bytes)) e
 
 module _ (w : Grain) (at : ℕ) (held bytes : List ℕ) (count : ℕ) (is : count ≡ whole_part w.unit (length held + length bytes)) where
   abbrev u : WriteUnit
@@ -30,37 +23,6 @@ module _ (w : Grain) (at : ℕ) (held bytes : List ℕ) (count : ℕ) (is : coun
 
   whole_is : whole_part u (length (held ++ bytes)) ≡ count
   whole_is = ap (λ (n : ℕ). whole_part u n) (length-append held bytes) ∙ sym is
-
-  -- Nothing is held.
-  module _ (none : length held ≡ 0) where
-    nil : held ≡ []
-    nil = nil_from_length held none
-
-    count_is : whole_part u (length bytes) ≡ count
-    count_is = (let e : length bytes ≡ length held + length bytes = omega (arith, none) in ap (λ (n : ℕ). whole_part u n) e) ∙ sym is
-
-    writes_of_none : write_some w.sector at (take count bytes) ≡ put_writes w at held bytes
-    writes_of_none = sym ((λ i. put_writes w at (nil i) bytes) ∙ empty_writes w at bytes
-        ∙ ap (λ (n : ℕ). write_some w.sector at (take n bytes)) count_is)
-
-    rest_of_none : held ++ drop count bytes ≡ put_rest u held bytes
-    rest_of_none = ap (λ (l : List ℕ). l ++ drop count bytes) nil ∙ ap (λ (n : ℕ). drop n bytes) (sym count_is)
-        ∙ (λ i. put_rest u (sym nil i) bytes)
-
-  -- No unit is full.
-  module _ (zero_is : count ≡ 0) where
-    no_whole : whole_part u (length (held ++ bytes)) ≡ 0
-    no_whole = whole_is ∙ zero_is
-
-    no_head : head_size u held bytes ≡ 0
-    no_head = omega (arith, head_le w held bytes, no_whole)
-
-    writes_of_few : ◌≡◌ {A = List Write} [] (put_writes w at held bytes)
-    writes_of_few = sym (λ i. write_some w.sector at (take (no_head i) (held ++ bytes)) ++ write_some w.sector (at + no_head i)
-        (drop (no_head i) (take (no_whole i) (held ++ bytes))))
-
-    rest_of_few : held ++ bytes ≡ put_rest u held bytes
-    rest_of_few = sym (ap (λ (n : ℕ). drop n (held ++ bytes)) no_whole)
 
   -- There is a whole unit where there are any.
   unit_full : 0 < count → unit_size u ≤ count
@@ -98,107 +60,90 @@ module _ (w : Grain) (at : ℕ) (held bytes : List ℕ) (count : ℕ) (is : coun
         ∙ sym (drop_past (held ++ bytes) size count full)
         ∙ sym (ap (λ (n : ℕ). drop n (held ++ bytes)) whole_is)
 
--- The same, by what the code reads: `n` and `k` are how many bytes are held, and `v` is the unit.
-module _ (m : MediumState) (v : WriteUnit) (unit : v ≡ m.grain.unit) (at : ℕ) (held bytes : List ℕ) (n k size : ℕ) (n_is : n ≡ length held)
-    (k_is : k ≡ length held) (size_is : size ≡ unit_size v)
-    (more : n + length bytes - (n + length bytes) % size ≢ 0) (some : 0 < length held) (part : length held < unit_size m.grain.unit) where
+-- The code reads how many bytes are held, twice, and the size of a unit, and holds the unit `x` that was begun and is full now.
+pub record UnitFull (m : MediumState) (held bytes : List ℕ) (n k size : ℕ) (x : List ℕ) : Type 0 where
+  pub n_is : n ≡ length held
+  pub k_is : k ≡ length held
+  pub size_is : size ≡ unit_size m.grain.unit
+  pub more : n + length bytes - (n + length bytes) % size ≢ 0
+  pub some : 0 < length held
+  pub part : length held < unit_size m.grain.unit
+  pub unit_is : x ≡ held ++ take (size - k) bytes
+
+module _ {m : MediumState} {held bytes : List ℕ} {n k size : ℕ} {x : List ℕ} (unit : UnitFull m held bytes n k size x) (at : ℕ) where
   abbrev count : ℕ
   count = n + length bytes - (n + length bytes) % size
 
-  of_unit : size ≡ unit_size m.grain.unit
-  of_unit = size_is ∙ ap unit_size unit
-
   count_of : count ≡ whole_part m.grain.unit (length held + length bytes)
-  count_of = λ i. n_is i + length bytes - (n_is i + length bytes) % of_unit i
+  count_of = λ i. unit.n_is i + length bytes - (unit.n_is i + length bytes) % unit.size_is i
 
   full : size ≤ count
-  full = omega (arith, of_unit, unit_full m.grain at held bytes count count_of (omega (arith, more)))
+  full = omega (arith, unit.size_is, unit_full m.grain at held bytes count count_of (omega (arith, unit.more)))
 
   short : length held ≤ size
-  short = omega (arith, of_unit, part)
+  short = omega (arith, unit.size_is, unit.part)
 
-  first_is : (x y h : List ℕ) → x ≡ y → y ≡ held ++ h → h ≡ take (size - k) bytes → x ≡ held ++ take (size - length held) bytes
-  first_is x y h one two three = one ∙ two ∙ ap (λ (l : List ℕ). held ++ l) (three ∙ ap (λ (j : ℕ). take (size - j) bytes) k_is)
+  first_is : x ≡ held ++ take (size - length held) bytes
+  first_is = unit.unit_is ∙ ap (λ (j : ℕ). held ++ take (size - j) bytes) unit.k_is
+
+  abbrev first_writes : List Write
+  first_writes = write_some m.grain.sector at x
+
+  both_are : write_some m.grain.sector at (held ++ take (size - length held) bytes) ++ write_some m.grain.sector (at + size)
+      (take (count - size) (drop (size - length held) bytes)) ≡ put_writes m.grain at held bytes
+  both_are = writes_of_full m.grain at held bytes count count_of size unit.size_is unit.some short full
 
   -- The write of the unit that was begun fails.
-  pub full_broken : (fault : WriteFault) (now : MediumState) (x y h : List ℕ) → x ≡ y → y ≡ held ++ h → h ≡ take (size - k) bytes
-      → BrokenWrites fault m (write_some m.grain.sector at x) now → BrokenWrites fault m (put_writes m.grain at held bytes) now
-  full_broken fault now x y h one two three broken =
-      subst (λ (ws : List Write). BrokenWrites fault m ws now)
-      (writes_of_full m.grain at held bytes count count_of size of_unit some short full)
+  pub full_broken : (now : MediumState) (fault : WriteFault) → BrokenWrites fault m first_writes now
+      → BrokenWrites fault m (put_writes m.grain at held bytes) now
+  full_broken now fault broken =
+      subst (λ (ws : List Write). BrokenWrites fault m ws now) both_are
       (broken_first fault (write_some m.grain.sector at (held ++ take (size - length held) bytes)) _ m now
-      (subst (λ (l : List ℕ). BrokenWrites fault m (write_some m.grain.sector at l) now) (first_is x y h one two three) broken))
+      (subst (λ (l : List ℕ). BrokenWrites fault m (write_some m.grain.sector at l) now) first_is broken))
 
   -- It works, and the further whole units follow it.
-  pub full_series : {T : Type 0} (mid now : MediumState) (r : Result T WriteFault) (x y h rest : List ℕ) → x ≡ y → y ≡ held ++ h
-      → h ≡ take (size - k) bytes → rest ≡ drop (size - k) bytes
-      → AllWrites m (write_some m.grain.sector at x) mid
-      → Series mid (write_some mid.grain.sector (at + size) (take (count - size) rest)) r now
+  pub full_series : {T : Type 0} (mid now : MediumState) (r : Result T WriteFault) (rest : List ℕ) → rest ≡ drop (size - k) bytes
+      → AllWrites m first_writes mid → Series mid (write_some mid.grain.sector (at + size) (take (count - size) rest)) r now
       → Series m (put_writes m.grain at held bytes) r now
-  full_series mid now r x y h rest one two three back came series =
-      subst (λ (ws : List Write). Series m ws r now) (writes_of_full m.grain at held bytes count count_of size of_unit some short full)
+  full_series mid now r rest back came series =
+      subst (λ (ws : List Write). Series m ws r now) both_are
       (series_after (write_some m.grain.sector at (held ++ take (size - length held) bytes)) _ m mid now r
-      (subst (λ (l : List ℕ). AllWrites m (write_some m.grain.sector at l) mid) (first_is x y h one two three) came)
+      (subst (λ (l : List ℕ). AllWrites m (write_some m.grain.sector at l) mid) first_is came)
       (subst (λ (ws : List Write). Series mid ws r now)
-      (λ i. write_some (all_grain (write_some m.grain.sector at x) m mid came i).sector (at + size)
-      (take (count - size) ((back ∙ ap (λ (j : ℕ). drop (size - j) bytes) k_is) i))) series))
+      (λ i. write_some (all_grain first_writes m mid came i).sector (at + size)
+      (take (count - size) ((back ∙ ap (λ (j : ℕ). drop (size - j) bytes) unit.k_is) i))) series))
 
-  -- After it the medium has its two slots, and the further whole units lie in it.
-  module _ (mid : MediumState) (x y h : List ℕ) (one : x ≡ y) (two : y ≡ held ++ h) (three : h ≡ take (size - k) bytes) (sized : IsSized m)
-      (within : at + (length held + length bytes) ≤ length m.bytes) (came : AllWrites m (write_some m.grain.sector at x) mid) where
-    first_fits : at + length x ≤ length m.bytes
-    first_fits = omega (
-      arith,
-      within,
-      ap length (first_is x y h one two three),
-      length-append held (take (size - length held) bytes),
-      length-take (size - length held) bytes,
-    )
-
-    grain_is : mid.grain ≡ m.grain
-    grain_is = all_grain (write_some m.grain.sector at x) m mid came
-
-    -- After the full unit the medium is still two slots.
-    pub full_sized : IsSized mid
-    full_sized = some_sized m mid at x sized first_fits came
-
-    -- What comes after the full unit may be written, where the unit might.
-    pub full_ahead : IsAhead m at → IsAhead mid (at + size)
-    full_ahead ahead =
-        let e : length x ≡ size = omega (
-          arith,
-          ap length (first_is x y h one two three),
-          length-append held (take (size - length held) bytes),
-          length-take (size - length held) bytes,
-          short,
-          full,
-          n_is,
-        ) in
-        subst (λ (j : ℕ). IsAhead mid (at + j)) e (some_ahead m mid at x sized first_fits came ahead)
-
-    -- The other bytes lie within the medium.
-    pub full_within : at + size + (count - size) ≤ length mid.bytes
-    full_within = omega (arith, within, n_is, full, some_size m mid at x sized first_fits came)
-
-    -- The place after the full unit is whole.
-    pub full_place : IsMultiple m.grain.unit at → IsMultiple mid.grain.unit (at + size)
-    full_place place =
-        subst (λ (w : Grain). IsMultiple w.unit (at + size)) (sym grain_is)
-        (subst (λ (j : ℕ). IsMultiple m.grain.unit (at + j)) (sym of_unit)
-        (multiple_add m.grain.unit at (unit_size m.grain.unit) place (multiple_self m.grain.unit)))
-
-    -- The other bytes that are written make whole units.
-    pub full_whole : IsMultiple mid.grain.unit (count - size)
-    full_whole =
-        subst (λ (w : Grain). IsMultiple w.unit (count - size)) (sym grain_is)
-        (subst (λ (j : ℕ). IsMultiple m.grain.unit (count - j)) (sym of_unit)
-        (multiple_less m.grain.unit count
-        (subst (λ (j : ℕ). IsMultiple m.grain.unit j) (sym count_of) (multiple_part m.grain.unit (length held + length bytes)))))
+  -- After it the further whole units may be written.
+  pub full_ready : (mid : MediumState) → IsSized m → IsAhead m at → at + (length held + length bytes) ≤ length m.bytes
+      → IsMultiple m.grain.unit at → AllWrites m first_writes mid → MayWrite mid (at + size) (count - size)
+  full_ready mid sized ahead within place came =
+      let u = m.grain.unit in
+      let long : length x ≡ size = omega (
+        arith,
+        ap length first_is,
+        length-append held (take (size - length held) bytes),
+        length-take (size - length held) bytes,
+        short,
+        full,
+        unit.n_is,
+      ) in
+      let fits : at + length x ≤ length m.bytes = omega (arith, within, long, full, unit.n_is) in
+      let same = some_same m mid at x sized fits came in
+      record {
+        sized = sized_after same sized;
+        ahead = subst (λ (j : ℕ). IsAhead mid (at + j)) long (some_ahead m mid at x sized fits came ahead);
+        within = omega (arith, within, unit.n_is, full, same.size);
+        place = subst (λ (w : Grain). IsMultiple w.unit (at + size)) (sym same.grain)
+            (subst (λ (j : ℕ). IsMultiple u (at + j)) (sym unit.size_is) (multiple_add u at (unit_size u) place (multiple_self u)));
+        whole = subst (λ (w : Grain). IsMultiple w.unit (count - size)) (sym same.grain)
+            (subst (λ (j : ℕ). IsMultiple u (count - j)) (sym unit.size_is) (multiple_less u count
+            (subst (λ (j : ℕ). IsMultiple u j) (sym count_of) (multiple_part u (length held + length bytes)))));
+      }
 
   -- The rest of the bytes is held then.
   pub full_held : {T : Type 0} (r : Result T WriteFault) (before now rest : List ℕ) → before ≡ [] → rest ≡ drop (size - k) bytes
       → OnOk r (now ≡ before ++ drop (count - size) rest) → OnOk r (now ≡ put_rest m.grain.unit held bytes)
   full_held r before now rest none back is =
-      let later = back ∙ ap (λ (j : ℕ). drop (size - j) bytes) k_is in
+      let later = back ∙ ap (λ (j : ℕ). drop (size - j) bytes) unit.k_is in
       on_ok_weaker r (λ h. h ∙ (λ i. none i ++ drop (count - size) (later i))
-      ∙ rest_of_full m.grain at held bytes count count_of size of_unit some short full) is
+      ∙ rest_of_full m.grain at held bytes count count_of size unit.size_is unit.some short full) is

@@ -73,7 +73,7 @@ back_none m at bytes fits len is =
       );
     }
 
-module _ (m : List ℕ) (at : ℕ) (bytes : List ℕ) (ahead : ℕ) (rest piece next : List ℕ) (far : ReadBack m at bytes ahead rest)
+module _ {m : List ℕ} {at : ℕ} {bytes : List ℕ} {ahead : ℕ} {rest : List ℕ} (far : ReadBack m at bytes ahead rest) (piece next : List ℕ)
     (parts : rest ≡ piece ++ next) where
   sizes : length rest ≡ length piece + length next
   sizes = ap length parts ∙ length-append piece next
@@ -102,16 +102,16 @@ module _ (m : List ℕ) (at : ℕ) (bytes : List ℕ) (ahead : ℕ) (rest piece 
       (subst (λ (l : List ℕ). Stand m (length m - ahead) l) parts (far.same.0 s)))
 
 -- What is cut in two is both parts, one behind the other.
-pub cut_is : (rest front back : List ℕ) (n : ℕ) → front ≡ take n rest → back ≡ drop n rest → rest ≡ front ++ back
-cut_is rest front back n a b = sym ((λ i. a i ++ b i) ∙ take-append-drop n rest)
+pub cut_is : {rest front back : List ℕ} (n : ℕ) → front ≡ take n rest → back ≡ drop n rest → rest ≡ front ++ back
+cut_is {rest} n a b = sym ((λ i. a i ++ b i) ∙ take-append-drop n rest)
 
 -- What was read is what stands there.
-pub read_there : (m : List ℕ) (place from : ℕ) (piece read : List ℕ) → from ≡ place → (n : ℕ) → n ≡ length piece
+pub read_there : (m piece : List ℕ) {place from n : ℕ} {read : List ℕ} → from ≡ place → n ≡ length piece
     → read ≡ slice_range m from (from + n) → slice_range m place (place + length piece) ≡ read
-read_there m place from piece read here n size is = sym (is ∙ (λ i. slice_range m (here i) (here i + size i)))
+read_there m piece here size is = sym (is ∙ (λ i. slice_range m (here i) (here i + size i)))
 
 -- Nothing is left to be read back.
-pub back_done : (m : List ℕ) (at : ℕ) (bytes : List ℕ) (ahead : ℕ) (rest : List ℕ) → ReadBack m at bytes ahead rest → length rest ≡ 0
+pub back_done : {m : List ℕ} {at : ℕ} {bytes : List ℕ} {ahead : ℕ} {rest : List ℕ} → ReadBack m at bytes ahead rest → length rest ≡ 0
     → Stand m at bytes
-back_done m at bytes ahead [] far none = far.same.1 (range_is m (length m - ahead) 0)
-back_done m at bytes ahead (x ∷ xs) far none = absurd (omega (arith, none))
+back_done {m = m} {ahead = ahead} {rest = []} far none = far.same.1 (range_is m (length m - ahead) 0)
+back_done {rest = x ∷ xs} far none = absurd (omega (arith, none))

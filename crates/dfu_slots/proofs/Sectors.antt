@@ -4,7 +4,7 @@ use Rattle.std.proofs.Math.Nat.{mod-add-mod, mod-eq_of_lt, mod_self, dvd-sub_iff
 use Rattle.std.proofs.lemmas.Nat.Gcd.{dvd_of_mod-eq-zero, mod-eq-zero_of_dvd, le_of_dvd}
 use Rattle.std.proofs.lemmas.Bool.{cases_eq}
 use Rattle.dfu_slots.specs.declared.unit.Unit.{Unit as WriteUnit}
-use Rattle.dfu_slots.specs.declared.unit.Unit.TheVariants.{Byte, U16, U64, U256}
+use Rattle.dfu_slots.specs.declared.unit.Unit.TheVariants.{Byte}
 use Rattle.dfu_slots.specs.Units.{Grain, gate_size, gate_room, IsMultiple, IsWhole}
 
 -- Where there are sectors, one begins there.
@@ -42,23 +42,17 @@ gate_wide w = omega arith
 -- A gate unit is a multiple of the unit.
 pub multiple_gate : (u : WriteUnit) → IsMultiple u (gate_size u)
 multiple_gate Byte = omega arith
-multiple_gate U16 = omega arith
-multiple_gate U64 = omega arith
-multiple_gate U256 = omega arith
+multiple_gate _ = omega arith
 
 -- No gate unit has more than 256 bytes.
 pub gate_most : (u : WriteUnit) → gate_size u ≤ 256
 gate_most Byte = omega arith
-gate_most U16 = omega arith
-gate_most U64 = omega arith
-gate_most U256 = omega arith
+gate_most _ = omega arith
 
 -- A multiple of 256 is one of every unit.
 pub multiple_pages : (u : WriteUnit) (n : ℕ) → n % 256 ≡ 0 → IsMultiple u n
 multiple_pages Byte n e = omega (arith, e)
-multiple_pages U16 n e = omega (arith, e)
-multiple_pages U64 n e = omega (arith, e)
-multiple_pages U256 n e = omega (arith, e)
+multiple_pages _ n e = omega (arith, e)
 
 module _ (w : Grain) (n : ℕ) (whole : IsWhole w n) where
   -- Where there are sectors, the gate has one.

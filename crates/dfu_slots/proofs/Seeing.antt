@@ -3,19 +3,19 @@ use Rattle.std.proofs.Common.{◌≡◌, ◌==◌, not, true, false, ℕ, ◌+�
 use Rattle.std.proofs.lemmas.Bool.{and_from, le-leb, ne_eqb, eqb-true, eqb-false, not_from_false, not_from_true, not-true, not-false, eq-eqb}
 use Rattle.dfu_slots.specs.Units.{IsWhole, gate_room, Grain}
 use Rattle.dfu_slots.specs.Medium.{MediumState, Fuse, written}
-use Rattle.dfu_slots.specs.Layout.{capacity, slot, OPEN, IsOpen, header_length}
-use Rattle.dfu_slots.specs.Image.{gate_of, capacity_of, IsSized, Active, HasImage, has_image_fused, active_at, spare_at, spare}
+use Rattle.dfu_slots.specs.Layout.{OPEN, IsOpen, header_length}
+use Rattle.dfu_slots.specs.Image.{gate_of, slot_of, capacity_of, IsSized, Active, HasImage, has_image_fused, active_at, spare_at, spare}
 use Rattle.dfu_slots.specs.Seen.{SlotsState, store_of, store_on, fused, spare_slot, held_at, data_place, image_of, spare_of, is_begun, room_of, is_shaped, image_fused, spare_fused, begun_fused, room_fused}
 use Rattle.dfu_slots.specs.Store.{HasPuts, IsStore}
 use Rattle.dfu_slots.specs.Leaves.{FuseLeaves}
 use Rattle.dfu_slots.proofs.Stands.{ActiveAt, standing, active_from}
 use Rattle.dfu_slots.proofs.Torn.{written_torn}
-use Rattle.dfu_slots.proofs.Parts.{data_length}
 use Rattle.dfu_slots.proofs.Counting.{header_length_is}
-use Rattle.dfu_slots.proofs.Newest.{spare_end}
+use Rattle.dfu_slots.proofs.Newest.{spare_size}
 use Rattle.dfu_slots.proofs.Unique.{active_header, active_fits, image_at}
 use Rattle.dfu_slots.proofs.Within.{written_nil}
-use Rattle.dfu_slots.proofs.Multiples.{held_end, zero_part}
+use Rattle.dfu_slots.proofs.Series.{SameSize}
+use Rattle.dfu_slots.proofs.Multiples.{held_end, zero_part, whole_after}
 use Rattle.dfu_slots.proofs.Sectors.{IsEdge}
 use Rattle.dfu_slots.proofs.Edges.{spare_data_edge}
 use Rattle.dfu_slots.proofs.Ahead.{edge_ahead}
@@ -26,28 +26,22 @@ use Rattle.dfu_slots.proofs.Ahead.{edge_ahead}
 pub image_is : (s : SlotsState) (image : List ℕ) → Active s.medium image → image ≡ image_of s
 unfolding image_of
 image_is s image active =
-    let g = gate_of s.medium in
-    let bytes = s.medium.bytes in
-    let p = active_at g bytes in
-    let a = (standing active) in
-    let fits = active_fits g bytes p refl active.at active.spare image a in
-    let head = active_header g bytes p refl active.at active.spare image a in
-    let len : header_length (slot g bytes p) ≡ length image =
-    header_length_is (slot g bytes p) (length image) head (omega (arith, fits, a.sized.bound)) in
-    image_at g bytes p refl active.at active.spare image a ∙ ap (λ (n : ℕ). take n (slot g bytes p).data_bytes) (sym len)
+    let m = s.medium in
+    let here : active_at (gate_of m) m.bytes ≡ active_at (gate_of m) m.bytes = refl in
+    let x = slot_of m (active_at (gate_of m) m.bytes) in
+    let len : header_length x ≡ length image =
+    header_length_is x (length image) (active_header here active) (omega (arith, active_fits here active, active.sized.bound)) in
+    image_at here active ∙ ap (λ (n : ℕ). take n x.data_bytes) (sym len)
 
 -- The image that a store is seen to have is the active one.
 pub image_active : (s : SlotsState) → HasImage s.medium → Active s.medium (image_of s)
 image_active s has = subst (λ (l : List ℕ). Active s.medium l) (image_is s has.image has.active) has.active
 
--- An image that stands on a medium of the same unit and the same length is active there.
-pub active_on : (m n : MediumState) (at spare : ℕ) (image : List ℕ) → n.grain ≡ m.grain → length n.bytes ≡ length m.bytes
-    → IsWhole m.grain (capacity_of m) → ActiveAt (gate_of m) n.bytes at spare image → Active n image
-active_on m n at spare image grain size whole stands =
-    active_from n at spare image
-    (subst (λ (w : Grain). IsWhole w (length n.bytes / 2 - 2 * gate_room w)) (sym grain)
-    (subst (λ (k : ℕ). IsWhole m.grain (k / 2 - 2 * gate_of m)) (sym size) whole))
-    (subst (λ (w : Grain). ActiveAt (gate_room w) n.bytes at spare image) (sym grain) stands)
+-- An image that stands on a medium of the same size is active there.
+pub active_on : {m n : MediumState} (at spare : ℕ) (image : List ℕ) → SameSize m n → IsWhole m.grain (capacity_of m)
+    → ActiveAt (gate_of m) n.bytes at spare image → Active n image
+active_on {m} {n} at spare image same whole stands = active_from n at spare image (whole_after same whole)
+    (subst (λ (w : Grain). ActiveAt (gate_room w) n.bytes at spare image) (sym same.grain) stands)
 
 -- The image stays where the store is opened anew.
 pub reopened_image : (s : SlotsState) → image_of (store_on s.medium) ≡ image_of s
@@ -97,36 +91,32 @@ pub room_capacity : (s : SlotsState) → room_of s ≡ capacity_of s.medium
 unfolding room_of
 room_capacity s = refl
 
--- A medium of the same unit and the same length has the same room.
-pub room_from : (s now : SlotsState) → now.medium.grain ≡ s.medium.grain → length now.medium.bytes ≡ length s.medium.bytes
-    → room_of now ≡ room_of s
+-- A medium of the same size has the same room.
+pub room_from : (s now : SlotsState) → SameSize s.medium now.medium → room_of now ≡ room_of s
 unfolding room_of
-room_from s now grain size = λ i. size i / 2 - 2 * gate_room (grain i)
+room_from s now same = λ i. same.size i / 2 - 2 * gate_room (same.grain i)
 
 -- The puts end within the room.
-pub puts_room : (s : SlotsState) → IsStore s → s.put_end ≤ room_of s
-puts_room s store = omega (arith, room_capacity s, store.puts.fits)
+pub puts_room : {s : SlotsState} → IsStore s → s.put_end ≤ room_of s
+puts_room {s} store = omega (arith, room_capacity s, store.puts.fits)
 
 spare_length : (s : SlotsState) → IsStore s → length (spare_of s) ≡ room_of s
 spare_length s store =
     let g = gate_of s.medium in
     let bytes = s.medium.bytes in
-    let sized = (standing store.has_image.active).sized in
-    let whole : length (spare g bytes).data_bytes ≡ capacity g bytes = data_length g bytes (spare_at g bytes) (spare_end g bytes sized)
-    (omega (arith, sized.room)) in
+    let whole = spare_size g bytes (standing store.has_image.active).sized in
     ap length (spare_is s) ∙ (written_torn (spare_slot s).data_bytes (held_at s) s.held
     (omega (arith, whole, held_end s store.puts, store.puts.fits))).size ∙ whole ∙ sym (room_capacity s)
 
 image_fits : (s : SlotsState) → IsStore s → length (image_of s) ≤ room_of s
 image_fits s store =
-    let a = store.has_image.active in
-    let fits = active_fits (gate_of s.medium) s.medium.bytes
-    (active_at (gate_of s.medium) s.medium.bytes) refl a.at a.spare store.has_image.image (standing a) in
-    omega (arith, fits, ap length (image_is s store.has_image.image a), room_capacity s)
+    let m = s.medium in
+    let here : active_at (gate_of m) m.bytes ≡ active_at (gate_of m) m.bytes = refl in
+    omega (arith, active_fits here (image_active s store.has_image), room_capacity s)
 
 -- Every store has the shape that the layers above ask for.
-pub shaped : (s : SlotsState) → IsStore s → is_shaped s ≡ true
-shaped s store =
+pub shaped : {s : SlotsState} → IsStore s → is_shaped s ≡ true
+shaped {s} store =
     and_from (length (spare_of s) == room_of s) _ (eq-eqb _ _ (spare_length s store))
     (and_from (nat_le (room_of s) (2 ^ 24)) _ (le-leb _ _ (omega (arith, room_capacity s, store.has_image.active.sized.bound)))
     (le-leb _ _ (image_fits s store)))
@@ -139,14 +129,14 @@ pub record IsFresh (x : SlotsState) : Type 0 where
   pub store : IsStore x
 
 -- A medium with an active image makes such a store, where nothing is held and the puts end at 0.
-pub fresh_leaves : (m : MediumState) → HasImage m → (held : List ℕ) (put_end : ℕ) → held ≡ [] → put_end ≡ 0
+pub fresh_leaves : {m : MediumState} {held : List ℕ} {put_end : ℕ} → HasImage m → held ≡ [] → put_end ≡ 0
     → IsFresh (store_of m held put_end)
-fresh_leaves m has held put_end none zero_is =
+fresh_leaves {m} {held} {put_end} has none zero_is =
     let same : store_of m held put_end ≡ store_on m = fresh_is m held put_end none zero_is in
     let kept : IsStore (store_of m held put_end) = subst IsStore (sym same) (fresh_store m has) in
     record {
       active = image_active (store_of m held put_end) has;
-      shape = shaped (store_of m held put_end) kept;
+      shape = shaped kept;
       fresh = same;
       store = kept;
     }
@@ -198,5 +188,5 @@ fuse_leaves {s} {v} view store m fuse is =
       spare = ap spare_of same ∙ spare_fused s fuse;
       begun = ap is_begun same ∙ begun_fused s fuse;
       room = ap room_of same ∙ room_fused s fuse;
-      shape = shaped (store_of m s.held s.put_end) kept;
+      shape = shaped kept;
     })

@@ -64,6 +64,27 @@ pub ends_grain : (ws : List Write) (s now : MediumState) → Ends s ws now → n
 ends_grain ws s now (inl all) = all_grain ws s now all
 ends_grain ws s now (inr (fault, broken)) = broken_grain fault ws s now broken
 
+-- One medium has the grain and the length of another one.
+pub record SameSize (m n : MediumState) : Type 0 where
+  pub grain : n.grain ≡ m.grain
+  pub size : length n.bytes ≡ length m.bytes
+
+-- Writes within a range that ends in the medium keep both.
+pub ends_same : (from to : ℕ) (ws : List Write) (s now : MediumState) → to ≤ length s.bytes → AllInside from to ws → Ends s ws now
+    → SameSize s now
+ends_same from to ws s now room inside ends = record {
+  grain = ends_grain ws s now ends;
+  size = (ends_keep from to ws s now room inside ends).size;
+}
+
+-- So do writes that lie anywhere in it, and that all came.
+pub all_same : (ws : List Write) (s now : MediumState) → AllInside 0 (length s.bytes) ws → AllWrites s ws now → SameSize s now
+all_same ws s now inside all = ends_same 0 (length s.bytes) ws s now (omega arith) inside (inl all)
+
+-- Two media that have the size of a third one, one after the other.
+pub same_both : {m n k : MediumState} → SameSize m n → SameSize n k → SameSize m k
+same_both a b = record { grain = b.grain ∙ a.grain; size = b.size ∙ a.size }
+
 -- The count of failures.
 
 -- Writes that all came lower no count of failures.

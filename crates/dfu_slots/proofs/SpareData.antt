@@ -6,44 +6,47 @@ use Rattle.dfu_slots.specs.Image.{spare_at, spare}
 use Rattle.dfu_slots.proofs.Stands.{HasTwoSlots, ActiveAt}
 use Rattle.std.proofs.lemmas.List.{take-take, drop-drop}
 use Rattle.std.proofs.Math.Seq.{take-add}
-use Rattle.dfu_slots.proofs.ReadBack.{Stand, range_is}
+use Rattle.dfu_slots.proofs.ReadBack.{range_is}
 use Rattle.dfu_slots.proofs.Torn.{written_torn, range_outside}
 use Rattle.dfu_slots.proofs.Parts.{gate_outside}
 use Rattle.dfu_slots.proofs.Newest.{places_are, place_end, spare_end}
 use Rattle.dfu_slots.proofs.Kept.{closed_change}
-use Rattle.dfu_slots.proofs.Series.{AllInside, Ends, ends_keep}
+use Rattle.dfu_slots.proofs.Series.{AllInside, Ends, SameSize, ends_keep, ends_same}
+use Rattle.dfu_slots.proofs.Anew.{Left}
 use Rattle.dfu_slots.proofs.Within.{written_within}
 use Rattle.dfu_slots.proofs.Begun.{same_spare}
 
-module _ (g : ℕ) (wide : 16 ≤ g) (s now : MediumState) (mine other : ℕ) (image : List ℕ) (a : ActiveAt g s.bytes mine other image)
-    (shut : ¬ IsOpen (slot g s.bytes other)) (ws : List Write) (inside : AllInside (other + 2 * g) (other + slot_size s.bytes) ws)
-    (ends : Ends s ws now) where
-  place : other ≡ spare_at g s.bytes
-  place = (places_are g s.bytes mine other image a).1
+-- What writes in the spare's data leave: nothing changes elsewhere, the active image stands where it stood, and the spare and its gate too.
+pub record DataLeaves (g : ℕ) (s now : MediumState) (mine other : ℕ) (image : List ℕ) : Type 0 where
+  pub kept : KeepsOutside (other + 2 * g) (other + slot_size s.bytes) s.bytes now.bytes
+  pub same : SameSize s now
+  pub stands : ActiveAt g now.bytes mine other image
+  pub spare_stays : spare_at g now.bytes ≡ spare_at g s.bytes
+  pub gate_at : (slot g now.bytes other).gate ≡ (slot g s.bytes other).gate
+  pub gate : (spare g now.bytes).gate ≡ (spare g s.bytes).gate
 
-  -- Such writes change nothing outside the data of the spare.
-  pub data_kept : KeepsOutside (other + 2 * g) (other + slot_size s.bytes) s.bytes now.bytes
-  data_kept = ends_keep (other + 2 * g) (other + slot_size s.bytes) ws s now (place_end g s.bytes mine other a.sized a.places).1 inside ends
-
-  -- The active image stands where it stood.
-  pub data_keeps : ActiveAt g now.bytes mine other image
-  data_keeps = closed_change g wide s.bytes now.bytes mine other image (other + 2 * g) (other + slot_size s.bytes) a data_kept shut
-      (omega (arith, wide)) (omega arith)
-
-  -- The spare is at the place where it was.
-  pub data_spare : spare_at g now.bytes ≡ spare_at g s.bytes
-  data_spare = same_spare g s.bytes now.bytes mine other image a data_keeps
-
-  -- The gate of the spare stays too.
-  pub data_gate_at : (slot g now.bytes other).gate ≡ (slot g s.bytes other).gate
-  data_gate_at = gate_outside g (other + 2 * g) (other + slot_size s.bytes) s.bytes now.bytes other data_kept (inl (omega arith))
-
-  -- So it does where the test finds the spare.
-  pub data_gate : (spare g now.bytes).gate ≡ (spare g s.bytes).gate
-  data_gate =
-      ap (λ (q : ℕ). slice_index now.bytes q) (data_spare ∙ sym place)
-      ∙ data_gate_at
-      ∙ ap (λ (q : ℕ). slice_index s.bytes q) place
+-- They do so while the spare is closed.
+pub data_leaves : (g : ℕ) → 16 ≤ g → (s now : MediumState) (mine other : ℕ) (image : List ℕ) → ActiveAt g s.bytes mine other image
+    → ¬ IsOpen (slot g s.bytes other) → (ws : List Write) → AllInside (other + 2 * g) (other + slot_size s.bytes) ws → Ends s ws now
+    → DataLeaves g s now mine other image
+data_leaves g wide s now mine other image a shut ws inside ends =
+    let from = other + 2 * g in
+    let to = other + slot_size s.bytes in
+    let end = (place_end g s.bytes mine other a.sized a.places).1 in
+    let kept = ends_keep from to ws s now end inside ends in
+    let stands = closed_change g wide s.bytes now.bytes mine other image from to a kept shut (omega (arith, wide)) (omega arith) in
+    let place = (places_are g s.bytes mine other image a).1 in
+    let stays = same_spare g s.bytes now.bytes mine other image a stands in
+    let gate_at : (slot g now.bytes other).gate ≡ (slot g s.bytes other).gate =
+    gate_outside g from to s.bytes now.bytes other kept (inl (omega arith)) in
+    record {
+      kept = kept;
+      same = ends_same from to ws s now end inside ends;
+      stands = stands;
+      spare_stays = stays;
+      gate_at = gate_at;
+      gate = ap (λ (q : ℕ). slice_index now.bytes q) (stays ∙ sym place) ∙ gate_at ∙ ap (λ (q : ℕ). slice_index s.bytes q) place;
+    }
 
 -- Bytes that were written at a place of a slot's data stand there in it.
 pub data_at_written : (g : ℕ) (old now : List ℕ) (p k : ℕ) (new : List ℕ) → p + slot_size old ≤ length old
@@ -65,9 +68,9 @@ data_written g old now sized same k new fits is =
 
 -- Where bytes were written at a place of a slot's data, and nothing in front of it, they stand behind what stood there.
 pub data_front : (g : ℕ) (old now : List ℕ) (p k : ℕ) (new : List ℕ) (to : ℕ) → 2 * g + k + length new ≤ slot_size old
-    → KeepsOutside (p + 2 * g + k) to old now → Stand now (p + 2 * g + k) new
+    → Left (p + 2 * g + k) to new old now
     → take (k + length new) (slot g now p).data_bytes ≡ take k (slot g old p).data_bytes ++ new
-data_front g old now p k new to fits keeps stands =
+data_front g old now p k new to fits (keeps, stands) =
     let q = p + 2 * g in
     let n = length new in
     let size : slot_size now ≡ slot_size old = ap (λ (j : ℕ). j / 2) keeps.size in
@@ -82,8 +85,8 @@ data_front g old now p k new to fits keeps stands =
 -- So they do in the spare's data.
 pub spare_front : (g : ℕ) (old now : List ℕ) → HasTwoSlots g old → spare_at g now ≡ spare_at g old
     → (k : ℕ) (new : List ℕ) (to : ℕ) → k + length new ≤ capacity g old
-    → KeepsOutside (spare_at g old + 2 * g + k) to old now → Stand now (spare_at g old + 2 * g + k) new
+    → Left (spare_at g old + 2 * g + k) to new old now
     → take (k + length new) (spare g now).data_bytes ≡ take k (spare g old).data_bytes ++ new
-spare_front g old now sized same k new to fits keeps stands =
+spare_front g old now sized same k new to fits left =
     ap (λ (q : ℕ). take (k + length new) (slot g now q).data_bytes) same
-    ∙ data_front g old now (spare_at g old) k new to (omega (arith, fits, sized.room)) keeps stands
+    ∙ data_front g old now (spare_at g old) k new to (omega (arith, fits, sized.room)) left

@@ -78,28 +78,28 @@ pub record IsNamed (m : MediumState) (first : Bool) : Type 0 where
   pub first_is : first ≡ first_is_active (gate_of m) m.bytes
 
 -- Where gates and headers alone tell that the named slot is the active one, it is.
-pub named_is : (m : MediumState) (first : Bool) → IsActiveUnread m first → IsNamed m first
-named_is m first u =
+pub named_is : {m : MediumState} {first : Bool} → IsActiveUnread m first → IsNamed m first
+named_is {m} {first} u =
     let mine = place_of first m.bytes in
     let other = place_of (not first) m.bytes in
     let newest = newest_read (slot_of m mine) (slot_of m other) u.newest in
     let places = places_newest (gate_of m) m.bytes mine other (named_places first m.bytes) newest in
     record {
-      has_image = has_image_there m mine other places.0 places.1 (header_length (slot_of m mine)) u.sized (newest_test _ _ newest)
+      has_image = has_image_there m places.0 places.1 (header_length (slot_of m mine)) u.sized (newest_test _ _ newest)
           (record { well_formed = inl u.newest.counts.formed.header_is; fits = u.newest.counts.formed.fits });
       active_there = places.0;
       spare_there = places.1;
       first_is = named_first (gate_of m) m.bytes first newest;
     }
 
--- Where the place of the named slot and that of the other one are these, so it is.
-pub named_there : (m : MediumState) (first : Bool) (p q : ℕ) → p ≡ place_of first m.bytes → q ≡ place_of (not first) m.bytes → IsSized m
-    → IsNewestUnread (slot_of m p) (slot_of m q) → IsNamed m first
-named_there m first p q here there sized newest = named_is m first (record {
+-- They tell so at the place of the named slot and that of the other one.
+pub unread_there : (m : MediumState) (first : Bool) {p q : ℕ} → p ≡ place_of first m.bytes → q ≡ place_of (not first) m.bytes → IsSized m
+    → IsNewestUnread (slot_of m p) (slot_of m q) → IsActiveUnread m first
+unread_there m first {p} here there sized newest = record {
   sized = sized;
   newest = subst (λ (x : ℕ). IsNewestUnread (slot_of m x) (slot_of m (place_of (not first) m.bytes))) here
       (subst (λ (x : ℕ). IsNewestUnread (slot_of m p) (slot_of m x)) there newest);
-})
+}
 
 -- The active slot stands at 0 exactly where it is the first one.
 pub first_told : (g : ℕ) (bytes : List ℕ) (p : ℕ) → p ≡ active_at g bytes → 0 < slot_size bytes → (p == 0) ≡ first_is_active g bytes

@@ -30,10 +30,10 @@ lie_works (Lying writes tear) old at new left next lied right = absurd (lied.2 r
 lie_works Stopped old at new left next lied right = absurd lied
 
 -- Its bytes stand there: the write worked.
-pub was_written : (old : MediumState) (at : ℕ) (new : List ℕ) (now : MediumState) → at + length new ≤ length old.bytes
+pub was_written : {old : MediumState} {at : ℕ} {new : List ℕ} {now : MediumState} → at + length new ≤ length old.bytes
     → WroteOrLied old at new now → Stand now.bytes at new → Wrote old at new now
-was_written old at new now fits (inl wrote) stands = wrote
-was_written old at new now fits (inr lied) stands =
+was_written fits (inl wrote) stands = wrote
+was_written {old} {at} {new} {now} fits (inr lied) stands =
     let right = torn_right old.bytes at new now.bytes fits lied.bytes stands in
     record {
       bytes = right;
@@ -44,8 +44,8 @@ was_written old at new now fits (inr lied) stands =
     }
 
 -- They do not: it lied.
-pub not_written : (old : MediumState) (at : ℕ) (new : List ℕ) (now : MediumState) → at + length new ≤ length old.bytes
+pub not_written : {old : MediumState} {at : ℕ} {new : List ℕ} {now : MediumState} → at + length new ≤ length old.bytes
     → WroteOrLied old at new now → ¬ Stand now.bytes at new → FailedWrite NotVerified old at new now
-not_written old at new now fits (inl wrote) missing =
+not_written {old} {at} {new} fits (inl wrote) missing =
     absurd (missing (ap (λ (l : List ℕ). slice_range l at (at + length new)) wrote.bytes ∙ written_range old.bytes at new fits))
-not_written old at new now fits (inr lied) missing = lied
+not_written fits (inr lied) missing = lied

@@ -5,10 +5,19 @@ use Rattle.dfu_slots.specs.Seen.{image_of}
 use Rattle.dfu_device.specs.declared.answer.Answer.{Answer}
 use Rattle.dfu_device.specs.declared.draft.Draft.{Draft}
 use Rattle.dfu_device.specs.declared.draft.Draft.TheVariants as draft
+use Rattle.dfu_device.specs.declared.reply.Reply.{Reply as ReplyRead}
+use Rattle.dfu_device.specs.declared.reply.Reply.TheVariants as reply
 use Rattle.dfu_device.specs.Stage.{Reply, Ack, Data, StateOf, Stall, state_of, status_of}
 use Rattle.dfu_device.specs.Table.{Plan}
 use Rattle.dfu_device.specs.Shown.{Shown, profile}
 use Rattle.dfu_device.specs.Rows.{Answers, Done, Serves, Handles}
+
+-- The draft of a reply, where so many bytes are asked for.
+abbrev pub draft_of : (asked : ℕ) → ReplyRead → Draft
+draft_of asked reply.Ack = draft.Ack
+draft_of asked reply.Status = draft.Status asked
+draft_of asked reply.State = draft.State asked
+draft_of asked reply.Stall = draft.Stall
 
 -- The reply that a draft is, of a device that has gone on.
 abbrev pub reply_of : Draft → Shown → Reply

@@ -1,15 +1,22 @@
--- What the code holds of a line that is expected, and what is printed where one is.
-use Rattle.std.specs.Prelude.{◌≡◌, ℕ, List, Option, Some, None}
+-- What the code writes, what it holds of a line that is expected, and what is printed if one is.
+use Rattle.std.specs.Prelude.{◌≡◌, ℕ, List, Option, Some, None, Result, OnOk, OnErr, IfErr}
 use Rattle.std.specs.Io.KnownBytes.{Appends}
 use Rattle.dfu_host.specs.declared.limits.Limits.{Limits}
 use Rattle.dfu_sim.specs.Bench.{Bench}
-use Rattle.dfu_link.specs.Expecting.{Expectation, Meets, still}
+use Rattle.dfu_suffix.specs.Writing.{IsOutInPart}
+use Rattle.dfu_link.specs.Expecting.{Expectation, Meets, still, Fails}
 use Rattle.dfu_link.specs.Said.{given_bytes}
 use Rattle.dfu_link.specs.ScriptRun.{Point}
 use Rattle.dfu_link.specs.declared.scripting.expectation.Expectation.{Expectation as ExpectationHeld}
 use Rattle.dfu_link.specs.declared.scripting.expectation.Ahead.{Ahead}
 use Rattle.dfu_link.specs.declared.scripting.fault.ScriptFault.{ScriptFault}
-use Rattle.dfu_link.specs.declared.scripting.fault.ScriptFault.TheVariants.{NonePrinted, NoMemory}
+use Rattle.dfu_link.specs.declared.scripting.fault.ScriptFault.TheVariants.{NonePrinted, NoMemory, Write}
+
+-- How writing a text went: with Ok it is out; with a fault the writer failed, and a front of the text is out, and not all of it.
+pub record Puts (text : List ℕ) (old new : Option (List ℕ)) (r : Result Unit ScriptFault) : Type 0 where
+  pub ok : OnOk r (Appends old new text)
+  pub err : OnErr r (IsOutInPart old new text)
+  pub fault : IfErr r (λ f. f ≡ Write)
 
 -- What is held, as plain data.
 abbrev pub expectation_of : Option ExpectationHeld → Option Expectation
@@ -30,6 +37,13 @@ pub record Prints (e : Option Expectation) (old : Option (List ℕ)) (text : Lis
   pub told : Appends old new text
   pub meets : Meets e text
   pub left : e' ≡ still e text
+
+-- How printing a text next went: with Ok it is out, as expected; with a fault it fell short, and a front of it is out, and not all of it.
+pub record PrintsNext (e : Option Expectation) (old : Option (List ℕ)) (text : List ℕ) (e' : Option Expectation) (new : Option (List ℕ))
+    (r : Result Unit ScriptFault) : Type 0 where
+  pub ok : OnOk r (Prints e old text e' new)
+  pub err : OnErr r (IsOutInPart old new text)
+  pub fault : IfErr r (λ f. Fails e text old new f)
 
 -- Why a line can't be expected: one is already, or there is no memory.
 abbrev pub CannotExpect : Option Expectation → ScriptFault → Type 0

@@ -1,5 +1,5 @@
 -- What lines do one after the other, as the loops of the code have it.
-use Rattle.std.specs.Prelude.{◌≡◌, ℕ, ◌+◌, List, [], ◌++◌, Bool, Option, Some, None, IfSome, replicate}
+use Rattle.std.specs.Prelude.{◌≡◌, ℕ, ◌+◌, List, [], ◌++◌, Bool, Option, Some, None, Result, IfSome, OnOk, IfErr, replicate}
 use Rattle.std.specs.Io.KnownBytes.{Appends, IsAtEnd}
 use Rattle.dfu_slots.specs.Medium.Fuse.{Whole}
 use Rattle.dfu_device.specs.Shown.{Shown}
@@ -10,7 +10,7 @@ use Rattle.dfu_link.specs.Words.{lines_of}
 use Rattle.dfu_link.specs.Said.{Offer, HasTear, Said, Does, given_bytes, said_by}
 use Rattle.dfu_link.specs.Lines.{line_of}
 use Rattle.dfu_link.specs.ScriptRun.{Settings, Prepares, IsReady, at_rest, AllCome, Point, LineActs, LinesRun}
-use Rattle.dfu_link.specs.Falls.{BreaksIn, LineFalls, NextFalls}
+use Rattle.dfu_link.specs.Falls.{HasBroken, BreaksIn, LineFalls, NextFalls}
 use Rattle.dfu_link.specs.TextLimit.{GoesOver, IsStopped}
 use Rattle.dfu_link.specs.Expecting.{Expectation, Meets}
 use Rattle.dfu_link.specs.inside.Expected.{at_point, Prints}
@@ -22,12 +22,18 @@ use Rattle.dfu_link.specs.declared.scripting.held.OfferedFile.TheVariants.{Decod
 use Rattle.dfu_link.specs.declared.scripting.fault.ScriptFault.{ScriptFault}
 use Rattle.dfu_link.specs.declared.scripting.fault.ScriptFault.TheVariants.{NoMemory}
 
--- Events were played, and what they print is out, as expected, each with its trace.
+-- Events were played, and what they print is out, as expected.
 pub record HasPlayed (b : Bench) (e : Option Expectation) (events : List Happening) (old : Option (List ℕ)) (b' : Bench) (e' : Option Expectation)
     (new : Option (List ℕ)) : Type 0 where
   pub out : List ℕ
   pub plays : AllCome b events out b'
   pub prints : Prints e old out e' new
+
+-- How playing events went: with Ok they were played, and with a fault it stopped among them.
+pub record Plays (b : Bench) (e : Option Expectation) (events : List Happening) (old : Option (List ℕ)) (b' : Bench)
+    (e' : Option Expectation) (new : Option (List ℕ)) (r : Result Unit ScriptFault) : Type 0 where
+  pub ok : OnOk r (HasPlayed b e events old b' e' new)
+  pub fault : IfErr r (λ f. HasBroken b e events old new f)
 
 -- What a line says was done, and what it prints is out.
 pub record HasActed (p : Point) (said : Said) (old : Option (List ℕ)) (p' : Point) (new : Option (List ℕ)) : Type 0 where
@@ -38,6 +44,12 @@ pub record HasActed (p : Point) (said : Said) (old : Option (List ℕ)) (p' : Po
 -- It stopped in what a line prints.
 abbrev pub HasStopped : Point → Said → Option (List ℕ) → Option (List ℕ) → ScriptFault → Type 0
 HasStopped p said old new fault = (line : List ℕ) → line_of p.given line ≡ Some said → BreaksIn p line old new fault
+
+-- How doing what a line says went.
+pub record Acts (p : Point) (said : Said) (old : Option (List ℕ)) (p' : Point) (new : Option (List ℕ)) (r : Result Unit ScriptFault)
+    : Type 0 where
+  pub ok : OnOk r (HasActed p said old p' new)
+  pub fault : IfErr r (λ f. HasStopped p said old new f)
 
 -- The host passed so often that nothing was printed of it.
 pub record IsSilent (b : Bench) (e : Option Expectation) (old : Option (List ℕ)) (b' : Bench) (e' : Option Expectation) (new : Option (List ℕ)) : Type 0 where
@@ -62,6 +74,12 @@ pub record Steps (k : ℕ) (p : Point) (line : List ℕ) (old : Option (List ℕ
   pub out : List ℕ
   pub acts : LineActs k p said out p'
   pub told : Appends old new out
+
+-- How line k went.
+pub record LineEnds (k : ℕ) (p : Point) (line : List ℕ) (old : Option (List ℕ)) (p' : Point) (new : Option (List ℕ))
+    (r : Result Unit ScriptFault) : Type 0 where
+  pub ok : OnOk r (Steps k p line old p' new)
+  pub fault : IfErr r (λ f. LineFalls p k line old new f)
 
 -- The lines that a source gave were done, and what they print is out.
 pub record Moves (p : Point) (s : SourceState) (old : Option (List ℕ)) (p' : Point) (s' : SourceState) (new : Option (List ℕ)) : Type 0 where
@@ -101,14 +119,18 @@ abbrev pub IsUnarmed : Shown → Type 0
 IsUnarmed d = d.slots.medium.fuse ≡ Whole
 
 -- Lines were done until no session was live, and the device is given back; or all lines were done, and last the line of the image is out.
-abbrev pub LinesDone : Point → SourceState → Option (List ℕ) → Option Shown → (Bench → Point) → SourceState → Option (List ℕ) → Type 0
-LinesDone p s old None to s' new = Ends p s old new
-LinesDone p s old (Some d) to s' new = IsUnarmed d × Moves p s old (to (at_rest d)) s' new
+pub data LinesDone (p : Point) (s : SourceState) (old : Option (List ℕ)) (to : Bench → Point) (s' : SourceState) (new : Option (List ℕ))
+    : Option Shown → Type 0 where
+  all_done : Ends p s old new → LinesDone p s old to s' new None
+  gives_back : {d : Shown} → Moves p s old (to (at_rest d)) s' new → LinesDone p s old to s' new (Some d)
 
 -- A line was done but for its events, whatever the session: it said none, or these are left to play.
-abbrev pub Plainly : Shown → Ahead → ℕ → List ℕ → Option (List ℕ) → Option EventLineRead → Ahead → Option (List ℕ) → Type 0
-Plainly d l k line old None l' new = (b : Bench) → b.device ≡ d → Steps k (at_point l b) line old (at_point l' b) new
-Plainly d l k line old (Some events) l' new = (line_of (given_bytes l.given) line ≡ Some (said_by events)) × (l' ≡ l) × (new ≡ old)
+pub data Plainly (d : Shown) (l : Ahead) (k : ℕ) (line : List ℕ) (old : Option (List ℕ))
+    : Option EventLineRead → Ahead → Option (List ℕ) → Type 0 where
+  says_none : {l' : Ahead} {new : Option (List ℕ)}
+      → ((b : Bench) → b.device ≡ d → Steps k (at_point l b) line old (at_point l' b) new) → Plainly d l k line old None l' new
+  says_events : {events : EventLineRead} → line_of (given_bytes l.given) line ≡ Some (said_by events)
+      → Plainly d l k line old (Some events) l old
 
 -- A line falls but for its events, whatever the session.
 abbrev pub PlainlyFalls : Shown → Ahead → ℕ → List ℕ → Option (List ℕ) → Option (List ℕ) → ScriptFault → Type 0

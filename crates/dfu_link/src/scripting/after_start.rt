@@ -3,14 +3,12 @@
 //! A `World` borrows the file that it was offered, so each session has a world of its own, which is
 //! made over the device and taken apart again.
 
-ghost use Rattle.std.specs.Prelude.{◌≡◌, ◌≤◌, OnOk, OnErr, IfOk, IfErr, IfNone, IfSome};
-ghost use Rattle.dfu_sim.specs.Bench.{Bench};
+ghost use Rattle.std.specs.Prelude.{◌≤◌, OnOk, IfOk, IfErr, IfSome};
 ghost use Rattle.dfu_sim.specs.Refusing.{IsLive};
 ghost use Rattle.dfu_link.specs.ScriptRun.{at_rest};
 ghost use Rattle.dfu_link.specs.inside.Expected.{at_point};
-ghost use Rattle.dfu_link.specs.Falls.{LineFalls};
 ghost use Rattle.dfu_link.specs.inside.Source.{Next, GivesLine, SourceState};
-ghost use Rattle.dfu_link.specs.inside.Moving.{Steps, Ends, LinesDone, IsUnarmed, Plainly, PlainlyFalls, MovesAndFalls};
+ghost use Rattle.dfu_link.specs.inside.Moving.{LineEnds, Ends, LinesDone, IsUnarmed, Plainly, PlainlyFalls, MovesAndFalls};
 
 use crate::scripting::expectation::{Ahead, expect};
 use crate::scripting::fault::ScriptFault;
@@ -20,7 +18,7 @@ use crate::scripting::playing::{play_events, play_live};
 use crate::scripting::reading::parse;
 use crate::scripting::showing::{image_next, show_next};
 use crate::scripting::source::Source;
-use crate::tracing::watch::Watch;
+use crate::watch::Watch;
 use dfu_device::Device;
 use dfu_host::Limits;
 use dfu_sim::World;
@@ -73,18 +71,15 @@ fn live_line<'f, T: Watch<M>, M: Faulty, W: Write>(
     watch: &mut T,
 ) -> Result<(), ScriptFault>
     requires { IsLive world.old.bench.session }
-    ensures ok { OnOk result
-        (Steps number (at_point ahead.old world.old.bench) line.now (W.contents writer.old) (at_point ahead.new world.new.bench)
-        (W.contents writer.new)) }
-    ensures fault { IfErr result (λ f. LineFalls (at_point ahead.old world.old.bench) number line.now (W.contents writer.old)
-        (W.contents writer.new) f) }
+    ensures { LineEnds number (at_point ahead.old world.old.bench) line.now (W.contents writer.old) (at_point ahead.new world.new.bench)
+        (W.contents writer.new) result }
 {
     let plain = plain_line::<M, W>(alloc, world.device(), line, number, ahead, writer)?;
-    if let Some(events) = plain {
-        let torn = tear_of(alloc, events)?;
-        play_live::<T, M, W>(world, events, &torn, ahead, writer, watch)?;
-    }
-    Ok(())
+    let Some(events) = plain else {
+        return Ok(());
+    };
+    let torn = tear_of(alloc, events)?;
+    play_live::<T, M, W>(world, events, &torn, ahead, writer, watch)
 }
 
 /// Does lines until no session is live, and gives the device back; or all that are left, and then
@@ -99,8 +94,8 @@ fn follow<'f, T: Watch<M>, R: Read + Drop, M: Faulty, W: Write>(
 ) -> Result<Option<Device<M>>, ScriptFault>
     ensures room { source.new.room ≤ source.old.room }
     ensures unarmed { IfOk result (λ d. IfSome d (λ d. IsUnarmed d)) }
-    ensures ok { IfOk result (λ d. LinesDone (at_point ahead.old world.entry.bench) source.old (W.contents writer.old) d (at_point ahead.new)
-        source.new (W.contents writer.new)) }
+    ensures ok { IfOk result (λ d. LinesDone (at_point ahead.old world.entry.bench) source.old (W.contents writer.old) (at_point ahead.new)
+        source.new (W.contents writer.new) d) }
     ensures fault { IfErr result (λ f. MovesAndFalls (at_point ahead.old world.entry.bench) source.old (W.contents writer.old)
         (W.contents writer.new) f) }
 {
@@ -109,19 +104,20 @@ fn follow<'f, T: Watch<M>, R: Read + Drop, M: Faulty, W: Write>(
         if !world.is_live() {
             return Ok(Some(world.release()));
         }
-        if !source.next()? {
+        if source.next()? {
+            live_line::<T, M, W>(
+                alloc,
+                &mut world,
+                source.line(),
+                source.number(),
+                ahead,
+                writer,
+                watch,
+            )?;
+        } else {
             image_next(writer, &mut ahead.next, world.device())?;
             return Ok(None);
         }
-        live_line::<T, M, W>(
-            alloc,
-            &mut world,
-            source.line(),
-            source.number(),
-            ahead,
-            writer,
-            watch,
-        )?;
     }
 }
 
@@ -139,7 +135,7 @@ fn act<'g, T: Watch<M>, R: Read + Drop, M: Faulty, W: Write>(
     ensures room { source.new.room ≤ source.old.room }
     ensures unarmed { IfOk result (λ d. IfSome d (λ d. IsUnarmed d)) }
     ensures ok { IfOk result (λ d. (s : SourceState) → GivesLine s source.old → LinesDone (at_point ahead.old (at_rest device)) s
-        (W.contents writer.old) d (at_point ahead.new) source.new (W.contents writer.new)) }
+        (W.contents writer.old) (at_point ahead.new) source.new (W.contents writer.new) d) }
     ensures fault { IfErr result (λ f. (s : SourceState) → GivesLine s source.old → MovesAndFalls (at_point ahead.old (at_rest device)) s
         (W.contents writer.old) (W.contents writer.new) f) }
 {

@@ -1,10 +1,9 @@
 //! Bytes as hexadecimal text.
 
-ghost use Rattle.std.specs.Prelude.{◌≡◌, ◌≤◌, ◌++◌, ◌∷◌, [], length, OnOk, OnErr, IfErr};
-ghost use Rattle.std.specs.Io.KnownBytes.{Appends};
+ghost use Rattle.std.specs.Prelude.{◌≤◌, ◌++◌, ◌∷◌, [], length};
 ghost use Rattle.hex.specs.Hex.{encode_lower};
-ghost use Rattle.dfu_suffix.specs.Writing.{IsOutInPart};
 ghost use Rattle.dfu_link.specs.Texts.{hex_text};
+ghost use Rattle.dfu_link.specs.inside.Expected.{Puts};
 
 use crate::scripting::fault::ScriptFault;
 use crate::scripting::output::{write_out, write_two};
@@ -16,9 +15,7 @@ const PIECE: usize = 256;
 /// Writes at most 256 bytes as digits.
 pub(crate) fn write_digits<W: Write>(writer: &mut W, bytes: &[u8]) -> Result<(), ScriptFault>
     requires { length bytes.now ≤ 256 }
-    ensures ok { OnOk result (Appends (W.contents writer.old) (W.contents writer.new) (encode_lower bytes.now)) }
-    ensures err { OnErr result (IsOutInPart (W.contents writer.old) (W.contents writer.new) (encode_lower bytes.now)) }
-    ensures fault { IfErr result (λ f. f ≡ ScriptFault.Write) }
+    ensures { Puts (encode_lower bytes.now) (W.contents writer.old) (W.contents writer.new) result }
 {
     let len = bytes.len();
     let mut digits = [0; 512];
@@ -30,9 +27,7 @@ pub(crate) fn write_digits<W: Write>(writer: &mut W, bytes: &[u8]) -> Result<(),
 
 /// Writes bytes as digits, piece by piece.
 fn write_all_digits<W: Write>(writer: &mut W, bytes: &[u8]) -> Result<(), ScriptFault>
-    ensures ok { OnOk result (Appends (W.contents writer.old) (W.contents writer.new) (encode_lower bytes.now)) }
-    ensures err { OnErr result (IsOutInPart (W.contents writer.old) (W.contents writer.new) (encode_lower bytes.now)) }
-    ensures fault { IfErr result (λ f. f ≡ ScriptFault.Write) }
+    ensures { Puts (encode_lower bytes.now) (W.contents writer.old) (W.contents writer.new) result }
 {
     let all = bytes.len();
     let mut at = 0;
@@ -46,9 +41,7 @@ fn write_all_digits<W: Write>(writer: &mut W, bytes: &[u8]) -> Result<(), Script
 
 /// Writes bytes as they are printed, and ends the line.
 pub(crate) fn write_bytes<W: Write>(writer: &mut W, bytes: &[u8]) -> Result<(), ScriptFault>
-    ensures ok { OnOk result (Appends (W.contents writer.old) (W.contents writer.new) (hex_text bytes.now ++ 10 ∷ [])) }
-    ensures err { OnErr result (IsOutInPart (W.contents writer.old) (W.contents writer.new) (hex_text bytes.now ++ 10 ∷ [])) }
-    ensures fault { IfErr result (λ f. f ≡ ScriptFault.Write) }
+    ensures { Puts (hex_text bytes.now ++ 10 ∷ []) (W.contents writer.old) (W.contents writer.new) result }
 {
     if bytes.is_empty() {
         return write_two(writer, "-", "\n");

@@ -1,10 +1,7 @@
 //! A line that is expected to be printed next.
 
-ghost use Rattle.std.specs.Prelude.{◌≡◌, ◌≢◌, ◌<◌, ◌++◌, ◌∷◌, [], Some, None, true, false, length, OnOk, OnErr, IfErr};
-ghost use Rattle.std.specs.Io.KnownBytes.{Appends};
-ghost use Rattle.dfu_suffix.specs.Writing.{IsOutInPart};
-ghost use Rattle.dfu_link.specs.Expecting.{Fails};
-ghost use Rattle.dfu_link.specs.inside.Expected.{expectation_of, Prints, CannotExpect};
+ghost use Rattle.std.specs.Prelude.{◌≡◌, ◌≢◌, ◌<◌, ◌++◌, ◌∷◌, [], Some, None, true, false, length, OnOk, IfErr};
+ghost use Rattle.dfu_link.specs.inside.Expected.{expectation_of, PrintsNext, CannotExpect};
 
 use crate::scripting::fault::ScriptFault;
 use crate::scripting::output::write_out;
@@ -78,11 +75,7 @@ fn write_expected<W: Write>(
     text: &[u8],
 ) -> Result<(), ScriptFault>
     requires { 0 < length text.now }
-    ensures ok { OnOk result (Appends (W.contents writer.old) (W.contents writer.new) text.now) }
-    ensures same { OnOk result (text.now ≡ expected.now.text.items ++ 10 ∷ []) }
-    ensures err { OnErr result (IsOutInPart (W.contents writer.old) (W.contents writer.new) text.now) }
-    ensures fault { IfErr result
-        (λ f. Fails (expectation_of (Some expected.now)) text.now (W.contents writer.old) (W.contents writer.new) f) }
+    ensures { PrintsNext (expectation_of (Some expected.now)) (W.contents writer.old) text.now None (W.contents writer.new) result }
 {
     if is_line(&expected.text, text) {
         return write_out(writer, text);
@@ -100,10 +93,8 @@ pub(crate) fn write_next<W: Write>(
     next: &mut Option<Expectation>,
     text: &[u8],
 ) -> Result<(), ScriptFault>
-    ensures ok { OnOk result (Prints (expectation_of next.old) (W.contents writer.old) text.now (expectation_of next.new)
-        (W.contents writer.new)) }
-    ensures err { OnErr result (IsOutInPart (W.contents writer.old) (W.contents writer.new) text.now) }
-    ensures fault { IfErr result (λ f. Fails (expectation_of next.old) text.now (W.contents writer.old) (W.contents writer.new) f) }
+    ensures { PrintsNext (expectation_of next.old) (W.contents writer.old) text.now (expectation_of next.new)
+        (W.contents writer.new) result }
 {
     if text.is_empty() {
         return Ok(());

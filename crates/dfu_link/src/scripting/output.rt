@@ -1,8 +1,7 @@
 //! Text for a writer.
 
-ghost use Rattle.std.specs.Prelude.{◌≡◌, ◌++◌, OnOk, OnErr, IfErr};
-ghost use Rattle.std.specs.Io.KnownBytes.{Appends};
-ghost use Rattle.dfu_suffix.specs.Writing.{IsOutInPart};
+ghost use Rattle.std.specs.Prelude.{◌++◌};
+ghost use Rattle.dfu_link.specs.inside.Expected.{Puts};
 
 use crate::scripting::fault::ScriptFault;
 use dfu_suffix::write_whole;
@@ -11,9 +10,7 @@ use std::io::Write;
 /// Writes the whole text, or answers Write at the first error of the writer, and where it takes
 /// nothing of what is left.
 pub(crate) fn write_out<W: Write>(writer: &mut W, text: &[u8]) -> Result<(), ScriptFault>
-    ensures ok { OnOk result (Appends (W.contents writer.old) (W.contents writer.new) text.now) }
-    ensures err { OnErr result (IsOutInPart (W.contents writer.old) (W.contents writer.new) text.now) }
-    ensures fault { IfErr result (λ f. f ≡ ScriptFault.Write) }
+    ensures { Puts text.now (W.contents writer.old) (W.contents writer.new) result }
 {
     match write_whole(writer, text) {
         Ok(()) => Ok(()),
@@ -27,9 +24,7 @@ pub(crate) fn write_two<W: Write>(
     first: &str,
     last: &str,
 ) -> Result<(), ScriptFault>
-    ensures ok { OnOk result (Appends (W.contents writer.old) (W.contents writer.new) (first.now ++ last.now)) }
-    ensures err { OnErr result (IsOutInPart (W.contents writer.old) (W.contents writer.new) (first.now ++ last.now)) }
-    ensures fault { IfErr result (λ f. f ≡ ScriptFault.Write) }
+    ensures { Puts (first.now ++ last.now) (W.contents writer.old) (W.contents writer.new) result }
 {
     write_out(writer, first.as_bytes())?;
     write_out(writer, last.as_bytes())
@@ -42,9 +37,7 @@ pub(crate) fn write_three<W: Write>(
     middle: &str,
     last: &str,
 ) -> Result<(), ScriptFault>
-    ensures ok { OnOk result (Appends (W.contents writer.old) (W.contents writer.new) (first.now ++ middle.now ++ last.now)) }
-    ensures err { OnErr result (IsOutInPart (W.contents writer.old) (W.contents writer.new) (first.now ++ middle.now ++ last.now)) }
-    ensures fault { IfErr result (λ f. f ≡ ScriptFault.Write) }
+    ensures { Puts (first.now ++ middle.now ++ last.now) (W.contents writer.old) (W.contents writer.new) result }
 {
     write_two(writer, first, middle)?;
     write_out(writer, last.as_bytes())

@@ -1,59 +1,35 @@
 //! The events of an event line, played.
 
-ghost use Rattle.std.specs.Prelude.{◌≡◌, ℕ, List, Option, [], ◌∷◌, true, false, OnOk, OnErr, IfErr, replicate};
-ghost use Rattle.std.specs.Io.KnownBytes.{Keeps};
+ghost use Rattle.std.specs.Prelude.{◌≡◌, ℕ, List, Option, [], ◌∷◌, replicate};
 ghost use Rattle.dfu_sim.specs.Bench.{ShowsActive};
 ghost use Rattle.dfu_sim.specs.Comes.{HasCome};
-ghost use Rattle.dfu_sim.specs.Happening.{Offers, Goes, Passes, harmed, fate_of, harm_in, happening};
+ghost use Rattle.dfu_sim.specs.Happening.{Offers, Goes, harmed, fate_of, harm_in, happening};
 ghost use Rattle.dfu_sim.specs.Refusing.{IsLive};
 ghost use Rattle.dfu_link.specs.Said.{GoesOn, harm_fate, said_by, tear_bytes};
-ghost use Rattle.dfu_link.specs.Texts.{told_line};
-ghost use Rattle.dfu_link.specs.Falls.{HasBroken};
 ghost use Rattle.dfu_link.specs.inside.Expected.{expectation_of, point_at, at_point};
-ghost use Rattle.dfu_link.specs.inside.Moving.{HasPlayed, HasActed, HasStopped, file_bytes};
+ghost use Rattle.dfu_link.specs.inside.Moving.{Plays, Acts, file_bytes};
 
 use crate::scripting::expectation::{Ahead, Expectation};
 use crate::scripting::fault::ScriptFault;
 use crate::scripting::line::{EventLine, HarmKind};
 use crate::scripting::saying::{is_silent, say_next};
-use crate::tracing::watch::Watch;
+use crate::watch::Watch;
 use dfu_host::{Limits, Report};
 use dfu_sim::{Aim, Event, Fate, LinkFault, World};
 use dfu_slots::Faulty;
 use std::io::Write;
 
-/// Lets an event come that has no line in a trace, and writes what is printed of it.
+/// Lets an event come that is no action of the host, and writes what is printed of it.
 fn play<'f, M: Faulty, W: Write>(
     world: &mut World<'f, M>,
     event: Event<'f, '_>,
     next: &mut Option<Expectation>,
     writer: &mut W,
 ) -> Result<(), ScriptFault>
-    ensures ok { OnOk result (HasPlayed world.old.bench (expectation_of next.old) (happening event.entry ∷ []) (W.contents writer.old)
-        world.new.bench (expectation_of next.new) (W.contents writer.new)) }
-    ensures fault { IfErr result
-        (λ f. HasBroken world.old.bench (expectation_of next.old) (happening event.entry ∷ []) (W.contents writer.old)
-        (W.contents writer.new) f) }
+    ensures { Plays world.old.bench (expectation_of next.old) (happening event.entry ∷ []) (W.contents writer.old) world.new.bench
+        (expectation_of next.new) (W.contents writer.new) result }
 {
     let answer = world.step(event);
-    say_next(writer, next, answer, world.uploaded())
-}
-
-/// Time passes between two actions, which a trace counts.
-fn pass_time<'f, T: Watch<M>, M: Faulty, W: Write>(
-    world: &mut World<'f, M>,
-    ms: u32,
-    next: &mut Option<Expectation>,
-    writer: &mut W,
-    watch: &mut T,
-) -> Result<(), ScriptFault>
-    ensures ok { OnOk result (HasPlayed world.old.bench (expectation_of next.old) (Passes ms ∷ []) (W.contents writer.old)
-        world.new.bench (expectation_of next.new) (W.contents writer.new)) }
-    ensures fault { IfErr result (λ f. HasBroken world.old.bench (expectation_of next.old) (Passes ms ∷ []) (W.contents writer.old)
-        (W.contents writer.new) f) }
-{
-    let answer = world.step(Event::Time(ms));
-    watch.pass(ms);
     say_next(writer, next, answer, world.uploaded())
 }
 
@@ -84,11 +60,8 @@ fn play_actions<'f, T: Watch<M>, M: Faulty, W: Write>(
     writer: &mut W,
     watch: &mut T,
 ) -> Result<(), ScriptFault>
-    ensures ok { OnOk result
-        (HasPlayed world.old.bench (expectation_of next.old) (replicate times (Goes (fate_of fate.entry) (harm_in fate.entry)))
-        (W.contents writer.old) world.new.bench (expectation_of next.new) (W.contents writer.new)) }
-    ensures fault { IfErr result (λ f. HasBroken world.old.bench (expectation_of next.old)
-        (replicate times (Goes (fate_of fate.entry) (harm_in fate.entry))) (W.contents writer.old) (W.contents writer.new) f) }
+    ensures { Plays world.old.bench (expectation_of next.old) (replicate times (Goes (fate_of fate.entry) (harm_in fate.entry)))
+        (W.contents writer.old) world.new.bench (expectation_of next.new) (W.contents writer.new) result }
 {
     for turn in 0..times {
         let answer = take::<T, M>(world, fate, watch);
@@ -105,12 +78,8 @@ fn pass_on<'f, T: Watch<M>, M: Faulty, W: Write>(
     writer: &mut W,
     watch: &mut T,
 ) -> Result<(), ScriptFault>
-    ensures ok { OnOk result ((given : Option (List ℕ)) (limits : Limits)
-        → HasActed (point_at given limits (expectation_of next.old) world.old.bench)
-        GoesOn (W.contents writer.old) (point_at given limits (expectation_of next.new) world.new.bench) (W.contents writer.new)) }
-    ensures fault { IfErr result (λ f. (given : Option (List ℕ)) (limits : Limits)
-        → HasStopped (point_at given limits (expectation_of next.old) world.old.bench)
-        GoesOn (W.contents writer.old) (W.contents writer.new) f) }
+    ensures { (given : Option (List ℕ)) (limits : Limits) → Acts (point_at given limits (expectation_of next.old) world.old.bench) GoesOn
+        (W.contents writer.old) (point_at given limits (expectation_of next.new) world.new.bench) (W.contents writer.new) result }
 {
     'passes: loop {
         let answer = take::<T, M>(world, Fate::Pass, watch);
@@ -155,10 +124,8 @@ pub(crate) fn play_events<'f, T: Watch<M>, M: Faulty, W: Write>(
 ) -> Result<(), ScriptFault>
     requires file { file.now ≡ file_bytes (said_by events) }
     requires tear { torn.now ≡ tear_bytes events }
-    ensures ok { OnOk result (HasActed (at_point ahead.old world.old.bench) (said_by events.entry) (W.contents writer.old)
-        (at_point ahead.new world.new.bench) (W.contents writer.new)) }
-    ensures fault { IfErr result (λ f. HasStopped (at_point ahead.old world.old.bench) (said_by events.entry) (W.contents writer.old)
-        (W.contents writer.new) f) }
+    ensures { Acts (at_point ahead.old world.old.bench) (said_by events.entry) (W.contents writer.old) (at_point ahead.new world.new.bench)
+        (W.contents writer.new) result }
 {
     let limits = ahead.limits;
     match events {
@@ -175,7 +142,10 @@ pub(crate) fn play_events<'f, T: Watch<M>, M: Faulty, W: Write>(
             play_actions::<T, M, W>(world, fate, 1, &mut ahead.next, writer, watch)
         }
         EventLine::GoOn => pass_on::<T, M, W>(world, &mut ahead.next, writer, watch),
-        EventLine::Time(ms) => pass_time::<T, M, W>(world, ms, &mut ahead.next, writer, watch),
+        EventLine::Time(ms) => {
+            watch.pass(ms);
+            play::<M, W>(world, Event::Time(ms), &mut ahead.next, writer)
+        }
         EventLine::Reset => play::<M, W>(world, Event::Reset, &mut ahead.next, writer),
         EventLine::Cut => play::<M, W>(world, Event::Cut, &mut ahead.next, writer),
     }
@@ -192,10 +162,8 @@ pub(crate) fn play_live<'f, T: Watch<M>, M: Faulty, W: Write>(
 ) -> Result<(), ScriptFault>
     requires live { IsLive world.old.bench.session }
     requires tear { torn.now ≡ tear_bytes events }
-    ensures ok { OnOk result (HasActed (at_point ahead.old world.old.bench) (said_by events.entry) (W.contents writer.old)
-        (at_point ahead.new world.new.bench) (W.contents writer.new)) }
-    ensures fault { IfErr result (λ f. HasStopped (at_point ahead.old world.old.bench) (said_by events.entry) (W.contents writer.old)
-        (W.contents writer.new) f) }
+    ensures { Acts (at_point ahead.old world.old.bench) (said_by events.entry) (W.contents writer.old) (at_point ahead.new world.new.bench)
+        (W.contents writer.new) result }
 {
     match events {
         EventLine::Offer { .. } => {

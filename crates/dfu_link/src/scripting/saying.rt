@@ -1,10 +1,7 @@
 //! The lines of reports and of refused events.
 
-ghost use Rattle.std.specs.Prelude.{◌≡◌, ◌≢◌, Ok, None, true, false, OnOk, OnErr, IfErr};
-ghost use Rattle.std.specs.Io.KnownBytes.{Appends};
-ghost use Rattle.dfu_suffix.specs.Writing.{IsOutInPart};
-ghost use Rattle.dfu_link.specs.Expecting.{Fails};
-ghost use Rattle.dfu_link.specs.inside.Expected.{expectation_of, Prints};
+ghost use Rattle.std.specs.Prelude.{◌≡◌, ◌≢◌, Ok, None, true, false};
+ghost use Rattle.dfu_link.specs.inside.Expected.{expectation_of, Puts, PrintsNext};
 ghost use Rattle.dfu_link.specs.Texts.{offer_fault_name, uploaded_line, report_line, refusal_line, told_line};
 
 use crate::scripting::digits::write_bytes;
@@ -25,9 +22,7 @@ fn offer_fault_name(fault: OfferFault) -> &'static str
 }
 
 fn say_uploaded<W: Write>(writer: &mut W, bytes: &[u8]) -> Result<(), ScriptFault>
-    ensures ok { OnOk result (Appends (W.contents writer.old) (W.contents writer.new) (uploaded_line bytes.now)) }
-    ensures err { OnErr result (IsOutInPart (W.contents writer.old) (W.contents writer.new) (uploaded_line bytes.now)) }
-    ensures fault { IfErr result (λ f. f ≡ ScriptFault.Write) }
+    ensures { Puts (uploaded_line bytes.now) (W.contents writer.old) (W.contents writer.new) result }
 {
     write_out(writer, b"report uploaded ")?;
     write_bytes(writer, bytes)
@@ -35,9 +30,7 @@ fn say_uploaded<W: Write>(writer: &mut W, bytes: &[u8]) -> Result<(), ScriptFaul
 
 /// The line of a report. What was uploaded is shown with Uploaded alone.
 fn say_report<W: Write>(writer: &mut W, report: Report, uploaded: &[u8]) -> Result<(), ScriptFault>
-    ensures ok { OnOk result (Appends (W.contents writer.old) (W.contents writer.new) (report_line report uploaded.now)) }
-    ensures err { OnErr result (IsOutInPart (W.contents writer.old) (W.contents writer.new) (report_line report uploaded.now)) }
-    ensures fault { IfErr result (λ f. f ≡ ScriptFault.Write) }
+    ensures { Puts (report_line report uploaded.now) (W.contents writer.old) (W.contents writer.new) result }
 {
     match report {
         Report::Refused(code) => write_three(writer, "report refused ", code.name(), "\n"),
@@ -55,9 +48,7 @@ fn say_report<W: Write>(writer: &mut W, report: Report, uploaded: &[u8]) -> Resu
 }
 
 fn say_refusal<W: Write>(writer: &mut W, fault: LinkFault) -> Result<(), ScriptFault>
-    ensures ok { OnOk result (Appends (W.contents writer.old) (W.contents writer.new) (refusal_line fault)) }
-    ensures err { OnErr result (IsOutInPart (W.contents writer.old) (W.contents writer.new) (refusal_line fault)) }
-    ensures fault { IfErr result (λ f. f ≡ ScriptFault.Write) }
+    ensures { Puts (refusal_line fault) (W.contents writer.old) (W.contents writer.new) result }
 {
     match fault {
         LinkFault::HostBusy => write_out(writer, b"refused HostBusy\n"),
@@ -75,9 +66,7 @@ pub(crate) fn say<W: Write>(
     answer: Result<Option<Report>, LinkFault>,
     uploaded: &[u8],
 ) -> Result<(), ScriptFault>
-    ensures ok { OnOk result (Appends (W.contents writer.old) (W.contents writer.new) (told_line answer uploaded.now)) }
-    ensures err { OnErr result (IsOutInPart (W.contents writer.old) (W.contents writer.new) (told_line answer uploaded.now)) }
-    ensures fault { IfErr result (λ f. f ≡ ScriptFault.Write) }
+    ensures { Puts (told_line answer uploaded.now) (W.contents writer.old) (W.contents writer.new) result }
 {
     match answer {
         Ok(None) => write_out(writer, &[]),
@@ -93,11 +82,8 @@ pub(crate) fn say_next<W: Write>(
     answer: Result<Option<Report>, LinkFault>,
     uploaded: &[u8],
 ) -> Result<(), ScriptFault>
-    ensures ok { OnOk result (Prints (expectation_of next.old) (W.contents writer.old) (told_line answer uploaded.now)
-        (expectation_of next.new) (W.contents writer.new)) }
-    ensures err { OnErr result (IsOutInPart (W.contents writer.old) (W.contents writer.new) (told_line answer uploaded.now)) }
-    ensures fault { IfErr result (λ f. Fails (expectation_of next.old) (told_line answer uploaded.now) (W.contents writer.old)
-        (W.contents writer.new) f) }
+    ensures { PrintsNext (expectation_of next.old) (W.contents writer.old) (told_line answer uploaded.now) (expectation_of next.new)
+        (W.contents writer.new) result }
 {
     let Some(expected) = next else {
         return say(writer, answer, uploaded);

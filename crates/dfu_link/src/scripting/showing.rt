@@ -1,12 +1,9 @@
 //! The lines of a device: its image, and `show`.
 
-ghost use Rattle.std.specs.Prelude.{◌≡◌, ◌+◌, ◌≤◌, ◌++◌, ◌∷◌, [], length, slice_range, OnOk, OnErr, IfErr};
-ghost use Rattle.std.specs.Io.KnownBytes.{Appends};
+ghost use Rattle.std.specs.Prelude.{◌+◌, ◌≤◌, ◌++◌, ◌∷◌, [], length, slice_range};
 ghost use Rattle.hex.specs.Hex.{encode_lower};
 ghost use Rattle.dfu_slots.specs.Seen.{image_of};
-ghost use Rattle.dfu_suffix.specs.Writing.{IsOutInPart};
-ghost use Rattle.dfu_link.specs.Expecting.{Fails};
-ghost use Rattle.dfu_link.specs.inside.Expected.{expectation_of, Prints};
+ghost use Rattle.dfu_link.specs.inside.Expected.{expectation_of, Puts, PrintsNext};
 ghost use Rattle.dfu_link.specs.Texts.{hex_text, image_line, state_text, show_line};
 
 use crate::scripting::digits::write_digits;
@@ -29,11 +26,7 @@ fn write_piece<M: Medium, W: Write>(
 ) -> Result<(), ScriptFault>
     requires piece { len ≤ 256 }
     requires within { at + len ≤ length (image_of slots.now) }
-    ensures ok { OnOk result (Appends (W.contents writer.old) (W.contents writer.new)
-        (encode_lower (slice_range (image_of slots.now) at (at + len)))) }
-    ensures err { OnErr result (IsOutInPart (W.contents writer.old) (W.contents writer.new)
-        (encode_lower (slice_range (image_of slots.now) at (at + len)))) }
-    ensures fault { IfErr result (λ f. f ≡ ScriptFault.Write) }
+    ensures { Puts (encode_lower (slice_range (image_of slots.now) at (at + len))) (W.contents writer.old) (W.contents writer.new) result }
 {
     let len = len as usize;
     let mut bytes = [0; 256];
@@ -43,9 +36,7 @@ fn write_piece<M: Medium, W: Write>(
 
 /// Writes an image as hexadecimal text, piece by piece.
 fn write_pieces<M: Medium, W: Write>(writer: &mut W, slots: &Slots<M>) -> Result<(), ScriptFault>
-    ensures ok { OnOk result (Appends (W.contents writer.old) (W.contents writer.new) (encode_lower (image_of slots.now))) }
-    ensures err { OnErr result (IsOutInPart (W.contents writer.old) (W.contents writer.new) (encode_lower (image_of slots.now))) }
-    ensures fault { IfErr result (λ f. f ≡ ScriptFault.Write) }
+    ensures { Puts (encode_lower (image_of slots.now)) (W.contents writer.old) (W.contents writer.new) result }
 {
     let all = slots.active_len();
     let mut at = 0;
@@ -59,9 +50,7 @@ fn write_pieces<M: Medium, W: Write>(writer: &mut W, slots: &Slots<M>) -> Result
 
 /// Writes the image of a slot store, and ends the line.
 fn write_hex<M: Medium, W: Write>(writer: &mut W, slots: &Slots<M>) -> Result<(), ScriptFault>
-    ensures ok { OnOk result (Appends (W.contents writer.old) (W.contents writer.new) (hex_text (image_of slots.now) ++ 10 ∷ [])) }
-    ensures err { OnErr result (IsOutInPart (W.contents writer.old) (W.contents writer.new) (hex_text (image_of slots.now) ++ 10 ∷ [])) }
-    ensures fault { IfErr result (λ f. f ≡ ScriptFault.Write) }
+    ensures { Puts (hex_text (image_of slots.now) ++ 10 ∷ []) (W.contents writer.old) (W.contents writer.new) result }
 {
     if slots.active_len() == 0 {
         return write_two(writer, "-", "\n");
@@ -75,9 +64,7 @@ pub(crate) fn write_image<M: Medium, W: Write>(
     writer: &mut W,
     device: &Device<M>,
 ) -> Result<(), ScriptFault>
-    ensures ok { OnOk result (Appends (W.contents writer.old) (W.contents writer.new) (image_line device.now)) }
-    ensures err { OnErr result (IsOutInPart (W.contents writer.old) (W.contents writer.new) (image_line device.now)) }
-    ensures fault { IfErr result (λ f. f ≡ ScriptFault.Write) }
+    ensures { Puts (image_line device.now) (W.contents writer.old) (W.contents writer.new) result }
 {
     write_out(writer, b"image ")?;
     write_hex(writer, device.slots())
@@ -85,9 +72,7 @@ pub(crate) fn write_image<M: Medium, W: Write>(
 
 /// Writes the device's state and its status code.
 fn write_state<M: Medium, W: Write>(writer: &mut W, device: &Device<M>) -> Result<(), ScriptFault>
-    ensures ok { OnOk result (Appends (W.contents writer.old) (W.contents writer.new) (state_text device.now)) }
-    ensures err { OnErr result (IsOutInPart (W.contents writer.old) (W.contents writer.new) (state_text device.now)) }
-    ensures fault { IfErr result (λ f. f ≡ ScriptFault.Write) }
+    ensures { Puts (state_text device.now) (W.contents writer.old) (W.contents writer.new) result }
 {
     let state = device.state();
     let code = device.code();
@@ -100,9 +85,7 @@ pub(crate) fn write_show<M: Medium, W: Write>(
     writer: &mut W,
     device: &Device<M>,
 ) -> Result<(), ScriptFault>
-    ensures ok { OnOk result (Appends (W.contents writer.old) (W.contents writer.new) (show_line device.now)) }
-    ensures err { OnErr result (IsOutInPart (W.contents writer.old) (W.contents writer.new) (show_line device.now)) }
-    ensures fault { IfErr result (λ f. f ≡ ScriptFault.Write) }
+    ensures { Puts (show_line device.now) (W.contents writer.old) (W.contents writer.new) result }
 {
     write_state(writer, device)?;
     write_image(writer, device)
@@ -114,11 +97,8 @@ pub(crate) fn image_next<M: Medium, W: Write>(
     next: &mut Option<Expectation>,
     device: &Device<M>,
 ) -> Result<(), ScriptFault>
-    ensures ok { OnOk result (Prints (expectation_of next.old) (W.contents writer.old) (image_line device.now)
-        (expectation_of next.new) (W.contents writer.new)) }
-    ensures err { OnErr result (IsOutInPart (W.contents writer.old) (W.contents writer.new) (image_line device.now)) }
-    ensures fault { IfErr result (λ f. Fails (expectation_of next.old) (image_line device.now) (W.contents writer.old)
-        (W.contents writer.new) f) }
+    ensures { PrintsNext (expectation_of next.old) (W.contents writer.old) (image_line device.now) (expectation_of next.new)
+        (W.contents writer.new) result }
 {
     let Some(expected) = next else {
         return write_image(writer, device);
@@ -136,11 +116,8 @@ pub(crate) fn show_next<M: Medium, W: Write>(
     next: &mut Option<Expectation>,
     device: &Device<M>,
 ) -> Result<(), ScriptFault>
-    ensures ok { OnOk result (Prints (expectation_of next.old) (W.contents writer.old) (show_line device.now)
-        (expectation_of next.new) (W.contents writer.new)) }
-    ensures err { OnErr result (IsOutInPart (W.contents writer.old) (W.contents writer.new) (show_line device.now)) }
-    ensures fault { IfErr result (λ f. Fails (expectation_of next.old) (show_line device.now) (W.contents writer.old)
-        (W.contents writer.new) f) }
+    ensures { PrintsNext (expectation_of next.old) (W.contents writer.old) (show_line device.now) (expectation_of next.new)
+        (W.contents writer.new) result }
 {
     let Some(expected) = next else {
         return write_show(writer, device);

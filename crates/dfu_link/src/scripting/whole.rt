@@ -1,9 +1,8 @@
 //! Whole scripts.
 
-ghost use Rattle.std.specs.Prelude.{OnOk, IfOk, IfErr, IfSome};
+ghost use Rattle.std.specs.Prelude.{IfOk, IfErr, IfSome};
 ghost use Rattle.dfu_link.specs.Said.{given_bytes};
-ghost use Rattle.dfu_link.specs.ScriptRun.{WroteRun};
-ghost use Rattle.dfu_link.specs.Falls.{Falls, Ended};
+ghost use Rattle.dfu_link.specs.Falls.{Ended};
 ghost use Rattle.dfu_link.specs.Printed.{HasPrinted};
 ghost use Rattle.dfu_link.specs.inside.Moving.{Configured, CannotConfigure};
 ghost use Rattle.dfu_link.specs.inside.SetupView.{settings_of};
@@ -16,11 +15,11 @@ use crate::scripting::reading::parse;
 use crate::scripting::setup::{Setup, beginning, set, set_limits};
 use crate::scripting::source::Source;
 use crate::scripting::starting::start;
-use crate::tracing::line::Count;
-use crate::tracing::watch::{Nobody, Trace, Watch};
+use crate::watch::{Nobody, Trace, Watch};
 use dfu_host::Limits;
 use dfu_sim::laws::image_shown;
 use dfu_slots::SimMedium;
+use dfu_trace::Count;
 use std::alloc::Global;
 use std::io::{Read, Write};
 
@@ -59,10 +58,8 @@ fn run_lines<T: Watch<SimMedium>, R: Read + Drop, W: Write>(
     writer: &mut W,
     watch: &mut T,
 ) -> Result<(), ScriptFault>
-    ensures ok { IfSome (R.remaining reader) (λ text. OnOk result (WroteRun (given_bytes given.entry) text (W.contents writer.old)
-        (W.contents writer.new))) }
-    ensures fault { IfSome (R.remaining reader) (λ text. IfErr result (λ f. Falls (given_bytes given.entry) text (W.contents writer.old)
-        (W.contents writer.new) f)) }
+    ensures { IfSome (R.remaining reader)
+        (λ text. Ended (given_bytes given.entry) text (W.contents writer.old) (W.contents writer.new) result) }
 {
     let mut source = Source::new(alloc, reader)?;
     let mut setup = beginning(given);

@@ -1,5 +1,5 @@
 use Rattle.std.proofs.Common.{arith}
-use Rattle.dfu_sim.proofs.Reserved.{on_fine}
+use Rattle.dfu_sim.proofs.Choices.{on_fine}
 use Rattle.dfu_sim.proofs.Chains.{no_more, chain_runs, chain_follows, ran_on, stopped_full, stopped_refused, ran_all}
 use Rattle.dfu_sim.proofs.HeadlineKept.{chain_keeps, stopped_keeps}
 use Rattle.dfu_sim.proofs.CleanRuns.{ran_clean}
@@ -12,22 +12,14 @@ loop-i-init g c = rw c.new-reports.ensures.items no_more
 pub returns-then-is_err : goal.returns-then-is_err
 returns-then-is_err g c =
     let s = stopped_full c.args.events.now c.loop-i.i c.loop-i-test.true c.loop-i.invariant in
-    rw c.reserve.ensures.items (record {
-      runs = s.runs;
-      legal = λ m a. chain_follows s.chain m a;
-      headline = λ factory past before k. stopped_keeps c.loop-i.i c.args.events.now s.chain factory past before k;
-      clean = λ aim file limits payload count can is most. stopped_clean aim file limits payload count s can is most;
-    })
+    rw c.reserve.ensures.items
+    (record { runs = s.runs; legal = chain_follows s.chain; headline = stopped_keeps _ _ s.chain; clean = stopped_clean s })
 
 pub returns-in-Err : goal.returns-in-Err
 returns-in-Err g c =
     let s = stopped_refused c.args.events.now c.loop-i.i _ c.loop-i-test.true c.loop-i.invariant c.in-Err.ensures.play in
-    rw c.reserve.ensures.items (record {
-      runs = s.runs;
-      legal = λ m a. chain_follows s.chain m a;
-      headline = λ factory past before k. stopped_keeps c.loop-i.i c.args.events.now s.chain factory past before k;
-      clean = λ aim file limits payload count can is most. stopped_clean aim file limits payload count s can is most;
-    })
+    rw c.reserve.ensures.items
+    (record { runs = s.runs; legal = chain_follows s.chain; headline = stopped_keeps _ _ s.chain; clean = stopped_clean s })
 
 pub loop-i-preserved : goal.loop-i-preserved
 loop-i-preserved g c =
@@ -38,12 +30,7 @@ loop-i-preserved g c =
 pub returns : goal.returns
 returns g c =
     let chain = ran_all c.args.events.now c.loop-i.i c.loop-i-test.false c.loop-i.invariant in
-    record {
-      runs = chain_runs chain;
-      legal = λ m a. chain_follows chain m a;
-      headline = λ factory past before k. chain_keeps c.args.events.now chain factory past before k;
-      clean = λ aim file limits payload count can is most. ran_clean aim file limits payload count chain can is most;
-    }
+    record { runs = chain_runs chain; legal = chain_follows chain; headline = chain_keeps _ chain; clean = ran_clean chain }
 
 pub note-requires : goal.note-requires
 note-requires g c = omega (arith, on_fine c.reserve.result c.if-is_err.ensures.value c.reserve.ensures.ok)

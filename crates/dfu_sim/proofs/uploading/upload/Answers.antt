@@ -1,9 +1,11 @@
 use Rattle.std.proofs.Common.{sym, ◌∙◌, refl}
-use Rattle.dfu_sim.proofs.Uploads.{upload_busy, upload_refused, upload_comes}
+use Rattle.dfu_sim.specs.Happening.{Uploads}
+use Rattle.dfu_sim.proofs.Events.{busy_comes}
+use Rattle.dfu_sim.proofs.Uploads.{upload_refused, upload_comes}
 use Rattle.dfu_sim.proofs.uploading.upload.Goals as goal
 
 pub returns-then-is_some : goal.returns-then-is_some
-returns-then-is_some g c = upload_busy _ _ _ (sym c.is_some.ensures ∙ c.if-is_some.true)
+returns-then-is_some g c = busy_comes (Uploads c.args.limits) _ _ (λ k. tt) (sym c.is_some.ensures ∙ c.if-is_some.true)
 
 pub returns-in-Ok : goal.returns-in-Ok
 returns-in-Ok g c =

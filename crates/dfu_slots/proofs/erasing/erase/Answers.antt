@@ -6,17 +6,13 @@ use Rattle.dfu_slots.proofs.erasing.erase.Goals as goal
 
 pub returns-then-is_blank-clause-ok : goal.returns-then-is_blank-clause-ok
 returns-then-is_blank-clause-ok g c =
-    let same = c.sector-size.ensures in
-    was_erased (g.M.Medium.state c.args.medium.now) c.args.at (g.M.Medium.state c.args.medium.now).grain.sector
-    (g.M.Medium.state c.erase.new.self)
-    c.requires.within c.in-Ok.ensures.ok
-    (subst (λ (n : ℕ). IsBlank (g.M.Medium.state c.erase.new.self).bytes c.args.at n) same (c.is_blank.ensures.0 c.if-is_blank.true))
+    was_erased (g.M.Medium.state c.args.medium.now).grain.sector c.requires.within c.in-Ok.ensures.ok
+    (subst (λ (n : ℕ). IsBlank (g.M.Medium.state c.erase.new.self).bytes c.args.at n) c.sector-size.ensures
+    (c.is_blank.ensures.0 c.if-is_blank.true))
 
 pub returns-else-is_blank-clause-failed : goal.returns-else-is_blank-clause-failed
 returns-else-is_blank-clause-failed g c =
-    let same = c.sector-size.ensures in
-    not_erased (g.M.Medium.state c.args.medium.now) c.args.at (g.M.Medium.state c.args.medium.now).grain.sector
-    (g.M.Medium.state c.erase.new.self)
-    c.requires.within c.in-Ok.ensures.ok
+    not_erased (g.M.Medium.state c.args.medium.now).grain.sector c.requires.within c.in-Ok.ensures.ok
     (λ blank. true≢false (sym (c.is_blank.ensures.1
-    (subst (λ (n : ℕ). IsBlank (g.M.Medium.state c.erase.new.self).bytes c.args.at n) (sym same) blank)) ∙ c.if-is_blank.false))
+    (subst (λ (n : ℕ). IsBlank (g.M.Medium.state c.erase.new.self).bytes c.args.at n) (sym c.sector-size.ensures) blank))
+    ∙ c.if-is_blank.false))

@@ -18,30 +18,24 @@ returns-then-is_none-clause-fault g c =
 pub returns-then-not-has_newest-clause-fault : goal.returns-then-not-has_newest-clause-fault
 returns-then-not-has_newest-clause-fault g c =
     let m = g.M.Medium.state c.args.medium.now in
-    let found = c.find_places-places in
     let counted = c.count_slots-counted in
-    let both = two_images_there m found.result.active found.result.spare found.ensures.active found.ensures.spare
+    let both = two_images_there m c.find_places-places.ensures.active c.find_places-places.ensures.spare
     (sym c.has_newest.ensures ∙ c.if-not-has_newest.true) (some_counts (slot_of m 0) (slot_of m (slot_size m.bytes))
     counted.result.first counted.result.second counted.ensures.first counted.ensures.second (sym c.is_none.ensures ∙ c.if-is_none.false)) in
     (c.is_sized.ensures.0 c.if-not-is_sized.false, both.0, both.1, both.2)
 
 pub returns-in-Some-clause-ok : goal.returns-in-Some-clause-ok
 returns-in-Some-clause-ok g c =
-    let m = g.M.Medium.state c.args.medium.now in
-    let sized = c.is_sized.ensures.0 c.if-not-is_sized.false in
-    let found = c.find_places-places in
-    has_image_there m found.result.active found.result.spare found.ensures.active found.ensures.spare c.in-Some.field-0 sized
-    (sym c.has_newest.ensures ∙ c.if-not-has_newest.false) c.in-Some.ensures.some
+    has_image_there (g.M.Medium.state c.args.medium.now) c.find_places-places.ensures.active c.find_places-places.ensures.spare
+    c.in-Some.field-0 (c.is_sized.ensures.0 c.if-not-is_sized.false) (sym c.has_newest.ensures ∙ c.if-not-has_newest.false)
+    c.in-Some.ensures.some
 
 pub returns-in-None-clause-fault : goal.returns-in-None-clause-fault
-returns-in-None-clause-fault g c =
-    let m = g.M.Medium.state c.args.medium.now in
-    let sized = c.is_sized.ensures.0 c.if-not-is_sized.false in
-    let found = c.find_places-places in (
-      sized,
-      bad_header_there m found.result.active found.result.spare found.ensures.active found.ensures.spare
-          (sym c.has_newest.ensures ∙ c.if-not-has_newest.false) c.in-None.ensures.none,
-    )
+returns-in-None-clause-fault g c = (
+  c.is_sized.ensures.0 c.if-not-is_sized.false,
+  bad_header_there (g.M.Medium.state c.args.medium.now) c.find_places-places.ensures.active c.find_places-places.ensures.spare
+      (sym c.has_newest.ensures ∙ c.if-not-has_newest.false) c.in-None.ensures.none,
+)
 
 pub header_len-requires-clause-counts : goal.header_len-requires-clause-counts
 header_len-requires-clause-counts g c =

@@ -5,10 +5,8 @@ use Rattle.dfu_slots.proofs.writes.write.Goals as goal
 
 pub returns-then-stands_at-clause-ok : goal.returns-then-stands_at-clause-ok
 returns-then-stands_at-clause-ok g c =
-    was_written (g.M.Medium.state c.args.medium.now) c.args.at c.args.bytes.now (g.M.Medium.state c.write.new.self) c.requires.within
-    c.in-Ok.ensures.ok (c.stands_at.ensures.0 c.if-stands_at.true)
+    was_written c.requires.within c.in-Ok.ensures.ok (c.stands_at.ensures.0 c.if-stands_at.true)
 
 pub returns-else-stands_at-clause-failed : goal.returns-else-stands_at-clause-failed
-returns-else-stands_at-clause-failed g c =
-    not_written (g.M.Medium.state c.args.medium.now) c.args.at c.args.bytes.now (g.M.Medium.state c.write.new.self) c.requires.within
-    c.in-Ok.ensures.ok (λ s. true≢false (sym (c.stands_at.ensures.1 s) ∙ c.if-stands_at.false))
+returns-else-stands_at-clause-failed g c = not_written c.requires.within c.in-Ok.ensures.ok
+    (λ s. true≢false (sym (c.stands_at.ensures.1 s) ∙ c.if-stands_at.false))

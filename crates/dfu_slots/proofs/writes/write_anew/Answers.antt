@@ -4,34 +4,24 @@ use Rattle.dfu_slots.specs.Medium.{Write, BrokenWrites}
 use Rattle.dfu_slots.specs.Writes.{erases}
 use Rattle.dfu_slots.specs.inside.Series.{Series}
 use Rattle.dfu_slots.proofs.Series.{broken_first, series_after, series_one}
-use Rattle.dfu_slots.proofs.SizedOn.{erases_grain, erases_size, anew_is}
+use Rattle.dfu_slots.proofs.SizedOn.{erases_same, anew_is}
 use Rattle.dfu_slots.proofs.Ahead.{erases_writable}
 use Rattle.dfu_slots.proofs.writes.write_anew.Goals as goal
 
-pub write-requires-in-Ok-clause-within : goal.write-requires-in-Ok-clause-within
-write-requires-in-Ok-clause-within g c =
+pub write-requires-in-Ok : goal.write-requires-in-Ok
+write-requires-in-Ok g c =
     let m = g.M.Medium.state c.args.medium.now in
+    let e = g.M.Medium.state c.erase_within.new.medium in
+    let at = c.args.at in
+    let n = length c.args.bytes.now in
     let some : 0 < m.grain.sector = omega (arith, c.if-sector-eq0.false, c.sector.ensures) in
-    omega (
-      arith,
-      c.requires.within,
-      erases_size m (g.M.Medium.state c.erase_within.new.medium) c.args.at (length c.args.bytes.now)
-          c.requires.sized some c.requires.within c.in-Ok.ensures,
-    )
-
-pub write-requires-in-Ok-clause-place : goal.write-requires-in-Ok-clause-place
-write-requires-in-Ok-clause-place g c =
-    let m = g.M.Medium.state c.args.medium.now in
-    let some : 0 < m.grain.sector = omega (arith, c.if-sector-eq0.false, c.sector.ensures) in
-    subst (λ (w : Grain). IsMultiple w.unit c.args.at) (sym (erases_grain m (g.M.Medium.state c.erase_within.new.medium) c.args.at
-    (length c.args.bytes.now) c.requires.sized some c.requires.within c.in-Ok.ensures)) c.requires.place
-
-pub write-requires-in-Ok-clause-whole : goal.write-requires-in-Ok-clause-whole
-write-requires-in-Ok-clause-whole g c =
-    let m = g.M.Medium.state c.args.medium.now in
-    let some : 0 < m.grain.sector = omega (arith, c.if-sector-eq0.false, c.sector.ensures) in
-    subst (λ (w : Grain). IsMultiple w.unit (length c.args.bytes.now)) (sym (erases_grain m (g.M.Medium.state c.erase_within.new.medium)
-    c.args.at (length c.args.bytes.now) c.requires.sized some c.requires.within c.in-Ok.ensures)) c.requires.whole
+    let same = erases_same m e at n c.requires.sized some c.requires.within c.in-Ok.ensures in
+    record {
+      within = omega (arith, c.requires.within, same.size);
+      place = subst (λ (w : Grain). IsMultiple w.unit at) (sym same.grain) c.requires.place;
+      whole = subst (λ (w : Grain). IsMultiple w.unit n) (sym same.grain) c.requires.whole;
+      blank = erases_writable m e at n c.requires.sized some c.requires.within c.in-Ok.ensures c.requires.ahead;
+    }
 
 pub returns-in-Err : goal.returns-in-Err
 returns-in-Err g c =
@@ -54,10 +44,3 @@ returns-in-Ok g c =
     subst (λ (ws : List Write). Series m ws c.write-in-Ok.result now) (sym (anew_is m.grain.sector at bytes some))
     (series_after (erases m.grain.sector at (length bytes)) (record { at = at; bytes = bytes } ∷ []) m mid now c.write-in-Ok.result
     c.in-Ok.ensures (series_one mid now at bytes c.write-in-Ok.result c.write-in-Ok.ensures.ok c.write-in-Ok.ensures.failed))
-
-pub write-requires-in-Ok-clause-blank : goal.write-requires-in-Ok-clause-blank
-write-requires-in-Ok-clause-blank g c =
-    let m = g.M.Medium.state c.args.medium.now in
-    let some : 0 < m.grain.sector = omega (arith, c.if-sector-eq0.false, c.sector.ensures) in
-    erases_writable m (g.M.Medium.state c.erase_within.new.medium) c.args.at (length c.args.bytes.now) c.requires.sized some
-    c.requires.within c.in-Ok.ensures c.requires.ahead

@@ -5,7 +5,7 @@ use Rattle.dfu_device.specs.Stage.{status_of}
 use Rattle.dfu_device.specs.Shown.{profile}
 use Rattle.dfu_device.specs.Rows.{Answers}
 use Rattle.dfu_device.specs.inside.View.{shown}
-use Rattle.dfu_device.proofs.Asked.{front_fits, front_stands}
+use Rattle.dfu_device.proofs.StatusBytes.{front_fits, front_stands}
 use Rattle.dfu_device.proofs.machine.Machine.give.Goals as goal
 
 pub copy_image-requires-clause-most : goal.copy_image-requires-clause-most

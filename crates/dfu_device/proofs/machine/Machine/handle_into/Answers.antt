@@ -7,7 +7,7 @@ returns-clause-row g c =
     record {
       sent = gave.sent;
       count_is = gave.count_is;
-      fits = omega (arith, gave.count_is, c.decide-draft.ensures.fits _ gave.sent gave.says);
+      fits = omega (arith, gave.count_is, c.draft-draft.ensures.fits _ gave.sent gave.says);
       out_is = gave.out_is;
-      row = c.decide-draft.ensures.row _ gave.sent gave.says;
+      row = c.draft-draft.ensures.row _ gave.sent gave.says;
     }

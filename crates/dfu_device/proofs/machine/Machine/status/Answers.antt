@@ -1,7 +1,7 @@
 use Rattle.dfu_device.specs.Stage.{state_of, code_of, poll_of}
 use Rattle.dfu_device.specs.Shown.{profile}
 use Rattle.dfu_device.specs.inside.View.{shown}
-use Rattle.dfu_device.proofs.Asked.{status_answered}
+use Rattle.dfu_device.proofs.StatusBytes.{status_answered}
 use Rattle.dfu_device.proofs.machine.Machine.status.Goals as goal
 
 pub returns-clause-answers : goal.returns-clause-answers

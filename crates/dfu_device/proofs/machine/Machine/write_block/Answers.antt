@@ -11,7 +11,7 @@ invariant_of-self-clause-sound g c =
     let s = c.put_block.new.slots in
     let size = ap length c.bytes-in-Ok.ensures.value in
     let n = c.args.written + length c.bytes-in-Ok.result.now in
-    let found = block_room d.mode (length (g.B.Block.items d.block)) c.args.written c.args.number d.slots c.requires d.sound in
+    let found = block_room c.args.written (length (g.B.Block.items d.block)) c.args.number d.slots c.requires in
     let either : (c.if-late.self ≡ mode.DownloadSyncWritten n c.args.number) ⊎ (c.if-late.self ≡ mode.DownloadIdle n c.args.number) =
     elim c.if-late.branch [ then-late w ↦ inl w.self-is | else-late w ↦ inr w.self-is ] in
     written_sound c.if-late.self (length (g.B.Block.items d.block)) n c.args.number s either (omega (arith, found.some, size))

@@ -5,26 +5,19 @@ use Rattle.dfu_slots.proofs.slots.Slots.open.Goals as goal
 pub invariant_of-result : goal.invariant_of-result
 invariant_of-result g c =
     record {
-      store = (fresh_leaves (g.M.Medium.state c.args.medium) c.in-Ok.ensures.ok c.nothing.result.held.items
-          c.nothing.result.end c.nothing.ensures.held c.nothing.ensures.end).store;
+      store = (fresh_leaves c.in-Ok.ensures.ok c.nothing.ensures.held c.nothing.ensures.end).store;
       active_there = c.in-Ok.ensures.active;
       spare_there = c.in-Ok.ensures.spare;
     }
 
 pub returns-in-Ok-clause-active : goal.returns-in-Ok-clause-active
-returns-in-Ok-clause-active g c = (fresh_leaves
-    (g.M.Medium.state c.args.medium) c.in-Ok.ensures.ok c.nothing.result.held.items c.nothing.result.end c.nothing.ensures.held
-    c.nothing.ensures.end).active
+returns-in-Ok-clause-active g c = (fresh_leaves c.in-Ok.ensures.ok c.nothing.ensures.held c.nothing.ensures.end).active
 
 pub returns-in-Ok-clause-shape : goal.returns-in-Ok-clause-shape
-returns-in-Ok-clause-shape g c = (fresh_leaves
-    (g.M.Medium.state c.args.medium) c.in-Ok.ensures.ok c.nothing.result.held.items c.nothing.result.end c.nothing.ensures.held
-    c.nothing.ensures.end).shape
+returns-in-Ok-clause-shape g c = (fresh_leaves c.in-Ok.ensures.ok c.nothing.ensures.held c.nothing.ensures.end).shape
 
 pub returns-in-Ok-clause-fresh : goal.returns-in-Ok-clause-fresh
-returns-in-Ok-clause-fresh g c = (fresh_leaves
-    (g.M.Medium.state c.args.medium) c.in-Ok.ensures.ok c.nothing.result.held.items c.nothing.result.end c.nothing.ensures.held
-    c.nothing.ensures.end).fresh
+returns-in-Ok-clause-fresh g c = (fresh_leaves c.in-Ok.ensures.ok c.nothing.ensures.held c.nothing.ensures.end).fresh
 
 pub returns-in-Err-clause-opens : goal.returns-in-Err-clause-opens
 returns-in-Err-clause-opens g c =

@@ -1,5 +1,5 @@
 use Rattle.std.proofs.Common.{ap, ◌∙◌}
-use Rattle.dfu_slots.specs.Seen.{SlotsState, store_of, image_of}
+use Rattle.dfu_slots.specs.Seen.{image_of}
 use Rattle.dfu_slots.proofs.Refused.{no_fault}
 use Rattle.dfu_slots.proofs.Seeing.{fresh_leaves, reopened_image}
 use Rattle.dfu_slots.proofs.slots.Slots.reopen.Goals as goal
@@ -11,25 +11,18 @@ unreachable-requires g c =
 pub invariant_of-self : goal.invariant_of-self
 invariant_of-self g c =
     record {
-      store = (fresh_leaves (g.M.Medium.state c.self.inside.medium) c.self.invariant.store.has_image c.clear.new.self.held.items
-          c.clear.new.self.end c.clear.ensures.held c.clear.ensures.end).store;
+      store = (fresh_leaves c.self.invariant.store.has_image c.clear.ensures.held c.clear.ensures.end).store;
       active_there = c.in-Ok.ensures.active;
       spare_there = c.in-Ok.ensures.spare;
     }
 
 pub returns-clause-store : goal.returns-clause-store
-returns-clause-store g c =
-    rw (← c.self.view_is) (fresh_leaves (g.M.Medium.state c.self.inside.medium) c.self.invariant.store.has_image c.clear.new.self.held.items
-    c.clear.new.self.end c.clear.ensures.held c.clear.ensures.end).fresh
+returns-clause-store g c = rw (← c.self.view_is)
+    (fresh_leaves c.self.invariant.store.has_image c.clear.ensures.held c.clear.ensures.end).fresh
 
 pub returns-clause-image : goal.returns-clause-image
-returns-clause-image g c =
-    let inside = c.self.inside in
-    let s : SlotsState = store_of (g.M.Medium.state inside.medium) inside.puts.held.items inside.puts.end in
-    rw (← c.self.view_is) (ap image_of (fresh_leaves s.medium c.self.invariant.store.has_image c.clear.new.self.held.items
-    c.clear.new.self.end c.clear.ensures.held c.clear.ensures.end).fresh ∙ reopened_image s)
+returns-clause-image g c = rw (← c.self.view_is)
+    (ap image_of (fresh_leaves c.self.invariant.store.has_image c.clear.ensures.held c.clear.ensures.end).fresh ∙ reopened_image _)
 
 pub returns-clause-shape : goal.returns-clause-shape
-returns-clause-shape g c =
-    (fresh_leaves (g.M.Medium.state c.self.inside.medium) c.self.invariant.store.has_image c.clear.new.self.held.items
-    c.clear.new.self.end c.clear.ensures.held c.clear.ensures.end).shape
+returns-clause-shape g c = (fresh_leaves c.self.invariant.store.has_image c.clear.ensures.held c.clear.ensures.end).shape

@@ -1,0 +1,145 @@
+//! The words in which the device table says what is done, and the rows of DNLOAD and UPLOAD.
+
+ghost use Rattle.std.specs.Prelude.{◌≡◌, ◌⊎◌, ◌<◌, true, ℕ, List, [], length, take};
+ghost use Rattle.dfu_slots.specs.Seen.{SlotsState, room_of};
+ghost use Rattle.dfu_device.specs.Table.{block_plan, first_plan, further_plan, upload_plan};
+ghost use Rattle.dfu_device.specs.Parts.{is_put};
+ghost use Rattle.dfu_device.specs.Decision.{profile_in, plan_of, Allows, IsPossible};
+
+use crate::decision::Decision;
+use crate::mode::Mode;
+use crate::profile::Profile;
+use crate::reply::Reply;
+use dfu_wire::{Code, Request};
+
+/// The request is acknowledged, and this mode entered.
+pub(crate) fn ack(mode: Mode) -> Decision
+    ensures { result ≡ Decision.Sure Reply.Ack mode }
+{
+    Decision::Sure {
+        reply: Reply::Ack,
+        mode,
+    }
+}
+
+/// The request is stalled, and this mode entered.
+pub(crate) fn stall(mode: Mode) -> Decision
+    ensures { result ≡ Decision.Sure Reply.Stall mode }
+{
+    Decision::Sure {
+        reply: Reply::Stall,
+        mode,
+    }
+}
+
+/// The request is stalled, and dfuERROR entered with this code.
+pub(crate) fn error(code: Code) -> Decision
+    ensures { result ≡ Decision.Sure Reply.Stall (Mode.Error code) }
+{
+    stall(Mode::Error { code })
+}
+
+/// GETSTATUS is answered with the status of the mode that is entered.
+pub(crate) fn report(mode: Mode) -> Decision
+    ensures { result ≡ Decision.Sure Reply.Status mode }
+{
+    Decision::Sure {
+        reply: Reply::Status,
+        mode,
+    }
+}
+
+/// GETSTATE is answered with the state as it stands.
+pub(crate) fn tell(mode: Mode) -> Decision
+    ensures { result ≡ Decision.Sure Reply.State mode }
+{
+    Decision::Sure {
+        reply: Reply::State,
+        mode,
+    }
+}
+
+/// DNLOAD with wLength over 0, where so many bytes are written and this number is due: the errors in their order, else the block
+/// is kept and counts as taken, not as written.
+fn block(profile: &Profile, written: u32, expected: u16, number: u16, size: u16) -> Decision
+    ensures row { (image spare block body : List ℕ) → length (take written spare) ≡ written → length body ≡ size
+        → plan_of (profile_in profile.now) image spare block body result
+        ≡ block_plan (profile_in profile.now) (take written spare) expected number body }
+    ensures possible { (block : ℕ) (s : SlotsState) → room_of s ≡ profile.now.capacity → 0 < size
+        → (written ≡ 0) ⊎ (is_put written s ≡ true) → IsPossible profile.now.functional.transfer block size s result }
+{
+    if size > profile.functional.transfer {
+        return error(Code::StalledPkt);
+    }
+    if number != expected {
+        return error(Code::Address);
+    }
+    if u64::from(written) + u64::from(size) > profile.capacity {
+        return error(Code::Address);
+    }
+    Decision::Holds {
+        mode: Mode::DownloadSync {
+            written,
+            number: expected.wrapping_add(1),
+        },
+    }
+}
+
+/// DNLOAD in dfuIDLE: the first block has number 0.
+pub(crate) fn first(profile: &Profile, number: u16, size: u16) -> Decision
+    ensures row { (image spare block body : List ℕ) → length body ≡ size
+        → plan_of (profile_in profile.now) image spare block body result ≡ first_plan (profile_in profile.now) number body }
+    ensures possible { Allows profile.now Mode.DfuIdle size result }
+{
+    if !profile.functional.can_download || size == 0 {
+        return error(Code::StalledPkt);
+    }
+    block(profile, 0, 0, number, size)
+}
+
+/// DNLOAD in dfuDNLOAD-IDLE: one with wLength 0 closes the download, where the image is long enough.
+pub(crate) fn further(
+    profile: &Profile,
+    written: u32,
+    expected: u16,
+    number: u16,
+    size: u16,
+) -> Decision
+    ensures row { (image spare block body : List ℕ) → length (take written spare) ≡ written → length body ≡ size
+        → plan_of (profile_in profile.now) image spare block body result
+        ≡ further_plan (profile_in profile.now) (take written spare) expected number body }
+    ensures possible { Allows profile.now (Mode.DownloadIdle written expected) size result }
+{
+    if size > 0 {
+        return block(profile, written, expected, number, size);
+    }
+    if written < profile.least {
+        return error(Code::NotDone);
+    }
+    ack(Mode::ManifestSync { written })
+}
+
+/// UPLOAD, where so many bytes were sent and this number is due: the errors in their order, else the next bytes of the image.
+pub(crate) fn upload(
+    profile: &Profile,
+    place: u32,
+    expected: u16,
+    number: u16,
+    size: u16,
+) -> Decision
+    ensures row { (image spare block body : List ℕ) → plan_of (profile_in profile.now) image spare block body result
+        ≡ upload_plan (profile_in profile.now) image place expected number size }
+    ensures possible { (block body : ℕ) (s : SlotsState) → IsPossible profile.now.functional.transfer block body s result }
+{
+    if size == 0 || size > profile.functional.transfer {
+        return error(Code::StalledPkt);
+    }
+    if number != expected {
+        return error(Code::Address);
+    }
+    Decision::Sends {
+        place,
+        size,
+        number: expected.wrapping_add(1),
+    }
+}

@@ -1,0 +1,14 @@
+//! What a decision answers.
+
+/// What a decision answers. A status and a state are those of the device once it has gone on.
+#[derive(Clone, Copy, Debug, PartialEq, Eq)]
+pub enum Reply {
+    /// The request is acknowledged.
+    Ack,
+    /// The status.
+    Status,
+    /// The state.
+    State,
+    /// The request is stalled.
+    Stall,
+}
