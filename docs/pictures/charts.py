@@ -8,7 +8,8 @@ import subprocess
 
 from drawing import PROGRAM, ROOT, Picture
 
-HOST, WIRE_FROM, WIRE_TO, DEVICE, MEDIUM, WIDTH, ROW, TOP = 20, 130, 490, 590, 790, 900, 58, 88
+HOST, WIRE_FROM, WIRE_TO, DEVICE, MEDIUM, WIDTH, ROW, TOP = 20, 146, 490, 590, 790, 900, 62, 67
+ACROSS = 168  # of what the medium gets
 
 # The title of each chart, and what stands below it.
 CHARTS = {
@@ -122,14 +123,14 @@ def heads(picture, title, bottom):
     for x, word in ((middle, "wire"), (DEVICE, "device is then in"), (MEDIUM, "medium")):
         picture.words(x, 56, word, "head", "middle")
     for x in (WIRE_FROM, WIRE_TO, MEDIUM - 96):
-        picture.line(x, 67, x, bottom, "lane")
+        picture.line(x, TOP, x, bottom, "lane")
 
 
 def draw(picture, number, action, is_new):
     """One action; the image is given where it is another one than before."""
     fate = action.fate.split()[0]
-    y = TOP + ROW * number + 8
-    picture.line(20, y - 29, WIDTH - 20, y - 29, "rule")
+    y = TOP + ROW * number + ROW // 2
+    picture.line(20, y - ROW // 2, WIDTH - 20, y - ROW // 2, "rule")
     picture.words(HOST, y + 4.5, action.number, "small")
     picture.words(HOST + 26, y + 4.5, action.phase)
     if action.is_request() and fate != "cut":
@@ -140,9 +141,9 @@ def draw(picture, number, action, is_new):
     medium = action.written()
     height = 20 + 16 * medium.count("\n")
     if medium:
-        picture.box(MEDIUM, y - (10 if is_new else 0), 150, medium, "error" if fate == "cut" else "write", height)
+        picture.box(MEDIUM, y - (9 if is_new else 0), ACROSS, medium, "error" if fate == "cut" else "write", height)
     if is_new:
-        picture.words(MEDIUM, y + (height / 2 + 7 if medium else 4.5), f"image {action.image} is active", "small", "middle")
+        picture.words(MEDIUM, y + (height / 2 + 5 if medium else 4.5), f"image {action.image} is active", "small", "middle")
 
 
 def chart(name):
@@ -150,7 +151,7 @@ def chart(name):
     actions, reports = seen(name)
     if name == "clean-run":
         compare(actions)
-    bottom = TOP + ROW * len(actions) - 21
+    bottom = TOP + ROW * len(actions)
     picture = Picture(WIDTH, bottom + 47 + 22 * len(notes), f"{title}: {len(actions)} actions of the host")
     heads(picture, title, bottom)
     image = None
