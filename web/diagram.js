@@ -1,21 +1,39 @@
 // SPDX-License-Identifier: MIT OR Apache-2.0
-// The states of a device (USB DFU 1.1, appendix A), drawn, with the one lit up in which it stands.
+// The states of a device (USB DFU 1.1, appendix A), drawn, with the one lit up in which it stands. The picture is narrow enough to be
+// read on a phone; docs/pictures/states.svg has the rules of each arrow.
 import { STATES } from './names.js'
 
 const SVG = 'http://www.w3.org/2000/svg'
-const WIDTH = 172
-const HEIGHT = 34
-const COLUMN = 222
-const ROW = 72
-const ASIDE = 7
+const WIDTH = 440
+const HEIGHT = 426
+const BOX = 26
 
-// By the number of the state: column and row.
-const PLACES = [[0, 0], [1, 0], [0, 1], [1, 1], [2, 1], [2, 2], [1, 3], [2, 3], [3, 3], [0, 2], [3, 0]]
+// By the number of the state: the middle of its box, and its width.
+const PLACES = [[115, 24, 84], [340, 24, 110], [340, 102, 84], [340, 180, 144], [115, 180, 104], [340, 258, 136], [340, 332, 154],
+  [115, 332, 112], [125, 406, 190], [115, 102, 142], [115, 258, 88]]
 
-// From, to, and by what. Errors and resets lead from any state to dfuERROR and to appIDLE, and aren't drawn.
-const ARROWS = [[0, 1, 'DETACH'], [1, 2, 'reset'], [2, 3, 'DNLOAD'], [3, 4, 'status'], [4, 3, 'time'], [3, 5, 'GETSTATUS'],
-  [5, 3, 'DNLOAD'], [5, 6, 'last DNLOAD'], [6, 7, 'status'], [7, 6, 'time'], [7, 8, 'time'], [6, 2, 'GETSTATUS'], [2, 9, 'UPLOAD'],
-  [9, 2, 'last']]
+// The way of each arrow, and what leads along it: the text, its place, and which part of the text stands there.
+const ARROWS = [
+  ['M157 18H283', 'DETACH', 221, 12, 'middle'],
+  ['M285 30H159', 'time', 221, 44, 'middle'],
+  ['M340 37V87', 'bus reset', 346, 66, 'start'],
+  ['M298 96H188', 'UPLOAD', 242, 90, 'middle'],
+  ['M186 108H296', 'the last, ABORT', 242, 122, 'middle'],
+  ['M340 115V165', 'DNLOAD', 346, 144, 'start'],
+  ['M268 174H169', 'GETSTATUS', 218, 168, 'middle'],
+  ['M167 186H266', 'time', 218, 200, 'middle'],
+  ['M322 193V243', 'GETSTATUS', 316, 222, 'end'],
+  ['M358 245V195', 'DNLOAD', 364, 222, 'start'],
+  ['M340 271V317', 'last DNLOAD', 334, 298, 'end'],
+  ['M263 326H173', 'GETSTATUS', 218, 320, 'middle'],
+  ['M171 338H261', 'time', 218, 352, 'middle'],
+  ['M115 345V391', 'time, if not tolerant', 121, 372, 'start'],
+  ['M380 345V358H434V108H384', 'GETSTATUS', 374, 362, 'end'],
+  ['M408 264H434', 'ABORT', 428, 286, 'end', 'join'],
+  ['M30 406H14V24H71', 'bus reset, from each dfu state', 20, 66, 'start'],
+  ['M200 258H161', 'each error', 206, 262, 'start'],
+  ['M71 258H34V136H316V117', 'CLRSTATUS', 115, 150, 'middle'],
+]
 
 function shape(tag, attributes, text) {
   const element = document.createElementNS(SVG, tag)
@@ -24,43 +42,23 @@ function shape(tag, attributes, text) {
   return element
 }
 
-const middle = ([column, row]) => [10 + column * COLUMN + WIDTH / 2, 10 + row * ROW + HEIGHT / 2]
-
-// Where a line from a point of a box leaves it, in parts of the line.
-function leaving([x, y], [fromX, fromY], [dx, dy]) {
-  const along = (half, off, d) => (d === 0 ? Infinity : ((d > 0 ? half : -half) - off) / d)
-  return Math.min(along(WIDTH / 2, fromX - x, dx), along(HEIGHT / 2, fromY - y, dy))
-}
-
-// Where one leads back the two stand side by side, with their labels outside.
-function arrow([from, to, label]) {
-  const [first, last] = [middle(PLACES[from]), middle(PLACES[to])]
-  const [dx, dy] = [last[0] - first[0], last[1] - first[1]]
-  const isBoth = ARROWS.some(([other, back]) => other === to && back === from)
-  const shift = isBoth ? ASIDE / Math.hypot(dx, dy) : 0
-  const start = [first[0] - dy * shift, first[1] + dx * shift]
-  const end = [start[0] + dx, start[1] + dy]
-  const [out, into] = [leaving(first, start, [dx, dy]), 1 - leaving(last, end, [-dx, -dy])]
-  const [x1, y1, x2, y2] = [start[0] + dx * out, start[1] + dy * out, start[0] + dx * into, start[1] + dy * into]
-  const line = shape('line', { x1, y1, x2, y2, 'marker-end': 'url(#head)' })
-  const [x, y] = [(x1 + x2) / 2, (y1 + y2) / 2]
-  const place = dy === 0 ? { x, y: y + (isBoth && dx > 0 ? 14 : -4), 'text-anchor': 'middle' }
-    : { x: x + (isBoth && dy > 0 ? -5 : 5), y: y + 4, 'text-anchor': isBoth && dy > 0 ? 'end' : 'start' }
-  return [line, shape('text', { ...place, class: 'label' }, label)]
+// A way that joins another one has no head.
+function arrow([d, label, x, y, anchor, join]) {
+  const way = shape('path', join ? { d, class: 'way' } : { d, class: 'way', 'marker-end': 'url(#head)' })
+  return [way, shape('text', { x, y, 'text-anchor': anchor, class: 'label' }, label)]
 }
 
 function box(state) {
-  const [x, y] = middle(PLACES[state])
+  const [x, y, width] = PLACES[state]
   const group = shape('g', { 'data-state': STATES[state] })
-  const long = STATES[state].length > 20 ? { textLength: WIDTH - 12, lengthAdjust: 'spacingAndGlyphs' } : {}
-  group.append(shape('rect', { x: x - WIDTH / 2, y: y - HEIGHT / 2, width: WIDTH, height: HEIGHT, rx: 6 }),
-    shape('text', { x, y: y + 4, 'text-anchor': 'middle', ...long }, STATES[state]))
+  group.append(shape('rect', { x: x - width / 2, y: y - BOX / 2, width, height: BOX, rx: 6 }),
+    shape('text', { x, y: y + 4.5, 'text-anchor': 'middle' }, STATES[state]))
   return group
 }
 
 export class Diagram {
   constructor(place) {
-    this.svg = shape('svg', { viewBox: `0 0 ${20 + 3 * COLUMN + WIDTH} ${20 + 3 * ROW + HEIGHT}`, role: 'img' })
+    this.svg = shape('svg', { viewBox: `0 0 ${WIDTH} ${HEIGHT}`, role: 'img' })
     const head = shape('marker', { id: 'head', viewBox: '0 0 8 8', refX: 7, refY: 4, markerWidth: 7, markerHeight: 7, orient: 'auto' })
     head.append(shape('path', { d: 'M0 0 L8 4 L0 8 z' }))
     const definitions = shape('defs', {})

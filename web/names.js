@@ -28,6 +28,9 @@ export function stateOf(request, bytes) {
   return request === REQUEST.GETSTATE && bytes.length === 1 ? bytes[0] : undefined
 }
 
+// The time in an answer to GETSTATUS, in ms.
+export const pollOf = bytes => bytes[1] | (bytes[2] << 8) | (bytes[3] << 16)
+
 export const STATE = { MANIFEST_SYNC: 6, MANIFEST: 7 }
 
 // A functional descriptor: its type, its lengths in DFU 1.1 and 1.0, the bits of bmAttributes, and versions.

@@ -1,40 +1,19 @@
 // SPDX-License-Identifier: MIT OR Apache-2.0
 // The view without a board: the proved device and the proved host, with a wire between them on which a person decides what becomes of
 // each action. Whatever is done is a line of a script, so that `dfu run` does the same.
+import { actionOf, fateOf, hearsOf } from './actions.js'
 import { Diagram } from './diagram.js'
 import { by, make, say } from './elements.js'
-import { SEEN, WHAT } from './host.js'
 import { showMedium } from './medium.js'
-import { CODES, REQUESTS, STATES, hexOf, partsOf } from './names.js'
-import { fileOf } from './sample.js'
+import { CODES, STATES, hexOf } from './names.js'
 import { bytesOf, lineOf, linesOf } from './script.js'
+import { fileOf } from './suffix.js'
 import { ScriptEnd, World } from './world.js'
 
 const MOST_ROWS = 500
 const MOST_AT_ONCE = 10000
 const MOST_PASSES = 1000000 // of a line
 const SETUP = ['blank', 'ids', 'device', 'unit', 'erase', 'capacity', 'image', 'limits']
-const HEARS = ['it is acknowledged', '', 'a stall', 'nothing', 'the time has passed', 'the bus was reset', 'the device restarted']
-
-const FATES = { pass: 'it goes well', lostout: 'the request is lost', lostback: 'the answer is lost', twice: 'it comes twice',
-  twicelostback: 'it comes twice, the answer is lost' }
-
-function fateOf({ fate, ms, writes, tear }) {
-  if (fate === 'slip') return `${ms} ms pass`
-  if (writes === undefined) return FATES[fate]
-  const what = { cut: 'the power is cut', fail: 'it fails', lie: 'it lies' }[fate]
-  return `${what} in write ${writes}${tear.length > 0 ? `, which leaves ${hexOf(tear)}` : ''}`
-}
-
-function actionOf({ what, value, setup }) {
-  if (what !== WHAT.SEND) return what === WHAT.WAIT ? `wait ${value} ms` : 'reset the bus'
-  const parts = partsOf(setup)
-  return `${REQUESTS[parts.request]} ${parts.value}, ${parts.length} bytes`
-}
-
-const hearsOf = ({ seen, bytes }) =>
-  (seen === SEEN.BYTES ? `${bytes.length === 0 ? 'no bytes' : hexOf(bytes.slice(0, 16))}${bytes.length > 16 ? ' ..' : ''}` : HEARS[seen])
-
 export class PlayView {
   constructor(modules, examples) {
     Object.assign(this, { modules, examples, diagram: new Diagram(by('diagram')) })
@@ -117,9 +96,11 @@ export class PlayView {
 
   addRow(entry) {
     const body = by('transfers').tBodies[0]
-    const cells = [entry.number, actionOf(entry.action), fateOf(entry.line), hearsOf(entry), entry.state]
+    const [words, bytes] = hearsOf(entry)
+    const hears = bytes === '' ? [words] : [words, ' ', make('span', { className: 'hex' }, bytes)]
+    const cells = [[String(entry.number)], [actionOf(entry.action)], [fateOf(entry.line)], hears, [entry.state]]
     const isHarmed = entry.line.fate !== 'pass'
-    body.append(make('tr', { className: isHarmed ? 'fault' : '' }, ...cells.map(text => make('td', {}, String(text)))))
+    body.append(make('tr', { className: isHarmed ? 'fault' : '' }, ...cells.map(parts => make('td', {}, ...parts))))
     if (body.rows.length > MOST_ROWS) body.rows[0].remove()
   }
 
@@ -135,7 +116,8 @@ export class PlayView {
   refresh() {
     const { world } = this
     const wanted = world.wanted()
-    by('wanted').textContent = wanted !== null ? `The host wants: ${wanted}. What becomes of it?` : 'No session goes on. Offer an image.'
+    by('wanted').textContent = wanted === null ? 'No session goes on: begin one.'
+      : `The host wants: ${actionOf(wanted)}. What becomes of it?`
     for (const button of document.querySelectorAll('#play .buttons button'))
       button.disabled = this.isOver || ('host' in button.dataset && wanted === null) || ('idle' in button.dataset && wanted !== null)
     by('line').disabled = by('rest').disabled = this.isOver || this.lines.length === 0

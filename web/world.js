@@ -4,7 +4,7 @@
 import { Device, Refused } from './device.js'
 import { Host, REPORT, SEEN, WHAT } from './host.js'
 import { harm } from './harm.js'
-import { CODES, KIND, REQUESTS, STATES, hexOf, partsOf } from './names.js'
+import { CODES, KIND, STATES, hexOf } from './names.js'
 import { refusalOf } from './refusals.js'
 import { lineOf } from './script.js'
 
@@ -156,14 +156,10 @@ export class World {
     return setup[0] === KIND.OUT ? { seen: SEEN.ACK } : { seen: SEEN.BYTES, bytes }
   }
 
-  // What the host wants next, in words; null where there is none.
+  // What the host wants next; null where there is none.
   wanted() {
     const action = this.host?.next() ?? null
-    if (action === null || action.what === WHAT.DONE) return null
-    if (action.what === WHAT.WAIT) return `wait ${action.value} ms`
-    if (action.what === WHAT.RESET) return 'reset the bus'
-    const { request, value, length } = partsOf(action.setup)
-    return `${REQUESTS[request]} ${value}, ${length} bytes`
+    return action === null || action.what === WHAT.DONE ? null : action
   }
 }
 

@@ -4,7 +4,8 @@ import time
 
 from counting import check, check_that
 from files import NEW, suffixed
-from views import ENTER, SPACE, TAB, is_labelled, is_narrow, is_quiet, is_readable, open_page, shot, shown, tab_to
+from layout import fits, tab_order
+from views import ENTER, SPACE, TAB, is_labelled, is_quiet, is_readable, open_page, shot, shown, tab_to
 
 UNNAMED = {'keepsPermission': False, 'serial': ''}
 
@@ -42,12 +43,14 @@ def by_mouse(browser, address, work):
     check_that('the fields of the file', '26 bytes' in fields and '1209:0001' in fields, fields)
     check_that('the device', '1209:0001' in device and 'DFU mode' in device, device)
     is_labelled(browser, 'flash, ready')
+    fits(browser, 'flash, ready')
+    tab_order(browser, 'flash, ready')
     browser.click('#begin')
     check('by mouse', (report(browser), image(browser)), ('Verified', NEW))
     shot(browser, 'flash')
     is_labelled(browser, 'flash, done')
     is_readable(browser, 'flash')
-    is_narrow(browser, 'flash')
+    fits(browser, 'flash')
     check('the focus is at the report', browser.run('return document.activeElement.id'), 'report')
     check('no second session without a device', browser.run('return document.getElementById("begin").disabled'), True)
     log_file(browser, work)

@@ -4,10 +4,12 @@ import pathlib
 import random
 import subprocess
 import tempfile
+import urllib.request
 
 from counting import check, check_that
+from layout import CUT_OFF, diagram, fits, tab_order
 from scripts import TOP, examples
-from views import ENTER, SPACE, is_labelled, is_narrow, is_quiet, is_readable, open_page, shot, shown, tab_to
+from views import ENTER, SPACE, is_labelled, is_quiet, is_readable, open_page, shot, shown, tab_to
 
 PROGRAM = pathlib.Path(os.environ.get('BUILD') or TOP / 'build').absolute() / 'dfu'
 CHOOSE = 'const it = document.getElementById("example"); it.value = arguments[0]; it.dispatchEvent(new Event("change"))'
@@ -16,14 +18,22 @@ SCRIPT = 'return document.getElementById("script").textContent'
 BUTTONS = """return Array.from(document.querySelectorAll('#play .buttons button')).filter(it => !it.disabled).map((it, at) => {
   it.dataset.button = at; return it.textContent })"""
 
+BYTES_ACROSS = """const all = Array.from(document.querySelectorAll('.bytes')[0].querySelectorAll(':not(div, .at)'))
+return all.filter(it => it.getBoundingClientRect().top === all[0].getBoundingClientRect().top).length"""
+
 
 def menu(browser):
+    """Each example prints what `dfu run` prints of it, and on a phone nothing of it is cut off, before it or behind it."""
+    browser.size(400, 760)
     for name, script, wanted in examples():
         if '\nerase ' in script or '\nunit ' in script or '\nexpect ' in script:
             continue
         browser.run(CHOOSE, name.removesuffix('.script'))
+        cut_off = browser.run(CUT_OFF)
         browser.run('if (!document.getElementById("rest").disabled) document.getElementById("rest").click()')
         check(f'{name}, from the menu', browser.run(PRINTED), wanted)
+        check(f'{name}, from the menu: what is cut off', cut_off + browser.run(CUT_OFF), [])
+    browser.size(1100, 1400)
 
 
 def by_program(script):
@@ -42,7 +52,7 @@ def at_random(browser, seed):
         browser.run('document.getElementById("write").value = arguments[0]; document.getElementById("tear").value = arguments[1]',
                     choice.randrange(3), choice.choice(['-', 'a5', '00', 'a50102030405']))
         names = browser.run(BUTTONS)
-        at = choice.choices(range(len(names)), [12 if name == 'It goes well' else 1 for name in names])[0]
+        at = choice.choices(range(len(names)), [12 if name.startswith('It goes well') else 1 for name in names])[0]
         browser.run(f'document.querySelector("[data-button=\\"{at}\\"]").click()')
     script, printed = browser.run(SCRIPT), browser.run(PRINTED)
     browser.run(CHOOSE, '')
@@ -76,7 +86,49 @@ def by_hand(browser):
     check('copied', shown(browser, '#copied'), 'Copied.')
     is_labelled(browser, 'play')
     is_readable(browser, 'play')
-    is_narrow(browser, 'play')
+    fits(browser, 'play')
+    diagram(browser)
+    tab_order(browser, 'play')
+
+
+def explained(browser):
+    """Each control has words that say what it does, and what the host hears is told in words."""
+    silent = browser.run("""return Array.from(document.querySelectorAll('#play :is(.buttons button, .numbers label)')).filter(
+      it => !it.querySelector('small')?.textContent).map(it => it.textContent)""")
+    check('controls without words', silent, [])
+    for name, words in (('lost-answer', ['OK, dfuDNBUSY, wait 5 ms 000500000400', 'dfuDNLOAD-SYNC 03', 'OK, dfuIDLE 000000000200']),
+                        ('failed-block', ['errWRITE, dfuERROR ']), ('upload', ['no bytes'])):
+        browser.run(CHOOSE, name)
+        browser.run('document.getElementById("rest").click()')
+        heard = browser.run('return Array.from(document.querySelectorAll("#transfers td:nth-child(4)"), it => it.textContent)')
+        for wanted in words:
+            check_that(f'{name}: the host hears {wanted}', any(one.startswith(wanted) for one in heard), heard)
+        fits(browser, f'the example {name}')
+
+
+def folded(browser):
+    """On a phone a row of the table is a block, and stays a row for a screen reader; a slot has 8 bytes in a row."""
+    browser.size(400, 760)
+    roles = [browser.role(selector)[0] for selector in ('#transfers', '#transfers tbody tr', '#transfers td', '#transfers th')]
+    check('the roles of a folded table', roles, ['table', 'row', 'cell', 'columnheader'])
+    lines = browser.run('return new Set(Array.from(document.querySelectorAll("#transfers tr:last-child td"), it => it.offsetTop)).size')
+    check('the lines of a folded row', lines, 2)
+    for width, wanted in ((400, 8), (1280, 16)):
+        browser.size(width, 760)
+        check(f'{width} pixels wide: bytes in a row', browser.run(BYTES_ACROSS), wanted)
+    browser.size(1100, 1400)
+
+
+def links(browser):
+    """The documents that it links to are there."""
+    paths = browser.run('return Array.from(new Set(Array.from(document.querySelectorAll("main a, footer a"), it => it.href)))')
+    check_that('there are links', len(paths) == 4, paths)
+    for path in paths:
+        with urllib.request.urlopen(path) as answer:
+            text, kind = answer.read().decode(), answer.headers['Content-Type']
+        name = path.rsplit('/', 1)[1].removesuffix('.txt')
+        check(f'{path}: what it has', text, (TOP / ('web/README.md' if name == 'page' else f'docs/{name}.md')).read_text())
+        check_that(f'{path}: a browser shows it', kind.startswith('text/plain'), kind)
 
 
 def by_keyboard(browser):
@@ -102,5 +154,8 @@ def run(browser, address):
         at_random(browser, seed)
     by_hand(browser)
     by_keyboard(browser)
+    explained(browser)
+    folded(browser)
+    links(browser)
     is_quiet(browser, 'play')
     refusals(browser, address)

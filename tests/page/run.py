@@ -8,6 +8,7 @@ import time
 import counting
 import flashing
 import odd
+import pictures
 import playing
 import scripts
 import sessions
@@ -37,6 +38,7 @@ def main(page, flash):
             check('the console', browser.console(), [])
             timed('the view that flashes', flashing.run, browser, address, work)
             timed('the view to play with', playing.run, browser, address)
+            timed('the pictures of docs', pictures.run, browser)
             check('requests', [path for path in Handler.asked if not path.startswith('/')], [])
         finally:
             browser.quit()

@@ -7,7 +7,7 @@ from counting import check, check_that
 from scripts import TOP
 
 TYPES = {'uint8_t': 'u8', 'uint16_t': 'u16', 'uint32_t': 'u32', 'uint64_t': 'u64'}
-MOST_BYTES = 150000
+MOST_BYTES = 160000
 
 
 def records():
@@ -70,6 +70,6 @@ def run(browser, page):
     for number in range(-50, 0):
         name, said = browser.run('const it = runs.refusalOf(arguments[0]); return [it.name, it.words]', number)
         check(f'the words of {number}', said, refusals.get(name, 'the host refuses it'))
-    size = sum(file.stat().st_size for file in pathlib.Path(page).iterdir())
-    check_that(f'the page has under {MOST_BYTES} bytes', size < MOST_BYTES, size)
+    size = sum(file.stat().st_size for file in pathlib.Path(page).iterdir() if file.is_file())
+    check_that(f'the page has under {MOST_BYTES} bytes, its documents left out', size < MOST_BYTES, size)
     print(f'the page has {size} bytes')

@@ -60,15 +60,6 @@ def is_quiet(browser, what):
     check(f'{what}: nothing is asked of anyone else', browser.run(f'return {elsewhere}'), [])
 
 
-def is_narrow(browser, view):
-    """On a narrow screen nothing stands beside it."""
-    browser.size(360, 760)
-    wide = browser.run('return document.documentElement.scrollWidth')
-    check_that(f'{view}: a narrow screen', wide <= 360, wide)
-    shot(browser, f'{view}-narrow')
-    browser.size(1100, 1400)
-
-
 CONTRAST = """
 const part = value => { const one = value / 255; return one <= 0.03928 ? one / 12.92 : ((one + 0.055) / 1.055) ** 2.4 }
 const light = text => {

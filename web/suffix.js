@@ -1,0 +1,24 @@
+// SPDX-License-Identifier: MIT OR Apache-2.0
+// A DFU file (USB DFU 1.1, appendix B) of a payload: the suffix with its check sum goes behind it, as `dfu add` writes it.
+const BYTES = 16
+const TABLE = Uint32Array.from({ length: 256 }, (_, byte) => {
+  for (let bit = 0; bit < 8; bit++) byte = byte & 1 ? (byte >>> 1) ^ 0xedb88320 : byte >>> 1
+  return byte
+})
+
+function crcOf(bytes) {
+  let crc = 0xffffffff
+  for (const byte of bytes) crc = (crc >>> 8) ^ TABLE[(crc ^ byte) & 0xff]
+  return crc >>> 0
+}
+
+// For a device with these identifiers; FFFFh is any.
+export function fileOf(payload, { device, product, vendor }) {
+  const file = new Uint8Array(payload.length + BYTES)
+  const view = new DataView(file.buffer, payload.length)
+  file.set(payload)
+  for (const [at, number] of [device, product, vendor, 0x0100].entries()) view.setUint16(2 * at, number, true)
+  file.set([0x55, 0x46, 0x44, BYTES], payload.length + 8)
+  view.setUint32(12, crcOf(file.subarray(0, -4)), true)
+  return file
+}
