@@ -25,8 +25,8 @@ export function showFields(id, fields) {
 export const plain = text => text.replace(/[\u0000-\u001f\u007f-\u009f\u200e\u200f\u2028-\u202e\u2066-\u2069]/g, '·')
 
 // Hands a person a file.
-export function download(name, text) {
-  const address = URL.createObjectURL(new Blob([text], { type: 'text/plain' }))
+export function download(name, data, type) {
+  const address = URL.createObjectURL(new Blob([data], { type }))
   make('a', { href: address, download: name }).click()
   setTimeout(() => URL.revokeObjectURL(address), 1000)
 }

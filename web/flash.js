@@ -3,9 +3,10 @@
 import { Asking } from './asking.js'
 import { canCompare, canUpload, cannotDetach } from './begin.js'
 import { Board, FILTERS } from './board.js'
+import { ChosenFile } from './chosen.js'
 import { Clock } from './clock.js'
 import { settingsOf } from './descriptors.js'
-import { by, download, make, plain, say, showFields } from './elements.js'
+import { by, download, make, plain, say } from './elements.js'
 import { Host } from './host.js'
 import { FUNCTIONAL, digits, transferOf } from './names.js'
 import { Progress } from './progress.js'
@@ -16,7 +17,6 @@ import { Trace } from './trace.js'
 import { noAccess } from './access.js'
 import { Wire } from './wire.js'
 
-const MOST_FILE = 16777216
 const WRONG_TARGET = -22
 const NOBODY = 'No device is connected.'
 const NONE_CHOSEN = 'None was chosen. A board that was not in the list may have to be brought to DFU mode, as by its button.'
@@ -24,32 +24,21 @@ const ANY = 0xffff
 const CANCELLING = 'Cancelling, which may take some seconds.'
 
 const idsOf = ({ vendor, product }) => `${digits(vendor, 4)}:${digits(product, 4)}`
-const orAny = number => (number === ANY ? 'any' : digits(number, 4))
 
 export class FlashView {
   constructor(modules, usb) {
-    Object.assign(this, { modules, usb, file: null, board: null, clock: null, isGoing: false, log: '' })
+    Object.assign(this, { modules, usb, board: null, clock: null, isGoing: false, log: '' })
+    this.file = new ChosenFile(modules.host, () => this.look(true), () => (this.board?.isOpen() ? this.board.is : null))
     this.listen()
     this.refresh()
   }
 
   listen() {
-    // The same file may be chosen again, as one that was built anew.
-    by('file').onclick = event => { event.target.value = '' }
-    by('file').onchange = event => event.target.files[0] && this.takeFile(event.target.files[0])
-    const drop = by('drop')
-    drop.ondragover = event => { event.preventDefault(); drop.className = 'over' }
-    drop.ondragleave = () => { drop.className = '' }
-    drop.ondrop = event => {
-      event.preventDefault()
-      drop.className = ''
-      if (event.dataTransfer.files[0]) this.takeFile(event.dataTransfer.files[0])
-    }
     by('connect').onclick = () => this.connect()
     by('sure').onchange = () => this.look()
     by('begin').onclick = () => this.flash()
     by('stop').onclick = () => this.cancel()
-    by('log').onclick = () => download('dfu-session.log', this.log)
+    by('log').onclick = () => download('dfu-session.log', this.log, 'text/plain')
     window.addEventListener('beforeunload', event => { if (this.isGoing) event.preventDefault() })
     this.usb?.addEventListener('disconnect', ({ device }) => {
       if (!this.isGoing && this.board !== null && (this.board.hasLeft || this.board.handle === device)) this.forget(`It left. ${NOBODY}`)
@@ -57,33 +46,15 @@ export class FlashView {
   }
 
   refresh() {
-    const isReady = this.file?.said.refusal === undefined && this.file !== null && this.board?.isOpen() && !this.refused
+    const isReady = this.file.isGood() && this.board?.isOpen() && !this.refused
     by('begin').disabled = this.isGoing || !isReady
     by('stop').disabled = !this.isGoing || this.clock.isStopped
     by('connect').disabled = this.isGoing || this.usb === undefined
     by('hint').textContent = this.isGoing ? this.clock.isStopped ? CANCELLING : 'Leave the device plugged in, and this page open.'
-      : isReady || by('report').firstChild !== null ? '' : this.file === null ? 'A file is missing.'
+      : isReady || by('report').firstChild !== null ? '' : this.file.bytes === null ? 'A file is missing.'
       : this.board === null ? 'A device is missing.' : ''
-    for (const id of ['file', 'verify', 'sure']) by(id).disabled = this.isGoing
-  }
-
-  // One byte more than a file may have shows the host that it is too large.
-  async takeFile(file) {
-    const failed = error => say('file-refused', `The file can't be read: ${error.message}`)
-    const buffer = await file.slice(0, MOST_FILE + 1).arrayBuffer().catch(failed)
-    if (this.isGoing || buffer === undefined) return
-    const bytes = new Uint8Array(buffer)
-    by('sure').checked = false
-    const said = new Host(this.modules.host, bytes).readFile()
-    this.file = { bytes, said }
-    by('fields').hidden = true
-    by('report').replaceChildren()
-    const refusal = said.refusal === undefined ? null : refusalOf(said.refusal)
-    say('file-refused', refusal === null ? '' : `${refusal.name}: ${refusal.words}. ${refusal.advice}`)
-    if (refusal === null) showFields('fields', [['Name', plain(file.name)], ['Image', `${said.payload} bytes`],
-      ['For the device', `${orAny(said.vendor)}:${orAny(said.product)}, version ${orAny(said.device)}`],
-      ['Check sum', `${digits(said.crc, 8)}, and it is right`]])
-    this.look()
+    for (const id of ['verify', 'sure']) by(id).disabled = this.isGoing
+    this.file.lock(this.isGoing)
   }
 
   // Lets the device go that was connected. That it is the right board, a person says of this one alone.
@@ -169,12 +140,16 @@ export class FlashView {
     return { session, trace, refusal: session.begin() }
   }
 
-  // Looks whether file and device belong together, before anything is sent.
-  look() {
+  // Looks whether file and device belong together, before anything is sent. That it is the right board was said of the file before.
+  look(isOther = false) {
     this.refused = false
+    if (isOther) {
+      by('sure').checked = false
+      by('report').replaceChildren()
+    }
     say('device-refused', '')
     by('sure-row').hidden = !by('sure').checked
-    if (this.file !== null && this.file.said.refusal === undefined && this.board?.isOpen()) {
+    if (this.file.isGood() && this.board?.isOpen()) {
       const { refusal } = this.prepare()
       if (refusal !== 0) this.refuse(refusal)
       else if (cannotDetach(this.board.is)) this.refuseHere()
@@ -236,4 +211,3 @@ export class FlashView {
     by('log-row').hidden = false
   }
 }
-

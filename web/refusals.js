@@ -6,10 +6,10 @@ const OTHER_DEVICE = 'Nothing was sent. Another board, or another version of its
 const REFUSALS = {
   [-1]: ['TooShort', 'the file has under 16 bytes, too few for a suffix', OTHER_FILE],
   [-2]: ['NoSignature', 'the file has no DFU suffix; `dfu add` gives it one',
-    'A raw image says of no device that it is for it. `dfu add` and dfu-suffix make a DFU file of it.'],
+    'If it is a raw image, this page can do so too.'],
   [-3]: ['BadLength', "the suffix's length is under 16 or over the file's", OTHER_FILE],
   [-4]: ['DfuSe', 'the file is a DfuSe file, which is another format', 'It is for STM32\'s own tools, or for dfu-util.'],
-  [-5]: ['BadCrc', "the file's check sum is wrong: it was changed or cut", 'Load the file down once more.'],
+  [-5]: ['BadCrc', "the file's check sum is wrong: it was changed or cut", 'Download the file again.'],
   [-7]: ['TooLarge', 'the file has over 16777216 bytes', OTHER_FILE],
   [-21]: ['EmptyPayload', 'the file has no image in it', OTHER_FILE],
   [-22]: ['WrongTarget', 'the file is for another device; in DFU mode it may have another product: see --device RUN,DFU',

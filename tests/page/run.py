@@ -10,6 +10,7 @@ import flashing
 import odd
 import pictures
 import playing
+import raw
 import scripts
 import sessions
 import texts
@@ -37,6 +38,7 @@ def main(page, flash):
             timed('what only WebUSB has', odd.run, browser)
             check('the console', browser.console(), [])
             timed('the view that flashes', flashing.run, browser, address, work)
+            timed('raw images', raw.run, browser, address, work)
             timed('the view to play with', playing.run, browser, address)
             timed('the pictures of docs', pictures.run, browser)
             check('requests', [path for path in Handler.asked if not path.startswith('/')], [])

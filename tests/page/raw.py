@@ -1,0 +1,117 @@
+"""A raw image: the page asks which device it is for, and adds the suffix. Files of other formats are no raw images."""
+import os
+import pathlib
+import subprocess
+import time
+
+from counting import check, check_that
+from files import NEW, suffixed
+from flashing import give_file, image, is_ready, report
+from layout import fits, tab_order
+from scripts import TOP
+from views import ENTER, is_labelled, is_readable, open_page, shown, tab_to
+
+PROGRAM = pathlib.Path(os.environ.get('BUILD') or TOP / 'build').absolute() / 'dfu'
+OTHERS = {'Intel HEX': b':100000000C9434000C943E000C943E000C943E0082\n', 'Motorola S-records': b'S00600004844521B\nS1130000285F245F\n',
+          'an ELF file': b'\x7fELF\x01\x01\x01' + bytes(45), 'UF2': b'UF2\n\x57\x51\x5d\x9e' + bytes(504),
+          'a zip archive': b'PK\x03\x04' + bytes(26), 'a gzip archive': b'\x1f\x8b\x08' + bytes(20)}
+
+
+def is_asked(browser):
+    browser.wait('!document.getElementById("raw").hidden')
+
+
+def say_ids(browser, **ids):
+    for field, text in ids.items():
+        browser.run(f'document.getElementById("raw-{field}").value = ""')
+        browser.type(f'#raw-{field}', text)
+
+
+def saved(browser, work, name):
+    """The file that the page saves."""
+    file = pathlib.Path(work) / name
+    browser.click('#save')
+    for _ in range(100):
+        if file.exists():
+            break
+        time.sleep(0.05)
+    return file.read_bytes() if file.exists() else b''
+
+
+def by_words(browser, address, work):
+    """Without a device: the words of a person, wrong ones first."""
+    open_page(browser, address, {})
+    give_file(browser, work, NEW, 'firmware.bin')
+    is_asked(browser)
+    check_that('why it is asked', shown(browser, '#file-refused').startswith('NoSignature: '), shown(browser, '#file-refused'))
+    is_labelled(browser, 'a raw image')
+    is_readable(browser, 'a raw image')
+    fits(browser, 'a raw image')
+    tab_order(browser, 'a raw image')
+    for field, text in (('vendor', ''), ('vendor', '120'), ('vendor', '120g'), ('product', ''), ('device', '1')):
+        say_ids(browser, **{'vendor': '1209', 'product': '0001', 'device': 'ffff', field: text})
+        browser.click('#raw-add')
+        check_that(f'{field} {text!r}', 'four hexadecimal digits' in shown(browser, '#raw-wrong'), shown(browser, '#raw-wrong'))
+        check(f'{field} {text!r}: the focus is there', browser.run('return document.activeElement.id'), f'raw-{field}')
+        check(f'{field} {text!r}: no file', shown(browser, '#fields'), '')
+    say_ids(browser, vendor='1209', product='00Ab', device='0200')
+    browser.key(ENTER)
+    fields = shown(browser, '#fields')
+    check_that('what it says then', '26 bytes' in fields and '1209:00ab, version 0200' in fields, fields)
+    check('it is asked no more', shown(browser, '#raw') + shown(browser, '#file-refused'), '')
+    found = saved(browser, work, 'firmware.dfu')
+    check('the file that is saved', found, suffixed(NEW, product=0xab, device=0x0200))
+    if PROGRAM.exists():
+        run = subprocess.run([PROGRAM, 'check', pathlib.Path(work) / 'firmware.dfu'], capture_output=True, text=True, check=False)
+        check_that('dfu check of it', run.stdout.startswith('ok payload 26 suffix 16 device 0200 product 00ab vendor 1209 dfu 0100'), run)
+    browser.click('#connect')
+    browser.wait('document.getElementById("device-refused").textContent.startsWith("WrongTarget")')
+    check('for another device', browser.run('return document.getElementById("begin").disabled'), True)
+
+
+def by_device(browser, address, work):
+    """With a device: its identifiers, by keyboard."""
+    open_page(browser, address, {})
+    browser.click('#connect')
+    browser.wait('document.getElementById("device").textContent.includes("1209")')
+    give_file(browser, work, NEW, 'raw')
+    is_asked(browser)
+    for name in ('raw-same', 'raw-add'):
+        check('Tab leads there', tab_to(browser, name), name)
+        browser.key(ENTER)
+    check('the focus goes on', browser.run('return document.activeElement.id'), 'save')
+    check_that('for that device', '1209:0001, version any' in shown(browser, '#fields'), shown(browser, '#fields'))
+    is_ready(browser)
+    browser.click('#begin')
+    check('a raw image', (report(browser), image(browser)), ('Verified', NEW))
+
+
+def others(browser, address, work):
+    open_page(browser, address, {})
+    for name, payload in OTHERS.items():
+        give_file(browser, work, payload, name)
+        browser.wait(f'document.getElementById("file-refused").textContent.includes("It looks like {name}. ")')
+        check(f'{name} is no raw image', shown(browser, '#raw'), '')
+    for name, payload in (('one byte', b'x'), ('what only begins so', b':1000'), ('the text of a suffix', b'UFD' + bytes(30))):
+        give_file(browser, work, payload, name)
+        is_asked(browser)
+        say_ids(browser, vendor='ffff', product='ffff')
+        browser.click('#raw-add')
+        check_that(f'{name}, for any device', f'{len(payload)} bytes' in shown(browser, '#fields'), shown(browser, '#fields'))
+    give_file(browser, work, b'', 'empty.bin')
+    browser.wait('document.getElementById("file-refused").textContent.startsWith("TooShort")')
+    check('of no bytes', shown(browser, '#raw'), '')
+    give_file(browser, work, bytes(16777216 - 15), 'large.bin')
+    is_asked(browser)
+    browser.click('#raw-add')
+    browser.wait('document.getElementById("file-refused").textContent.startsWith("TooLarge")')
+    check('too large with its suffix', shown(browser, '#raw') + shown(browser, '#save-row'), '')
+    give_file(browser, work, suffixed(NEW)[1:], 'cut.dfu')
+    browser.wait('document.getElementById("file-refused").textContent.startsWith("BadCrc")')
+    check('a file that was cut is no raw image', shown(browser, '#raw'), '')
+
+
+def run(browser, address, work):
+    by_words(browser, address, work)
+    by_device(browser, address, work)
+    others(browser, address, work)
