@@ -1,4 +1,4 @@
-"""A raw image: the page asks which device it is for, and adds the suffix. Files of other formats are no raw images."""
+"""The file that is chosen. Of a raw image the page asks which device it is for, and adds the suffix; files of other formats are none."""
 import os
 import pathlib
 import subprocess
@@ -111,7 +111,25 @@ def others(browser, address, work):
     check('a file that was cut is no raw image', shown(browser, '#raw'), '')
 
 
+def late(browser, address, work):
+    """A file that is read late doesn't come in the place of one that was chosen after it."""
+    open_page(browser, address, {})
+    browser.run("""const slice = File.prototype.slice
+      File.prototype.slice = function (...words) {
+        const part = slice.apply(this, words)
+        if (this.name === 'late.dfu') part.arrayBuffer = () => new Promise(done => { window.finish = () => done(new ArrayBuffer(3)) })
+        return part
+      }""")
+    give_file(browser, work, suffixed(NEW), 'late.dfu')
+    browser.wait('window.finish !== undefined')
+    give_file(browser, work, suffixed(NEW), 'last.dfu')
+    browser.wait('!document.getElementById("fields").hidden')
+    browser.wait_run('async () => { finish(); await new Promise(done => setTimeout(done, 100)) }')
+    check('the file that was chosen last', ('last.dfu' in shown(browser, '#fields'), shown(browser, '#file-refused')), (True, ''))
+
+
 def run(browser, address, work):
+    late(browser, address, work)
     by_words(browser, address, work)
     by_device(browser, address, work)
     others(browser, address, work)
