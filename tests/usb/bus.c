@@ -160,14 +160,19 @@ static int meets(const struct fate *fate, const uint8_t setup[8], uint8_t *data,
     }
 }
 
-/* As libusb does it, no signal cuts it short. */
-static void pass(unsigned ms)
+/* So much of the program's time, and none of the device's. As libusb does it, no signal cuts it short. */
+static void pass_untold(unsigned ms)
 {
     struct timespec left = { ms / 1000, (long)(ms % 1000) * 1000000 };
+    uint64_t began = now_ns();
+    if (ms == 0)
+        return;
     while (nanosleep(&left, &left) != 0)
         ;
+    told_ns += now_ns() - began;
 }
 
+/* A state that is entered has its whole time from the answer on. In one that stays no part of a millisecond is dropped. */
 int bus_transfer(const uint8_t setup[8], uint8_t *data, uint16_t length, unsigned timeout)
 {
     uint8_t none[8] = { 0 };
@@ -181,11 +186,13 @@ int bus_transfer(const uint8_t setup[8], uint8_t *data, uint16_t length, unsigne
         _exit(137);
     }
     uint8_t *at = data != NULL && length > 0 ? data : none;
-    pass(settings.slow_ms);
+    pass_untold(settings.slow_ms);
+    int before = model->state();
     int answer = meets(fate, setup, at, length, timeout);
     log_transfer(transfers++, setup, at, answer, fate->kind, model->state());
     look();
-    told_ns = now_ns();
+    if (model->state() != before)
+        told_ns = now_ns();
     return answer;
 }
 
