@@ -66,8 +66,8 @@ return { stop: Number(it.dataset.stop ?? -1), left: first.left, top: first.top +
 
 
 def fits(browser, view):
-    """At the width of a phone and at that of a desk nothing is cut off, and nothing but a list of lines scrolls."""
-    for width in (320, 400, 1280):
+    """From a phone to a desk nothing is cut off."""
+    for width in (320, 400, 768, 961, 1280):
         browser.size(width, 760)
         check(f'{view}, {width} pixels wide: what is cut off', browser.run(CUT_OFF), [])
         if width == 400:
