@@ -86,11 +86,10 @@ static void elapse(uint64_t ms)
 
 void bus_pass_time(void)
 {
-    uint64_t now = now_ns(), ms = (now - told_ns) / 1000000;
-    if (ms == 0)
-        return;
+    uint64_t ms = (now_ns() - told_ns) / 1000000;
     told_ns += ms * 1000000;
-    elapse(ms);
+    if (ms > 0)
+        elapse(ms);
 }
 
 /* The program heard nothing for as long as it wanted to wait. */
@@ -160,22 +159,18 @@ static int meets(const struct fate *fate, const uint8_t setup[8], uint8_t *data,
     }
 }
 
-/* So much of the program's time, and none of the device's. As libusb does it, no signal cuts it short. */
+/* As libusb does it, no signal cuts it short. It is no time of the device. */
 static void pass_untold(unsigned ms)
 {
     struct timespec left = { ms / 1000, (long)(ms % 1000) * 1000000 };
-    uint64_t began = now_ns();
-    if (ms == 0)
-        return;
     while (nanosleep(&left, &left) != 0)
         ;
-    told_ns += now_ns() - began;
+    told_ns += ms * UINT64_C(1000000);
 }
 
-/* A state that is entered has its whole time from the answer on. In one that stays no part of a millisecond is dropped. */
 int bus_transfer(const uint8_t setup[8], uint8_t *data, uint16_t length, unsigned timeout)
 {
-    uint8_t none[8] = { 0 };
+    uint8_t none[8] = { 0 }, *at = data != NULL && length > 0 ? data : none;
     if (transfers == BOUND)
         fail_loudly("%d transfers were made, and the program is not done", BOUND);
     if (!seen.is_app && settings.setting >= 0 && seen.setting != settings.setting)
@@ -185,10 +180,8 @@ int bus_transfer(const uint8_t setup[8], uint8_t *data, uint16_t length, unsigne
         at_end();
         _exit(137);
     }
-    uint8_t *at = data != NULL && length > 0 ? data : none;
     pass_untold(settings.slow_ms);
-    int before = model->state();
-    int answer = meets(fate, setup, at, length, timeout);
+    int before = model->state(), answer = meets(fate, setup, at, length, timeout);
     log_transfer(transfers++, setup, at, answer, fate->kind, model->state());
     look();
     if (model->state() != before)

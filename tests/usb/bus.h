@@ -11,7 +11,8 @@ void bus_start(void);
 /* Tells the device the time that has passed since it was told last. */
 void bus_pass_time(void);
 
-/* One control transfer of the class on the device: bytes, or an error of libusb. `timeout` is in ms. */
+/* One control transfer of the class on the device: bytes, or an error of libusb. `timeout` is in ms. A state that it leads to has its
+ * whole time from the answer on; in one that stays no part of a millisecond is dropped. */
 int bus_transfer(const uint8_t setup[8], uint8_t *data, uint16_t length, unsigned timeout);
 
 /* A reset of the bus: whether the device's descriptors are the same behind it. */
