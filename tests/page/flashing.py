@@ -145,6 +145,7 @@ def asks(browser, address, work):
     browser.click('#begin')
     browser.wait('!document.getElementById("ask").hidden')
     check_that('it is asked to pull the plug', 'Pull its plug' in shown(browser, '#ask-text'))
+    fits(browser, 'asked to pull the plug')
     browser.wait_run('async () => (await standIn).replug()')
     check('the plug was pulled', (report(browser), image(browser)), ('Installed', NEW))
     prepare(browser, address, work, {'reset': 'fails'}, platform='Windows')
@@ -175,6 +176,7 @@ def chooses(browser, address, work):
     """Another target, which may be the right board, and several settings."""
     prepare(browser, address, work, {'dfuIds': {'product': 0xff, 'device': 0x0100}})
     browser.wait('document.getElementById("device-refused").textContent.startsWith("WrongTarget")')
+    fits(browser, 'another target')
     check('another target: it can not begin', browser.run('return document.getElementById("begin").disabled'), True)
     browser.click('#sure')
     is_ready(browser)
@@ -186,6 +188,7 @@ def chooses(browser, address, work):
     check('that it is the right board was said of the one before', browser.run('return document.getElementById("sure").checked'), False)
     prepare(browser, address, work, {'alternates': 3, 'setting': 1})
     browser.wait('!document.getElementById("settings").hidden')
+    fits(browser, 'several settings')
     check_that('the settings have names', 'EEPROM' in shown(browser, '#settings'))
     browser.click('#settings label:nth-of-type(2) input')
     is_ready(browser)
