@@ -13,7 +13,7 @@ const ANY = 0xffff
 const orAny = number => (number === ANY ? 'any' : digits(number, 4))
 
 export class ChosenFile {
-  // onChange is called where there is another file; ids asks for the identifiers of the connected device, null where there is none.
+  // onChange is called when there is another file; ids gives the identifiers of the connected device, or null if there is none.
   constructor(module, onChange, ids) {
     Object.assign(this, { module, onChange, bytes: null, said: null, name: '', choices: 0, isLocked: false })
     this.raw = new RawImage(bytes => this.take(bytes, this.name, true), ids)

@@ -7,7 +7,7 @@ const HEADER = 16
 const DATA = 32
 const OPEN = 0xa5
 const MOST_SHOWN = 288 // bytes of a slot, a multiple of 16
-const ACROSS = 8 // bytes of a row; style.css sets two rows side by side where there is room
+const ACROSS = 8 // bytes of a row; style.css sets two rows side by side if there is room
 
 const number4 = (bytes, at) => new DataView(bytes.buffer, bytes.byteOffset).getUint32(at, true)
 

@@ -17,7 +17,7 @@ const FRONT = 16
 const FIELDS = ['vendor', 'product', 'device']
 const IS_FOUR = /^[0-9a-f]{4}$/i
 
-// What a file without a suffix is instead of a raw image, in words; null where nothing speaks against that.
+// What a file without a suffix is if it is no raw image, in words; null if it may be one.
 export function otherThanRaw(bytes) {
   const front = String.fromCharCode(...bytes.subarray(0, FRONT))
   const found = OTHERS.find(([start]) => start.test(front))
@@ -25,7 +25,7 @@ export function otherThanRaw(bytes) {
 }
 
 export class RawImage {
-  // onFile is told of the DFU file; ids asks for the identifiers of the connected device, null where there is none.
+  // onFile gets the DFU file; ids gives the identifiers of the connected device, or null if there is none.
   constructor(onFile, ids) {
     Object.assign(this, { onFile, ids, bytes: null })
     by('raw-add').onclick = () => this.add()

@@ -1,5 +1,5 @@
 // SPDX-License-Identifier: MIT OR Apache-2.0
-// A DFU file (USB DFU 1.1, appendix B) of a payload: the suffix with its check sum goes behind it, as `dfu add` writes it.
+// A DFU file (USB DFU 1.1, appendix B) of a payload: the suffix with its check sum follows it, as `dfu add` writes it.
 const BYTES = 16
 const TABLE = Uint32Array.from({ length: 256 }, (_, byte) => {
   for (let bit = 0; bit < 8; bit++) byte = byte & 1 ? (byte >>> 1) ^ 0xedb88320 : byte >>> 1

@@ -17,7 +17,7 @@ for (const it of document.querySelectorAll('header, header *, main:not([hidden])
 return found
 """
 
-# The diagram in its own units: what lies where it should not.
+# The diagram in its own units: what lies on what, what is outside, and states that no arrow leads to or from.
 DIAGRAM = """
 const svg = document.querySelector('#diagram svg')
 const box = it => { const { x, y, width, height } = it.getBBox(); return { x, y, right: x + width, bottom: y + height } }
@@ -84,7 +84,7 @@ def diagram(browser):
 
 
 def tab_order(browser, view):
-    """Tab leads to each thing that a person uses once, to what stands below or to the right, and it is seen where the focus is."""
+    """Tab leads to each thing that a person uses once, to what stands below or to the right, and the focus can be seen."""
     for width in (400, 1280):
         browser.size(width, 760)
         stops, seen = browser.run(STOPS), []

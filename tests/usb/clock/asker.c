@@ -2,10 +2,10 @@
  *
  * usage: asker busy|detach MS EACH    (the settings are those of the stand-in, in tests/usb/settings.c)
  *
- * busy: a block, and a GETSTATUS, by which the device begins to write it. For MS milliseconds from its answer on the device is told the
- * time each EACH microseconds, and then asked by a GETSTATUS. detach: a DETACH, and for MS milliseconds from its answer on a GETSTATE
- * each EACH microseconds; the last one comes behind them. It prints the state that was answered last, or `stall`, and how many
- * microseconds passed by then. */
+ * busy: a block, and a GETSTATUS, by which the device begins to write it. For MS milliseconds from its answer on the time is passed on to
+ * the device each EACH microseconds; then comes a GETSTATUS. detach: a DETACH, and for MS milliseconds from its answer on a GETSTATE each
+ * EACH microseconds, and one more after them. It prints the state that was answered last, or `stall`, and how many microseconds passed by
+ * then. */
 #include "../abi.h"
 #include "../bus.h"
 
@@ -29,7 +29,7 @@ static void rest(unsigned us)
     nanosleep(&time, NULL);
 }
 
-/* As a program's transfer does it, with the time told first. */
+/* As a program's transfer does it: the time is passed on first. */
 static int transfer(uint8_t kind, uint8_t request, uint8_t value, uint8_t *data, uint16_t length)
 {
     const uint8_t setup[8] = { kind, request, value, 0, 0, 0, (uint8_t)length, (uint8_t)(length >> 8) };

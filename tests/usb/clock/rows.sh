@@ -1,12 +1,12 @@
 # Rows of tests/flash: the clock of the stand-in, whose milliseconds are those that pass. Who asks when a wait is over is never too early,
-# however often the device was told the time, and who asks before that is.
+# however often the time was passed on to the device, and who asks before that is.
 # shellcheck shell=sh disable=SC2154
 
 gcc -std=gnu11 -O2 -Wall -Wextra -Werror -I "$top/include" -o asker "$top/tests/usb/clock/asker.c" "$top"/tests/usb/*.c \
     "$top/dist/dfu_device.c"
 
-# asked STATE MOST SETTINGS WORDS..: the state that the last answer of asker has. It counts where at most MOST microseconds passed by
-# then: on a busy machine it is tried again. At - for MOST it always does.
+# asked STATE MOST SETTINGS WORDS..: the state that the last answer of asker has. It counts if at most MOST microseconds passed by
+# then: on a busy machine it is tried again. With - for MOST it always counts.
 asked() {
     wanted=$1 most=$2 settings=$3
     shift 3
@@ -20,7 +20,7 @@ asked() {
     expect "$settings asker $*: wanted $wanted, found $(cat said)" test "$(cut -d ' ' -f 1 said)" = "$wanted"
 }
 # In dfuDNBUSY a question that comes too early is stalled; later the block is written, and it leads to dfuDNLOAD-IDLE (5). In appDETACH
-# (1) who asks changes nothing, and the timer goes on; behind it is appIDLE (0).
+# (1) who asks changes nothing, and the timer goes on; then it is appIDLE (0).
 detaching='USB_START=app USB_DETACH=200'
 for each in 180000 7300 1500 400; do
     asked stall 199000 USB_BUSY=200 busy 180 $each
