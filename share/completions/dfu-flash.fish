@@ -1,22 +1,30 @@
 # Completion of dfu-flash for fish: put this file into a folder of fish_complete_path.
+
+# Those that are there.
+function __dfu_flash_devices
+    set -l words (commandline -poc)
+    command $words[1] --list 2> /dev/null | string replace -r ' .*' '' | sort -u
+end
+
 complete -c dfu-flash -F
-complete -c dfu-flash -x -l device -d 'Take this device, four hexadecimal digits each'
-complete -c dfu-flash -x -l path -d 'Take the device at this path, as 1-2.3'
-complete -c dfu-flash -x -l serial -d 'Take the device with this serial number'
-complete -c dfu-flash -x -l interface -d 'Take the interface of this number'
-complete -c dfu-flash -x -l alt -d 'Take the alternate setting of this number or name'
+complete -c dfu-flash -r -F -s D -d 'The file, as with dfu-util'
+complete -c dfu-flash -x -s d -l device -d 'Take this device, four hexadecimal digits each' -a '(__dfu_flash_devices)'
+complete -c dfu-flash -x -s p -l path -d 'Take the device at this path, as 1-2.3'
+complete -c dfu-flash -x -s S -l serial -d 'Take the device with this serial number'
+complete -c dfu-flash -x -s i -l interface -d 'Take the interface of this number'
+complete -c dfu-flash -x -s a -l alt -d 'Take the alternate setting of this number or name'
 complete -c dfu-flash -l no-verify -d 'Don\'t upload the image after the download to compare it'
-complete -c dfu-flash -r -F -l upload -d 'Fetch the active image into a new file'
+complete -c dfu-flash -r -F -s U -l upload -d 'Fetch the active image into a new file'
 complete -c dfu-flash -l force -d 'Let an upload replace a file that is there'
-complete -c dfu-flash -l detach -d 'Bring the device to DFU mode, and stop there'
-complete -c dfu-flash -l wait -d 'Wait until the device is there; --wait=<S> for S seconds at most'
+complete -c dfu-flash -s e -l detach -d 'Bring the device to DFU mode, and stop there'
+complete -c dfu-flash -s w -l wait -d 'Wait until the device is there; --wait=<S> for S seconds at most'
 complete -c dfu-flash -x -l timeout -d 'Break the session off after S seconds'
 complete -c dfu-flash -x -l limits -d 'Give up after A actions, or after R restarts of the device'
-complete -c dfu-flash -x -l transfer-size -d 'Send and ask for blocks of B bytes, up to 4096, whatever the device says'
+complete -c dfu-flash -x -s t -l transfer-size -d 'Send and ask for blocks of B bytes, up to 4096, whatever the device says'
 complete -c dfu-flash -l dry-run -d 'Look for file and device, and send nothing'
 complete -c dfu-flash -l quiet -d 'Print no progress'
 complete -c dfu-flash -l verbose -d 'Print a line for each transfer, wait and reset; --verbose=<FILE> logs them'
 complete -c dfu-flash -l json -d 'Print one record in JSON at the end'
-complete -c dfu-flash -l list -d 'List the devices that are there'
+complete -c dfu-flash -s l -l list -d 'List the devices that are there'
 complete -c dfu-flash -s h -l help -d 'Print help'
 complete -c dfu-flash -s V -l version -d 'Print the version'
