@@ -19,30 +19,6 @@ static void ask_for_one(const struct found *list, int count)
         say_found(stderr, &list[at]);
 }
 
-static int say_none(libusb_context *usb, const struct wanted *wanted)
-{
-    const struct wanted any = {.place = ANYWHERE};
-    struct found list[FOUND_ROOM];
-    int count = find_all(usb, &any, list, FOUND_ROOM);
-    bool is_upgrade = false;
-    if (count <= 0) {
-        fprintf(stderr, "dfu-flash: no device with DFU is there\n");
-        return STATUS_NO_DEVICE;
-    }
-    fprintf(stderr, "dfu-flash: no device is the one that is asked for");
-    if (wanted->has_ids)
-        fprintf(stderr, " (vendor %04x, product %04x; ffff is any)", wanted->vendor, wanted->product);
-    fprintf(stderr, "; there is:\n");
-    for (int at = 0; at < count; at++) {
-        say_found(stderr, &list[at]);
-        is_upgrade = is_upgrade || list[at].is_upgrade;
-    }
-    if (wanted->has_ids && !wanted->has_dfu_ids && is_upgrade)
-        fputs("dfu-flash: in DFU mode a device may have another product: see --device RUN,DFU\n", stderr);
-    found_drop(list, count);
-    return STATUS_NO_DEVICE;
-}
-
 /* Whether it is one device that can't be opened, so that the name of none of its settings could be read. */
 static bool is_unread(const struct wanted *wanted, const struct found *list, int count)
 {
@@ -136,7 +112,7 @@ int device_choose(struct device *device, const struct wanted *wanted)
         return STATUS_NO_DEVICE;
     }
     if (count == 0)
-        return say_none(device->usb, wanted);
+        return say_missing(device->usb, wanted);
     if (count > 1 && !is_unread(wanted, list, count)) {
         ask_for_one(list, count);
         found_drop(list, count);

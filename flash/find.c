@@ -59,11 +59,11 @@ bool is_placed(const struct place *place, const struct found *found)
     return !found->is_upgrade || (is_interface && is_alternate && is_name);
 }
 
-static bool is_wanted(const struct wanted *wanted, const struct found *found)
+bool is_wanted(const struct wanted *wanted, const struct found *found)
 {
     /* A serial number that may not be read may be the one: who chooses sees that it can't be opened. */
     bool is_serial = wanted->serial == NULL || found->access != 0 || strcmp(wanted->serial, found->serial) == 0;
-    return is_serial && is_placed(&wanted->place, found);
+    return may_be(wanted, found) && is_serial && is_placed(&wanted->place, found);
 }
 
 static bool is_same_text(const char *first, const char *now)

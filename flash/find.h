@@ -39,6 +39,7 @@ struct place {
 /* What a device has to be. */
 struct wanted {
     bool has_ids;
+    bool is_of_file;                   /* they are those of the file's suffix, and not of --device */
     uint16_t vendor, product;          /* FFFFh is any */
     const char *path, *serial;         /* NULL is any */
     struct place place;
@@ -48,6 +49,9 @@ struct wanted {
 
 /* Whether a setting is what is asked for: in run-time mode each does. */
 bool is_placed(const struct place *place, const struct found *found);
+
+/* Whether what was found is wanted. */
+bool is_wanted(const struct wanted *wanted, const struct found *found);
 
 /* Whether two looks at a device in one mode saw the same: its identifiers, interface and setting, and, where both looks could read
    them, its serial number and the setting's name. */

@@ -62,6 +62,8 @@ int list_devices(libusb_context *usb, const struct wanted *wanted, bool is_json)
         else
             say_found(stdout, &list[at]);
     found_drop(list, count);
+    if (count == 0)
+        say_missing(usb, wanted);
     if (count == FOUND_ROOM)
         fputs("dfu-flash: more than these may be there; choose by --device, --path or --serial\n", stderr);
     return record_out() ? STATUS_DONE : STATUS_FILE;

@@ -7,6 +7,7 @@
 #include "device.h"
 #include "dfu_mode.h"
 #include "files.h"
+#include "image.h"
 #include "list.h"
 #include "record.h"
 #include "say.h"
@@ -37,20 +38,20 @@ static int say_none(const struct words *words, int status)
 /* The file is read, and what its suffix names is the device, unless one is named in words. */
 static int take_file(const struct words *words, struct wanted *wanted)
 {
-    struct dfu_file file;
-    uint8_t *bytes;
-    int32_t refusal;
-    if (!file_read(words->file, &bytes, &session.file_length))
+    struct image image = {0};
+    int32_t refusal = image_read(&image, words);
+    if (image.bytes != NULL)
+        session.file = image.bytes;
+    if (refusal == IMAGE_UNREAD)
         return say_none(words, STATUS_FILE);
-    session.file = bytes;
-    refusal = dfu_host_file(bytes, session.file_length, &file);
     if (refusal < 0)
         return say_refused(words, refusal);
-    session.payload_length = (size_t)file.payload;
+    session.file_length = image.length;
+    session.payload_length = image.payload;
     if (!words->has_ids && words->path == NULL && words->serial == NULL) {
-        wanted->has_ids = true;
-        wanted->vendor = file.vendor;
-        wanted->product = file.product;
+        wanted->has_ids = wanted->is_of_file = true;
+        wanted->vendor = image.vendor;
+        wanted->product = image.product;
     }
     return STATUS_DONE;
 }
@@ -98,7 +99,23 @@ static int begin_work(const struct words *words)
 
 static int print_verdict(const struct words *words, const struct verdict *verdict)
 {
-    return record_print(&session, verdict, words->json) ? verdict->status : STATUS_FILE;
+    bool is_out = record_print(&session, verdict, words->json);
+    if (verdict->code != 0 && !words->json && !words->quiet)
+        fprintf(stderr, "dfu-flash: %s: %s\n", code_name(verdict->code), code_words(verdict->code));
+    return is_out ? verdict->status : STATUS_FILE;
+}
+
+/* Makes the file of an upload. */
+static bool make_file(const struct words *words)
+{
+    if (!file_make(words->file, words->force, session.kept, (size_t)session.host.kept))
+        return false;
+    session.made = words->file;
+    if (!words->quiet) {
+        say_text(stderr, "dfu-flash: ", words->file, "");
+        fprintf(stderr, " has its %llu bytes\n", (unsigned long long)session.host.kept);
+    }
+    return true;
 }
 
 static int run_session(const struct words *words)
@@ -107,15 +124,14 @@ static int run_session(const struct words *words)
     int status = begin_work(words);
     if (status != STATUS_DONE)
         return status;
-    progress_begin(&session.progress, words->quiet, words->verbose, session.payload_length);
+    progress_begin(&session.progress, progress_style(words->quiet, words->verbose), session.payload_length);
     session_run(&session);
     stop_no_more();
     progress_end(&session.progress);
     if (session.end == END_REFUSED)
         return say_refused(words, session.refusal);
     verdict = verdict_of(&session);
-    if (session.goal == GOAL_UPLOAD && verdict.status == STATUS_DONE
-        && !file_make(words->file, words->force, session.kept, (size_t)session.host.kept))
+    if (session.goal == GOAL_UPLOAD && verdict.status == STATUS_DONE && !make_file(words))
         return say_none(words, STATUS_FILE);
     return print_verdict(words, &verdict);
 }
@@ -167,7 +183,7 @@ static int flash(const struct words *words, struct wanted *wanted)
 
 static int over_usb(const struct words *words)
 {
-    struct wanted wanted = {words->has_ids, words->vendor, words->product, words->path, words->serial,
+    struct wanted wanted = {words->has_ids, false, words->vendor, words->product, words->path, words->serial,
                             {words->interface, words->alternate, words->setting}, words->has_dfu_ids, words->dfu_vendor,
                             words->dfu_product};
     int error = libusb_init(&device.usb);

@@ -1,49 +1,61 @@
 /* SPDX-License-Identifier: MIT OR Apache-2.0 */
-/* How far a session is, on standard error: on a terminal a bar with bytes and rate, elsewhere a line each ten percent. An upload
-   has no length before it ends, so it has bytes only, and elsewhere a line for each 65,536 of them. */
+/* How far a session is: a bar, or a line each ten percent. An upload has no length before it ends, so it has a line for each 65,536
+   bytes. */
 #define _POSIX_C_SOURCE 200809L
 #include "progress.h"
+#include "bar.h"
 #include "clock.h"
 
 #include <inttypes.h>
 #include <stdio.h>
+#include <string.h>
 #include <unistd.h>
 
-#define BAR 30
 #define SHOW_MS 100 /* a bar is drawn so often at most */
 #define LINE_BYTES 65536
 #define LONG_MS 10000   /* a wait of more than this is said */
+#define BAR_MOST 30     /* characters of a bar, */
+#define ROW_BAR_MOST 10 /* and of one that stands behind other words */
 
 static const char *const names[] = {"", "downloading", "comparing", "uploading"};
 
-void progress_begin(struct progress *progress, bool is_quiet, bool is_lines, uint64_t total)
+enum progress_style progress_style(bool is_quiet, bool is_lines)
 {
-    bool is_terminal = !is_lines && isatty(STDERR_FILENO) == 1;
-    *progress = (struct progress){.is_quiet = is_quiet, .is_terminal = is_terminal, .total = total};
+    return is_quiet ? PROGRESS_QUIET : !is_lines && isatty(STDERR_FILENO) == 1 ? PROGRESS_BAR : PROGRESS_LINES;
+}
+
+void progress_begin(struct progress *progress, enum progress_style style, uint64_t total)
+{
+    *progress = (struct progress){.style = style, .total = total};
+}
+
+/* What stood there before may have been longer. */
+static void show_bar(struct progress *progress, const char *line)
+{
+    int length = (int)strlen(line);
+    fprintf(stderr, "\r%s%*s", line, progress->shown > length ? progress->shown - length : 0, "");
+    fflush(stderr);
+    progress->shown = length;
+    progress->is_open = true;
 }
 
 static void draw(struct progress *progress, uint64_t bytes)
 {
+    char line[BAR_ROOM];
     int64_t now = clock_ms();
-    int64_t passed = now - progress->began_ms;
-    char bar[BAR + 1];
+    bool is_row = progress->style == PROGRESS_ROWS;
     bool is_last = progress->total > 0 && bytes == progress->total;
-    if (!is_last && progress->is_open && now - progress->shown_ms < SHOW_MS)
+    if (!is_last && progress->shown_ms != 0 && now - progress->shown_ms < SHOW_MS)
         return;
     progress->shown_ms = now;
-    progress->is_open = true;
-    fprintf(stderr, "\r%-11s ", names[progress->part]);
-    if (progress->total > 0) {
-        for (int at = 0; at < BAR; at++)
-            bar[at] = (uint64_t)at * progress->total < bytes * BAR ? '=' : ' ';
-        bar[BAR] = '\0';
-        fprintf(stderr, "[%s] %3" PRIu64 "%% ", bar, 100 * bytes / progress->total);
+    bar_line(line, names[progress->part], bytes, progress->total, now - progress->began_ms, is_row ? ROW_BAR_MOST : BAR_MOST,
+             is_row ? BAR_ROOM : bar_columns());
+    if (!is_row) {
+        show_bar(progress, line);
+        return;
     }
-    fprintf(stderr, "%" PRIu64 " bytes", bytes);
-    if (passed > 0)
-        fprintf(stderr, ", %.1f kB/s", (double)bytes / (double)passed);
-    fputs("   ", stderr);
-    fflush(stderr);
+    printf("\t%s\n", line);
+    fflush(stdout);
 }
 
 static void tell(struct progress *progress, uint64_t bytes)
@@ -59,29 +71,34 @@ static void tell(struct progress *progress, uint64_t bytes)
         fprintf(stderr, "%s: %" PRIu64 " bytes\n", names[progress->part], bytes);
 }
 
+static void begin_part(struct progress *progress, enum progress_part part)
+{
+    progress_end(progress);
+    progress->part = part;
+    progress->began_ms = clock_ms();
+    progress->shown_ms = 0;
+    progress->told = 0;
+}
+
 void progress_at(struct progress *progress, enum progress_part part, uint64_t bytes)
 {
-    if (progress->is_quiet)
+    if (progress->style == PROGRESS_QUIET)
         return;
-    if (part != progress->part) {
-        progress_end(progress);
-        progress->part = part;
-        progress->began_ms = clock_ms();
-        progress->told = 0;
-    }
+    if (part != progress->part)
+        begin_part(progress, part);
     /* After a restart it begins anew, and may be printed again. */
     if (progress->total > 0 && bytes > progress->total)
         bytes = progress->total;
-    if (progress->is_terminal)
-        draw(progress, bytes);
-    else
+    if (progress->style == PROGRESS_LINES)
         tell(progress, bytes);
+    else
+        draw(progress, bytes);
 }
 
 void progress_wait(struct progress *progress, uint32_t ms)
 {
     uint32_t seconds = ms / 1000;
-    if (progress->is_quiet || ms <= LONG_MS || ms <= progress->said_ms)
+    if (progress->style == PROGRESS_QUIET || ms <= LONG_MS || ms <= progress->said_ms)
         return;
     progress_end(progress);
     progress->said_ms = ms;
@@ -98,4 +115,5 @@ void progress_end(struct progress *progress)
     if (progress->is_open)
         fputc('\n', stderr);
     progress->is_open = false;
+    progress->shown = 0;
 }

@@ -1,5 +1,5 @@
 /* SPDX-License-Identifier: MIT OR Apache-2.0 */
-/* How far a session is, on standard error. */
+/* How far a session is. */
 #ifndef DFU_FLASH_PROGRESS_H
 #define DFU_FLASH_PROGRESS_H
 
@@ -8,18 +8,25 @@
 
 enum progress_part { PROGRESS_NONE, PROGRESS_SENDING, PROGRESS_COMPARING, PROGRESS_FETCHING };
 
+/* How it is shown: not at all; by lines on standard error; by a bar there, which is a terminal; or, for a program that shows many
+   sessions, by lines on standard output that begin with a tab and have a bar in them. */
+enum progress_style { PROGRESS_QUIET, PROGRESS_LINES, PROGRESS_BAR, PROGRESS_ROWS };
+
 struct progress {
-    bool is_quiet, is_terminal;
+    enum progress_style style;
     uint64_t total;             /* bytes of the payload; of an upload nobody knows them, and this is 0 */
     enum progress_part part;    /* what goes on, and since when */
     int64_t began_ms, shown_ms;
     uint64_t told;              /* tenths that were printed; of an upload the bytes after which the next line comes */
-    bool is_open;               /* a bar is on the terminal's line */
+    bool is_open;               /* a bar is on the terminal's line, */
+    int shown;                  /* of so many characters */
     uint32_t said_ms;           /* the longest wait that was said */
 };
 
-/* With `is_lines` there is no bar, as where other lines are on the terminal. */
-void progress_begin(struct progress *progress, bool is_quiet, bool is_lines, uint64_t total);
+/* A bar where standard error is a terminal, unless `is_lines`, as where other lines are on it. */
+enum progress_style progress_style(bool is_quiet, bool is_lines);
+
+void progress_begin(struct progress *progress, enum progress_style style, uint64_t total);
 
 /* So many bytes of this part are done. */
 void progress_at(struct progress *progress, enum progress_part part, uint64_t bytes);

@@ -1,5 +1,6 @@
 /* SPDX-License-Identifier: MIT OR Apache-2.0 */
-/* Reads the DFU file. */
+/* Reads the file of a download. */
+#define _POSIX_C_SOURCE 200809L
 #include "files.h"
 #include "say.h"
 
@@ -7,26 +8,37 @@
 #include <stdio.h>
 #include <stdlib.h>
 #include <string.h>
+#include <unistd.h>
 
 #define MOST 16777216 /* bytes of a DFU file; with one more it is refused as TooLarge */
 
+/* A file that is called - is ./- */
+static FILE *open_file(const char *name)
+{
+    if (strcmp(name, "-") != 0)
+        return fopen(name, "rb");
+    if (isatty(STDIN_FILENO) == 1)
+        fputs("dfu-flash: the image is read from this terminal; Ctrl-D ends it\n", stderr);
+    return stdin;
+}
+
 bool file_read(const char *name, uint8_t **bytes, size_t *length)
 {
-    FILE *file = fopen(name, "rb");
+    FILE *file = open_file(name);
     bool is_read = false;
-    *bytes = file == NULL ? NULL : malloc(MOST + 1);
+    *bytes = file == NULL ? NULL : malloc(MOST + 1 + FILE_SPARE);
     if (*bytes != NULL) {
         *length = fread(*bytes, 1, MOST + 1, file);
         is_read = !ferror(file);
     }
     if (!is_read) {
         int error = errno;
-        say_text(stderr, "dfu-flash: ", name, " can't be read: ");
+        say_text(stderr, "dfu-flash: ", file == stdin ? "standard input" : name, " can't be read: ");
         fprintf(stderr, "%s\n", strerror(error));
         free(*bytes);
         *bytes = NULL;
     }
-    if (file != NULL)
+    if (file != NULL && file != stdin)
         fclose(file);
     return is_read;
 }

@@ -39,8 +39,12 @@ static void print_record(const struct session *session, const struct verdict *ve
     if (verdict->code != 0)
         json_text("code", code_name(verdict->code));
     json_text("words", verdict->words);
+    if (verdict->code != 0)
+        json_text("meaning", code_words(verdict->code));
     print_device(session);
     json_number("bytes", session->goal == GOAL_UPLOAD ? session->host.kept : session->payload_length);
+    if (session->made != NULL)
+        json_text("file", session->made);
     json_number("actions", session->taken);
     json_number("transfers", session->wire.transfers);
     json_number("restarts", session->restarted);

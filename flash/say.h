@@ -17,6 +17,9 @@ void say_text(FILE *out, const char *before, const char *text, const char *behin
 /* Why a device isn't opened, or its interface isn't claimed, by `access`; and what helps. The status that this is. */
 int say_no_access(const struct found *found);
 
+/* Why no device is the one that is wanted, and what is there. The status that this is. */
+int say_missing(libusb_context *usb, const struct wanted *wanted);
+
 /* The name of a refusal of the host, and what it means in words. */
 const char *refusal_name(int32_t refusal);
 const char *refusal_words(int32_t refusal);

@@ -33,7 +33,8 @@ struct session {
     size_t file_length;           /* the file with its suffix, */
     size_t payload_length;        /* and how many of its bytes, from the first on, are the payload; 0 of an upload */
     uint8_t *kept;                /* of an upload: what came, */
-    size_t room;                  /* and how much may come before it grows */
+    size_t room;                  /* and how much may come before it grows; */
+    const char *made;             /* and the file that was made of it, or NULL */
     struct dfu_ids ids;           /* for which the file has to be: those of the device as it was found first, or those asked for */
     struct found first[2];        /* the device as it was found first in run-time mode, and in DFU mode, */
     bool has_first[2];            /* where it was */

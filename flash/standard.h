@@ -70,6 +70,9 @@ const char *request_name(uint8_t request);
 const char *state_name(uint8_t state);
 const char *code_name(uint32_t code);
 
+/* What a code means, in words. */
+const char *code_words(uint32_t code);
+
 /* The number of two bytes, low byte first. */
 static inline uint16_t two_bytes(const uint8_t *bytes)
 {

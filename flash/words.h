@@ -32,6 +32,9 @@ struct words {
 /* Reads the words into `words`. False where they aren't understood, which is then said on standard error. */
 bool words_read(struct words *words, int count, char **texts);
 
+/* Says what isn't understood, and the word that it is about, which may be empty. Always false. */
+bool words_refuse(const char *what, const char *word);
+
 /* Print the help, and the version, on standard output. */
 void words_help(void);
 void words_version(void);

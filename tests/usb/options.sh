@@ -58,6 +58,7 @@ row 0 - '{"vendor":"1209","product":"0001","release":"0100","path":"1-2","serial
 expect 'a record each' test "$(wc -l < out)" -eq 2
 row 0 - '' USB_DEVICES=0 --list --json
 expect 'no device: no record' test ! -s out
+says 'no device with DFU is there'
 row 0 old '{"status":0,"report":"dry-run","words":"nothing was sent","goal":"verified","vendor":"1209",' '' --json --dry-run new.dfu
 expect 'a dry run: nothing is sent' is_silent
 row 0 old '{"status":0,"report":"dry-run","words":"bring it to DFU mode, and ' 'USB_START=app USB_DESCRIPTOR=0' --json --dry-run new.dfu

@@ -1,0 +1,84 @@
+/* SPDX-License-Identifier: MIT OR Apache-2.0 */
+/* Reads the file of a download. The suffix that a raw image gets here (USB DFU 1.1, appendix B) is read by the host like any other, so a
+   mistake in it is a refusal and no other image. */
+#include "image.h"
+#include "files.h"
+#include "say.h"
+#include "standard.h"
+
+#include <dfu_host.h>
+#include <stdio.h>
+#include <string.h>
+
+#define SUFFIX_BYTES 16
+
+_Static_assert(SUFFIX_BYTES <= FILE_SPARE, "the room after a file has place for a suffix");
+
+/* dwCRC of these bytes, four bits at a time. */
+static uint32_t crc_of(const uint8_t *bytes, size_t length)
+{
+    static const uint32_t rows[16] = {
+        0x00000000, 0x1db71064, 0x3b6e20c8, 0x26d930ac, 0x76dc4190, 0x6b6b51f4, 0x4db26158, 0x5005713c,
+        0xedb88320, 0xf00f9344, 0xd6d6a3e8, 0xcb61b38c, 0x9b64c2b0, 0x86d3d2d4, 0xa00ae278, 0xbdbdf21c,
+    };
+    uint32_t crc = 0xffffffff;
+    for (size_t at = 0; at < length; at++) {
+        crc ^= bytes[at];
+        crc = crc >> 4 ^ rows[crc & 15];
+        crc = crc >> 4 ^ rows[crc & 15];
+    }
+    return crc;
+}
+
+/* For any release of the device. */
+static void add_suffix(struct image *image, uint16_t vendor, uint16_t product)
+{
+    const uint8_t suffix[SUFFIX_BYTES - 4] = {
+        0xff, 0xff, (uint8_t)(product & 0xff), (uint8_t)(product >> 8), (uint8_t)(vendor & 0xff), (uint8_t)(vendor >> 8),
+        0x00, 0x01, 'U', 'F', 'D', SUFFIX_BYTES,
+    };
+    uint32_t crc;
+    memcpy(image->bytes + image->length, suffix, sizeof suffix);
+    image->length += sizeof suffix;
+    crc = crc_of(image->bytes, image->length);
+    for (int at = 0; at < 4; at++)
+        image->bytes[image->length++] = (uint8_t)(crc >> 8 * at & 0xff);
+}
+
+/* Whether it may be sent as it is: --device has to say for which device it is, since nothing else does. */
+static bool is_raw(const struct words *words, int32_t refusal)
+{
+    if (refusal != DFU_FILE_NO_SIGNATURE && refusal != DFU_FILE_TOO_SHORT)
+        return false;
+    if (words->has_ids && words->vendor != ANY_ID && words->product != ANY_ID)
+        return true;
+    fputs("dfu-flash: an image without a suffix is taken with --device VID:PID, both not ffff\n", stderr);
+    return false;
+}
+
+static int32_t look(struct image *image)
+{
+    struct dfu_file file;
+    int32_t refusal = dfu_host_file(image->bytes, image->length, &file);
+    if (refusal < 0)
+        return refusal;
+    image->payload = (size_t)file.payload;
+    image->vendor = file.vendor;
+    image->product = file.product;
+    return 0;
+}
+
+int32_t image_read(struct image *image, const struct words *words)
+{
+    int32_t refusal;
+    if (!file_read(words->file, &image->bytes, &image->length))
+        return IMAGE_UNREAD;
+    refusal = look(image);
+    if (refusal == 0 || !is_raw(words, refusal))
+        return refusal;
+    if (!words->quiet)
+        fprintf(stderr, "dfu-flash: there is no suffix: all %zu bytes are sent, to %04x:%04x\n", image->length, words->vendor,
+                words->product);
+    add_suffix(image, words->vendor, words->product);
+    return look(image);
+}

@@ -1,0 +1,107 @@
+/* SPDX-License-Identifier: MIT OR Apache-2.0 */
+/* Why no device is the one that is wanted: what is asked for is looked at word by word, and the first that none of those left has is
+   named. */
+#include "say.h"
+#include "standard.h"
+#include "status.h"
+
+#include <stdio.h>
+
+/* What is asked for, one after the other. */
+enum criterion { IDENTIFIERS, PATH, SERIAL, INTERFACE, SETTING, CRITERIA };
+
+/* What is wanted up to this criterion, and nothing of those after it. */
+static struct wanted up_to(const struct wanted *wanted, enum criterion last)
+{
+    struct wanted part = *wanted;
+    part.path = last >= PATH ? part.path : NULL;
+    part.serial = last >= SERIAL ? part.serial : NULL;
+    part.place.interface = last >= INTERFACE ? part.place.interface : -1;
+    if (last < SETTING) {
+        part.place.alternate = -1;
+        part.place.name = NULL;
+    }
+    return part;
+}
+
+/* Puts those that fit to the front of the list. How many they are. */
+static int take_fitting(const struct wanted *wanted, struct found *list, int count)
+{
+    int fitting = 0;
+    for (int at = 0; at < count; at++) {
+        struct found one = list[at];
+        if (!is_wanted(wanted, &one))
+            continue;
+        list[at] = list[fitting];
+        list[fitting++] = one;
+    }
+    return fitting;
+}
+
+static void say_criterion(const struct wanted *wanted, enum criterion failed)
+{
+    switch (failed) {
+    case IDENTIFIERS:
+        fprintf(stderr, "%s vendor %04x, product %04x%s (ffff is any), and none has them",
+                wanted->is_of_file ? "the file is for" : "--device names", wanted->vendor, wanted->product,
+                wanted->has_dfu_ids ? " and others for DFU mode" : "");
+        break;
+    case PATH: say_text(stderr, "none of these is at --path ", wanted->path, ""); break;
+    case SERIAL: say_text(stderr, "none of these has --serial ", wanted->serial, ""); break;
+    case INTERFACE: fprintf(stderr, "none of these has --interface %d", wanted->place.interface); break;
+    default:
+        if (wanted->place.name == NULL)
+            fprintf(stderr, "none of these has --alt %d", wanted->place.alternate);
+        else
+            say_text(stderr, "none of these has --alt ", wanted->place.name, "");
+    }
+}
+
+static void say_list(const struct found *list, int count)
+{
+    for (int at = 0; at < count; at++)
+        say_found(stderr, &list[at]);
+}
+
+/* In DFU mode a device may have other identifiers than those that a file is for. */
+static void say_modes(const struct wanted *wanted, const struct found *list, int count)
+{
+    bool is_upgrade = false;
+    for (int at = 0; at < count; at++)
+        is_upgrade = is_upgrade || list[at].is_upgrade;
+    if (!wanted->has_dfu_ids && is_upgrade)
+        fputs("dfu-flash: in DFU mode a device may have another product: see --device RUN,DFU\n", stderr);
+}
+
+int say_missing(libusb_context *usb, const struct wanted *wanted)
+{
+    const struct wanted any = {.place = ANYWHERE};
+    struct found list[FOUND_ROOM];
+    int count = find_all(usb, &any, list, FOUND_ROOM), left = count;
+    enum criterion failed = IDENTIFIERS;
+    if (count <= 0) {
+        fprintf(stderr, "dfu-flash: no device with DFU is there\n");
+        return STATUS_NO_DEVICE;
+    }
+    for (; failed < CRITERIA; failed++) {
+        struct wanted part = up_to(wanted, failed);
+        int fitting = take_fitting(&part, list, left);
+        if (fitting == 0)
+            break;
+        left = fitting;
+    }
+    fputs("dfu-flash: no device is the one that is asked for: ", stderr);
+    if (failed == CRITERIA) /* it came just now */
+        fputs("none was there in time", stderr);
+    else
+        say_criterion(wanted, failed);
+    fputs("; there is:\n", stderr);
+    say_list(list, left);
+    if (left < count)
+        fputs("and, which is not meant:\n", stderr);
+    say_list(list + left, count - left);
+    if (failed == IDENTIFIERS)
+        say_modes(wanted, list, count);
+    found_drop(list, count);
+    return STATUS_NO_DEVICE;
+}

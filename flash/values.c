@@ -1,0 +1,139 @@
+/* SPDX-License-Identifier: MIT OR Apache-2.0 */
+/* What the value of each option may be. */
+#include "values.h"
+
+#include <ctype.h>
+#include <errno.h>
+#include <stdlib.h>
+#include <string.h>
+
+#define MOST_SECONDS 1000000 /* some eleven days */
+#define MOST_TRANSFER 4096   /* bytes of a block: what Linux carries */
+#define DIGITS "0123456789"
+
+/* A decimal number up to `most`, with no sign and no other character. */
+static bool is_number(const char *text, unsigned long most, unsigned long *number)
+{
+    char *end;
+    if (text == NULL || !isdigit((unsigned char)text[0]))
+        return false;
+    errno = 0;
+    *number = strtoul(text, &end, 10);
+    return errno == 0 && *end == '\0' && *number <= most;
+}
+
+/* Four hexadecimal digits, at the front of `text`. */
+static bool is_identifier(const char *text, uint16_t *identifier)
+{
+    char digits[5] = {0};
+    for (int at = 0; at < 4; at++)
+        if (!isxdigit((unsigned char)text[at]))
+            return false;
+    memcpy(digits, text, 4);
+    *identifier = (uint16_t)strtoul(digits, NULL, 16);
+    return true;
+}
+
+/* VID:PID, four hexadecimal digits each, at the front of `text`. */
+static bool is_pair(const char *text, uint16_t *vendor, uint16_t *product)
+{
+    return is_identifier(text, vendor) && text[4] == ':' && is_identifier(text + 5, product);
+}
+
+/* One pair; or two with a comma between them, of run-time mode and of DFU mode. */
+bool value_device(const char *text, struct words *words)
+{
+    bool is_first = is_pair(text, &words->vendor, &words->product);
+    words->has_ids = true;
+    if (is_first && text[9] == '\0')
+        return true;
+    words->has_dfu_ids = is_first && text[9] == ',' && is_pair(text + 10, &words->dfu_vendor, &words->dfu_product) && text[19] == '\0';
+    return words->has_dfu_ids || words_refuse("--device takes VID:PID or VID:PID,VID:PID, four hexadecimal digits each", text);
+}
+
+bool value_path(const char *text, struct words *words)
+{
+    words->path = text;
+    return *text != '\0' || words_refuse("--path takes a path, as --list shows it", "");
+}
+
+bool value_serial(const char *text, struct words *words)
+{
+    words->serial = text;
+    return *text != '\0' || words_refuse("--serial takes a serial number, as --list shows it", "");
+}
+
+bool value_interface(const char *text, struct words *words)
+{
+    unsigned long number;
+    if (!is_number(text, 255, &number))
+        return words_refuse("--interface takes a number from 0 to 255, as --list shows it", text);
+    words->interface = (int)number;
+    return true;
+}
+
+/* The number of an alternate setting, or its name: only digits are a number. */
+bool value_setting(const char *text, struct words *words)
+{
+    unsigned long number;
+    bool is_digits = text[strspn(text, DIGITS)] == '\0';
+    if (is_digits && !is_number(text, 255, &number))
+        return words_refuse("--alt takes a number from 0 to 255, or a name, as --list shows them", text);
+    words->alternate = is_digits ? (int)number : -1;
+    words->setting = is_digits ? NULL : text;
+    return true;
+}
+
+bool value_limits(const char *first, const char *second, struct words *words)
+{
+    unsigned long actions, restarts;
+    if (!is_number(first, UINT32_MAX, &actions) || !is_number(second, UINT16_MAX, &restarts))
+        return words_refuse("--limits takes two numbers, ACTIONS and RESTARTS", "");
+    words->actions = (uint32_t)actions;
+    words->restarts = (uint16_t)restarts;
+    words->has_limits = true;
+    return true;
+}
+
+/* From 1 up to `most`, for the option of that name. */
+static bool is_count(const char *what, const char *text, unsigned long most, uint32_t *count)
+{
+    unsigned long number;
+    if (!is_number(text, most, &number) || number == 0)
+        return words_refuse(what, text);
+    *count = (uint32_t)number;
+    return true;
+}
+
+bool value_timeout(const char *text, struct words *words)
+{
+    return is_count("--timeout takes seconds, from 1 to 1000000", text, MOST_SECONDS, &words->timeout);
+}
+
+bool value_wait(const char *text, struct words *words)
+{
+    words->wait = true;
+    words->patience = 0;
+    return text == NULL || is_count("--wait takes seconds, as --wait=30, from 1 to 1000000", text, MOST_SECONDS, &words->patience);
+}
+
+bool value_is_seconds(const char *word)
+{
+    return word != NULL && *word != '\0' && word[strspn(word, DIGITS)] == '\0';
+}
+
+/* The word after --verbose is none of it. */
+bool value_verbose(const char *text, struct words *words)
+{
+    words->verbose = words->verbose || text == NULL;
+    words->log = text != NULL ? text : words->log;
+    return text == NULL || *text != '\0' || words_refuse("--verbose takes the name of a file, as --verbose=FILE", "");
+}
+
+bool value_transfer(const char *text, struct words *words)
+{
+    uint32_t bytes = 0;
+    bool is = is_count("--transfer-size takes bytes, from 1 to 4096", text, MOST_TRANSFER, &bytes);
+    words->transfer = (uint16_t)bytes;
+    return is;
+}

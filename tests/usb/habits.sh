@@ -1,0 +1,148 @@
+# Rows of tests/flash: what people try: dfu-util's short options, raw images, standard input, and words that choose no device.
+
+# dfu-util's options that mean the same.
+row 0 new 'verified: ' '' -D new.dfu
+row 0 new 'verified: ' USB_DEVICES=2 -S F1 -D new.dfu
+row 0 new 'verified: ' USB_DEVICES=2 -p 1-1 -Dnew.dfu -R
+row 0 new 'verified: ' USB_ALTERNATES=3 -d 1209:0001 -i 0 -a 1 -t 8 new.dfu
+row 0 new 'verified: ' 'USB_ALTERNATES=3 USB_SETTING=1' -a kernel -D new.dfu
+row 0 new 'verified: ' 'USB_START=app USB_AWAY=4 USB_DFU_IDS=1209:00ff:0100' -d 1209:0001,1209:00ff -D new.dfu
+row 0 new 'verified: ' USB_ABSENT=3 -w -D new.dfu
+row 0 old 'uploaded: ' '' -t 5 -R -U habit
+expect 'an upload' cmp old habit
+row 0 old 'detached: ' USB_START=app -e
+row 0 - '1209:0001 path 1-1 serial F1' '' -l
+for words in '-D new.dfu new.dfu' '-D new.dfu -D new.dfu' '-D new.dfu -U never' '-U never -D new.dfu' '-l -D new.dfu' '-D new.dfu -l' \
+    '-e -D new.dfu' '-D new.dfu -e' '-D' '-d 0x1209:0001 -D new.dfu' '-t 4097 -D new.dfu' '-x new.dfu'; do
+    # shellcheck disable=SC2086
+    row 2 - '' '' $words
+done
+expect 'no upload' test ! -e never
+# answer TEXT WORDS..: what isn't taken, and what is there in its place.
+answer() {
+    text=$1
+    shift
+    row 2 - '' '' "$@"
+    says "$text"
+}
+answer '-Z of dfu-util isn'\''t needed' -Z 26 -U never
+answer '--path PATH' -n 5 -D new.dfu
+answer '-c of dfu-util' -c 1 -D new.dfu
+answer '--wait=SECONDS' -E 5 -D new.dfu
+answer '--verbose' -v -D new.dfu
+answer 'DfuSe' -s 0x08000000:leave -D new.dfu
+answer '--serial' -S F1,F2 -D new.dfu
+answer 'decimal' -a 010 -D new.dfu
+answer 'decimal' -a 0x1 -D new.dfu
+
+# A raw image is taken with --device, which names vendor and product; it is sent whole, and standard error says so.
+row 0 new 'verified: ' '' --device 1209:0001 new
+says 'dfu-flash: there is no suffix: all 26 bytes are sent, to 1209:0001'
+row 0 new 'verified: ' '' -d 1209:0001 --quiet -D new
+expect 'quiet' test ! -s err
+row 0 new 'verified: ' 'USB_START=app USB_AWAY=4 USB_DFU_IDS=1209:00ff:0100' --device 1209:0001,1209:00ff new
+row 0 new 'verified: ' USB_DFU_IDS=1209:00ff:0100 --device 1209:0001,1209:00ff new
+printf short > short
+row 0 short 'verified: ' '' --device 1209:0001 short
+for words in new '--device ffff:0001 new' '--device 1209:ffff new' '--path 1-1 new'; do
+    # shellcheck disable=SC2086
+    row 1 old 'NoSignature: ' '' $words
+    says 'with --device VID:PID, both not ffff'
+    expect 'a raw image: nothing is sent' is_silent
+done
+row 4 old '' '' --device 1209:0002 new
+row 1 old 'EmptyPayload: ' '' --device 1209:0001 empty
+# What has a suffix is no raw image: a damaged one isn't sent, nor one for another device.
+{ printf x; cat new.dfu; } > damaged.dfu
+row 1 old 'BadCrc: ' '' --device 1209:0001 damaged.dfu
+row 1 old 'WrongTarget: ' '' --device 1209:0001 other.dfu
+head -c 16777201 /dev/zero > large
+row 1 old 'TooLarge: ' '' --device 1209:0001 large
+row 0 old 'dry-run: ' '' --device 1209:0001 --dry-run new
+# The suffix that it gets is that of `dfu add`, for many sizes: the host refuses one with another check sum.
+for size in 1 15 16 17 255 1000 65537; do
+    random "$size" > sized
+    row 0 old "dry-run: download and compare $size bytes" '' --device 1209:0001 --dry-run sized
+done
+
+# Standard input.
+row 0 new 'verified: ' '' - < new.dfu
+row 0 new 'verified: ' '' -D - < new.dfu
+row 0 new 'verified: ' '' --device 1209:0001 - < new
+row 1 old 'TooShort: ' '' - < /dev/null
+row 3 old '' '' - < .
+says 'standard input can'\''t be read'
+cp new.dfu ./-
+row 0 new 'verified: ' '' ./- < /dev/null
+rm -f ./-
+
+# The seconds of --wait may be a word of their own.
+row 0 new 'verified: ' USB_ABSENT=3 --wait 30 new.dfu
+says 'waiting for the device for up to 30 s'
+row 0 new 'verified: ' USB_ABSENT=3 new.dfu --wait 30
+row 0 new 'verified: ' USB_ABSENT=3 -w 30 -D new.dfu
+row 4 old '' USB_ABSENT=100000 --wait 1 new.dfu
+cp new.dfu 5
+row 0 new 'verified: ' USB_ABSENT=3 --wait ./5
+row 0 new 'verified: ' '' 5
+row 2 - '' '' --wait 5
+says 'a number behind --wait is its seconds'
+row 2 - '' '' --wait 0 new.dfu
+
+# Where no device is the one that is asked for, what none has is named, and what is there.
+# lacks TEXT SETTINGS WORDS..
+lacks() {
+    text=$1
+    shift
+    row 4 old '' "$@"
+    says "no device is the one that is asked for: $text"
+    expect "$*: nothing is sent" is_untouched
+}
+lacks 'the file is for vendor 1209, product 0002 (ffff is any), and none has them; there is:' '' other.dfu
+says 'see --device RUN,DFU'
+lacks '--device names vendor 1209, product 0003 (ffff is any), and none has them' '' --device 1209:0003 new.dfu
+lacks 'none of these is at --path 1-9' '' --path 1-9 new.dfu
+lacks 'none of these has --serial F2' '' --serial F2 new.dfu
+lacks 'none of these has --interface 3' '' --interface 3 new.dfu
+lacks 'none of these has --alt 1' '' --alt 1 new.dfu
+expect 'no other product is hinted at' test "$(grep -c 'RUN,DFU' err)" -eq 0
+says '1209:0001 path 1-1 serial F1 '
+lacks 'none of these has --alt kernel' '' --alt kernel new.dfu
+lacks 'none of these has --serial OTHER; there is:' USB_DEVICES=2 --path 1-1 --serial OTHER new.dfu
+serials=$(sed -n 's/.* serial \([^ ]*\) .*/\1/p; s/^and, .*/and/p' err | tr '\n' ' ')
+expect 'first what is left, then the rest' test "$serials" = 'F1 and OTHER '
+row 0 - '' USB_DEVICES=0 --list
+says 'no device with DFU is there'
+expect 'a list of nothing' test ! -s out
+row 0 - '' '' --list --serial F2
+says 'none of these has --serial F2'
+
+# A code of the device is explained, and in a record.
+row 6 old 'refused errADDRESS: the device refused it; ' USB_CAPACITY=13 new.dfu
+says 'dfu-flash: errADDRESS: an address out of range: as a rule the image is larger than the device has room for'
+row 6 old 'refused errNOTDONE: ' USB_LEAST=100 new.dfu
+says 'too small'
+row 6 old '{"status":6,"report":"refused","code":"errADDRESS",' USB_CAPACITY=13 --json --quiet new.dfu
+expect 'in a record' grep -q '"meaning":"an address out of range: ' out
+expect 'in a record: only there' test ! -s err
+
+# An upload names its file.
+row 0 old 'uploaded: ' '' --upload named
+says 'dfu-flash: named has its 13 bytes'
+row 0 old '{"status":0,"report":"uploaded",' '' --json --upload again
+expect 'in a record' grep -q '"file":"again"' out
+row 0 old 'uploaded: ' '' --quiet --upload quiet
+expect 'quiet' test ! -s err
+
+# The bar: as wide as the terminal, with the total and the time that is left.
+if command -v script > /dev/null; then
+    for columns in 100 80 50; do
+        env LD_LIBRARY_PATH="$work" USB_SLOW=5 script -qec "stty cols $columns rows 24; ./dfu-flash long.dfu > out" terminal \
+            > /dev/null 2>&1 < /dev/null || :
+        tr '\r' '\n' < terminal | grep '^[dc].*%' > bars
+        [ "$columns" -eq 50 ] || expect "$columns columns: what is left" grep -q ' of 800 bytes, .* kB/s, [0-9]* s left' bars
+        expect "$columns columns: the end" grep -q '100% 800 of 800 bytes, [0-9.]* kB/s *$' bars
+        longest=$(awk '{ sub(/ *$/, "") } length > most { most = length } END { print most + 0 }' bars)
+        expect "$columns columns: one line" test "$longest" -lt "$columns"
+    done
+fi
