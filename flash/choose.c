@@ -94,7 +94,7 @@ static int look(const struct device *device, const struct wanted *wanted, struct
         count = drop_unread(wanted, list, count);
         if (!patience->is_asked || is_settled(list, count, &seen_ms))
             return count;
-        if (patience->seconds > 0 && clock_ms() - began_ms >= (int64_t)patience->seconds * 1000)
+        if (*device->is_stop || (patience->seconds > 0 && clock_ms() - began_ms >= (int64_t)patience->seconds * 1000))
             return count;
         if (is_first)
             say_waiting(patience);

@@ -42,8 +42,8 @@ static bool has_ids(const struct found *found, uint16_t vendor, uint16_t product
     return (vendor == ANY_ID || vendor == found->vendor) && (product == ANY_ID || product == found->product);
 }
 
-/* What is known of a device before it is opened. Another one isn't touched: somebody may be at work with it. */
-static bool may_be(const struct wanted *wanted, const struct found *found)
+/* Another one isn't touched: somebody may be at work with it. */
+bool may_be(const struct wanted *wanted, const struct found *found)
 {
     bool is_named = !wanted->has_ids || has_ids(found, wanted->vendor, wanted->product)
         || (wanted->has_dfu_ids && has_ids(found, wanted->dfu_vendor, wanted->dfu_product));
@@ -104,7 +104,7 @@ static void add_setting(struct look *look, const struct found *base, libusb_devi
     look->list[look->count++] = found;
 }
 
-static bool has_dfu(const struct libusb_config_descriptor *configuration)
+bool has_dfu(const struct libusb_config_descriptor *configuration)
 {
     for (int at = 0; at < configuration->bNumInterfaces; at++) {
         const struct libusb_interface *interface = &configuration->interface[at];

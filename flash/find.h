@@ -50,6 +50,12 @@ struct wanted {
 /* Whether a setting is what is asked for: in run-time mode each does. */
 bool is_placed(const struct place *place, const struct found *found);
 
+/* Whether it may be what is wanted, by what is known before it is opened: its identifiers and its path. */
+bool may_be(const struct wanted *wanted, const struct found *found);
+
+/* Whether a configuration has an interface with DFU. */
+bool has_dfu(const struct libusb_config_descriptor *configuration);
+
 /* Whether what was found is wanted. */
 bool is_wanted(const struct wanted *wanted, const struct found *found);
 

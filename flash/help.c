@@ -9,6 +9,7 @@ void words_help(void)
     fputs("Brings a DFU file to a device over USB (DFU 1.1), or fetches the image that it has\n"
           "\n"
           "Usage: dfu-flash [OPTIONS] FILE, or - for standard input\n"
+          "       dfu-flash [OPTIONS] --all FILE\n"
           "       dfu-flash [OPTIONS] --upload OUT\n"
           "       dfu-flash [OPTIONS] --detach\n"
           "       dfu-flash --list\n"
@@ -40,6 +41,8 @@ void words_help(void)
           "  --quiet              Print no progress\n"
           "  --verbose            Print a line for each transfer, wait and reset; --verbose=<FILE> logs them\n"
           "  --json               Print one record in JSON at the end\n"
+          "  --all                Flash every device that the file is for, with --wait also those that come\n"
+          "  --log <FOLDER>       Make a log of each device of --all in this folder\n"
           "  --list               List the devices that are there\n"
           "  -h, --help           Print help\n"
           "  -V, --version        Print the version\n",

@@ -1,17 +1,64 @@
 /* SPDX-License-Identifier: MIT OR Apache-2.0 */
-/* The last line of standard output. */
+/* The last line of standard output, or that of one of several devices. */
 #include "record.h"
 #include "clock.h"
 #include "json.h"
 #include "standard.h"
 #include "status.h"
 
+#include <stddef.h>
 #include <stdio.h>
+
+/* Of several devices, the one that records are of; the path is NULL where there is one. */
+static struct {
+    const char *path;
+    const struct found *is;
+    const struct log *log;
+    int64_t began_ms;
+} each;
+
+void record_each(const char *path, const struct found *is, const struct log *log)
+{
+    each.path = path;
+    each.is = is;
+    each.log = log;
+    each.began_ms = clock_ms();
+}
+
+void record_since(int64_t ms)
+{
+    each.began_ms = ms;
+}
+
+static double each_seconds(void)
+{
+    return (double)(clock_ms() - each.began_ms) / 1000;
+}
 
 static void begin(int status, const char *report)
 {
     printf("{\"status\":%d", status);
     json_text("report", report);
+}
+
+static void end(void)
+{
+    if (each.path != NULL && each.log->name != NULL)
+        json_text("log", each.log->name);
+    if (each.path != NULL)
+        printf(",\"seconds\":%.3f", each_seconds());
+    puts("}");
+}
+
+/* What a line begins with that is no JSON. */
+static void begin_line(void)
+{
+    if (each.path == NULL)
+        return;
+    printf("%s ", each.path);
+    if (each.is->serial[0] != '\0')
+        say_text(stdout, "serial ", each.is->serial, " ");
+    printf("%.1f s ", each_seconds());
 }
 
 static void print_device(const struct session *session)
@@ -49,7 +96,65 @@ static void print_record(const struct session *session, const struct verdict *ve
     json_number("transfers", session->wire.transfers);
     json_number("restarts", session->restarted);
     json_number("milliseconds", (uint64_t)(clock_ms() - session->began_ms));
-    puts("}");
+    end();
+}
+
+bool record_print(const struct session *session, const struct verdict *verdict, bool is_json)
+{
+    if (is_json) {
+        print_record(session, verdict);
+        return record_out();
+    }
+    begin_line();
+    printf("%s%s%s: %s\n", verdict->name, verdict->code != 0 ? " " : "", verdict->code != 0 ? code_name(verdict->code) : "",
+           verdict->words);
+    return record_out();
+}
+
+static void print_short(int status, const char *name, const char *words)
+{
+    begin(status, name);
+    json_text("words", words);
+    if (each.path != NULL)
+        json_text("path", each.path);
+    if (each.path != NULL && each.is->serial[0] != '\0')
+        json_text("serial", each.is->serial);
+    end();
+}
+
+bool record_short(int status, const char *report, const char *words, bool is_json)
+{
+    if (is_json)
+        print_short(status, report, words);
+    else {
+        begin_line();
+        printf("%s: %s\n", report, words);
+    }
+    return record_out();
+}
+
+bool record_refused(int32_t refusal, bool is_json)
+{
+    return record_short(STATUS_REFUSED, refusal_name(refusal), refusal_words(refusal), is_json);
+}
+
+/* Why there is no session, by the status; any other one means that there is no device. */
+static const struct {
+    int status;
+    const char *name, *words;
+} nones[] = {
+    {STATUS_FILE, "file", "a file or a stream failed, or there was no memory"},
+    {STATUS_NO_ACCESS, "no-access", "the device may not be opened, or another program or a driver has it"},
+    {STATUS_SEVERAL, "several", "more than one device, interface or setting; choose by --device, --path, --serial, --interface or --alt"},
+    {STATUS_NO_DEVICE, "none", "there is no such device"},
+};
+
+bool record_none(int status, bool is_json)
+{
+    size_t at = 0;
+    while (at < sizeof nones / sizeof *nones - 1 && nones[at].status != status)
+        at++;
+    return (!is_json && each.path == NULL) || record_short(status, nones[at].name, nones[at].words, is_json);
 }
 
 bool record_out(void)
@@ -58,47 +163,4 @@ bool record_out(void)
         return true;
     fputs("dfu-flash: standard output failed\n", stderr);
     return false;
-}
-
-bool record_print(const struct session *session, const struct verdict *verdict, bool is_json)
-{
-    if (is_json)
-        print_record(session, verdict);
-    else if (verdict->code != 0)
-        printf("%s %s: %s\n", verdict->name, code_name(verdict->code), verdict->words);
-    else
-        printf("%s: %s\n", verdict->name, verdict->words);
-    return record_out();
-}
-
-static void print_short(int status, const char *name, const char *words)
-{
-    begin(status, name);
-    json_text("words", words);
-    puts("}");
-}
-
-bool record_refused(int32_t refusal, bool is_json)
-{
-    if (is_json)
-        print_short(STATUS_REFUSED, refusal_name(refusal), refusal_words(refusal));
-    else
-        printf("%s: %s\n", refusal_name(refusal), refusal_words(refusal));
-    return record_out();
-}
-
-bool record_none(int status, bool is_json)
-{
-    if (!is_json)
-        return true;
-    if (status == STATUS_FILE)
-        print_short(status, "file", "a file or a stream failed, or there was no memory");
-    else if (status == STATUS_NO_ACCESS)
-        print_short(status, "no-access", "the device may not be opened, or another program or a driver has it");
-    else if (status == STATUS_SEVERAL)
-        print_short(status, "several",
-                    "more than one device, interface or setting; choose by --device, --path, --serial, --interface or --alt");
-    else
-        print_short(status, "none", "there is no such device");
-    return record_out();
 }

@@ -8,11 +8,21 @@
 
 #include <stdbool.h>
 
+/* Of several devices: from here on each record has the path, the serial number, the log and the seconds since now, and what is no JSON
+   begins with them. */
+void record_each(const char *path, const struct found *is, const struct log *log);
+
+/* The seconds count from that moment (clock.h). */
+void record_since(int64_t ms);
+
 /* The front of a record in JSON: status, report, words, what the session is for, and the device. */
 void record_begin(const struct session *session, int status, const char *report, const char *words);
 
 /* The report's name and what it means, in one line; or, with `is_json`, one record. False where standard output failed. */
 bool record_print(const struct session *session, const struct verdict *verdict, bool is_json);
+
+/* The same where there is nothing more to tell than these. */
+bool record_short(int status, const char *report, const char *words, bool is_json);
 
 /* The same of a session that the host refused. */
 bool record_refused(int32_t refusal, bool is_json);

@@ -1,6 +1,6 @@
 /* SPDX-License-Identifier: MIT OR Apache-2.0 */
-/* Why a session does not begin: the host's refusals of dfu_host.h, with their names in docs/REFUSALS.md, and one of this
-   program's own. */
+/* Why a session does not begin: the host's refusals of dfu_host.h, with their names in docs/REFUSALS.md, and those of
+   this program's own. */
 #include "say.h"
 #include "session.h"
 
@@ -27,6 +27,7 @@ static const struct refusal refusals[] = {
     {DFU_LONG, "Long", "the device's functional descriptor is too long"},
     {DFU_WRONG_LENGTH, "WrongLength", "the device's functional descriptor has neither 9 nor 7 bytes"},
     {DFU_WRONG_TYPE, "WrongType", "the device's functional descriptor is of another type"},
+    {REFUSED_ANY, "ForAny", "the file is for any device, and --all takes one for a vendor and a product: see --device"},
     {REFUSED_DFUSE, "DfuSeDevice", "the device speaks DfuSe, which is another protocol"},
 };
 

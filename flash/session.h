@@ -60,8 +60,9 @@ struct session {
     int32_t refusal;              /* why not, where it is END_REFUSED */
 };
 
-/* The program's own refusal, beside the host's: the device speaks DfuSe. */
+/* The program's own refusals, beside the host's: the device speaks DfuSe; the file is for any device, and would go to all. */
 #define REFUSED_DFUSE (-101)
+#define REFUSED_ANY (-102)
 
 /* What it is for, in a word. */
 const char *goal_name(enum goal goal);

@@ -98,6 +98,18 @@ void stop_catch(uint32_t seconds)
     alarm(seconds);
 }
 
+void stop_anew(void)
+{
+    for (size_t at = 0; at < sizeof kinds / sizeof kinds[0]; at++)
+        came_ms[at] = 0;
+    for (int at = 0; at < 2; at++) {
+        if (wake[at] >= 0)
+            close(wake[at]);
+        wake[at] = -1;
+    }
+    stop_cause = STOP_NONE;
+}
+
 void stop_no_more(void)
 {
     if (is_timed)

@@ -11,7 +11,7 @@
 
 enum option_code {
     DEVICE = 256, PATH, SERIAL, INTERFACE, ALTERNATE, NO_VERIFY, UPLOAD, FORCE, DETACH, WAIT, TIMEOUT, LIMITS, TRANSFER_SIZE, DRY_RUN,
-    QUIET, VERBOSE, JSON, LIST, HELP, VERSION
+    QUIET, VERBOSE, JSON, LIST, ALL, LOG, HELP, VERSION
 };
 
 static const struct option options[] = {
@@ -24,6 +24,7 @@ static const struct option options[] = {
     {"transfer-size", required_argument, NULL, TRANSFER_SIZE},
     {"dry-run", no_argument, NULL, DRY_RUN},       {"quiet", no_argument, NULL, QUIET},
     {"verbose", optional_argument, NULL, VERBOSE}, {"json", no_argument, NULL, JSON},
+    {"all", no_argument, NULL, ALL},               {"log", required_argument, NULL, LOG},
     {"list", no_argument, NULL, LIST},             {"help", no_argument, NULL, HELP},
     {"version", no_argument, NULL, VERSION},       {NULL, 0, NULL, 0},
 };
@@ -90,12 +91,26 @@ static bool take_option(struct words *words, int code, int count, char **texts)
     case QUIET: words->quiet = true; return true;
     case VERBOSE: return value_verbose(optarg, words);
     case JSON: words->json = true; return true;
+    case ALL: words->all = true; return true;
+    case LOG: words->folder = optarg; return *optarg != '\0' || words_refuse("--log takes the name of a folder", "");
     case 'l': case LIST: return is_job(words, JOB_LIST);
     case 'R': return true; /* each session ends with a reset */
     case 'h': case HELP: words->job = JOB_HELP; return true;
     case 'V': case VERSION: words->job = JOB_VERSION; return true;
     default: fputs("See dfu-flash --help.\n", stderr); return false;
     }
+}
+
+/* Whether the options go with --all; each device is at work by itself, so that none is named. */
+static bool is_fit_for_all(const struct words *words)
+{
+    if (words->folder != NULL && !words->all)
+        return words_refuse("--log goes with --all alone; of one device --verbose=FILE makes a log", "");
+    if (!words->all)
+        return true;
+    if (words->job != JOB_DOWNLOAD || words->dry_run || words->path != NULL || words->serial != NULL)
+        return words_refuse("--all goes with a FILE, and with no --path, --serial or --dry-run", "");
+    return (!words->verbose && words->log == NULL) || words_refuse("--all makes logs by --log FOLDER, and not by --verbose", "");
 }
 
 /* Whether the options go with what is to be done. */
@@ -111,7 +126,7 @@ static bool is_fit(const struct words *words)
         return words_refuse("--list goes with what chooses devices, and with --json, alone", "");
     if (words->job == JOB_DETACH && has_session)
         return words_refuse("--detach goes with no --limits, --dry-run or --transfer-size", "");
-    return true;
+    return is_fit_for_all(words);
 }
 
 /* Whether the words go together. */

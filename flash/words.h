@@ -6,6 +6,8 @@
 #include <stdbool.h>
 #include <stdint.h>
 
+struct bay;
+
 enum job { JOB_DOWNLOAD, JOB_UPLOAD, JOB_DETACH, JOB_LIST, JOB_HELP, JOB_VERSION };
 
 struct words {
@@ -27,6 +29,9 @@ struct words {
     uint32_t timeout;                /* seconds of --timeout, 0 where it wasn't given */
     bool wait;                       /* --wait was given, */
     uint32_t patience;               /* and for so many seconds; 0 is for ever */
+    bool all;                        /* --all was given, */
+    const char *folder;              /* and --log; or NULL */
+    const struct bay *bay;           /* of one of several devices: where it is; else NULL */
 };
 
 /* Reads the words into `words`. False where they aren't understood, which is then said on standard error. */

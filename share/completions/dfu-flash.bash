@@ -24,6 +24,11 @@ _dfu_flash() {
         _dfu_flash_devices "${1:-dfu-flash}"
         return
         ;;
+    --log)
+        compopt -o filenames
+        COMPREPLY=($(compgen -d -- "$word"))
+        return
+        ;;
     --upload | -U | -D)
         compopt -o default
         return
@@ -33,7 +38,7 @@ _dfu_flash() {
     case $word in
     -*)
         COMPREPLY=($(compgen -W '--device --path --serial --interface --alt --no-verify --upload --force --detach
-            --wait --timeout --limits --transfer-size --dry-run --quiet --verbose --json --list -h --help -V --version' -- "$word"))
+            --wait --timeout --limits --transfer-size --dry-run --quiet --verbose --json --all --log --list -h --help -V --version' -- "$word"))
         ;;
     *) compopt -o default ;;
     esac

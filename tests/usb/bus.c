@@ -16,11 +16,7 @@
 #define REST_MS 10000 /* pass on the device once the program has ended */
 
 static const struct model *model;
-static struct {
-    unsigned generation, away;
-    bool is_app, is_there, is_swapped;
-    int setting; /* the alternate setting that it stands in */
-} seen;
+struct seen *seen = &(struct seen){ 0 };
 static unsigned transfers;
 static uint64_t told_ns;
 
@@ -31,12 +27,17 @@ static uint64_t now_ns(void)
     return (uint64_t)now.tv_sec * 1000000000u + (uint64_t)now.tv_nsec;
 }
 
+uint64_t bus_ms(void)
+{
+    return now_ns() / 1000000;
+}
+
 /* Who holds the device of before gets no answer any more, and it is away for as many lists as was set. */
 static void enumerate(void)
 {
-    seen.generation++;
-    seen.setting = 0;
-    seen.away = settings.away;
+    seen->generation++;
+    seen->setting = 0;
+    seen->away = settings.away;
 }
 
 /* An application without USB isn't seen on the bus. */
@@ -48,10 +49,10 @@ static bool is_there_now(void)
 static void look(void)
 {
     bool is_app = model->is_app(), is_there = is_there_now();
-    if (is_app != seen.is_app || is_there != seen.is_there)
+    if (is_app != seen->is_app || is_there != seen->is_there)
         enumerate();
-    seen.is_app = is_app;
-    seen.is_there = is_there;
+    seen->is_app = is_app;
+    seen->is_there = is_there;
 }
 
 static void at_end(void)
@@ -60,6 +61,19 @@ static void at_end(void)
     log_end(transfers, model->state(), model->code());
     keep_image(model);
     keep_write(model);
+    look();
+    seen->ended_ms = bus_ms();
+}
+
+void bus_make(void)
+{
+    model = strcmp(settings.device, "proved") == 0 ? &proved_model : strcmp(settings.device, "uboot") == 0 ? &uboot_model : &small_model;
+    model->make();
+    keep_read(model);
+    seen->is_app = model->is_app();
+    seen->is_there = is_there_now();
+    told_ns = now_ns();
+    atexit(at_end);
 }
 
 void bus_start(void)
@@ -67,15 +81,9 @@ void bus_start(void)
     if (model != NULL)
         return;
     settings_read();
-    model = strcmp(settings.device, "proved") == 0 ? &proved_model : strcmp(settings.device, "uboot") == 0 ? &uboot_model : &small_model;
-    model->make();
-    keep_read(model);
-    seen.is_app = model->is_app();
-    seen.is_there = is_there_now();
-    seen.generation = 1;
-    seen.away = settings.absent;
-    told_ns = now_ns();
-    atexit(at_end);
+    seen->generation = 1;
+    seen->away = settings.absent;
+    bus_make();
 }
 
 static void elapse(uint64_t ms)
@@ -86,6 +94,8 @@ static void elapse(uint64_t ms)
 
 void bus_pass_time(void)
 {
+    if (model == NULL)
+        return;
     uint64_t ms = (now_ns() - told_ns) / 1000000;
     told_ns += ms * 1000000;
     if (ms > 0)
@@ -104,17 +114,10 @@ static int wait_in_vain(unsigned timeout)
 static int leave(void)
 {
     model->power();
-    seen.is_app = model->is_app();
-    seen.is_there = is_there_now();
+    seen->is_app = model->is_app();
+    seen->is_there = is_there_now();
     enumerate();
     return USB_ERROR_NO_DEVICE;
-}
-
-#define GETSTATUS 3
-/* What an application leaves out, whichever device it runs on. */
-static bool is_left_out(const uint8_t setup[8])
-{
-    return model->is_app() && (settings.app_stalls_all || (settings.app_stalls_status && setup[1] == GETSTATUS));
 }
 
 /* The device handles it, once or twice: bytes of the last answer, or an error. */
@@ -125,7 +128,7 @@ static int handled(const uint8_t setup[8], uint8_t *data, uint16_t length, const
     uint8_t *out = is_in ? data : none;
     const uint8_t *body = is_in ? none : data;
     int count = 0;
-    if (is_left_out(setup))
+    if (model->is_app() && settings_leave_out(setup[1]))
         return USB_ERROR_PIPE;
     for (int times = fate->kind == FATE_TWICE ? 2 : 1; times > 0; times--)
         count = model->handle(setup, body, is_in ? 0 : length, out, is_in ? length : 0);
@@ -140,7 +143,7 @@ static int meets(const struct fate *fate, const uint8_t setup[8], uint8_t *data,
 {
     switch (fate->kind) {
     case FATE_SWAP:
-        seen.is_swapped = true;
+        seen->is_swapped = true;
         return leave();
     case FATE_LEAVE:
         return leave();
@@ -173,9 +176,11 @@ int bus_transfer(const uint8_t setup[8], uint8_t *data, uint16_t length, unsigne
     uint8_t none[8] = { 0 }, *at = data != NULL && length > 0 ? data : none;
     if (transfers == BOUND)
         fail_loudly("%d transfers were made, and the program is not done", BOUND);
-    if (!seen.is_app && settings.setting >= 0 && seen.setting != settings.setting)
-        fail_loudly("a request is made in the setting %d", seen.setting);
+    if (!seen->is_app && settings.setting >= 0 && seen->setting != settings.setting)
+        fail_loudly("a request is made in the setting %d", seen->setting);
     const struct fate *fate = fate_of(transfers);
+    while (fate->kind == FATE_STUCK)
+        pause();
     if (fate->kind == FATE_KILL) {
         at_end();
         _exit(137);
@@ -193,13 +198,13 @@ int bus_transfer(const uint8_t setup[8], uint8_t *data, uint16_t length, unsigne
  * it back into the one that it was in. */
 bool bus_reset(void)
 {
-    unsigned before = seen.generation;
+    unsigned before = seen->generation;
     model->usb_reset();
-    seen.setting = 0;
+    seen->setting = 0;
     look();
     log_reset(model->state());
     told_ns = now_ns();
-    return seen.generation == before;
+    return seen->generation == before;
 }
 
 bool bus_is_deaf(void)
@@ -209,42 +214,42 @@ bool bus_is_deaf(void)
 
 void bus_set_interface(int setting)
 {
-    seen.setting = setting;
+    seen->setting = setting;
     log_setting(setting);
     model->set_interface();
 }
 
 bool bus_lists(void)
 {
-    if (!seen.is_there)
+    if (!seen->is_there)
         return false;
-    if (seen.away == 0)
+    if (seen->away == 0)
         return true;
-    seen.away--;
+    seen->away--;
     return false;
 }
 
 unsigned bus_generation(void)
 {
-    return seen.generation;
+    return seen->generation;
 }
 
 bool bus_is_there(void)
 {
-    return seen.is_there;
+    return seen->is_there;
 }
 
 bool bus_is_app(void)
 {
-    return seen.is_app;
+    return seen->is_app;
 }
 
 bool bus_is_swapped(void)
 {
-    return seen.is_swapped;
+    return seen->is_swapped;
 }
 
 uint8_t bus_interface(void)
 {
-    return seen.is_swapped ? settings.swapped_interface : settings.interface;
+    return seen->is_swapped ? settings.swapped_interface : settings.interface;
 }

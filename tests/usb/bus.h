@@ -5,8 +5,25 @@
 #include <stdbool.h>
 #include <stdint.h>
 
-/* Makes the device, once, by the settings; later calls do nothing. */
+/* What is seen of a device on the bus. Where there are several (boards.h) the processes that work with them share this. */
+struct seen {
+    unsigned generation, away;
+    bool is_app, is_there, is_swapped;
+    int setting;     /* the alternate setting that it stands in */
+    uint64_t ended_ms; /* when the process that worked with it ended, or 0 */
+};
+
+/* Reads the settings and makes the device, once; later calls do nothing. */
 void bus_start(void);
+
+/* What is seen of the device that the calls below are about. */
+extern struct seen *seen;
+
+/* Makes that device by the settings, once. */
+void bus_make(void);
+
+/* Milliseconds since some moment, the same one in each process. */
+uint64_t bus_ms(void);
 
 /* Tells the device the time that has passed since it was told last. */
 void bus_pass_time(void);

@@ -1,5 +1,6 @@
 /* libusb-1.0's calls over an open device: control transfers, resets, claims and settings of its interface. */
 #include "abi.h"
+#include "boards.h"
 #include "bus.h"
 #include "descriptors.h"
 #include "device.h"
@@ -19,7 +20,8 @@ int libusb_open(libusb_device *device, libusb_device_handle **out)
 {
     static unsigned opens, denials;
     *out = NULL;
-    bus_pass_time();
+    boards_enter(device->board);
+    boards_pass_time();
     if (device->is_other && settings.other_denied != 0)
         return settings.other_denied;
     if (settings.denied != 0 && opens++ >= settings.opens && denials++ < settings.denials)
@@ -50,7 +52,8 @@ libusb_device *libusb_get_device(libusb_device_handle *handle)
 /* 0 where the handle is of the device as it is enumerated now. */
 static int held(const libusb_device_handle *handle)
 {
-    bus_pass_time();
+    boards_enter(handle->device->board);
+    boards_pass_time();
     return handle->device->is_other || handle->device->generation == bus_generation() ? 0 : USB_ERROR_NO_DEVICE;
 }
 
@@ -59,6 +62,7 @@ int libusb_claim_interface(libusb_device_handle *handle, int interface)
     int error = held(handle);
     if (error != 0 || interface != bus_interface())
         return error != 0 ? error : USB_ERROR_NOT_FOUND;
+    boards_wake(handle->device->board);
     handle->is_claimed = settings.claimed == 0;
     return settings.claimed;
 }

@@ -20,7 +20,8 @@ static const char *const codes[] = { "OK", "errTARGET", "errFILE", "errWRITE", "
                                      "errADDRESS", "errNOTDONE", "errFIRMWARE", "errVENDOR", "errUSBR", "errPOR", "errUNKNOWN",
                                      "errSTALLEDPKT" };
 static const char *const requests[] = { "DETACH", "DNLOAD", "UPLOAD", "GETSTATUS", "CLRSTATUS", "GETSTATE", "ABORT" };
-static const char *const fates[] = { "", " lost-out", " lost-back", " twice", " short", " leave", " swap", " kill", " deaf", " mute" };
+static const char *const fates[] = { "", " lost-out", " lost-back", " twice", " short", " leave", " swap", " kill", " deaf", " mute",
+                                     " stuck" };
 
 #define NAME(table, number) ((unsigned)(number) < sizeof(table) / sizeof *(table) ? (table)[number] : "?")
 

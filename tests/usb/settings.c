@@ -40,10 +40,16 @@
  * USB_FATE        fates of transfers, with commas between: `lost-out N`, `lost-back N`, `twice N`, `short N BYTES`,
  *                 `leave N` (its power goes and comes back), `swap N` (the same, and another board, with the serial number
  *                 OTHER, stands in its place), `kill N` (the program is killed before it), `deaf N` (from N on
- *                 each is lost on its way out, and resets fail), `mute N` (from N on each answer is lost; resets work)
+ *                 each is lost on its way out, and resets fail), `mute N` (from N on each answer is lost; resets work),
+ *                 `stuck N` (the call never comes back, whatever time it was given)
  * USB_LOG         a file that gets a line for each transfer
  * USB_SAVE        a file that gets the active image at the end
  * USB_STATE       a file that keeps the device between runs: read at the start where it is there, written at the end
+ * USB_BOARDS      a file with a line for each of several boards: settings such as these, NAME=VALUE, with tabs between. A board
+ *                 is the device of the process that claims its interface; to others it has descriptors alone (boards.c)
+ * USB_PULLED      of a board: how many ms behind the end of that process it is pulled out (0: it stays)
+ * USB_PLUGGED     of a board: the number of the board, from 1, in whose place it comes once that one was pulled out (0: none),
+ * USB_PAUSE       so many ms later (0)
  * USB_BUFFER      uboot: bytes gathered before they are written (8388608)
  * USB_STORE       uboot: file (replaced when it is flushed) or raw (written in place) (file)
  * USB_FAILS       uboot: the number of the write to its medium that fails, from 0 (none)
@@ -174,6 +180,7 @@ static void read_device(void)
 
 void settings_read(void)
 {
+    settings = (struct settings){ 0 };
     read_device();
     settings.app = ids("USB_IDS", "1209:0001:0100");
     settings.dfu = ids("USB_DFU_IDS", text("USB_IDS", "1209:0001:0100"));
@@ -201,9 +208,18 @@ void settings_read(void)
         fail_loudly("USB_ALTERNATES is 1 to %d", MOST_ALTERNATES);
     settings.away = number("USB_AWAY", 0, 10);
     settings.absent = number("USB_ABSENT", 0, 10);
+    settings.pulled_ms = number("USB_PULLED", 0, 10);
+    settings.plugged = number("USB_PLUGGED", 0, 10);
+    settings.pause_ms = number("USB_PAUSE", 0, 10);
     settings.slow_ms = number("USB_SLOW", 0, 10);
     fates_read(text("USB_FATE", ""));
     settings.log = getenv("USB_LOG");
     settings.save = getenv("USB_SAVE");
     settings.state = getenv("USB_STATE");
+}
+
+#define GETSTATUS 3
+bool settings_leave_out(uint8_t request)
+{
+    return settings.app_stalls_all || (settings.app_stalls_status && request == GETSTATUS);
 }

@@ -5,7 +5,8 @@
 #include <stdbool.h>
 #include <stdint.h>
 
-enum fate_kind { FATE_PASS, FATE_LOST_OUT, FATE_LOST_BACK, FATE_TWICE, FATE_SHORT, FATE_LEAVE, FATE_SWAP, FATE_KILL, FATE_DEAF, FATE_MUTE };
+enum fate_kind { FATE_PASS, FATE_LOST_OUT, FATE_LOST_BACK, FATE_TWICE, FATE_SHORT, FATE_LEAVE, FATE_SWAP, FATE_KILL, FATE_DEAF, FATE_MUTE,
+                 FATE_STUCK };
 
 /* What becomes of the transfer of one number, and, of FATE_DEAF and FATE_MUTE, of each behind it; `bytes` is for FATE_SHORT. */
 struct fate {
@@ -51,6 +52,7 @@ struct settings {
     int denied, other_denied, claimed; /* the error of an open, of one of the other device, and of a claim, or 0 */
     unsigned opens, denials;           /* so many opens go well before, and so many are denied */
     unsigned devices, away, absent;
+    unsigned pulled_ms, plugged, pause_ms; /* of several boards: when it is pulled out, and behind which it comes, so much later */
     unsigned slow_ms;                  /* what a transfer takes on the program's clock */
     struct fate fates[FATES];
     unsigned fate_count;
@@ -64,6 +66,9 @@ extern struct settings settings;
 
 /* Reads the environment once; a value that is not understood ends the program. */
 void settings_read(void);
+
+/* Whether an application leaves this request out, whichever device it runs on. */
+bool settings_leave_out(uint8_t request);
 
 /* Ends the program with a message: what was asked for is not to be had, or not to be believed. */
 void fail_loudly(const char *format, ...) __attribute__((noreturn, format(printf, 1, 2)));

@@ -1,6 +1,7 @@
 /* libusb-1.0's calls, as far as the programs tried here make them: contexts, lists of devices, their descriptors and
  * handles. A call that is not here is not found by the linker, which ends the program. */
 #include "abi.h"
+#include "boards.h"
 #include "bus.h"
 #include "descriptors.h"
 #include "device.h"
@@ -11,7 +12,7 @@
 
 int libusb_init(libusb_context **context)
 {
-    bus_start();
+    boards_start();
     if (context != NULL)
         *context = NULL;
     return 0;
@@ -47,12 +48,12 @@ void libusb_unref_device(libusb_device *device)
         free(device);
 }
 
-static libusb_device *listed(bool is_other)
+static libusb_device *listed(int board, bool is_other)
 {
     libusb_device *device = calloc(1, sizeof *device);
     if (device == NULL)
         fail_loudly("no memory for a device");
-    *device = (libusb_device){ 1, bus_generation(), is_other, bus_is_app() };
+    *device = (libusb_device){ 1, bus_generation(), is_other, bus_is_app(), board };
     return device;
 }
 
@@ -60,14 +61,18 @@ ssize_t libusb_get_device_list(libusb_context *context, libusb_device ***out)
 {
     (void)context;
     ssize_t count = 0;
-    libusb_device **list = calloc(3, sizeof *list);
+    int boards = boards_start();
+    libusb_device **list = calloc((size_t)boards + 2, sizeof *list);
     if (list == NULL)
         fail_loudly("no memory for a list");
-    bus_pass_time();
-    if (settings.devices > 0 && bus_lists())
-        list[count++] = listed(false);
+    for (int board = 0; board < boards; board++) {
+        boards_enter(board);
+        boards_pass_time();
+        if (settings.devices > 0 && boards_lists())
+            list[count++] = listed(board, false);
+    }
     if (settings.devices > 1)
-        list[count++] = listed(true);
+        list[count++] = listed(0, true);
     *out = list;
     return count;
 }
@@ -81,7 +86,7 @@ void libusb_free_device_list(libusb_device **list, int unrefs)
 
 uint8_t libusb_get_bus_number(libusb_device *device)
 {
-    (void)device;
+    boards_enter(device->board);
     return settings.bus;
 }
 
@@ -94,6 +99,7 @@ uint8_t libusb_get_device_address(libusb_device *device)
 /* The other device stands on the next port. */
 int libusb_get_port_numbers(libusb_device *device, uint8_t *ports, int room)
 {
+    boards_enter(device->board);
     if (room < (int)settings.port_count)
         return USB_ERROR_OVERFLOW;
     if (settings.port_count == 0)
@@ -105,12 +111,14 @@ int libusb_get_port_numbers(libusb_device *device, uint8_t *ports, int room)
 
 int libusb_get_device_descriptor(libusb_device *device, struct libusb_device_descriptor *out)
 {
+    boards_enter(device->board);
     describe_device(device->is_app, out);
     return 0;
 }
 
 int libusb_get_config_descriptor(libusb_device *device, uint8_t number, struct libusb_config_descriptor **out)
 {
+    boards_enter(device->board);
     if (number >= settings.configurations)
         return USB_ERROR_NOT_FOUND;
     *out = describe_configuration(device->is_app);
@@ -121,6 +129,7 @@ int libusb_get_config_descriptor(libusb_device *device, uint8_t number, struct l
 
 int libusb_get_active_config_descriptor(libusb_device *device, struct libusb_config_descriptor **out)
 {
+    boards_enter(device->board);
     return libusb_get_config_descriptor(device, settings.configurations - 1, out);
 }
 

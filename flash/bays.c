@@ -1,0 +1,87 @@
+/* SPDX-License-Identifier: MIT OR Apache-2.0 */
+/* When a device at a path is another one than before. One that was flashed starts its image, and so leaves and comes back by itself: if
+   it were flashed again for that, it would be without end. So:
+
+   It was there since it was done, and is away for two seconds: it was pulled out, and the next one is another.
+   One comes within ten seconds since it was there, or was done: it is another one if it has another serial number than the one of
+   before had in the same mode.
+   One comes later: it is the same if it has the same serial number as before in that mode. */
+#include "bays.h"
+
+#include <stddef.h>
+#include <string.h>
+
+#define PULLED_MS 2000
+#define LATE_MS 10000
+
+static struct bay *bay_of(struct bays *bays, const char *path)
+{
+    struct bay *bay;
+    for (int at = 0; at < bays->count; at++)
+        if (strcmp(bays->list[at].path, path) == 0)
+            return &bays->list[at];
+    if (bays->count == BAYS_ROOM)
+        return NULL;
+    bay = &bays->list[bays->count++];
+    memset(bay, 0, sizeof *bay);
+    memcpy(bay->path, path, sizeof bay->path);
+    return bay;
+}
+
+struct bay *bays_see(struct bays *bays, const struct port *port, int64_t now_ms)
+{
+    struct bay *bay = bay_of(bays, port->path);
+    if (bay == NULL || bay->state == BAY_BUSY)
+        return NULL;
+    if (port->is_wanted && (bay->state == BAY_FREE || !bay->is_there)) {
+        bay->is_late = bay->state == BAY_DONE && now_ms - bay->since_ms >= LATE_MS;
+        return bay;
+    }
+    bay->was_back = bay->is_there = true;
+    bay->since_ms = now_ms;
+    return NULL;
+}
+
+static bool is_among(const struct bay *bay, const struct port *ports, int count)
+{
+    for (int at = 0; at < count; at++)
+        if (strcmp(bay->path, ports[at].path) == 0)
+            return true;
+    return false;
+}
+
+void bays_miss(struct bays *bays, const struct port *ports, int count, int64_t now_ms)
+{
+    for (int at = 0; at < bays->count; at++) {
+        struct bay *bay = &bays->list[at];
+        if (bay->state != BAY_DONE || is_among(bay, ports, count))
+            continue;
+        bay->is_there = false;
+        if (!bay->was_back || now_ms - bay->since_ms < PULLED_MS)
+            continue;
+        bay->state = BAY_FREE;
+        bay->has_serial[0] = bay->has_serial[1] = false;
+    }
+}
+
+bool bay_is_early(const struct bay *bay)
+{
+    return bay->state != BAY_FREE && !bay->is_late;
+}
+
+bool bay_is_same(const struct bay *bay, const struct found *is)
+{
+    const char *before = bay->serial[is->is_upgrade];
+    if (bay->state == BAY_FREE)
+        return false;
+    if (!bay->has_serial[is->is_upgrade] || before[0] == '\0' || is->serial[0] == '\0')
+        return !bay->is_late;
+    return strcmp(before, is->serial) == 0;
+}
+
+void bay_end(struct bay *bay, bool is_same, int64_t now_ms)
+{
+    bay->state = BAY_DONE;
+    bay->was_back = bay->is_there = is_same;
+    bay->since_ms = now_ms;
+}

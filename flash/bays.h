@@ -1,0 +1,52 @@
+/* SPDX-License-Identifier: MIT OR Apache-2.0 */
+/* Bays: the paths at which devices come, are flashed, and are pulled out again for the next one. */
+#ifndef DFU_FLASH_BAYS_H
+#define DFU_FLASH_BAYS_H
+
+#include "ports.h"
+
+#include <stdbool.h>
+#include <stdint.h>
+
+#define BAYS_ROOM 256
+
+/* With what a process ends that found the device of before: it has done nothing, and tells nothing. */
+#define BAY_SAME 100
+
+enum bay_state {
+    BAY_FREE, /* a device that comes is another one */
+    BAY_BUSY, /* a process is at work */
+    BAY_DONE  /* a device was flashed, well or not, and isn't known to be pulled out */
+};
+
+struct bay {
+    char path[PATH_ROOM];
+    enum bay_state state;
+    bool was_back, is_there;        /* once it is done: a device was there since, and was there at the last look; */
+    int64_t since_ms;               /* and when it was there last, or when it was done */
+    bool is_late;                   /* what is looked at now came late, so that it may be another one */
+    bool has_serial[2];             /* whether the device of before was seen in run-time mode, and in DFU mode, */
+    char serial[2][TEXT_ROOM];      /* and with which serial number */
+};
+
+struct bays {
+    struct bay list[BAYS_ROOM];
+    int count;
+};
+
+/* A device was seen. Its bay, if a process is to look at it; else NULL. */
+struct bay *bays_see(struct bays *bays, const struct port *port, int64_t now_ms);
+
+/* These are all that were seen: a device that has been away is pulled out. */
+void bays_miss(struct bays *bays, const struct port *ports, int count, int64_t now_ms);
+
+/* Whether the device in a bay is the one of before, as long as nothing speaks against it. */
+bool bay_is_early(const struct bay *bay);
+
+/* Whether the device in a bay is the one of before. */
+bool bay_is_same(const struct bay *bay, const struct found *is);
+
+/* The process has ended that was at work with it; with `is_same` it has done nothing. */
+void bay_end(struct bay *bay, bool is_same, int64_t now_ms);
+
+#endif

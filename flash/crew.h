@@ -1,0 +1,34 @@
+/* SPDX-License-Identifier: MIT OR Apache-2.0 */
+/* The processes that are at work, and what came of those that have ended. */
+#ifndef DFU_FLASH_CREW_H
+#define DFU_FLASH_CREW_H
+
+#include "worker.h"
+
+#include <stdbool.h>
+#include <stdint.h>
+
+struct crew {
+    struct worker workers[BAYS_ROOM];
+    int count;
+    int64_t came_ms;          /* when the last device came or ended */
+    int worst;                /* the highest exit status so far, */
+    unsigned flashed, failed; /* of so many devices */
+    bool is_json, is_out;     /* whether all records came to standard output */
+};
+
+void crew_make(struct crew *crew, const struct words *words);
+
+/* Begins one for the device in the bay. */
+void crew_begin(struct crew *crew, const struct words *words, struct image *image, struct bay *bay);
+
+/* Waits until something comes of one of them, or for so long; prints what is to say, and the record of each that has ended. */
+void crew_step(struct crew *crew, int ms);
+
+/* A signal came: each gives up. */
+void crew_stop(struct crew *crew);
+
+/* Nothing more comes: standard error is as it was. */
+void crew_end(struct crew *crew);
+
+#endif

@@ -1,0 +1,52 @@
+/* SPDX-License-Identifier: MIT OR Apache-2.0 */
+/* A process that flashes one device of several. */
+#ifndef DFU_FLASH_WORKER_H
+#define DFU_FLASH_WORKER_H
+
+#include "bays.h"
+#include "image.h"
+#include "reader.h"
+#include "words.h"
+
+#include <stdbool.h>
+#include <stdint.h>
+#include <sys/types.h>
+
+struct worker {
+    pid_t process;
+    struct bay *bay;
+    struct reader out, err;
+    char row[160];       /* how far it is */
+    char *record;        /* its last line, or NULL */
+    int64_t began_ms;
+    int64_t deadline_ms; /* when it is killed, or 0: never */
+    bool is_killed;
+    bool is_early;       /* it looks whether the device is another one than before, and as a rule it isn't */
+};
+
+/* Begins a process that flashes the device in the bay, with the image that was read. With `has_rows` it says how far it is. False where
+   the system has no more processes, which is then said. */
+bool worker_begin(struct worker *worker, const struct words *words, struct image *image, struct bay *bay, bool has_rows);
+
+/* Reads what has come. Each line of standard error is handed to `say`, with the worker. */
+void worker_read(struct worker *worker, void (*say)(void *worker, const char *line));
+
+/* Whether its streams are at their end, so that it is about to end. */
+bool worker_is_ending(const struct worker *worker);
+
+/* Whether it has ended; then its exit status, or that of a mistake with the reason in `why`. */
+bool worker_has_ended(struct worker *worker, int *status, const char **why);
+
+/* Tells it to give up, which it has to do by then. */
+void worker_stop(struct worker *worker, int64_t deadline_ms);
+
+/* Ends it at once. */
+void worker_kill(struct worker *worker);
+
+/* It has ended: gives back what it took. */
+void worker_drop(struct worker *worker);
+
+/* In that process: prints how the device was seen in a mode, for the bay. */
+void worker_print_serial(bool is_upgrade, const char *serial);
+
+#endif

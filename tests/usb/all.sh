@@ -1,0 +1,197 @@
+# Rows of tests/flash: --all, over several boards on one bus (USB_BOARDS), each in a process of its own.
+
+# board PATH SETTING..: one more board; its image is in saved-PATH, and what was sent to it in log-PATH.
+board() {
+    path=$1
+    shift
+    printf 'USB_PATH=%s\tUSB_SAVE=%s/saved-%s\tUSB_LOG=%s/log-%s' "$path" "$work" "$path" "$work" "$path" >> boards
+    for setting in "$@"; do
+        printf '\t%s' "$setting" >> boards
+    done
+    printf '\n' >> boards
+}
+no_boards() {
+    rm -f boards saved-* log-*
+}
+# all WORDS..: runs it over the boards. How long it took is in $took.
+all() {
+    code=0
+    began=$(date +%s)
+    # shellcheck disable=SC2086
+    env LD_LIBRARY_PATH="$work" USB_IMAGE="$work/old" USB_BOARDS="$work/boards" timeout -k 5 60 $as ./dfu-flash --all "$@" > out 2> err \
+        || code=$?
+    took=$(($(date +%s) - began))
+}
+# ended PATH REPORT IMAGE: the record of the board at this path, and the image that it has; - is one that was not worked with.
+ended() {
+    expect "$1: $2" test "$(sed -n "s/^$1 \(serial [^ ]* \)*[0-9.]* s \([^:]*\): .*/\2/p" out)" = "$2"
+    if [ "$3" = - ]; then
+        expect "$1: it was not worked with" test ! -e "saved-$1"
+    else
+        expect "$1: the $3 image" cmp "saved-$1" "$3"
+    fi
+}
+
+# Sixteen boards, with faults of their own, and one that the file is not for.
+sixteen() {
+    no_boards
+    board 1-1 USB_SERIAL=F1
+    board 1-2.1 USB_SERIAL=F2 USB_START=app USB_AWAY=4 USB_DFU_IDS=1209:00ff:0100
+    board 1-2.2 'USB_FATE=lost-back 4'
+    board 1-2.3 'USB_FATE=lost-out 3,leave 9' USB_AWAY=3
+    board 1-2.4 USB_ATTRIBUTES=05
+    board 1-3 USB_ATTRIBUTES=01
+    board 1-4 USB_CAPACITY=13
+    board 1-5 USB_LEAST=100
+    board 1-6 'USB_FATE=deaf 4'
+    board 1-7 'USB_FATE=leave 4' USB_AWAY=100000
+    board 1-8 USB_DENIED=3
+    board 1-9 USB_CLAIMED=6
+    board 1-10 USB_ALTERNATES=3
+    board 1-11 USB_DEVICE=uboot
+    board 1-12 'USB_FATE=swap 4' USB_SERIAL=F12
+    board 1-13 'USB_FATE=kill 6'
+    board 1-14 USB_IDS=1209:0002:0100
+}
+sixteen
+mkdir logs
+all --log logs new.dfu
+expect 'the highest status' test "$code" -eq 14
+expect 'as long as the one that left is waited for' test "$took" -le 15
+expect 'a line each' test "$(wc -l < out)" -eq 16
+ended 1-1 verified new
+ended 1-2.1 verified new
+ended 1-2.2 verified new
+ended 1-2.3 verified new
+ended 1-2.4 installed new
+ended 1-3 unconfirmed new
+ended 1-4 'refused errADDRESS' old
+ended 1-5 'refused errNOTDONE' old
+ended 1-6 silent old
+ended 1-7 gone old
+ended 1-8 no-access -
+ended 1-9 no-access old
+ended 1-10 several -
+ended 1-11 verified new
+ended 1-12 other old
+ended 1-13 broken old
+expect '1-14: not meant' test ! -e saved-1-14
+expect 'the one that left is the last' grep -q '^1-7 ' <<END
+$(tail -n 1 out)
+END
+says '1-4: dfu-flash: errADDRESS: '
+says '1-8: SUBSYSTEM=="usb"'
+says 'dfu-flash: 6 flashed, 10 not'
+expect 'a log of each that was worked with' test "$(cd logs && echo *)" = \
+    '1-11_1.log 1-12_1.log 1-13_1.log 1-1_1.log 1-2.1_1.log 1-2.2_1.log 1-2.3_1.log 1-2.4_1.log 1-3_1.log 1-4_1.log 1-5_1.log 1-6_1.log 1-7_1.log 1-9_1.log'
+expect 'a log' test "$("$dfu" judge logs/1-2.1_1.log | cut -d ' ' -f 1)" = kept
+expect 'a log: its requests' test "$(grep -c '^[0-9a-f]\{16\} ' logs/1-2.1_1.log)" -eq "$(grep -c '^[0-9]' log-1-2.1)"
+
+# A record each, as it ends, in JSON; and no log is written over.
+no_boards
+board 1-1 USB_SERIAL=F1
+board 1-2 USB_SERIAL=F2 USB_CAPACITY=13
+board 1-3 USB_SERIAL=F3 USB_DENIED=3
+all --json --quiet --log logs new.dfu
+expect 'the highest status' test "$code" -eq 6
+expect 'quiet' test "$(grep -v '^1-3: ' err | wc -l)" -eq 0
+expect 'a new log' test -s logs/1-1_2.log
+if command -v python3 > /dev/null; then
+    expect 'records' python3 -c 'import json
+r = {x["path"]: x for x in map(json.loads, open("out"))}
+assert len(r) == 3, r
+assert r["1-1"]["report"] == "verified" and r["1-1"]["serial"] == "F1" and r["1-1"]["log"] == "logs/1-1_2.log", r
+assert r["1-2"]["code"] == "errADDRESS" and r["1-2"]["status"] == 6, r
+assert r["1-3"]["report"] == "no-access" and r["1-3"]["status"] == 5 and "serial" not in r["1-3"], r
+assert all(0 <= x["seconds"] < 10 for x in r.values()), r'
+fi
+
+# A raw image, and identifiers of both modes.
+no_boards
+board 1-1 USB_DFU_IDS=1209:00ff:0100
+board 1-2 USB_DFU_IDS=1209:00ff:0100 USB_START=app
+all --device 1209:0001,1209:00ff new
+expect 'both modes' test "$code" -eq 0
+ended 1-1 verified new
+ended 1-2 verified new
+
+# One that hangs holds up no other, and is killed 10 seconds after its time.
+no_boards
+board 1-1
+board 1-2 'USB_FATE=stuck 6'
+all --timeout 1 new.dfu
+expect 'one hangs' test "$code" -eq 10
+expect 'one hangs: the other one first' test "$(sed -n '1s/ .*//p' out)" = 1-1
+ended 1-1 verified new
+expect 'one hangs: its record' grep -q '^1-2 .*silent: it did not end in time' out
+# Those that are at work give up at a signal, one that hangs too.
+board 1-3 USB_BUSY=60000
+(sleep 0.7; kill -INT "$(cat pid)") &
+code=0
+env LD_LIBRARY_PATH="$work" USB_IMAGE="$work/old" USB_BOARDS="$work/boards" sh -c 'echo $$ > pid; exec ./dfu-flash --all new.dfu' > out 2> err || code=$?
+wait
+expect 'a signal' test "$code" -eq 11
+ended 1-3 aborted old
+expect 'a signal: ABORT' test "$(grep '^[0-9]' log-1-3 | tail -n 1 | cut -d ' ' -f 2)" = ABORT
+ended 1-1 verified new
+expect 'a signal: one that hangs' grep -q '^1-2 .*silent: ' out
+
+# With --wait: those that come, also in the place of one that was pulled out; a board that was flashed is not flashed again.
+no_boards
+board 1-1 USB_SERIAL=F1 USB_PULLED=800
+board 1-1 USB_SERIAL=F2 USB_PLUGGED=1 USB_PAUSE=3000 USB_PULLED=800 "USB_SAVE=$work/saved-second"
+board 1-1 USB_SERIAL=F3 USB_PLUGGED=2 USB_PAUSE=300 "USB_SAVE=$work/saved-third"
+board 1-2 USB_SERIAL=F4 USB_ABSENT=5 USB_START=app
+board 1-3 USB_SERIAL= USB_PULLED=800
+board 1-3 USB_SERIAL= USB_PLUGGED=5 USB_PAUSE=3000 "USB_SAVE=$work/saved-other"
+board 1-4 USB_SERIAL= USB_PULLED=800
+board 1-4 USB_SERIAL= USB_PLUGGED=7 USB_PAUSE=300 "USB_SAVE=$work/saved-too-soon"
+all --wait=4 new.dfu
+expect 'those that come' test "$code" -eq 0
+expect 'in one place one after the other' test "$(sed -n 's/^1-1 serial \([^ ]*\) .*/\1/p' out | tr '\n' ' ')" = 'F1 F2 F3 '
+expect 'each once' test "$(wc -l < out)" -eq 7
+for image in saved-1-1 saved-second saved-third saved-1-2 saved-1-3 saved-other saved-1-4; do
+    expect "$image" cmp "$image" new
+done
+expect 'one that comes within two seconds, with no serial number, counts as the one of before' test ! -e saved-too-soon
+no_boards
+board 1-1 USB_DEVICE=uboot
+(sleep 1.5; kill -INT "$(cat pid)") &
+code=0
+env LD_LIBRARY_PATH="$work" USB_IMAGE="$work/old" USB_BOARDS="$work/boards" sh -c 'echo $$ > pid; exec ./dfu-flash --all --wait new.dfu' > out 2> err || code=$?
+wait
+expect 'the end of a line is no failure' test "$code" -eq 0
+expect 'one record' test "$(wc -l < out)" -eq 1
+
+# What is refused before anything is sent.
+all any.dfu
+expect 'a file for any device' test "$code-$(cut -d : -f 1 out)" = 1-ForAny
+expect 'a file for any device: nothing is sent' test ! -e log-1-1 -o "$(wc -l < log-1-1)" -gt 0
+all nowhere.dfu
+expect 'no file' test "$code" -eq 3
+all --log nowhere new.dfu
+expect 'no folder' test "$code" -eq 3
+all other.dfu
+expect 'no device' test "$code" -eq 4
+says 'the file is for vendor 1209, product 0002'
+for words in '--path 1-1 new.dfu' '--serial F1 new.dfu' '--dry-run new.dfu' '--verbose new.dfu' '--verbose=x new.dfu' '--list' \
+    '--upload never' '--detach' ''; do
+    # shellcheck disable=SC2086
+    all $words
+    expect "--all $words" test "$code" -eq 2
+done
+row 2 - '' '' --log logs new.dfu
+
+# Rows on a terminal, one for each board, that are drawn over one another; none is wider than it.
+if command -v script > /dev/null; then
+    no_boards
+    board 1-1 USB_SERIAL=F1 USB_SLOW=3
+    board 1-2 USB_SERIAL=F2 USB_SLOW=4
+    env LD_LIBRARY_PATH="$work" USB_IMAGE="$work/old" USB_BOARDS="$work/boards" TERM=xterm \
+        script -qec 'stty cols 60 rows 24; ./dfu-flash --all --device 1209:0001 long.dfu' terminal > /dev/null 2>&1 < /dev/null || :
+    tr -d '\r' < terminal | sed 's/\x1b\[[0-9]*[A-Z]//g' > rows
+    expect 'rows' grep -q '^1-1  *downloading \[=*  *\]  *[0-9]*% [0-9]* of 800 bytes' rows
+    expect 'rows' grep -q '^1-2  *comparing  *\[=*  *\]  *[0-9]*% ' rows
+    expect 'none is wider' test "$(grep -c '^1-[12]  .\{56\}' rows)" -eq 0
+    expect 'then a line each' test "$(grep -c '^1-[12] serial F[12] .* s verified: ' rows)" -eq 2
+fi

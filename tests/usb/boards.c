@@ -1,0 +1,138 @@
+/* Several boards on one bus. What is seen of each is in memory that this process and those that it forks have in common; its device, with
+ * its medium, is in the one process that works with it. */
+#include "boards.h"
+#include "bus.h"
+#include "settings.h"
+
+#include <stdio.h>
+#include <stdlib.h>
+#include <string.h>
+#include <sys/mman.h>
+
+#define BOARDS 32
+#define WORDS 16 /* settings in a line */
+
+static int count, awake = -1, entered;
+static struct settings each[BOARDS];
+static struct seen *all_seen; /* of each; NULL where there is one board */
+
+/* As a device by the settings is seen at the start. */
+static void add_board(void)
+{
+    bool is_app = settings.starts_in_app;
+    each[count] = settings;
+    all_seen[count++] = (struct seen){
+        .generation = 1,
+        .away = settings.absent,
+        .is_app = is_app,
+        .is_there = settings.app_has_usb || !is_app,
+    };
+}
+
+/* The settings of a line: those of the environment, and its own. The line stays where it is, since texts of it are kept. */
+static void read_board(char *line)
+{
+    static char *before[WORDS];
+    char *words[WORDS];
+    int number = 0;
+    for (char *word = strtok(line, "\t\n"); word != NULL; word = strtok(NULL, "\t\n")) {
+        char *value = strchr(word, '=');
+        if (value == NULL || number == WORDS)
+            fail_loudly("USB_BOARDS has NAME=VALUE, with tabs between: %s", word);
+        *value = '\0';
+        before[number] = getenv(word);
+        words[number++] = word;
+        setenv(word, value + 1, 1);
+    }
+    settings_read();
+    for (int at = number - 1; at >= 0; at--)
+        if (before[at] != NULL)
+            setenv(words[at], before[at], 1);
+        else
+            unsetenv(words[at]);
+    add_board();
+}
+
+static void read_boards(const char *name)
+{
+    FILE *file = fopen(name, "r");
+    char *line = NULL;
+    size_t room = 0;
+    all_seen = mmap(NULL, sizeof *all_seen * BOARDS, PROT_READ | PROT_WRITE, MAP_SHARED | MAP_ANONYMOUS, -1, 0);
+    if (file == NULL || all_seen == MAP_FAILED)
+        fail_loudly("%s can't be read", name);
+    while (getline(&line, &room, file) > 0) {
+        if (count == BOARDS)
+            fail_loudly("USB_BOARDS has at most %d boards", BOARDS);
+        read_board(line);
+        line = NULL;
+        room = 0;
+    }
+    fclose(file);
+    if (count == 0)
+        fail_loudly("USB_BOARDS has no board");
+}
+
+int boards_start(void)
+{
+    const char *name = getenv("USB_BOARDS");
+    if (count > 0)
+        return count;
+    if (name != NULL)
+        read_boards(name);
+    else {
+        bus_start();
+        count = 1;
+    }
+    boards_enter(0);
+    return count;
+}
+
+void boards_enter(int board)
+{
+    entered = board;
+    if (all_seen == NULL)
+        return;
+    settings = each[board];
+    seen = &all_seen[board];
+}
+
+/* What is done at the end is done with the board that was worked with. */
+static void enter_awake(void)
+{
+    boards_enter(awake);
+}
+
+void boards_wake(int board)
+{
+    if (all_seen == NULL || awake == board)
+        return;
+    if (awake >= 0)
+        fail_loudly("one process works with two boards");
+    awake = board;
+    bus_make();
+    atexit(enter_awake);
+}
+
+void boards_pass_time(void)
+{
+    if (all_seen == NULL || entered == awake)
+        bus_pass_time();
+}
+
+/* Whether a board was pulled out by now, so long ago. */
+static bool is_pulled(int board, unsigned ms)
+{
+    const struct settings *its = &each[board];
+    return its->pulled_ms > 0 && all_seen[board].ended_ms > 0 && bus_ms() >= all_seen[board].ended_ms + its->pulled_ms + ms;
+}
+
+/* Of one board what the bus says. Of several also whether it was pulled out, or is to come in the place of another one. */
+bool boards_lists(void)
+{
+    if (all_seen == NULL)
+        return bus_lists();
+    if (is_pulled(entered, 0) || (settings.plugged > 0 && !is_pulled((int)settings.plugged - 1, settings.pause_ms)))
+        return false;
+    return bus_lists();
+}
