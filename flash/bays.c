@@ -14,24 +14,35 @@
 #define PULLED_MS 2000
 #define LATE_MS 10000
 
-static struct bay *bay_of(struct bays *bays, const char *path)
+/* The bay of a path, or NULL. */
+static struct bay *find(struct bays *bays, const char *path)
 {
-    struct bay *bay;
     for (int at = 0; at < bays->count; at++)
         if (strcmp(bays->list[at].path, path) == 0)
             return &bays->list[at];
-    if (bays->count == BAYS_ROOM)
+    return NULL;
+}
+
+/* A new one, in the place of one of which nothing is known; NULL where there is no place. */
+static struct bay *make(struct bays *bays, const char *path)
+{
+    int at = 0;
+    while (at < bays->count && bays->list[at].state != BAY_FREE)
+        at++;
+    if (at == BAYS_ROOM)
         return NULL;
-    bay = &bays->list[bays->count++];
-    memset(bay, 0, sizeof *bay);
-    memcpy(bay->path, path, sizeof bay->path);
-    return bay;
+    bays->count += at == bays->count;
+    memset(&bays->list[at], 0, sizeof bays->list[at]);
+    memcpy(bays->list[at].path, path, sizeof bays->list[at].path);
+    return &bays->list[at];
 }
 
 struct bay *bays_see(struct bays *bays, const struct port *port, int64_t now_ms)
 {
-    struct bay *bay = bay_of(bays, port->path);
-    if (bay == NULL || bay->state == BAY_BUSY)
+    struct bay *bay = find(bays, port->path);
+    if (bay == NULL)
+        return port->is_wanted ? make(bays, port->path) : NULL;
+    if (bay->state == BAY_BUSY || (bay->state == BAY_FREE && !port->is_wanted))
         return NULL;
     if (port->is_wanted && (bay->state == BAY_FREE || !bay->is_there)) {
         bay->is_late = bay->state == BAY_DONE && now_ms - bay->since_ms >= LATE_MS;

@@ -28,23 +28,35 @@ void rows_clear(struct rows *rows)
     rows->shown_ms = 0;
 }
 
+/* Whether there is something to show of it. */
+static bool is_shown(const struct worker *worker)
+{
+    return !worker->is_early || worker->row[0] != '\0';
+}
+
 /* No row is wider than the terminal, and there are no more than it has lines. */
 void rows_draw(struct rows *rows, const struct worker *workers, int count)
 {
-    int columns = bar_columns() - 1, most = bar_lines() - 2;
+    int columns = bar_columns() - 1, most = bar_lines() - 3, more = 0;
     int64_t now_ms = clock_ms();
     if (!rows->are_on || (rows->shown_ms != 0 && now_ms - rows->shown_ms < SHOW_MS))
         return;
     rows_clear(rows);
     rows->shown_ms = now_ms;
-    for (int at = 0; at < count && rows->drawn < most; at++) {
-        const struct worker *worker = &workers[at];
+    for (int at = 0; at < count; at++) {
         char line[256];
-        if (worker->is_early && worker->row[0] == '\0')
+        if (!is_shown(&workers[at]))
             continue;
-        snprintf(line, sizeof line, "%-9s %s", worker->bay->path, worker->row[0] != '\0' ? worker->row : "looking at the device");
+        if (rows->drawn >= most) {
+            more++;
+            continue;
+        }
+        snprintf(line, sizeof line, "%-9s %s", workers[at].bay->path,
+                 workers[at].row[0] != '\0' ? workers[at].row : "looking at the device");
         fprintf(stderr, "%.*s\n", columns, line);
         rows->drawn++;
     }
+    if (more > 0)
+        rows->drawn += fprintf(stderr, "and %d more\n", more) > 0;
     fflush(stderr);
 }

@@ -196,7 +196,8 @@ bool worker_has_ended(struct worker *worker, int *status, const char **why)
 
 void worker_stop(struct worker *worker, int64_t deadline_ms)
 {
-    kill(worker->process, SIGTERM);
+    /* SIGTERM comes where this process ends: a second signal of one kind would end that one at once. */
+    kill(worker->process, SIGINT);
     if (worker->deadline_ms == 0 || worker->deadline_ms > deadline_ms)
         worker->deadline_ms = deadline_ms;
 }

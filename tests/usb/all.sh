@@ -76,14 +76,14 @@ ended 1-11 verified new
 ended 1-12 other old
 ended 1-13 broken old
 expect '1-14: not meant' test ! -e saved-1-14
-expect 'the one that left is the last' grep -q '^1-7 ' <<END
-$(tail -n 1 out)
-END
+expect 'the one that left is the last' test "$(sed -n '$s/ .*//p' out)" = 1-7
 says '1-4: dfu-flash: errADDRESS: '
 says '1-8: SUBSYSTEM=="usb"'
 says 'dfu-flash: 6 flashed, 10 not'
-expect 'a log of each that was worked with' test "$(cd logs && echo *)" = \
-    '1-11_1.log 1-12_1.log 1-13_1.log 1-1_1.log 1-2.1_1.log 1-2.2_1.log 1-2.3_1.log 1-2.4_1.log 1-3_1.log 1-4_1.log 1-5_1.log 1-6_1.log 1-7_1.log 1-9_1.log'
+for path in 1-1 1-2.1 1-2.2 1-2.3 1-2.4 1-3 1-4 1-5 1-6 1-7 1-9 1-11 1-12 1-13; do
+    echo "${path}_1.log"
+done | LC_ALL=C sort > wanted
+expect 'a log of each that was to be opened' test "$(LC_ALL=C ls logs)" = "$(cat wanted)"
 expect 'a log' test "$("$dfu" judge logs/1-2.1_1.log | cut -d ' ' -f 1)" = kept
 expect 'a log: its requests' test "$(grep -c '^[0-9a-f]\{16\} ' logs/1-2.1_1.log)" -eq "$(grep -c '^[0-9]' log-1-2.1)"
 
@@ -125,16 +125,48 @@ expect 'one hangs: the other one first' test "$(sed -n '1s/ .*//p' out)" = 1-1
 ended 1-1 verified new
 expect 'one hangs: its record' grep -q '^1-2 .*silent: it did not end in time' out
 # Those that are at work give up at a signal, one that hangs too.
+# begin WORDS..: the same in the background; its number is in $first. reap: waits for it.
+begin() {
+    rm -f saved-* log-*
+    env LD_LIBRARY_PATH="$work" USB_IMAGE="$work/old" USB_BOARDS="$work/boards" ./dfu-flash --all "$@" > out 2> err &
+    first=$!
+}
+reap() {
+    code=0
+    wait "$first" || code=$?
+}
+last_of() {
+    grep '^[0-9]' "log-$1" | tail -n 1 | cut -d ' ' -f 2
+}
 board 1-3 USB_BUSY=60000
-(sleep 0.7; kill -INT "$(cat pid)") &
-code=0
-env LD_LIBRARY_PATH="$work" USB_IMAGE="$work/old" USB_BOARDS="$work/boards" sh -c 'echo $$ > pid; exec ./dfu-flash --all new.dfu' > out 2> err || code=$?
-wait
+begin new.dfu
+sleep 0.7
+kill -INT "$first"
+reap
 expect 'a signal' test "$code" -eq 11
 ended 1-3 aborted old
-expect 'a signal: ABORT' test "$(grep '^[0-9]' log-1-3 | tail -n 1 | cut -d ' ' -f 2)" = ABORT
+expect 'a signal: ABORT' test "$(last_of 1-3)" = ABORT
 ended 1-1 verified new
 expect 'a signal: one that hangs' grep -q '^1-2 .*silent: ' out
+# Where the first process is ended at once, by a second signal or by force, those that are at work give up by themselves.
+for signals in 'INT INT' KILL; do
+    no_boards
+    board 1-1 USB_BUSY=60000
+    board 1-2 USB_SLOW=1500
+    begin new.dfu
+    sleep 0.5
+    for signal in $signals; do
+        kill "-$signal" "$first"
+        sleep 0.3
+    done
+    reap
+    expect "$signals: at once" test "$code" -gt 128
+    sleep 4
+    for path in 1-1 1-2; do
+        expect "$signals, $path: ABORT" test "$(last_of $path)" = ABORT
+        expect "$signals, $path: the old image" cmp "saved-$path" old
+    done
+done
 
 # With --wait: those that come, also in the place of one that was pulled out; a board that was flashed is not flashed again.
 no_boards
@@ -156,10 +188,10 @@ done
 expect 'one that comes within two seconds, with no serial number, counts as the one of before' test ! -e saved-too-soon
 no_boards
 board 1-1 USB_DEVICE=uboot
-(sleep 1.5; kill -INT "$(cat pid)") &
-code=0
-env LD_LIBRARY_PATH="$work" USB_IMAGE="$work/old" USB_BOARDS="$work/boards" sh -c 'echo $$ > pid; exec ./dfu-flash --all --wait new.dfu' > out 2> err || code=$?
-wait
+begin --wait new.dfu
+sleep 1.5
+kill -INT "$first"
+reap
 expect 'the end of a line is no failure' test "$code" -eq 0
 expect 'one record' test "$(wc -l < out)" -eq 1
 

@@ -150,6 +150,8 @@ static void check_image(int status)
         return;
     if (status == 0 && !is_in_place())
         fault("the status is 0, and the device doesn't have the image");
+    if (status == 0 && firmware.is_raw && (!asked.has_ids || asked.vendor == 0xffff || asked.product == 0xffff))
+        fault("a raw image was sent to a device that isn't named");
     if (status == 9 && is_in_place())
         fault("the status is 9, and the device has the image");
     outcome->is_placed = status == 0;

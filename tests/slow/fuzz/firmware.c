@@ -93,9 +93,13 @@ void firmware_make(void)
     any_bytes(firmware.bytes, firmware.payload);
     address();
     suffix(firmware.bytes + firmware.payload, size);
-    firmware.length = firmware.payload + size;
+    firmware.length = firmware.payload + (chance(15) ? 0 : size);
     if (chance(30))
         spoil();
+    /* What has no signature is a raw image, and is sent whole. */
+    firmware.is_raw = firmware.length < 16 || memcmp(firmware.bytes + firmware.length - 8, "UFD", 3) != 0;
+    if (firmware.is_raw)
+        firmware.payload = firmware.length;
     clear_folder();
     write_file(FILE_NAME, firmware.bytes, firmware.length);
     make_out();

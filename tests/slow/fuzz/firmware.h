@@ -12,6 +12,7 @@
 struct firmware {
     uint8_t bytes[MOST_FIRMWARE + 300];
     uint32_t payload, length; /* bytes of the image, and of the file */
+    bool is_raw;              /* it has no suffix */
     uint16_t vendor, product, release;
     enum { OUT_NONE, OUT_FILE, OUT_FOLDER, OUT_LINK } out; /* what stands at OUT; a link names the file `other` */
 };

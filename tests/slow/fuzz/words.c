@@ -131,7 +131,12 @@ static void say_time(void)
         say("--wait");
     else if (asked.is_patient) {
         asked.wait = between(1, chance(4) ? 1000 : 20);
-        say("--wait=%u", asked.wait);
+        if (chance(2))
+            say("--wait=%u", asked.wait);
+        else {
+            say(chance(2) ? "-w" : "--wait");
+            say("%u", asked.wait);
+        }
     }
     if (chance(6)) {
         asked.timeout = between(1, chance(2) ? 10 : 1000);
@@ -166,8 +171,11 @@ static void say_job(void)
     else if (asked.job == JOB_UPLOAD) {
         say("--upload");
         say(OUT_NAME);
-    } else
+    } else {
+        if (chance(3))
+            say("-D");
         say(!chance(60) ? FILE_NAME : chance(2) ? "nowhere" : "no\x1b[2Jwhere\xff");
+    }
 }
 
 static void say_sound(void)
@@ -193,7 +201,8 @@ static void say_any(void)
         "--quiet", "--json", "--list", "--detach", "--wait", "--wait=", "--wait=5", "--timeout", "--transfer-size", "--verbose",
         "--help", "-h", "--version", "-V", FILE_NAME, FILE_NAME, FILE_NAME, "--", "-", "--what", "--device=1209:0001",
         "1209:0001,1209:00ff", "1209:0001,", "1209:0001,1209:00", "12", "--alt=1", "--l", "--w=3", "--time=2", "--upload=",
-        "--serial=\x1b[2J", "99999999999999999999"};
+        "--serial=\x1b[2J", "99999999999999999999", "-D", "-U", "-l", "-d", "-p", "-S", "F1,F2", "-i", "-a", "01", "-t", "-w", "-e", "-R",
+        "-s", "-Z", "-v", "-n", "-c", "-E"};
     for (uint32_t count = below(8); count > 0; count--)
         say("%s", some[below(sizeof some / sizeof some[0])]);
 }
