@@ -3,7 +3,7 @@
 use crate::mode::Mode;
 use crate::reply::Reply;
 
-/// What a row of the device table says is to be done. Only the medium is left open: where a write has a fault, the device
+/// What a row of the device table says is to be done. Only the medium is left open: if a write has a fault, the device
 /// enters dfuERROR in place of the mode that is named here, and a status in its answer is that of dfuERROR.
 #[derive(Clone, Copy, Debug, PartialEq, Eq)]
 pub enum Decision {

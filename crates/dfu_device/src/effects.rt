@@ -4,7 +4,7 @@ ghost use Rattle.std.specs.Prelude.{◌≡◌, ◌<◌, ◌≤◌, ◌+◌, ◌+
 ghost use Rattle.dfu_slots.specs.Medium.{Rose};
 ghost use Rattle.dfu_slots.specs.Seen.{image_of, spare_of, room_of, is_shaped, Called};
 ghost use Rattle.dfu_slots.specs.Changes.{fault_of, ending_of};
-ghost use Rattle.dfu_device.specs.Stage.{poll_of, status_of};
+ghost use Rattle.dfu_device.specs.Stage.{status_of};
 ghost use Rattle.dfu_device.specs.Table.{write_code, commit_code};
 ghost use Rattle.dfu_device.specs.Shown.{profile};
 ghost use Rattle.dfu_device.specs.Parts.{is_put, is_filled, stage_of};
@@ -19,32 +19,18 @@ use crate::decision::Decision;
 use crate::draft::{Draft, draft_of};
 use crate::machine::Machine;
 use crate::mode::Mode;
+use crate::status::status_in;
 use dfu_slots::{Medium, PutFault, Slots, WriteFault};
-use dfu_wire::{Code, Status};
+use dfu_wire::Code;
 
 impl<M: Medium, B: Block> Machine<M, B> {
-    /// How long the host is to wait, in milliseconds.
-    fn poll_ms(&self) -> u32
-        ensures value { result ≡ poll_of (profile (shown self.now)) (shown self.now).stage }
-        ensures fits { result < 2 ^ 24 }
-    {
-        match self.mode {
-            Mode::DownloadBusy { .. } => self.config.busy_ms(),
-            Mode::Manifest { .. } => self.config.manifest_ms(),
-            _ => 0,
-        }
-    }
-
     /// The six bytes of the status.
     pub(crate) fn status(&self) -> [u8; 6]
         ensures answers { (len : ℕ) →
             Answers len (status_of (profile (shown self.now)) (shown self.now).stage) Answer.Bytes (take len result) }
         ensures size { length result ≡ 6 }
     {
-        let Ok(status) = Status::new(self.code(), self.poll_ms(), self.state()) else {
-            unreachable!()
-        };
-        status.encode()
+        status_in(&self.config, self.mode)
     }
 
     /// Carries a decision out, with the body of its request, which asks for so many bytes of a status or of a state.

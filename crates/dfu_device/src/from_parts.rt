@@ -1,11 +1,11 @@
 //! A device is taken apart, and put together again: for a caller who keeps its parts between two calls.
 
-ghost use Rattle.std.specs.Prelude.{◌≡◌, ◌<◌, ◌≤◌, ◌^◌, ◌+◌, ◌==◌, ◌&&◌, ◌||◌, ◌↔◌, nat_le, nat_lt, length, IsOk, IfOk, IfErr, IsTrue, not};
-ghost use Rattle.dfu_slots.specs.Seen.{room_of};
-ghost use Rattle.dfu_device.specs.Parts.{shows, is_put, is_sound};
+ghost use Rattle.std.specs.Prelude.{◌≡◌, ◌<◌, ◌≤◌, ◌^◌, ◌↔◌, length, IsOk, IfOk, IfErr, IsTrue, not};
+ghost use Rattle.dfu_device.specs.Parts.{shows, is_sound};
 ghost use Rattle.dfu_device.specs.inside.View.{shown};
 
 use crate::block::Block;
+use crate::filled::{PutSoFar, is_filled};
 use crate::machine::Machine;
 use crate::mode::Mode;
 use crate::{Config, Device};
@@ -102,45 +102,16 @@ impl<M: Medium, B: Block> Machine<M, B> {
     }
 }
 
-// Whether so many bytes were put in the closed spare, and no more.
-fn is_put<M: Medium>(slots: &Slots<M>, written: u32) -> bool
-    ensures { result ≡ is_put written slots.now }
-{
-    slots.is_begun() && slots.put_end() == written
-}
-
-// Whether all is written, and some of it.
-fn is_written<M: Medium>(slots: &Slots<M>, written: u32) -> bool
-    ensures { result ≡ (nat_lt 0 written && (nat_le written (room_of slots.now) && is_put written slots.now)) }
-{
-    0 < written && written <= slots.capacity() && is_put(slots, written)
-}
-
-// Whether a block of so many bytes finds room behind what is written.
-fn is_next<M: Medium>(slots: &Slots<M>, written: u32, block: usize) -> bool
-    requires { block < 2 ^ 32 }
-    ensures { result ≡ (nat_lt 0 block && (nat_le (written + block) (room_of slots.now) && ((written == 0) || is_put written slots.now))) }
-{
-    0 < block
-        && u64::from(written) + block as u64 <= u64::from(slots.capacity())
-        && (written == 0 || is_put(slots, written))
-}
-
 /// Whether these are a device's.
 pub(crate) fn is_sound<M: Medium>(slots: &Slots<M>, mode: Mode, block: usize) -> bool
     requires { block < 2 ^ 32 }
     ensures { result ≡ is_sound mode block slots.now }
 {
-    // Called for its clauses, which say that the store is shaped.
-    let _ = slots.capacity();
-    match mode {
-        Mode::DownloadSync { written, .. } | Mode::DownloadBusy { written, .. } => {
-            is_next(slots, written, block)
-        }
-        Mode::DownloadSyncWritten { written, .. }
-        | Mode::DownloadIdle { written, .. }
-        | Mode::ManifestSync { written }
-        | Mode::Manifest { written, .. } => is_written(slots, written),
-        _ => true,
-    }
+    // `capacity` also says that the store is shaped.
+    let seen = PutSoFar {
+        room: slots.capacity(),
+        begun: slots.is_begun(),
+        end: slots.put_end(),
+    };
+    is_filled(seen, mode, block)
 }

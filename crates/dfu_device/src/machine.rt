@@ -6,7 +6,7 @@ ghost use Rattle.dfu_device.specs.Stage.{InAppIdle, state_of, code_of};
 ghost use Rattle.dfu_device.specs.Table.{reset_stage};
 ghost use Rattle.dfu_device.specs.Shown.{Shown, profile, powered_on};
 ghost use Rattle.dfu_device.specs.Parts.{is_sound};
-ghost use Rattle.dfu_device.specs.Rows.{Handles, Elapses, body_length, asked_length};
+ghost use Rattle.dfu_device.specs.Rows.{Handles, Elapses};
 ghost use Rattle.dfu_device.specs.Lent.{answer_room};
 ghost use Rattle.dfu_device.specs.Decision.{profile_in, HasLength};
 ghost use Rattle.dfu_device.specs.inside.Draft.{Drafted, DraftServed, DraftHandled};
@@ -15,6 +15,7 @@ use crate::block::Block;
 use crate::draft::Draft;
 use crate::mode::Mode;
 use crate::profile::Profile;
+use crate::rules::{asked_length, goes_with};
 use crate::table::decide;
 use crate::time_table::decide_time;
 use crate::{Answer, Config};
@@ -79,13 +80,7 @@ impl<M: Medium, B: Block> Machine<M, B> {
         ensures capacity { result.capacity ≡ room_of self.now.slots }
         ensures transfer { result.functional.transfer ≡ self.now.config.functional.transfer }
     {
-        Profile {
-            functional: self.config.functional(),
-            least: self.config.least(),
-            busy_ms: self.config.busy_ms(),
-            manifest_ms: self.config.manifest_ms(),
-            capacity: u64::from(self.slots.capacity()),
-        }
+        self.config.profile(u64::from(self.slots.capacity()))
     }
 
     /// What a setup with its body comes to: the three rules before the table, then the table.
@@ -131,31 +126,6 @@ impl<M: Medium, B: Block> Machine<M, B> {
         ensures row { shown self.new ≡ record (shown self.old) { stage = reset_stage (shown self.old).stage } }
         ensures memory { B.memory self.new.block ≡ B.memory self.old.block }
     {
-        self.mode = match self.mode {
-            Mode::AppDetach { .. } => Mode::DfuIdle,
-            _ => Mode::AppIdle,
-        };
+        self.mode = self.mode.after_reset();
     }
-}
-
-/// How many bytes of a status or of a state a request asks for: wLength.
-fn asked_length(request: Request) -> u16
-    ensures { result ≡ asked_length request }
-{
-    match request {
-        Request::GetStatus { length } | Request::GetState { length } => length,
-        _ => 0,
-    }
-}
-
-/// Whether a body goes with its setup: wLength bytes where the host sends, none where it reads.
-fn goes_with(setup: &Setup, body: &[u8]) -> bool
-    ensures { result ≡ (length body.now == body_length setup.now) }
-{
-    let len = if setup.kind == 0x21 {
-        setup.length as usize
-    } else {
-        0
-    };
-    body.len() == len
 }

@@ -1,8 +1,10 @@
 //! Where a device stands.
 
-ghost use Rattle.std.specs.Prelude.{◌≡◌, ℕ, List};
+ghost use Rattle.std.specs.Prelude.{◌≡◌, ℕ, List, true};
+ghost use Rattle.dfu_slots.specs.Seen.{SlotsState};
 ghost use Rattle.dfu_device.specs.Stage.{state_of, code_of};
-ghost use Rattle.dfu_device.specs.Parts.{stage_of};
+ghost use Rattle.dfu_device.specs.Table.{reset_stage};
+ghost use Rattle.dfu_device.specs.Parts.{stage_of, is_filled};
 
 use dfu_wire::{Code, State};
 
@@ -112,6 +114,17 @@ impl Mode {
         match self {
             Mode::Error { code } => code,
             _ => Code::Ok,
+        }
+    }
+
+    /// The mode after a reset of the bus.
+    pub fn after_reset(self) -> Mode
+        ensures stage { (spare block : List ℕ) → stage_of result spare block ≡ reset_stage (stage_of self spare block) }
+        ensures filled { (block : ℕ) (s : SlotsState) → is_filled result block s ≡ true }
+    {
+        match self {
+            Mode::AppDetach { .. } => Mode::DfuIdle,
+            _ => Mode::AppIdle,
         }
     }
 }

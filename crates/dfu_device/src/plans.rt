@@ -59,7 +59,7 @@ pub(crate) fn tell(mode: Mode) -> Decision
     }
 }
 
-/// DNLOAD with wLength over 0, where so many bytes are written and this number is due: the errors in their order, else the block
+/// DNLOAD with wLength over 0, if so many bytes are written and this number is due: the errors in their order, else the block
 /// is kept and counts as taken, not as written.
 fn block(profile: &Profile, written: u32, expected: u16, number: u16, size: u16) -> Decision
     ensures row { (image spare block body : List ℕ) → length (take written spare) ≡ written → length body ≡ size
@@ -97,7 +97,7 @@ pub(crate) fn first(profile: &Profile, number: u16, size: u16) -> Decision
     block(profile, 0, 0, number, size)
 }
 
-/// DNLOAD in dfuDNLOAD-IDLE: one with wLength 0 closes the download, where the image is long enough.
+/// DNLOAD in dfuDNLOAD-IDLE: one with wLength 0 closes the download, if the image is long enough.
 pub(crate) fn further(
     profile: &Profile,
     written: u32,
@@ -119,7 +119,7 @@ pub(crate) fn further(
     ack(Mode::ManifestSync { written })
 }
 
-/// UPLOAD, where so many bytes were sent and this number is due: the errors in their order, else the next bytes of the image.
+/// UPLOAD, if so many bytes were sent and this number is due: the errors in their order, else the next bytes of the image.
 pub(crate) fn upload(
     profile: &Profile,
     place: u32,

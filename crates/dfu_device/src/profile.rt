@@ -1,5 +1,10 @@
 //! What the table reads of a device.
 
+ghost use Rattle.std.specs.Prelude.{◌≡◌};
+ghost use Rattle.dfu_device.specs.Shown.{profile_of};
+ghost use Rattle.dfu_device.specs.Decision.{profile_in};
+
+use crate::Config;
 use dfu_wire::Functional;
 
 /// What the table reads of a device beside its mode: what is fixed of it.
@@ -15,4 +20,21 @@ pub struct Profile {
     pub manifest_ms: u32,
     /// The most bytes of an image.
     pub capacity: u64,
+}
+
+impl Config {
+    /// What the table reads of a device that is set up like this, with room for images of so many bytes.
+    pub fn profile(&self, capacity: u64) -> Profile
+        ensures profile { profile_in result ≡ profile_of self.now capacity }
+        ensures capacity { result.capacity ≡ capacity }
+        ensures transfer { result.functional.transfer ≡ self.now.functional.transfer }
+    {
+        Profile {
+            functional: self.functional(),
+            least: self.least(),
+            busy_ms: self.busy_ms(),
+            manifest_ms: self.manifest_ms(),
+            capacity,
+        }
+    }
 }

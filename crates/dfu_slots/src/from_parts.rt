@@ -1,6 +1,7 @@
 //! A store is taken apart, and put together again: for a caller who keeps its parts between two calls.
-ghost use Rattle.std.specs.Prelude.{◌≡◌, ◌≤◌, ◌↔◌, length, IsOk, IfOk, IfErr, IsTrue};
-ghost use Rattle.dfu_slots.specs.Image.{gate_of, spare_at, IsSized};
+ghost use Rattle.std.specs.Prelude.{◌≡◌, ◌+◌, ◌≤◌, ◌↔◌, ℕ, List, length, IsOk, IfOk, IfErr, IsTrue};
+ghost use Rattle.dfu_slots.specs.Layout.{slot_size};
+ghost use Rattle.dfu_slots.specs.Image.{gate_of, capacity_of, spare_at, IsSized};
 ghost use Rattle.dfu_slots.specs.Medium.{IsAhead};
 ghost use Rattle.dfu_slots.specs.Seen.{store_of};
 ghost use Rattle.dfu_slots.specs.Store.{HasPuts, IsStore};
@@ -33,22 +34,20 @@ fn is_ahead<M: Medium>(medium: &M, at: u32) -> bool
     true
 }
 
-/// Whether so many bytes are held back as puts that end there leave, and the sector is erased behind what was written. The
-/// spare begins at `spare`.
-pub(crate) fn has_puts<M: Medium>(
-    medium: &M,
-    held: &ArrayVec<u8, 256>,
-    end: u32,
-    spare: u32,
-) -> bool
+/// Whether as many bytes are held back, `held`, as puts that end there leave, and the sector is erased behind what was written.
+/// The spare begins at `spare`.
+pub fn has_puts<M: Medium>(medium: &M, held: usize, end: u32, spare: u32) -> bool
     requires sized { IsSized (M.state medium.now) }
-    requires spare { spare ≡ spare_at (gate_of (M.state medium.now)) (M.state medium.now).bytes }
-    ensures { IsTrue result ↔ HasPuts (store_of (M.state medium.now) held.now.items end) }
+    requires slot { spare + slot_size (M.state medium.now).bytes ≤ length (M.state medium.now).bytes }
+    ensures puts { (bytes : List ℕ) → length bytes ≡ held → spare ≡ spare_at (gate_of (M.state medium.now)) (M.state medium.now).bytes →
+        IsTrue result ↔ HasPuts (store_of (M.state medium.now) bytes end) }
+    ensures fits { IsTrue result → end ≤ capacity_of (M.state medium.now) }
+    ensures within { IsTrue result → held ≤ end }
 {
-    if end > capacity_of(medium) || held.len() != (end % medium.unit().size()) as usize {
+    if end > capacity_of(medium) || held != (end % medium.unit().size()) as usize {
         return false;
     }
-    is_ahead(medium, data_at(medium, spare) + (end - held.len() as u32))
+    is_ahead(medium, data_at(medium, spare) + (end - held as u32))
 }
 
 impl<M: Medium> Slots<M> {
@@ -93,7 +92,7 @@ impl<M: Medium> Slots<M> {
             Ok(places) => places,
             Err(_) => return Err(medium),
         };
-        if !has_puts(&medium, &held, end, places.spare) {
+        if !has_puts(&medium, held.len(), end, places.spare) {
             return Err(medium);
         }
         Ok(Slots {

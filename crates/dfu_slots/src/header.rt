@@ -4,7 +4,7 @@ ghost use Rattle.std.specs.Int.{w32, from_le_bytes};
 ghost use Rattle.dfu_slots.specs.Layout.{header};
 
 /// The length.
-pub(crate) fn length_in(header: &[u8; 16]) -> u32
+pub fn length_in(header: &[u8; 16]) -> u32
     ensures { result ≡ from_le_bytes w32 (take 4 (drop 4 header.now)) }
 {
     u32::from_le_bytes([header[4], header[5], header[6], header[7]])

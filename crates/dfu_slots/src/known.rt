@@ -131,7 +131,7 @@ impl<M: Medium> Slots<M> {
             Some(places) => places,
             None => return Err(medium),
         };
-        if !has_puts(&medium, &held, end, places.spare) {
+        if !has_puts(&medium, held.len(), end, places.spare) {
             return Err(medium);
         }
         Ok(Slots {

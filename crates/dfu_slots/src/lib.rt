@@ -24,9 +24,15 @@ mod steps;
 mod unit;
 mod writes;
 
+// For a caller who reads a medium by itself, and knows which slot is active.
 pub use fault::{FormatFault, OpenFault, PutFault, WriteFault};
+pub use from_parts::has_puts;
+pub use header::length_in;
 pub use medium::{Failed, Faulty, Medium};
 pub use noted::{LastWrites, WriteEnd, WriteNote};
+pub use open::{check, is_sized};
+pub use places::Places;
+pub use read::{capacity_of, data_at, gate_of, generation, header_of, is_open, read_data};
 pub use sim::{NoMemory, SimMedium};
 pub use slots::Slots;
 pub use unit::Unit;

@@ -24,7 +24,7 @@ fn is_whole(unit: Unit, sector: u32, len: u32) -> bool
 }
 
 /// Whether the medium has a length that two slots can have, with whole units and sectors of data each.
-pub(crate) fn is_sized<M: Medium>(medium: &M) -> bool
+pub fn is_sized<M: Medium>(medium: &M) -> bool
     ensures { IsTrue result ↔ IsSized (M.state medium.now) }
 {
     let sector = medium.sector();
@@ -40,11 +40,12 @@ pub(crate) fn is_sized<M: Medium>(medium: &M) -> bool
 }
 
 /// Where the slots of a medium stand that has an active image, or else the first fault of it.
-pub(crate) fn check<M: Medium>(medium: &M) -> Result<Places, OpenFault>
+pub fn check<M: Medium>(medium: &M) -> Result<Places, OpenFault>
     ensures ok { OnOk result (HasImage (M.state medium.now)) }
     ensures active { IfOk result (λ p. p.active ≡ active_at (gate_of (M.state medium.now)) (M.state medium.now).bytes) }
     ensures spare { IfOk result (λ p. p.spare ≡ spare_at (gate_of (M.state medium.now)) (M.state medium.now).bytes) }
     ensures fault { IfErr result (λ fault. IsOpenFault fault (M.state medium.now)) }
+    ensures sized { OnOk result (IsSized (M.state medium.now)) }
 {
     if !is_sized(medium) {
         return Err(OpenFault::WrongSize);

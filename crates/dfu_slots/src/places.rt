@@ -9,7 +9,9 @@ use crate::read::{counts, generation};
 /// Where the active slot stands, and where the spare one does.
 #[derive(Clone, Copy, Drop)]
 pub struct Places {
+    /// Where the active slot begins.
     pub active: u32,
+    /// Where the spare slot begins.
     pub spare: u32,
 }
 

@@ -68,14 +68,14 @@ pub(crate) fn stands_at<M: Medium>(medium: &M, at: u32, bytes: &[u8]) -> bool
 }
 
 /// How many bytes the gate of a slot has for itself, and as many its header: a unit of at least 16, or a sector.
-pub(crate) fn gate_of<M: Medium>(medium: &M) -> u32
+pub fn gate_of<M: Medium>(medium: &M) -> u32
     ensures { result ≡ gate_of (M.state medium.now) }
 {
     gate_size(medium.unit()).max(medium.sector())
 }
 
 /// How many bytes of data each slot has.
-pub(crate) fn capacity_of<M: Medium>(medium: &M) -> u32
+pub fn capacity_of<M: Medium>(medium: &M) -> u32
     requires { IsSized (M.state medium.now) }
     ensures { result ≡ capacity_of (M.state medium.now) }
 {
@@ -83,7 +83,7 @@ pub(crate) fn capacity_of<M: Medium>(medium: &M) -> u32
 }
 
 /// Whether the slot that begins there is open.
-pub(crate) fn is_open<M: Medium>(medium: &M, at: u32) -> bool
+pub fn is_open<M: Medium>(medium: &M, at: u32) -> bool
     requires { at < length (M.state medium.now).bytes }
     ensures { result ≡ ((slot_of (M.state medium.now) at).gate == OPEN) }
 {
@@ -91,7 +91,7 @@ pub(crate) fn is_open<M: Medium>(medium: &M, at: u32) -> bool
 }
 
 /// The 16 bytes of the header of the slot that begins there.
-pub(crate) fn header_of<M: Medium>(medium: &M, at: u32) -> [u8; 16]
+pub fn header_of<M: Medium>(medium: &M, at: u32) -> [u8; 16]
     requires sized { IsSized (M.state medium.now) }
     requires within { at + slot_size (M.state medium.now).bytes ≤ length (M.state medium.now).bytes }
     ensures { result ≡ (slot_of (M.state medium.now) at).header }
@@ -125,7 +125,7 @@ pub(crate) fn counts<M: Medium>(medium: &M, at: u32) -> bool
 }
 
 /// The generation in the header of the slot that begins there.
-pub(crate) fn generation<M: Medium>(medium: &M, at: u32) -> u8
+pub fn generation<M: Medium>(medium: &M, at: u32) -> u8
     requires sized { IsSized (M.state medium.now) }
     requires within { at + gate_of (M.state medium.now) < length (M.state medium.now).bytes }
     ensures { result ≡ generation (slot_of (M.state medium.now) at) }
@@ -155,7 +155,7 @@ pub(crate) fn header_len<M: Medium>(medium: &M, at: u32) -> Option<u32>
 }
 
 /// Where the data of the slot that begins there begins.
-pub(crate) fn data_at<M: Medium>(medium: &M, slot_at: u32) -> u32
+pub fn data_at<M: Medium>(medium: &M, slot_at: u32) -> u32
     requires sized { IsSized (M.state medium.now) }
     requires slot { slot_at + slot_size (M.state medium.now).bytes ≤ length (M.state medium.now).bytes }
     ensures { result ≡ slot_at + 2 * gate_of (M.state medium.now) }
@@ -164,7 +164,7 @@ pub(crate) fn data_at<M: Medium>(medium: &M, slot_at: u32) -> u32
 }
 
 /// Reads from the data of the slot that begins there.
-pub(crate) fn read_data<M: Medium>(medium: &M, slot_at: u32, at: u32, out: &mut [u8])
+pub fn read_data<M: Medium>(medium: &M, slot_at: u32, at: u32, out: &mut [u8])
     requires sized { IsSized (M.state medium.now) }
     requires slot { slot_at + slot_size (M.state medium.now).bytes ≤ length (M.state medium.now).bytes }
     requires within { at + length out.old ≤ capacity_of (M.state medium.now) }

@@ -1,12 +1,10 @@
 use Rattle.std.proofs.Common.{◌≡◌, ℕ, List, refl, arith}
-use Rattle.dfu_slots.specs.Seen.{spare_of}
 use Rattle.dfu_device.specs.declared.mode.Mode.{Mode}
 use Rattle.dfu_device.specs.declared.mode.Mode.TheVariants as mode
 use Rattle.dfu_device.specs.Stage.{Profile, poll_of}
-use Rattle.dfu_device.specs.Shown.{profile}
+use Rattle.dfu_device.specs.Shown.{profile_of}
 use Rattle.dfu_device.specs.Parts.{stage_of}
-use Rattle.dfu_device.specs.inside.View.{shown}
-use Rattle.dfu_device.proofs.machine.Machine.poll_ms.Goals as goal
+use Rattle.dfu_device.proofs.status.poll_ms.Goals as goal
 
 -- In every other state a host has not to wait.
 no_poll : (c : Profile) (m : Mode) (spare block : List ℕ) → ((written number passed : ℕ) → m ≡ mode.DownloadBusy written number passed → ⊥)
@@ -16,12 +14,8 @@ no_poll c (mode.Manifest written passed) spare block busy manifest = absurd (man
 no_poll c m spare block busy manifest = refl
 
 pub returns-in_default : goal.returns-in_default
-returns-in_default g c =
-    let d = c.args.self.now in
-    record {
-      value = no_poll (profile (shown d)) d.mode
-          (spare_of d.slots) (g.B.Block.items d.block) c.in_default.not-DownloadBusy c.in_default.not-Manifest;
-      fits = omega arith;
-    }
-
--- Touch.
+returns-in_default c = record {
+  value = λ room spare block.
+      no_poll (profile_of c.args.config.now room) c.args.mode spare block c.in_default.not-DownloadBusy c.in_default.not-Manifest;
+  fits = omega arith;
+}

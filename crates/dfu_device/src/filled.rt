@@ -1,0 +1,60 @@
+//! Whether a mode goes with what was put in a slot store.
+
+ghost use Rattle.std.specs.Prelude.{◌≡◌, ◌^◌, ◌<◌, ◌+◌, ◌==◌, ◌&&◌, ◌||◌, nat_lt, nat_le};
+ghost use Rattle.dfu_slots.specs.Seen.{SlotsState, room_of, is_begun};
+ghost use Rattle.dfu_device.specs.Parts.{is_filled};
+
+use crate::mode::Mode;
+
+/// What tells of a slot store whether a mode goes with it.
+#[derive(Clone, Copy, Debug, PartialEq, Eq)]
+pub struct PutSoFar {
+    /// The most bytes of an image.
+    pub room: u32,
+    /// Whether the gate of the spare slot is closed.
+    pub begun: bool,
+    /// Where the puts end.
+    pub end: u32,
+}
+
+// Whether so many bytes were put in the closed spare, and no more.
+fn is_put(seen: PutSoFar, written: u32) -> bool
+    ensures { result ≡ (seen.begun && (seen.end == written)) }
+{
+    seen.begun && seen.end == written
+}
+
+// Whether all is written, and some of it.
+fn is_written(seen: PutSoFar, written: u32) -> bool
+    ensures { result ≡ (nat_lt 0 written && (nat_le written seen.room && (seen.begun && (seen.end == written)))) }
+{
+    0 < written && written <= seen.room && is_put(seen, written)
+}
+
+// Whether a block of so many bytes finds room after what is written.
+fn is_next(seen: PutSoFar, written: u32, block: usize) -> bool
+    requires { block < 2 ^ 32 }
+    ensures { result ≡ (nat_lt 0 block && (nat_le (written + block) seen.room && ((written == 0) || (seen.begun && (seen.end == written))))) }
+{
+    0 < block
+        && u64::from(written) + block as u64 <= u64::from(seen.room)
+        && (written == 0 || is_put(seen, written))
+}
+
+/// Whether a mode, with a block of so many bytes that is not written, goes with what was put in each slot store of which this was seen.
+pub fn is_filled(seen: PutSoFar, mode: Mode, block: usize) -> bool
+    requires { block < 2 ^ 32 }
+    ensures { (s : SlotsState) → seen.room ≡ room_of s → seen.begun ≡ is_begun s → seen.end ≡ s.put_end →
+        result ≡ is_filled mode block s }
+{
+    match mode {
+        Mode::DownloadSync { written, .. } | Mode::DownloadBusy { written, .. } => {
+            is_next(seen, written, block)
+        }
+        Mode::DownloadSyncWritten { written, .. }
+        | Mode::DownloadIdle { written, .. }
+        | Mode::ManifestSync { written }
+        | Mode::Manifest { written, .. } => is_written(seen, written),
+        _ => true,
+    }
+}

@@ -1,0 +1,28 @@
+//! The rules before the table: which setups go by it, and how many bytes an answer may have.
+
+ghost use Rattle.std.specs.Prelude.{◌≡◌, ◌==◌, length};
+ghost use Rattle.dfu_device.specs.Rows.{body_length, asked_length};
+
+use dfu_wire::{Request, Setup};
+
+/// How many bytes of a status or of a state a request asks for: wLength.
+pub fn asked_length(request: Request) -> u16
+    ensures { result ≡ asked_length request }
+{
+    match request {
+        Request::GetStatus { length } | Request::GetState { length } => length,
+        _ => 0,
+    }
+}
+
+/// Whether a body goes with its setup: it has wLength bytes if the host sends, and none if it reads.
+pub fn goes_with(setup: &Setup, body: &[u8]) -> bool
+    ensures { result ≡ (length body.now == body_length setup.now) }
+{
+    let len = if setup.kind == 0x21 {
+        setup.length as usize
+    } else {
+        0
+    };
+    body.len() == len
+}
