@@ -6,11 +6,13 @@
 #include "one.h"
 #include "record.h"
 #include "status.h"
+#include "streams.h"
 
 int main(int count, char **texts)
 {
     struct image image = {0};
     struct words words;
+    streams_keep();
     if (!words_read(&words, count, texts))
         return STATUS_WORDS;
     if (words.job != JOB_HELP && words.job != JOB_VERSION)

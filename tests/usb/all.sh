@@ -186,14 +186,23 @@ for image in saved-1-1 saved-second saved-third saved-1-2 saved-1-3 saved-other 
     expect "$image" cmp "$image" new
 done
 expect 'one that comes within two seconds, with no serial number, counts as the one of before' test ! -e saved-too-soon
+# Where a board isn't seen again, and one comes after more than ten seconds: with the same serial number it is the same one. A signal is
+# the end of a production line, and no failure.
 no_boards
-board 1-1 USB_DEVICE=uboot
+board 1-1 USB_SERIAL=F1 USB_PULLED=1
+board 1-1 USB_SERIAL=F1 USB_PLUGGED=1 USB_PAUSE=11000 "USB_SAVE=$work/saved-late"
+board 1-2 USB_SERIAL= USB_PULLED=1
+board 1-2 USB_SERIAL= USB_PLUGGED=3 USB_PAUSE=11000 "USB_SAVE=$work/saved-late-other"
+board 1-3 USB_DEVICE=uboot
 begin --wait new.dfu
-sleep 1.5
+sleep 16
 kill -INT "$first"
 reap
 expect 'the end of a line is no failure' test "$code" -eq 0
-expect 'one record' test "$(wc -l < out)" -eq 1
+expect 'each once' test "$(wc -l < out)" -eq 4
+expect 'the same serial number: the same board' test ! -e saved-late
+says '1-1: the device that was flashed here is back; another one with its serial number has to be plugged in again'
+expect 'no serial number: another board' cmp saved-late-other new
 
 # What is refused before anything is sent.
 all any.dfu
@@ -213,6 +222,18 @@ for words in '--path 1-1 new.dfu' '--serial F1 new.dfu' '--dry-run new.dfu' '--v
     expect "--all $words" test "$code" -eq 2
 done
 row 2 - '' '' --log logs new.dfu
+no_boards
+board 1-1
+for words in new.dfu '--json new.dfu'; do
+    code=0
+    # shellcheck disable=SC2086
+    env LD_LIBRARY_PATH="$work" USB_IMAGE="$work/old" USB_BOARDS="$work/boards" ./dfu-flash --all $words > /dev/full 2> err || code=$?
+    expect 'standard output is full' test "$code" -eq 3
+    expect 'standard output is full: it is flashed' cmp saved-1-1 new
+done
+code=0
+env LD_LIBRARY_PATH="$work" USB_IMAGE="$work/old" USB_BOARDS="$work/boards" ./dfu-flash --all new.dfu <&- >&- 2> err || code=$?
+expect 'standard output is closed' test "$code" -eq 3
 
 # Rows on a terminal, one for each board, that are drawn over one another; none is wider than it.
 if command -v script > /dev/null; then
