@@ -1,0 +1,28 @@
+/* SPDX-License-Identifier: MIT OR Apache-2.0 */
+/* What the standard's status codes mean (section 6.1.2). share/man/dfu-flash.1 has the same list; tests/flash compares them. */
+#include "standard.h"
+
+/* As the standard has it, and of the commonest also what is the matter as a rule. */
+static const char *const meanings[] = {
+    "there is no error",
+    "the file isn't for this device, as the device says",
+    "the file is for this device, but fails a test of its maker",
+    "the device could not write its memory",
+    "the device could not erase its memory",
+    "the memory was erased, and isn't empty",
+    "the device could not program its memory",
+    "what was programmed doesn't read back as it was sent",
+    "an address out of range: as a rule the image is larger than the device has room for",
+    "the image ended before the device had all that it wants: as a rule it is too small for it",
+    "the device's firmware is damaged, and it can't return to it",
+    "an error of the maker's own, which its documents explain",
+    "the device saw a reset of the bus that it did not expect",
+    "the device lost its power, or started anew, unexpectedly",
+    "something went wrong, and the device doesn't know what",
+    "the device stalled a request that it did not expect",
+};
+
+const char *code_words(uint32_t code)
+{
+    return code < sizeof meanings / sizeof *meanings ? meanings[code] : "the standard doesn't have this code";
+}
