@@ -94,8 +94,6 @@ static void elapse(uint64_t ms)
 
 void bus_pass_time(void)
 {
-    if (model == NULL)
-        return;
     uint64_t ms = (now_ns() - told_ns) / 1000000;
     told_ns += ms * 1000000;
     if (ms > 0)
