@@ -4,49 +4,54 @@
 
 #include <stdio.h>
 
+static const char usage[] =
+    "Brings a DFU file to a device over USB (DFU 1.1), or fetches the image that it has\n"
+    "\n"
+    "Usage: dfu-flash [OPTIONS] FILE, or - for standard input\n"
+    "       dfu-flash [OPTIONS] --all FILE\n"
+    "       dfu-flash [OPTIONS] --upload OUT\n"
+    "       dfu-flash [OPTIONS] --detach\n"
+    "       dfu-flash --list\n"
+    "\n"
+    "Coming from dfu-util: its short options are taken if they mean the same here\n"
+    "  -D FILE              FILE; one without a suffix, a raw image, needs -d VID:PID\n"
+    "  -U OUT, -t SIZE      --upload OUT, --transfer-size SIZE\n"
+    "  -l, -w, -e, -V       --list, --wait, --detach, --version\n"
+    "  -d, -p, -S, -i, -a   --device, --path, --serial, --interface, --alt\n"
+    "  -R                   nothing: a session that took or fetched the image ends with a reset\n"
+    "  -v, -E, -Z, -s       not taken: see --verbose, --wait=SECONDS; an upload ends by itself; no DfuSe\n"
+    "  -n, -c               not taken: there is --path; no other configuration is set\n"
+    "\n";
+
+static const char options[] =
+    "Options:\n"
+    "  --device <VID:PID>   Take this device, four hexadecimal digits each\n"
+    "  --path <PATH>        Take the device at this path, as 1-2.3\n"
+    "  --serial <SERIAL>    Take the device with this serial number\n"
+    "  --interface <N>      Take the interface of this number\n"
+    "  --alt <N>            Take the alternate setting of this number or name\n"
+    "  --no-verify          Don't upload the image after the download to compare it\n"
+    "  --upload <OUT>       Fetch the active image into a new file\n"
+    "  --force              Let an upload replace a file that is there\n"
+    "  --detach             Bring the device to DFU mode, and stop there\n"
+    "  --wait               Wait until the device is there; --wait=<S> for S seconds at most\n"
+    "  --timeout <S>        Break the session off after S seconds\n"
+    "  --limits <A R>       Give up after A actions, or after R restarts of the device\n"
+    "  --transfer-size <B>  Send and ask for blocks of B bytes, up to 4096, whatever the device says\n"
+    "  --dry-run            Look for file and device, and send nothing\n"
+    "  --quiet              Print no progress\n"
+    "  --verbose            Print a line for each transfer, wait and reset; --verbose=<FILE> logs them\n"
+    "  --json               Print one record in JSON at the end\n"
+    "  --all                Flash every device that the file is for, with --wait also those that come\n"
+    "  --log <FOLDER>       Make a log of each device of --all in this folder\n"
+    "  --list               List the devices that are there\n"
+    "  -h, --help           Print help\n"
+    "  -V, --version        Print the version\n";
+
 void words_help(void)
 {
-    fputs("Brings a DFU file to a device over USB (DFU 1.1), or fetches the image that it has\n"
-          "\n"
-          "Usage: dfu-flash [OPTIONS] FILE, or - for standard input\n"
-          "       dfu-flash [OPTIONS] --all FILE\n"
-          "       dfu-flash [OPTIONS] --upload OUT\n"
-          "       dfu-flash [OPTIONS] --detach\n"
-          "       dfu-flash --list\n"
-          "\n"
-          "Coming from dfu-util: its short options are taken if they mean the same here\n"
-          "  -D FILE              FILE; one without a suffix, a raw image, needs -d VID:PID\n"
-          "  -U OUT, -t SIZE      --upload OUT, --transfer-size SIZE\n"
-          "  -l, -w, -e, -V       --list, --wait, --detach, --version\n"
-          "  -d, -p, -S, -i, -a   --device, --path, --serial, --interface, --alt\n"
-          "  -R                   nothing: a session that took or fetched the image ends with a reset\n"
-          "  -v, -E, -Z, -s       not taken: see --verbose, --wait=SECONDS; an upload ends by itself; no DfuSe\n"
-          "  -n, -c               not taken: there is --path; no other configuration is set\n"
-          "\n"
-          "Options:\n"
-          "  --device <VID:PID>   Take this device, four hexadecimal digits each\n"
-          "  --path <PATH>        Take the device at this path, as 1-2.3\n"
-          "  --serial <SERIAL>    Take the device with this serial number\n"
-          "  --interface <N>      Take the interface of this number\n"
-          "  --alt <N>            Take the alternate setting of this number or name\n"
-          "  --no-verify          Don't upload the image after the download to compare it\n"
-          "  --upload <OUT>       Fetch the active image into a new file\n"
-          "  --force              Let an upload replace a file that is there\n"
-          "  --detach             Bring the device to DFU mode, and stop there\n"
-          "  --wait               Wait until the device is there; --wait=<S> for S seconds at most\n"
-          "  --timeout <S>        Break the session off after S seconds\n"
-          "  --limits <A R>       Give up after A actions, or after R restarts of the device\n"
-          "  --transfer-size <B>  Send and ask for blocks of B bytes, up to 4096, whatever the device says\n"
-          "  --dry-run            Look for file and device, and send nothing\n"
-          "  --quiet              Print no progress\n"
-          "  --verbose            Print a line for each transfer, wait and reset; --verbose=<FILE> logs them\n"
-          "  --json               Print one record in JSON at the end\n"
-          "  --all                Flash every device that the file is for, with --wait also those that come\n"
-          "  --log <FOLDER>       Make a log of each device of --all in this folder\n"
-          "  --list               List the devices that are there\n"
-          "  -h, --help           Print help\n"
-          "  -V, --version        Print the version\n",
-          stdout);
+    fputs(usage, stdout);
+    fputs(options, stdout);
 }
 
 /* The version of all of Fustrelan: `dfu --help` begins with it too. */

@@ -94,7 +94,7 @@ board 1-2 USB_SERIAL=F2 USB_CAPACITY=13
 board 1-3 USB_SERIAL=F3 USB_DENIED=3
 all --json --quiet --log logs new.dfu
 expect 'the highest status' test "$code" -eq 6
-expect 'quiet' test "$(grep -v '^1-3: ' err | wc -l)" -eq 0
+expect 'quiet' test "$(grep -vc '^1-3: ' err)" -eq 0
 expect 'a new log' test -s logs/1-1_2.log
 if command -v python3 > /dev/null; then
     expect 'records' python3 -c 'import json
