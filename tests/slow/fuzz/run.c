@@ -65,12 +65,12 @@ static void streams_open(void)
         signal(SIGHUP, SIG_IGN);
 }
 
-/* Pipes don't count: the one that wakes a wait stays as long as the program. */
+/* Standard streams and pipes don't count: one that was closed is held, and the pipe that wakes a wait stays as long as the program. */
 static int files_open(void)
 {
     struct stat file;
     int count = 0;
-    for (int at = 0; at < 40; at++)
+    for (int at = 3; at < 40; at++)
         count += fstat(at, &file) == 0 && !S_ISFIFO(file.st_mode);
     return count;
 }
