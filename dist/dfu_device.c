@@ -138,7 +138,7 @@ static _Alignas(4) const uint32_t switch_table_dfu_slots_from_parts_has_puts[4] 
 static _Alignas(4) const uint32_t switch_table_dfu_slots_slots_Slots_put[4] = {
     1, 0x10, 0x40, 0x100
 };
-static _Alignas(4) const uint8_t switch_table_dfu_device_machine_Machine_state[13] = {
+static _Alignas(4) const uint8_t switch_table_dfu_device_mode_Mode_state[13] = {
     0, 1, 2, 3, 3, 4, 5, 6, 6, 7, 8, 9, 0xa
 };
 static _Alignas(8) const uint64_t switch_table_dfu_device_c_noted_note[4] = {
@@ -202,9 +202,8 @@ static uint32_t dfu_device_c_exports_refusal_before(unsigned char *a0, uint64_t 
 static void dfu_device_c_open_open(unsigned char *a0, unsigned char *a1, unsigned char *a2);
 static void dfu_device_c_noted_cover_of(unsigned char *a0, unsigned char *a1, unsigned char *a2);
 static void dfu_c_parts_record_held_of(unsigned char *a0, unsigned char *a1);
-static uint8_t dfu_slots_from_parts_has_puts(unsigned char *a0, unsigned char *a1, uint32_t a2);
+static uint8_t dfu_slots_from_parts_has_puts(unsigned char *a0, uint64_t a1, uint32_t a2);
 static void dfu_device_c_open_open_plain(unsigned char *a0, unsigned char *a1, unsigned char *a2);
-static uint8_t dfu_device_from_parts_is_put(unsigned char *a0, uint32_t a1);
 static void dfu_device_machine_Machine_carry_out(unsigned char *a0, unsigned char *a1, unsigned char *a2, uint16_t a3, unsigned char *a4, uint64_t a5);
 static uint16_t dfu_device_machine_Machine_piece_len(unsigned char *a0, uint32_t a1, uint16_t a2);
 static void dfu_slots_puts_Puts_clear(unsigned char *a0);
@@ -2242,13 +2241,13 @@ static uint32_t dfu_device_c_exports_on(unsigned char *a0, unsigned char *a1, un
     unsigned char *const r10 = r14_3;
     unsigned char *const r8_2 = r14_3;
     unsigned char *const r8_6_0 = r14_3;
-    unsigned char *const r2_6 = r14_3;
-    unsigned char *const r6_2 = r14_3;
+    unsigned char *const r2_8 = r14_3;
+    unsigned char *const r6_3 = r14_3;
     unsigned char *const r1_5 = r14_3;
     _Alignas(4) unsigned char r25_6_5_3_3[280];
     unsigned char *const r15 = r25_6_5_3_3;
     unsigned char *const r8_6_6 = r25_6_5_3_3;
-    unsigned char *const r13 = r25_6_5_3_3;
+    unsigned char *const r13_3 = r25_6_5_3_3;
     _Alignas(2) unsigned char r13_5_7[280];
     _Alignas(8) unsigned char r14_21[280];
     _Alignas(8) unsigned char r14[40];
@@ -2260,22 +2259,22 @@ static uint32_t dfu_device_c_exports_on(unsigned char *a0, unsigned char *a1, un
     _Alignas(2) unsigned char r13_5_0[18];
     _Alignas(2) unsigned char r14_9[18];
     _Alignas(8) unsigned char r25_6_4[14];
-    unsigned char *const r6 = r25_6_4;
+    unsigned char *const r6_2 = r25_6_4;
     _Alignas(2) unsigned char r13_5_4[14];
     _Alignas(2) unsigned char r14_15[14];
     _Alignas(4) unsigned char r1_2[6];
     _Alignas(4) unsigned char r4[6];
-    unsigned char *v0, *r32, *r1_4_0_r32_sroa_idx, *r5, *v3, *r13_5_0_6_r23_sroa_idx, *r18_6_0_r8_sroa_idx, *r18_7_0_r8_sroa_idx, *r18_11_0_r8_sroa_idx, *r18_12_0_r8_sroa_idx, *r18_13_0_r8_sroa_idx, *r18_15_0_r8_sroa_idx;
-    unsigned char *r18_16_0_r8_sroa_idx, *r18_17_0_r8_sroa_idx, *r18_20_0_r8_sroa_idx, *r1_3, *r1_4, *r1_0_in;
-    uint32_t common_ret_op, v7, v8, v9, r25_6_13_0, r25_6_14_0, r25_6_15_0, r14_31_0, r14_32_0, r14_33_0, r8_6_17_0, r8_6_18_0;
-    uint32_t r8_6_19_0, v22, r1_0, r18_1547_0, r18_22_0, r18_29_0, r18_36_0, r10_52_0;
+    unsigned char *v0, *r32, *r1_4_0_r32_sroa_idx, *r5, *v3, *r2, *r2_2, *r13_5_0_6_r23_sroa_idx, *r18_6_0_r8_sroa_idx, *r18_7_0_r8_sroa_idx, *r18_11_0_r8_sroa_idx, *r18_12_0_r8_sroa_idx;
+    unsigned char *r18_13_0_r8_sroa_idx, *r18_15_0_r8_sroa_idx, *r18_16_0_r8_sroa_idx, *r18_17_0_r8_sroa_idx, *r18_20_0_r8_sroa_idx, *r1_3, *r1_4, *r10_0_in;
+    uint32_t common_ret_op, v7, v8, v9, r13, r3_2, r25_6_13_0, r25_6_14_0, r25_6_15_0, r14_31_0, r14_32_0, r14_33_0;
+    uint32_t r8_6_17_0, r8_6_18_0, r8_6_19_0, v22, r10_0, r18_1547_0, r18_22_0, r18_29_0, r18_36_0, r10_52_0;
     uint64_t wide_13170, r1, r25_6_5_3_0_0, r25_6_6_0, r25_6_7_0, r25_6_8_0, r25_6_9_0, r25_6_16_0, r25_6_17_0, r25_6_18_0, r14_19_0, r14_23_0;
     uint64_t r14_25_0, r14_26_0, r14_27_0, r14_34_0, r14_35_0, r14_36_0, r8_6_8_0, r8_6_10_0, r8_6_11_0, r8_6_12_0, r8_6_13_0, r8_6_20_0;
     uint64_t r8_6_21_0, r8_6_22_0, v14, r18_71_0, r21, r15_3, r18;
-    uint16_t r1_3_0_copyload, r19, r25_6_3_0, r14_13_0, r8_6_5_0, v17, r9_0, v21, v23, r9;
+    uint16_t r1_3_0_copyload, r19, r25_6_3_0, r14_13_0, r8_6_5_0, v17, r9_0, v21, v23, r9_2;
     uint8_t v5, v6, r22_0_0_0165, r25_6_10_0, r25_6_11_0, r14_5_0, r14_28_0, r14_29_0, r8_6_14_0, r8_6_15_0, r8_4_0, r14_4;
-    uint8_t v24, v25, r18_0_0, r1_3_0_copyload_2, r1_4_0_copyload, r18_0_0_2, r10_0_0;
-    uint8_t v12, r14_0_0;
+    uint8_t v24, r11_0_0, r18_0_0, r1_3_0_copyload_2, r1_4_0_copyload, r18_0_0_2, r10_0_0;
+    uint8_t r13_2, v12, r14_0_0;
     v0 = r14 + 16;
     store64(v0, 0);
     uint32_t r54 = dfu_device_c_exports_refusal_before(a0, a3, a5);
@@ -2344,13 +2343,23 @@ arm_9:
     v9 = load32(r8_2 + 16);
     memcpy(r14_3, r5, 320);
     if (umin64(a3, 4096) < (uint64_t)r1_3_0_copyload) goto arm_13;
+    r2 = r14_3 + 8;
+    uint64_t r3 = load64(r2);
+    uint8_t r0_0_0_copyload = r14_3[16];
+    uint32_t switch_load = load32(PLACE(switch_table_dfu_slots_writes_open_slot) + 4 * (size_t)r0_0_0_copyload);
+    r13 = ((uint32_t)r3 >> 1) - (switch_load << 1);
+    uint32_t r6 = load32(r14_3 + 316);
+    uint8_t r9 = dfu_slots_read_is_open(r14_3, r6);
+    r13_2 = !r9;
+    r2_2 = r14_3 + 304;
+    r3_2 = load32(r2_2);
     switch (v5) {
     case 3: goto after_2;
     case 5: goto after_2;
-    case 4: goto after_3;
-    case 6: goto after_3;
-    case 7: goto after_3;
-    case 9: goto after_3;
+    case 4: goto dfu_device_from_parts_is_sound_exit;
+    case 6: goto dfu_device_from_parts_is_sound_exit;
+    case 7: goto dfu_device_from_parts_is_sound_exit;
+    case 9: goto dfu_device_from_parts_is_sound_exit;
     case 0: goto arm_12;
     case 1: goto arm_12;
     case 2: goto arm_12;
@@ -2360,26 +2369,12 @@ arm_9:
     case 12: goto arm_12;
     default: never();
     }
-after_3:
-    if (v7 == 0) goto arm_13;
-    uint64_t r3 = load64(r14_3 + 8);
-    uint8_t r0_0_0_copyload = r14_3[16];
-    uint32_t switch_load = load32(PLACE(switch_table_dfu_slots_writes_open_slot) + 4 * (size_t)r0_0_0_copyload);
-    if (v7 > (((uint32_t)r3 >> 1) - (switch_load << 1))) goto arm_13;
-    goto dfu_device_from_parts_is_sound_exit;
 after_2:
-    if (r19 == 0) goto arm_13;
-    uint64_t r3_2 = load64(r14_3 + 8);
-    uint8_t r0_0_0_copyload_2 = r14_3[16];
-    uint32_t switch_load_2 = load32(PLACE(switch_table_dfu_slots_writes_open_slot) + 4 * (size_t)r0_0_0_copyload_2);
-    if (((uint64_t)v7 + r1) > (uint64_t)(((uint32_t)r3_2 >> 1) - (switch_load_2 << 1))) goto arm_13;
-    if (v7 == 0) goto arm_12;
-    uint8_t r33 = dfu_device_from_parts_is_put(r14_3, v7);
-    if (r33) goto arm_12;
+    if (!((r19 != 0) ? (((uint64_t)v7 + r1) <= (uint64_t)r13) : 0)) goto arm_13;
+    if ((v7 == 0) | (r13_2 ? (r3_2 == v7) : 0)) goto arm_12;
     goto arm_13;
-dfu_device_from_parts_is_sound_exit:;
-    uint8_t r17 = dfu_device_from_parts_is_put(r14_3, v7);
-    if (r17) goto arm_12;
+dfu_device_from_parts_is_sound_exit:
+    if ((((v7 + 0xffffffffU) < r13) & r13_2) ? (r3_2 == v7) : 0) goto arm_12;
     goto arm_13;
 arm_10:
     memcpy(r14, r5, 40);
@@ -2406,10 +2401,10 @@ arm_10:
 arm_12:;
     uint64_t r32_3_0_copyload = load64(r14_3 + 288);
     uint64_t r32_4_0_copyload = load64(r14_3 + 296);
-    uint64_t r32_5_0_copyload = load64(r14_3 + 304);
+    uint64_t r32_5_0_copyload = load64(r2_2);
     uint64_t r32_6_0_copyload = load64(r14_3 + 312);
     uint64_t r34_0_5_0_4_0_0_copyload = load64(r14_3);
-    memcpy(r25_6_5_3_3, r14_3 + 8, 280);
+    memcpy(r25_6_5_3_3, r2, 280);
     memcpy(r25_6_0 + 6, r32, 12);
     memcpy(r25_6_4, r1_4_0_r32_sroa_idx, 14);
     v12 = 1;
@@ -2556,8 +2551,8 @@ core_result_ResultTry_branch_exit:
     }
 arm_1:
     if (a12 < (uint64_t)umax16(r8_6_5_0, 6)) trap();
-    dfu_wire_setups_Setup_decode(r6, a8);
-    v14 = load64(r6);
+    dfu_wire_setups_Setup_decode(r6_2, a8);
+    v14 = load64(r6_2);
     store64(r3_3, v14);
     dfu_wire_setups_Setup_request(r4, r3_3);
     r14_4 = *r4;
@@ -2573,20 +2568,20 @@ join_7:;
     store16(r1_2 + 2, v17);
     store16(r1_2 + 4, v19);
     store32(r15, 0);
-    uint32_t r2 = load32(r8 + 16);
-    r1_3 = r8 + 20;
-    uint32_t r2_2 = load32(r1_3);
-    r1_4 = r8 + 24;
-    uint32_t r2_3 = load32(r1_4);
     uint64_t r3_4 = load64(r18_7_0_r8_sroa_idx);
-    uint8_t r0_0_0_copyload_3 = r8[48];
-    uint32_t switch_load_3 = load32(PLACE(switch_table_dfu_slots_writes_open_slot) + 4 * (size_t)r0_0_0_copyload_3);
+    uint8_t r0_0_0_copyload_2 = r8[48];
+    uint32_t switch_load_2 = load32(PLACE(switch_table_dfu_slots_writes_open_slot) + 4 * (size_t)r0_0_0_copyload_2);
+    uint32_t r2_3 = load32(r8 + 16);
+    r1_3 = r8 + 20;
+    uint32_t r2_4 = load32(r1_3);
+    r1_4 = r8 + 24;
+    uint32_t r2_5 = load32(r1_4);
     memcpy(r11, r8 + 6, 10);
     store16(r11 + 10, 0);
-    store32(r11 + 12, r2);
-    store32(r11 + 16, r2_2);
-    store32(r11 + 20, r2_3);
-    store64(r11 + 24, (uint64_t)(((uint32_t)r3_4 >> 1) - (switch_load_3 << 1)));
+    store32(r11 + 12, r2_3);
+    store32(r11 + 16, r2_4);
+    store32(r11 + 20, r2_5);
+    store64(r11 + 24, (uint64_t)(((uint32_t)r3_4 >> 1) - (switch_load_2 << 1)));
     *r15 = r8_6_14_0;
     r15[1] = r8_6_15_0;
     store32(r15 + 4, r8_6_17_0);
@@ -2638,88 +2633,74 @@ dfu_device_machine_Machine_draft_exit:
     }
 arm_2_3:
     v24 = *r18_12_0_r8_sroa_idx;
-    v25 = *r18_13_0_r8_sroa_idx;
+    uint8_t v25 = *r18_13_0_r8_sroa_idx;
     switch (v24) {
-    case 5:
-        r1_0_in = r1_3;
-        goto dfu_device_machine_Machine_poll_ms_exit;
-    case 9: goto arm_2_4;
-    case 0:
-        r1_0 = 0;
-        goto dfu_device_machine_Machine_status_exit;
-    case 1:
-        r1_0 = 0;
-        goto dfu_device_machine_Machine_status_exit;
-    case 2:
-        r1_0 = 0;
-        goto dfu_device_machine_Machine_status_exit;
-    case 3:
-        r1_0 = 0;
-        goto dfu_device_machine_Machine_status_exit;
-    case 4:
-        r1_0 = 0;
-        goto dfu_device_machine_Machine_status_exit;
-    case 6:
-        r1_0 = 0;
-        goto dfu_device_machine_Machine_status_exit;
-    case 7:
-        r1_0 = 0;
-        goto dfu_device_machine_Machine_status_exit;
-    case 8:
-        r1_0 = 0;
-        goto dfu_device_machine_Machine_status_exit;
-    case 10:
-        r1_0 = 0;
-        goto dfu_device_machine_Machine_status_exit;
-    case 11:
-        r1_0 = 0;
-        goto dfu_device_machine_Machine_status_exit;
     case 12:
-        r1_0 = 0;
+        r10_0 = 0;
+        r11_0_0 = v25;
         goto dfu_device_machine_Machine_status_exit;
+    case 5:
+        r10_0_in = r1_3;
+        goto dfu_device_status_poll_ms_exit;
+    case 9: goto arm_2_4;
+    case 0: goto dfu_device_status_poll_ms_exit_fold_split;
+    case 1: goto dfu_device_status_poll_ms_exit_fold_split;
+    case 2: goto dfu_device_status_poll_ms_exit_fold_split;
+    case 3: goto dfu_device_status_poll_ms_exit_fold_split;
+    case 4: goto dfu_device_status_poll_ms_exit_fold_split;
+    case 6: goto dfu_device_status_poll_ms_exit_fold_split;
+    case 7: goto dfu_device_status_poll_ms_exit_fold_split;
+    case 8: goto dfu_device_status_poll_ms_exit_fold_split;
+    case 10: goto dfu_device_status_poll_ms_exit_fold_split;
+    case 11: goto dfu_device_status_poll_ms_exit_fold_split;
     default: never();
     }
 arm_2_4:
-    r1_0_in = r1_4;
-    goto dfu_device_machine_Machine_poll_ms_exit;
-dfu_device_machine_Machine_poll_ms_exit:;
-    uint32_t r1_0_2 = load32(r1_0_in);
-    if (r1_0_2 <= 0xffffffU) {
-        r1_0 = r1_0_2;
+    r10_0_in = r1_4;
+    goto dfu_device_status_poll_ms_exit;
+dfu_device_status_poll_ms_exit_fold_split:
+    r10_0 = 0;
+    r11_0_0 = 0;
+    goto dfu_device_machine_Machine_status_exit;
+dfu_device_status_poll_ms_exit:;
+    uint32_t r10_0_2 = load32(r10_0_in);
+    if (r10_0_2 <= 0xffffffU) {
+        r10_0 = r10_0_2;
+        r11_0_0 = 0;
         goto dfu_device_machine_Machine_status_exit;
     }
     trap();
 dfu_device_machine_Machine_status_exit:;
-    uint8_t switch_load_4 = *(PLACE(switch_table_dfu_device_machine_Machine_state) + (size_t)v24);
-    unsigned char *v28 = r1_5 + 1;
-    memset(v28, 0, 5);
-    *r1_5 = (uint8_t)((v24 == 12) ? v25 : 0);
-    store64(r5_2, (uint64_t)r1_0);
-    core_slice_edits_slice_T_copy_from_slice_i8_core_clone_U8Clone(v28, r5_2, 3);
-    r1_5[4] = switch_load_4;
-    memcpy(r13, r1_5, 6);
+    uint8_t switch_load_3 = *(PLACE(switch_table_dfu_device_mode_Mode_state) + (size_t)v24);
+    unsigned char *v27 = r1_5 + 1;
+    memset(v27, 0, 5);
+    *r1_5 = r11_0_0;
+    store64(r5_2, (uint64_t)r10_0);
+    core_slice_edits_slice_T_copy_from_slice_i8_core_clone_U8Clone(v27, r5_2, 3);
+    r1_5[4] = switch_load_3;
+    memcpy(r13_3, r1_5, 6);
     uint64_t a1_a0 = (uint64_t)umin16(v21, 6);
-    core_slice_edits_slice_T_copy_from_slice_i8_core_clone_U8Clone(a11, r13, a1_a0);
+    core_slice_edits_slice_T_copy_from_slice_i8_core_clone_U8Clone(a11, r13_3, a1_a0);
     r18_0_0 = 1;
     r18_71_0 = a1_a0;
     goto arm_6_2;
 arm_3_2:;
-    uint8_t v30 = *r18_12_0_r8_sroa_idx;
-    uint8_t switch_load_5 = *(PLACE(switch_table_dfu_device_machine_Machine_state) + (size_t)v30);
-    *r15_2 = switch_load_5;
+    uint8_t v29 = *r18_12_0_r8_sroa_idx;
+    uint8_t switch_load_4 = *(PLACE(switch_table_dfu_device_mode_Mode_state) + (size_t)v29);
+    *r15_2 = switch_load_4;
     uint64_t a1_a0_2 = (uint64_t)(v21 != 0);
     core_slice_edits_slice_T_copy_from_slice_i8_core_clone_U8Clone(a11, r15_2, a1_a0_2);
     r18_0_0 = 1;
     r18_71_0 = a1_a0_2;
     goto arm_6_2;
 arm_4:
-    r9 = dfu_device_machine_Machine_piece_len(r8, v22, v23);
-    if (r9 == 0) {
+    r9_2 = dfu_device_machine_Machine_piece_len(r8, v22, v23);
+    if (r9_2 == 0) {
         r18_0_0 = 1;
         r18_71_0 = 0;
         goto arm_6_2;
     }
-    uint64_t r1_6 = (uint64_t)r9;
+    uint64_t r1_6 = (uint64_t)r9_2;
     uint32_t r7 = load32(r18_11_0_r8_sroa_idx);
     dfu_slots_read_read_data(r18_6_0_r8_sroa_idx, r7, v22, a11, r1_6);
     r18_0_0 = 1;
@@ -2786,9 +2767,9 @@ arm_1_2:
     r18_36_0 = 0;
     goto dfu_device_lent_LentDevice_elapse_exit;
 arm_2_5:;
-    uint32_t r2_4 = load32(r8 + 20);
+    uint32_t r2_6 = load32(r8 + 20);
     r15_3 = (uint64_t)r8_6_19_0 + (uint64_t)a7;
-    if ((a7 == 0) ? 1 : (r15_3 < (uint64_t)r2_4)) goto after_1;
+    if ((a7 == 0) ? 1 : (r15_3 < (uint64_t)r2_6)) goto after_1;
     r18_0_0_2 = 3;
     r18_1547_0 = r8_6_17_0;
     r18_22_0 = (r8_6_18_0 & 0xffffU) | 0x10000U;
@@ -2803,9 +2784,9 @@ after_1:
     r18_36_0 = (uint32_t)r15_3;
     goto dfu_device_lent_LentDevice_elapse_exit;
 arm_3_3:;
-    uint32_t r2_5 = load32(r8 + 24);
+    uint32_t r2_7 = load32(r8 + 24);
     r18 = (uint64_t)r8_6_18_0 + (uint64_t)a7;
-    if ((a7 == 0) ? 1 : (r18 < (uint64_t)r2_5)) goto after_1_2;
+    if ((a7 == 0) ? 1 : (r18 < (uint64_t)r2_7)) goto after_1_2;
     r18_0_0_2 = 4;
     r18_1547_0 = r8_6_17_0;
     r18_22_0 = (uint32_t)((r1_3_0_copyload_2 & 1) ? 8 : 10);
@@ -2833,7 +2814,7 @@ dfu_device_lent_LentDevice_elapse_exit:
     store32(r0_2 + 12, r18_29_0);
     store32(r0_2 + 16, r18_36_0);
     store32(r0_2 + 20, 0);
-    dfu_device_machine_Machine_carry_out(r6_2, r8, r0_2, 0, PLACE(static_5), 0);
+    dfu_device_machine_Machine_carry_out(r6_3, r8, r0_2, 0, PLACE(static_5), 0);
     r10_0_0 = 0;
     r10_52_0 = 0;
     goto arm_4_2;
@@ -2849,22 +2830,22 @@ arm_3:
 arm_4_2:;
     uint8_t r23_3_0_copyload = *r18_12_0_r8_sroa_idx;
     uint8_t r23_4_0_copyload = *r18_13_0_r8_sroa_idx;
-    uint32_t r23_517_0_copyload = load32(r18_15_0_r8_sroa_idx);
+    uint32_t r23_522_0_copyload = load32(r18_15_0_r8_sroa_idx);
     uint32_t r23_6_0_copyload = load32(r18_16_0_r8_sroa_idx);
     uint32_t r23_7_0_copyload = load32(r18_17_0_r8_sroa_idx);
     uint64_t r23_9_0_copyload = load64(r18_20_0_r8_sroa_idx);
-    store32(r2_6, 0);
+    store32(r2_8, 0);
     memcpy(r1_7, r18_6_0_r8_sroa_idx, 320);
-    *r2_6 = r23_3_0_copyload;
-    r2_6[1] = r23_4_0_copyload;
-    store32(r2_6 + 4, r23_517_0_copyload);
-    store32(r2_6 + 8, r23_6_0_copyload);
-    store32(r2_6 + 12, r23_7_0_copyload);
+    *r2_8 = r23_3_0_copyload;
+    r2_8[1] = r23_4_0_copyload;
+    store32(r2_8 + 4, r23_522_0_copyload);
+    store32(r2_8 + 8, r23_6_0_copyload);
+    store32(r2_8 + 12, r23_7_0_copyload);
     store16(a1 + 26, (uint16_t)r23_9_0_copyload);
     uint64_t r4_2 = load64(r1_7 + 296);
     store16(a1 + 44, (uint16_t)r4_2);
     core_slice_edits_slice_T_copy_from_slice_i8_core_clone_U8Clone(a1 + 46, r1_7 + 40, r4_2);
-    dfu_c_parts_record_set_mode(a1, r2_6);
+    dfu_c_parts_record_set_mode(a1, r2_8);
     uint32_t r3_5 = load32(r1_7 + 304);
     store32(a1 + 16, r3_5);
     uint32_t r3_6 = load32(r1_7 + 312);
@@ -2921,8 +2902,8 @@ static void dfu_device_c_open_open(unsigned char *a0, unsigned char *a1, unsigne
     _Alignas(1) unsigned char r2[1];
     unsigned char *r0_4_0_a1_sroa_idx, *r0_5_0_a1_sroa_idx, *r2_2, *r1;
     uint32_t r28, r3, r72_2, r72_3;
-    uint64_t v3, r19_0_0_0_copyload, r19_0_4_0_copyload, r6_5_0_0, r6_5_6_0;
-    uint8_t r19_0_5_0_copyload, r6_5_7_0, v4, v5;
+    uint64_t r2_3_0_copyload, v3, r20_0_0_0_0_copyload, r20_0_0_4_0_copyload, r6_5_0_0, r6_5_6_0;
+    uint8_t r20_0_0_5_0_copyload, r6_5_7_0, v4, v5;
     dfu_device_c_noted_cover_of(r4, a1, a2);
     uint8_t r20 = *r4;
     if (r20 != 1) goto dfu_device_c_open_open_noted_exit_thread;
@@ -2942,6 +2923,7 @@ static void dfu_device_c_open_open(unsigned char *a0, unsigned char *a1, unsigne
     dfu_c_parts_record_held_of(r9, a1);
     r28 = load32(a1 + 16);
     r3 = load32(a1 + 20);
+    r2_3_0_copyload = load64(r9 + 256);
     memcpy(r3_2, r7, 40);
     uint8_t r6 = dfu_slots_open_is_sized(r7);
     if (!r6) goto arm_2;
@@ -2986,32 +2968,33 @@ dfu_slots_known_find_known_exit:;
     if (r41) goto arm_2;
     v3 = ((uint64_t)r72_3 << 32) | (uint64_t)r72_2;
 arm_1:;
-    uint8_t r32 = dfu_slots_from_parts_has_puts(r3_2, r9, r28);
-    r19_0_0_0_copyload = load64(r3_2);
-    r19_0_4_0_copyload = load64(r2_2);
-    r19_0_5_0_copyload = *r1;
-    if (r32) goto arm_5;
-    r6_5_0_0 = r19_0_0_0_copyload;
-    r6_5_6_0 = r19_0_4_0_copyload;
-    r6_5_7_0 = r19_0_5_0_copyload;
+    uint8_t r35 = dfu_slots_from_parts_has_puts(r3_2, r2_3_0_copyload, r28);
+    r20_0_0_0_0_copyload = load64(r3_2);
+    r20_0_0_4_0_copyload = load64(r2_2);
+    r20_0_0_5_0_copyload = *r1;
+    if (r35) goto arm_5;
+    r6_5_0_0 = r20_0_0_0_0_copyload;
+    r6_5_6_0 = r20_0_0_4_0_copyload;
+    r6_5_7_0 = r20_0_0_5_0_copyload;
     goto arm_6;
 arm_2:;
-    uint64_t r0_7_0_0_0_copyload = load64(r3_2);
-    uint64_t r0_7_0_7_0_copyload = load64(r3_2 + 8);
-    uint8_t r0_7_0_9_0_copyload = r3_2[16];
-    r6_5_0_0 = r0_7_0_0_0_copyload;
-    r6_5_6_0 = r0_7_0_7_0_copyload;
-    r6_5_7_0 = r0_7_0_9_0_copyload;
+    uint64_t r0_7_0_0_0_0_copyload = load64(r3_2);
+    uint64_t r0_7_0_0_7_0_copyload = load64(r3_2 + 8);
+    uint8_t r0_7_0_0_9_0_copyload = r3_2[16];
+    r6_5_0_0 = r0_7_0_0_0_0_copyload;
+    r6_5_6_0 = r0_7_0_0_7_0_copyload;
+    r6_5_7_0 = r0_7_0_0_9_0_copyload;
     goto arm_6;
 dfu_device_c_open_open_noted_exit_thread:
     goto arm_2_2;
 arm_5:
     memcpy(r2_8, r3_2 + 17, 23);
-    memcpy(r4_2 + 48, r9, 264);
-    store64(r4_2 + 8, r19_0_0_0_copyload);
-    store64(r4_2 + 16, r19_0_4_0_copyload);
-    r4_2[24] = r19_0_5_0_copyload;
+    memcpy(r4_2 + 48, r9, 256);
+    store64(r4_2 + 8, r20_0_0_0_0_copyload);
+    store64(r4_2 + 16, r20_0_0_4_0_copyload);
+    r4_2[24] = r20_0_0_5_0_copyload;
     memcpy(r4_2 + 25, r2_8, 23);
+    store64(r4_2 + 304, r2_3_0_copyload);
     store32(r4_2 + 312, r28);
     store32(r4_2 + 316, 0);
     store64(r4_2 + 320, v3);
@@ -3030,8 +3013,8 @@ arm_6:
 arm_2_2:
     dfu_device_c_open_open_plain(r4_2, a1, a2);
     uint8_t pre = *r4_2;
-    uint8_t pre17 = r4_2[1];
-    v4 = pre17;
+    uint8_t pre19 = r4_2[1];
+    v4 = pre19;
     v5 = pre;
 join_4:
     *a0 = v5;
@@ -3154,7 +3137,7 @@ arrayvec_array_vec_ArrayVec_truncate_exit:
 }
 
 /* dfu_slots::from_parts::has_puts::<#4eeac2a07fb7654c> */
-static uint8_t dfu_slots_from_parts_has_puts(unsigned char *a0, unsigned char *a1, uint32_t a2) {
+static uint8_t dfu_slots_from_parts_has_puts(unsigned char *a0, uint64_t a1, uint32_t a2) {
     uint64_t v0;
     uint8_t common_ret_op;
     uint64_t r3 = load64(a0 + 8);
@@ -3165,9 +3148,8 @@ static uint8_t dfu_slots_from_parts_has_puts(unsigned char *a0, unsigned char *a
         common_ret_op = 0;
         goto common_ret;
     }
-    uint64_t r2 = load64(a1 + 256);
     uint32_t switch_load_2 = load32(PLACE(switch_table_dfu_slots_from_parts_has_puts) + 4 * (size_t)v0);
-    common_ret_op = r2 == (uint64_t)(switch_load_2 & a2);
+    common_ret_op = a1 == (uint64_t)(switch_load_2 & a2);
 common_ret:
     return common_ret_op;
 }
@@ -3176,16 +3158,16 @@ common_ret:
 static void dfu_device_c_open_open_plain(unsigned char *a0, unsigned char *a1, unsigned char *a2) {
     _Alignas(8) unsigned char r4[328];
     unsigned char *const r3 = r4;
-    _Alignas(2) unsigned char r8_6_0[310];
-    _Alignas(8) unsigned char r19_0[304];
+    _Alignas(2) unsigned char r8_6_0[302];
+    _Alignas(8) unsigned char r20_0_0[296];
     _Alignas(8) unsigned char r6[264];
     _Alignas(4) unsigned char r7[12];
     _Alignas(1) unsigned char r2[1];
-    uint64_t wide_6550, r8_6_5_0;
+    uint64_t wide_6550, r2_3_0_copyload, r8_6_3_0, r8_6_6_0;
     unsigned char *r8_3_0_a1_sroa_idx;
-    uint32_t r15, r8_6_3_0;
-    uint8_t r7_0_0, r3_0_0_013, r8_4_0;
-    memset(r8_6_0, 0, 310);
+    uint32_t r15, r8_6_4_0;
+    uint8_t r7_0_0, r3_0_0_015, r8_4_0;
+    memset(r8_6_0, 0, 302);
     wide_6550 = (uint64_t)(uintptr_t)r2;
     memcpy(r3, a2, 40);
     store64(a2, wide_6550);
@@ -3193,32 +3175,34 @@ static void dfu_device_c_open_open_plain(unsigned char *a0, unsigned char *a1, u
     memset(r8_3_0_a1_sroa_idx, 0, 32);
     dfu_c_parts_record_held_of(r6, a1);
     r15 = load32(a1 + 16);
+    r2_3_0_copyload = load64(r6 + 256);
     dfu_slots_open_check(r7, r3);
-    uint8_t r21 = *r7;
-    if (r21 != 0) goto arm_2;
-    uint8_t r32 = dfu_slots_from_parts_has_puts(r3, r6, r15);
-    if (r32) goto arm_1;
+    uint8_t r22 = *r7;
+    if (r22 != 0) goto arm_2;
+    uint8_t r35 = dfu_slots_from_parts_has_puts(r3, r2_3_0_copyload, r15);
+    if (r35) goto arm_1;
     goto then_5;
 arm_2:
-    memcpy(r19_0, r3, 40);
+    memcpy(r20_0_0, r3, 40);
     goto arm_2_2;
 then_5:
-    memcpy(r19_0, r3, 40);
+    memcpy(r20_0_0, r3, 40);
     goto arm_2_2;
 arm_1:;
     uint64_t r6_0_0_copyload = load64a4(r7 + 4);
-    memcpy(r19_0, r3, 40);
-    memcpy(r19_0 + 40, r6, 264);
-    memcpy(r8_6_0 + 6, r19_0, 304);
-    r3_0_0_013 = 0;
-    r8_6_3_0 = r15;
-    r8_6_5_0 = r6_0_0_copyload;
+    memcpy(r20_0_0, r3, 40);
+    memcpy(r20_0_0 + 40, r6, 256);
+    memcpy(r8_6_0 + 6, r20_0_0, 296);
+    r3_0_0_015 = 0;
+    r8_6_3_0 = r2_3_0_copyload;
+    r8_6_4_0 = r15;
+    r8_6_6_0 = r6_0_0_copyload;
     r8_4_0 = 0;
     goto join_4;
 arm_2_2:
     store64(a2, wide_6550);
     memset(r8_3_0_a1_sroa_idx, 0, 32);
-    dfu_slots_slots_Slots_open(r4, r19_0);
+    dfu_slots_slots_Slots_open(r4, r20_0_0);
     uint8_t r12 = *r4;
     if (r12 != 0) goto arm_2_3;
     memcpy(a2, r4 + 8, 40);
@@ -3228,33 +3212,20 @@ arm_2_3:
     memcpy(a2, r4 + 16, 40);
     r7_0_0 = 0;
 dfu_device_c_open_refusal_of_exit:
-    r3_0_0_013 = 1;
+    r3_0_0_015 = 1;
     r8_6_3_0 = 0;
-    r8_6_5_0 = 0;
+    r8_6_4_0 = 0;
+    r8_6_6_0 = 0;
     r8_4_0 = r7_0_0;
 join_4:
-    *a0 = r3_0_0_013;
+    *a0 = r3_0_0_015;
     a0[1] = r8_4_0;
-    memcpy(a0 + 8, r8_6_0 + 6, 304);
-    store32(a0 + 312, r8_6_3_0);
+    memcpy(a0 + 8, r8_6_0 + 6, 296);
+    store64(a0 + 304, r8_6_3_0);
+    store32(a0 + 312, r8_6_4_0);
     store32(a0 + 316, 0);
-    store64(a0 + 320, r8_6_5_0);
+    store64(a0 + 320, r8_6_6_0);
     return;
-}
-
-/* dfu_device::from_parts::is_put::<#4eeac2a07fb7654c> */
-static uint8_t dfu_device_from_parts_is_put(unsigned char *a0, uint32_t a1) {
-    uint8_t r1_0_in;
-    uint32_t r6 = load32(a0 + 316);
-    uint8_t r9 = dfu_slots_read_is_open(a0, r6);
-    if (r9) {
-        r1_0_in = 0;
-        goto join_3;
-    }
-    uint32_t r3 = load32(a0 + 304);
-    r1_0_in = r3 == a1;
-join_3:
-    return r1_0_in;
 }
 
 /* dfu_device::machine::Machine::carry_out::<#b13fda2f95953955> */
@@ -3658,10 +3629,10 @@ static uint32_t dfu_device_c_power_start(unsigned char *a0, unsigned char *a1, u
     _Alignas(8) unsigned char r14[328];
     _Alignas(8) unsigned char r15[40];
     _Alignas(4) unsigned char r1[16];
-    uint64_t wide_22747;
+    uint64_t wide_22889;
     uint8_t v0, v1, r29;
     uint32_t v2, v3, v4, common_ret_op;
-    wide_22747 = (uint64_t)(uintptr_t)a2;
+    wide_22889 = (uint64_t)(uintptr_t)a2;
     v0 = *a4;
     v1 = a4[1];
     v2 = load32(a4 + 4);
@@ -3685,7 +3656,7 @@ join_3:
     store32(r1 + 4, v2);
     store32(r1 + 8, v3);
     store32(r1 + 12, v4);
-    store64(r15, wide_22747);
+    store64(r15, wide_22889);
     store64(r15 + 8, a3);
     store64(r15 + 16, (uint64_t)r58);
     dfu_slots_slots_Slots_open(r14, r15);

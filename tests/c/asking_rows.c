@@ -143,9 +143,39 @@ static void no_write_outside(void) {
     board.device = device;
 }
 
+/* Each call that reads the note answers this, and changes nothing. */
+static void noted(const char *what, int32_t number) {
+    struct dfu_asking before = board.device;
+    expect(what, handle(0xa1, 3, 0, 6, "") == number && pass(&board, 1, &well) == number && reset(&board) == number);
+    expect(what, memcmp(&board.device, &before, sizeof before) == 0);
+}
+
+/* The record notes the active slot and its header: a request reads no image, and finds each change of what is noted. */
+static void the_note(void) {
+    struct dfu_asking kept = board.device;
+    expect("the new image is noted", kept.device.slot == 1 && memcmp(kept.device.header, board.flash + 112, 16) == 0);
+    board.flash[128] ^= 1;
+    expect("an image that fades is not read", handle(0xa1, 3, 0, 6, "") == 6);
+    expect("power-on reads it", dfu_asking_power_on(&config, &board.device, 0, board.flash, board.size) == 0 && board.device.device.slot == 0);
+    board.flash[128] ^= 1, board.device = kept;
+    board.flash[120] ^= 1;
+    noted("another header", DFU_NO_MEDIUM);
+    board.flash[120] ^= 1, board.flash[96] = 0;
+    noted("a closed gate", DFU_NO_MEDIUM);
+    board.flash[96] = 0xa5, board.device.device.slot = 0;
+    noted("the other slot", DFU_NO_MEDIUM);
+    board.device.device.slot = 2;
+    noted("no slot", DFU_NO_DEVICE);
+    board.device.device.slot = 1, board.device.device.header[0]++;
+    noted("another note", DFU_NO_MEDIUM);
+    board.device = kept;
+    expect("the note as it was", handle(0xa1, 3, 0, 6, "") == 6);
+}
+
 int main(void) {
     a_download();
     refusals();
     no_write_outside();
+    the_note();
     return wrong;
 }

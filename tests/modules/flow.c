@@ -56,7 +56,8 @@ int main(void) {
     check("a product of 65 bits", dfu_flow_product(0x100000000u, 0x100000000u), 1);
     check("a product of 64 bits", dfu_flow_product(0x100000000u, 0x7fffffffu), 0x7fffffff00000000);
     check("a pair", dfu_flow_pair(1, &byte), 70);
-    check("the other pair", dfu_flow_pair(2, &byte), 1);
+    check("a pair of zeros", dfu_flow_pair(2, &byte), 1);
+    check("a pair with one zero", dfu_flow_pair(3, &byte), 31);
     check("row 0", dfu_flow_tables(0), 0x100000007);
     check("row 1", dfu_flow_tables(1), 0xfffeffffffff);
     check("row 2", dfu_flow_tables(2), 0x12c00010000);

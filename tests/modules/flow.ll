@@ -217,16 +217,27 @@ start:
 define internal fastcc { i8, ptr } @"flow::pair"(i8 noundef %a0, ptr %a1) unnamed_addr #0 {
 start:
   %is.one = icmp eq i8 %a0, 1
-  br i1 %is.one, label %one.1, label %join.2
+  br i1 %is.one, label %one.1, label %more.2
 
 one.1:                                            ; preds = %start
   %h = insertvalue { i8, ptr } poison, i8 7, 0
   %w = insertvalue { i8, ptr } %h, ptr %a1, 1
-  br label %join.2
+  br label %join.4
 
-join.2:                                           ; preds = %one.1, %start
-  %x = phi { i8, ptr } [ { i8 0, ptr null }, %start ], [ %w, %one.1 ]
-  ret { i8, ptr } %x
+more.2:                                           ; preds = %start
+  %is.two = icmp eq i8 %a0, 2
+  br i1 %is.two, label %join.4, label %three.3
+
+three.3:                                          ; preds = %more.2
+  %z = insertvalue { i8, ptr } zeroinitializer, i8 %a0, 0
+  br label %join.4
+
+join.4:                                           ; preds = %three.3, %more.2, %one.1
+  %x = phi { i8, ptr } [ zeroinitializer, %more.2 ], [ %w, %one.1 ], [ %z, %three.3 ]
+  %y = phi { i8, ptr } [ zeroinitializer, %more.2 ], [ { i8 7, ptr null }, %one.1 ], [ %z, %three.3 ]
+  %a = extractvalue { i8, ptr } %x, 1
+  %b = insertvalue { i8, ptr } %y, ptr %a, 1
+  ret { i8, ptr } %b
 }
 
 ; The product of two numbers, or 1 where it is too large.

@@ -1,28 +1,32 @@
 -- What a call of a device that asks leaves.
-use Rattle.std.proofs.Common.{◌≡◌, inr, ◌&&◌, Bool, true, false, not, IsTrue, ℕ, ◌+◌, ◌≤◌, ◌<◌, List, ◌++◌, length, drop, slice_range, Option, Some, None, is_some, refl, sym, ◌∙◌, ap, subst, arith}
+use Rattle.std.proofs.Common.{◌≡◌, inl, inr, ◌&&◌, Bool, true, false, not, IsTrue, ℕ, ◌+◌, ◌≤◌, ◌<◌, List, ◌++◌, length, drop, slice_range, Option, Some, None, is_some, refl, sym, ◌∙◌, ap, subst, arith}
 use Rattle.std.proofs.lemmas.Grind.{common_steps}
-use Rattle.dfu_slots.specs.Units.{Grain}
 use Rattle.dfu_slots.specs.declared.fault.WriteFault.{WriteFault}
 use Rattle.dfu_slots.specs.declared.fault.WriteFault.TheVariants.{NotVerified}
-use Rattle.dfu_slots.specs.Medium.{Write, Torn, FailedWrite}
-use Rattle.dfu_slots.specs.Seen.{SlotsState, store_of, is_shaped}
+use Rattle.dfu_slots.specs.Medium.{MediumState, Write, Torn, FailedWrite}
+use Rattle.dfu_slots.specs.Seen.{SlotsState, store_of, spare_of, is_shaped}
 use Rattle.dfu_slots.specs.Store.{IsStore}
 use Rattle.dfu_slots.proofs.Written.{was_written}
 use Rattle.dfu_slots.proofs.Seeing.{shaped}
 use Rattle.dfu_device.specs.declared.answer.Answer.{Answer}
 use Rattle.dfu_device.specs.declared.mode.Mode.{Mode}
 use Rattle.dfu_device.specs.declared.mode.Mode.TheVariants as mode
-use Rattle.dfu_device.specs.Shown.{Shown}
-use Rattle.dfu_device.specs.Parts.{shows, stage_of, is_sound}
+use Rattle.dfu_device.specs.Setting.{Setting}
+use Rattle.dfu_device.specs.Shown.{Shown, profile}
+use Rattle.dfu_device.specs.Table.{Plan}
+use Rattle.dfu_device.specs.Rows.{Done}
+use Rattle.dfu_device.specs.Parts.{shows, stage_of, is_sound, is_filled}
 use Rattle.dfu_asks.specs.declared.job.Job.{Job}
 use Rattle.dfu_asks.specs.declared.work.Work.{Work}
-use Rattle.dfu_asks.specs.declared.asking.Asking.{Asking}
+use Rattle.dfu_asks.specs.Lent.{LentAsking}
 use Rattle.dfu_asks.specs.declared.reply.Reply.{Reply}
 use Rattle.dfu_asks.specs.Mapped.{mapped}
 use Rattle.dfu_asks.specs.Steps.{Step, step_writes}
 use Rattle.dfu_asks.specs.Carried.{total, carried, IsPiece}
-use Rattle.dfu_asks.specs.Due.{IsDueRow, Fails}
-use Rattle.dfu_asks.specs.Asks.{grain_in, block_in, store_in, device_in, device_of, IsDevice, IsDue, IsJobOf, IsDueStage, IsWorking, writes_in, steps_in, IsBrokenOff, Gives, IsRest}
+use Rattle.dfu_asks.specs.Due.{IsDueRow, IsDueStage, IsSure, IsSureOrDue, Fails}
+use Rattle.dfu_asks.specs.declared.noted.Noted.{Noted}
+use Rattle.dfu_asks.specs.Noted.{IsNoted}
+use Rattle.dfu_asks.specs.Asks.{grain_in, store_in, device_in, device_of, IsDevice, IsDue, IsJobOf, IsWorking, writes_in, steps_in, IsBrokenOff, NotesAfter, IsAnswered, Gives, IsRest}
 use Rattle.dfu_asks.specs.Calls.{HasEnded, Asks, Comes, comes_asks, comes_ended, Called, called_ended, called_asks}
 use Rattle.dfu_asks.specs.Refused.{IsTaken}
 use Rattle.dfu_asks.proofs.Steps.{job_writes_are}
@@ -31,6 +35,7 @@ use Rattle.dfu_asks.proofs.Pieces.{piece_one, piece_end, piece_some}
 use Rattle.dfu_asks.proofs.Carrying.{step_carried, broken_carried}
 use Rattle.dfu_asks.proofs.Inside.{working_within}
 use Rattle.dfu_asks.proofs.Ended.{broken_ended}
+use Rattle.dfu_asks.proofs.Quiet.{due_row}
 
 -- Nothing is due where no work is kept.
 pub no_work : (w : Option Work) → is_some w ≡ false → w ≡ None
@@ -52,7 +57,7 @@ pub is_off : (b : Bool) → b ≡ false → IsTrue (not b)
 is_off b e = grind (arith, common_steps)
 
 -- The store is as it was where all but the mode and the block is.
-pub rest_store : (a mid : Asking) (flash : List ℕ) → IsRest a mid → store_in mid flash ≡ store_in a flash
+pub rest_store : (a mid : LentAsking) (flash : List ℕ) → IsRest a mid → store_in mid flash ≡ store_in a flash
 rest_store a mid flash r = λ i. store_of (mapped (record { unit = r.unit i; sector = (r.sector i).size }) flash) (r.held i) (r.end i)
 
 -- A call that begins.
@@ -66,23 +71,22 @@ due_of (mode.Manifest n passed) xs ys asked len s j end held due is = (due, is)
 due_of m xs ys asked len s j end held due is = absurd due
 
 -- A device that begins the job of the row that is due works for it.
-pub begins : (a : Asking) (m : Mode) (b : List ℕ) (there s : SlotsState) (u : Grain) (flash xs ys : List ℕ) (j : Job) (asked : Option ℕ)
-    (len : ℕ) → grain_in a ≡ u → a.mode ≡ m → block_in a ≡ b → there ≡ s → s.medium ≡ mapped u flash → IsStore s
-    → IsTrue (is_sound m (length b) there) → IsDueStage (stage_of m xs ys) asked len → IsJobOf m there j a.put_end a.held.items
+pub begins : (a : LentAsking) (m : Mode) (b : List ℕ) (s : SlotsState) (flash xs ys : List ℕ) (j : Job) (asked : Option ℕ) (len : ℕ)
+    → a.mode ≡ m → a.block ≡ b → s.medium ≡ mapped (grain_in a) flash → IsStore s → IsTrue (is_sound m (length b) s)
+    → IsNoted a.noted s.medium → IsDueStage (stage_of m xs ys) asked len → IsJobOf m s j a.put_end a.held
     → IsWorking a (record { job = j; asked = asked; done = 0 }) len s flash
-begins a m b there s u flash xs ys j asked len unit mode_is block same medium store sound due is = record {
-  medium = medium ∙ ap (λ (x : Grain). mapped x flash) (sym unit);
+begins a m b s flash xs ys j asked len mode_is block medium store sound noted due is = record {
+  medium = medium;
   store = store;
-  sound = subst (λ (x : Mode). IsTrue (is_sound x (length (block_in a)) s)) (sym mode_is)
-      (subst (λ (l : List ℕ). IsTrue (is_sound m (length l) s)) (sym block)
-      (subst (λ (x : SlotsState). IsTrue (is_sound m (length b) x)) same sound));
-  due = subst (λ (x : Mode). IsDue x asked len s j a.put_end a.held.items) (sym mode_is)
-      (due_of m xs ys asked len s j a.put_end a.held.items due
-      (subst (λ (x : SlotsState). IsJobOf m x j a.put_end a.held.items) same is));
+  sound = subst (λ (x : Mode). IsTrue (is_sound x (length a.block) s)) (sym mode_is)
+      (subst (λ (l : List ℕ). IsTrue (is_sound m (length l) s)) (sym block) sound);
+  due = subst (λ (x : Mode). IsDue x asked len s j a.put_end a.held) (sym mode_is)
+      (due_of m xs ys asked len s j a.put_end a.held due is);
+  noted = noted;
 }
 
 -- What comes of it is what the call answers, where the row that is due is the call's.
-pub called_from : (a : Asking) (flash out : List ℕ) (Row : Answer → List ℕ → Shown → Type 0) (now : Asking) (out' : List ℕ) (r : Reply)
+pub called_from : (a : LentAsking) (flash out : List ℕ) (Row : Answer → List ℕ → Shown → Type 0) (now : LentAsking) (out' : List ℕ) (r : Reply)
     (d : Shown) (len : ℕ) → d ≡ device_in a flash → Comes d len d.slots flash flash out now out' r → IsDueRow len (device_in a flash) Row
     → Called a flash out Row now out' r
 called_from a flash out Row now out' r d len is comes due =
@@ -101,57 +105,99 @@ called_from a flash out Row now out' r d len is comes due =
       is = e.is;
     })
 
+-- A call that begins the row that is due is answered by the plan that is that row.
+pub due_called : (a : LentAsking) (flash out : List ℕ) (p : Plan) (asked : Option ℕ) (len : ℕ) (now : LentAsking) (out' : List ℕ) (r : Reply)
+    → ¬ IsSure p → IsSureOrDue p (profile (device_in a flash)) (stage_of a.mode (spare_of (store_in a flash)) a.block) asked len
+    → (IsDueStage (stage_of a.mode (spare_of (store_in a flash)) a.block) asked len
+    → Comes (device_in a flash) len (store_in a flash) flash flash out now out' r)
+    → Called a flash out (λ x sent d'. Done p len (device_in a flash) x sent d') now out' r
+due_called a flash out p asked len now out' r other (inl sure) comes = absurd (other sure)
+due_called a flash out p asked len now out' r other (inr (is, stage)) comes =
+    called_from a flash out (λ x sent d'. Done p len (device_in a flash) x sent d') now out' r (device_in a flash) len refl (comes stage)
+    (due_row p len (device_in a flash) is)
+
+-- An answer by a setting that is the same.
+pub gives_in : (c d : Setting) (m : Mode) (asked : Option ℕ) (x : Answer) (count : ℕ) (out out' : List ℕ) → d ≡ c
+    → Gives (λ y sent. IsAnswered d m asked y sent) x count out out' → Gives (λ y sent. IsAnswered c m asked y sent) x count out out'
+gives_in c d m asked x count out out' same gives =
+    subst (λ (k : Setting). Gives (λ y sent. IsAnswered k m asked y sent) x count out out') same gives
+
+-- A call that is answered by a row is answered by each row that follows from it.
+pub called_by : (a : LentAsking) (flash out : List ℕ) (Row Row' : Answer → List ℕ → Shown → Type 0) (now : LentAsking) (out' : List ℕ)
+    (r : Reply) → ((x : Answer) (sent : List ℕ) (d : Shown) → Row x sent d → Row' x sent d) → Called a flash out Row now out' r
+    → Called a flash out Row' now out' r
+called_by a flash out Row Row' now out' _ follows (called_ended x count e) = called_ended x count (record {
+  gave = record {
+    sent = e.gave.sent;
+    count_is = e.gave.count_is;
+    out_is = e.gave.out_is;
+    row = follows x e.gave.sent (device_in now flash) e.gave.row;
+  };
+  work = e.work;
+  is = e.is;
+})
+called_by a flash out Row Row' now out' _ follows (called_asks len asks same due out_is) = called_asks len asks same (record {
+  works = λ x sent d w. follows x sent d (due.works x sent d w);
+  fails = λ fault x sent d w. follows x sent d (due.fails fault x sent d w);
+}) out_is
+
 -- A call that writes nothing.
 
-module _ (a mid now : Asking) (flash : List ℕ) (d : Shown) (first : IsRest a mid) (second : IsRest mid now)
-    (parts : shows d.config d.slots now.mode (block_in now) ≡ d)
-    (sound : IsTrue (is_sound now.mode (length (block_in now)) d.slots)) (is : IsDevice a flash)
-    (slots : d.slots ≡ store_in a flash) (config : d.config ≡ a.config) (none : a.work ≡ None) where
-  store_kept : store_in now flash ≡ d.slots
-  store_kept =
-      (λ i. store_of (mapped (record { unit = (second.unit ∙ first.unit) i; sector = ((second.sector ∙ first.sector) i).size }) flash)
-      ((second.held ∙ first.held) i) ((second.end ∙ first.end) i))
-      ∙ sym slots
+-- What is shaped and filled is sound.
+sound_from : (p q : Bool) → p ≡ true → IsTrue q → IsTrue (p && q)
+sound_from p q e t = grind (arith, common_steps)
 
-  -- What is kept is the device that was.
-  pub kept_device : device_in now flash ≡ d
-  kept_device = (λ i. shows ((second.config ∙ first.config ∙ sym config) i) (store_kept i) now.mode (block_in now)) ∙ parts
+module _ (a now : LentAsking) (flash : List ℕ) (rest : IsRest a now) (is : IsDevice a flash)
+    (filled : IsTrue (is_filled now.mode (length now.block) (store_in a flash))) where
+  store_kept : store_in now flash ≡ store_in a flash
+  store_kept = rest_store a now flash rest
 
-  -- And it is one still.
+  -- What is kept is a device still.
   pub kept_is : IsDevice now flash
   kept_is = record {
-    store = subst IsStore (sym (store_kept ∙ slots)) is.store;
-    sound = subst (λ (s : SlotsState). IsTrue (is_sound now.mode (length (block_in now)) s)) (sym store_kept) sound;
+    store = subst IsStore (sym store_kept) is.store;
+    sound = subst (λ (s : SlotsState). IsTrue (is_sound now.mode (length now.block) s)) (sym store_kept)
+        (sound_from (is_shaped (store_in a flash)) (is_filled now.mode (length now.block) (store_in a flash)) (shaped is.store) filled);
+    noted = noted_there;
   }
+    where
+      noted_there : IsNoted now.noted (mapped (grain_in now) flash)
+      noted_there = subst (λ (m : MediumState). IsNoted now.noted m) (sym (ap (λ (s : SlotsState). s.medium) store_kept))
+          (subst (λ (n : Noted). IsNoted n (mapped (grain_in a) flash)) (sym rest.noted) is.noted)
+
+  -- The device that is kept.
+  pub kept_device : device_in now flash ≡ shows a.config (store_in a flash) now.mode now.block
+  kept_device = λ i. shows (rest.config i) (store_kept i) now.mode now.block
 
   -- The call has come to its end.
-  pub kept_ended : (x : Answer) (count : ℕ) (out out' sent : List ℕ) (Row : Answer → List ℕ → Shown → Type 0) → count ≡ length sent
-      → out' ≡ sent ++ drop count out → Row x sent d → HasEnded flash x count out out' now Row
-  kept_ended x count out out' sent Row count_is out_is row = record {
+  pub kept_ended : a.work ≡ None → (x : Answer) (count : ℕ) (out out' sent : List ℕ) (Row : Answer → List ℕ → Shown → Type 0)
+      → count ≡ length sent → out' ≡ sent ++ drop count out → Row x sent (shows a.config (store_in a flash) now.mode now.block)
+      → HasEnded flash x count out out' now Row
+  kept_ended none x count out out' sent Row count_is out_is row = record {
     gave = record { sent = sent; count_is = count_is; out_is = out_is; row = subst (λ (y : Shown). Row x sent y) (sym kept_device) row };
-    work = second.work ∙ first.work ∙ none;
+    work = rest.work ∙ none;
     is = kept_is;
   }
 
 -- How a piece went.
 
 -- The piece that was asked for is the one that was taken.
-pub one_piece : (a : Asking) (w : Work) (x : Work) (ss : List Step) (p q : Step) → x ≡ w → ss ≡ steps_in a w
+pub one_piece : (a : LentAsking) (w : Work) (x : Work) (ss : List Step) (p q : Step) → x ≡ w → ss ≡ steps_in a w
     → IsPiece (steps_in a x) x.done p
     → IsPiece ss w.done q → p ≡ q
 one_piece a w x ss p q same is first second = piece_one (steps_in a w) w.done p q
     (subst (λ (y : Work). IsPiece (steps_in a y) y.done p) same first) (subst (λ (l : List Step). IsPiece l w.done q) is second)
 
 -- The writes of the steps of a work are its writes.
-pub writes_are : (a : Asking) (w : Work) → step_writes (steps_in a w) ≡ writes_in a w
-writes_are a w = job_writes_are w.job (grain_in a) a.put_end a.held.items (block_in a)
+pub writes_are : (a : LentAsking) (w : Work) → step_writes (steps_in a w) ≡ writes_in a w
+writes_are a w = job_writes_are w.job (grain_in a) a.put_end a.held a.block
 
 -- A piece of a work is some bytes of one of its writes.
-pub bit_in : (a : Asking) (w : Work) (p : Step) → IsPiece (steps_in a w) w.done p → IsBitOf (writes_in a w) w.done p.write
+pub bit_in : (a : LentAsking) (w : Work) (p : Step) → IsPiece (steps_in a w) w.done p → IsBitOf (writes_in a w) w.done p.write
 bit_in a w p piece = subst (λ (ws : List Write). IsBitOf ws w.done p.write) (writes_are a w) (bit_of (steps_in a w) w.done p piece)
 
 -- With a next piece some bytes of the work are left.
-pub piece_left : (a : Asking) (w : Work) (p : Step) → IsPiece (steps_in a w) w.done p → w.done < total (writes_in a w)
+pub piece_left : (a : LentAsking) (w : Work) (p : Step) → IsPiece (steps_in a w) w.done p → w.done < total (writes_in a w)
 piece_left a w p piece = omega (
   arith,
   piece_end (steps_in a w) w.done p piece,
@@ -160,12 +206,12 @@ piece_left a w p piece = omega (
 )
 
 -- Where no step of it is left, none of its bytes is.
-pub none_left : (a : Asking) (w : Work) (ss : List Step) → ss ≡ steps_in a w → total (step_writes ss) ≤ w.done
+pub none_left : (a : LentAsking) (w : Work) (ss : List Step) → ss ≡ steps_in a w → total (step_writes ss) ≤ w.done
     → total (writes_in a w) ≤ w.done
 none_left a w ss same le = omega (arith, ap (λ (xs : List Step). total (step_writes xs)) same, ap total (writes_are a w), le)
 
 -- A device with a next piece is one that a piece can be taken of.
-pub taken_from : (a : Asking) (w : Work) (ss : List Step) (p : Step) (room : ℕ) → 6 ≤ room → a.work ≡ Some w → ss ≡ steps_in a w
+pub taken_from : (a : LentAsking) (w : Work) (ss : List Step) (p : Step) (room : ℕ) → 6 ≤ room → a.work ≡ Some w → ss ≡ steps_in a w
     → IsPiece ss w.done p → IsTaken a room
 taken_from a w ss p room fits is same piece = record {
   fits = fits;
@@ -173,22 +219,22 @@ taken_from a w ss p room fits is same piece = record {
   is_left = record { work_is = is; left = piece_left a w p (subst (λ (l : List Step). IsPiece l w.done p) same piece) };
 }
 
-module _ (a : Asking) (len : ℕ) (s : SlotsState) (was before : List ℕ) (asks : Asks a len s was before) (p : Step)
+module _ (a : LentAsking) (len : ℕ) (s : SlotsState) (was before : List ℕ) (asks : Asks a len s was before) (p : Step)
     (piece : IsPiece (steps_in a asks.work) asks.work.done p) (flash : List ℕ) (torn : Torn before p.write.at p.write.bytes flash) where
   torn_there : Torn (carried was (writes_in a asks.work) asks.work.done) p.write.at p.write.bytes flash
   torn_there = subst (λ (l : List ℕ). Torn l p.write.at p.write.bytes flash) asks.flash_is torn
 
   -- It failed, or other bytes stand there: the row with that fault.
-  pub piece_failed : (fault : WriteFault) (now : Asking) (asked : Option ℕ) (x : Answer) (count : ℕ) (out out' : List ℕ)
-      → asks.work.asked ≡ asked
-      → IsBrokenOff fault a now → Gives now.mode asked x count out out'
+  pub piece_failed : (fault : WriteFault) (now : LentAsking) (asked : Option ℕ) (x : Answer) (count : ℕ) (out out' : List ℕ)
+      → asks.work.asked ≡ asked → IsBrokenOff fault a now → NotesAfter a.mode flash a now
+      → Gives (λ y sent. IsAnswered a.config now.mode asked y sent) x count out out'
       → HasEnded flash x count out out' now (λ y sent w'. Fails fault len (device_of a s) y sent w')
-  piece_failed fault now asked x count out out' same off gives =
-      broken_ended a now asks.work len s was flash asks.working x count out out' fault
+  piece_failed fault now asked x count out out' same off notes gives =
+      broken_ended a now asks.work len s was flash asks.working notes x count out out' fault
       (broken_carried (grain_in a) fault (writes_in a asks.work) was flash asks.work.done p.write
       (working_within a asks.work len s was asks.working)
       (bit_in a asks.work p piece) torn_there) off
-      (subst (λ (y : Option ℕ). Gives now.mode y x count out out') (sym same) gives)
+      (subst (λ (y : Option ℕ). Gives (λ z sent. IsAnswered a.config now.mode y z sent) x count out out') (sym same) gives)
 
   -- It stands there: the series stands one piece further.
   pub piece_stands : p.write.at + length p.write.bytes ≤ length flash

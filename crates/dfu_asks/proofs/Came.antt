@@ -57,6 +57,17 @@ module _ (s now : SlotsState) (store : IsStore s) where
       (begin_done {T = Unit {0}} {s = s} {v = s} refl (record { store = store; active_there = refl; spare_there = refl }) now done tt worked).0 in
       record { active = sym kept.active_there; spare = sym kept.spare_there }
 
+  -- So does one that was broken off.
+  pub broken_places : (fault : WriteFault) → CallFailed fault s Begin now → SamePlaces s.medium now.medium
+  broken_places Failed failed =
+      let kept = (begin_done {T = Unit {0}} {s = s} {v = s} refl (record { store = store; active_there = refl; spare_there = refl }) now
+      (broken Failed) tt failed).0 in
+      record { active = sym kept.active_there; spare = sym kept.spare_there }
+  broken_places NotVerified failed =
+      let kept = (begin_done {T = Unit {0}} {s = s} {v = s} refl (record { store = store; active_there = refl; spare_there = refl }) now
+      (broken NotVerified) tt failed).0 in
+      record { active = sym kept.active_there; spare = sym kept.spare_there }
+
   -- A `begin` that was broken off.
   pub begin_broken : (fault : WriteFault) → CallFailed fault s Begin now → BeginLeaves s (broken fault) now
   begin_broken Failed failed =
@@ -67,20 +78,22 @@ module _ (s now : SlotsState) (store : IsStore s) where
       (broken NotVerified) tt failed).1
 
   module _ (at : ℕ) (bytes : List ℕ) (here : at ≡ s.put_end) (ready : is_begun s ≡ true) (fits : at + length bytes ≤ room_of s) where
-    -- A `put` whose writes worked.
-    pub put_came : CallWorked s (Put at bytes) now → PutLeaves s at bytes done now
-    put_came worked =
-        (put_done {T = Unit {0}} {s = s} {v = s} refl (record { store = store; active_there = refl; spare_there = refl }) now at bytes here done
-        (λ e. cc, λ o. absurd (begun_closed s ready o))
-        (λ e. cc, λ over. absurd (large s (at + length bytes) fits over.1)) worked).1
+    put_done_by : (result : Result (Unit {0}) PutFault) → ¬ IsErrOf result NotBegun → ¬ IsErrOf result TooLarge
+        → Changes s (Put at bytes) result now → SamePlaces s.medium now.medium × PutLeaves s at bytes result now
+    put_done_by result begun small changes =
+        let both = put_done {T = Unit {0}} {s = s} {v = s} refl (record { store = store; active_there = refl; spare_there = refl }) now at bytes
+        here result (λ e. absurd (begun e), λ o. absurd (begun_closed s ready o))
+        (λ e. absurd (small e), λ over. absurd (large s (at + length bytes) fits over.1)) changes in
+        (record { active = sym both.0.active_there; spare = sym both.0.spare_there }, both.1)
 
-    -- A `put` that was broken off.
-    pub put_broken : (fault : WriteFault) → CallFailed fault s (Put at bytes) now → PutLeaves s at bytes (broken fault) now
-    put_broken fault failed =
-        (put_done {T = Unit {0}} {s = s} {v = s} refl (record { store = store; active_there = refl; spare_there = refl }) now at bytes here
-        (broken fault) (λ e. absurd (no_other fault e), λ o. absurd (begun_closed s ready o))
-        (λ e. absurd (not_large fault e), λ over. absurd (large s (at + length bytes) fits over.1))
-        (changes_broken fault s now (Put at bytes) failed)).1
+    -- A `put` whose writes worked. It leaves the slots where they were.
+    pub put_came : CallWorked s (Put at bytes) now → SamePlaces s.medium now.medium × PutLeaves s at bytes done now
+    put_came worked = put_done_by done (λ e. cc) (λ e. cc) worked
+
+    -- A `put` that was broken off. It does too.
+    pub put_broken : (fault : WriteFault) → CallFailed fault s (Put at bytes) now
+        → SamePlaces s.medium now.medium × PutLeaves s at bytes (broken fault) now
+    put_broken fault failed = put_done_by (broken fault) (no_other fault) (not_large fault) (changes_broken fault s now (Put at bytes) failed)
 
   module _ (len : ℕ) (within : len ≤ s.put_end) (ready : is_begun s ≡ true) where
     -- A `commit` whose writes worked.

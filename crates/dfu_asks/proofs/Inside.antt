@@ -25,11 +25,11 @@ use Rattle.dfu_device.specs.Parts.{is_put, is_sound}
 use Rattle.dfu_asks.specs.declared.job.Job.{Job}
 use Rattle.dfu_asks.specs.declared.job.Job.TheVariants as job
 use Rattle.dfu_asks.specs.declared.work.Work.{Work}
-use Rattle.dfu_asks.specs.declared.asking.Asking.{Asking}
+use Rattle.dfu_asks.specs.Lent.{LentAsking}
 use Rattle.dfu_asks.specs.Carried.{AreWithin}
 use Rattle.dfu_asks.specs.Series.{held_before}
 use Rattle.dfu_asks.specs.Jobs.{held_place, job_writes}
-use Rattle.dfu_asks.specs.Asks.{grain_in, IsBlockJob, IsCommitJob, IsDue, IsWorking, block_in, writes_in}
+use Rattle.dfu_asks.specs.Asks.{grain_in, IsBlockJob, IsCommitJob, IsDue, IsWorking, writes_in}
 use Rattle.dfu_asks.proofs.Working.{IsNext, IsAll, next_in, all_in}
 
 -- Writes within a range lie within as many bytes.
@@ -166,13 +166,13 @@ module _ (s : SlotsState) (store : IsStore s) (w : Grain) (grain : s.medium.grai
   end_there = spare_end g s.medium.bytes (standing store.has_image.active).sized
 
 -- So the writes that a device works for lie within its flash.
-pub working_within : (a : Asking) (w : Work) (len : ℕ) (s : SlotsState) (flash : List ℕ) → IsWorking a w len s flash
+pub working_within : (a : LentAsking) (w : Work) (len : ℕ) (s : SlotsState) (flash : List ℕ) → IsWorking a w len s flash
     → AreWithin (writes_in a w) (length flash)
 working_within a w len s flash k =
     let bytes : s.medium.bytes ≡ flash = ap (λ (x : MediumState). x.bytes) k.medium in
     within_range (writes_in a w) (spare_at (gate_of s.medium) s.medium.bytes)
     (spare_at (gate_of s.medium) s.medium.bytes + slot_size s.medium.bytes)
     (length flash)
-    (due_inside s k.store (grain_in a) (ap (λ (x : MediumState). x.grain) k.medium) (block_in a) a.held.items a.put_end w.job
+    (due_inside s k.store (grain_in a) (ap (λ (x : MediumState). x.grain) k.medium) a.block a.held a.put_end w.job
     a.mode w.asked len k.sound k.due)
     (omega (arith, end_there s k.store (grain_in a) (ap (λ (x : MediumState). x.grain) k.medium), ap length bytes))

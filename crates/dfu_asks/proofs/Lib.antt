@@ -1,5 +1,6 @@
 mod Steps
 mod Bits
+mod Noting
 mod Carrying
 mod Came
 mod Rows
@@ -8,6 +9,8 @@ mod Locating
 mod JobPieces
 pub mod Working
 mod Quiet
+mod Sending
+mod Renoted
 mod Ended
 mod Inside
 mod Sound

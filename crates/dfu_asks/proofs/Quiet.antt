@@ -1,27 +1,23 @@
--- The rows that write nothing, and those that do.
-use Rattle.std.proofs.Common.{◌≡◌, inl, inr, ◌==◌, not, nat_le, nat_lt, true, false, ℕ, ◌+◌, [], List, length, take, drop, refl, ap, arith}
-use Rattle.std.proofs.lemmas.Bool.{false≢true, ne_eqb}
-use Rattle.dfu_wire.specs.declared.setups.Setup.{Setup}
+-- Which rows write, and what is decided on a request or on a time.
+use Rattle.std.proofs.Common.{◌≡◌, inl, inr, ⊎_elim, ◌==◌, not, nat_le, nat_lt, max, Bool, true, false, IsTrue, ℕ, ◌+◌, [], List, length, take, drop, Some, None, refl, sym, ◌∙◌, ap, subst}
 use Rattle.dfu_wire.specs.declared.requests.Request.{Request as Asked}
 use Rattle.dfu_wire.specs.declared.requests.Request.TheVariants as asked
-use Rattle.dfu_wire.specs.Setup.{IsSetup}
-use Rattle.dfu_wire.specs.Request.{Asks}
 use Rattle.dfu_slots.specs.declared.fault.WriteFault.{WriteFault}
-use Rattle.dfu_slots.specs.Seen.{image_of}
+use Rattle.dfu_slots.specs.Seen.{image_of, spare_of}
 use Rattle.dfu_device.specs.declared.answer.Answer.{Answer}
-use Rattle.dfu_device.specs.Stage.{Request, Dnload, Upload, GetStatus, GetState, Profile, Stage, InDfuIdle, InDownloadSync, InDownloadIdle, InManifestSync, InUploadIdle}
-use Rattle.dfu_device.specs.Table.{Plan, Sure, Writes, Commits, is_empty, block_plan, upload_plan, plan}
+use Rattle.dfu_device.specs.declared.answer.Answer.TheVariants as answer
+use Rattle.dfu_device.specs.declared.mode.Mode.{Mode}
+use Rattle.dfu_device.specs.declared.profile.Profile.{Profile as ProfileRead}
+use Rattle.dfu_device.specs.declared.decision.Decision.{Decision}
+use Rattle.dfu_device.specs.Stage.{Request, Dnload, Upload, GetStatus, GetState, Profile, Stage, InAppDetach, InDfuIdle, InDownloadSync, InDownloadBusy, InDownloadIdle, InManifestSync, InManifest, InUploadIdle}
+use Rattle.dfu_device.specs.Table.{Plan, Sure, Writes, Commits, is_empty, block_plan, upload_plan, plan, time_plan}
 use Rattle.dfu_device.specs.Shown.{Shown, profile}
-use Rattle.dfu_device.specs.Rows.{Done, Handles, handled_as, meant, asked_length, is_served, setup_plan}
-use Rattle.dfu_device.specs.Came.{row_of}
+use Rattle.dfu_device.specs.Parts.{stage_of, is_sound}
+use Rattle.dfu_device.specs.Rows.{Done, meant, asked_length}
+use Rattle.dfu_device.specs.Decision.{profile_in, plan_of, HasLength, Decides, DecidesTime}
 use Rattle.dfu_device.specs.Cases.{either_way}
-use Rattle.dfu_asks.specs.Due.{due_plan, WorksOut, FailsOut, IsDueRow, writes_now}
-
--- A plan that calls nothing of the slot store.
-abbrev IsSure : Plan → Type 0
-IsSure (Sure reply stage) = Unit {0}
-IsSure (Writes before block reply stage bad) = ⊥
-IsSure (Commits taken reply stage bad) = ⊥
+use Rattle.dfu_device.proofs.Carried.{holds_written}
+use Rattle.dfu_asks.specs.Due.{due_plan, WorksOut, FailsOut, IsDueRow, IsSure, IsSureOrDue, writes_now}
 
 block_sure : (c : Profile) (before : List ℕ) (expected number : ℕ) (body : List ℕ) → IsSure (block_plan c before expected number body)
 block_sure c before expected number body =
@@ -48,65 +44,96 @@ sure_plan c image (InUploadIdle place number) (Upload k size) off = upload_sure 
 sure_plan c image st GetState off = tt
 sure_plan c image st r off = tt
 
-sure_same : (p : Plan) (len : ℕ) (w : Shown) (a : Answer) (out : List ℕ) (w' : Shown) → IsSure p → Done p len w a out w'
-    → (w'.slots ≡ w.slots) × (w'.config ≡ w.config)
-sure_same (Sure reply stage) len w a out w' sure done = (ap (λ (x : Shown). x.slots) done.1, ap (λ (x : Shown). x.config) done.1)
-sure_same (Writes before block reply stage bad) len w a out w' sure done = absurd sure
-sure_same (Commits taken reply stage bad) len w a out w' sure done = absurd sure
+-- What a request comes to calls nothing of the slot store, or it is the row that is due.
+pub request_due : (c : Profile) (image : List ℕ) (st : Stage) (q : Asked) (body : List ℕ)
+    → IsSureOrDue (plan c image st (meant q body)) c st (Some (asked_length q)) (asked_length q)
+request_due c image (InDownloadSync before block number) (asked.GetStatus len) body = by_time (c.busy == 0) refl
+  where
+    by_time : (b : Bool) → (c.busy == 0) ≡ b
+        → IsSureOrDue (plan c image (InDownloadSync before block number) GetStatus) c (InDownloadSync before block number) (Some len) len
+    by_time true on = inr (rw on refl, refl)
+    by_time false off = inl (sure_plan c image (InDownloadSync before block number) GetStatus off)
+request_due c image (InManifestSync taken) (asked.GetStatus len) body = by_time (c.manifest == 0) refl
+  where
+    by_time : (b : Bool) → (c.manifest == 0) ≡ b
+        → IsSureOrDue (plan c image (InManifestSync taken) GetStatus) c (InManifestSync taken) (Some len) len
+    by_time true on = inr (rw on refl, refl)
+    by_time false off = inl (sure_plan c image (InManifestSync taken) GetStatus off)
+request_due c image st q body = inl (sure_plan c image st (meant q body) refl)
 
-setup_sure : (p : Setup) (q : Asked) (body : List ℕ) (w : Shown) → writes_now (profile w) w.stage (meant q body) ≡ false
-    → IsSure (setup_plan w p q body)
-setup_sure p q body w off =
-    either_way IsSure (is_served p q body) _ _ (sure_plan (profile w) (image_of w.slots) w.stage (meant q body) off) tt
+-- Nor does what a time comes to, or it is the row that is due.
+pub time_due : (c : Profile) (st : Stage) (ms : ℕ) → IsSureOrDue (time_plan c st ms) c st None 0
+time_due c (InAppDetach timer passed) ms =
+    inl (either_way IsSure (ms == 0) _ _ tt
+    (either_way IsSure c.will_detach _ _ tt (either_way IsSure (nat_le (max 1 timer) (passed + ms)) _ _ tt tt)))
+time_due c (InDownloadBusy before block number passed) ms =
+    either_way (λ p. IsSureOrDue p c (InDownloadBusy before block number passed) None 0) (ms == 0) _ _ (inl tt)
+    (either_way (λ p. IsSureOrDue p c (InDownloadBusy before block number passed) None 0) (nat_le c.busy (passed + ms)) _ _
+    (inr (refl, refl)) (inl tt))
+time_due c (InManifest taken passed) ms =
+    either_way (λ p. IsSureOrDue p c (InManifest taken passed) None 0) (ms == 0) _ _ (inl tt)
+    (either_way (λ p. IsSureOrDue p c (InManifest taken passed) None 0) (nat_le c.manifest (passed + ms)) _ _ (inr (refl, refl)) (inl tt))
+time_due c st ms = inl tt
 
-other_request : (c : Profile) (st : Stage) (q : Asked) (body : List ℕ) → ((len : ℕ) → q ≡ asked.GetStatus len → ⊥)
-    → writes_now c st (meant q body) ≡ false
-other_request c (InDownloadSync before block number) (asked.GetStatus len) body other = absurd (other len refl)
-other_request c (InManifestSync taken) (asked.GetStatus len) body other = absurd (other len refl)
-other_request c st q body other = refl
+-- Time is answered with an acknowledgement.
+abbrev IsQuiet : Plan → Type 0
+IsQuiet p = (len : ℕ) (w : Shown) (a : Answer) (out : List ℕ) (w' : Shown) → Done p len w a out w' → (a ≡ answer.Ack) × (out ≡ [])
 
--- A setup that asks for no status leaves the slot store.
-pub other_quiet : (p : Setup) (q : Asked) (setup body : List ℕ) (w : Shown) (a : Answer) (out : List ℕ) (w' : Shown)
-    → IsSetup p setup → Asks p q
-    → ((len : ℕ) → q ≡ asked.GetStatus len → ⊥) → Handles setup body w a out w' → (w'.slots ≡ w.slots) × (w'.config ≡ w.config)
-other_quiet p q setup body w a out w' reads asks other h =
-    sure_same (setup_plan w p q body) (asked_length q) w a out w' (setup_sure p q body w (other_request (profile w) w.stage q body other))
-    (row_of p q setup body w a out w' reads asks h)
-
--- The rows that write.
-
-now_due : (c : Profile) (image : List ℕ) (st : Stage) → writes_now c st GetStatus ≡ true → plan c image st GetStatus ≡ due_plan c st
-now_due c image (InDownloadSync before block number) on = rw on refl
-now_due c image (InManifestSync taken) on = rw on refl
-now_due c image st on = absurd (false≢true on)
+pub time_quiet : (c : Profile) (st : Stage) (ms : ℕ) → IsQuiet (time_plan c st ms)
+time_quiet c (InAppDetach timer passed) ms =
+    either_way IsQuiet (ms == 0) _ _ (λ len w a out w' d. d.0)
+    (either_way IsQuiet c.will_detach _ _ (λ len w a out w' d. d.0)
+    (either_way IsQuiet (nat_le (max 1 timer) (passed + ms)) _ _ (λ len w a out w' d. d.0) (λ len w a out w' d. d.0)))
+time_quiet c (InDownloadBusy before block number passed) ms =
+    either_way IsQuiet (ms == 0) _ _ (λ len w a out w' d. d.0)
+    (either_way IsQuiet (nat_le c.busy (passed + ms)) _ _ (λ len w a out w' d. ⊎_elim (λ x. x.0) (λ x. x.1) d) (λ len w a out w' d. d.0))
+time_quiet c (InManifest taken passed) ms =
+    either_way IsQuiet (ms == 0) _ _ (λ len w a out w' d. d.0)
+    (either_way IsQuiet (nat_le c.manifest (passed + ms)) _ _ (λ len w a out w' d. ⊎_elim (λ x. x.0) (λ x. x.1) d)
+    (λ len w a out w' d. d.0))
+time_quiet c st ms = λ len w a out w' d. d.0
 
 -- What works out or fails is done.
-pub done_works : (p : Plan) (len : ℕ) (w : Shown) (a : Answer) (out : List ℕ) (w' : Shown) → WorksOut p len w a out w'
+done_works : (p : Plan) (len : ℕ) (w : Shown) (a : Answer) (out : List ℕ) (w' : Shown) → WorksOut p len w a out w'
     → Done p len w a out w'
 done_works (Sure reply stage) len w a out w' none = absurd none
 done_works (Writes before block reply stage bad) len w a out w' done = inl done
 done_works (Commits taken reply stage bad) len w a out w' done = inl done
 
-pub done_fails : (fault : WriteFault) (p : Plan) (len : ℕ) (w : Shown) (a : Answer) (out : List ℕ) (w' : Shown)
+done_fails : (fault : WriteFault) (p : Plan) (len : ℕ) (w : Shown) (a : Answer) (out : List ℕ) (w' : Shown)
     → FailsOut fault p len w a out w' → Done p len w a out w'
 done_fails fault (Sure reply stage) len w a out w' none = absurd none
 done_fails fault (Writes before block reply stage bad) len w a out w' done = inr (fault, done.0, done.1)
 done_fails fault (Commits taken reply stage bad) len w a out w' done = inr (fault, done.0, done.1)
 
--- A GETSTATUS that writes is the row that is due.
-pub status_due : (p : Setup) (len : ℕ) (setup body : List ℕ) (w : Shown) → IsSetup p setup → Asks p (asked.GetStatus len)
-    → length body ≡ 0 → writes_now (profile w) w.stage GetStatus ≡ true → IsDueRow len w (λ a out w'. Handles setup body w a out w')
-status_due p len setup body w reads asks none on = record {
-  works = λ a out w' x. row a out w' (done_works (due_plan (profile w) w.stage) len w a out w' x);
-  fails = λ fault a out w' x. row a out w' (done_fails fault (due_plan (profile w) w.stage) len w a out w' x);
+-- A plan that is the row that is due is done by what comes of that row.
+pub due_row : (p : Plan) (len : ℕ) (w : Shown) → p ≡ due_plan (profile w) w.stage
+    → IsDueRow len w (λ a out w'. Done p len w a out w')
+due_row p len w is = record {
+  works = λ a out w' x. subst (λ (q : Plan). Done q len w a out w') (sym is) (done_works (due_plan (profile w) w.stage) len w a out w' x);
+  fails = λ fault a out w' x.
+      subst (λ (q : Plan). Done q len w a out w') (sym is) (done_fails fault (due_plan (profile w) w.stage) len w a out w' x);
 }
-  where
-    kind : (p.kind == 0x21) ≡ false
-    kind = ne_eqb p.kind 0x21 (λ e. omega (arith, e, asks.0.kind))
 
-    served : is_served p (asked.GetStatus len) body ≡ true
-    served = rw (kind, none) refl
+-- What is decided.
 
-    row : (a : Answer) (out : List ℕ) (w' : Shown) → Done (due_plan (profile w) w.stage) len w a out w' → Handles setup body w a out w'
-    row a out w' done = handled_as p (asked.GetStatus len) reads asks
-        (rw (served, now_due (profile w) (image_of w.slots) w.stage on) done)
+-- What is decided on a request in a device is its row.
+pub decided : (p : ProfileRead) (q : Asked) (m : Mode) (block body : List ℕ) (d : Decision) (w : Shown) → profile_in p ≡ profile w
+    → IsTrue (is_sound m (length block) w.slots) → w.stage ≡ stage_of m (spare_of w.slots) block → Decides p m q d → HasLength q body
+    → plan_of (profile w) (image_of w.slots) (spare_of w.slots) block body d ≡ plan (profile w) (image_of w.slots) w.stage (meant q body)
+decided p q m block body d w same sound stage decides fits =
+    let image = image_of w.slots in
+    let spare = spare_of w.slots in
+    subst (λ (c : Profile). plan_of c image spare block body d ≡ plan c image (stage_of m spare block) (meant q body)) same
+    (decides image spare block body (holds_written m (length block) w.slots sound) fits)
+    ∙ ap (λ (st : Stage). plan (profile w) image st (meant q body)) (sym stage)
+
+-- So is what is decided on a time.
+pub decided_time : (p : ProfileRead) (ms : ℕ) (m : Mode) (block : List ℕ) (d : Decision) (w : Shown) → profile_in p ≡ profile w
+    → w.stage ≡ stage_of m (spare_of w.slots) block → DecidesTime p m ms d
+    → plan_of (profile w) (image_of w.slots) (spare_of w.slots) block [] d ≡ time_plan (profile w) w.stage ms
+decided_time p ms m block d w same stage decides =
+    let image = image_of w.slots in
+    let spare = spare_of w.slots in
+    subst (λ (c : Profile). plan_of c image spare block [] d ≡ time_plan c (stage_of m spare block) ms) same (decides image spare block)
+    ∙ ap (λ (st : Stage). time_plan (profile w) st ms) (sym stage)

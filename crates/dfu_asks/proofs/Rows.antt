@@ -14,7 +14,7 @@ use Rattle.dfu_slots.proofs.Stays.{SamePlaces}
 use Rattle.dfu_device.specs.Parts.{is_put}
 use Rattle.dfu_device.proofs.Calls.{called_one, block_begun, block_not_begun, block_further, fits_spare, put_on}
 use Rattle.dfu_asks.specs.Series.{block_series, block_store, BlockWritten, BlockBroken, CommitDone, CommitBroken}
-use Rattle.dfu_asks.proofs.Came.{done, broken, broken_ending, begun, begun_places, begin_broken, put_came, put_broken, commit_came, commit_broken}
+use Rattle.dfu_asks.proofs.Came.{done, broken, broken_ending, begun, begun_places, broken_places, begin_broken, put_came, put_broken, commit_came, commit_broken}
 
 -- The first block.
 
@@ -54,11 +54,13 @@ module _ (s : SlotsState) (store : IsStore s) (block : List ℕ) (fits : length 
           held_is = λ i. put_rest (sym grain i).unit [] block;
           end_is = refl;
         } in
-        let lp = put_came b now lb.common.store 0 block refl lb.shut fits_there w in
+        let came = put_came b now lb.common.store 0 block refl lb.shut fits_there w in
+        let lp = came.1 in
         record {
           calls = block_begun s b now 0 block AllWorked refl (lb.common.call refl (omega arith)) (lp.common.call lb.shut fits_there);
           store = lp.common.store;
           image = lp.image ∙ lb.image;
+          place = came.0.active ∙ places.active;
           room = lp.common.room ∙ lb.common.room;
           put = put_on done b now (0 + length block) lb.shut lp.shut lp.end;
           spare = lp.front;
@@ -72,12 +74,14 @@ module _ (s : SlotsState) (store : IsStore s) (block : List ℕ) (fits : length 
           held_is = refl;
           end_is = refl;
         } in
-        let lp = put_broken b (store_on m) lb.common.store 0 block refl lb.shut fits_there fault w in
+        let came = put_broken b (store_on m) lb.common.store 0 block refl lb.shut fits_there fault w in
+        let lp = came.1 in
         record {
           calls = block_begun s b (store_on m) 0 block (BrokenBy fault) refl (lb.common.call refl (omega arith))
               (subst (λ (e : Ending). DidCall b (Put 0 block) e (store_on m)) (broken_ending fault) (lp.common.call lb.shut fits_there));
           store = lp.common.store;
           image = lp.image ∙ lb.image;
+          place = came.0.active ∙ places.active;
           room = lp.common.room ∙ lb.common.room;
         }
 
@@ -89,12 +93,14 @@ module _ (s : SlotsState) (store : IsStore s) (block : List ℕ) (fits : length 
 
   broken_begin : (fault : WriteFault) → BrokenWrites fault s.medium (writes_of s Begin) m → BlockBroken fault s 0 block (store_on m)
   broken_begin fault early =
-      let lb = begin_broken s (store_on m) store fault (record { writes = early; held_is = refl; end_is = refl }) in
+      let failed : CallFailed fault s Begin (store_on m) = record { writes = early; held_is = refl; end_is = refl } in
+      let lb = begin_broken s (store_on m) store fault failed in
       record {
         calls = block_not_begun fault s (store_on m) 0 block refl
             (subst (λ (e : Ending). DidCall s Begin e (store_on m)) (broken_ending fault) (lb.common.call refl (omega arith)));
         store = lb.common.store;
         image = lb.image;
+        place = (broken_places s (store_on m) store fault failed).active;
         room = lb.common.room;
       }
 
@@ -122,11 +128,13 @@ module _ (s : SlotsState) (store : IsStore s) (shape : is_shaped s ≡ true) (n 
       → BlockWritten s n block (store_of m (put_rest s.medium.grain.unit s.held block) (n + length block))
   further_written all =
       let now = store_of m (put_rest s.medium.grain.unit s.held block) (n + length block) in
-      let lp = put_came s now store n block here ready fits (record { writes = all; held_is = refl; end_is = refl }) in
+      let came = put_came s now store n block here ready fits (record { writes = all; held_is = refl; end_is = refl }) in
+      let lp = came.1 in
       record {
         calls = block_further s now n block AllWorked some within (lp.common.call ready fits);
         store = lp.common.store;
         image = lp.image;
+        place = came.0.active;
         room = lp.common.room;
         put = put_on done s now (n + length block) ready lp.shut lp.end;
         spare = lp.front;
@@ -135,12 +143,14 @@ module _ (s : SlotsState) (store : IsStore s) (shape : is_shaped s ≡ true) (n 
   further_broken : (fault : WriteFault) → BrokenWrites fault s.medium (writes_of s (Put n block)) m
       → BlockBroken fault s n block (store_on m)
   further_broken fault all =
-      let lp = put_broken s (store_on m) store n block here ready fits fault (record { writes = all; held_is = refl; end_is = refl }) in
+      let came = put_broken s (store_on m) store n block here ready fits fault (record { writes = all; held_is = refl; end_is = refl }) in
+      let lp = came.1 in
       record {
         calls = block_further s (store_on m) n block (BrokenBy fault) some within
             (subst (λ (e : Ending). DidCall s (Put n block) e (store_on m)) (broken_ending fault) (lp.common.call ready fits));
         store = lp.common.store;
         image = lp.image;
+        place = came.0.active;
         room = lp.common.room;
       }
 

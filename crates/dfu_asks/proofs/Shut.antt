@@ -22,13 +22,13 @@ use Rattle.dfu_device.specs.declared.mode.Mode.TheVariants as mode
 use Rattle.dfu_device.specs.Parts.{is_sound}
 use Rattle.dfu_asks.specs.declared.job.Job.{Job}
 use Rattle.dfu_asks.specs.declared.job.Job.TheVariants as job
-use Rattle.dfu_asks.specs.declared.asking.Asking.{Asking}
+use Rattle.dfu_asks.specs.Lent.{LentAsking}
 use Rattle.dfu_asks.specs.Mapped.{mapped}
 use Rattle.dfu_asks.specs.Steps.{Step, step_writes, marked, program, anew_steps, some_steps}
 use Rattle.dfu_asks.specs.Carried.{total, carried, IsPiece, IsReached}
 use Rattle.dfu_asks.specs.Series.{held_before}
 use Rattle.dfu_asks.specs.Jobs.{held_place, job_writes, job_steps}
-use Rattle.dfu_asks.specs.Asks.{IsBlockJob, IsCommitJob, IsDue, grain_in, block_in, writes_in, steps_in}
+use Rattle.dfu_asks.specs.Asks.{IsBlockJob, IsCommitJob, IsDue, grain_in, writes_in, steps_in}
 use Rattle.dfu_asks.specs.Calls.{Asks}
 use Rattle.dfu_asks.proofs.Carrying.{carried_none}
 use Rattle.dfu_asks.proofs.Working.{IsNext, IsAll, next_in, all_in}
@@ -237,7 +237,7 @@ module _ (s : SlotsState) (store : IsStore s) (w : Grain) (grain : s.medium.grai
   due_shut b held end j k m asked len sound due reached left = absurd due
 
 -- The next piece lies within a slot that is the spare one, or whose gate is closed.
-pub record Goes (a : Asking) (flash : List ℕ) (p : Step) : Type 0 where
+pub record Goes (a : LentAsking) (flash : List ℕ) (p : Step) : Type 0 where
   pub slot : ℕ
   pub either : (slot ≡ 0) ⊎ (slot ≡ slot_size flash)
   pub low : slot ≤ p.write.at
@@ -246,7 +246,7 @@ pub record Goes (a : Asking) (flash : List ℕ) (p : Step) : Type 0 where
       ⊎ (HasImage (mapped (grain_in a) flash) × (spare_at (gate_of (mapped (grain_in a) flash)) flash ≡ slot))
 
 -- So it does where a device asks.
-pub asks_goes : (a : Asking) (len : ℕ) (s : SlotsState) (was flash : List ℕ) (k : Asks a len s was flash) (p : Step)
+pub asks_goes : (a : LentAsking) (len : ℕ) (s : SlotsState) (was flash : List ℕ) (k : Asks a len s was flash) (p : Step)
     → IsPiece (steps_in a k.work) k.work.done p → Goes a flash p
 asks_goes a len s was flash k p piece =
     let ws = writes_in a k.work in
@@ -257,16 +257,16 @@ asks_goes a len s was flash k p piece =
     let bytes : s.medium.bytes ≡ was = ap (λ (x : MediumState). x.bytes) medium in
     let is : flash ≡ carried s.medium.bytes ws done = k.flash_is ∙ ap (λ (l : List ℕ). carried l ws done) (sym bytes) in
     let place = spare_at (gate_of s.medium) s.medium.bytes in
-    let inside = due_inside s store (grain_in a) grain (block_in a) a.held.items a.put_end k.work.job a.mode k.work.asked len
+    let inside = due_inside s store (grain_in a) grain a.block a.held a.put_end k.work.job a.mode k.work.asked len
     k.working.sound k.working.due in
     let size : length flash ≡ length s.medium.bytes = ap length is
     ∙ carried_size ws s.medium.bytes done (within_range ws place (place + slot_size s.medium.bytes) (length s.medium.bytes) inside
     (end_there s store (grain_in a) grain)) in
     let half : slot_size flash ≡ slot_size s.medium.bytes = ap (λ (n : ℕ). n / 2) size in
     let range = piece_inside ws done p.write place (place + slot_size s.medium.bytes) inside
-    (subst (λ (vs : List Write). IsBitOf vs done p.write) (job_writes_are k.work.job (grain_in a) a.put_end a.held.items (block_in a))
+    (subst (λ (vs : List Write). IsBitOf vs done p.write) (job_writes_are k.work.job (grain_in a) a.put_end a.held a.block)
     (bit_of (steps_in a k.work) done p piece)) in
-    let shut = due_shut s store (grain_in a) grain (block_in a) a.held.items a.put_end k.work.job done a.mode k.work.asked len
+    let shut = due_shut s store (grain_in a) grain a.block a.held a.put_end k.work.job done a.mode k.work.asked len
     k.working.sound k.working.due k.reached k.left in
     record {
       slot = place;

@@ -13,12 +13,12 @@ use Rattle.dfu_device.specs.declared.mode.Mode.{Mode}
 use Rattle.dfu_device.specs.declared.mode.Mode.TheVariants as mode
 use Rattle.dfu_asks.specs.declared.job.Job.{Job}
 use Rattle.dfu_asks.specs.declared.job.Job.TheVariants as job
-use Rattle.dfu_asks.specs.declared.asking.Asking.{Asking}
+use Rattle.dfu_asks.specs.Lent.{LentAsking}
 use Rattle.dfu_slots.specs.Medium.{MediumState}
 use Rattle.dfu_asks.specs.Steps.{Step, marked, program, anew_steps, some_steps, put_steps, open_steps, close_step}
 use Rattle.dfu_asks.specs.Carried.{IsPiece, IsReached, IsSound}
 use Rattle.dfu_asks.specs.Jobs.{held_place, job_steps}
-use Rattle.dfu_asks.specs.Asks.{grain_in, block_in, steps_in, IsBlockJob, IsCommitJob, IsDue}
+use Rattle.dfu_asks.specs.Asks.{grain_in, steps_in, IsBlockJob, IsCommitJob, IsDue}
 use Rattle.dfu_asks.specs.Calls.{Asks}
 use Rattle.dfu_asks.proofs.Inside.{place_edge}
 
@@ -122,10 +122,10 @@ module _ (s : SlotsState) (store : IsStore s) (w : Grain) (grain : s.medium.grai
   due_sound m asked len due = absurd due
 
 -- So is the piece that a device asks for.
-pub asks_sound : (a : Asking) (len : ℕ) (s : SlotsState) (was flash : List ℕ) (k : Asks a len s was flash) (p : Step)
+pub asks_sound : (a : LentAsking) (len : ℕ) (s : SlotsState) (was flash : List ℕ) (k : Asks a len s was flash) (p : Step)
     → IsPiece (steps_in a k.work) k.work.done p → IsSound a.sector.size p
 asks_sound a len s was flash k p piece =
     sound_piece a.sector.size (steps_in a k.work) k.work.done p
     (due_sound s k.working.store (grain_in a) (ap (λ (x : MediumState). x.grain) k.working.medium)
-    (block_in a) a.held.items a.put_end k.work.job
+    a.block a.held a.put_end k.work.job
     a.mode k.work.asked len k.working.due) k.reached piece

@@ -21,10 +21,6 @@ module _ (s : SlotsState) (store : IsStore s) where
   end_there : place + slot_size s.medium.bytes ≤ length s.medium.bytes
   end_there = spare_end g s.medium.bytes (standing store.has_image.active).sized
 
-  -- What was put lies within the medium.
-  pub put_fits : place + 2 * g + (s.put_end - length s.held) ≤ length s.medium.bytes
-  put_fits = omega (arith, end_there, store.puts.fits, store.has_image.active.sized.room)
-
   data_size : length (spare_slot s).data_bytes ≡ slot_size s.medium.bytes - 2 * g
   data_size = data_length g s.medium.bytes place end_there (omega (arith, store.has_image.active.sized.room))
 

@@ -1,13 +1,13 @@
 -- What comes of a row once its writes are carried out.
 use Rattle.std.proofs.Common.{◌≡◌, ◌⊎◌, inl, inr, ◌==◌, ◌&&◌, ◌||◌, not, nat_lt, nat_le, Bool, true, false, IsTrue, if◌then◌else◌, ℕ, ◌+◌, ◌-◌, ◌^◌, ◌≤◌, ◌<◌, List, [], ◌++◌, length, take, Option, refl, sym, ◌∙◌, ap, subst, arith}
 use Rattle.std.proofs.lemmas.Grind.{common_steps}
-use Rattle.std.proofs.lemmas.Bool.{cases_eq, ne_eqb, and_parts, eqb-true}
+use Rattle.std.proofs.lemmas.Bool.{cases_eq, ne_eqb, and_parts, eqb-true, false≢true}
 use Rattle.dfu_suffix.specs.Register.{register}
 use Rattle.dfu_slots.specs.declared.fault.WriteFault.{WriteFault}
 use Rattle.dfu_slots.specs.Units.{Grain}
 use Rattle.dfu_slots.specs.Medium.{MediumState, Write, Rose, AllWrites, BrokenWrites}
 use Rattle.dfu_slots.specs.Layout.{OPEN, next_generation, generation}
-use Rattle.dfu_slots.specs.Image.{gate_of, spare_at}
+use Rattle.dfu_slots.specs.Image.{gate_of, spare_at, active_at}
 use Rattle.dfu_slots.specs.Writes.{put_writes, put_rest, part_writes, open_writes}
 use Rattle.dfu_slots.specs.Seen.{SlotsState, store_of, store_on, data_place, spare_slot, active_slot, spare_of, is_begun, room_of, is_shaped, Begin, Put, Commit, writes_of}
 use Rattle.dfu_slots.specs.Store.{IsStore}
@@ -118,10 +118,15 @@ abbrev pub end_after : Mode → ℕ → List ℕ → ℕ
 end_after m end b = if is_block m then capped end (length b) else 0
 
 -- A device on these bytes of flash.
-pub record Ends (c : Setting) (s : SlotsState) (m : Mode) (b : List ℕ) (Comes : Type 0) : Type 0 where
+pub record Ends (c : Setting) (s : SlotsState) (m : Mode) (b : List ℕ) (Stays Comes : Type 0) : Type 0 where
   pub comes : Comes
   pub store : IsStore s
   pub sound : IsTrue (is_sound m (length b) s)
+  pub stays : Stays
+
+-- A row in this mode leaves the active slot where it was, unless it commits.
+abbrev pub Stays : Mode → SlotsState → SlotsState → Type 0
+Stays m s now = is_block m ≡ true → active_at (gate_of now.medium) now.medium.bytes ≡ active_at (gate_of s.medium) s.medium.bytes
 
 module _ (c : Setting) (w : Grain) (b held : List ℕ) (end : ℕ) (j : Job) (len : ℕ) (s : SlotsState) (m flash : List ℕ)
     (medium : s.medium ≡ mapped w m) (store : IsStore s) where
@@ -192,8 +197,9 @@ module _ (c : Setting) (w : Grain) (b held : List ℕ) (end : ℕ) (j : Job) (le
   -- All is written: the row that is due, and the device after it.
   pub works : (d : Mode) (asked : Option ℕ) → IsTrue (is_sound d (length b) s) → IsDue d asked len s j end held
       → AllWrites (mapped w m) (job_writes j w end held b) (mapped w flash) → (a : Answer) (out : List ℕ)
-      → IsAnswered (done_mode c d (length b)) asked a out
+      → IsAnswered c (done_mode c d (length b)) asked a out
       → Ends c (store_of (mapped w flash) (held_after w d held b) (end_after d end b)) (done_mode c d (length b)) b
+      (Stays d s (store_of (mapped w flash) (held_after w d held b) (end_after d end b)))
       (Works len (shows c s d b) a out
       (shows c (store_of (mapped w flash) (held_after w d held b) (end_after d end b)) (done_mode c d (length b)) b))
   works (mode.DownloadSync n number) asked sound due all a out says =
@@ -202,7 +208,7 @@ module _ (c : Setting) (w : Grain) (b held : List ℕ) (end : ℕ) (j : Job) (le
       let cap : capped n (length b) ≡ n + length b = omega (arith, got.0, due.1.end_is) in
       record {
         comes = (
-          subst (λ (x : Option ℕ). IsAnswered (mode.DownloadIdle (capped n (length b)) number) x a out) due.0 says [] [],
+          subst (λ (x : Option ℕ). IsAnswered c (mode.DownloadIdle (capped n (length b)) number) x a out) due.0 says 0 [] [],
           record {
             config_is = refl;
             room = got.1.room;
@@ -215,6 +221,7 @@ module _ (c : Setting) (w : Grain) (b held : List ℕ) (end : ℕ) (j : Job) (le
         sound = written_sound (mode.DownloadIdle (capped n (length b)) number) (length b) (capped n (length b)) number left (inr refl)
             (omega (arith, cap, next.some)) (omega (arith, cap, next.room, got.1.room)) (shaped {s = left} got.1.store)
             (subst (λ (k : ℕ). is_put k left ≡ true) (sym cap) got.1.put);
+        stays = λ e. got.1.place;
       }
   works (mode.DownloadBusy n number passed) asked sound due all a out says =
       let next = next_in n (length b) s sound in
@@ -222,7 +229,7 @@ module _ (c : Setting) (w : Grain) (b held : List ℕ) (end : ℕ) (j : Job) (le
       let cap : capped n (length b) ≡ n + length b = omega (arith, got.0, due.1.end_is) in
       record {
         comes = (
-          subst (λ (x : Option ℕ). IsAnswered (mode.DownloadSyncWritten (capped n (length b)) number) x a out) due.0 says,
+          subst (λ (x : Option ℕ). IsAnswered c (mode.DownloadSyncWritten (capped n (length b)) number) x a out) due.0 says 0 [] [],
           record {
             config_is = refl;
             room = got.1.room;
@@ -236,21 +243,23 @@ module _ (c : Setting) (w : Grain) (b held : List ℕ) (end : ℕ) (j : Job) (le
             written_sound (mode.DownloadSyncWritten (capped n (length b)) number) (length b) (capped n (length b)) number left (inl refl)
             (omega (arith, cap, next.some)) (omega (arith, cap, next.room, got.1.room)) (shaped {s = left} got.1.store)
             (subst (λ (k : ℕ). is_put k left ≡ true) (sym cap) got.1.put);
+        stays = λ e. got.1.place;
       }
   works (mode.ManifestSync n) asked sound due all a out says =
       let got = commit_left n (all_in n s sound) due.1 all in
       record {
         comes = (
-          subst (λ (x : Option ℕ). IsAnswered mode.DfuIdle x a out) due.0 says [] [],
+          subst (λ (x : Option ℕ). IsAnswered c mode.DfuIdle x a out) due.0 says 0 [] [],
           record { config_is = refl; room = got.room; stage_is = refl; calls = got.calls; image = got.image },
         );
         store = got.store;
         sound = shaped_left (store_on (mapped w flash)) got.store;
+        stays = λ e. absurd (false≢true e);
       }
   works (mode.Manifest n passed) asked sound due all a out says =
       let got = commit_left n (all_in n s sound) due.1 all in
       tolerant c.functional.tolerant got
-      (subst (λ (x : Option ℕ). IsAnswered (done_mode c (mode.Manifest n passed) (length b)) x a out) due.0 says)
+      (subst (λ (x : Option ℕ). IsAnswered c (done_mode c (mode.Manifest n passed) (length b)) x a out) due.0 says 0 [] [])
     where
       next_mode : Bool → Mode
       next_mode t = if t then mode.ManifestSyncComplete else mode.ManifestWaitReset
@@ -259,31 +268,33 @@ module _ (c : Setting) (w : Grain) (b held : List ℕ) (end : ℕ) (j : Job) (le
       next_stage t = if t then InManifestSyncComplete else InManifestWaitReset
 
       tolerant : (t : Bool) → CommitDone s n (store_on (mapped w flash)) → (a ≡ answer.Ack) × (out ≡ [])
-          → Ends c (store_on (mapped w flash)) (next_mode t) b (((a ≡ answer.Ack) × (out ≡ []))
+          → Ends c (store_on (mapped w flash)) (next_mode t) b (Stays (mode.Manifest n passed) s (store_on (mapped w flash))) (((a ≡ answer.Ack) × (out ≡ []))
           × Committed (take n (spare_of s)) c s (next_stage t) (shows c (store_on (mapped w flash)) (next_mode t) b))
       tolerant true got says = record {
         comes = (says, record { config_is = refl; room = got.room; stage_is = refl; calls = got.calls; image = got.image });
         store = got.store;
         sound = shaped_left (store_on (mapped w flash)) got.store;
+        stays = λ e. absurd (false≢true e);
       }
       tolerant false got says = record {
         comes = (says, record { config_is = refl; room = got.room; stage_is = refl; calls = got.calls; image = got.image });
         store = got.store;
         sound = shaped_left (store_on (mapped w flash)) got.store;
+        stays = λ e. absurd (false≢true e);
       }
   works d asked sound due all a out says = absurd due
 
   -- A write had a fault: the row with that fault, and the device after it.
   pub fails : (fault : WriteFault) (d : Mode) (asked : Option ℕ) → IsTrue (is_sound d (length b) s) → IsDue d asked len s j end held
       → BrokenWrites fault (mapped w m) (job_writes j w end held b) (mapped w flash) → (a : Answer) (out : List ℕ)
-      → IsAnswered (failed_mode fault d) asked a out
-      → Ends c (store_on (mapped w flash)) (failed_mode fault d) b
+      → IsAnswered c (failed_mode fault d) asked a out
+      → Ends c (store_on (mapped w flash)) (failed_mode fault d) b (Stays d s (store_on (mapped w flash)))
       (Fails fault len (shows c s d b) a out (shows c (store_on (mapped w flash)) (failed_mode fault d) b))
   fails fault (mode.DownloadSync n number) asked sound due all a out says =
       let got = block_off fault n (next_in n (length b) s sound) due.1 all in
       record {
         comes = (
-          subst (λ (x : Option ℕ). IsAnswered (mode.Error (write_code fault)) x a out) due.0 says [] [],
+          subst (λ (x : Option ℕ). IsAnswered c (mode.Error (write_code fault)) x a out) due.0 says 0 [] [],
           record {
             config_is = refl;
             room = got.room;
@@ -295,12 +306,13 @@ module _ (c : Setting) (w : Grain) (b held : List ℕ) (end : ℕ) (j : Job) (le
         );
         store = got.store;
         sound = shaped_left (store_on (mapped w flash)) got.store;
+        stays = λ e. got.place;
       }
   fails fault (mode.DownloadBusy n number passed) asked sound due all a out says =
       let got = block_off fault n (next_in n (length b) s sound) due.1 all in
       record {
         comes = (
-          subst (λ (x : Option ℕ). IsAnswered (mode.Error (write_code fault)) x a out) due.0 says,
+          subst (λ (x : Option ℕ). IsAnswered c (mode.Error (write_code fault)) x a out) due.0 says 0 [] [],
           record {
             config_is = refl;
             room = got.room;
@@ -312,12 +324,13 @@ module _ (c : Setting) (w : Grain) (b held : List ℕ) (end : ℕ) (j : Job) (le
         );
         store = got.store;
         sound = shaped_left (store_on (mapped w flash)) got.store;
+        stays = λ e. got.place;
       }
   fails fault (mode.ManifestSync n) asked sound due all a out says =
       let got = commit_broke fault n (all_in n s sound) due.1 all in
       record {
         comes = (
-          subst (λ (x : Option ℕ). IsAnswered (mode.Error (commit_code fault)) x a out) due.0 says [] [],
+          subst (λ (x : Option ℕ). IsAnswered c (mode.Error (commit_code fault)) x a out) due.0 says 0 [] [],
           record {
             config_is = refl;
             room = got.room;
@@ -329,12 +342,13 @@ module _ (c : Setting) (w : Grain) (b held : List ℕ) (end : ℕ) (j : Job) (le
         );
         store = got.store;
         sound = shaped_left (store_on (mapped w flash)) got.store;
+        stays = λ e. absurd (false≢true e);
       }
   fails fault (mode.Manifest n passed) asked sound due all a out says =
       let got = commit_broke fault n (all_in n s sound) due.1 all in
       record {
         comes = (
-          subst (λ (x : Option ℕ). IsAnswered (mode.Error (commit_code fault)) x a out) due.0 says,
+          subst (λ (x : Option ℕ). IsAnswered c (mode.Error (commit_code fault)) x a out) due.0 says 0 [] [],
           record {
             config_is = refl;
             room = got.room;
@@ -346,5 +360,6 @@ module _ (c : Setting) (w : Grain) (b held : List ℕ) (end : ℕ) (j : Job) (le
         );
         store = got.store;
         sound = shaped_left (store_on (mapped w flash)) got.store;
+        stays = λ e. absurd (false≢true e);
       }
   fails fault d asked sound due all a out says = absurd due

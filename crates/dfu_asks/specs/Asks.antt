@@ -5,7 +5,7 @@ use Rattle.dfu_slots.specs.declared.fault.WriteFault.{WriteFault}
 use Rattle.dfu_slots.specs.Units.{Grain}
 use Rattle.dfu_slots.specs.Medium.{Write}
 use Rattle.dfu_slots.specs.Layout.{generation, next_generation}
-use Rattle.dfu_slots.specs.Image.{gate_of, spare_at}
+use Rattle.dfu_slots.specs.Image.{gate_of, spare_at, HasImage}
 use Rattle.dfu_slots.specs.Writes.{put_rest}
 use Rattle.dfu_slots.specs.Seen.{SlotsState, store_of, active_slot, spare_of, is_begun}
 use Rattle.dfu_slots.specs.Store.{IsStore}
@@ -13,41 +13,40 @@ use Rattle.dfu_device.specs.declared.mode.Mode.{Mode}
 use Rattle.dfu_device.specs.declared.mode.Mode.TheVariants as mode
 use Rattle.dfu_device.specs.Setting.{Setting}
 use Rattle.dfu_device.specs.declared.answer.Answer.{Answer}
-use Rattle.dfu_device.specs.declared.answer.Answer.TheVariants as answer
-use Rattle.dfu_device.specs.Stage.{StatusOf, Stage, InDownloadSync, InDownloadBusy, InManifestSync, InManifest, code_of, state_of}
 use Rattle.dfu_device.specs.Rows.{Answers}
 use Rattle.dfu_device.specs.Parts.{shows, stage_of, is_sound}
-use Rattle.dfu_device.specs.Shown.{Shown}
+use Rattle.dfu_device.specs.Shown.{Shown, profile_of}
+use Rattle.dfu_device.specs.declared.reply.Reply.{Reply as ReplyRead}
+use Rattle.dfu_device.specs.declared.reply.Reply.TheVariants as reply
+use Rattle.dfu_device.specs.Decision.{reply_in}
 use Rattle.dfu_device.specs.Table.{write_code, commit_code}
 use Rattle.dfu_asks.specs.declared.job.Job.{Job}
 use Rattle.dfu_asks.specs.declared.job.Job.TheVariants as job
 use Rattle.dfu_asks.specs.declared.work.Work.{Work}
-use Rattle.dfu_asks.specs.declared.asking.Asking.{Asking}
+use Rattle.dfu_asks.specs.Lent.{LentAsking}
 use Rattle.dfu_asks.specs.Mapped.{grain_of, mapped}
+use Rattle.dfu_asks.specs.Noted.{IsNoted}
 use Rattle.dfu_asks.specs.Series.{held_before}
 use Rattle.dfu_asks.specs.Steps.{Step}
 use Rattle.dfu_asks.specs.Jobs.{job_writes, job_steps}
 
--- The block that is not written.
-abbrev pub block_in : Asking → List ℕ
-block_in a = take a.block.len a.block.memory.now
-
 -- How its flash is written.
-abbrev pub grain_in : Asking → Grain
+abbrev pub grain_in : LentAsking → Grain
 grain_in a = grain_of a.unit a.sector
 
 -- The slot store on these bytes of flash.
-abbrev pub store_in : Asking → List ℕ → SlotsState
-store_in a flash = store_of (mapped (grain_in a) flash) a.held.items a.put_end
+abbrev pub store_in : LentAsking → List ℕ → SlotsState
+store_in a flash = store_of (mapped (grain_in a) flash) a.held a.put_end
 
 -- The device on these bytes of flash.
-abbrev pub device_in : Asking → List ℕ → Shown
-device_in a flash = shows a.config (store_in a flash) a.mode (block_in a)
+abbrev pub device_in : LentAsking → List ℕ → Shown
+device_in a flash = shows a.config (store_in a flash) a.mode a.block
 
--- It is a device's.
-pub record IsDevice (a : Asking) (flash : List ℕ) : Type 0 where
+-- It is a device's, and its active image is noted.
+pub record IsDevice (a : LentAsking) (flash : List ℕ) : Type 0 where
   pub store : IsStore (store_in a flash)
-  pub sound : IsTrue (is_sound a.mode (length (block_in a)) (store_in a flash))
+  pub sound : IsTrue (is_sound a.mode (length a.block) (store_in a flash))
+  pub noted : IsNoted a.noted (mapped (grain_in a) flash)
 
 -- The job of a block behind n bytes, where the puts end here and this is held back.
 pub record IsBlockJob (n : ℕ) (s : SlotsState) (j : Job) (end : ℕ) (held : List ℕ) : Type 0 where
@@ -71,23 +70,24 @@ IsDue (mode.Manifest written passed) asked len s j end held = (asked ≡ None) �
 IsDue m asked len s j end held = ⊥
 
 -- The writes of its work.
-abbrev pub writes_in : Asking → Work → List Write
-writes_in a w = job_writes w.job (grain_in a) a.put_end a.held.items (block_in a)
+abbrev pub writes_in : LentAsking → Work → List Write
+writes_in a w = job_writes w.job (grain_in a) a.put_end a.held a.block
 
 -- The same as steps.
-abbrev pub steps_in : Asking → Work → List Step
-steps_in a w = job_steps w.job (grain_in a) a.put_end a.held.items (block_in a)
+abbrev pub steps_in : LentAsking → Work → List Step
+steps_in a w = job_steps w.job (grain_in a) a.put_end a.held a.block
 
 -- It works for the row that is due in the device that it was, on these bytes of flash, in this slot store.
-pub record IsWorking (a : Asking) (w : Work) (len : ℕ) (s : SlotsState) (flash : List ℕ) : Type 0 where
+pub record IsWorking (a : LentAsking) (w : Work) (len : ℕ) (s : SlotsState) (flash : List ℕ) : Type 0 where
   pub medium : s.medium ≡ mapped (grain_in a) flash
   pub store : IsStore s
-  pub sound : IsTrue (is_sound a.mode (length (block_in a)) s)
-  pub due : IsDue a.mode w.asked len s w.job a.put_end a.held.items
+  pub sound : IsTrue (is_sound a.mode (length a.block) s)
+  pub due : IsDue a.mode w.asked len s w.job a.put_end a.held
+  pub noted : IsNoted a.noted s.medium
 
 -- The device that it works for.
-abbrev pub device_of : Asking → SlotsState → Shown
-device_of a s = shows a.config s a.mode (block_in a)
+abbrev pub device_of : LentAsking → SlotsState → Shown
+device_of a s = shows a.config s a.mode a.block
 
 -- Where it goes once all is written; a sum of bytes stops at the largest number.
 abbrev pub capped : ℕ → ℕ → ℕ
@@ -111,48 +111,58 @@ abbrev pub failed_mode : WriteFault → Mode → Mode
 failed_mode fault m = if is_block m then mode.Error (write_code fault) else mode.Error (commit_code fault)
 
 -- All is written: what is kept then.
-pub record IsFinished (a : Asking) (a' : Asking) : Type 0 where
+pub record IsFinished (a a' : LentAsking) : Type 0 where
   pub config : a'.config ≡ a.config
   pub unit : a'.unit ≡ a.unit
   pub sector : a'.sector ≡ a.sector
-  pub mode : a'.mode ≡ done_mode a.config a.mode (length (block_in a))
-  pub block : block_in a' ≡ block_in a
-  pub held : a'.held.items ≡ (if is_block a.mode then put_rest a.unit a.held.items (block_in a) else [])
-  pub end : a'.put_end ≡ (if is_block a.mode then capped a.put_end (length (block_in a)) else 0)
+  pub mode : a'.mode ≡ done_mode a.config a.mode (length a.block)
+  pub block : a'.block ≡ a.block
+  pub held : a'.held ≡ (if is_block a.mode then put_rest a.unit a.held a.block else [])
+  pub end : a'.put_end ≡ (if is_block a.mode then capped a.put_end (length a.block) else 0)
   pub work : a'.work ≡ None
 
 -- A write had this fault: what is kept then.
-pub record IsBrokenOff (fault : WriteFault) (a : Asking) (a' : Asking) : Type 0 where
+pub record IsBrokenOff (fault : WriteFault) (a a' : LentAsking) : Type 0 where
   pub config : a'.config ≡ a.config
   pub unit : a'.unit ≡ a.unit
   pub sector : a'.sector ≡ a.sector
   pub mode : a'.mode ≡ failed_mode fault a.mode
-  pub block : block_in a' ≡ block_in a
-  pub held : a'.held.items ≡ []
+  pub block : a'.block ≡ a.block
+  pub held : a'.held ≡ []
   pub end : a'.put_end ≡ 0
   pub work : a'.work ≡ None
 
--- What is answered in this mode: the status, where a GETSTATUS asked for so many bytes of it.
-abbrev pub IsAnswered : Mode → Option ℕ → Answer → List ℕ → Type 0
-IsAnswered m None a out = (a ≡ answer.Ack) × (out ≡ [])
-IsAnswered m (Some len) a out = (spare block : List ℕ)
-    → Answers len (StatusOf (code_of (stage_of m spare block)) 0 (state_of (stage_of m spare block))) a out
+-- What is noted after a row in this mode, on this flash: after a commit what stands on it, and after a block what was noted.
+pub record NotesAfter (m : Mode) (flash : List ℕ) (a a' : LentAsking) : Type 0 where
+  pub of_block : is_block m ≡ true → a'.noted ≡ a.noted
+  pub of_commit : is_block m ≡ false → HasImage (mapped (grain_in a') flash) → IsNoted a'.noted (mapped (grain_in a') flash)
 
--- The bytes of that answer stand at the front of a buffer.
-pub record Gives (m : Mode) (asked : Option ℕ) (a : Answer) (count : ℕ) (out out' : List ℕ) : Type 0 where
+-- What is replied by a device that is set up like this, in this mode, if so many bytes are asked for.
+abbrev pub IsReply : Setting → Mode → ReplyRead → (asked : ℕ) → Answer → List ℕ → Type 0
+IsReply c m r asked a out = (room : ℕ) (spare block : List ℕ)
+    → Answers asked (reply_in (profile_of c room) (stage_of m spare block) r) a out
+
+-- What is answered in this mode at the end of a row: the status, if a GETSTATUS asked for so many bytes of it.
+abbrev pub IsAnswered : Setting → Mode → Option ℕ → Answer → List ℕ → Type 0
+IsAnswered c m None a out = IsReply c m reply.Ack 0 a out
+IsAnswered c m (Some len) a out = IsReply c m reply.Status len a out
+
+-- The bytes of an answer, at most six, stand at the front of a buffer.
+pub record Gives (Says : Answer → List ℕ → Type 0) (a : Answer) (count : ℕ) (out out' : List ℕ) : Type 0 where
   pub sent : List ℕ
-  pub says : IsAnswered m asked a sent
+  pub says : Says a sent
   pub count_is : count ≡ length sent
   pub fits : count ≤ 6
   pub out_is : out' ≡ sent ++ drop count out
 
 -- All that is kept but the mode and the block is as it was.
-pub record IsRest (a a' : Asking) : Type 0 where
+pub record IsRest (a a' : LentAsking) : Type 0 where
   pub config : a'.config ≡ a.config
   pub unit : a'.unit ≡ a.unit
   pub sector : a'.sector ≡ a.sector
-  pub held : a'.held.items ≡ a.held.items
+  pub held : a'.held ≡ a.held
   pub end : a'.put_end ≡ a.put_end
+  pub noted : a'.noted ≡ a.noted
   pub work : a'.work ≡ a.work
 
 -- The job of the row that is due in a mode.
@@ -162,11 +172,3 @@ IsJobOf (mode.DownloadBusy written number passed) s j end held = IsBlockJob writ
 IsJobOf (mode.ManifestSync written) s j end held = IsCommitJob written s j end held
 IsJobOf (mode.Manifest written passed) s j end held = IsCommitJob written s j end held
 IsJobOf m s j end held = ⊥
-
--- A row that writes is due in this stage, and so many bytes of a status are asked for then.
-abbrev pub IsDueStage : Stage → Option ℕ → ℕ → Type 0
-IsDueStage (InDownloadSync before block number) asked len = asked ≡ Some len
-IsDueStage (InDownloadBusy before block number passed) asked len = asked ≡ None
-IsDueStage (InManifestSync taken) asked len = asked ≡ Some len
-IsDueStage (InManifest taken passed) asked len = asked ≡ None
-IsDueStage stage asked len = ⊥

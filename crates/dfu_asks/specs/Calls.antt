@@ -1,12 +1,12 @@
 -- What a call of a device that asks leaves.
-use Rattle.std.specs.Prelude.{◌≡◌, ℕ, ◌+◌, ◌<◌, Bool, true, false, List, ◌++◌, length, drop, slice_range, Some, None}
+use Rattle.std.specs.Prelude.{◌≡◌, ℕ, ◌+◌, ◌≤◌, ◌<◌, Bool, true, false, List, ◌++◌, length, drop, slice_range, Some, None}
 use Rattle.dfu_slots.specs.declared.fault.WriteFault.TheVariants.{Failed, NotVerified}
 use Rattle.dfu_slots.specs.Medium.{Write}
 use Rattle.dfu_slots.specs.Seen.{SlotsState}
 use Rattle.dfu_device.specs.declared.answer.Answer.{Answer}
 use Rattle.dfu_device.specs.Shown.{Shown}
 use Rattle.dfu_asks.specs.declared.work.Work.{Work}
-use Rattle.dfu_asks.specs.declared.asking.Asking.{Asking}
+use Rattle.dfu_asks.specs.Lent.{LentAsking}
 use Rattle.dfu_asks.specs.declared.reply.Reply.{Reply}
 use Rattle.dfu_asks.specs.declared.reply.Reply.TheVariants as reply
 use Rattle.dfu_asks.specs.Carried.{total, carried, IsReached}
@@ -21,15 +21,20 @@ pub record Gave (a : Answer) (count : ℕ) (out out' : List ℕ) (Row : Answer �
   pub row : Row a sent
 
 -- A call has come to its end: it made this row, and what is kept is a device, with nothing left to be written.
-pub record HasEnded (flash : List ℕ) (a : Answer) (count : ℕ) (out out' : List ℕ) (now : Asking)
+pub record HasEnded (flash : List ℕ) (a : Answer) (count : ℕ) (out out' : List ℕ) (now : LentAsking)
     (Row : Answer → List ℕ → Shown → Type 0) : Type 0 where
   pub gave : Gave a count out out' (λ x sent. Row x sent (device_in now flash))
   pub work : now.work ≡ None
   pub is : IsDevice now flash
 
+-- An answer has at most so many bytes.
+abbrev pub HasAtMost : ℕ → Reply → Type 0
+HasAtMost n reply.Asks = Unit {0}
+HasAtMost n (reply.Answered x count) = count ≤ n
+
 -- A device asks for the writes of the row that is due in it, some of whose pieces are carried out on its flash: `was` was its flash
 -- before the first of them.
-pub record Asks (a : Asking) (len : ℕ) (s : SlotsState) (was flash : List ℕ) : Type 0 where
+pub record Asks (a : LentAsking) (len : ℕ) (s : SlotsState) (was flash : List ℕ) : Type 0 where
   pub work : Work
   pub work_is : a.work ≡ Some work
   pub working : IsWorking a work len s was
@@ -38,13 +43,13 @@ pub record Asks (a : Asking) (len : ℕ) (s : SlotsState) (was flash : List ℕ)
   pub flash_is : flash ≡ carried was (writes_in a work) work.done
 
 -- What comes of a device that works for the row that is due: it asks, further on; or the row came to its end.
-pub data Comes (d : Shown) (len : ℕ) (s : SlotsState) (was flash out : List ℕ) (now : Asking) (out' : List ℕ) : Reply → Type 0 where
+pub data Comes (d : Shown) (len : ℕ) (s : SlotsState) (was flash out : List ℕ) (now : LentAsking) (out' : List ℕ) : Reply → Type 0 where
   comes_asks : Asks now len s was flash → device_of now s ≡ d → out' ≡ out → Comes d len s was flash out now out' reply.Asks
   comes_ended : (x : Answer) (count : ℕ) → HasEnded flash x count out out' now (λ y sent w'. Works len d y sent w')
       → Comes d len s was flash out now out' (reply.Answered x count)
 
 -- A call of a device on this flash answered by this row; or the row writes, and its writes are asked for now, from the first on.
-pub data Called (a : Asking) (flash out : List ℕ) (Row : Answer → List ℕ → Shown → Type 0) (now : Asking) (out' : List ℕ)
+pub data Called (a : LentAsking) (flash out : List ℕ) (Row : Answer → List ℕ → Shown → Type 0) (now : LentAsking) (out' : List ℕ)
     : Reply → Type 0 where
   called_ended : (x : Answer) (count : ℕ) → HasEnded flash x count out out' now Row
       → Called a flash out Row now out' (reply.Answered x count)
@@ -52,7 +57,7 @@ pub data Called (a : Asking) (flash out : List ℕ) (Row : Answer → List ℕ �
       → IsDueRow len (device_in a flash) Row → out' ≡ out → Called a flash out Row now out' reply.Asks
 
 -- The program says how a piece went, which was to be written where these bytes stood.
-pub data Took (d : Shown) (len : ℕ) (s : SlotsState) (was : List ℕ) (p : Write) (failed : Bool) (flash out : List ℕ) (now : Asking)
+pub data Took (d : Shown) (len : ℕ) (s : SlotsState) (was : List ℕ) (p : Write) (failed : Bool) (flash out : List ℕ) (now : LentAsking)
     (out' : List ℕ) (r : Reply) : Type 0 where
   -- It stands there: the device asks on, or the row came to its end.
   took_well : failed ≡ false → slice_range flash p.at (p.at + length p.bytes) ≡ p.bytes → Comes d len s was flash out now out' r
@@ -67,7 +72,7 @@ pub data Took (d : Shown) (len : ℕ) (s : SlotsState) (was : List ℕ) (p : Wri
       → Took d len s was p failed flash out now out' r
 
 -- A piece of this work stands there, and it was not the last one.
-pub record AsksOn (a : Asking) (w : Work) (p : Write) (failed : Bool) (flash : List ℕ) : Type 0 where
+pub record AsksOn (a : LentAsking) (w : Work) (p : Write) (failed : Bool) (flash : List ℕ) : Type 0 where
   pub well : failed ≡ false
   pub stands : slice_range flash p.at (p.at + length p.bytes) ≡ p.bytes
   pub more : w.done + length p.bytes < total (writes_in a w)

@@ -1,10 +1,12 @@
 -- The rows that write, and what comes of them once their writes are carried out.
-use Rattle.std.specs.Prelude.{ℕ, ◌==◌, Bool, false, List, ◌++◌, if◌then◌else◌}
+use Rattle.std.specs.Prelude.{◌≡◌, ◌⊎◌, ℕ, ◌≤◌, ◌==◌, Bool, false, List, ◌++◌, length, take, drop, Option, Some, None, if◌then◌else◌}
 use Rattle.dfu_slots.specs.declared.fault.WriteFault.{WriteFault}
 use Rattle.dfu_device.specs.declared.answer.Answer.{Answer}
 use Rattle.dfu_device.specs.Stage.{Request, GetStatus, Ack, Stall, Profile, Stage, InDownloadSync, InDownloadSyncWritten, InDownloadBusy, InDownloadIdle, InManifestSync, InManifestSyncComplete, InManifest, InManifestWaitReset, InDfuIdle}
 use Rattle.dfu_device.specs.Table.{Plan, Sure, Writes, Commits, write_and_report, commit_and_report}
 use Rattle.dfu_device.specs.Shown.{Shown, profile}
+use Rattle.dfu_device.specs.declared.decision.Decision.{Decision}
+use Rattle.dfu_device.specs.declared.decision.Decision.TheVariants as decision
 use Rattle.dfu_device.specs.Rows.{Answers, WroteBlock, FailedBlock, Committed, FailedCommit}
 
 -- The row of a stage that writes: GETSTATUS with a time of 0 in dfuDNLOAD-SYNC and dfuMANIFEST-SYNC,
@@ -50,3 +52,31 @@ abbrev pub writes_now : Profile → Stage → Request → Bool
 writes_now c (InDownloadSync before block number) GetStatus = c.busy == 0
 writes_now c (InManifestSync taken) GetStatus = c.manifest == 0
 writes_now c stage request = false
+
+-- A plan that calls nothing of the slot store.
+abbrev pub IsSure : Plan → Type 0
+IsSure (Sure reply stage) = Unit {0}
+IsSure (Writes before block reply stage bad) = ⊥
+IsSure (Commits taken reply stage bad) = ⊥
+
+-- A row that writes is due in this stage, and so many bytes of a status are asked for then.
+abbrev pub IsDueStage : Stage → Option ℕ → ℕ → Type 0
+IsDueStage (InDownloadSync before block number) asked len = asked ≡ Some len
+IsDueStage (InDownloadBusy before block number passed) asked len = asked ≡ None
+IsDueStage (InManifestSync taken) asked len = asked ≡ Some len
+IsDueStage (InManifest taken passed) asked len = asked ≡ None
+IsDueStage stage asked len = ⊥
+
+-- A plan calls nothing of the slot store, or it is that of the row that is due.
+abbrev pub IsSureOrDue : Plan → Profile → Stage → Option ℕ → ℕ → Type 0
+IsSureOrDue p c stage asked len = IsSure p ⊎ ((p ≡ due_plan c stage) × IsDueStage stage asked len)
+
+-- So many bytes of a status are asked for: those of the GETSTATUS, and none if there is no such request.
+abbrev pub wanted : Option ℕ → ℕ
+wanted None = 0
+wanted (Some len) = len
+
+-- What is decided sends at most so many bytes of this image.
+abbrev pub SendsWithin : Decision → List ℕ → ℕ → Type 0
+SendsWithin (decision.Sends place size number) image room = length (take size (drop place image)) ≤ room
+SendsWithin d image room = Unit {0}

@@ -29,17 +29,20 @@ job_steps (Block spare close) grain end held block =
 job_steps (Commit spare gen crc) grain end held block =
     some_steps grain.sector (held_place grain spare end held) (filled grain.unit held) ++ open_steps grain spare gen end crc
 
--- The step that a piece asks for.
-abbrev pub asked : Piece → Step
-asked p = record { erases = p.erases; write = record { at = p.at; bytes = if p.erases then replicate p.len 255 else take p.len p.bytes } }
+-- The step that a piece asks for, if its bytes stand at the front of these.
+abbrev pub asked : Piece → List ℕ → Step
+asked p bytes = record {
+  erases = p.erases;
+  write = record { at = p.at; bytes = if p.erases then replicate p.len 255 else take p.len bytes };
+}
 
--- It has some bytes: a program at most 256, and an erase no more than a sector.
-pub record IsFit (sector : ℕ) (p : Piece) : Type 0 where
+-- It has some bytes: a program at most 256, which stand at the front of these, and an erase no more than a sector.
+pub record IsFit (sector : ℕ) (p : Piece) (bytes : List ℕ) : Type 0 where
   pub some : 0 < p.len
   pub programs : p.erases ≡ false → p.len ≤ 256
   pub erases : p.erases ≡ true → p.len ≤ sector
   pub small : p.at < 2 ^ 43
-  pub count : length (asked p).write.bytes ≡ p.len
+  pub count : length (asked p bytes).write.bytes ≡ p.len
 
 -- How the flash is written that this stock is for.
 abbrev pub grain_for : Stock → Grain

@@ -5,6 +5,8 @@ pub mod Series
 pub mod Jobs
 pub mod Located
 pub mod Due
+pub mod Noted
+pub mod Lent
 pub mod Asks
 pub mod Refused
 pub mod Calls

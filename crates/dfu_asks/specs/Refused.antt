@@ -1,52 +1,56 @@
 -- When a call of a device that asks is refused, and why.
 use Rattle.std.specs.Prelude.{◌≡◌, ℕ, ◌≤◌, ◌<◌, min, List, length, IsSome, Some, None}
-use Rattle.dfu_slots.specs.Image.{HasImage}
 use Rattle.dfu_asks.specs.declared.work.Work.{Work}
 use Rattle.dfu_asks.specs.declared.asking.Asking.{Asking}
+use Rattle.dfu_asks.specs.Lent.{LentAsking, lent}
+use Rattle.dfu_asks.specs.Noted.{Stands}
 use Rattle.dfu_asks.specs.declared.refusal.Refusal.{Refusal}
 use Rattle.dfu_asks.specs.declared.refusal.Refusal.TheVariants as refusal
-use Rattle.dfu_asks.specs.Mapped.{mapped}
+use Rattle.dfu_asks.specs.Mapped.{grain_of, mapped}
 use Rattle.dfu_asks.specs.Carried.{total}
-use Rattle.dfu_asks.specs.Asks.{IsDevice, grain_in, writes_in}
+use Rattle.dfu_asks.specs.Asks.{IsDevice, writes_in}
 
--- What is kept is a device on this flash, and the memory of its block has room for the transfer size.
-pub record IsKept (a : Asking) (flash : List ℕ) : Type 0 where
-  pub is : IsDevice a flash
-  pub room : a.config.functional.transfer ≤ min 4096 (length a.block.memory.now)
+-- So many bytes of memory have room for the block that is not written, and for each that may come.
+pub record Fits (a : Asking) (room : ℕ) : Type 0 where
+  pub block : a.block_len ≤ room
+  pub transfer : a.config.functional.transfer ≤ min 4096 room
 
--- No device is put together, and this is why: the flash has no active image; or it has one, and what is kept is no device on it.
-abbrev pub IsUnfit : Refusal → Asking → List ℕ → Type 0
-IsUnfit refusal.Asked a flash = ⊥
-IsUnfit refusal.NoRoom a flash = ⊥
-IsUnfit refusal.NoMedium a flash = ¬ HasImage (mapped (grain_in a) flash)
-IsUnfit refusal.NoDevice a flash = HasImage (mapped (grain_in a) flash) × ¬ IsKept a flash
+-- What is kept is a device on this flash, with its active image noted, and this memory has room.
+pub record IsKept (a : Asking) (block held flash : List ℕ) : Type 0 where
+  pub fits : Fits a (length block)
+  pub is : IsDevice (lent a block held) flash
+
+-- The noted header stands in an open slot of this flash.
+abbrev pub IsThere : Asking → List ℕ → Type 0
+IsThere a flash = Stands a.noted (mapped (grain_of a.unit a.sector) flash)
 
 -- A call with a buffer of so many bytes, of which it needs so many, is refused for this. The causes are looked for in this order.
-abbrev pub IsRefused : Refusal → Asking → List ℕ → (need room : ℕ) → Type 0
-IsRefused refusal.Asked a flash need room = IsSome a.work
-IsRefused refusal.NoRoom a flash need room = (a.work ≡ None) × (room < need)
-IsRefused refusal.NoMedium a flash need room = (a.work ≡ None) × (need ≤ room) × IsUnfit refusal.NoMedium a flash
-IsRefused refusal.NoDevice a flash need room = (a.work ≡ None) × (need ≤ room) × IsUnfit refusal.NoDevice a flash
+abbrev pub IsRefused : Refusal → Asking → (block held flash : List ℕ) → (need room : ℕ) → Type 0
+IsRefused refusal.Asked a block held flash need room = IsSome a.work
+IsRefused refusal.NoRoom a block held flash need room = (a.work ≡ None) × (room < need)
+IsRefused refusal.NoMedium a block held flash need room = (a.work ≡ None) × (need ≤ room) × ¬ IsThere a flash
+IsRefused refusal.NoDevice a block held flash need room = (a.work ≡ None) × (need ≤ room) × IsThere a flash × ¬ IsKept a block held flash
 
--- A call has no cause to be refused.
-pub record IsServed (a : Asking) (flash : List ℕ) (need room : ℕ) : Type 0 where
+-- What is true of each call that is not refused, whatever is kept.
+pub record IsServed (a : Asking) (block flash : List ℕ) (need room : ℕ) : Type 0 where
   pub work : a.work ≡ None
-  pub fits : need ≤ room
-  pub kept : IsKept a flash
+  pub enough : need ≤ room
+  pub there : IsThere a flash
+  pub fits : Fits a (length block)
 
 -- So many bytes of its work's writes are carried out, and some are left.
-pub record IsLeft (a : Asking) (w : Work) : Type 0 where
+pub record IsLeft (a : LentAsking) (w : Work) : Type 0 where
   pub work_is : a.work ≡ Some w
   pub left : w.done < total (writes_in a w)
 
 -- `took` with a buffer of so many bytes is refused for this: it has less than 6, or else nothing is left to be written.
-abbrev pub IsNotTaken : Refusal → Asking → (room : ℕ) → Type 0
+abbrev pub IsNotTaken : Refusal → LentAsking → (room : ℕ) → Type 0
 IsNotTaken refusal.NoRoom a room = room < 6
 IsNotTaken refusal.NoDevice a room = (6 ≤ room) × ((w : Work) → ¬ IsLeft a w)
 IsNotTaken e a room = ⊥
 
 -- It has no cause to be refused.
-pub record IsTaken (a : Asking) (room : ℕ) : Type 0 where
+pub record IsTaken (a : LentAsking) (room : ℕ) : Type 0 where
   pub fits : 6 ≤ room
   pub work : Work
   pub is_left : IsLeft a work

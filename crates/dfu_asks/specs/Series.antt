@@ -4,6 +4,7 @@ use Rattle.dfu_slots.specs.declared.fault.WriteFault.{WriteFault}
 use Rattle.dfu_slots.specs.Medium.{MediumState, Write}
 use Rattle.dfu_slots.specs.Writes.{put_writes, put_rest}
 use Rattle.dfu_slots.specs.Seen.{SlotsState, store_of, data_place, image_of, spare_of, room_of, Begin, Put, Commit, writes_of, AllWorked, BrokenBy, Called}
+use Rattle.dfu_slots.specs.Image.{gate_of, active_at}
 use Rattle.dfu_slots.specs.Store.{IsStore}
 use Rattle.dfu_device.specs.Parts.{is_put}
 use Rattle.dfu_device.specs.Rows.{block_calls}
@@ -21,20 +22,22 @@ block_series s n block =
 abbrev pub block_store : SlotsState → ℕ → List ℕ → MediumState → SlotsState
 block_store s n block m = store_of m (put_rest s.medium.grain.unit (held_before s n) block) (n + length block)
 
--- The block was written behind so many bytes: the calls of its row worked, and the image stays.
+-- The block was written behind so many bytes: the calls of its row worked, and the image stays where it is.
 pub record BlockWritten (s : SlotsState) (n : ℕ) (block : List ℕ) (now : SlotsState) : Type 0 where
   pub calls : Called s (block_calls (take n (spare_of s)) block) AllWorked now
   pub store : IsStore now
   pub image : image_of now ≡ image_of s
+  pub place : active_at (gate_of now.medium) now.medium.bytes ≡ active_at (gate_of s.medium) s.medium.bytes
   pub room : room_of now ≡ room_of s
   pub put : is_put (n + length block) now ≡ true
   pub spare : take (n + length block) (spare_of now) ≡ take n (spare_of s) ++ block
 
--- A write of the block had this fault: the calls of its row were broken off by it, and the image stays.
+-- A write of the block had this fault: the calls of its row were broken off by it, and the image stays where it is.
 pub record BlockBroken (fault : WriteFault) (s : SlotsState) (n : ℕ) (block : List ℕ) (now : SlotsState) : Type 0 where
   pub calls : Called s (block_calls (take n (spare_of s)) block) (BrokenBy fault) now
   pub store : IsStore now
   pub image : image_of now ≡ image_of s
+  pub place : active_at (gate_of now.medium) now.medium.bytes ≡ active_at (gate_of s.medium) s.medium.bytes
   pub room : room_of now ≡ room_of s
 
 -- What was put was made the active image.

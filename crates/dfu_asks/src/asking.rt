@@ -1,13 +1,15 @@
 //! A device that asks for its writes.
 
-use crate::{Sector, Work};
-use arrayvec::ArrayVec;
-use dfu_device::{Config, LentBlock, Mode};
+ghost use Rattle.std.specs.Prelude.{◌≤◌};
+
+use crate::{Noted, Sector, Work};
+use dfu_device::{Config, Mode};
 use dfu_slots::Unit;
 
-/// A device that asks for its writes: what is kept of it between two calls. Its flash is mapped, and handed in at each call.
-#[derive(Drop)]
-pub struct Asking<'b> {
+/// A device that asks for its writes: what is kept of it between two calls. Its flash is mapped, and handed in at each call. So is
+/// the memory of the block that is not written, and that of the bytes put that are held back, fewer than a unit has.
+#[derive(Clone, Copy, Drop)]
+pub struct Asking {
     /// What it is set up with.
     pub config: Config,
     /// In which unit the flash is written.
@@ -16,12 +18,16 @@ pub struct Asking<'b> {
     pub sector: Sector,
     /// Where it stands.
     pub mode: Mode,
-    /// The block that is not written, in memory that the caller lends.
-    pub block: LentBlock<'b>,
-    /// The bytes put that are held back, less than a unit.
-    pub held: ArrayVec<u8, 256>,
+    /// How many bytes at the front of its memory are the block that is not written.
+    pub block_len: usize,
+    /// How many bytes at the front of their memory are held back.
+    pub held_len: usize,
     /// Where the puts end in the spare slot.
     pub put_end: u32,
+    /// What is noted of the active image.
+    pub noted: Noted,
     /// What is left to be written of a row, if anything.
     pub work: Option<Work>,
+    ghost short: { block_len ≤ 4096 },
+    ghost few: { held_len ≤ 256 },
 }

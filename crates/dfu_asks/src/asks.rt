@@ -7,15 +7,16 @@ ghost use Rattle.dfu_asks.specs.Mapped.{grain_of, mapped, IsInSpare, IsHeldBack}
 ghost use Rattle.dfu_asks.specs.Steps.{Step};
 ghost use Rattle.dfu_asks.specs.Carried.{IsPiece, IsSound};
 ghost use Rattle.dfu_asks.specs.Jobs.{asked, IsFit};
+ghost use Rattle.dfu_asks.specs.Lent.{lent, IsSetUpAs};
 ghost use Rattle.dfu_asks.specs.Asks.{grain_in, steps_in, device_of};
-ghost use Rattle.dfu_asks.specs.Calls.{Asks, Took, AsksOn};
+ghost use Rattle.dfu_asks.specs.Calls.{Asks, Took, AsksOn, HasAtMost};
 ghost use Rattle.dfu_asks.specs.Refused.{IsLeft, IsNotTaken, IsTaken};
 ghost use Rattle.dfu_asks.specs.declared.work.Work.{Work};
 
 use crate::next_piece::next_piece;
-use crate::start::spare_place;
 use crate::{Asking, Mapped, Piece, Refusal, Reply, Sector, Work};
-use dfu_slots::{Slots, Unit, WriteFault};
+use dfu_slots::laws::active_image_is_one;
+use dfu_slots::{Unit, WriteFault, check};
 
 // The first byte of an open gate.
 const OPEN_GATE: u8 = 0xa5;
@@ -32,14 +33,14 @@ fn is_blank(bytes: &[u8]) -> bool
     true
 }
 
-/// Whether the bytes of a piece stand where it was to be programmed, or FFh where it was to erase.
-pub(crate) fn stands(flash: &[u8], piece: &Piece) -> bool
-    requires some { 0 < piece.now.len }
-    requires most { piece.now.erases ≡ false → piece.now.len ≤ 256 }
-    requires small { piece.now.at < 2 ^ 43 }
-    requires large { piece.now.len < 2 ^ 32 }
-    ensures within { IsTrue result → piece.now.at + piece.now.len ≤ length flash.now }
-    ensures stands { let p = (asked piece.now).write in
+/// Whether these bytes stand where a piece was to program them, or FFh where it was to erase.
+pub(crate) fn stands(flash: &[u8], piece: Piece, bytes: &[u8; 256]) -> bool
+    requires some { 0 < piece.len }
+    requires most { piece.erases ≡ false → piece.len ≤ 256 }
+    requires small { piece.at < 2 ^ 43 }
+    requires large { piece.len < 2 ^ 32 }
+    ensures within { IsTrue result → piece.at + piece.len ≤ length flash.now }
+    ensures stands { let p = (asked piece bytes.now).write in
         IsTrue result ↔ (slice_range flash.now p.at (p.at + length p.bytes) ≡ p.bytes) }
 {
     if piece.at + piece.len as u64 > flash.len() as u64 {
@@ -49,7 +50,7 @@ pub(crate) fn stands(flash: &[u8], piece: &Piece) -> bool
     if piece.erases {
         return is_blank(&flash[at..at + piece.len]);
     }
-    flash[at..at + piece.len] == piece.bytes[..piece.len]
+    flash[at..at + piece.len] == bytes[..piece.len]
 }
 
 // Whether a range lies within the spare slot of this flash.
@@ -58,6 +59,7 @@ fn is_spare(flash: &[u8], unit: Unit, sector: Sector, at: u64, len: u64) -> bool
     requires some { 0 < len }
     ensures yes { let m = mapped (grain_of unit sector) flash.now in
         IsTrue result → (image : List ℕ) → Active m image → IsInSpare m at len }
+    ensures inside { IsTrue result → at + len ≤ length flash.now }
     ensures no { IsTrue (not result) → IsHeldBack (mapped (grain_of unit sector) flash.now) at len }
 {
     let half = flash.len() as u64 / 2;
@@ -71,16 +73,20 @@ fn is_spare(flash: &[u8], unit: Unit, sector: Sector, at: u64, len: u64) -> bool
     let Some(medium) = Mapped::with_sector(flash, unit, sector) else {
         return false;
     };
-    match Slots::open(medium) {
-        Ok(slots) => u64::from(spare_place(&slots)) == slot,
-        Err(_) => false,
+    match check(&medium) {
+        Ok(places) => u64::from(places.spare) == slot,
+        Err(_) => {
+            // Called for its clause `refused`.
+            active_image_is_one();
+            false
+        }
     }
 }
 
 /// Whether a piece programs, or erases one whole sector.
-pub(crate) fn is_sound(sector: Sector, piece: &Piece) -> bool
-    requires { IsFit sector.size piece.now }
-    ensures { IsTrue result ↔ IsSound sector.size (asked piece.now) }
+pub(crate) fn is_sound(sector: Sector, piece: Piece) -> bool
+    requires { 0 < piece.len }
+    ensures { (bytes : List ℕ) → IsTrue result ↔ IsSound sector.size (asked piece bytes) }
 {
     if !piece.erases {
         return true;
@@ -89,30 +95,43 @@ pub(crate) fn is_sound(sector: Sector, piece: &Piece) -> bool
     piece.len == size as usize && piece.at % u64::from(size) == 0
 }
 
-impl Asking<'_> {
+impl Asking {
     /// The next piece that is asked for: at most 256 bytes to be programmed, or one sector to be erased. Whatever is kept, it lies
-    /// within the spare slot of the flash as it stands, where that has an active image.
+    /// within the spare slot of the flash as it stands, where that has an active image. The bytes of a program stand at the front of
+    /// `out` then.
     ///
     /// None where no write is due, where its range does not lie so, where the slot's gate is open and no image is active, or where
-    /// what is kept would erase less than a sector.
+    /// what is kept would erase less than a sector. Then `out` is as it was.
     /// It is Some where a call answered `Asks` and the pieces before this one stand on the flash.
-    pub fn next(&self, flash: &[u8]) -> Option<Piece>
-        ensures piece { IfSome result (λ p. (w : Work) → self.now.work ≡ Some w → IsPiece (steps_in self.now w) w.done (asked p)) }
-        ensures most { IfSome result (λ p. IsFit self.now.sector.size p) }
-        ensures sector { IfSome result (λ p. IsSound self.now.sector.size (asked p)) }
-        ensures spare { IfSome result (λ p. (image : List ℕ) → Active (mapped (grain_in self.now) flash.now) image →
-            IsInSpare (mapped (grain_in self.now) flash.now) p.at p.len) }
-        ensures due { IfSome result (λ p. (w : Work) × IsLeft self.now w) }
-        ensures none { IfNone result ((w : Work) (p : Step) → self.now.work ≡ Some w → IsPiece (steps_in self.now w) w.done p →
-            IsSound self.now.sector.size p → IsHeldBack (mapped (grain_in self.now) flash.now) p.write.at (length p.write.bytes)) }
-        ensures goes { IfNone result ((len : ℕ) (s : SlotsState) (was : List ℕ) → ¬ Asks self.now len s was flash.now) }
+    pub fn next(
+        &self,
+        block: &[u8],
+        held: &[u8; 256],
+        flash: &[u8],
+        out: &mut [u8; 256],
+    ) -> Option<Piece>
+        ensures piece { IfSome result (λ p. (w : Work) → self.now.work ≡ Some w →
+            IsPiece (steps_in (lent self.now block.now held.now) w) w.done (asked p out.new)) }
+        ensures most { IfSome result (λ p. IsFit self.now.sector.size p out.new) }
+        ensures sector { IfSome result (λ p. IsSound self.now.sector.size (asked p out.new)) }
+        ensures spare { IfSome result (λ p. (image : List ℕ) → Active (mapped (grain_in (lent self.now block.now held.now)) flash.now) image →
+            IsInSpare (mapped (grain_in (lent self.now block.now held.now)) flash.now) p.at p.len) }
+        ensures inside { IfSome result (λ p. p.at + p.len ≤ length flash.now) }
+        ensures due { IfSome result (λ p. (w : Work) × IsLeft (lent self.now block.now held.now) w) }
+        ensures none { IfNone result ((w : Work) (p : Step) → self.now.work ≡ Some w → IsPiece (steps_in (lent self.now block.now held.now) w) w.done p →
+            IsSound self.now.sector.size p → IsHeldBack (mapped (grain_in (lent self.now block.now held.now)) flash.now) p.write.at (length p.write.bytes)) }
+        ensures unchanged { IfNone result (out.new ≡ out.old) }
+        ensures goes { IfNone result ((len : ℕ) (s : SlotsState) (was : List ℕ) → ¬ Asks (lent self.now block.now held.now) len s was flash.now) }
     {
         let work = self.work?;
-        let piece = next_piece(work.job, &self.stock(), work.done as usize)?;
-        if !is_sound(self.sector, &piece) {
+        let mut bytes = [0; 256];
+        let stock = self.stock(block, held);
+        let piece = next_piece(work.job, &stock, work.done as usize, &mut bytes)?;
+        if !is_sound(self.sector, piece) {
             return None;
         }
         if is_spare(flash, self.unit, self.sector, piece.at, piece.len as u64) {
+            *out = bytes;
             Some(piece)
         } else {
             None
@@ -126,19 +145,28 @@ impl Asking<'_> {
     /// # Errors
     ///
     /// `NoRoom` where the buffer has less than 6 bytes; else `NoDevice` where no write is due. Nothing changed then.
-    pub fn took(&mut self, flash: &[u8], failed: bool, out: &mut [u8]) -> Result<Reply, Refusal>
+    pub fn took(
+        &mut self,
+        block: &[u8],
+        held: &mut [u8; 256],
+        flash: &[u8],
+        failed: bool,
+        out: &mut [u8],
+    ) -> Result<Reply, Refusal>
         ensures outcome { IfOk result
-            (λ r. (len : ℕ) (s : SlotsState) (was before : List ℕ) (asks : Asks self.old len s was before) (p : Step) →
-            IsPiece (steps_in self.old asks.work) asks.work.done p → Torn before p.write.at p.write.bytes flash.now →
-            Took (device_of self.old s) len s was p.write failed flash.now out.old self.new out.new r) }
-        ensures on { IfOk result (λ r. (w : Work) (p : Step) → self.old.work ≡ Some w → IsPiece (steps_in self.old w) w.done p →
-            (r ≡ Reply.Asks) ↔ AsksOn self.old w p.write failed flash.now) }
+            (λ r. (len : ℕ) (s : SlotsState) (was before : List ℕ) (asks : Asks (lent self.old block.now held.old) len s was before) (p : Step) →
+            IsPiece (steps_in (lent self.old block.now held.old) asks.work) asks.work.done p → Torn before p.write.at p.write.bytes flash.now →
+            Took (device_of (lent self.old block.now held.old) s) len s was p.write failed flash.now out.old (lent self.new block.now held.new) out.new r) }
+        ensures on { IfOk result (λ r. (w : Work) (p : Step) → self.old.work ≡ Some w → IsPiece (steps_in (lent self.old block.now held.old) w) w.done p →
+            (r ≡ Reply.Asks) ↔ AsksOn (lent self.old block.now held.old) w p.write failed flash.now) }
         ensures further { IfOk result (λ r. r ≡ Reply.Asks → (w : Work) (p : Step) → self.old.work ≡ Some w →
-            IsPiece (steps_in self.old w) w.done p → self.new.work ≡ Some (record w { done = w.done + length p.write.bytes })) }
-        ensures refused { IfErr result (λ e. IsNotTaken e self.old (length out.old)) }
-        ensures taken { OnOk result (IsTaken self.old (length out.old)) }
-        ensures memory { self.new.block.memory.ghost_name ≡ self.old.block.memory.ghost_name }
-        ensures unchanged { OnErr result ((self.new ≡ self.old) × (out.new ≡ out.old)) }
+            IsPiece (steps_in (lent self.old block.now held.old) w) w.done p → self.new.work ≡ Some (record w { done = w.done + length p.write.bytes })) }
+        ensures refused { IfErr result (λ e. IsNotTaken e (lent self.old block.now held.old) (length out.old)) }
+        ensures taken { OnOk result (IsTaken (lent self.old block.now held.old) (length out.old)) }
+        ensures few { IfOk result (λ r. HasAtMost 6 r) }
+        ensures same { IsSetUpAs self.old self.new }
+        ensures block { self.new.block_len ≡ self.old.block_len }
+        ensures unchanged { OnErr result ((self.new ≡ self.old) × (held.new ≡ held.old) × (out.new ≡ out.old)) }
     {
         if out.len() < 6 {
             return Err(Refusal::NoRoom);
@@ -146,15 +174,17 @@ impl Asking<'_> {
         let Some(work) = self.work else {
             return Err(Refusal::NoDevice);
         };
-        let Some(piece) = next_piece(work.job, &self.stock(), work.done as usize) else {
+        let mut bytes = [0; 256];
+        let stock = self.stock(block, held);
+        let Some(piece) = next_piece(work.job, &stock, work.done as usize, &mut bytes) else {
             return Err(Refusal::NoDevice);
         };
         if failed {
-            let (answer, count) = self.fail(WriteFault::Failed, work.asked, out);
+            let (answer, count) = self.fail(WriteFault::Failed, work.asked, flash, out);
             return Ok(Reply::Answered(answer, count));
         }
-        if !stands(flash, &piece) {
-            let (answer, count) = self.fail(WriteFault::NotVerified, work.asked, out);
+        if !stands(flash, piece, &bytes) {
+            let (answer, count) = self.fail(WriteFault::NotVerified, work.asked, flash, out);
             return Ok(Reply::Answered(answer, count));
         }
         let further = Work {
@@ -162,6 +192,6 @@ impl Asking<'_> {
             asked: work.asked,
             done: work.done + piece.len as u32,
         };
-        Ok(self.advance(further, out))
+        Ok(self.advance(further, block, held, flash, out))
     }
 }

@@ -1,78 +1,51 @@
 //! The calls for a device that asks.
-ghost use Rattle.std.specs.Prelude.{◌≡◌, ◌≢◌, ◌⊎◌, ◌≤◌, ◌^◌, ℕ, List, [], length, replicate, IfOk, IfErr, OnOk, OnErr, IsErrOf, IfSome, IfNone, IsSome, Some, IsTrue};
-ghost use Rattle.dfu_slots.specs.Units.{in_place};
+ghost use Rattle.std.specs.Prelude.{◌≡◌, ◌≢◌, ◌≤◌, ℕ, List, [], length, replicate, IfOk, IfErr, OnOk, OnErr, IsErrOf, IfSome, IfNone, IsSome, Some, None};
 ghost use Rattle.dfu_slots.specs.Image.{HasImage};
-ghost use Rattle.dfu_slots.specs.Store.{IsStore};
 ghost use Rattle.dfu_device.specs.Rows.{Handles, Elapses};
 ghost use Rattle.dfu_device.specs.Table.{reset_stage};
-ghost use Rattle.dfu_device.specs.Parts.{shows, stage_of, is_sound};
+ghost use Rattle.dfu_device.specs.Parts.{stage_of};
 ghost use Rattle.dfu_device.specs.Stage.{state_of, code_of};
 ghost use Rattle.dfu_device.specs.Shown.{powered_on};
+ghost use Rattle.dfu_device.specs.Lent.{answer_room};
 ghost use Rattle.dfu_asks.specs.declared.work.Work.{Work};
 ghost use Rattle.dfu_asks.specs.Mapped.{grain_of, mapped};
-ghost use Rattle.dfu_asks.specs.Asks.{store_in, device_in, block_in, IsDevice, IsRest, IsDueStage};
-ghost use Rattle.dfu_asks.specs.Calls.{Called, Comes};
-ghost use Rattle.dfu_asks.specs.Refused.{IsKept, IsUnfit, IsRefused, IsServed};
-ghost use Rattle.dfu_device.specs.Lent.{answer_room};
+ghost use Rattle.dfu_asks.specs.Noted.{IsView};
+ghost use Rattle.dfu_asks.specs.Lent.{lent, IsSetUpAs};
+ghost use Rattle.dfu_asks.specs.Asks.{device_in, IsDevice};
+ghost use Rattle.dfu_asks.specs.Calls.{Called, HasAtMost};
+ghost use Rattle.dfu_asks.specs.Refused.{IsKept, IsThere, Fits, IsRefused, IsServed};
 
-use crate::due::{asked_now, passes_now};
-use crate::{Asking, Mapped, Refusal, Reply, Sector, Work};
-use arrayvec::ArrayVec;
-use dfu_device::{Answer, Config, LentBlock, LentDevice, Mode};
-use dfu_slots::{Slots, Unit};
-use dfu_wire::{Code, State};
+use crate::view::{View, look};
+use crate::{Asking, Mapped, Noted, Refusal, Reply, Sector};
+use dfu_device::{Answer, Config, Mode, asked_length, decide, decide_time, goes_with};
+use dfu_slots::Unit;
+use dfu_wire::{Code, Request, Setup, State};
 
-impl<'b> Asking<'b> {
-    /// A device that gets power: in appIDLE, on flash that it reads and that is written in place, in this unit. The memory of the
-    /// block is to have room for the transfer size, or each call but this one is refused with `NoDevice`.
+impl Asking {
+    /// A device that gets power: in appIDLE, with no block, on flash that it reads. That is written in this unit, and erased in sectors
+    /// before, or if there are none written over in place. It reads the images, to see which is active.
     ///
-    /// None exactly where the flash has no active image, or 2^32 bytes or more.
-    pub fn power_on(
-        config: Config,
-        unit: Unit,
-        block: LentBlock<'b>,
-        flash: &[u8],
-    ) -> Option<Asking<'b>>
-        ensures device { IfSome result (λ a. device_in a flash.now ≡ powered_on config (mapped (in_place unit) flash.now)) }
-        ensures is { IfSome result (λ a. IsDevice a flash.now) }
-        ensures work { IfSome result (λ a. (a.work ≡ None) × (a.unit ≡ unit)) }
-        ensures sector { IfSome result (λ a. a.sector.size ≡ 0) }
-        ensures memory { IfSome result (λ a. a.block ≡ block.entry) }
-        ensures none { IfNone result (¬ HasImage (mapped (in_place unit) flash.now)) }
-    {
-        Asking::power_on_sectors(config, unit, Sector::none(), block, flash)
-    }
-
-    /// The same, on flash that is erased in sectors before it is written, or where there are none is written in place.
-    pub fn power_on_sectors(
-        config: Config,
-        unit: Unit,
-        sector: Sector,
-        block: LentBlock<'b>,
-        flash: &[u8],
-    ) -> Option<Asking<'b>>
-        ensures device { let m = mapped (grain_of unit sector) flash.now in
-            IfSome result (λ a. device_in a flash.now ≡ powered_on config m) }
-        ensures is { IfSome result (λ a. IsDevice a flash.now) }
-        ensures work { IfSome result (λ a. (a.work ≡ None) × (a.unit ≡ unit)) }
+    /// None exactly if the flash has no active image, or 2^32 bytes or more.
+    pub fn power_on(config: Config, unit: Unit, sector: Sector, flash: &[u8]) -> Option<Asking>
+        ensures device { let m = mapped (grain_of unit sector) flash.now in (block held : List ℕ) →
+            IfSome result (λ a. device_in (lent a block held) flash.now ≡ powered_on config m) }
+        ensures is { (block held : List ℕ) → IfSome result (λ a. IsDevice (lent a block held) flash.now) }
+        ensures work { IfSome result (λ a. (a.work ≡ None) × (a.block_len ≡ 0) × (a.config ≡ config) × (a.unit ≡ unit)) }
         ensures sector { IfSome result (λ a. a.sector ≡ sector) }
-        ensures memory { IfSome result (λ a. a.block ≡ block.entry) }
         ensures none { IfNone result (¬ HasImage (mapped (grain_of unit sector) flash.now)) }
     {
-        let medium = Mapped::with_sector(flash, unit, sector)?;
-        match Slots::open(medium) {
-            Ok(_) => Some(Asking {
-                config,
-                unit,
-                sector,
-                mode: Mode::AppIdle,
-                block,
-                held: ArrayVec::new(),
-                put_end: 0,
-                work: None,
-            }),
-            Err(_) => None,
-        }
+        let noted = Noted::find(flash, unit, sector)?;
+        Some(Asking {
+            config,
+            unit,
+            sector,
+            mode: Mode::AppIdle,
+            block_len: 0,
+            held_len: 0,
+            put_end: 0,
+            noted,
+            work: None,
+        })
     }
 
     /// The state of the standard (USB DFU 1.1, section 6.1.2, bState).
@@ -89,49 +62,111 @@ impl<'b> Asking<'b> {
         self.mode.code()
     }
 
+    // What is seen of the flash, if what is kept goes with it.
+    fn see<'f>(&self, room: usize, flash: &'f [u8]) -> Result<(Mapped<'f>, View), Refusal>
+        ensures medium { IfOk result (λ r. (r.0.unit ≡ self.now.unit) × (r.0.sector ≡ self.now.sector) × (r.0.bytes.now ≡ flash.now)) }
+        ensures view { IfOk result (λ r. IsView r.1 self.now.noted (mapped (grain_of self.now.unit self.now.sector) flash.now)) }
+        ensures there { OnOk result (IsThere self.now flash.now) }
+        ensures fits { OnOk result (Fits self.now room) }
+        ensures end { IfOk result (λ r. self.now.put_end ≤ r.1.room) }
+        ensures held { IfOk result (λ r. self.now.held_len ≤ self.now.put_end) }
+        ensures no_medium { IfErr result (λ e. e ≡ Refusal.NoMedium → ¬ IsThere self.now flash.now) }
+        ensures no_device { IfErr result (λ e. e ≢ Refusal.NoMedium → (e ≡ Refusal.NoDevice) × IsThere self.now flash.now
+            × ((block held : List ℕ) → length block ≡ room → length held ≡ 256 → ¬ IsKept self.now block held flash.now)) }
+    {
+        let Some(medium) = Mapped::with_sector(flash, self.unit, self.sector) else {
+            return Err(Refusal::NoMedium);
+        };
+        let Some(view) = look(&medium, &self.noted) else {
+            return Err(Refusal::NoMedium);
+        };
+        if !self.is_fit(room, &medium, view) {
+            return Err(Refusal::NoDevice);
+        }
+        Ok((medium, view))
+    }
+
+    // What a setup with its body comes to: the rules before the table, then the table.
+    fn respond(
+        &mut self,
+        block: &mut [u8],
+        held: &mut [u8; 256],
+        medium: &Mapped<'_>,
+        view: View,
+        setup: &[u8; 8],
+        body: &[u8],
+        out: &mut [u8],
+    ) -> Reply
+        requires room { answer_room self.old.config ≤ length out.old }
+        requires unit { medium.now.unit ≡ self.old.unit }
+        requires sector { medium.now.sector ≡ self.old.sector }
+        requires view { IsView view self.old.noted (mapped (grain_of self.old.unit self.old.sector) medium.now.bytes.now) }
+        requires idle { self.old.work ≡ None }
+        requires block { self.old.block_len ≤ length block.old }
+        requires end { self.old.put_end ≤ view.room }
+        requires held { self.old.held_len ≤ self.old.put_end }
+        ensures outcome { let a = lent self.old block.old held.old in
+            let flash = medium.now.bytes.now in IsKept self.old block.old held.old flash →
+            Called a flash out.old (λ x sent d'. Handles setup.now body.now (device_in a flash) x sent d')
+            (lent self.new block.new held.new) out.new result }
+        ensures first { result ≡ Reply.Asks → (w : Work) × (self.new.work ≡ Some w) × (w.done ≡ 0) }
+        ensures few { HasAtMost 65535 result }
+        ensures same { IsSetUpAs self.old self.new }
+        ensures fits { self.new.block_len ≤ length block.new }
+    {
+        let setup = Setup::decode(setup);
+        match setup.request() {
+            Request::NotDfu => Reply::Answered(Answer::Stall, 0),
+            request => {
+                if !goes_with(&setup, body) {
+                    return Reply::Answered(Answer::Stall, 0);
+                }
+                let profile = self.config.profile(u64::from(view.room));
+                let decision = decide(&profile, self.mode, request);
+                let asked = Some(asked_length(request));
+                self.carry_out(decision, asked, body, block, held, medium, view, out)
+            }
+        }
+    }
+
     /// Answers a setup with its body, as `Device::handle_into`; or the row writes, and its writes are asked for now.
     ///
     /// # Errors
     ///
-    /// `Asked` where writes are due; `NoRoom` where the buffer has less room than an answer may need, which is 6 bytes or the
-    /// transfer size, whichever is more; `NoMedium` where the flash has no active image, or 2^32 bytes or more; `NoDevice` where
-    /// what is kept is none of a device on it, or its block has less room than the transfer size. They are looked for in this
-    /// order, and nothing changed then.
+    /// `Asked` if writes are due; `NoRoom` if the buffer has less room than an answer may need, which is 6 bytes or the transfer
+    /// size, whichever is more; `NoMedium` if the noted header does not stand in an open slot of the flash; `NoDevice` if what is kept
+    /// is none of a device on it, or the block's memory has less room than the transfer size. They are looked for in this order, and
+    /// nothing changed then.
     pub fn handle(
         &mut self,
+        block: &mut [u8],
+        held: &mut [u8; 256],
         flash: &[u8],
         setup: &[u8; 8],
         body: &[u8],
         out: &mut [u8],
     ) -> Result<Reply, Refusal>
-        ensures outcome { IfOk result (λ r. Called self.old flash.now out.old
-            (λ a sent d'. Handles setup.now body.now (device_in self.old flash.now) a sent d') self.new out.new r) }
+        ensures outcome { let a = lent self.old block.old held.old in IfOk result (λ r. IsKept self.old block.old held.old flash.now →
+            Called a flash.now out.old (λ x sent d'. Handles setup.now body.now (device_in a flash.now) x sent d')
+            (lent self.new block.new held.new) out.new r) }
         ensures first { IfOk result (λ r. r ≡ Reply.Asks → (w : Work) × (self.new.work ≡ Some w) × (w.done ≡ 0)) }
-        ensures is { OnOk result (IsDevice self.old flash.now) }
-        ensures served { OnOk result (IsServed self.old flash.now (answer_room self.old.config) (length out.old)) }
-        ensures refused { IfErr result (λ e. IsRefused e self.old flash.now (answer_room self.old.config) (length out.old)) }
+        ensures served { OnOk result (IsServed self.old block.old flash.now (answer_room self.old.config) (length out.old)) }
+        ensures refused { IfErr result (λ e.
+            IsRefused e self.old block.old held.old flash.now (answer_room self.old.config) (length out.old)) }
         ensures asked { IsSome self.old.work → IsErrOf result Refusal.Asked }
-        ensures memory { self.new.block.memory.ghost_name ≡ self.old.block.memory.ghost_name }
-        ensures unchanged { OnErr result ((self.new ≡ self.old) × (out.new ≡ out.old)) }
+        ensures few { IfOk result (λ r. HasAtMost 65535 r) }
+        ensures same { IsSetUpAs self.old self.new }
+        ensures fits { OnOk result (Fits self.new (length block.new)) }
+        ensures unchanged { OnErr result ((self.new ≡ self.old) × (block.new ≡ block.old) × (held.new ≡ held.old) × (out.new ≡ out.old)) }
     {
         if self.work.is_some() {
             return Err(Refusal::Asked);
         }
-        let (config, mode) = (self.config, self.mode);
         if out.len() < usize::from(self.config.functional().transfer).max(6) {
             return Err(Refusal::NoRoom);
         }
-        let mut device = self.assemble(flash)?;
-        match asked_now(config, mode, setup, body) {
-            None => {
-                let Some((answer, count)) = device.handle_into(setup, body, out) else {
-                    unreachable!()
-                };
-                self.keep(device);
-                Ok(Reply::Answered(answer, count))
-            }
-            Some(asked) => Ok(self.start(device, Some(asked), out)),
-        }
+        let (medium, view) = self.see(block.len(), flash)?;
+        Ok(self.respond(block, held, &medium, view, setup, body, out))
     }
 
     /// So many milliseconds pass, as `Device::elapse`; or the row writes, and its writes are asked for now.
@@ -139,29 +174,33 @@ impl<'b> Asking<'b> {
     /// # Errors
     ///
     /// As `handle`, but for `NoRoom`.
-    pub fn elapse(&mut self, flash: &[u8], ms: u32) -> Result<Reply, Refusal>
-        ensures outcome { IfOk result (λ r. (out : List ℕ) × Called self.old flash.now (replicate 6 0)
-            (λ a sent d'. (a ≡ Answer.Ack) × (sent ≡ []) × Elapses ms (device_in self.old flash.now) d') self.new out r) }
+    pub fn elapse(
+        &mut self,
+        block: &mut [u8],
+        held: &mut [u8; 256],
+        flash: &[u8],
+        ms: u32,
+    ) -> Result<Reply, Refusal>
+        ensures outcome { let a = lent self.old block.old held.old in IfOk result (λ r. IsKept self.old block.old held.old flash.now →
+            (out : List ℕ) × Called a flash.now (replicate 6 0)
+            (λ x sent d'. (x ≡ Answer.Ack) × (sent ≡ []) × Elapses ms (device_in a flash.now) d')
+            (lent self.new block.new held.new) out r) }
         ensures first { IfOk result (λ r. r ≡ Reply.Asks → (w : Work) × (self.new.work ≡ Some w) × (w.done ≡ 0)) }
-        ensures is { OnOk result (IsDevice self.old flash.now) }
-        ensures served { OnOk result (IsServed self.old flash.now 0 0) }
-        ensures refused { IfErr result (λ e. IsRefused e self.old flash.now 0 0) }
+        ensures served { OnOk result (IsServed self.old block.old flash.now 0 0) }
+        ensures refused { IfErr result (λ e. IsRefused e self.old block.old held.old flash.now 0 0) }
         ensures asked { IsSome self.old.work → IsErrOf result Refusal.Asked }
-        ensures memory { self.new.block.memory.ghost_name ≡ self.old.block.memory.ghost_name }
-        ensures unchanged { OnErr result (self.new ≡ self.old) }
+        ensures same { IsSetUpAs self.old self.new }
+        ensures fits { OnOk result (Fits self.new (length block.new)) }
+        ensures unchanged { OnErr result ((self.new ≡ self.old) × (block.new ≡ block.old) × (held.new ≡ held.old)) }
     {
         if self.work.is_some() {
             return Err(Refusal::Asked);
         }
-        let (config, mode) = (self.config, self.mode);
-        let mut device = self.assemble(flash)?;
-        if passes_now(config, mode, ms) {
-            let mut out = [0; 6];
-            return Ok(self.start(device, None, &mut out));
-        }
-        device.elapse(ms);
-        self.keep(device);
-        Ok(Reply::Answered(Answer::Ack, 0))
+        let (medium, view) = self.see(block.len(), flash)?;
+        let profile = self.config.profile(u64::from(view.room));
+        let decision = decide_time(&profile, self.mode, ms);
+        let mut out = [0; 6];
+        Ok(self.carry_out(decision, None, &[], block, held, &medium, view, &mut out))
     }
 
     /// The bus is reset, as `Device::usb_reset`.
@@ -169,51 +208,23 @@ impl<'b> Asking<'b> {
     /// # Errors
     ///
     /// As `elapse`.
-    pub fn usb_reset(&mut self, flash: &[u8]) -> Result<(), Refusal>
-        ensures row { OnOk result (device_in self.new flash.now
-            ≡ record (device_in self.old flash.now) { stage = reset_stage (device_in self.old flash.now).stage }) }
-        ensures is { OnOk result (IsDevice self.new flash.now) }
-        ensures served { OnOk result (IsServed self.old flash.now 0 0) }
-        ensures refused { IfErr result (λ e. IsRefused e self.old flash.now 0 0) }
+    pub fn usb_reset(&mut self, block: &[u8], held: &[u8; 256], flash: &[u8]) -> Result<(), Refusal>
+        ensures row { let before = device_in (lent self.old block.now held.now) flash.now in
+            OnOk result (device_in (lent self.new block.now held.now) flash.now ≡ record before { stage = reset_stage before.stage }) }
+        ensures is { OnOk result (IsKept self.old block.now held.now flash.now → IsKept self.new block.now held.now flash.now) }
+        ensures work { OnOk result (self.new.work ≡ None) }
+        ensures served { OnOk result (IsServed self.old block.now flash.now 0 0) }
+        ensures refused { IfErr result (λ e. IsRefused e self.old block.now held.now flash.now 0 0) }
         ensures asked { IsSome self.old.work → IsErrOf result Refusal.Asked }
-        ensures memory { self.new.block.memory.ghost_name ≡ self.old.block.memory.ghost_name }
+        ensures same { IsSetUpAs self.old self.new }
+        ensures fits { OnOk result (Fits self.new (length block.now)) }
         ensures unchanged { OnErr result (self.new ≡ self.old) }
     {
         if self.work.is_some() {
             return Err(Refusal::Asked);
         }
-        let mut device = self.assemble(flash)?;
-        device.usb_reset();
-        self.keep(device);
+        let _ = self.see(block.len(), flash)?;
+        self.mode = self.mode.after_reset();
         Ok(())
-    }
-
-    // Begins the work of the row that is due.
-    fn start(
-        &mut self,
-        device: LentDevice<Mapped<'_>, LentBlock<'b>>,
-        asked: Option<u16>,
-        out: &mut [u8],
-    ) -> Reply
-        requires room { 6 ≤ length out.old }
-        requires held { device.device.slots.held ≡ self.old.held.items }
-        requires end { device.device.slots.put_end ≡ self.old.put_end }
-        ensures outcome { let d = device.entry.device in (len : ℕ) (flash : List ℕ) → d.slots ≡ store_in self.old flash → IsStore d.slots →
-            d.config ≡ self.old.config → IsDueStage d.stage asked len → Comes d len d.slots flash flash out.old self.new out.new result }
-        ensures first { result ≡ Reply.Asks → (w : Work) × (self.new.work ≡ Some w) × (w.done ≡ 0) }
-        ensures memory { self.new.block.memory.ghost_name ≡ device.entry.memory.name }
-    {
-        let (slots, mode, block) = device.into_parts();
-        self.mode = mode;
-        self.block = block;
-        let job = self.begin_job(&slots);
-        self.advance(
-            Work {
-                job,
-                asked,
-                done: 0,
-            },
-            out,
-        )
     }
 }

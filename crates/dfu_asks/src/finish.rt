@@ -1,31 +1,17 @@
-//! The end of a row whose writes are carried out.
-ghost use Rattle.std.specs.Prelude.{◌≡◌, ◌+◌, [], ℕ, ◌≤◌, List, length, take};
+//! What becomes of a device at the end of a row.
+ghost use Rattle.std.specs.Prelude.{◌≡◌, ◌≤◌, ℕ, List, [], length, take, true, false, if◌then◌else◌};
+ghost use Rattle.dfu_slots.specs.Image.{HasImage};
 ghost use Rattle.dfu_slots.specs.Writes.{put_rest};
-ghost use Rattle.dfu_device.specs.Stage.{StatusOf, state_of, code_of};
-ghost use Rattle.dfu_device.specs.Parts.{stage_of};
-ghost use Rattle.dfu_device.specs.Rows.{Answers};
-ghost use Rattle.dfu_device.specs.Table.{write_code, commit_code};
-ghost use Rattle.dfu_asks.specs.Asks.{is_block, done_mode, failed_mode, IsFinished, IsBrokenOff, Gives};
+ghost use Rattle.dfu_asks.specs.Mapped.{grain_of, mapped};
+ghost use Rattle.dfu_asks.specs.Noted.{IsNoted};
+ghost use Rattle.dfu_asks.specs.Lent.{lent, IsSetUpAs};
+ghost use Rattle.dfu_asks.specs.Asks.{is_block, capped, done_mode, failed_mode, IsFinished, IsBrokenOff, NotesAfter, IsAnswered, Gives};
 
-use crate::Asking;
 use crate::piece::copy_joined;
-use arrayvec::ArrayVec;
-use dfu_device::{Answer, Block, Config, Mode};
+use crate::{Asking, Noted};
+use dfu_device::{Answer, Config, Mode, Reply};
 use dfu_slots::{Unit, WriteFault};
-use dfu_wire::{Code, Status};
-
-// The six bytes of the status of a mode in which no host is to wait.
-fn status_of(mode: Mode) -> [u8; 6]
-    ensures answers { (spare block : List ℕ) (len : ℕ) →
-        Answers len (StatusOf (code_of (stage_of mode spare block)) 0 (state_of (stage_of mode spare block))) Answer.Bytes
-        (take len result) }
-    ensures size { length result ≡ 6 }
-{
-    let Ok(status) = Status::new(mode.code(), 0, mode.state()) else {
-        unreachable!()
-    };
-    status.encode()
-}
+use dfu_wire::Code;
 
 // Whether a block is written in a mode.
 fn is_block(mode: Mode) -> bool
@@ -78,46 +64,79 @@ fn failed_mode(mode: Mode, fault: WriteFault) -> Mode
     Mode::Error { code }
 }
 
-// What makes no whole unit of the bytes held and a block behind them, which is held back.
-fn rest_of_put(unit: Unit, held: &[u8], block: &[u8]) -> ArrayVec<u8, 256>
-    requires held { length held.now ≤ 256 }
+// Keeps what makes no whole unit of the bytes held and a block after them, and answers how many bytes that are.
+fn keep_rest(unit: Unit, held: &mut [u8; 256], held_len: usize, block: &[u8]) -> usize
+    requires held { held_len ≤ 256 }
     requires block { length block.now ≤ 4096 }
-    ensures { result.items ≡ put_rest unit held.now block.now }
+    ensures held { take result held.new ≡ put_rest unit (take held_len held.old) block.now }
+    ensures few { result ≤ 256 }
 {
     let size = unit.size() as usize;
-    let all = held.len() + block.len();
+    let all = held_len + block.len();
     let rest = all % size;
     let mut bytes = [0; 256];
-    copy_joined(held, block, all - rest, &mut bytes[..rest]);
-    let mut kept = ArrayVec::new();
-    let _ = kept.try_extend_from_slice(&bytes[..rest]);
-    kept
+    copy_joined(&held[..held_len], block, all - rest, &mut bytes[..rest]);
+    held[..rest].copy_from_slice(&bytes[..rest]);
+    rest
 }
 
-impl Asking<'_> {
-    /// All is written.
-    pub(crate) fn finish(&mut self)
-        ensures finished { IsFinished self.old self.new }
-        ensures memory { self.new.block.memory.ghost_name ≡ self.old.block.memory.ghost_name }
+impl Asking {
+    // How many bytes are held back after a row whose writes worked, and where the puts end. These bytes are kept in their memory.
+    fn rest_after(&self, block: &[u8], held: &mut [u8; 256]) -> (usize, u32)
+        ensures held { let a = lent self.now block.now held.old in
+            take result.0 held.new ≡ (if is_block a.mode then put_rest a.unit a.held a.block else []) }
+        ensures end { let a = lent self.now block.now held.old in
+            result.1 ≡ (if is_block a.mode then capped a.put_end (length a.block) else 0) }
+        ensures few { result.0 ≤ 256 }
     {
-        let len = self.block.len;
-        if is_block(self.mode) {
-            self.held = rest_of_put(self.unit, self.held.as_slice(), self.block.bytes());
-            self.put_end = self.put_end.saturating_add(len as u32);
-        } else {
-            self.held.clear();
-            self.put_end = 0;
+        if !is_block(self.mode) {
+            return (0, 0);
         }
+        let len = self.block_len.min(block.len());
+        let rest = keep_rest(self.unit, held, self.held_len, &block[..len]);
+        (rest, self.put_end.saturating_add(len as u32))
+    }
+
+    // What is noted after a row. After a commit the images are read.
+    fn noted_after(&self, flash: &[u8]) -> Noted
+        ensures of_block { is_block self.now.mode ≡ true → result ≡ self.now.noted }
+        ensures of_commit { let m = mapped (grain_of self.now.unit self.now.sector) flash.now in
+            is_block self.now.mode ≡ false → HasImage m → IsNoted result m }
+    {
+        if is_block(self.mode) {
+            return self.noted;
+        }
+        match Noted::find(flash, self.unit, self.sector) {
+            Some(noted) => noted,
+            None => self.noted,
+        }
+    }
+
+    /// All is written.
+    pub(crate) fn finish(&mut self, block: &[u8], held: &mut [u8; 256], flash: &[u8])
+        ensures finished { IsFinished (lent self.old block.now held.old) (lent self.new block.now held.new) }
+        ensures notes { NotesAfter self.old.mode flash.now (lent self.old block.now held.old) (lent self.new block.now held.new) }
+        ensures same { IsSetUpAs self.old self.new }
+        ensures block { self.new.block_len ≡ self.old.block_len }
+    {
+        let (held_len, put_end) = self.rest_after(block, held);
+        self.noted = self.noted_after(flash);
+        self.held_len = held_len;
+        self.put_end = put_end;
+        let len = self.block_len.min(block.len());
         self.mode = done_mode(self.config, self.mode, len as u32);
         self.work = None;
     }
 
     /// A write had this fault.
-    pub(crate) fn break_off(&mut self, fault: WriteFault)
-        ensures broken { IsBrokenOff fault self.old self.new }
-        ensures memory { self.new.block.memory.ghost_name ≡ self.old.block.memory.ghost_name }
+    pub(crate) fn break_off(&mut self, fault: WriteFault, flash: &[u8])
+        ensures broken { (block held : List ℕ) → IsBrokenOff fault (lent self.old block held) (lent self.new block held) }
+        ensures notes { (block held : List ℕ) → NotesAfter self.old.mode flash.now (lent self.old block held) (lent self.new block held) }
+        ensures same { IsSetUpAs self.old self.new }
+        ensures block { self.new.block_len ≡ self.old.block_len }
     {
-        self.held.clear();
+        self.noted = self.noted_after(flash);
+        self.held_len = 0;
         self.put_end = 0;
         self.mode = failed_mode(self.mode, fault);
         self.work = None;
@@ -126,16 +145,11 @@ impl Asking<'_> {
     /// Answers the GETSTATUS that asked for so many bytes, if one did, with its bytes at the front of a buffer.
     pub(crate) fn answer(&self, asked: Option<u16>, out: &mut [u8]) -> (Answer, usize)
         requires { 6 ≤ length out.old }
-        ensures { Gives self.now.mode asked result.0 result.1 out.old out.new }
+        ensures { Gives (λ x sent. IsAnswered self.now.config self.now.mode asked x sent) result.0 result.1 out.old out.new }
     {
         match asked {
-            None => (Answer::Ack, 0),
-            Some(len) => {
-                let bytes = status_of(self.mode);
-                let count = usize::from(len).min(6);
-                out[..count].copy_from_slice(&bytes[..count]);
-                (Answer::Bytes, count)
-            }
+            None => self.give(Reply::Ack, 0, out),
+            Some(len) => self.give(Reply::Status, len, out),
         }
     }
 }

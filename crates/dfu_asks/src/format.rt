@@ -110,10 +110,10 @@ impl Formatting {
         })
     }
 
-    // The next piece of the part that is being carried out.
-    fn due(&self, flash: &[u8], image: &[u8]) -> Option<Piece>
-        ensures some { IfSome result (λ p. IsPiece (part_left self.now (length flash.now) image.now) self.now.done (asked p)) }
-        ensures fits { IfSome result (λ p. IsFit self.now.sector.size p) }
+    // The next piece of the part that is being carried out. `out` has its bytes then.
+    fn due(&self, flash: &[u8], image: &[u8], out: &mut [u8; 256]) -> Option<Piece>
+        ensures some { IfSome result (λ p. IsPiece (part_left self.now (length flash.now) image.now) self.now.done (asked p out.new)) }
+        ensures fits { IfSome result (λ p. IsFit self.now.sector.size p out.new) }
         ensures end { IfSome result (λ p. self.now.done + p.len ≤ 2 ^ 20) }
         ensures flash { IfSome result (λ p. length flash.now < 2 ^ 32) }
         ensures image { IfSome result (λ p. length image.now ≤ 2 ^ 24) }
@@ -123,30 +123,33 @@ impl Formatting {
         if flash.len() > 0xffff_ffff || image.len() > MOST_IMAGE {
             return None;
         }
-        part_piece(self, flash.len(), image)
+        part_piece(self, flash.len(), image, out)
     }
 
     /// The next piece that is asked for: at most 256 bytes to be programmed, or one sector to be erased. Whatever is kept, it lies
-    /// within the flash. The image is the one that the format began with.
+    /// within the flash. The bytes of a program stand at the front of `out` then. The image is the one that the format began with.
     ///
-    /// None where no write is due, or its range does not lie so, or what is kept would erase less than a sector. It is Some where
-    /// `start` or `took` asked, and the pieces before this one stand on the flash.
-    pub fn next(&self, flash: &[u8], image: &[u8]) -> Option<Piece>
-        ensures piece { IfSome result (λ p. IsPiece (steps_left self.now (length flash.now) image.now) self.now.done (asked p)) }
-        ensures most { IfSome result (λ p. IsFit self.now.sector.size p) }
-        ensures sector { IfSome result (λ p. IsSound self.now.sector.size (asked p)) }
+    /// None where no write is due, or its range does not lie so, or what is kept would erase less than a sector. Then `out` is as it was.
+    /// It is Some where `start` or `took` asked, and the pieces before this one stand on the flash.
+    pub fn next(&self, flash: &[u8], image: &[u8], out: &mut [u8; 256]) -> Option<Piece>
+        ensures piece { IfSome result (λ p. IsPiece (steps_left self.now (length flash.now) image.now) self.now.done (asked p out.new)) }
+        ensures most { IfSome result (λ p. IsFit self.now.sector.size p out.new) }
+        ensures sector { IfSome result (λ p. IsSound self.now.sector.size (asked p out.new)) }
         ensures within { IfSome result (λ p. (p.at + p.len ≤ length flash.now) × (length flash.now < 2 ^ 32)) }
+        ensures unchanged { IfNone result (out.new ≡ out.old) }
         ensures goes { IfNone result ((was : List ℕ) → ¬ AsksFormat self.now image.now was flash.now) }
     {
-        let Some(piece) = self.due(flash, image) else {
+        let mut bytes = [0; 256];
+        let Some(piece) = self.due(flash, image, &mut bytes) else {
             return None;
         };
-        if !is_sound(self.sector, &piece) {
+        if !is_sound(self.sector, piece) {
             return None;
         }
         if piece.at + piece.len as u64 > flash.len() as u64 {
             return None;
         }
+        *out = bytes;
         Some(piece)
     }
 
@@ -163,14 +166,15 @@ impl Formatting {
             → ¬ AsksFormat self.old image.now was before) }
         ensures unchanged { IfNone result (self.new ≡ self.old) }
     {
-        let Some(piece) = self.due(flash, image) else {
+        let mut bytes = [0; 256];
+        let Some(piece) = self.due(flash, image, &mut bytes) else {
             return None;
         };
         if failed {
             self.phase = Phase::Ended;
             return Some(Progress::Broken(WriteFault::Failed));
         }
-        if !stands(flash, &piece) {
+        if !stands(flash, piece, &bytes) {
             self.phase = Phase::Ended;
             return Some(Progress::Broken(WriteFault::NotVerified));
         }
@@ -188,7 +192,8 @@ impl Formatting {
         ensures same { IsSameFormat self.old self.new }
         ensures ended { result ≢ Progress.Asks → self.new.phase ≡ Phase.Ended }
     {
-        match part_piece(self, size, image) {
+        let mut bytes = [0; 256];
+        match part_piece(self, size, image, &mut bytes) {
             Some(_) => Progress::Asks,
             None => self.go_on(image),
         }

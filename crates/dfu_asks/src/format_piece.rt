@@ -26,11 +26,17 @@ pub(crate) fn filled_len(unit: Unit, len: usize) -> usize
 }
 
 // The next piece of 4096 bytes of an image, from there on, with their erases, behind the first `done` bytes of all.
-fn image_piece(from: u32, image: &[u8], stock: &Stock<'_>, done: usize) -> Option<Piece>
+fn image_piece(
+    from: u32,
+    image: &[u8],
+    stock: &Stock<'_>,
+    done: usize,
+    out: &mut [u8; 256],
+) -> Option<Piece>
     requires { length image.now ≤ 2 ^ 24 }
     ensures some { let w = grain_for stock.now in IfSome result (λ p.
-        IsPiece (some_steps w.sector (2 * gate_room w + from) (take 4096 (drop from (filled w.unit image.now)))) done (asked p)) }
-    ensures fits { IfSome result (λ p. IsFit stock.now.sector.size p) }
+        IsPiece (some_steps w.sector (2 * gate_room w + from) (take 4096 (drop from (filled w.unit image.now)))) done (asked p out.new)) }
+    ensures fits { IfSome result (λ p. IsFit stock.now.sector.size p out.new) }
     ensures end { IfSome result (λ p. done + p.len ≤ 2 ^ 20) }
     ensures none { let w = grain_for stock.now in IfNone result
         (total (step_writes (some_steps w.sector (2 * gate_room w + from) (take 4096 (drop from (filled w.unit image.now))))) ≤ done) }
@@ -40,12 +46,12 @@ fn image_piece(from: u32, image: &[u8], stock: &Stock<'_>, done: usize) -> Optio
     let len = size.saturating_sub(from).min(PART);
     let data = 2 * gate_room(stock.unit, stock.sector);
     match locate(stock.sector, data + from as u64, len, done) {
-        Located::Erase { place, len } => Some(erase_piece(place, len)),
+        Located::Erase { place, len } => Some(erase_piece(place, len, out)),
         Located::Program { from: behind } => {
             let more = (len - behind).min(MOST);
             let zeros = [0; 256];
             let fill = size - image.len();
-            Some(two_piece(data, image, &zeros[..fill], from + behind, more))
+            Some(two_piece(data, image, &zeros[..fill], from + behind, more, out))
         }
         Located::Behind { .. } => None,
     }
@@ -63,11 +69,16 @@ fn piece_of(found: Result<Piece, usize>) -> Option<Piece>
 }
 
 /// The next piece of the part of a format that is being carried out; None where it is. The flash has so many bytes.
-pub(crate) fn part_piece(formatting: &Formatting, size: usize, image: &[u8]) -> Option<Piece>
+pub(crate) fn part_piece(
+    formatting: &Formatting,
+    size: usize,
+    image: &[u8],
+    out: &mut [u8; 256],
+) -> Option<Piece>
     requires flash { size < 2 ^ 32 }
     requires image { length image.now ≤ 2 ^ 24 }
-    ensures some { IfSome result (λ p. IsPiece (part_left formatting.now size image.now) formatting.now.done (asked p)) }
-    ensures fits { IfSome result (λ p. IsFit formatting.now.sector.size p) }
+    ensures some { IfSome result (λ p. IsPiece (part_left formatting.now size image.now) formatting.now.done (asked p out.new)) }
+    ensures fits { IfSome result (λ p. IsFit formatting.now.sector.size p out.new) }
     ensures end { IfSome result (λ p. formatting.now.done + p.len ≤ 2 ^ 20) }
     ensures none { IfNone result (total (step_writes (part_left formatting.now size image.now)) ≤ formatting.now.done) }
 {
@@ -80,14 +91,15 @@ pub(crate) fn part_piece(formatting: &Formatting, size: usize, image: &[u8]) -> 
     };
     let done = formatting.done as usize;
     match formatting.phase {
-        Phase::CloseSecond => piece_of(close_piece((size / 2) as u32, &stock, done)),
-        Phase::CloseFirst => piece_of(close_piece(0, &stock, done)),
-        Phase::Image { from } => image_piece(from, image, &stock, done),
+        Phase::CloseSecond => piece_of(close_piece((size / 2) as u32, &stock, done, out)),
+        Phase::CloseFirst => piece_of(close_piece(0, &stock, done, out)),
+        Phase::Image { from } => image_piece(from, image, &stock, done, out),
         Phase::Header => {
             let len = image.len() as u32;
-            piece_of(header_piece(0, 0, len, formatting.register, &stock, done))
+            let register = formatting.register;
+            piece_of(header_piece(0, 0, len, register, &stock, done, out))
         }
-        Phase::Gate => piece_of(gate_piece(0, &stock, done)),
+        Phase::Gate => piece_of(gate_piece(0, &stock, done, out)),
         Phase::Ended => None,
     }
 }

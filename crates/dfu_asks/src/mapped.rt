@@ -40,6 +40,7 @@ impl<'m> Mapped<'m> {
     /// The same, by a sector that is one.
     pub(crate) fn with_sector(bytes: &'m [u8], unit: Unit, sector: Sector) -> Option<Mapped<'m>>
         ensures some { IfSome result (λ m. mapped (grain_of m.unit m.sector) m.bytes.now ≡ mapped (grain_of unit sector) bytes.now) }
+        ensures parts { IfSome result (λ m. (m.unit ≡ unit) × (m.sector ≡ sector) × (m.bytes.now ≡ bytes.now)) }
         ensures none { IfNone result (2 ^ 32 ≤ length bytes.now) }
     {
         if bytes.len() > 0xffff_ffff {

@@ -14,7 +14,8 @@ use dfu_slots::Unit;
 // The version of a header that is written.
 const VERSION: u8 = 2;
 
-/// A piece: the first `len` of its bytes are to be programmed at `at`, or the sector that begins there is to be erased.
+/// A piece: `len` bytes are to be programmed at `at`, or to be erased there. The call that gives it puts the bytes of a program at the
+/// front of the buffer that it is handed.
 #[derive(Clone, Copy, Drop)]
 pub struct Piece {
     /// Whether it erases: the `len` bytes there are FFh then.
@@ -23,8 +24,6 @@ pub struct Piece {
     pub at: u64,
     /// How many bytes it has: 1 to 256, or where it erases those of a sector.
     pub len: usize,
-    /// Its bytes, where it programs.
-    pub bytes: [u8; 256],
 }
 
 /// What the writes of a job are made of, beside the job: the unit, where the puts end, the bytes held back, and the block.
@@ -94,37 +93,37 @@ pub(crate) fn held_place(spare: u32, stock: &Stock<'_>) -> u64
     u64::from(spare) + 2 * gate_room(stock.unit, stock.sector) + at
 }
 
-/// The erase of so many bytes there.
-pub(crate) fn erase_piece(at: u64, len: usize) -> Piece
+/// The erase of so many bytes there; `out` has FFh then.
+pub(crate) fn erase_piece(at: u64, len: usize, out: &mut [u8; 256]) -> Piece
     requires some { 0 < len }
     requires small { at < 2 ^ 42 }
-    ensures step { asked result ≡ erase_step at len }
+    ensures step { asked result out.new ≡ erase_step at len }
     ensures len { result.len ≡ len }
-    ensures fits { IsFit len result }
+    ensures fits { IsFit len result out.new }
 {
+    *out = [0xff; 256];
     Piece {
         erases: true,
         at,
         len,
-        bytes: [0xff; 256],
     }
 }
 
 /// What is left of a write of at most 256 bytes, behind its first `done`.
-pub(crate) fn rest_of(at: u64, bytes: &[u8], done: usize) -> Piece
+pub(crate) fn rest_of(at: u64, bytes: &[u8], done: usize, out: &mut [u8; 256]) -> Piece
     requires some { done < length bytes.now }
     requires most { length bytes.now ≤ 256 }
     requires small { at < 2 ^ 40 }
-    ensures part { IsPart (program at bytes.now) done (asked result) }
-    ensures fits { IsFit 0 result }
+    ensures part { IsPart (program at bytes.now) done (asked result out.new) }
+    ensures fits { IsFit 0 result out.new }
     ensures len { done + result.len ≡ length bytes.now }
 {
     let rest = &bytes[done..];
+    out[..rest.len()].copy_from_slice(rest);
     Piece {
         erases: false,
         at: at + done as u64,
         len: rest.len(),
-        bytes: fill_up(rest),
     }
 }
 
@@ -147,45 +146,56 @@ pub(crate) fn copy_joined(held: &[u8], block: &[u8], from: usize, out: &mut [u8]
 
 /// So many bytes of two slices, of which one stands behind the other, from there on, where the first of all goes to `at`.
 #[inline(never)]
-pub(crate) fn two_piece(at: u64, front: &[u8], back: &[u8], done: usize, len: usize) -> Piece
+pub(crate) fn two_piece(
+    at: u64,
+    front: &[u8],
+    back: &[u8],
+    done: usize,
+    len: usize,
+    out: &mut [u8; 256],
+) -> Piece
     requires small { at < 2 ^ 40 }
     requires short { length front.now + length back.now < 2 ^ 32 }
     requires within { done + len ≤ length front.now + length back.now }
     requires some { 0 < len }
     requires most { len ≤ 256 }
-    ensures kind { (asked result).erases ≡ false }
-    ensures place { (asked result).write.at ≡ at + done }
-    ensures count { length (asked result).write.bytes ≡ len }
-    ensures bytes { (asked result).write.bytes ≡ slice_range (front.now ++ back.now) done (done + len) }
+    ensures kind { (asked result out.new).erases ≡ false }
+    ensures place { (asked result out.new).write.at ≡ at + done }
+    ensures count { length (asked result out.new).write.bytes ≡ len }
+    ensures bytes { (asked result out.new).write.bytes ≡ slice_range (front.now ++ back.now) done (done + len) }
     ensures len { result.len ≡ len }
-    ensures fits { IsFit 0 result }
+    ensures fits { IsFit 0 result out.new }
 {
-    let mut bytes = [0; 256];
-    copy_joined(front, back, done, &mut bytes[..len]);
+    copy_joined(front, back, done, &mut out[..len]);
     Piece {
         erases: false,
         at: at + done as u64,
         len,
-        bytes,
     }
 }
 
 /// So many bytes of those held and of the block behind them, in the same way.
-pub(crate) fn joined_piece(at: u64, stock: &Stock<'_>, done: usize, len: usize) -> Piece
+pub(crate) fn joined_piece(
+    at: u64,
+    stock: &Stock<'_>,
+    done: usize,
+    len: usize,
+    out: &mut [u8; 256],
+) -> Piece
     requires small { at < 2 ^ 40 }
     requires held { length stock.now.held.now ≤ 256 }
     requires block { length stock.now.block.now ≤ 4096 }
     requires within { done + len ≤ length stock.now.held.now + length stock.now.block.now }
     requires some { 0 < len }
     requires most { len ≤ 256 }
-    ensures kind { (asked result).erases ≡ false }
-    ensures place { (asked result).write.at ≡ at + done }
-    ensures count { length (asked result).write.bytes ≡ len }
-    ensures bytes { (asked result).write.bytes ≡ slice_range (stock.now.held.now ++ stock.now.block.now) done (done + len) }
+    ensures kind { (asked result out.new).erases ≡ false }
+    ensures place { (asked result out.new).write.at ≡ at + done }
+    ensures count { length (asked result out.new).write.bytes ≡ len }
+    ensures bytes { (asked result out.new).write.bytes ≡ slice_range (stock.now.held.now ++ stock.now.block.now) done (done + len) }
     ensures len { result.len ≡ len }
-    ensures fits { IsFit 0 result }
+    ensures fits { IsFit 0 result out.new }
 {
-    two_piece(at, stock.held, stock.block, done, len)
+    two_piece(at, stock.held, stock.block, done, len, out)
 }
 
 /// How many bytes a `put` writes first, by themselves: of the unit that the held bytes begin.

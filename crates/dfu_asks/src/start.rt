@@ -1,84 +1,134 @@
-//! What is to be written of a row, by the slot store before it.
-ghost use Rattle.std.specs.Prelude.{◌≡◌, ◌+◌, ◌≤◌, ◌==◌, ◌&&◌, ◌++◌, not, length, take, slice_range};
+//! What is to be written of a row that begins.
+ghost use Rattle.std.specs.Prelude.{◌≡◌, ◌⊎◌, ◌+◌, ◌≤◌, ◌++◌, true, ℕ, List, Option, length, take, slice_range, Some};
 ghost use Rattle.dfu_suffix.specs.Register.{register};
-ghost use Rattle.dfu_slots.specs.Layout.{generation, next_generation};
-ghost use Rattle.dfu_slots.specs.Image.{gate_of, spare_at};
-ghost use Rattle.dfu_slots.specs.Seen.{active_slot, spare_of, is_begun};
+ghost use Rattle.dfu_device.specs.Parts.{stage_of, is_put};
+ghost use Rattle.dfu_asks.specs.declared.work.Work.{Work};
+ghost use Rattle.dfu_asks.specs.Mapped.{grain_of, mapped};
+ghost use Rattle.dfu_asks.specs.Noted.{IsView};
+ghost use Rattle.dfu_asks.specs.Lent.{lent, IsSetUpAs};
+ghost use Rattle.dfu_asks.specs.Due.{IsDueStage};
+ghost use Rattle.dfu_asks.specs.Asks.{device_in, store_in, IsDevice, IsBlockJob, IsCommitJob, IsJobOf};
+ghost use Rattle.dfu_asks.specs.Calls.{Comes, HasAtMost};
 
-use crate::piece::gate_room;
-use crate::{Job, Mapped};
-use dfu_slots::{Medium, Slots};
+use crate::view::View;
+use crate::{Asking, Job, Mapped, Reply, Work};
+use dfu_device::Mode;
+use dfu_slots::{data_at, is_open};
 use dfu_suffix::Crc;
 
-/// Where the spare slot begins.
-pub(crate) fn spare_place(slots: &Slots<Mapped<'_>>) -> u32
-    ensures { result ≡ spare_at (gate_of slots.now.medium) slots.now.medium.bytes }
-{
-    if slots.is_first() {
-        slots.medium().len() / 2
-    } else {
-        0
-    }
-}
-
-/// The job of a block behind so many bytes.
-pub(crate) fn block_job(slots: &Slots<Mapped<'_>>, written: u32) -> Job
-    ensures { result ≡ Job.Block (spare_at (gate_of slots.now.medium) slots.now.medium.bytes)
-        ((written == 0) && not (is_begun slots.now)) }
-{
-    Job::Block {
-        spare: spare_place(slots),
-        close: written == 0 && !slots.is_begun(),
-    }
-}
-
-// The register over bytes of flash, and these behind them.
-fn register_of(medium: &Mapped<'_>, from: usize, size: usize, held: &[u8]) -> u32
-    requires { from + size ≤ length medium.now.bytes.now }
-    ensures { result ≡ register (slice_range medium.now.bytes.now from (from + size) ++ held.now) }
+// The register over bytes of flash, and these after them.
+fn register_of(flash: &[u8], from: usize, size: usize, held: &[u8]) -> u32
+    requires { from + size ≤ length flash.now }
+    ensures { result ≡ register (slice_range flash.now from (from + size) ++ held.now) }
 {
     let mut crc = Crc::new();
-    crc.update_small(&medium.bytes[from..from + size]);
+    crc.update_small(&flash[from..from + size]);
     crc.update_small(held);
     crc.value()
 }
 
-// The generation of the next image.
-fn next_generation(slots: &Slots<Mapped<'_>>) -> u8
-    ensures { result ≡ next_generation (generation (active_slot slots.now)) }
-{
-    // Called for its clauses, which say where the slots lie.
-    let _ = slots.capacity();
-    let medium = slots.medium();
-    let active = if slots.is_first() {
-        0
-    } else {
-        medium.len() / 2
-    };
-    let mut byte = [0];
-    medium.read(
-        active + gate_room(medium.unit, medium.sector) as u32,
-        &mut byte,
-    );
-    byte[0].wrapping_add(1)
-}
+impl Asking {
+    // The job of a commit of all that was put.
+    fn commit_job(&self, held: &[u8; 256], medium: &Mapped<'_>, view: View) -> Job
+        requires unit { medium.now.unit ≡ self.now.unit }
+        requires sector { medium.now.sector ≡ self.now.sector }
+        requires view { IsView view self.now.noted (mapped (grain_of self.now.unit self.now.sector) medium.now.bytes.now) }
+        requires end { self.now.put_end ≤ view.room }
+        requires held { self.now.held_len ≤ self.now.put_end }
+        ensures { (block : List ℕ) → let a = lent self.now block held.now in IsDevice a medium.now.bytes.now →
+            IsCommitJob self.now.put_end (store_in a medium.now.bytes.now) result self.now.put_end a.held }
+    {
+        let from = data_at(medium, view.spare) as usize;
+        let size = self.put_end as usize - self.held_len;
+        Job::Commit {
+            spare: view.spare,
+            generation: self.noted.header[0].wrapping_add(1),
+            register: register_of(medium.bytes, from, size, &held[..self.held_len]),
+        }
+    }
 
-/// The job of a commit of all that was put.
-pub(crate) fn commit_job(slots: &Slots<Mapped<'_>>) -> Job
-    ensures { result ≡ Job.Commit (spare_at (gate_of slots.now.medium) slots.now.medium.bytes)
-        (next_generation (generation (active_slot slots.now))) (register (take slots.now.put_end (spare_of slots.now))) }
-{
-    // Called for its clauses, which say where the slots lie.
-    let _ = slots.capacity();
-    let medium = slots.medium();
-    let held = slots.held();
-    let end = slots.put_end();
-    let spare = spare_place(slots);
-    let from = spare as usize + 2 * gate_room(medium.unit, medium.sector) as usize;
-    let register = register_of(medium, from, end as usize - held.len(), held);
-    Job::Commit {
-        spare,
-        generation: next_generation(slots),
-        register,
+    // The job of a block behind so many bytes, and how many bytes are held back and where the puts end then: before a first block what was
+    // put is forgotten.
+    fn block_job(&self, written: u32, medium: &Mapped<'_>, view: View) -> (Job, usize, u32)
+        requires unit { medium.now.unit ≡ self.now.unit }
+        requires sector { medium.now.sector ≡ self.now.sector }
+        requires view { IsView view self.now.noted (mapped (grain_of self.now.unit self.now.sector) medium.now.bytes.now) }
+        ensures job { (block held : List ℕ) → let s = store_in (lent self.now block held) medium.now.bytes.now in
+            IsDevice (lent self.now block held) medium.now.bytes.now → (written ≡ 0) ⊎ (is_put written s ≡ true) →
+            IsBlockJob written s result.0 result.2 (take result.1 held) }
+        ensures few { result.1 ≤ 256 }
+    {
+        if written == 0 {
+            let job = Job::Block {
+                spare: view.spare,
+                close: is_open(medium, view.spare),
+            };
+            return (job, 0, 0);
+        }
+        let job = Job::Block {
+            spare: view.spare,
+            close: false,
+        };
+        (job, self.held_len, self.put_end)
+    }
+
+    // The job of the row that is due, and what is held back and put then.
+    fn begin_job(&self, held: &[u8; 256], medium: &Mapped<'_>, view: View) -> (Job, usize, u32)
+        requires unit { medium.now.unit ≡ self.now.unit }
+        requires sector { medium.now.sector ≡ self.now.sector }
+        requires view { IsView view self.now.noted (mapped (grain_of self.now.unit self.now.sector) medium.now.bytes.now) }
+        requires end { self.now.put_end ≤ view.room }
+        requires held { self.now.held_len ≤ self.now.put_end }
+        ensures due { (block spare unwritten : List ℕ) (asked : Option ℕ) (len : ℕ) → let a = lent self.now block held.now in
+            IsDevice a medium.now.bytes.now → IsDueStage (stage_of self.now.mode spare unwritten) asked len →
+            IsJobOf self.now.mode (store_in a medium.now.bytes.now) result.0 result.2 (take result.1 held.now) }
+        ensures few { result.1 ≤ 256 }
+    {
+        match self.mode {
+            Mode::DownloadSync { written, .. } => self.block_job(written, medium, view),
+            Mode::DownloadBusy { written, .. } => self.block_job(written, medium, view),
+            _ => (
+                self.commit_job(held, medium, view),
+                self.held_len,
+                self.put_end,
+            ),
+        }
+    }
+
+    /// Begins the work of the row that is due.
+    pub(crate) fn start(
+        &mut self,
+        asked: Option<u16>,
+        block: &[u8],
+        held: &mut [u8; 256],
+        medium: &Mapped<'_>,
+        view: View,
+        out: &mut [u8],
+    ) -> Reply
+        requires room { 6 ≤ length out.old }
+        requires unit { medium.now.unit ≡ self.old.unit }
+        requires sector { medium.now.sector ≡ self.old.sector }
+        requires view { IsView view self.old.noted (mapped (grain_of self.old.unit self.old.sector) medium.now.bytes.now) }
+        requires end { self.old.put_end ≤ view.room }
+        requires held { self.old.held_len ≤ self.old.put_end }
+        ensures outcome { let a = lent self.old block.now held.old in
+            let flash = medium.now.bytes.now in
+            let d = device_in a flash in
+            (len : ℕ) → IsDevice a flash → IsDueStage d.stage asked len →
+            Comes d len (store_in a flash) flash flash out.old (lent self.new block.now held.new) out.new result }
+        ensures first { result ≡ Reply.Asks → (w : Work) × (self.new.work ≡ Some w) × (w.done ≡ 0) }
+        ensures few { HasAtMost 6 result }
+        ensures same { IsSetUpAs self.old self.new }
+        ensures block { self.new.block_len ≡ self.old.block_len }
+    {
+        let (job, held_len, put_end) = self.begin_job(held, medium, view);
+        self.held_len = held_len;
+        self.put_end = put_end;
+        let work = Work {
+            job,
+            asked,
+            done: 0,
+        };
+        self.advance(work, block, held, medium.bytes, out)
     }
 }

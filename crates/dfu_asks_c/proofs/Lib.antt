@@ -1,6 +1,4 @@
 pub mod Kept
-pub mod Whole
-pub mod Idle
 pub mod Found
 pub mod Handed
 pub mod Formatted

@@ -1,12 +1,13 @@
 //! The calls for a device that asks, as a program in C makes them: `include/dfu_asking.h` says each for a reader of C.
-ghost use Rattle.std.specs.Prelude.{◌≡◌, ◌⊎◌, ◌<◌, [], ℕ, List, pos, length, replicate};
+ghost use Rattle.std.specs.Prelude.{◌≡◌, ◌⊎◌, ◌<◌, [], ℕ, List, pos, length, None};
 ghost use Rattle.dfu_device.specs.Rows.{Handles, Elapses};
 ghost use Rattle.dfu_device.specs.Table.{reset_stage};
 ghost use Rattle.dfu_device.specs.Lent.{answer_room};
-ghost use Rattle.dfu_asks.specs.Asks.{device_in, IsDevice};
+ghost use Rattle.dfu_asks.specs.Asks.{device_in};
 ghost use Rattle.dfu_c_parts.specs.Config.{setting_of};
-ghost use Rattle.dfu_asks_c.specs.Numbers.{reply_number, passed_number, NO_ROOM};
-ghost use Rattle.dfu_asks_c.specs.Calls.{Goes, Replied, Refuses, HasNoRoom};
+ghost use Rattle.dfu_asks_c.specs.Numbers.{refusal_of, reply_number, NO_ROOM};
+ghost use Rattle.dfu_asks_c.specs.Asking.{with_memory};
+ghost use Rattle.dfu_asks_c.specs.Calls.{Goes, Replied, Passed, Refuses, HasNoRoom, IsIntact};
 
 use crate::asking::DfuAsking;
 use crate::keeping::{found, keep};
@@ -14,22 +15,23 @@ use crate::numbers;
 use crate::refusal::Refusal;
 use dfu_asks::Reply;
 use dfu_c_parts::DfuConfig;
-use dfu_device::{Answer, LentBlock};
+use dfu_device::Answer;
 
-// The refusal of a call of a device that asks, of which no writes are due.
+// The refusal of a call of a device that asks.
 fn refused(refusal: dfu_asks::Refusal) -> Refusal
-    ensures { (result ≡ Refusal.NoMedium) ⊎ (result ≡ Refusal.NoDevice) }
+    ensures { result ≡ refusal_of refusal }
 {
     match refusal {
+        dfu_asks::Refusal::Asked => Refusal::Asked,
         dfu_asks::Refusal::NoMedium => Refusal::NoMedium,
         _ => Refusal::NoDevice,
     }
 }
 
-/// Answers a setup with its body, as `Asking::handle`: how many bytes of the answer stand in `out`, or -1 for a stall; or -11,
-/// where its writes are due now.
+/// Answers a setup with its body, as `Asking::handle`: how many bytes of the answer stand in `out`, or -1 for a stall; or -11
+/// if its writes are due now.
 ///
-/// Refused with -5 where `out` has less room than an answer may need; then as every call.
+/// Refused with -5 if `out` has less room than an answer may need; then as every call.
 #[unsafe(no_mangle)]
 pub extern "C" fn dfu_asking_handle(
     config: &DfuConfig,
@@ -40,9 +42,11 @@ pub extern "C" fn dfu_asking_handle(
     body: &[u8],
     out: &mut [u8],
 ) -> i32
-    ensures outcome { Goes config.now device.old block.old device.new (λ a a'. Replied a flash.now out.old
-        (λ x sent d'. Handles setup.now body.now (device_in a flash.now) x sent d') reply_number result a' out.new)
-        ⊎ (Refuses config.now device.old block.old result device.new block.new × (out.new ≡ out.old))
+    ensures outcome { Goes config.now device.old block.old device.new block.new
+        (λ a a'. let before = with_memory device.old block.old a in Replied (IsIntact device.old block.old flash.now a) before flash.now out.old
+        (λ x sent d'. Handles setup.now body.now (device_in before flash.now) x sent d') reply_number result
+        (with_memory device.new block.new a') out.new)
+        ⊎ (Refuses config.now device.old block.old flash.now result device.new block.new × (out.new ≡ out.old))
         ⊎ HasNoRoom (answer_room (setting_of config.now)) device.old block.old out.old result device.new block.new out.new }
     ensures short { length out.old < answer_room (setting_of config.now) → result ≡ NO_ROOM }
 {
@@ -53,28 +57,20 @@ pub extern "C" fn dfu_asking_handle(
         Ok(asking) => asking,
         Err(refusal) => return refusal.number(),
     };
-    if asking.work.is_some() {
-        return Refusal::Asked.number();
-    }
-    asking.block = LentBlock {
-        memory: block,
-        len: usize::from(device.device.length),
-    };
-    let room = out.len().min(0xffff);
-    match asking.handle(flash, setup, body, &mut out[..room]) {
+    match asking.handle(block, &mut device.device.held, flash, setup, body, out) {
         Ok(Reply::Asks) => {
             keep(&asking, device);
             numbers::ASKS
         }
         Ok(Reply::Answered(answer, count)) => {
             keep(&asking, device);
-            numbers::number_of(answer, count.min(0xffff))
+            numbers::number_of(answer, count)
         }
         Err(refusal) => refused(refusal).number(),
     }
 }
 
-/// So many milliseconds pass, as `Asking::elapse`: 0; or -11, where writes are due now.
+/// So many milliseconds pass, as `Asking::elapse`: 0; or -11 if writes are due now.
 #[unsafe(no_mangle)]
 pub extern "C" fn dfu_asking_elapse(
     config: &DfuConfig,
@@ -83,22 +79,17 @@ pub extern "C" fn dfu_asking_elapse(
     flash: &[u8],
     ms: u32,
 ) -> i32
-    ensures outcome { Goes config.now device.old block.old device.new (λ a a'. (out : List ℕ) × Replied a flash.now (replicate 6 0)
-        (λ x sent d'. (x ≡ Answer.Ack) × (sent ≡ []) × Elapses ms (device_in a flash.now) d') passed_number result a' out)
-        ⊎ Refuses config.now device.old block.old result device.new block.new }
+    ensures outcome { Goes config.now device.old block.old device.new block.new
+        (λ a a'. let before = with_memory device.old block.old a in Passed (IsIntact device.old block.old flash.now a) before flash.now
+        (λ x sent d'. (x ≡ Answer.Ack) × (sent ≡ []) × Elapses ms (device_in before flash.now) d') result
+        (with_memory device.new block.new a'))
+        ⊎ Refuses config.now device.old block.old flash.now result device.new block.new }
 {
     let mut asking = match found(config, device, block.len()) {
         Ok(asking) => asking,
         Err(refusal) => return refusal.number(),
     };
-    if asking.work.is_some() {
-        return Refusal::Asked.number();
-    }
-    asking.block = LentBlock {
-        memory: block,
-        len: usize::from(device.device.length),
-    };
-    match asking.elapse(flash, ms) {
+    match asking.elapse(block, &mut device.device.held, flash, ms) {
         Ok(Reply::Asks) => {
             keep(&asking, device);
             numbers::ASKS
@@ -119,22 +110,17 @@ pub extern "C" fn dfu_asking_usb_reset(
     block: &mut [u8],
     flash: &[u8],
 ) -> i32
-    ensures outcome { Goes config.now device.old block.old device.new (λ a a'. (device_in a' flash.now
-        ≡ record (device_in a flash.now) { stage = reset_stage (device_in a flash.now).stage }) × IsDevice a' flash.now × (result ≡ pos 0))
-        ⊎ Refuses config.now device.old block.old result device.new block.new }
+    ensures outcome { Goes config.now device.old block.old device.new block.new
+        (λ a a'. let before = device_in (with_memory device.old block.old a) flash.now in (result ≡ pos 0) × (a'.work ≡ None)
+        × (device_in (with_memory device.new block.new a') flash.now ≡ record before { stage = reset_stage before.stage })
+        × (IsIntact device.old block.old flash.now a → IsIntact device.new block.new flash.now a'))
+        ⊎ Refuses config.now device.old block.old flash.now result device.new block.new }
 {
     let mut asking = match found(config, device, block.len()) {
         Ok(asking) => asking,
         Err(refusal) => return refusal.number(),
     };
-    if asking.work.is_some() {
-        return Refusal::Asked.number();
-    }
-    asking.block = LentBlock {
-        memory: block,
-        len: usize::from(device.device.length),
-    };
-    match asking.usb_reset(flash) {
+    match asking.usb_reset(block, &device.device.held, flash) {
         Ok(_) => {
             keep(&asking, device);
             0

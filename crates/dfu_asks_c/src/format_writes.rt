@@ -69,14 +69,12 @@ pub extern "C" fn dfu_asking_format_next(
     let Some(formatting) = formatting_of(config, device) else {
         return -4;
     };
-    let Some(piece) = formatting.next(flash, image) else {
+    let Some(piece) = formatting.next(flash, image, &mut ask.bytes) else {
         return -4;
     };
     ask.kind = kind_of(piece.erases);
     ask.at = piece.at as u32;
     ask.length = piece.len as u32;
-    let bytes = piece.bytes;
-    ask.bytes = bytes;
     0
 }
 

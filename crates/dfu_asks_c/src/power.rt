@@ -1,46 +1,14 @@
 //! A device that asks gets power, and where the image stands that it is to run.
 ghost use Rattle.std.specs.Prelude.{◌≡◌, ◌⊎◌, ◌≤◌, ◌^◌, [], length, IfSome, IfNone, Some, None, if◌then◌else◌, ◌==◌};
 ghost use Rattle.dfu_slots.specs.Image.{HasImage};
-ghost use Rattle.dfu_device.specs.Shown.{powered_on};
 ghost use Rattle.dfu_asks.specs.Mapped.{mapped};
-ghost use Rattle.dfu_asks.specs.Asks.{block_in, device_in, IsDevice};
 ghost use Rattle.dfu_asks_c.specs.Power.{IsThere, IsNoMedium, Powers, RefusesPower, Stands};
 
 use crate::asking::DfuAsking;
 use crate::keeping::keep;
-use arrayvec::ArrayVec;
 use dfu_asks::{Asking, Mapped, Sector};
 use dfu_c_parts::{DfuConfig, DfuDevice, DfuPlace, VERSION, config_of, is_allowed, unit_of};
-use dfu_device::{Config, LentBlock, Mode};
 use dfu_slots::{Slots, Unit};
-
-// A device that gets power on flash with an active image, and has no block.
-fn powered<'b>(config: Config, unit: Unit, sector: Sector, flash: &[u8]) -> Option<Asking<'b>>
-    ensures device { let m = mapped (record { unit = unit; sector = sector.size }) flash.now in
-        IfSome result (λ a. device_in a flash.now ≡ powered_on config m) }
-    ensures is { IfSome result (λ a. IsDevice a flash.now) }
-    ensures parts { IfSome result (λ a. (a.work ≡ None) × (a.unit ≡ unit) × (a.config ≡ config)) }
-    ensures block { IfSome result (λ a. (a.block.len ≡ 0) × (block_in a ≡ [])) }
-    ensures none { IfNone result (IsNoMedium (record { unit = unit; sector = sector.size }) flash.now) }
-{
-    let medium = Mapped::with_sectors(flash, unit, sector.size())?;
-    match Slots::open(medium) {
-        Ok(_) => Some(Asking {
-            config,
-            unit,
-            sector,
-            mode: Mode::AppIdle,
-            block: LentBlock {
-                memory: &mut [],
-                len: 0,
-            },
-            held: ArrayVec::new(),
-            put_end: 0,
-            work: None,
-        }),
-        Err(_) => None,
-    }
-}
 
 /// A record in which all is 0 but its version.
 pub(crate) fn blank() -> DfuAsking {
@@ -89,7 +57,7 @@ pub extern "C" fn dfu_asking_power_on(
     let Some(erased) = Sector::new(sector) else {
         return -13;
     };
-    match powered(setting, unit_of(config), erased, flash) {
+    match Asking::power_on(setting, unit_of(config), erased, flash) {
         Some(asking) => {
             *device = blank();
             keep(&asking, device);

@@ -1,7 +1,9 @@
 //! The writes that are due: the next one, and how it went.
-ghost use Rattle.std.specs.Prelude.{◌≡◌, ◌⊎◌, IsSome, not, ◌==◌, if◌then◌else◌};
-ghost use Rattle.dfu_asks_c.specs.Calls.{Goes, Went, WasLent, HasNoRoom};
-ghost use Rattle.dfu_asks_c.specs.Writes.{HandsOut, RefusesPiece, IsAtWork};
+ghost use Rattle.std.specs.Prelude.{◌≡◌, ◌⊎◌, ◌<◌, not, ◌==◌, length, if◌then◌else◌};
+ghost use Rattle.dfu_asks_c.specs.Calls.{Goes, Went, HasNoRoom};
+ghost use Rattle.dfu_asks_c.specs.Numbers.{NO_ROOM};
+ghost use Rattle.dfu_asks_c.specs.Asking.{with_memory};
+ghost use Rattle.dfu_asks_c.specs.Writes.{HandsOut, RefusesPiece, IsHeldBack, IsAtWork};
 
 use crate::ask::DfuAsk;
 use crate::asking::DfuAsking;
@@ -10,7 +12,6 @@ use crate::numbers;
 use crate::refusal::Refusal;
 use dfu_asks::Reply;
 use dfu_c_parts::DfuConfig;
-use dfu_device::LentBlock;
 
 // DFU_ERASE and DFU_PROGRAM.
 const ERASE: u32 = 1;
@@ -31,35 +32,27 @@ pub(crate) fn kind_of(erases: bool) -> u32
 pub extern "C" fn dfu_asking_next(
     config: &DfuConfig,
     device: &DfuAsking,
-    block: &mut [u8],
+    block: &[u8],
     flash: &[u8],
     ask: &mut DfuAsk,
 ) -> i32
-    ensures outcome { HandsOut config.now device.now block.old flash.now result ask.new
-        ⊎ (RefusesPiece config.now device.now block.old (λ a. Unit {0}) result × (ask.new ≡ ask.old)) }
+    ensures outcome { HandsOut config.now device.now block.now flash.now result ask.new
+        ⊎ (RefusesPiece config.now device.now block.now (λ a. IsHeldBack (with_memory device.now block.now a) flash.now) result
+        × (ask.new ≡ ask.old)) }
 {
-    let mut asking = match found(config, device, block.len()) {
+    let asking = match found(config, device, block.len()) {
         Ok(asking) => asking,
         Err(refusal) => return refusal.number(),
     };
-    if !asking.work.is_some() {
+    if flash.len() > 0xffff_ffff {
         return Refusal::NoDevice.number();
     }
-    asking.block = LentBlock {
-        memory: block,
-        len: usize::from(device.device.length),
-    };
-    let Some(piece) = asking.next(flash) else {
+    let Some(piece) = asking.next(block, &device.device.held, flash, &mut ask.bytes) else {
         return Refusal::NoDevice.number();
     };
-    if piece.at > 0xffff_ffff || piece.len > 131_072 {
-        return Refusal::NoDevice.number();
-    }
     ask.kind = kind_of(piece.erases);
     ask.at = piece.at as u32;
     ask.length = piece.len as u32;
-    let bytes = piece.bytes;
-    ask.bytes = bytes;
     0
 }
 
@@ -71,17 +64,18 @@ pub extern "C" fn dfu_asking_next(
 pub extern "C" fn dfu_asking_took(
     config: &DfuConfig,
     device: &mut DfuAsking,
-    block: &mut [u8],
+    block: &[u8],
     flash: &[u8],
     failed: u32,
     out: &mut [u8],
 ) -> i32
-    ensures outcome { Goes config.now device.old block.old device.new
-        (λ a a'. Went a flash.now (not (failed == 0)) out.old result a' out.new)
-        ⊎ (RefusesPiece config.now device.old block.old (λ a. ¬ IsAtWork a) result
-        × (device.new ≡ device.old) × ((block.new ≡ block.old) ⊎ WasLent config.now device.old block.old (λ a. IsSome a.work))
-        × (out.new ≡ out.old))
-        ⊎ HasNoRoom 6 device.old block.old out.old result device.new block.new out.new }
+    ensures outcome { Goes config.now device.old block.now device.new block.now
+        (λ a a'. Went (with_memory device.old block.now a) flash.now (not (failed == 0)) out.old result (with_memory device.new block.now a')
+        out.new)
+        ⊎ (RefusesPiece config.now device.old block.now (λ a. ¬ IsAtWork (with_memory device.old block.now a)) result
+        × (device.new ≡ device.old) × (out.new ≡ out.old))
+        ⊎ HasNoRoom 6 device.old block.now out.old result device.new block.now out.new }
+    ensures short { length out.old < 6 → result ≡ NO_ROOM }
 {
     if out.len() < 6 {
         return numbers::NO_ROOM;
@@ -90,21 +84,14 @@ pub extern "C" fn dfu_asking_took(
         Ok(asking) => asking,
         Err(refusal) => return refusal.number(),
     };
-    if !asking.work.is_some() {
-        return Refusal::NoDevice.number();
-    }
-    asking.block = LentBlock {
-        memory: block,
-        len: usize::from(device.device.length),
-    };
-    match asking.took(flash, failed != 0, &mut out[..6]) {
+    match asking.took(block, &mut device.device.held, flash, failed != 0, out) {
         Ok(Reply::Asks) => {
             keep(&asking, device);
             numbers::ASKS
         }
         Ok(Reply::Answered(answer, count)) => {
             keep(&asking, device);
-            numbers::number_of(answer, count.min(6))
+            numbers::number_of(answer, count)
         }
         Err(_) => Refusal::NoDevice.number(),
     }

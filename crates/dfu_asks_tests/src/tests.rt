@@ -1,9 +1,15 @@
 //! Devices that ask for their writes, over flash in memory that the tests write.
 
+mod board;
 mod chip;
+mod composed;
 mod cuts;
+mod faded;
 mod formats;
+mod renoted;
 mod rows;
+mod trouble;
+mod untrue;
 
 use dfu_device::Config;
 use dfu_wire::{Functional, Ids};
@@ -16,6 +22,14 @@ const IDS: Ids = Ids {
 };
 
 const GET_STATUS: [u8; 8] = [0xa1, 3, 0, 0, 0, 0, 6, 0];
+
+const GET_STATE: [u8; 8] = [0xa1, 5, 0, 0, 0, 0, 1, 0];
+
+const UPLOAD: [u8; 8] = [0xa1, 2, 0, 0, 0, 0, 8, 0];
+
+const CLR_STATUS: [u8; 8] = [0x21, 4, 0, 0, 0, 0, 0, 0];
+
+const ABORT: [u8; 8] = [0x21, 6, 0, 0, 0, 0, 0, 0];
 
 const DETACH: [u8; 8] = [0x21, 0, 0xff, 0, 0, 0, 0, 0];
 

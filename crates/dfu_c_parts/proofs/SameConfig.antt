@@ -62,14 +62,3 @@ done_grain (Commits taken reply stage bad) len d a out d' (inr (fault, says, don
 pub handled_grain : (setup body : List ℕ) (d : Shown) (a : Answer) (out : List ℕ) (d' : Shown)
     → Handles setup body d a out d' → d'.slots.medium.grain ≡ d.slots.medium.grain
 handled_grain setup body d a out d' (handled_as p q is asks done) = done_grain _ _ d a out d' done
-
--- A device has the same configuration and the same unit as before.
-abbrev pub IsSetSame : Shown → Shown → Type 0
-IsSetSame d d' = (d'.config ≡ d.config) × (d'.slots.medium.grain ≡ d.slots.medium.grain)
-
-pub done_same : (plan : Plan) (len : ℕ) (d : Shown) (a : Answer) (out : List ℕ) (d' : Shown) → Done plan len d a out d' → IsSetSame d d'
-done_same plan len d a out d' done = (done_config plan len d a out d' done, done_grain plan len d a out d' done)
-
-pub handled_same : (setup body : List ℕ) (d : Shown) (a : Answer) (out : List ℕ) (d' : Shown) → Handles setup body d a out d'
-    → IsSetSame d d'
-handled_same setup body d a out d' row = (handled_config setup body d a out d' row, handled_grain setup body d a out d' row)

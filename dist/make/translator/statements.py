@@ -32,7 +32,9 @@ class Statements(Memory, Sums, Ends):
         if written[0] == "%":
             return Expression(self.name_of(written))
         if type[0] == "{":
-            them = [self.value(*it.split(" ", 1)).text for it in written[2:-2].split(", ")] if written != "poison" else ["0", "0"]
+            if written in ("poison", "zeroinitializer"):
+                return Expression(f"({c_type(type)}){{ 0, 0 }}", CAST)
+            them = [self.value(*it.split(" ", 1)).text for it in written[2:-2].split(", ")]
             return Expression(f"({c_type(type)}){{ {', '.join(them)} }}", CAST)
         if written in ("null", "poison") and type == "ptr":
             return Expression("NULL")

@@ -11,7 +11,7 @@ NAME = f"%{LABEL}"
 TABLE = r'@(?:static\.[0-9]+|switch\.table\.[A-Za-z0-9._]+|"switch\.table\.[^"]+")'
 FUNCTION = r'@"[^"]+"'
 SIMPLE = rf"(?:{NAME}|-?[0-9]+|true|false|null|poison|{TABLE}|ptrtoint \(ptr {TABLE} to i64\))"
-VALUE = rf"(?:{SIMPLE}|\{{ {PLAIN} {SIMPLE}, {PLAIN} {SIMPLE} \}})"
+VALUE = rf"(?:{SIMPLE}|zeroinitializer|\{{ {PLAIN} {SIMPLE}, {PLAIN} {SIMPLE} \}})"
 PARAMETER = rf"{TYPE} %a[0-9]+"
 
 # What a module promises of a value, beside its type. C is not told: it holds of every run, as it is proved.

@@ -75,8 +75,60 @@ impl Chip {
         })
     }
 
-    /// A piece comes to this.
-    pub fn meet(&mut self, rt: &impl Abort, piece: &Piece, fate: Fate) {
+    /// Where the header of the second slot is, or of the first one.
+    pub fn header_at(&self, second: bool) -> usize {
+        self.at(second).saturating_add(self.gate())
+    }
+
+    /// Where the image of the second slot begins, or of the first one.
+    pub fn image_at(&self, second: bool) -> usize {
+        self.header_at(second).saturating_add(self.gate())
+    }
+
+    /// Where the second slot begins, or the first one.
+    pub fn at(&self, second: bool) -> usize {
+        if second { self.flash.len() / 2 } else { 0 }
+    }
+
+    // How many bytes the gate of a slot has for itself, and as many its header.
+    fn gate(&self) -> usize {
+        self.kind.unit.size().max(self.kind.sector).max(16) as usize
+    }
+
+    /// The header of the second slot, or of the first one.
+    pub fn header(&self, rt: &impl Abort, second: bool) -> [u8; 16] {
+        let mut header = [0; 16];
+        for i in 0..16 {
+            header[i] = self.byte(rt, self.header_at(second).saturating_add(i));
+        }
+        header
+    }
+
+    /// The byte that stands there.
+    pub fn byte(&self, rt: &impl Abort, at: usize) -> u8 {
+        match self.flash.get(at) {
+            Some(byte) => *byte,
+            None => panic!(rt; "outside the flash"),
+        }
+    }
+
+    /// These bits of the byte that stands there turn.
+    pub fn turn(&mut self, rt: &impl Abort, at: usize, bits: u8) {
+        match self.flash.get_mut(at) {
+            Some(byte) => *byte ^= bits,
+            None => panic!(rt; "outside the flash"),
+        }
+    }
+
+    /// Whether a piece lies in the second slot, or in the first one.
+    pub fn is_in(&self, piece: Piece, second: bool) -> bool {
+        let from = self.at(second) as u64;
+        let to = from.saturating_add(self.at(true) as u64);
+        from <= piece.at && piece.at.saturating_add(piece.len as u64) <= to
+    }
+
+    /// A piece, which programs these bytes, comes to this.
+    pub fn meet(&mut self, rt: &impl Abort, piece: Piece, bytes: &[u8; 256], fate: Fate) {
         for i in 0..piece.len {
             let place = (piece.at as usize).saturating_add(i);
             let (Some(cell), Some(programmed)) = (
@@ -91,7 +143,7 @@ impl Chip {
                     *cell = if fate == Fate::Torn { 0xa5 } else { 0xff };
                     *programmed = fate == Fate::Torn;
                 }
-            } else if let Some(byte) = piece.bytes.get(i) {
+            } else if let Some(byte) = bytes.get(i) {
                 assert!(rt; self.kind.sector == 0 || !*programmed);
                 *programmed = true;
                 if self.kind.sector == 0 && fate == Fate::Lost && i == 0 {

@@ -1,7 +1,8 @@
 //! A failure, a lie and a loss of power at each piece of a download.
 
-use super::chip::{Chip, KINDS};
-use super::rows::{Trouble, download};
+use super::chip::{Chip, Fate, KINDS};
+use super::rows::download;
+use super::trouble::Trouble;
 use std::process::Abort;
 use std::test::Fail;
 
@@ -26,7 +27,7 @@ fn each_failure_is_told(rt: HostRuntime) -> Result<(), Fail> {
         for times in [(0, 0), (5, 5)] {
             for piece in 0..kind.pieces {
                 let mut chip = Chip::shipped(&rt, rt.alloc(), kind)?;
-                let went = download(&rt, &mut chip, times, Trouble::Fails(piece))?;
+                let went = download(&rt, &mut chip, times, Trouble::Fails(piece, Fate::Torn))?;
                 let code = if piece < kind.before { 0x03 } else { 0x06 };
                 assert_eq!(rt; (went.status[0], went.status[4]), (code, 10));
                 has_image(&rt, &chip, piece);

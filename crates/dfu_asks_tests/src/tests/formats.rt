@@ -47,10 +47,13 @@ fn format(rt: &impl Abort, chip: &mut Chip, image: &[u8], trouble: Trouble) -> (
         Err(fault) => panic!(rt; "no format: {fault}"),
     };
     for number in 0..300 {
-        let Some(piece) = formatting.next(&chip.flash, image) else {
+        let mut bytes = [0; 256];
+        let Some(piece) = formatting.next(&chip.flash, image, &mut bytes) else {
             panic!(rt; "nothing is asked for");
         };
-        assert!(rt; formatting.next(&chip.flash, image).is_some());
+        let mut again = bytes;
+        assert!(rt; formatting.next(&chip.flash, image, &mut again).is_some());
+        assert!(rt; again == bytes);
         let fate = if trouble == Trouble::Lies(number) {
             Fate::Lost
         } else if trouble == Trouble::Fails(number) || trouble == Trouble::Cut(number) {
@@ -58,14 +61,14 @@ fn format(rt: &impl Abort, chip: &mut Chip, image: &[u8], trouble: Trouble) -> (
         } else {
             Fate::Done
         };
-        chip.meet(rt, &piece, fate);
+        chip.meet(rt, piece, &bytes, fate);
         if trouble == Trouble::Cut(number) {
             return (Progress::Asks, number);
         }
         match formatting.took(&chip.flash, image, trouble == Trouble::Fails(number)) {
             Some(Progress::Asks) => {}
             Some(progress) => {
-                assert!(rt; formatting.next(&chip.flash, image).is_none());
+                assert!(rt; formatting.next(&chip.flash, image, &mut bytes).is_none());
                 assert!(rt; formatting.took(&chip.flash, image, false).is_none());
                 return (progress, number.saturating_add(1));
             }
@@ -199,7 +202,7 @@ fn a_garbled_format_stays_within_its_flash(rt: HostRuntime) -> Result<(), Fail> 
                 phase,
                 done,
             };
-            if let Some(piece) = formatting.next(&chip.flash, &image) {
+            if let Some(piece) = formatting.next(&chip.flash, &image, &mut [0; 256]) {
                 assert!(rt; piece.at.saturating_add(piece.len as u64) <= size);
                 assert!(rt; !piece.erases || piece.len == 1024 && piece.at % 1024 == 0);
             }

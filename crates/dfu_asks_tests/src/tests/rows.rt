@@ -1,24 +1,13 @@
 //! Downloads whose writes the test carries out.
 
-use super::chip::{Chip, Fate, KINDS};
+use super::board::Board;
+use super::chip::{Chip, KINDS};
+use super::trouble::Trouble;
 use super::{DETACH, GET_STATUS, config, dnload};
-use dfu_asks::{Asking, Refusal, Reply, Sector};
-use dfu_device::{Answer, LentBlock};
+use dfu_asks::{Refusal, Reply};
+use dfu_device::Answer;
 use std::process::Abort;
 use std::test::Fail;
-
-/// What goes wrong at a piece.
-#[derive(Clone, Copy, PartialEq, Eq)]
-pub enum Trouble {
-    /// Nothing.
-    None,
-    /// This piece fails, and is torn.
-    Fails(u32),
-    /// This piece is said to be carried out, and isn't.
-    Lies(u32),
-    /// The power goes in this piece, which is torn.
-    Cut(u32),
-}
 
 /// How a download went: the last status asked for, and how many pieces were asked for.
 #[derive(Drop)]
@@ -28,36 +17,35 @@ pub struct Went {
     pub over: bool,
 }
 
-/// Carries out what is asked for.
-fn serve(
-    rt: &impl Abort,
-    device: &mut Asking<'_>,
-    chip: &mut Chip,
-    trouble: Trouble,
-    went: &mut Went,
-) {
+impl Went {
+    /// Nothing was asked for.
+    pub fn new() -> Went {
+        Went {
+            status: [0; 6],
+            pieces: 0,
+            over: false,
+        }
+    }
+}
+
+/// Carries out what is asked for. Each piece lies in the slot that is not noted.
+fn serve(rt: &impl Abort, board: &mut Board, chip: &mut Chip, trouble: Trouble, went: &mut Went) {
     let mut out = [0; 1500];
     for _ in 0..40 {
-        let Some(piece) = device.next(&chip.flash) else {
+        let mut bytes = [0; 256];
+        let Some(piece) = board.next(&chip.flash, &mut bytes) else {
             panic!(rt; "nothing is asked for");
         };
-        assert_eq!(rt; device.usb_reset(&chip.flash), Err(Refusal::Asked));
+        assert!(rt; chip.is_in(piece, !board.device.noted.second));
+        assert_eq!(rt; board.usb_reset(&chip.flash), Err(Refusal::Asked));
         let number = went.pieces;
         went.pieces = went.pieces.saturating_add(1);
-        let fate = if trouble == Trouble::Lies(number) {
-            Fate::Lost
-        } else if trouble == Trouble::Fails(number) || trouble == Trouble::Cut(number) {
-            Fate::Torn
-        } else {
-            Fate::Done
-        };
-        chip.meet(rt, &piece, fate);
+        chip.meet(rt, piece, &bytes, trouble.fate(number));
         if trouble == Trouble::Cut(number) {
             went.over = true;
             return;
         }
-        let failed = trouble == Trouble::Fails(number);
-        match device.took(&chip.flash, failed, &mut out) {
+        match board.took(&chip.flash, trouble.fails(number), &mut out) {
             Ok(Reply::Asks) => {}
             Ok(Reply::Answered(answer, count)) => {
                 if count == 6 {
@@ -74,7 +62,7 @@ fn serve(
 /// Hands a setup with its body in, and serves what it asks for.
 fn ask(
     rt: &impl Abort,
-    device: &mut Asking<'_>,
+    board: &mut Board,
     chip: &mut Chip,
     request: (&[u8; 8], &[u8]),
     trouble: Trouble,
@@ -82,8 +70,8 @@ fn ask(
 ) {
     let (setup, body) = request;
     let mut out = [0; 1500];
-    match device.handle(&chip.flash, setup, body, &mut out) {
-        Ok(Reply::Asks) => serve(rt, device, chip, trouble, went),
+    match board.handle(&chip.flash, setup, body, &mut out) {
+        Ok(Reply::Asks) => serve(rt, board, chip, trouble, went),
         Ok(Reply::Answered(_, count)) => {
             if count == 6 {
                 went.status.copy_from_slice(&out[..6]);
@@ -96,71 +84,58 @@ fn ask(
 /// Lets time pass, and serves what it asks for.
 fn wait(
     rt: &impl Abort,
-    device: &mut Asking<'_>,
+    board: &mut Board,
     chip: &mut Chip,
     ms: u32,
     trouble: Trouble,
     went: &mut Went,
 ) {
-    match device.elapse(&chip.flash, ms) {
-        Ok(Reply::Asks) => serve(rt, device, chip, trouble, went),
+    match board.elapse(&chip.flash, ms) {
+        Ok(Reply::Asks) => serve(rt, board, chip, trouble, went),
         Ok(Reply::Answered(_, _)) => {}
         Err(_) => panic!(rt; "elapse is refused"),
     }
 }
 
 /// Sends a block, asks for the status after it, and lets the time pass that the status asks for.
-fn send(
+pub fn send(
     rt: &impl Abort,
-    device: &mut Asking<'_>,
+    board: &mut Board,
     chip: &mut Chip,
     request: (&[u8; 8], &[u8]),
     trouble: Trouble,
     went: &mut Went,
 ) {
-    ask(rt, device, chip, request, trouble, went);
-    ask(rt, device, chip, (&GET_STATUS, &[]), trouble, went);
+    ask(rt, board, chip, request, trouble, went);
+    ask(rt, board, chip, (&GET_STATUS, &[]), trouble, went);
     let ms = u32::from(went.status[1]);
     if ms > 0 && !went.over {
-        wait(rt, device, chip, ms, trouble, went);
+        wait(rt, board, chip, ms, trouble, went);
     }
     if ms > 0 && !went.over {
-        ask(rt, device, chip, (&GET_STATUS, &[]), trouble, went);
+        ask(rt, board, chip, (&GET_STATUS, &[]), trouble, went);
     }
 }
 
-/// Downloads 77h throughout, in the blocks of this chip, with this trouble.
-pub fn download(
-    rt: &impl Abort,
-    chip: &mut Chip,
-    times: (u32, u32),
-    trouble: Trouble,
-) -> Result<Went, Fail> {
+/// A board in dfuIDLE on this chip, with these times.
+pub fn idle(rt: &impl Abort, chip: &Chip, times: (u32, u32)) -> Result<Board, Fail> {
     let (busy, manifest) = times;
-    let mut memory = [0; 1500];
-    let block = LentBlock {
-        memory: &mut memory,
-        len: 0,
-    };
-    let kind = chip.kind;
-    let Some(sector) = Sector::new(kind.sector) else {
-        panic!(rt; "no such sector");
-    };
-    let config = config(busy, manifest)?;
-    let Some(mut device) = Asking::power_on_sectors(config, kind.unit, sector, block, &chip.flash)
-    else {
-        panic!(rt; "no power");
-    };
-    let mut went = Went {
-        status: [0; 6],
-        pieces: 0,
-        over: false,
-    };
-    ask(rt, &mut device, chip, (&DETACH, &[]), trouble, &mut went);
-    assert_eq!(rt; device.usb_reset(&chip.flash), Ok(()));
+    let mut board = Board::power_on(rt, chip, config(busy, manifest)?);
+    let mut out = [0; 1500];
+    assert_eq!(rt;
+        board.answer(rt, &chip.flash, &DETACH, &mut out),
+        (Answer::Ack, 0)
+    );
+    assert_eq!(rt; board.usb_reset(&chip.flash), Ok(()));
+    Ok(board)
+}
+
+/// A board in dfuIDLE downloads 77h throughout, in the blocks of its chip, with this trouble.
+pub fn install(rt: &impl Abort, board: &mut Board, chip: &mut Chip, trouble: Trouble) -> Went {
+    let mut went = Went::new();
     let image = [0x77; 1500];
     let mut number: u8 = 0;
-    for len in kind.blocks {
+    for len in chip.kind.blocks {
         if len == 0 {
             break;
         }
@@ -168,15 +143,26 @@ pub fn download(
         let Some(body) = image.get(..usize::from(len)) else {
             panic!(rt; "a block is too long");
         };
-        send(rt, &mut device, chip, (&setup, body), trouble, &mut went);
+        send(rt, board, chip, (&setup, body), trouble, &mut went);
         if went.over || went.status[0] != 0 {
-            return Ok(went);
+            return went;
         }
         number = number.wrapping_add(1);
     }
     let setup = dnload(number, 0);
-    send(rt, &mut device, chip, (&setup, &[]), trouble, &mut went);
-    Ok(went)
+    send(rt, board, chip, (&setup, &[]), trouble, &mut went);
+    went
+}
+
+/// A board that gets power downloads as `install` does.
+pub fn download(
+    rt: &impl Abort,
+    chip: &mut Chip,
+    times: (u32, u32),
+    trouble: Trouble,
+) -> Result<Went, Fail> {
+    let mut board = idle(rt, chip, times)?;
+    Ok(install(rt, &mut board, chip, trouble))
 }
 
 #[test]

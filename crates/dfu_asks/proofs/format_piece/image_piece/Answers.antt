@@ -1,4 +1,4 @@
-use Rattle.std.proofs.Common.{◌≡◌, ℕ, ◌+◌, ◌-◌, ◌*◌, ◌++◌, length, take, replicate, slice_range, refl, sym, ◌∙◌, ap, subst, arith}
+use Rattle.std.proofs.Common.{◌≡◌, ℕ, ◌+◌, ◌-◌, ◌*◌, ◌<◌, min, ◌++◌, length, take, replicate, slice_range, refl, sym, ◌∙◌, ap, subst, arith}
 use Rattle.std.proofs.lemmas.List.{take-replicate}
 use Rattle.dfu_slots.specs.Units.{gate_room, fill_size, filled}
 use Rattle.dfu_asks.specs.Steps.{Step, step_writes, erase_step, some_steps}
@@ -32,7 +32,7 @@ returns-in-Program-clause-some c =
     let at = 2 * gate_room w + c.args.from in
     let bytes = front w image c.args.from in
     let n = c.in-Program.behind in
-    let p = asked c.two_piece.result in
+    let p = asked c.two_piece.result c.two_piece.new.out in
     let fill = c.filled_len-size.result - length image in
     let units : length (filled s.unit image) ≡ c.filled_len-size.result =
     filled_size s.unit s.unit image (length image) c.filled_len-size.result
@@ -40,6 +40,10 @@ returns-in-Program-clause-some c =
     let count : length bytes ≡ c.min-len.result =
     omega (arith, front_size w image c.args.from, units, c.min-len.ensures, c.saturating_sub.ensures) in
     let place : 2 * c.gate_room-data.result + c.args.from ≡ at = omega (arith, c.gate_room-data.ensures.value) in
+    let some : 0 < length p.write.bytes = omega (arith, c.two_piece.ensures.count, c.min-more.ensures, c.in-Program.ensures.1) in
+    let size : length p.write.bytes ≡ min 256 (length bytes - n) = omega (arith, c.two_piece.ensures.count, c.min-more.ensures, count) in
+    let start : p.write.at ≡ 2 * gate_room w + (c.args.from + n) =
+    omega (arith, c.two_piece.ensures.place, c.gate_room-data.ensures.value) in
     let zeros : take fill (replicate 256 0) ≡ replicate (fill_size s.unit (length image)) 0 =
     take-replicate fill 256 0 (omega (arith, c.filled_len-size.ensures.most))
     ∙ ap (λ (k : ℕ). replicate k 0) (omega (arith, c.filled_len-size.ensures.value)) in
@@ -49,9 +53,7 @@ returns-in-Program-clause-some c =
     subst (λ (k : ℕ). IsPiece (some_steps w.sector k bytes) c.args.done p) place
     (c.in-Program.ensures.0 bytes p count
     (front_part w image c.args.from (2 * c.gate_room-data.result + c.args.from) n p place c.two_piece.ensures.kind
-    (omega (arith, c.two_piece.ensures.count, c.min-more.ensures, c.in-Program.ensures.1))
-    (omega (arith, c.two_piece.ensures.count, c.min-more.ensures, count))
-    (omega (arith, c.two_piece.ensures.place, c.gate_room-data.ensures.value)) there))
+    some size start there))
 
 pub returns-in-Behind-clause-none : goal.returns-in-Behind-clause-none
 returns-in-Behind-clause-none c =

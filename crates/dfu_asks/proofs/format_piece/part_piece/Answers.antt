@@ -13,15 +13,15 @@ returns-in-CloseSecond-clause-some c =
     let f = c.args.formatting.now in
     let image = c.args.image.now in
     subst (λ (x : Phase). IfSome c.piece_of.result
-    (λ p. IsPiece (part_steps (grain_within f) (c.args.size / 2) image f.register x) f.done (asked p)))
+    (λ p. IsPiece (part_steps (grain_within f) (c.args.size / 2) image f.register x) f.done (asked p c.close_piece.new.out)))
     (sym c.in-CloseSecond.is)
     (from_ok c.piece_of.result c.close_piece.result
-    (λ p. IsPiece (part_steps (grain_within f) (c.args.size / 2) image f.register phase.CloseSecond) f.done (asked p))
+    (λ p. IsPiece (part_steps (grain_within f) (c.args.size / 2) image f.register phase.CloseSecond) f.done (asked p c.close_piece.new.out))
     c.piece_of.ensures.some c.close_piece.ensures.ok)
 
 pub returns-in-CloseSecond-clause-fits : goal.returns-in-CloseSecond-clause-fits
 returns-in-CloseSecond-clause-fits c =
-    from_ok c.piece_of.result c.close_piece.result (λ p. IsFit c.args.formatting.now.sector.size p)
+    from_ok c.piece_of.result c.close_piece.result (λ p. IsFit c.args.formatting.now.sector.size p c.close_piece.new.out)
     c.piece_of.ensures.some c.close_piece.ensures.fits
 
 pub returns-in-CloseSecond-clause-end : goal.returns-in-CloseSecond-clause-end
@@ -47,15 +47,17 @@ returns-in-CloseFirst-clause-some c =
     let f = c.args.formatting.now in
     let image = c.args.image.now in
     subst (λ (x : Phase). IfSome c.piece_of-in-CloseFirst.result
-    (λ p. IsPiece (part_steps (grain_within f) (c.args.size / 2) image f.register x) f.done (asked p)))
+    (λ p. IsPiece (part_steps (grain_within f) (c.args.size / 2) image f.register x) f.done (asked p c.close_piece-in-CloseFirst.new.out)))
     (sym c.in-CloseFirst.is)
     (from_ok c.piece_of-in-CloseFirst.result c.close_piece-in-CloseFirst.result
-    (λ p. IsPiece (part_steps (grain_within f) (c.args.size / 2) image f.register phase.CloseFirst) f.done (asked p))
+    (λ p. IsPiece (part_steps (grain_within f) (c.args.size / 2) image f.register phase.CloseFirst) f.done
+    (asked p c.close_piece-in-CloseFirst.new.out))
     c.piece_of-in-CloseFirst.ensures.some c.close_piece-in-CloseFirst.ensures.ok)
 
 pub returns-in-CloseFirst-clause-fits : goal.returns-in-CloseFirst-clause-fits
 returns-in-CloseFirst-clause-fits c =
-    from_ok c.piece_of-in-CloseFirst.result c.close_piece-in-CloseFirst.result (λ p. IsFit c.args.formatting.now.sector.size p)
+    from_ok c.piece_of-in-CloseFirst.result c.close_piece-in-CloseFirst.result
+    (λ p. IsFit c.args.formatting.now.sector.size p c.close_piece-in-CloseFirst.new.out)
     c.piece_of-in-CloseFirst.ensures.some c.close_piece-in-CloseFirst.ensures.fits
 
 pub returns-in-CloseFirst-clause-end : goal.returns-in-CloseFirst-clause-end
@@ -81,15 +83,15 @@ returns-in-Header-clause-some c =
     let f = c.args.formatting.now in
     let image = c.args.image.now in
     subst (λ (x : Phase). IfSome c.piece_of-in-Header.result
-    (λ p. IsPiece (part_steps (grain_within f) (c.args.size / 2) image f.register x) f.done (asked p)))
+    (λ p. IsPiece (part_steps (grain_within f) (c.args.size / 2) image f.register x) f.done (asked p c.header_piece.new.out)))
     (sym c.in-Header.is)
     (from_ok c.piece_of-in-Header.result c.header_piece.result
-    (λ p. IsPiece (part_steps (grain_within f) (c.args.size / 2) image f.register phase.Header) f.done (asked p))
+    (λ p. IsPiece (part_steps (grain_within f) (c.args.size / 2) image f.register phase.Header) f.done (asked p c.header_piece.new.out))
     c.piece_of-in-Header.ensures.some c.header_piece.ensures.ok)
 
 pub returns-in-Header-clause-fits : goal.returns-in-Header-clause-fits
 returns-in-Header-clause-fits c =
-    from_ok c.piece_of-in-Header.result c.header_piece.result (λ p. IsFit c.args.formatting.now.sector.size p)
+    from_ok c.piece_of-in-Header.result c.header_piece.result (λ p. IsFit c.args.formatting.now.sector.size p c.header_piece.new.out)
     c.piece_of-in-Header.ensures.some c.header_piece.ensures.fits
 
 pub returns-in-Header-clause-end : goal.returns-in-Header-clause-end
@@ -115,15 +117,15 @@ returns-in-Gate-clause-some c =
     let f = c.args.formatting.now in
     let image = c.args.image.now in
     subst (λ (x : Phase). IfSome c.piece_of-in-Gate.result
-    (λ p. IsPiece (part_steps (grain_within f) (c.args.size / 2) image f.register x) f.done (asked p)))
+    (λ p. IsPiece (part_steps (grain_within f) (c.args.size / 2) image f.register x) f.done (asked p c.gate_piece.new.out)))
     (sym c.in-Gate.is)
     (from_ok c.piece_of-in-Gate.result c.gate_piece.result
-    (λ p. IsPiece (part_steps (grain_within f) (c.args.size / 2) image f.register phase.Gate) f.done (asked p))
+    (λ p. IsPiece (part_steps (grain_within f) (c.args.size / 2) image f.register phase.Gate) f.done (asked p c.gate_piece.new.out))
     c.piece_of-in-Gate.ensures.some c.gate_piece.ensures.ok)
 
 pub returns-in-Gate-clause-fits : goal.returns-in-Gate-clause-fits
 returns-in-Gate-clause-fits c =
-    from_ok c.piece_of-in-Gate.result c.gate_piece.result (λ p. IsFit c.args.formatting.now.sector.size p)
+    from_ok c.piece_of-in-Gate.result c.gate_piece.result (λ p. IsFit c.args.formatting.now.sector.size p c.gate_piece.new.out)
     c.piece_of-in-Gate.ensures.some c.gate_piece.ensures.fits
 
 pub returns-in-Gate-clause-end : goal.returns-in-Gate-clause-end

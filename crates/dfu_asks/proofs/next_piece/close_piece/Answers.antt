@@ -18,6 +18,7 @@ returns-then-done-gate-clause-ok c =
     ap (λ (l : List ℕ). take g l) c.fill_up-unit.ensures
     ∙ padded (0 ∷ []) g 256 (omega (arith, size)) (omega (arith, c.gate_size-gate.ensures.most))
     ∙ ap (λ (k : ℕ). 0 ∷ replicate (k - 1) 0) size in
-    inl (subst (λ (x : Step). IsPart x c.args.done (asked c.rest_of.result)) (sym (close_is (grain_for s) c.args.spare none))
+    inl (subst (λ (x : Step). IsPart x c.args.done (asked c.rest_of.result c.rest_of.new.out))
+    (sym (close_is (grain_for s) c.args.spare none))
     (part_as c.from-then-done-gate.result c.args.spare (take g c.fill_up-unit.result) (gate_unit (gate_size s.unit) 0) c.args.done
-    (asked c.rest_of.result) c.from-then-done-gate.ensures bytes c.rest_of.ensures.part))
+    (asked c.rest_of.result c.rest_of.new.out) c.from-then-done-gate.ensures bytes c.rest_of.ensures.part))

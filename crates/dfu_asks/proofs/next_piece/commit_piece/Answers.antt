@@ -17,9 +17,10 @@ returns-in-Ok-clause-some c =
     let part : take n c.fill_up-part.result ≡ filled s.unit h =
     ap (λ (l : List ℕ). take n l) c.fill_up-part.ensures ∙ padded h n 256 (omega arith) c.fill_size.ensures.most
     ∙ ap (λ (k : ℕ). h ++ replicate k 0) (omega (arith, c.fill_size.ensures.value)) in
-    commit_first w c.args.spare s.put_end c.args.generation c.args.register h s.block.now c.args.done (asked c.in-Ok.piece)
+    commit_first w c.args.spare s.put_end c.args.generation c.args.register h s.block.now c.args.done
+    (asked c.in-Ok.piece c.write_piece.new.out)
     (piece_as w.sector c.held_place-at.result (held_place w c.args.spare s.put_end h) (take n c.fill_up-part.result) (filled s.unit h)
-    c.args.done (asked c.in-Ok.piece) at part c.in-Ok.ensures.ok)
+    c.args.done (asked c.in-Ok.piece c.write_piece.new.out) at part c.in-Ok.ensures.ok)
 
 pub returns-in-Ok-header-clause-some : goal.returns-in-Ok-header-clause-some
 returns-in-Ok-header-clause-some c =
@@ -40,7 +41,7 @@ returns-in-Ok-header-clause-some c =
       c.in-Err.ensures.behind,
     ) in
     commit_second w c.args.spare s.put_end c.args.generation c.args.register h s.block.now c.args.done c.in-Err.rest
-    (asked c.in-Ok-header.piece)
+    (asked c.in-Ok-header.piece c.header_piece-header.new.out)
     count c.in-Ok-header.ensures.ok
 
 pub returns-in-Ok-gate_piece-clause-some : goal.returns-in-Ok-gate_piece-clause-some
@@ -62,7 +63,7 @@ returns-in-Ok-gate_piece-clause-some c =
       c.in-Err.ensures.behind,
     ) in
     commit_third w c.args.spare s.put_end c.args.generation c.args.register h s.block.now c.args.done c.in-Err.rest c.in-Err-header.rest
-    (asked c.in-Ok-gate_piece.piece) count c.in-Err-header.ensures.behind c.in-Ok-gate_piece.ensures.ok
+    (asked c.in-Ok-gate_piece.piece c.gate_piece.new.out) count c.in-Err-header.ensures.behind c.in-Ok-gate_piece.ensures.ok
 
 pub returns-in-Err-gate_piece-clause-none : goal.returns-in-Err-gate_piece-clause-none
 returns-in-Err-gate_piece-clause-none c =

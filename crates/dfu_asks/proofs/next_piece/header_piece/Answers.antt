@@ -33,7 +33,8 @@ returns-clause-ok c =
       length-header_unit (gate_size s.unit) c.args.generation c.args.len c.args.register (unit_wide s.unit),
       unit_wide s.unit,
     )) in
-    subst (λ (ss : List Step). IfOk c.write_piece.result (λ p. IsPiece ss c.args.done (asked p))) same c.write_piece.ensures.ok
+    subst (λ (ss : List Step). IfOk c.write_piece.result (λ p. IsPiece ss c.args.done (asked p c.write_piece.new.out)))
+    same c.write_piece.ensures.ok
 
 pub returns-clause-behind : goal.returns-clause-behind
 returns-clause-behind c =

@@ -17,7 +17,7 @@ returns-in-Erase-clause-some c =
     let size = c.size-size.result in
     let hd = c.head_size-head.result in
     let value : hd ≡ head_size s.unit h b = c.head_size-head.ensures.value in
-    put_first w c.args.at h b c.args.done (asked c.erase_piece.result)
+    put_first w c.args.at h b c.args.done (asked c.erase_piece.result c.erase_piece.new.out)
     (subst (λ (p : Step). IsPiece (some_steps w.sector c.args.at (take (head_size s.unit h b) (h ++ b))) c.args.done p)
     (sym c.erase_piece.ensures.step)
     (c.in-Erase.ensures.0 (take (head_size s.unit h b) (h ++ b)) (front_length w h b ∙ sym value)))
@@ -31,13 +31,13 @@ returns-in-Program-clause-some c =
     let size = c.size-size.result in
     let hd = c.head_size-head.result in
     let value : hd ≡ head_size s.unit h b = c.head_size-head.ensures.value in
-    let p = asked c.joined_piece.result in
+    let p = asked c.joined_piece.result c.joined_piece.new.out in
     let e = c.joined_piece.ensures in
-    let k : length p.write.bytes ≡ c.min.result = e.count in
+    let k : length p.write.bytes ≡ c.min-len.result = e.count in
     put_first w c.args.at h b c.args.done p
     (c.in-Program.ensures.0 (take (head_size s.unit h b) (h ++ b)) p (front_length w h b ∙ sym value)
-    (head_part w c.args.at h b c.in-Program.from p e.kind (omega (arith, k, c.min.ensures, c.in-Program.ensures.1))
-    (omega (arith, k, c.min.ensures, value)) e.place
+    (head_part w c.args.at h b c.in-Program.from p e.kind (omega (arith, k, c.min-len.ensures, c.in-Program.ensures.1))
+    (omega (arith, k, c.min-len.ensures, value)) e.place
     (e.bytes ∙ ap (λ (j : ℕ). slice_range (h ++ b) c.in-Program.from (c.in-Program.from + j)) (sym k))))
 
 pub returns-in-Erase-locate-clause-some : goal.returns-in-Erase-locate-clause-some
@@ -60,7 +60,7 @@ returns-in-Erase-locate-clause-some c =
     c.in-Behind.ensures.0 (take (head_size s.unit h b) (h ++ b)) (front_length w h b ∙ sym value) in
     let back = drop (head_size s.unit h b) (take (whole_part s.unit (length (h ++ b))) (h ++ b)) in
     let there : length back ≡ length h + length b - (length h + length b) % size - hd = back_length w h b ∙ sym left in
-    let p = asked c.erase_piece-in-Erase-locate.result in
+    let p = asked c.erase_piece-in-Erase-locate.result c.erase_piece-in-Erase-locate.new.out in
     let piece : IsPiece (some_steps w.sector (c.args.at + hd) back) c.in-Behind.rest p =
     subst (λ (q : Step). IsPiece (some_steps w.sector (c.args.at + hd) back) c.in-Behind.rest q)
     (sym c.erase_piece-in-Erase-locate.ensures.step)
@@ -88,13 +88,14 @@ returns-in-Program-locate-clause-some c =
     c.in-Behind.ensures.0 (take (head_size s.unit h b) (h ++ b)) (front_length w h b ∙ sym value) in
     let back = drop (head_size s.unit h b) (take (whole_part s.unit (length (h ++ b))) (h ++ b)) in
     let there : length back ≡ length h + length b - (length h + length b) % size - hd = back_length w h b ∙ sym left in
-    let p = asked c.joined_piece-in-Program-locate.result in
+    let p = asked c.joined_piece-in-Program-locate.result c.joined_piece-in-Program-locate.new.out in
     let e = c.joined_piece-in-Program-locate.ensures in
     let from = c.in-Program-locate.from in
-    let k : length p.write.bytes ≡ c.min-len.result = e.count in
+    let k : length p.write.bytes ≡ c.min-len-in-Program-locate.result = e.count in
     let bytes = e.bytes ∙ (λ i. slice_range (h ++ b) (value i + from) (value i + from + sym k i)) in
-    let part = back_part w c.args.at h b from p e.kind (omega (arith, k, c.min-len.ensures, c.in-Program-locate.ensures.1))
-    (omega (arith, k, c.min-len.ensures, left)) (omega (arith, e.place, value)) bytes in
+    let part = back_part w c.args.at h b from p e.kind
+    (omega (arith, k, c.min-len-in-Program-locate.ensures, c.in-Program-locate.ensures.1))
+    (omega (arith, k, c.min-len-in-Program-locate.ensures, left)) (omega (arith, e.place, value)) bytes in
     let piece : IsPiece (some_steps w.sector (c.args.at + hd) back) c.in-Behind.rest p =
     c.in-Program-locate.ensures.0 back p there
     (subst (λ (j : ℕ). IsPart (program j back) from p) (sym place) part) in

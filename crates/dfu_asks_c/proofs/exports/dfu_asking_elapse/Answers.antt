@@ -1,70 +1,90 @@
-use Rattle.std.proofs.Common.{◌≡◌, refl, sym, ap, ◌∙◌, ℕ, List, [], replicate, inl, inr, w32, arith}
+use Rattle.std.proofs.Common.{◌≡◌, ℕ, List, [], ◌∷◌, inl, inr, sym, ◌∙◌, ap, subst, w32, arith}
 use Rattle.std.proofs.lemmas.Int.{to_z-of_z}
 use Rattle.dfu_device.specs.declared.answer.Answer.TheVariants as answer
 use Rattle.dfu_device.specs.Rows.{Elapses}
+use Rattle.dfu_asks.specs.Lent.{lent}
 use Rattle.dfu_asks.specs.Asks.{device_in}
+use Rattle.dfu_asks.specs.Calls.{Called}
+use Rattle.dfu_asks_c.specs.declared.refusal.Refusal.{Refusal}
+use Rattle.dfu_asks_c.specs.Asking.{with_memory}
 use Rattle.dfu_asks_c.specs.Numbers.{passed_number}
-use Rattle.dfu_asks_c.specs.Calls.{Replied}
-use Rattle.dfu_c_parts.proofs.SameConfig.{done_same}
-use Rattle.dfu_asks_c.proofs.Kept.{refuses_asked, refuses_lent, goes, with_this, replied}
-use Rattle.dfu_asks_c.proofs.Found.{none_due}
+use Rattle.dfu_asks_c.specs.Calls.{Passed, IsIntact, IsRefusedAsking}
+use Rattle.dfu_asks_c.proofs.Kept.{goes, refuses, same_record}
+use Rattle.dfu_asks_c.proofs.Found.{cause_of}
 use Rattle.dfu_asks_c.proofs.exports.dfu_asking_elapse.Goals as goal
-
-pub returns-then-is_some : goal.returns-then-is_some
-returns-then-is_some c =
-    let found = c.in-Ok.ensures in
-    record {
-      outcome = inr (refuses_asked c.args.config.now c.args.device.now c.args.block c.in-Ok.asking _ found.config found.ok found.fits
-          found.short found.room (sym c.is_some.ensures ∙ c.if-is_some.true)
-          (to_z-of_z w32 _ (omega (arith, c.number-then-is_some.type_inv)) ∙ c.number-then-is_some.ensures));
-    }
 
 pub returns-in-Ok-Asks : goal.returns-in-Ok-Asks
 returns-in-Ok-Asks c =
     let found = c.in-Ok.ensures in
-    let k = c.args.config.now in
+    let r = c.args.device.now in
+    let block = c.args.block.now in
     let flash = c.args.flash.now in
-    let came = c.in-Ok-Asks.ensures.outcome in
+    let zeros : List ℕ = 0 ∷ 0 ∷ 0 ∷ 0 ∷ 0 ∷ 0 ∷ [] in
+    let a = c.in-Ok.asking in
+    let a' = c.elapse.new.self in
+    let before = with_memory r block a in
+    let done = c.in-Ok-Asks.ensures in
     record {
-      outcome = inl (goes k c.args.device.now c.args.block.now c.keep.new.kept _ c.elapse.new.self
-          (λ a a'. (out : List ℕ) × Replied a flash (replicate 6 0)
-          (λ x sent d'. (x ≡ answer.Ack) × (sent ≡ []) × Elapses c.args.ms (device_in a flash) d') passed_number _ a' out)
-          found.room
-          (with_this k c.args.device.now c.args.block.now c.in-Ok.asking _ found.config found.ok found.fits found.short c.from.ensures refl)
-          (c.keep.ensures.kept k) c.keep.ensures.length (
-            came.0,
-            replied k _ c.elapse.new.self flash (replicate 6 0) came.0 _ passed_number _ _ found.ok.config found.ok.unit
-                (λ x sent d' row. done_same _ _ _ _ _ _ row.2) c.in-Ok-Asks.ensures.is
-                (sym (ap passed_number c.in-Ok-Asks.field-0-is)) came.1,
-          ));
+      outcome = inl (goes c.args.config.now r block c.keep.new.kept c.elapse.new.block a a'
+          (λ x y. Passed (IsIntact r block flash x) (with_memory r block x) flash
+          (λ z sent d'. (z ≡ answer.Ack) × (sent ≡ []) × Elapses c.args.ms (device_in (with_memory r block x) flash) d') _
+          (with_memory c.keep.new.kept c.elapse.new.block y))
+          found.config found.room found.ok done.same (c.keep.ensures.kept c.args.config.now) (λ fits. done.fits)
+          (record {
+            reply = c.in-Ok-Asks.field-0;
+            number_is = sym (ap passed_number c.in-Ok-Asks.field-0-is);
+            called = λ whole.
+                let came = done.outcome whole in (
+                  came.0,
+                  subst (λ (h : List ℕ). Called before flash zeros
+                      (λ z sent d'. (z ≡ answer.Ack) × (sent ≡ []) × Elapses c.args.ms (device_in before flash) d')
+                      (lent a' c.elapse.new.block h) came.0 c.in-Ok-Asks.field-0) (sym c.keep.ensures.held) came.1,
+                );
+          }));
     }
 
 pub returns-in-Ok-Answered : goal.returns-in-Ok-Answered
 returns-in-Ok-Answered c =
     let found = c.in-Ok.ensures in
-    let k = c.args.config.now in
+    let r = c.args.device.now in
+    let block = c.args.block.now in
     let flash = c.args.flash.now in
-    let came = c.in-Ok-Answered.ensures.outcome in
+    let zeros : List ℕ = 0 ∷ 0 ∷ 0 ∷ 0 ∷ 0 ∷ 0 ∷ [] in
+    let a = c.in-Ok.asking in
+    let a' = c.elapse.new.self in
+    let before = with_memory r block a in
+    let done = c.in-Ok-Answered.ensures in
     record {
-      outcome = inl (goes k c.args.device.now c.args.block.now c.keep-in-Ok-Answered.new.kept _ c.elapse.new.self
-          (λ a a'. (out : List ℕ) × Replied a flash (replicate 6 0)
-          (λ x sent d'. (x ≡ answer.Ack) × (sent ≡ []) × Elapses c.args.ms (device_in a flash) d') passed_number _ a' out)
-          found.room
-          (with_this k c.args.device.now c.args.block.now c.in-Ok.asking _ found.config found.ok found.fits found.short c.from.ensures refl)
-          (c.keep-in-Ok-Answered.ensures.kept k) c.keep-in-Ok-Answered.ensures.length (
-            came.0,
-            replied k _ c.elapse.new.self flash (replicate 6 0) came.0 _ passed_number _ _ found.ok.config found.ok.unit
-                (λ x sent d' row. done_same _ _ _ _ _ _ row.2) c.in-Ok-Answered.ensures.is
-                (sym (ap passed_number c.in-Ok-Answered.field-0-is)) came.1,
-          ));
+      outcome = inl (goes c.args.config.now r block c.keep-in-Ok-Answered.new.kept c.elapse.new.block a a'
+          (λ x y. Passed (IsIntact r block flash x) (with_memory r block x) flash
+          (λ z sent d'. (z ≡ answer.Ack) × (sent ≡ []) × Elapses c.args.ms (device_in (with_memory r block x) flash) d') _
+          (with_memory c.keep-in-Ok-Answered.new.kept c.elapse.new.block y))
+          found.config found.room found.ok done.same (c.keep-in-Ok-Answered.ensures.kept c.args.config.now) (λ fits. done.fits)
+          (record {
+            reply = c.in-Ok-Answered.field-0;
+            number_is = sym (ap passed_number c.in-Ok-Answered.field-0-is);
+            called = λ whole.
+                let came = done.outcome whole in (
+                  came.0,
+                  subst (λ (h : List ℕ). Called before flash zeros
+                      (λ z sent d'. (z ≡ answer.Ack) × (sent ≡ []) × Elapses c.args.ms (device_in before flash) d')
+                      (lent a' c.elapse.new.block h) came.0 c.in-Ok-Answered.field-0) (sym c.keep-in-Ok-Answered.ensures.held) came.1,
+                );
+          }));
     }
 
 pub returns-in-Err-elapse : goal.returns-in-Err-elapse
 returns-in-Err-elapse c =
     let found = c.in-Ok.ensures in
+    let r = c.args.device.now in
+    let block = c.args.block.now in
+    let a = c.in-Ok.asking in
+    let done = c.in-Err-elapse.ensures in
     record {
-      outcome = inr (refuses_lent c.args.config.now c.args.device.now c.args.block c.in-Ok.asking c.refused.result _ _ found.config
-          found.ok found.fits
-          found.short found.room (none_due c.in-Ok.asking.work (sym c.is_some.ensures ∙ c.if-is_some.false)) c.refused.ensures
-          (to_z-of_z w32 _ (omega (arith, c.number-in-Err-elapse.type_inv)) ∙ c.number-in-Err-elapse.ensures));
+      outcome = inr (refuses c.args.config.now r block c.args.flash.now _ c.elapse.new.block a c.refused.result _ found.config found.room
+          found.ok
+          (subst (λ (e : Refusal). IsRefusedAsking e r block c.args.flash.now a) (sym c.refused.ensures)
+          (cause_of c.in-Err-elapse.refusal r block c.args.flash.now a 0 0 (omega arith) done.refused))
+          (to_z-of_z w32 _ (omega (arith, c.number-in-Err-elapse.type_inv)) ∙ c.number-in-Err-elapse.ensures)
+          (same_record r c.elapse.new.held done.unchanged.2) done.unchanged.1);
     }

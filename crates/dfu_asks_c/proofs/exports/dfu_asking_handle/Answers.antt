@@ -1,76 +1,78 @@
-use Rattle.std.proofs.Common.{◌≡◌, rules, refl, sym, ap, ◌∙◌, ℕ, length, ◌≤◌, inl, inr, w32, arith}
+use Rattle.std.proofs.Common.{ℕ, ◌≤◌, List, length, inl, inr, sym, ◌∙◌, ap, subst, w32, arith}
 use Rattle.std.proofs.lemmas.Int.{to_z-of_z}
+use Rattle.dfu_device.specs.Lent.{answer_room}
 use Rattle.dfu_device.specs.Rows.{Handles}
+use Rattle.dfu_asks.specs.Lent.{lent}
 use Rattle.dfu_asks.specs.Asks.{device_in}
-use Rattle.dfu_asks_c.specs.Numbers.{reply_number, answer_number}
-use Rattle.dfu_asks_c.specs.Calls.{Replied}
-use Rattle.dfu_c_parts.proofs.SameConfig.{handled_same}
-use Rattle.dfu_asks_c.proofs.Kept.{refuses_asked, refuses_lent, goes, with_this, replied}
-use Rattle.dfu_asks_c.proofs.Found.{none_due}
-use Rattle.dfu_asks_c.proofs.Whole.{called_as, called_few, called_whole, same_whole}
+use Rattle.dfu_asks.specs.Calls.{Called}
+use Rattle.dfu_asks_c.specs.declared.refusal.Refusal.{Refusal}
+use Rattle.dfu_asks_c.specs.Asking.{with_memory}
+use Rattle.dfu_asks_c.specs.Numbers.{reply_number}
+use Rattle.dfu_asks_c.specs.Calls.{Replied, IsIntact, IsRefusedAsking}
+use Rattle.dfu_asks_c.proofs.Kept.{goes, refuses, same_record}
+use Rattle.dfu_asks_c.proofs.Found.{cause_of}
 use Rattle.dfu_asks_c.proofs.exports.dfu_asking_handle.Goals as goal
-
-pub returns-then-is_some-clause-outcome : goal.returns-then-is_some-clause-outcome
-returns-then-is_some-clause-outcome c =
-    let found = c.in-Ok.ensures in
-    inr (inl (
-      refuses_asked c.args.config.now c.args.device.now c.args.block c.in-Ok.asking _ found.config found.ok found.fits
-          found.short found.room (sym c.is_some.ensures ∙ c.if-is_some.true)
-          (to_z-of_z w32 _ (omega (arith, c.number-then-is_some.type_inv)) ∙ c.number-then-is_some.ensures),
-      refl,
-    ))
 
 pub returns-in-Ok-Asks-clause-outcome : goal.returns-in-Ok-Asks-clause-outcome
 returns-in-Ok-Asks-clause-outcome c =
     let found = c.in-Ok.ensures in
-    let k = c.args.config.now in
+    let r = c.args.device.now in
+    let block = c.args.block.now in
     let flash = c.args.flash.now in
-    let out = c.args.out.now in
-    let room = c.min-room.result in
-    let fits : room ≤ length out = omega (arith, c.min-room.ensures) in
-    let came = called_whole room out c.handle.new.out fits (search rules) _ flash _ c.handle.new.self _ c.in-Ok-Asks.ensures.outcome in
-    inl (goes k c.args.device.now c.args.block.now c.keep.new.kept _ c.handle.new.self
-    (λ a a'. Replied a flash out (λ x sent d'. Handles c.args.setup.now c.args.body.now (device_in a flash) x sent d') reply_number _ a' _)
-    found.room
-    (with_this k c.args.device.now c.args.block.now c.in-Ok.asking _ found.config found.ok found.fits found.short c.from.ensures refl)
-    (c.keep.ensures.kept k) c.keep.ensures.length
-    (replied k _ c.handle.new.self flash out _ _ reply_number _ _ found.ok.config found.ok.unit
-    (λ x sent d' row. handled_same _ _ _ _ _ _ row)
-    c.in-Ok-Asks.ensures.is (sym (ap reply_number c.in-Ok-Asks.field-0-is)) came))
+    let a = c.in-Ok.asking in
+    let a' = c.handle.new.self in
+    let before = with_memory r block a in
+    let done = c.in-Ok-Asks.ensures in
+    inl (goes c.args.config.now r block c.keep.new.kept c.handle.new.block a a'
+    (λ x y. Replied (IsIntact r block flash x) (with_memory r block x) flash c.args.out.now
+    (λ z sent d'. Handles c.args.setup.now c.args.body.now (device_in (with_memory r block x) flash) z sent d') reply_number _
+    (with_memory c.keep.new.kept c.handle.new.block y) c.handle.new.out)
+    found.config found.room found.ok done.same (c.keep.ensures.kept c.args.config.now) (λ fits. done.fits) (record {
+      reply = c.in-Ok-Asks.field-0;
+      number_is = sym (ap reply_number c.in-Ok-Asks.field-0-is);
+      called = λ whole. subst (λ (h : List ℕ). Called before flash c.args.out.now
+          (λ z sent d'. Handles c.args.setup.now c.args.body.now (device_in before flash) z sent d')
+          (lent a' c.handle.new.block h) c.handle.new.out c.in-Ok-Asks.field-0) (sym c.keep.ensures.held) (done.outcome whole);
+    }))
 
 pub returns-in-Ok-Answered-clause-outcome : goal.returns-in-Ok-Answered-clause-outcome
 returns-in-Ok-Answered-clause-outcome c =
     let found = c.in-Ok.ensures in
-    let k = c.args.config.now in
+    let r = c.args.device.now in
+    let block = c.args.block.now in
     let flash = c.args.flash.now in
-    let out = c.args.out.now in
-    let room = c.min-room.result in
-    let fits : room ≤ length out = omega (arith, c.min-room.ensures) in
-    let came = called_as c.in-Ok-Answered.field-0-is c.in-Ok-Answered.ensures.outcome in
-    let few = called_few room out c.handle.new.out fits (search rules) _ flash _ c.handle.new.self _ _ came in
-    let same : c.min.result ≡ c.in-Ok-Answered.count = omega (arith, few, c.min-room.ensures, c.min.ensures) in
-    inl (goes k c.args.device.now c.args.block.now c.keep-in-Ok-Answered.new.kept _ c.handle.new.self
-    (λ a a'. Replied a flash out (λ x sent d'. Handles c.args.setup.now c.args.body.now (device_in a flash) x sent d') reply_number _ a' _)
-    found.room
-    (with_this k c.args.device.now c.args.block.now c.in-Ok.asking _ found.config found.ok found.fits found.short c.from.ensures refl)
-    (c.keep-in-Ok-Answered.ensures.kept k) c.keep-in-Ok-Answered.ensures.length
-    (replied k _ c.handle.new.self flash out _ _ reply_number _ _ found.ok.config found.ok.unit
-    (λ x sent d' row. handled_same _ _ _ _ _ _ row)
-    c.in-Ok-Answered.ensures.is
-    (to_z-of_z w32 _ (omega (arith, c.number_of.type_inv)) ∙ c.number_of.ensures
-    ∙ ap (λ (n : ℕ). answer_number c.in-Ok-Answered.answer n) same)
-    (called_whole room out c.handle.new.out fits (search rules) _ flash _ c.handle.new.self _ came)))
+    let a = c.in-Ok.asking in
+    let a' = c.handle.new.self in
+    let before = with_memory r block a in
+    let keep = c.keep-in-Ok-Answered in
+    let done = c.in-Ok-Answered.ensures in
+    inl (goes c.args.config.now r block keep.new.kept c.handle.new.block a a'
+    (λ x y. Replied (IsIntact r block flash x) (with_memory r block x) flash c.args.out.now
+    (λ z sent d'. Handles c.args.setup.now c.args.body.now (device_in (with_memory r block x) flash) z sent d') reply_number _
+    (with_memory keep.new.kept c.handle.new.block y) c.handle.new.out)
+    found.config found.room found.ok done.same (keep.ensures.kept c.args.config.now) (λ fits. done.fits) (record {
+      reply = c.in-Ok-Answered.field-0;
+      number_is = to_z-of_z w32 _ (omega (arith, c.number_of.type_inv)) ∙ c.number_of.ensures
+          ∙ sym (ap reply_number c.in-Ok-Answered.field-0-is);
+      called = λ whole. subst (λ (h : List ℕ). Called before flash c.args.out.now
+          (λ z sent d'. Handles c.args.setup.now c.args.body.now (device_in before flash) z sent d')
+          (lent a' c.handle.new.block h) c.handle.new.out c.in-Ok-Answered.field-0) (sym keep.ensures.held) (done.outcome whole);
+    }))
 
 pub returns-in-Err-handle-clause-outcome : goal.returns-in-Err-handle-clause-outcome
 returns-in-Err-handle-clause-outcome c =
     let found = c.in-Ok.ensures in
-    let out = c.args.out.now in
-    let room = c.min-room.result in
-    let fits : room ≤ length out = omega (arith, c.min-room.ensures) in
-    let same = c.in-Err-handle.ensures.unchanged in
+    let r = c.args.device.now in
+    let block = c.args.block.now in
+    let a = c.in-Ok.asking in
+    let done = c.in-Err-handle.ensures in
+    let need : answer_room a.config ≤ length c.args.out.now =
+    omega (arith, c.if-out-room_for.false, c.room_for.ensures, ap answer_room found.ok.config) in
     inr (inl (
-      refuses_lent c.args.config.now c.args.device.now c.args.block c.in-Ok.asking c.refused.result _ _ found.config found.ok found.fits
-          found.short found.room (none_due c.in-Ok.asking.work (sym c.is_some.ensures ∙ c.if-is_some.false)) c.refused.ensures
-          (to_z-of_z w32 _ (omega (arith, c.number-in-Err-handle.type_inv)) ∙ c.number-in-Err-handle.ensures),
-      same_whole room out c.handle.new.out fits (search rules) same.1,
+      refuses c.args.config.now r block c.args.flash.now _ c.handle.new.block a c.refused.result _ found.config found.room found.ok
+          (subst (λ (e : Refusal). IsRefusedAsking e r block c.args.flash.now a) (sym c.refused.ensures)
+          (cause_of c.in-Err-handle.refusal r block c.args.flash.now a (answer_room a.config) (length c.args.out.now) need done.refused))
+          (to_z-of_z w32 _ (omega (arith, c.number-in-Err-handle.type_inv)) ∙ c.number-in-Err-handle.ensures)
+          (same_record r c.handle.new.held done.unchanged.2) done.unchanged.1,
+      done.unchanged.3,
     ))

@@ -1,50 +1,53 @@
-use Rattle.std.proofs.Common.{◌≡◌, refl, sym, ap, ◌∙◌, pos, inl, inr, w32, arith}
+use Rattle.std.proofs.Common.{◌≡◌, List, ℕ, None, inl, inr, refl, sym, ◌∙◌, subst, w32, arith, pos}
 use Rattle.std.proofs.lemmas.Int.{to_z-of_z}
 use Rattle.dfu_device.specs.Shown.{Shown}
 use Rattle.dfu_device.specs.Table.{reset_stage}
-use Rattle.dfu_asks.specs.declared.asking.Asking.{Asking}
-use Rattle.dfu_asks.specs.Asks.{device_in, IsDevice}
-use Rattle.dfu_asks_c.proofs.Kept.{refuses_asked, refuses_lent, goes, lend, with_this, settle}
-use Rattle.dfu_asks_c.proofs.Found.{none_due}
+use Rattle.dfu_asks.specs.Lent.{lent}
+use Rattle.dfu_asks.specs.Asks.{device_in}
+use Rattle.dfu_asks.specs.Refused.{IsKept as IsWhole}
+use Rattle.dfu_asks_c.specs.declared.refusal.Refusal.{Refusal}
+use Rattle.dfu_asks_c.specs.Asking.{with_memory}
+use Rattle.dfu_asks_c.specs.Calls.{IsIntact, IsRefusedAsking}
+use Rattle.dfu_asks_c.proofs.Kept.{goes, refuses}
+use Rattle.dfu_asks_c.proofs.Found.{cause_of}
 use Rattle.dfu_asks_c.proofs.exports.dfu_asking_usb_reset.Goals as goal
-
-pub returns-then-is_some : goal.returns-then-is_some
-returns-then-is_some c =
-    let found = c.in-Ok.ensures in
-    record {
-      outcome = inr (refuses_asked c.args.config.now c.args.device.now c.args.block c.in-Ok.asking _ found.config found.ok found.fits
-          found.short found.room (sym c.is_some.ensures ∙ c.if-is_some.true)
-          (to_z-of_z w32 _ (omega (arith, c.number-then-is_some.type_inv)) ∙ c.number-then-is_some.ensures));
-    }
 
 pub returns-in-Ok-usb_reset : goal.returns-in-Ok-usb_reset
 returns-in-Ok-usb_reset c =
     let found = c.in-Ok.ensures in
-    let k = c.args.config.now in
+    let r = c.args.device.now in
+    let block = c.args.block.now in
     let flash = c.args.flash.now in
-    let row = c.in-Ok-usb_reset.ensures.row in
-    let now = c.usb_reset.new.self in
-    let block = lend c.args.block c.from.result (omega (arith, found.fits, c.from.ensures)) (omega (arith, found.short, c.from.ensures)) in
-    let was : Asking = record c.in-Ok.asking { block = block } in
-    let Does : Asking → Asking → Type 0 =
-    λ a a'. (device_in a' flash ≡ record (device_in a flash) { stage = reset_stage (device_in a flash).stage }) × IsDevice a' flash
-    × (pos 0 ≡ pos 0) in
+    let a = c.in-Ok.asking in
+    let a' = c.usb_reset.new.self in
+    let held = r.device.held in
+    let done = c.in-Ok-usb_reset.ensures in
+    let was : Shown = device_in (with_memory r block a) flash in
     record {
-      outcome = inl (goes k c.args.device.now c.args.block.now c.keep.new.kept was now Does found.room
-          (with_this k c.args.device.now c.args.block.now c.in-Ok.asking block found.config found.ok found.fits found.short c.from.ensures
-          refl)
-          (c.keep.ensures.kept k) c.keep.ensures.length
-          (settle k now (Does was) (ap (λ (d : Shown). d.config) row ∙ found.ok.config)
-          (ap (λ (d : Shown). d.slots.medium.grain.unit) row ∙ found.ok.unit) (row, c.in-Ok-usb_reset.ensures.is, refl)));
+      outcome = inl (goes c.args.config.now r block c.keep.new.kept block a a'
+          (λ x y. (pos 0 ≡ pos 0) × (y.work ≡ None)
+          × (device_in (with_memory c.keep.new.kept block y) flash
+          ≡ record (device_in (with_memory r block x) flash) { stage = reset_stage (device_in (with_memory r block x) flash).stage })
+          × (IsIntact r block flash x → IsIntact c.keep.new.kept block flash y))
+          found.config found.room found.ok done.same (c.keep.ensures.kept c.args.config.now) (λ fits. done.fits) (
+            refl,
+            done.work,
+            subst (λ (h : List ℕ). device_in (lent a' block h) flash ≡ record was { stage = reset_stage was.stage }) (sym c.keep.ensures.held)
+                done.row,
+            λ whole. subst (λ (h : List ℕ). IsWhole a' block h flash) (sym c.keep.ensures.held) (done.is whole),
+          ));
     }
 
 pub returns-in-Err-usb_reset : goal.returns-in-Err-usb_reset
 returns-in-Err-usb_reset c =
     let found = c.in-Ok.ensures in
-    let same = c.in-Err-usb_reset.ensures.unchanged in
+    let r = c.args.device.now in
+    let block = c.args.block.now in
+    let a = c.in-Ok.asking in
+    let done = c.in-Err-usb_reset.ensures in
     record {
-      outcome = inr (refuses_lent c.args.config.now c.args.device.now c.args.block c.in-Ok.asking c.refused.result _ _ found.config
-          found.ok found.fits
-          found.short found.room (none_due c.in-Ok.asking.work (sym c.is_some.ensures ∙ c.if-is_some.false)) c.refused.ensures
-          (to_z-of_z w32 _ (omega (arith, c.number-in-Err-usb_reset.type_inv)) ∙ c.number-in-Err-usb_reset.ensures));
+      outcome = inr (refuses c.args.config.now r block c.args.flash.now r block a c.refused.result _ found.config found.room found.ok
+          (subst (λ (e : Refusal). IsRefusedAsking e r block c.args.flash.now a) (sym c.refused.ensures)
+          (cause_of c.in-Err-usb_reset.refusal r block c.args.flash.now a 0 0 (omega arith) done.refused))
+          (to_z-of_z w32 _ (omega (arith, c.number-in-Err-usb_reset.type_inv)) ∙ c.number-in-Err-usb_reset.ensures) refl refl);
     }

@@ -18,7 +18,7 @@ returns-in_default-next c = record {
       c.if-not-is_allowed.ensures.yes search,
       inr (c.in-Some.formatting, c.in-Some.ensures.some, λ was k. c.in_default-next.ensures.goes was k),
     ),
-    refl,
+    λ i. record c.args.ask.now { bytes = c.in_default-next.ensures.unchanged i },
   );
 }
 
@@ -30,7 +30,7 @@ returns c =
     let p = c.in-Some-next.piece in
     let image = c.args.image.now in
     let flash = c.args.flash.now in
-    let same = same_step p.erases c.kind_of-ask.result p.at p.len p.bytes c.kind_of-ask.ensures in
+    let same = same_step p.erases c.kind_of-ask.result p.at p.len c.next.new.out c.kind_of-ask.ensures in
     record {
       outcome = inl (record {
         number_is = refl;
@@ -41,7 +41,7 @@ returns c =
         piece = subst (λ (s : Step). IsPiece (steps_left f (length flash) image) f.done s) (sym same) says.piece;
         some = says.most.some;
         most = λ two. says.most.programs (programs p.erases c.kind_of-ask.result c.kind_of-ask.ensures two);
-        sector = subst (λ (n : ℕ). IsSound n (by_number c.kind_of-ask.result p.at p.len p.bytes)) is.sector
+        sector = subst (λ (n : ℕ). IsSound n (by_number c.kind_of-ask.result p.at p.len c.next.new.out)) is.sector
             (subst (λ (s : Step). IsSound f.sector.size s) (sym same) says.sector);
         within = says.within.0;
       });

@@ -1,4 +1,4 @@
-use Rattle.std.proofs.Common.{◌≡◌, refl, sym, ◌∙◌, ap, inl}
+use Rattle.std.proofs.Common.{refl, sym, ◌∙◌, ap, inl}
 use Rattle.dfu_asks.specs.declared.sector.Sector.{Sector}
 use Rattle.dfu_asks_c.proofs.format_writes.dfu_asking_format_start.Goals as goal
 

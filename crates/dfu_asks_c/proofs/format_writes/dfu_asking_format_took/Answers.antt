@@ -1,4 +1,4 @@
-use Rattle.std.proofs.Common.{◌≡◌, Bool, not, ◌==◌, refl, sym, ◌∙◌, subst, inl, inr, w32, arith}
+use Rattle.std.proofs.Common.{not, ◌==◌, refl, sym, ◌∙◌, subst, inl, inr, w32, arith}
 use Rattle.std.proofs.lemmas.Int.{to_z-of_z}
 use Rattle.dfu_asks.specs.declared.progress.Progress.{Progress}
 use Rattle.dfu_asks.specs.declared.progress.Progress.TheVariants as progress

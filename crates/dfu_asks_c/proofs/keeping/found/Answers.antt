@@ -1,10 +1,19 @@
-use Rattle.std.proofs.Common.{arith}
+use Rattle.std.proofs.Common.{sym, arith}
 use Rattle.dfu_asks_c.proofs.keeping.found.Goals as goal
 
-pub returns-in-None-clause-err : goal.returns-in-None-clause-err
-returns-in-None-clause-err c = (
+pub returns-in_default-asking_of-clause-err : goal.returns-in_default-asking_of-clause-err
+returns-in_default-asking_of-clause-err c = (
   λ e. omega (arith, e, c.if-kept-eq-WORK.false),
   c.in-Some.ensures.config,
   omega (arith, c.if-room-from.false, c.from.ensures),
-  λ block size a asking. c.in-None.ensures.none c.args.config.now a asking.kept,
+  λ a kept. absurd (c.in_default-asking_of.ensures.none c.args.config.now a kept),
 )
+
+pub returns-then-asking-room-clause-err : goal.returns-then-asking-room-clause-err
+returns-then-asking-room-clause-err c =
+    let ours = c.in-Some-asking_of.ensures.some c.args.config.now (sym c.in-Some.ensures.some) (sym c.unit_of.ensures) in (
+      λ e. omega (arith, e, c.if-kept-eq-WORK.false),
+      c.in-Some.ensures.config,
+      omega (arith, c.if-room-from.false, c.from.ensures),
+      λ a kept. omega (arith, c.if-asking-room.true, kept.block, ours.block),
+    )

@@ -1,6 +1,5 @@
-use Rattle.std.proofs.Common.{ap, subst, inl, refl}
+use Rattle.std.proofs.Common.{subst, inl, refl}
 use Rattle.dfu_device.specs.declared.mode.Mode.{Mode}
-use Rattle.dfu_c_parts.specs.declared.record.DfuDevice.{DfuDevice}
 use Rattle.dfu_c_parts.specs.Record.{HasMode}
 use Rattle.dfu_c_parts.proofs.Setups.{found_one}
 use Rattle.dfu_c_parts.proofs.LongSetups.{found_long}
@@ -17,15 +16,12 @@ returns-then-setup-eq0 c =
     record {
       outcome = inl (
         refl,
+        c.if-device-ne0.false,
         long.1,
-        λ block flash a asking device body body_is.
-            let set = c.set_mode.ensures.others in
-            takes_here k r (record r { device = c.set_mode.new.kept }) c.args.setup.now p c.in-Some.mode is long.0
+        takes_here k r (record r { device = c.set_mode.new.kept }) c.args.setup.now p c.in-Some.mode is long.0
             (λ m has. found_one c.mode_of.result c.in-Some.mode m c.in-Some.is (c.mode_of.ensures.only m has)) c.if-device-ne0.false
             c.if-setup-eq0.true
-            (subst (λ (m : Mode). HasMode c.set_mode.new.kept m) c.after_long.ensures c.set_mode.ensures.mode) refl set
-            (ap (λ (x : DfuDevice). x.put_end) set) (ap (λ (x : DfuDevice). x.length) set)
-            block flash a asking device body (body_is p is),
+            (subst (λ (m : Mode). HasMode c.set_mode.new.kept m) c.after_long.ensures c.set_mode.ensures.mode) refl c.set_mode.ensures.others,
       );
     }
 
@@ -38,6 +34,7 @@ returns-else-setup-eq0 c =
     record {
       outcome = inl (
         refl,
+        c.if-device-ne0.false,
         long.1,
         takes_elsewhere k c.args.device.now c.args.device.now c.args.setup.now p c.in-Some.mode is long.0
             (λ m has. found_one c.mode_of.result c.in-Some.mode m c.in-Some.is (c.mode_of.ensures.only m has)) c.if-device-ne0.false

@@ -14,6 +14,7 @@ returns-then-will_stall c =
     record {
       outcome = inl (
         inr refl,
+        c.if-device-ne0.false,
         told_stall c.args.config.now c.args.device.now c.args.size c.args.setup.now c.decode.result c.request.result c.in-Some.mode
             c.will_stall.result c.decode.ensures.only c.request.ensures.only
             (λ m has. found_one c.mode_of.result c.in-Some.mode m c.in-Some.is (c.mode_of.ensures.only m has))
@@ -31,6 +32,7 @@ returns-else-will_stall c =
     record {
       outcome = inl (
         inl refl,
+        c.if-device-ne0.false,
         told_stall c.args.config.now c.args.device.now c.args.size c.args.setup.now c.decode.result c.request.result c.in-Some.mode
             c.will_stall.result c.decode.ensures.only c.request.ensures.only
             (λ m has. found_one c.mode_of.result c.in-Some.mode m c.in-Some.is (c.mode_of.ensures.only m has))

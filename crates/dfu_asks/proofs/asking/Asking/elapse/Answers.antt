@@ -1,63 +1,65 @@
-use Rattle.std.proofs.Common.{◌≡◌, ◌∷◌, [], None, refl, sym, ◌∙◌, ap, subst, arith}
-use Rattle.dfu_slots.specs.Seen.{spare_of}
-use Rattle.dfu_slots.specs.Store.{IsStore}
+use Rattle.std.proofs.Common.{◌≡◌, ℕ, List, [], ◌∷◌, length, None, refl, sym, ◌∙◌, ap, subst, arith}
+use Rattle.dfu_slots.specs.Seen.{image_of, spare_of, room_of}
+use Rattle.dfu_slots.proofs.Seeing.{room_capacity}
+use Rattle.dfu_device.specs.declared.answer.Answer.{Answer}
 use Rattle.dfu_device.specs.declared.answer.Answer.TheVariants as answer
-use Rattle.dfu_device.specs.Stage.{Stage}
-use Rattle.dfu_device.specs.Shown.{Shown}
-use Rattle.dfu_device.specs.Rows.{Elapses}
-use Rattle.dfu_asks.specs.Asks.{store_in, device_in, block_in, IsDueStage}
-use Rattle.dfu_asks.specs.Calls.{called_ended}
-use Rattle.dfu_asks.proofs.Calling.{no_work, is_true, is_off, rest_store, called_from, kept_ended}
+use Rattle.dfu_device.specs.Table.{Plan, time_plan}
+use Rattle.dfu_device.specs.Shown.{profile, profile_of}
+use Rattle.dfu_device.specs.Rows.{Done, Elapses}
+use Rattle.dfu_device.specs.Decision.{profile_in, plan_of, IsPossible}
+use Rattle.dfu_device.proofs.Carried.{filled}
+use Rattle.dfu_asks.specs.Lent.{lent}
+use Rattle.dfu_asks.specs.Due.{IsSureOrDue}
+use Rattle.dfu_asks.specs.Asks.{store_in, device_in}
+use Rattle.dfu_asks.specs.Calls.{Called}
+use Rattle.dfu_asks.specs.Refused.{IsKept}
+use Rattle.dfu_asks.proofs.Calling.{called_by}
+use Rattle.dfu_asks.proofs.Quiet.{time_due, time_quiet, decided_time}
+use Rattle.dfu_asks.proofs.Sending.{time_within}
 use Rattle.dfu_asks.proofs.asking.Asking.elapse.Goals as goal
 
-pub returns-then-passes_now-clause-outcome : goal.returns-then-passes_now-clause-outcome
-returns-then-passes_now-clause-outcome c =
-    let a0 = c.args.self.now in
-    let a1 = c.assemble.new.self in
-    let flash = c.args.flash.now in
-    let d = c.in_ok-device.device.device in
-    let ok : d ≡ device_in a0 flash = c.in_ok-device.ensures.ok in
-    let rest = c.in_ok-device.ensures.rest in
-    let slots : d.slots ≡ store_in a0 flash = ap (λ (w : Shown). w.slots) ok in
-    let on = is_true c.passes_now.result c.if-passes_now.true in (
-      c.start.new.out,
-      called_from a0 flash (0 ∷ 0 ∷ 0 ∷ 0 ∷ 0 ∷ 0 ∷ [])
-          (λ y sent w'. (y ≡ answer.Ack) × (sent ≡ []) × Elapses c.args.ms (device_in a0 flash) w') c.start.new.self
-          c.start.new.out c.start.result d 0 ok
-          (c.start.ensures.outcome 0 flash (slots ∙ sym (rest_store a0 a1 flash rest))
-          (subst IsStore (sym slots) c.in_ok-device.ensures.is.store)
-          (ap (λ (w : Shown). w.config) ok ∙ sym rest.config)
-          (subst (λ (st : Stage). IsDueStage st None 0) (sym (ap (λ (w : Shown). w.stage) ok))
-          (c.passes_now.ensures.stage on (spare_of (store_in a0 flash)) (block_in a0))))
-          (c.passes_now.ensures.yes on (store_in a0 flash) (block_in a0)),
-    )
-
 pub returns-clause-outcome : goal.returns-clause-outcome
-returns-clause-outcome c =
-    let a0 = c.args.self.now in
-    let flash = c.args.flash.now in
-    let ok = c.in_ok-device.ensures.ok in
-    let d' = c.elapse.new.self.device in
-    let row : Elapses c.args.ms (device_in a0 flash) d' = subst (λ (d : Shown). Elapses c.args.ms d d') ok c.elapse.ensures.row in
-    let quiet = c.passes_now.ensures.no (is_off c.passes_now.result c.if-passes_now.false) (store_in a0 flash) (block_in a0) d' row in (
-      (0 ∷ 0 ∷ 0 ∷ 0 ∷ 0 ∷ 0 ∷ []),
-      called_ended answer.Ack 0 (kept_ended a0 c.assemble.new.self c.keep.new.self flash d' c.in_ok-device.ensures.rest c.keep.ensures.rest
-          c.keep.ensures.device c.keep.ensures.sound c.in_ok-device.ensures.is quiet.0 quiet.1
-          (no_work a0.work (sym c.is_some.ensures ∙ c.if-is_some.false))
-          answer.Ack 0 (0 ∷ 0 ∷ 0 ∷ 0 ∷ 0 ∷ 0 ∷ []) (0 ∷ 0 ∷ 0 ∷ 0 ∷ 0 ∷ 0 ∷ []) []
-          (λ y sent w'. (y ≡ answer.Ack) × (sent ≡ []) × Elapses c.args.ms (device_in a0 flash) w') refl refl (refl, refl, row)),
+returns-clause-outcome c = λ kept.
+    let flash = c.in_ok-medium.medium.bytes.now in
+    let same_flash : flash ≡ c.args.flash.now = c.in_ok-medium.ensures.medium.2 in
+    let here = subst (λ (f : List ℕ). IsKept c.args.self.now c.args.block.now c.args.held.now f) (sym same_flash) kept in
+    let l = lent c.args.self.now c.args.block.now c.args.held.now in
+    let now = lent c.carry_out.new.self c.carry_out.new.block c.carry_out.new.held in
+    let s = store_in l flash in
+    let w = device_in l flash in
+    let d = c.decide_time-decision.result in
+    let zeros : List ℕ = 0 ∷ 0 ∷ 0 ∷ 0 ∷ 0 ∷ 0 ∷ [] in
+    let view = c.in_ok-medium.ensures.view in
+    let room : c.profile-profile.result.capacity ≡ room_of s = omega (
+      arith,
+      c.profile-profile.ensures.capacity,
+      c.from.ensures,
+      view.room,
+      room_capacity s,
+      ap (λ (f : List ℕ). length f) same_flash,
+    ) in
+    let same : profile_in c.profile-profile.result ≡ profile w = c.profile-profile.ensures.profile
+    ∙ ap (λ (n : ℕ). profile_of l.config n) (sym c.profile-profile.ensures.capacity ∙ room) in
+    let row = decided_time c.profile-profile.result c.args.ms l.mode l.block d w same refl c.decide_time-decision.ensures.row in
+    let p = plan_of (profile w) (image_of s) (spare_of s) l.block [] d in
+    let possible : IsPossible l.config.functional.transfer (length l.block) 0 s d =
+    subst (λ (t : ℕ). IsPossible t (length l.block) 0 s d) c.profile-profile.ensures.transfer
+    (c.decide_time-decision.ensures.possible (length l.block) s (sym room) (filled l.mode (length l.block) s here.is.sound)) in
+    let due : IsSureOrDue p (profile w) w.stage None 0 =
+    subst (λ (z : Plan). IsSureOrDue z (profile w) w.stage None 0) (sym row) (time_due (profile w) w.stage c.args.ms) in (
+      c.carry_out.new.out,
+      subst (λ (f : List ℕ). Called l f zeros
+          (λ x sent d'. (x ≡ answer.Ack) × (sent ≡ []) × Elapses c.args.ms (device_in l f) d') now c.carry_out.new.out c.carry_out.result) same_flash
+          (called_by l flash zeros (λ x sent d'. Done p 0 w x sent d')
+          (λ x sent d'. (x ≡ answer.Ack) × (sent ≡ []) × Elapses c.args.ms w d') now c.carry_out.new.out c.carry_out.result
+          (λ x sent d' done.
+          let by_time : Done (time_plan (profile w) w.stage c.args.ms) 0 w x sent d' =
+          subst (λ (z : Plan). Done z 0 w x sent d') row done in
+          let quiet = time_quiet (profile w) w.stage c.args.ms 0 w x sent d' by_time in (
+            quiet.0,
+            quiet.1,
+            subst (λ (y : List ℕ). Done (time_plan (profile w) w.stage c.args.ms) 0 w answer.Ack y d') quiet.1
+                (subst (λ (y : Answer). Done (time_plan (profile w) w.stage c.args.ms) 0 w y sent d') quiet.0 by_time),
+          ))
+          (c.carry_out.ensures.outcome here possible due (time_within d (image_of s) 6 c.decide_time-decision.ensures.silent))),
     )
-
-pub returns-then-passes_now-clause-served : goal.returns-then-passes_now-clause-served
-returns-then-passes_now-clause-served c = record {
-  work = no_work c.args.self.now.work (sym c.is_some.ensures ∙ c.if-is_some.false);
-  fits = omega arith;
-  kept = c.in_ok-device.ensures.kept;
-}
-
-pub returns-clause-served : goal.returns-clause-served
-returns-clause-served c = record {
-  work = no_work c.args.self.now.work (sym c.is_some.ensures ∙ c.if-is_some.false);
-  fits = omega arith;
-  kept = c.in_ok-device.ensures.kept;
-}

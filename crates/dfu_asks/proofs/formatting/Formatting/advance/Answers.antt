@@ -10,7 +10,7 @@ pub returns-in-Some-clause-outcome : goal.returns-in-Some-clause-outcome
 returns-in-Some-clause-outcome c = λ was flash size way le.
     let f = c.args.self.now in
     let image = c.args.image.now in
-    let p = asked c.in-Some.field-0 in
+    let p = asked c.in-Some.field-0 c.part_piece.new.out in
     let part = part_left f (length was) image in
     let piece : IsPiece part f.done p = subst (λ (n : ℕ). IsPiece (part_left f n image) f.done p) (sym size) c.in-Some.ensures.some in
     record { way = way; left = omega (arith, piece_end part f.done p piece, piece_some part f.done p piece) }

@@ -9,7 +9,8 @@ use Rattle.dfu_asks.proofs.formatting.Formatting.next.Goals as goal
 
 pub returns-clause-piece : goal.returns-clause-piece
 returns-clause-piece c =
-    in_left c.args.self.now (length c.args.flash.now) c.args.image.now c.args.self.now.done (asked c.in-Some.piece) c.in-Some.ensures.some
+    in_left c.args.self.now (length c.args.flash.now) c.args.image.now c.args.self.now.done
+    (asked c.in-Some.piece c.due.new.out) c.in-Some.ensures.some
 
 pub returns-in_default-clause-goes : goal.returns-in_default-clause-goes
 returns-in_default-clause-goes c = λ was k.
@@ -28,17 +29,17 @@ pub returns-then-not-is_sound-clause-goes : goal.returns-then-not-is_sound-claus
 returns-then-not-is_sound-clause-goes c = λ was k.
     let f = c.args.self.now in
     let image = c.args.image.now in
-    let q = asked c.in-Some.piece in
+    let q = asked c.in-Some.piece c.due.new.out in
     let part : IsPiece (part_left f (length was) image) f.done q =
     subst (λ (n : ℕ). IsPiece (part_left f n image) f.done q) (way_size f image was c.args.flash.now k.way) c.in-Some.ensures.some in
     is_false c.is_sound.result c.if-not-is_sound.true
-    (c.is_sound.ensures.1 (way_sound f image was c.args.flash.now k.way q (in_left f (length was) image f.done q part)))
+    ((c.is_sound.ensures c.due.new.out).1 (way_sound f image was c.args.flash.now k.way q (in_left f (length was) image f.done q part)))
 
 pub returns-then-piece-flash-clause-goes : goal.returns-then-piece-flash-clause-goes
 returns-then-piece-flash-clause-goes c = λ was k.
     let f = c.args.self.now in
     let image = c.args.image.now in
-    let q = asked c.in-Some.piece in
+    let q = asked c.in-Some.piece c.due.new.out in
     let part : IsPiece (part_left f (length was) image) f.done q =
     subst (λ (n : ℕ). IsPiece (part_left f n image) f.done q) (way_size f image was c.args.flash.now k.way) c.in-Some.ensures.some in
     omega (

@@ -20,7 +20,7 @@ returns-then-not-stands-clause-outcome c = λ was before asks p piece torn.
     let f = c.args.self.now in
     let image = c.args.image.now in
     let flash = c.args.flash.now in
-    let q = asked c.in-Some.piece in
+    let q = asked c.in-Some.piece c.due.new.out in
     let size : length flash ≡ length was = torn.size ∙ way_size f image was before asks.way in
     let part : IsPiece (part_left f (length was) image) f.done q =
     subst (λ (n : ℕ). IsPiece (part_left f n image) f.done q) size c.in-Some.ensures.some in
@@ -36,7 +36,7 @@ returns-clause-outcome c = λ was before asks p piece torn.
     let f = c.args.self.now in
     let image = c.args.image.now in
     let flash = c.args.flash.now in
-    let q = asked c.in-Some.piece in
+    let q = asked c.in-Some.piece c.due.new.out in
     let n = c.in-Some.piece.len in
     let size : length flash ≡ length was = torn.size ∙ way_size f image was before asks.way in
     let part : IsPiece (part_left f (length was) image) f.done q =

@@ -1,0 +1,46 @@
+use Rattle.std.proofs.Common.{◌≡◌, ⊎_elim, ◌==◌, ◌&&◌, not, Bool, false, if◌then◌else◌, ℕ, [], sym, ◌∙◌, ap}
+use Rattle.std.proofs.lemmas.Bool.{ne_eqb, and_parts, eqb-true}
+use Rattle.dfu_slots.specs.Layout.{OPEN}
+use Rattle.dfu_slots.specs.Image.{gate_of, slot_of, spare_at}
+use Rattle.dfu_slots.specs.Seen.{is_begun}
+use Rattle.dfu_asks.specs.declared.job.Job.TheVariants.{Block}
+use Rattle.dfu_asks.specs.Mapped.{mapped}
+use Rattle.dfu_asks.specs.Lent.{lent}
+use Rattle.dfu_asks.specs.Asks.{store_in}
+use Rattle.dfu_asks.proofs.Noting.{noted_spare, open_is}
+use Rattle.dfu_asks.proofs.asking.Asking.block_job.Goals as goal
+
+pub returns-then-written-eq0-clause-job : goal.returns-then-written-eq0-clause-job
+returns-then-written-eq0-clause-job c = λ block held is before.
+    let a = c.args.self.now in
+    let flash = c.args.medium.now.bytes.now in
+    let s = store_in (lent a block held) flash in
+    let n = c.args.written in
+    let none : n ≡ 0 = c.if-written-eq0.true in
+    let same : mapped (record { unit = c.args.medium.now.unit; sector = c.args.medium.now.sector.size }) flash ≡ s.medium =
+    λ i. mapped (record { unit = c.requires.unit i; sector = (c.requires.sector i).size }) flash in
+    let spare : c.args.view.spare ≡ spare_at (gate_of s.medium) s.medium.bytes =
+    c.requires.view.spare ∙ noted_spare a.noted s.medium is.noted in
+    let gate : c.is_open.result ≡ ((n == 0) && not (is_begun s)) =
+    c.is_open.ensures ∙ (λ i. (slot_of (same i) (spare i)).gate == OPEN) ∙ open_is s
+    ∙ ap (λ (k : ℕ). (k == 0) && not (is_begun s)) (sym none) in
+    record {
+      job_is = λ i. Block (spare i) (gate i);
+      end_is = sym none;
+      held_is = ap (λ (k : ℕ). if k == 0 then [] else s.held) (sym none);
+    }
+
+pub returns-clause-job : goal.returns-clause-job
+returns-clause-job c = λ block held is before.
+    let a = c.args.self.now in
+    let s = store_in (lent a block held) c.args.medium.now.bytes.now in
+    let n = c.args.written in
+    let some : (n == 0) ≡ false = ne_eqb n 0 c.if-written-eq0.false in
+    let spare : c.args.view.spare ≡ spare_at (gate_of s.medium) s.medium.bytes =
+    c.requires.view.spare ∙ noted_spare a.noted s.medium is.noted in
+    record {
+      job_is = λ i. Block (spare i) (sym some i && not (is_begun s));
+      end_is = ⊎_elim (λ none. absurd (c.if-written-eq0.false none))
+          (λ put. eqb-true _ _ (and_parts (is_begun s) (s.put_end == n) put).1) before;
+      held_is = ap (λ (b : Bool). if b then [] else s.held) (sym some);
+    }

@@ -1,0 +1,147 @@
+use Rattle.std.proofs.Common.{◌≡◌, ◌++◌, IsTrue, ℕ, ◌+◌, ◌-◌, ◌≤◌, min, List, [], length, take, drop, refl, sym, ◌∙◌, ap, subst, arith}
+use Rattle.std.proofs.lemmas.List.{take_all, take_at, length-take, length-take-le, length-drop}
+use Rattle.dfu_slots.specs.Medium.{MediumState}
+use Rattle.dfu_slots.specs.Layout.{header_length}
+use Rattle.dfu_slots.specs.Image.{gate_of, slot_of, active_at}
+use Rattle.dfu_slots.specs.Seen.{image_of, spare_of, room_of}
+use Rattle.dfu_device.specs.declared.answer.Answer.TheVariants as answer
+use Rattle.dfu_device.specs.declared.mode.Mode.TheVariants as mode
+use Rattle.dfu_device.specs.declared.decision.Decision.{Decision}
+use Rattle.dfu_device.specs.Shown.{profile}
+use Rattle.dfu_device.specs.Parts.{shows, is_filled}
+use Rattle.dfu_device.specs.Rows.{Done}
+use Rattle.dfu_device.specs.Decision.{plan_of, IsPossible}
+use Rattle.dfu_asks.specs.Lent.{LentAsking, lent}
+use Rattle.dfu_asks.specs.Due.{wanted, IsSure, SendsWithin}
+use Rattle.dfu_asks.specs.Asks.{store_in, device_in, IsReply}
+use Rattle.dfu_asks.specs.Calls.{called_ended}
+use Rattle.dfu_asks.proofs.Calling.{kept_ended, due_called}
+use Rattle.dfu_asks.specs.Mapped.{mapped}
+use Rattle.dfu_asks.proofs.Sending.{image_front, data_room, front_of, counted, count_is, IsAfter, after_filled, sent_row}
+use Rattle.dfu_asks.proofs.asking.Asking.carry_out.Goals as goal
+use Rattle.dfu_asks.proofs.asking.Asking.carry_out.Goals.{then-count-from, else-count-from}
+
+pub returns-in-Sure-clause-outcome : goal.returns-in-Sure-clause-outcome
+returns-in-Sure-clause-outcome c = λ kept possible due within.
+    let flash = c.args.medium.now.bytes.now in
+    let l = lent c.args.self.now c.args.block.now c.args.held.now in
+    let s = store_in l flash in
+    let w = device_in l flash in
+    let m = c.in-Sure.mode in
+    let now : LentAsking = record l { mode = m } in
+    let g = c.give-answer.ensures in
+    let len = wanted c.args.asked in
+    let says : IsReply l.config m c.in-Sure.reply len c.give-answer.result.0 g.sent =
+    subst (λ (n : ℕ). IsReply l.config m c.in-Sure.reply n c.give-answer.result.0 g.sent) c.wanted.ensures g.says in
+    called_ended c.give-answer.result.0 c.give-answer.result.1
+    (kept_ended l now flash
+    (record { config = refl; unit = refl; sector = refl; held = refl; end = refl; noted = refl; work = refl }) kept.is
+    (subst (λ (d : Decision). IsPossible l.config.functional.transfer (length l.block) (length c.args.body.now) s d) c.in-Sure.is possible)
+    c.requires.idle c.give-answer.result.0 c.give-answer.result.1 c.args.out.now c.give-answer.new.out g.sent
+    (λ x sent d'. Done (plan_of (profile w) (image_of s) (spare_of s) l.block c.args.body.now c.args.decision) len w x sent d')
+    g.count_is g.out_is
+    (subst (λ (d : Decision). Done (plan_of (profile w) (image_of s) (spare_of s) l.block c.args.body.now d) len w c.give-answer.result.0 g.sent
+    (shows l.config s m l.block)) (sym c.in-Sure.is) (says (room_of s) (spare_of s) l.block, refl)))
+
+pub returns-in-Holds-clause-outcome : goal.returns-in-Holds-clause-outcome
+returns-in-Holds-clause-outcome c = λ kept possible due within.
+    let flash = c.args.medium.now.bytes.now in
+    let body = c.args.body.now in
+    let block = c.args.block.now in
+    let l = lent c.args.self.now block c.args.held.now in
+    let s = store_in l flash in
+    let w = device_in l flash in
+    let m = c.in-Holds.mode in
+    let n = c.min-len.result in
+    let can = subst (λ (d : Decision). IsPossible l.config.functional.transfer (length l.block) (length body) s d) c.in-Holds.is possible in
+    let whole : n ≡ length body = omega (arith, c.min-len.ensures, c.min.ensures, can.0, kept.fits.transfer) in
+    let front : c.copy_from_slice.new.self ≡ body = c.copy_from_slice.ensures.after ∙ take_all n body (omega (arith, whole)) in
+    let held : take n (c.copy_from_slice.new.self ++ drop n block) ≡ body =
+    ap (λ (x : List ℕ). take n (x ++ drop n block)) front ∙ take_at body (drop n block) n (sym whole) in
+    let now : LentAsking = record l { mode = m; block = take n (c.copy_from_slice.new.self ++ drop n block) } in
+    called_ended answer.Ack 0
+    (kept_ended l now flash
+    (record { config = refl; unit = refl; sector = refl; held = refl; end = refl; noted = refl; work = refl }) kept.is
+    (subst (λ (x : List ℕ). IsTrue (is_filled m (length x) s)) (sym held) can.1)
+    c.requires.idle answer.Ack 0 c.args.out.now c.args.out.now []
+    (λ x sent d'. Done (plan_of (profile w) (image_of s) (spare_of s) l.block body c.args.decision) (wanted c.args.asked) w x sent d')
+    refl refl
+    (subst (λ (d : Decision). Done (plan_of (profile w) (image_of s) (spare_of s) l.block body d) (wanted c.args.asked) w answer.Ack []
+    (shows l.config s m now.block)) (sym c.in-Holds.is) ((refl, refl), λ i. shows l.config s m (held i))))
+
+pub returns-after-count-from-clause-outcome : goal.returns-after-count-from-clause-outcome
+returns-after-count-from-clause-outcome c = λ kept possible due within.
+    let flash = c.args.medium.now.bytes.now in
+    let l = lent c.args.self.now c.args.block.now c.args.held.now in
+    let s = store_in l flash in
+    let w = device_in l flash in
+    let v = c.args.view in
+    let place = c.in-Sends.place in
+    let size = c.in-Sends.size in
+    let count = c.put_image-count.result in
+    let image = image_of s in
+    let part = take size (drop place image) in
+    let k = c.args.medium.now in
+    let same : mapped (record { unit = k.unit; sector = k.sector.size }) flash ≡ s.medium =
+    λ i. mapped (record { unit = c.requires.unit i; sector = (c.requires.sector i).size }) flash in
+    let here : v.active ≡ active_at (gate_of s.medium) s.medium.bytes = c.requires.view.active ∙ kept.is.noted.place in
+    let front : image ≡ take v.len (slot_of s.medium v.active).data_bytes = image_front s v.active v.len here
+    (c.requires.view.len ∙ ap (λ (at : ℕ). header_length (slot_of s.medium at)) (sym c.requires.view.active)) in
+    let long : length image ≡ v.len = ap length front
+    ∙ length-take-le v.len (slot_of s.medium v.active).data_bytes (data_room s v.active v.len kept.is.store here
+    (omega (arith, c.requires.view.len, c.requires.view.stands.fits))) in
+    let p = plan_of (profile w) image (spare_of s) l.block c.args.body.now in
+    let len = wanted c.args.asked in
+    let ideal : length part ≤ length c.args.out.now =
+    subst (λ (d : Decision). SendsWithin d image (length c.args.out.now)) c.in-Sends.is within in
+    let sized : count ≡ min size (length image - place) =
+    omega (arith, c.put_image-count.ensures.count, long, ideal, length-take size (drop place image), length-drop place image) in
+    let sent : take count (drop place (slot_of (mapped (record { unit = k.unit; sector = k.sector.size }) flash) v.active).data_bytes) ≡ part =
+    ap (λ (x : MediumState). take count (drop place (slot_of x v.active).data_bytes)) same
+    ∙ sym (front_of (slot_of s.medium v.active).data_bytes place v.len count (omega (arith, sized, long)))
+    ∙ ap (λ (x : List ℕ). take count (drop place x)) (sym front) ∙ counted image place size count sized in
+    let m = c.if-count-from.self in
+    let after : IsAfter count size place c.in-Sends.number m = elim c.if-count-from.branch [
+      | then-count-from x ↦ record {
+        last = λ less. x.self-is;
+        more = λ le. absurd (omega (arith, le, x.if-count-from, c.from.ensures));
+      }
+      | else-count-from x ↦ record {
+        last = λ less. absurd (omega (arith, less, x.if-count-from, c.from.ensures));
+        more = λ le. x.self-is ∙ ap (λ (n : ℕ). mode.UploadIdle (place + n) c.in-Sends.number) x.from-else-count-from.ensures;
+      }
+    ] in
+    let now : LentAsking = record l { mode = m } in
+    called_ended answer.Bytes count
+    (kept_ended l now flash
+    (record { config = refl; unit = refl; sector = refl; held = refl; end = refl; noted = refl; work = refl }) kept.is
+    (after_filled count size place c.in-Sends.number m (length l.block) s after)
+    c.requires.idle answer.Bytes count c.args.out.now c.put_image-count.new.out part
+    (λ x sent d'. Done (p c.args.decision) len w x sent d')
+    (count_is image place size count sized)
+    (c.put_image-count.ensures.bytes ∙ ap (λ (x : List ℕ). x ++ drop count c.args.out.now) sent)
+    (subst (λ (d : Decision). Done (p d) len w answer.Bytes part (shows l.config s m l.block)) (sym c.in-Sends.is)
+    (sent_row w len part l.block size place c.in-Sends.number m count (count_is image place size count sized) after)))
+
+pub returns-in-Writes-clause-outcome : goal.returns-in-Writes-clause-outcome
+returns-in-Writes-clause-outcome c = λ kept possible due within.
+    let flash = c.args.medium.now.bytes.now in
+    let l = lent c.args.self.now c.args.block.now c.args.held.now in
+    let s = store_in l flash in
+    let w = device_in l flash in
+    due_called l flash c.args.out.now (plan_of (profile w) (image_of s) (spare_of s) l.block c.args.body.now c.args.decision) c.args.asked
+    (wanted c.args.asked) (lent c.start.new.self c.args.block.now c.start.new.held) c.start.new.out c.start.result
+    (λ sure. subst (λ (d : Decision). IsSure (plan_of (profile w) (image_of s) (spare_of s) l.block c.args.body.now d)) c.in-Writes.is sure)
+    due (λ stage. c.start.ensures.outcome (wanted c.args.asked) kept.is stage)
+
+pub returns-in-Commits-clause-outcome : goal.returns-in-Commits-clause-outcome
+returns-in-Commits-clause-outcome c = λ kept possible due within.
+    let flash = c.args.medium.now.bytes.now in
+    let l = lent c.args.self.now c.args.block.now c.args.held.now in
+    let s = store_in l flash in
+    let w = device_in l flash in
+    let begun = c.start-in-Commits in
+    due_called l flash c.args.out.now (plan_of (profile w) (image_of s) (spare_of s) l.block c.args.body.now c.args.decision) c.args.asked
+    (wanted c.args.asked) (lent begun.new.self c.args.block.now begun.new.held) begun.new.out begun.result
+    (λ sure. subst (λ (d : Decision). IsSure (plan_of (profile w) (image_of s) (spare_of s) l.block c.args.body.now d)) c.in-Commits.is sure)
+    due (λ stage. begun.ensures.outcome (wanted c.args.asked) kept.is stage)

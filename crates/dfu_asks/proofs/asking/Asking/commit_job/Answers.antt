@@ -1,0 +1,33 @@
+use Rattle.std.proofs.Common.{◌≡◌, ℕ, ◌+◌, ◌-◌, ◌*◌, ◌%◌, List, ◌++◌, length, take, slice_index, slice_range, refl, sym, ◌∙◌, ap, arith}
+use Rattle.std.proofs.lemmas.List.{length-take-le}
+use Rattle.dfu_suffix.specs.Register.{register}
+use Rattle.dfu_slots.specs.Layout.{generation, next_generation}
+use Rattle.dfu_slots.specs.Image.{gate_of, spare_at}
+use Rattle.dfu_slots.specs.Seen.{spare_of, active_slot}
+use Rattle.dfu_asks.specs.Mapped.{mapped}
+use Rattle.dfu_asks.specs.Lent.{lent}
+use Rattle.dfu_asks.specs.Asks.{store_in}
+use Rattle.dfu_asks.specs.declared.job.Job.TheVariants.{Commit}
+use Rattle.dfu_asks.proofs.Noting.{noted_spare}
+use Rattle.dfu_asks.proofs.Started.{put_is}
+use Rattle.dfu_asks.proofs.asking.Asking.commit_job.Goals as goal
+
+pub returns : goal.returns
+returns c = λ block is.
+    let a = c.args.self.now in
+    let l = lent a block c.args.held.now in
+    let flash = c.args.medium.now.bytes.now in
+    let s = store_in l flash in
+    let m = mapped (record { unit = c.args.medium.now.unit; sector = c.args.medium.now.sector.size }) flash in
+    let same : m ≡ s.medium = λ i. mapped (record { unit = c.requires.unit i; sector = (c.requires.sector i).size }) flash in
+    let spare : c.args.view.spare ≡ spare_at (gate_of s.medium) s.medium.bytes =
+    c.requires.view.spare ∙ noted_spare a.noted s.medium is.noted in
+    let gen : (slice_index a.noted.header 0 + 1) % 256 ≡ next_generation (generation (active_slot s)) =
+    ap (λ (h : List ℕ). (slice_index h 0 + 1) % 256) is.noted.header in
+    let from : c.data_at-from.result ≡ spare_at (gate_of s.medium) s.medium.bytes + 2 * gate_of s.medium =
+    omega (arith, c.data_at-from.ensures, spare, ap gate_of same) in
+    let held : a.held_len ≡ length l.held = sym (length-take-le a.held_len c.args.held.now (omega (arith, a.few, c.told-held))) in
+    let size : a.put_end - a.held_len ≡ s.put_end - length s.held = omega (arith, held) in
+    let reg : c.register_of.result ≡ register (take s.put_end (spare_of s)) = c.register_of.ensures
+    ∙ (λ i. register (slice_range flash (from i) (from i + size i) ++ s.held)) ∙ ap register (sym (put_is s is.store)) in
+    record { job_is = λ i. Commit (spare i) (gen i) (reg i); end_is = refl; held_is = refl }

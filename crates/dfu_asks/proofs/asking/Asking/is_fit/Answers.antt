@@ -1,0 +1,47 @@
+use Rattle.std.proofs.Common.{◌≡◌, ◌==◌, not, IsTrue, ℕ, length, sym, ◌∙◌, ap, subst, refl, arith}
+use Rattle.std.proofs.lemmas.List.{length-take-le}
+use Rattle.dfu_slots.specs.Medium.{MediumState}
+use Rattle.dfu_slots.specs.Layout.{OPEN}
+use Rattle.dfu_slots.specs.Image.{gate_of, slot_of, spare_at}
+use Rattle.dfu_slots.specs.Store.{HasPuts}
+use Rattle.dfu_slots.specs.Seen.{store_of}
+use Rattle.dfu_slots.proofs.Seeing.{room_capacity}
+use Rattle.dfu_device.specs.Parts.{is_filled}
+use Rattle.dfu_device.proofs.Carried.{filled}
+use Rattle.dfu_asks.specs.Mapped.{mapped}
+use Rattle.dfu_asks.specs.Lent.{lent}
+use Rattle.dfu_asks.specs.Asks.{store_in}
+use Rattle.dfu_asks.proofs.Calling.{is_false}
+use Rattle.dfu_asks.proofs.Noting.{noted_spare, begun_is}
+use Rattle.dfu_asks.proofs.asking.Asking.is_fit.Goals as goal
+
+pub returns-then-not-has_puts-clause-kept : goal.returns-then-not-has_puts-clause-kept
+returns-then-not-has_puts-clause-kept c = λ block held room size kept.
+    let a = c.args.self.now in
+    let l = lent a block held in
+    let s = store_in l c.args.medium.now.bytes.now in
+    let m = mapped (record { unit = c.args.medium.now.unit; sector = c.args.medium.now.sector.size }) c.args.medium.now.bytes.now in
+    let same : m ≡ s.medium =
+    λ i. mapped (record { unit = c.requires.unit i; sector = (c.requires.sector i).size }) c.args.medium.now.bytes.now in
+    let spare : c.args.view.spare ≡ spare_at (gate_of m) m.bytes = c.requires.view.spare ∙ noted_spare a.noted s.medium kept.is.noted
+    ∙ sym (ap (λ (x : MediumState). spare_at (gate_of x) x.bytes) same) in
+    let count : length l.held ≡ a.held_len = length-take-le a.held_len held (omega (arith, size, a.few)) in
+    absurd (is_false c.has_puts.result c.if-not-has_puts.true ((c.has_puts.ensures.puts l.held count spare).1
+    (subst (λ (x : MediumState). HasPuts (store_of x l.held a.put_end)) (sym same) kept.is.store.puts)))
+
+pub returns-clause-kept : goal.returns-clause-kept
+returns-clause-kept c = λ block held room size kept.
+    let a = c.args.self.now in
+    let l = lent a block held in
+    let s = store_in l c.args.medium.now.bytes.now in
+    let m = mapped (record { unit = c.args.medium.now.unit; sector = c.args.medium.now.sector.size }) c.args.medium.now.bytes.now in
+    let same : m ≡ s.medium =
+    λ i. mapped (record { unit = c.requires.unit i; sector = (c.requires.sector i).size }) c.args.medium.now.bytes.now in
+    let there : c.args.view.spare ≡ spare_at (gate_of s.medium) s.medium.bytes =
+    c.requires.view.spare ∙ noted_spare a.noted s.medium kept.is.noted in
+    let gate : c.is_open.result ≡ ((slot_of s.medium (spare_at (gate_of s.medium) s.medium.bytes)).gate == OPEN) =
+    c.is_open.ensures ∙ (λ i. (slot_of (same i) (there i)).gate == OPEN) in
+    let count : length l.block ≡ a.block_len = length-take-le a.block_len block kept.fits.block in
+    let is : c.is_filled.result ≡ is_filled a.mode a.block_len s =
+    c.is_filled.ensures s (c.requires.view.room ∙ sym (room_capacity s)) (ap not gate ∙ begun_is s) refl in
+    subst IsTrue (sym is) (subst (λ (n : ℕ). IsTrue (is_filled a.mode n s)) count (filled a.mode (length l.block) s kept.is.sound))

@@ -1,0 +1,41 @@
+-- A device that asks, with what is in the memory that its caller lends.
+use Rattle.std.specs.Prelude.{◌≡◌, ℕ, List, take, Option}
+use Rattle.dfu_slots.specs.declared.unit.Unit.{Unit as WriteUnit}
+use Rattle.dfu_device.specs.declared.mode.Mode.{Mode}
+use Rattle.dfu_device.specs.Setting.{Setting}
+use Rattle.dfu_asks.specs.declared.sector.Sector.{Sector}
+use Rattle.dfu_asks.specs.declared.noted.Noted.{Noted}
+use Rattle.dfu_asks.specs.declared.work.Work.{Work}
+use Rattle.dfu_asks.specs.declared.asking.Asking.{Asking}
+
+-- What is kept of a device that asks, the block that is not written, and the bytes held back.
+pub record LentAsking : Type 0 where
+  pub config : Setting
+  pub unit : WriteUnit
+  pub sector : Sector
+  pub mode : Mode
+  pub block : List ℕ
+  pub held : List ℕ
+  pub put_end : ℕ
+  pub noted : Noted
+  pub work : Option Work
+
+-- The device with these bytes in the memory of its block, and these in that of the bytes held back.
+abbrev pub lent : Asking → (block held : List ℕ) → LentAsking
+lent a block held = record {
+  config = a.config;
+  unit = a.unit;
+  sector = a.sector;
+  mode = a.mode;
+  block = take a.block_len block;
+  held = take a.held_len held;
+  put_end = a.put_end;
+  noted = a.noted;
+  work = a.work;
+}
+
+-- It is set up as it was.
+pub record IsSetUpAs (a a' : Asking) : Type 0 where
+  pub config : a'.config ≡ a.config
+  pub unit : a'.unit ≡ a.unit
+  pub sector : a'.sector ≡ a.sector

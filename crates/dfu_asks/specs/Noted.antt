@@ -1,0 +1,37 @@
+-- What is noted of the active image, and what is seen of a medium by it.
+use Rattle.std.specs.Prelude.{◌≡◌, ℕ, ◌+◌, ◌≤◌, List, length, if◌then◌else◌}
+use Rattle.dfu_slots.specs.Medium.{MediumState}
+use Rattle.dfu_slots.specs.Layout.{OPEN, slot_size, header_length}
+use Rattle.dfu_slots.specs.Image.{gate_of, slot_of, capacity_of, active_at, IsSized}
+use Rattle.dfu_asks.specs.declared.noted.Noted.{Noted}
+use Rattle.dfu_asks.specs.declared.view.View.{View}
+
+-- Where the slot begins that is noted.
+abbrev pub noted_at : Noted → List ℕ → ℕ
+noted_at n bytes = if n.second then slot_size bytes else 0
+
+-- Where the other slot begins.
+abbrev pub beside : Noted → List ℕ → ℕ
+beside n bytes = if n.second then 0 else slot_size bytes
+
+-- The active slot of a medium is noted, with its header.
+pub record IsNoted (n : Noted) (m : MediumState) : Type 0 where
+  pub place : noted_at n m.bytes ≡ active_at (gate_of m) m.bytes
+  pub header : n.header ≡ (slot_of m (active_at (gate_of m) m.bytes)).header
+
+-- The noted slot of a medium is open, and has the noted header, whose length fits. No image is read to tell that.
+pub record Stands (n : Noted) (m : MediumState) : Type 0 where
+  pub sized : IsSized m
+  pub is_open : (slot_of m (noted_at n m.bytes)).gate ≡ OPEN
+  pub header : (slot_of m (noted_at n m.bytes)).header ≡ n.header
+  pub fits : header_length (slot_of m (noted_at n m.bytes)) ≤ capacity_of m
+
+-- This is seen of a medium by what is noted.
+pub record IsView (v : View) (n : Noted) (m : MediumState) : Type 0 where
+  pub stands : Stands n m
+  pub active : v.active ≡ noted_at n m.bytes
+  pub spare : v.spare ≡ beside n m.bytes
+  pub room : v.room ≡ capacity_of m
+  pub len : v.len ≡ header_length (slot_of m (noted_at n m.bytes))
+  pub active_end : v.active + slot_size m.bytes ≤ length m.bytes
+  pub spare_end : v.spare + slot_size m.bytes ≤ length m.bytes

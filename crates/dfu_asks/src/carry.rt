@@ -1,0 +1,156 @@
+//! What is decided is carried out, or is begun.
+ghost use Rattle.std.specs.Prelude.{◌≡◌, ◌-◌, ◌≤◌, ◌++◌, min, ℕ, List, length, take, drop, Some, None};
+ghost use Rattle.dfu_slots.specs.Image.{slot_of};
+ghost use Rattle.dfu_slots.specs.Seen.{image_of, spare_of};
+ghost use Rattle.dfu_device.specs.Decision.{plan_of, IsPossible};
+ghost use Rattle.dfu_device.specs.Rows.{Done};
+ghost use Rattle.dfu_device.specs.Shown.{profile};
+ghost use Rattle.dfu_asks.specs.declared.work.Work.{Work};
+ghost use Rattle.dfu_asks.specs.declared.noted.Noted.{Noted};
+ghost use Rattle.dfu_asks.specs.Mapped.{grain_of, mapped};
+ghost use Rattle.dfu_asks.specs.Noted.{IsView, noted_at};
+ghost use Rattle.dfu_asks.specs.Lent.{lent, IsSetUpAs};
+ghost use Rattle.dfu_asks.specs.Due.{IsSureOrDue, SendsWithin, wanted};
+ghost use Rattle.dfu_asks.specs.Asks.{device_in, store_in, IsReply, Gives};
+ghost use Rattle.dfu_asks.specs.Calls.{Called, HasAtMost};
+ghost use Rattle.dfu_asks.specs.Refused.{IsKept};
+
+use crate::view::View;
+use crate::{Asking, Mapped, Reply};
+use dfu_device::{Answer, Decision, Mode, status_in};
+use dfu_slots::read_data;
+
+// How many bytes of a status are asked for.
+fn wanted(asked: Option<u16>) -> u16
+    ensures { result ≡ wanted asked }
+{
+    match asked {
+        Some(len) => len,
+        None => 0,
+    }
+}
+
+// Puts the first of some bytes at the front of a buffer, at most `asked`, and answers how many they are.
+fn put_front(bytes: &[u8], asked: u16, out: &mut [u8]) -> usize
+    requires few { length bytes.now ≤ 6 }
+    requires room { 6 ≤ length out.old }
+    ensures count { result ≡ length (take asked bytes.now) }
+    ensures most { result ≤ 6 }
+    ensures bytes { out.new ≡ take asked bytes.now ++ drop result out.old }
+{
+    let count = usize::from(asked).min(bytes.len());
+    out[..count].copy_from_slice(&bytes[..count]);
+    count
+}
+
+// Puts the bytes of the active image at the front of a buffer, from `place` on, at most `size`; and answers how many they are.
+fn put_image(medium: &Mapped<'_>, view: View, place: u32, size: u16, out: &mut [u8]) -> usize
+    requires view { (n : Noted) × IsView view n (mapped (grain_of medium.now.unit medium.now.sector) medium.now.bytes.now) }
+    ensures count { result ≡ min (view.len - place) (min size (length out.old)) }
+    ensures bytes { let m = mapped (grain_of medium.now.unit medium.now.sector) medium.now.bytes.now in
+        out.new ≡ take result (drop place (slot_of m view.active).data_bytes) ++ drop result out.old }
+{
+    let rest = view.len.saturating_sub(place);
+    let count = (rest as usize).min(usize::from(size)).min(out.len());
+    if count > 0 {
+        read_data(medium, view.active, place, &mut out[..count]);
+    }
+    count
+}
+
+impl Asking {
+    /// Puts a reply at the front of a buffer, where so many bytes of a status or of a state are asked for.
+    pub(crate) fn give(
+        &self,
+        reply: dfu_device::Reply,
+        asked: u16,
+        out: &mut [u8],
+    ) -> (Answer, usize)
+        requires { 6 ≤ length out.old }
+        ensures { Gives (λ x sent. IsReply self.now.config self.now.mode reply asked x sent) result.0 result.1 out.old out.new }
+    {
+        match reply {
+            dfu_device::Reply::Ack => (Answer::Ack, 0),
+            dfu_device::Reply::Stall => (Answer::Stall, 0),
+            dfu_device::Reply::Status => {
+                let bytes = status_in(&self.config, self.mode);
+                (Answer::Bytes, put_front(&bytes, asked, out))
+            }
+            dfu_device::Reply::State => {
+                let bytes = [self.mode.state().byte()];
+                (Answer::Bytes, put_front(&bytes, asked, out))
+            }
+        }
+    }
+
+    /// Carries out what is decided on a request with this body, which asks for so many bytes of a status or of a state, or on a time;
+    /// or if that writes, asks for its first write.
+    pub(crate) fn carry_out(
+        &mut self,
+        decision: Decision,
+        asked: Option<u16>,
+        body: &[u8],
+        block: &mut [u8],
+        held: &mut [u8; 256],
+        medium: &Mapped<'_>,
+        view: View,
+        out: &mut [u8],
+    ) -> Reply
+        requires room { 6 ≤ length out.old }
+        requires unit { medium.now.unit ≡ self.old.unit }
+        requires sector { medium.now.sector ≡ self.old.sector }
+        requires view { IsView view self.old.noted (mapped (grain_of self.old.unit self.old.sector) medium.now.bytes.now) }
+        requires idle { self.old.work ≡ None }
+        requires block { self.old.block_len ≤ length block.old }
+        requires end { self.old.put_end ≤ view.room }
+        requires held { self.old.held_len ≤ self.old.put_end }
+        ensures outcome { let a = lent self.old block.old held.old in
+            let flash = medium.now.bytes.now in
+            let w = device_in a flash in
+            let s = store_in a flash in
+            let p = plan_of (profile w) (image_of s) (spare_of s) a.block body.now decision in
+            let len = wanted asked in
+            IsKept self.old block.old held.old flash →
+            IsPossible self.old.config.functional.transfer (length a.block) (length body.now) s decision →
+            IsSureOrDue p (profile w) w.stage asked len → SendsWithin decision (image_of s) (length out.old) →
+            Called a flash out.old (λ x sent d'. Done p len w x sent d') (lent self.new block.new held.new) out.new result }
+        ensures first { result ≡ Reply.Asks → (w : Work) × (self.new.work ≡ Some w) × (w.done ≡ 0) }
+        ensures few { HasAtMost 65535 result }
+        ensures same { IsSetUpAs self.old self.new }
+        ensures fits { self.new.block_len ≤ length block.new }
+    {
+        match decision {
+            Decision::Sure { reply, mode } => {
+                self.mode = mode;
+                let (answer, count) = self.give(reply, wanted(asked), out);
+                Reply::Answered(answer, count)
+            }
+            Decision::Holds { mode } => {
+                // The body of a block finds room.
+                let len = body.len().min(block.len()).min(4096);
+                block[..len].copy_from_slice(&body[..len]);
+                self.block_len = len;
+                self.mode = mode;
+                Reply::Answered(Answer::Ack, 0)
+            }
+            Decision::Sends {
+                place,
+                size,
+                number,
+            } => {
+                let count = put_image(medium, view, place, size, out);
+                self.mode = if count < usize::from(size) {
+                    Mode::DfuIdle
+                } else {
+                    Mode::UploadIdle {
+                        place: place + u32::from(size),
+                        number,
+                    }
+                };
+                Reply::Answered(Answer::Bytes, count)
+            }
+            Decision::Writes { .. } => self.start(asked, block, held, medium, view, out),
+            Decision::Commits { .. } => self.start(asked, block, held, medium, view, out),
+        }
+    }
+}

@@ -1,0 +1,156 @@
+//! A note that is not true of the flash.
+
+use super::board::Board;
+use super::chip::{Chip, KINDS};
+use super::faded::first_write_is_not_handed_out;
+use super::rows::{Went, idle, install, send};
+use super::trouble::Trouble;
+use super::{CLR_STATUS, DETACH, GET_STATE, GET_STATUS, UPLOAD, config, dnload};
+use dfu_asks::{Noted, Refusal, Reply};
+use dfu_device::Answer;
+use std::process::Abort;
+use std::test::Fail;
+
+/// GET_DESCRIPTOR, which is no request of DFU.
+const GET_DESCRIPTOR: [u8; 8] = [0x80, 6, 0, 1, 0, 0, 18, 0];
+
+/// Each call is refused for want of the noted image, and nothing changes.
+fn is_refused(rt: &impl Abort, board: &mut Board, chip: &Chip) {
+    board.spoil();
+    let before = board.kept();
+    let mut out = [0x5a; 1500];
+    for setup in [
+        GET_STATUS,
+        GET_STATE,
+        UPLOAD,
+        CLR_STATUS,
+        DETACH,
+        dnload(1, 0),
+        GET_DESCRIPTOR,
+    ] {
+        let handled = board.handle(&chip.flash, &setup, &[], &mut out);
+        assert_eq!(rt; handled, Err(Refusal::NoMedium));
+    }
+    let handled = board.handle(&chip.flash, &dnload(0, 20), &[0x66; 20], &mut out);
+    assert_eq!(rt; handled, Err(Refusal::NoMedium));
+    for ms in [0, 5, 0xffff_ffff] {
+        assert_eq!(rt; board.elapse(&chip.flash, ms), Err(Refusal::NoMedium));
+    }
+    assert_eq!(rt; board.usb_reset(&chip.flash), Err(Refusal::NoMedium));
+    assert!(rt; board.kept() == before);
+    assert!(rt; out == [0x5a; 1500]);
+}
+
+/// Each byte of the header, there and as it is noted, the gate and the noted slot are changed, and changed back.
+fn is_refused_for_each_change(rt: &impl Abort, board: &mut Board, chip: &mut Chip) {
+    let second = board.device.noted.second;
+    for byte in 0..16 {
+        for bits in [0x01, 0x80, 0xff] {
+            let at = chip.header_at(second).saturating_add(byte);
+            chip.turn(rt, at, bits);
+            is_refused(rt, board, chip);
+            chip.turn(rt, at, bits);
+        }
+        board.device.noted.header[byte] ^= 0x10;
+        is_refused(rt, board, chip);
+        board.device.noted.header[byte] ^= 0x10;
+    }
+    for bits in [0x01, 0x80, 0x5a, 0xa5, 0xff] {
+        let at = chip.at(second);
+        chip.turn(rt, at, bits);
+        is_refused(rt, board, chip);
+        chip.turn(rt, at, bits);
+    }
+    board.device.noted.second = !second;
+    is_refused(rt, board, chip);
+    board.device.noted.second = second;
+}
+
+#[test]
+fn a_note_that_is_not_true_is_refused(rt: HostRuntime) -> Result<(), Fail> {
+    for kind in KINDS {
+        let mut chip = Chip::shipped(&rt, rt.alloc(), kind)?;
+        // In appIDLE, in dfuIDLE, with a block that is not written, with bytes held back, and after a download with both gates open.
+        let mut board = Board::power_on(&rt, &chip, config(5, 5)?);
+        is_refused_for_each_change(&rt, &mut board, &mut chip);
+        let mut board = idle(&rt, &chip, (5, 5))?;
+        is_refused_for_each_change(&rt, &mut board, &mut chip);
+        let mut out = [0; 1500];
+        let taken = board.handle(&chip.flash, &dnload(0, 20), &[0x66; 20], &mut out);
+        assert_eq!(rt; taken, Ok(Reply::Answered(Answer::Ack, 0)));
+        is_refused_for_each_change(&rt, &mut board, &mut chip);
+        let mut board = idle(&rt, &chip, (5, 5))?;
+        let (request, mut went) = ((&dnload(0, 20), [0x66; 20].as_slice()), Went::new());
+        send(
+            &rt,
+            &mut board,
+            &mut chip,
+            request,
+            Trouble::None,
+            &mut went,
+        );
+        assert!(rt; board.device.held_len == 4 || board.device.held_len == 20);
+        is_refused_for_each_change(&rt, &mut board, &mut chip);
+        let mut board = idle(&rt, &chip, (5, 5))?;
+        let went = install(&rt, &mut board, &mut chip, Trouble::None);
+        assert_eq!(rt; went.status, [0, 0, 0, 0, 2, 0]);
+        assert!(rt; board.device.noted.second);
+        is_refused_for_each_change(&rt, &mut board, &mut chip);
+        // Changed back, it goes on.
+        let went = install(&rt, &mut board, &mut chip, Trouble::None);
+        assert_eq!(rt; went.status, [0, 0, 0, 0, 2, 0]);
+    }
+    Ok(())
+}
+
+#[test]
+fn a_note_of_the_other_image_is_read_and_not_written_by(rt: HostRuntime) -> Result<(), Fail> {
+    for kind in KINDS {
+        for times in [(0, 0), (5, 5)] {
+            let mut chip = Chip::shipped(&rt, rt.alloc(), kind)?;
+            let mut board = idle(&rt, &chip, times)?;
+            let _ = install(&rt, &mut board, &mut chip, Trouble::None);
+            assert!(rt; chip.is_new(&rt));
+            board.device.noted = Noted {
+                second: false,
+                header: chip.header(&rt, false),
+            };
+            let mut out = [0x5a; 1500];
+            let answer = board.answer(&rt, &chip.flash, &GET_STATUS, &mut out);
+            assert_eq!(rt; answer, (Answer::Bytes, 6));
+            assert_eq!(rt; &out[..6], [0, 0, 0, 0, 2, 0].as_slice());
+            // The old image is the one byte 00.
+            let answer = board.answer(&rt, &chip.flash, &UPLOAD, &mut out);
+            assert_eq!(rt; (answer, out[0]), ((Answer::Bytes, 1), 0x00));
+            first_write_is_not_handed_out(&rt, &mut board, &chip, times);
+            assert!(rt; chip.is_new(&rt));
+        }
+    }
+    Ok(())
+}
+
+#[test]
+fn two_slots_with_one_header_are_read_and_not_written(rt: HostRuntime) -> Result<(), Fail> {
+    for kind in KINDS {
+        let mut chip = Chip::shipped(&rt, rt.alloc(), kind)?;
+        let mut board = idle(&rt, &chip, (0, 0))?;
+        let half = chip.at(true);
+        for i in 0..half {
+            let byte = chip.byte(&rt, i);
+            let at = half.saturating_add(i);
+            let bits = chip.byte(&rt, at) ^ byte;
+            chip.turn(&rt, at, bits);
+        }
+        // Neither is one generation ahead, so no image is active.
+        let mut out = [0x5a; 1500];
+        for second in [true, false] {
+            board.device.noted.second = second;
+            let answer = board.answer(&rt, &chip.flash, &UPLOAD, &mut out);
+            assert_eq!(rt; (answer, out[0]), ((Answer::Bytes, 1), 0x00));
+        }
+        first_write_is_not_handed_out(&rt, &mut board, &chip, (0, 0));
+        board.device.noted.second = true;
+        assert!(rt; board.gives_none(&chip.flash));
+    }
+    Ok(())
+}
