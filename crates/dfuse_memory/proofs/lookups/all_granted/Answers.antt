@@ -1,0 +1,16 @@
+use Rattle.std.proofs.Common.{ℕ, sym, ◌∙◌, subst, arith}
+use Rattle.dfuse_memory.specs.Lookups.{AllGranted}
+use Rattle.dfuse_memory.proofs.OneRange.{granted_on}
+use Rattle.dfuse_memory.proofs.lookups.all_granted.Goals as goal
+
+pub loop-at-preserved : goal.loop-at-preserved
+loop-at-preserved c =
+    let p = c.in-Some.pages in
+    let s = c.in-Some.ensures.sound in
+    let ranges = c.args.ranges.now in
+    let end = c.end_of-at.ensures.value in record {
+      ahead = omega (arith, c.loop-at.invariant.ahead, s.1, s.2, end);
+      granted = subst (λ (n : ℕ). AllGranted c.args.wanted c.args.start n ranges) (sym end)
+          (granted_on c.args.wanted c.args.start c.loop-at.at p ranges c.requires.apart c.loop-at.invariant.granted
+          (sym c.range_at.ensures.value ∙ c.in-Some.is) s.1 s.2 (sym c.grants.ensures ∙ c.if-grants.true));
+    }

@@ -1,0 +1,4 @@
+pub mod Lookups
+pub mod Ranges
+pub mod Reading
+pub mod inside

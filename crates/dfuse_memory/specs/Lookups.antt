@@ -1,0 +1,47 @@
+-- What a map says of an address.
+use Rattle.std.specs.Prelude.{◌≡◌, ℕ, ◌+◌, ◌-◌, ◌*◌, ◌/◌, ◌<◌, ◌≤◌, ◌&&◌, ◌||◌, not, nat_lt, nat_le, Bool, true, List, [], ◌∷◌, Option, Some, None, if◌then◌else◌}
+use Rattle.std.specs.Option.{option_map}
+use Rattle.dfuse_memory.specs.declared.pages.Access.{Access}
+use Rattle.dfuse_memory.specs.declared.pages.Pages.{Pages}
+use Rattle.dfuse_memory.specs.declared.pages.Page.{Page}
+use Rattle.dfuse_memory.specs.Ranges.{end_of}
+
+-- A range has this address.
+abbrev pub has : ℕ → Pages → Bool
+has address p = nat_le p.start address && nat_lt address (end_of p)
+
+-- The range that has this address: the first, and in a map the only one.
+unfoldable pub range_at : ℕ → List Pages → Option Pages
+range_at address [] = None
+range_at address (p ∷ ps) = if has address p then Some p else range_at address ps
+
+-- The page of a range that has this address.
+abbrev pub page_in : ℕ → Pages → Page
+page_in address p = record {
+  start = p.start + (address - p.start) / p.size * p.size;
+  size = p.size;
+  access = p.access;
+}
+
+-- The page that has this address.
+abbrev pub page_at : ℕ → List Pages → Option Page
+page_at address ranges = option_map (page_in address) (range_at address ranges)
+
+-- The address behind the last byte of a page.
+abbrev pub page_end : Page → ℕ
+page_end p = p.start + p.size
+
+-- What is wanted is granted.
+abbrev pub grants : (granted wanted : Access) → Bool
+grants granted wanted =
+    (granted.is_readable || not wanted.is_readable)
+    && ((granted.is_erasable || not wanted.is_erasable) && (granted.is_writable || not wanted.is_writable))
+
+-- There is a range, and it grants what is wanted.
+abbrev pub IsGranted : Access → Option Pages → Type 0
+IsGranted wanted None = ⊥
+IsGranted wanted (Some p) = grants p.access wanted ≡ true
+
+-- Each address from the one to before the other is in a range that grants what is wanted.
+abbrev pub AllGranted : Access → (start end : ℕ) → List Pages → Type 0
+AllGranted wanted start end ranges = (a : ℕ) → start ≤ a → a < end → IsGranted wanted (range_at a ranges)

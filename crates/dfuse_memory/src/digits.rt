@@ -1,0 +1,67 @@
+//! Numbers in digits.
+
+ghost use Rattle.std.specs.Prelude.{◌≡◌, ◌^◌, ◌≤◌, ◌<◌, length, IfSome};
+ghost use Rattle.dfuse_memory.specs.Reading.{digit_value, digits_in, said, number_at};
+
+use crate::text::Number;
+
+/// The value of a digit, or 16.
+fn digit_value(byte: u8) -> u64
+    ensures value { result ≡ digit_value byte }
+    ensures small { result ≤ 16 }
+{
+    match byte {
+        b'0'..=b'9' => (byte - b'0') as u64,
+        b'a'..=b'f' => (byte - b'a') as u64 + 10,
+        b'A'..=b'F' => (byte - b'A') as u64 + 10,
+        _ => 16,
+    }
+}
+
+/// How many digits in this base stand at the front.
+fn digits_in(base: u64, text: &[u8]) -> usize
+    ensures value { result ≡ digits_in base text.now }
+    ensures within { result ≤ length text.now }
+{
+    let mut count: usize = 0;
+    for byte in text {
+        if digit_value(*byte) >= base {
+            return count;
+        }
+        count += 1;
+    }
+    count
+}
+
+/// The number that up to eight digits in this base say.
+fn said(base: u64, digits: &[u8]) -> u64
+    requires base { base ≤ 16 }
+    requires few { length digits.now ≤ 8 }
+    ensures value { result ≡ said base 0 digits.now }
+    ensures small { result < 17 ^ length digits.now }
+{
+    let mut value: u64 = 0;
+    for byte in digits {
+        value = base * value + digit_value(*byte);
+    }
+    value
+}
+
+/// The number that stands at the front, in this base and in at most so many digits. All digits there belong to it.
+#[tactic(auto, unfolding(crate::specs::Reading::number_at))]
+pub(crate) fn take_number(base: u64, most: usize, text: &[u8]) -> Option<Number<'_>>
+    requires base { base ≤ 16 }
+    requires few { most ≤ 8 }
+    ensures value { result ≡ number_at base most text.now }
+    ensures small { IfSome result (λ n. n.value < 17 ^ most) }
+{
+    let count = digits_in(base, text);
+    if count == 0 || count > most {
+        return None;
+    }
+    let (digits, rest) = text.split_at(count);
+    Some(Number {
+        value: said(base, digits),
+        rest,
+    })
+}

@@ -1,0 +1,165 @@
+//! A range, as the string has it: a count, a size with its unit, and a letter.
+
+ghost use Rattle.std.specs.Prelude.{◌≡◌, ◌*◌, ◌≤◌, ◌<◌, ◌^◌, IfOk};
+ghost use Rattle.dfuse_memory.specs.Ranges.{IsRange};
+ghost use Rattle.dfuse_memory.specs.Reading.{unit_of, unit_at, access_of, count_at, size_at, access_at, group_at};
+
+use crate::digits::take_number;
+use crate::fault::MapFault;
+use crate::limits::ADDRESSES;
+use crate::pages::{Access, Pages};
+use crate::text::{Number, behind, front};
+use std::marker::Model;
+
+/// What may be done with pages, and the text behind the letter that says it.
+#[derive(Drop)]
+struct Allowed<'t> {
+    access: Access,
+    rest: &'t [u8],
+}
+
+impl<'t> Model for Allowed<'t> {
+    ghost use Rattle.dfuse_memory.specs.Ranges.{IsRange};
+    ghost use Rattle.dfuse_memory.specs.Reading.{Allows};
+
+    ghost Value = { Allows };
+
+    ghost view = { λ a. record { access = a.access; rest = a.rest.now } };
+}
+
+/// A range, and the text behind it.
+#[derive(Drop)]
+pub(crate) struct Group<'t> {
+    pub pages: Pages,
+    pub rest: &'t [u8],
+}
+
+impl<'t> Model for Group<'t> {
+    ghost use Rattle.dfuse_memory.specs.Ranges.{IsRange};
+    ghost use Rattle.dfuse_memory.specs.Reading.{Grouped};
+
+    ghost Value = { Grouped };
+
+    ghost view = { λ g. record { pages = g.pages; rest = g.rest.now } };
+}
+
+/// How many bytes a unit has, or 0.
+fn unit_of(byte: u8) -> u64
+    ensures value { result ≡ unit_of byte }
+    ensures small { result ≤ 2 ^ 20 }
+{
+    match byte {
+        b'K' => 1024,
+        b'M' => 1_048_576,
+        b'B' | b' ' => 1,
+        _ => 0,
+    }
+}
+
+/// A size in the unit that stands at the front; bytes, if none does.
+#[tactic(auto, using(std::proofs::lemmas::Bool::Decides::nat_tests), unfolding(crate::specs::Reading::unit_at))]
+fn take_unit(value: u64, text: &[u8]) -> Number<'_>
+    requires some { 1 ≤ value }
+    requires small { value < 17 ^ 5 }
+    ensures value { result ≡ unit_at value text.now }
+    ensures some { 1 ≤ result.value }
+    ensures small { result.value < 2 ^ 41 }
+{
+    match front(text) {
+        Some((byte, rest)) if unit_of(byte) != 0 => Number {
+            value: unit_of(byte) * value,
+            rest,
+        },
+        _ => Number { value, rest: text },
+    }
+}
+
+/// Takes a count of pages, and `*`.
+#[tactic(auto, using(std::proofs::lemmas::Bool::Decides::nat_tests), unfolding(crate::specs::Reading::count_at))]
+fn take_count(text: &[u8]) -> Result<Number<'_>, MapFault>
+    ensures value { result ≡ count_at text.now }
+    ensures small { IfOk result (λ n. (1 ≤ n.value) × (n.value < 17 ^ 5)) }
+{
+    match take_number(10, 5, text) {
+        Some(number) if number.value != 0 => match behind(b'*', number.rest) {
+            Some(rest) => Ok(Number {
+                value: number.value,
+                rest,
+            }),
+            None => Err(MapFault::BadCount),
+        },
+        _ => Err(MapFault::BadCount),
+    }
+}
+
+/// Takes the size of a page, with its unit.
+#[tactic(auto, using(std::proofs::lemmas::Bool::Decides::nat_tests), unfolding(crate::specs::Reading::size_at))]
+fn take_size(text: &[u8]) -> Result<Number<'_>, MapFault>
+    ensures value { result ≡ size_at text.now }
+    ensures small { IfOk result (λ n. (1 ≤ n.value) × (n.value < 2 ^ 41)) }
+{
+    match take_number(10, 5, text) {
+        Some(number) if number.value != 0 => Ok(take_unit(number.value, number.rest)),
+        _ => Err(MapFault::BadSize),
+    }
+}
+
+/// What the bits of a letter say, from `a`, which has the lowest bit alone.
+fn access_of(letter: u8) -> Access
+    requires { 97 ≤ letter }
+    ensures { result ≡ access_of letter }
+{
+    let bits = letter - b'a' + 1;
+    Access {
+        is_readable: bits % 2 == 1,
+        is_erasable: bits / 2 % 2 == 1,
+        is_writable: bits / 4 == 1,
+    }
+}
+
+/// Takes the letter that says what may be done with the pages.
+#[tactic(auto, using(std::proofs::lemmas::Bool::Decides::nat_tests), unfolding(crate::specs::Reading::access_at))]
+fn take_access(text: &[u8]) -> Result<Allowed<'_>, MapFault>
+    ensures { result ≡ access_at text.now }
+{
+    match front(text) {
+        Some((letter, rest)) if letter >= b'a' && letter <= b'g' => Ok(Allowed {
+            access: access_of(letter),
+            rest,
+        }),
+        _ => Err(MapFault::BadType),
+    }
+}
+
+/// Takes a range that begins at this address.
+#[tactic(auto, using(std::proofs::lemmas::Bool::Decides::nat_tests), unfolding(crate::specs::Reading::group_at))]
+pub(crate) fn take_group(start: u64, text: &[u8]) -> Result<Group<'_>, MapFault>
+    requires { start < 2 ^ 33 }
+    ensures value { result ≡ group_at start text.now }
+    ensures sound { IfOk result (λ g. IsRange g.pages) }
+{
+    let count = match take_count(text) {
+        Ok(number) => number,
+        Err(fault) => return Err(fault),
+    };
+    let size = match take_size(count.rest) {
+        Ok(number) => number,
+        Err(fault) => return Err(fault),
+    };
+    let allowed = match take_access(size.rest) {
+        Ok(allowed) => allowed,
+        Err(fault) => return Err(fault),
+    };
+    if start + count.value * size.value > ADDRESSES {
+        return Err(MapFault::PastTheEnd);
+    }
+    Ok(Group {
+        pages: Pages {
+            start: start as u32,
+            size: size.value,
+            count: count.value as u32,
+            access: allowed.access,
+        },
+        rest: allowed.rest,
+    })
+}

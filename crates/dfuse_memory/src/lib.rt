@@ -1,0 +1,19 @@
+//! The memory map of a DfuSe device: ranges of pages, read from the string of an alternate setting.
+#![tactic(auto)]
+
+mod apart;
+mod digits;
+mod fault;
+mod group;
+mod limits;
+mod lookups;
+mod map;
+mod name;
+mod pages;
+mod place;
+mod ranges;
+mod text;
+
+pub use fault::MapFault;
+pub use map::Map;
+pub use pages::{Access, Page, Pages};

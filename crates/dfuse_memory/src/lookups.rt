@@ -1,0 +1,79 @@
+//! What ranges say of an address.
+
+ghost use Rattle.std.specs.Prelude.{◌≡◌, ◌≤◌, ◌<◌, ◌+◌, ◌^◌, ◌↔◌, true, IsTrue, IfSome};
+ghost use Rattle.std.specs.List.{All};
+ghost use Rattle.dfuse_memory.specs.Ranges.{IsRange, end_of, are_apart};
+ghost use Rattle.dfuse_memory.specs.Lookups.{has, range_at, page_at, page_in, page_end, AllGranted};
+
+use crate::pages::{Access, Page, Pages};
+use crate::ranges::end_of;
+
+/// Whether a range has this address.
+fn has(address: u64, pages: &Pages) -> bool
+    requires { IsRange pages.now }
+    ensures { result ≡ has address pages.now }
+{
+    pages.start as u64 <= address && address < end_of(pages)
+}
+
+/// The range that has this address.
+#[tactic(auto, unfolding(crate::specs::Lookups::range_at))]
+pub(crate) fn range_at(address: u64, ranges: &[Pages]) -> Option<Pages>
+    requires { All IsRange ranges.now }
+    ensures value { result ≡ range_at address ranges.now }
+    ensures sound { IfSome result (λ p. IsRange p × (p.start ≤ address) × (address < end_of p)) }
+{
+    for pages in ranges {
+        if has(address, pages) {
+            return Some(*pages);
+        }
+    }
+    None
+}
+
+/// The page of a range that has this address.
+fn page_in(address: u64, pages: &Pages) -> Page
+    requires range { IsRange pages.now }
+    requires from { pages.now.start ≤ address }
+    requires to { address < end_of pages.now }
+    ensures value { result ≡ page_in address pages.now }
+    ensures from { result.start ≤ address }
+    ensures to { address < page_end result }
+    ensures within { page_end result ≤ end_of pages.now }
+{
+    let start = pages.start as u64;
+    let number = (address - start) / pages.size;
+    Page {
+        start: (start + number * pages.size) as u32,
+        size: pages.size,
+        access: pages.access,
+    }
+}
+
+/// The page that has this address.
+pub(crate) fn page_at(address: u64, ranges: &[Pages]) -> Option<Page>
+    requires { All IsRange ranges.now }
+    ensures value { result ≡ page_at address ranges.now }
+    ensures has { IfSome result (λ p. (p.start ≤ address) × (address < page_end p) × (page_end p ≤ 2 ^ 32)) }
+{
+    match range_at(address, ranges) {
+        Some(pages) => Some(page_in(address, &pages)),
+        None => None,
+    }
+}
+
+/// Whether each address from the one to before the other is in a range that grants what is wanted.
+pub(crate) fn all_granted(wanted: Access, start: u64, end: u64, ranges: &[Pages]) -> bool
+    requires sound { All IsRange ranges.now }
+    requires apart { are_apart ranges.now ≡ true }
+    ensures { IsTrue result ↔ AllGranted wanted start end ranges.now }
+{
+    let mut at = start;
+    while at < end {
+        match range_at(at, ranges) {
+            Some(pages) if pages.access.grants(wanted) => at = end_of(&pages),
+            _ => return false,
+        }
+    }
+    true
+}

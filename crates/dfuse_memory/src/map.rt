@@ -1,0 +1,109 @@
+//! A memory map.
+
+ghost use Rattle.std.specs.Prelude.{◌≡◌, ◌≤◌, ◌<◌, ◌^◌, ◌↔◌, length, true, IsTrue, IfSome};
+ghost use Rattle.std.specs.List.{All};
+ghost use Rattle.dfuse_memory.specs.Ranges.{IsRange, are_apart};
+ghost use Rattle.dfuse_memory.specs.Reading.{map_at};
+ghost use Rattle.dfuse_memory.specs.Lookups.{range_at, page_at, page_end, AllGranted};
+
+use crate::apart::are_apart;
+use crate::fault::MapFault;
+use crate::limits::MOST_RANGES;
+use crate::lookups;
+use crate::name::take_name;
+use crate::pages::{Access, Page, Pages};
+use crate::place::take_address;
+use crate::ranges::take_ranges;
+use arrayvec::ArrayVec;
+use std::marker::Model;
+
+/// A memory map: the name of a memory, and its ranges of pages, no two of which share an address.
+#[derive(Drop)]
+pub struct Map<'t> {
+    name: &'t [u8],
+    ranges: ArrayVec<Pages, MOST_RANGES>,
+}
+
+impl<'t> Model for Map<'t> {
+    ghost use Rattle.std.specs.Prelude.{◌≡◌, true};
+    ghost use Rattle.std.specs.List.{All};
+    ghost use Rattle.dfuse_memory.specs.Ranges.{IsRange, are_apart};
+    ghost use Rattle.dfuse_memory.specs.Reading.{Content};
+
+    ghost Value = { Content };
+
+    ghost view = { λ m. record { name = m.name.now; ranges = m.ranges.items } };
+
+    ghost invariant = { λ m. All IsRange m.ranges.items × (are_apart m.ranges.items ≡ true) };
+}
+
+impl<'t> Map<'t> {
+    /// Reads the string of an alternate setting.
+    ///
+    /// # Errors
+    ///
+    /// The fault of the first place at which the string goes on as no map does, or Overlaps.
+    #[tactic(auto, using(std::proofs::lemmas::Bool::Decides::nat_tests), unfolding(crate::specs::Reading::map_at))]
+    pub fn read(text: &'t [u8]) -> Result<Map<'t>, MapFault>
+        ensures { result ≡ map_at text.now }
+    {
+        let named = match take_name(text) {
+            Ok(named) => named,
+            Err(fault) => return Err(fault),
+        };
+        let place = match take_address(named.rest) {
+            Ok(place) => place,
+            Err(fault) => return Err(fault),
+        };
+        let ranges = match take_ranges(place.value, place.rest) {
+            Ok(ranges) => ranges,
+            Err(fault) => return Err(fault),
+        };
+        if !are_apart(&ranges) {
+            return Err(MapFault::Overlaps);
+        }
+        Ok(Map {
+            name: named.name,
+            ranges,
+        })
+    }
+
+    /// The name of the memory.
+    pub fn name(&self) -> &'t [u8]
+        ensures { result.now ≡ self.now.name }
+    {
+        self.name
+    }
+
+    /// The ranges, in the order of the string.
+    pub fn ranges(&self) -> &[Pages]
+        ensures value { result.now ≡ self.now.ranges }
+        ensures sound { All IsRange result.now }
+        ensures apart { are_apart result.now ≡ true }
+        ensures few { length result.now ≤ 32 }
+    {
+        &self.ranges
+    }
+
+    /// The range that has this address.
+    pub fn range_at(&self, address: u32) -> Option<Pages>
+        ensures { result ≡ range_at address self.now.ranges }
+    {
+        lookups::range_at(address as u64, &self.ranges)
+    }
+
+    /// The page that has this address.
+    pub fn page_at(&self, address: u32) -> Option<Page>
+        ensures value { result ≡ page_at address self.now.ranges }
+        ensures has { IfSome result (λ p. (p.start ≤ address) × (address < page_end p) × (page_end p ≤ 2 ^ 32)) }
+    {
+        lookups::page_at(address as u64, &self.ranges)
+    }
+
+    /// Whether each address from the one to before the other lies in a range that grants what is wanted.
+    pub fn grants(&self, wanted: Access, start: u64, end: u64) -> bool
+        ensures { IsTrue result ↔ AllGranted wanted start end self.now.ranges }
+    {
+        lookups::all_granted(wanted, start, end, &self.ranges)
+    }
+}

@@ -1,0 +1,67 @@
+//! The name of a memory.
+
+ghost use Rattle.std.specs.Prelude.{◌≡◌, ◌<◌, length, IfSome};
+ghost use Rattle.std.specs.List.{position};
+ghost use Rattle.dfuse_memory.specs.Reading.{is_stroke, trimmed, name_at};
+
+use crate::fault::MapFault;
+use crate::text::behind;
+use std::marker::Model;
+
+/// A name, and the text behind it.
+#[derive(Drop)]
+pub(crate) struct Named<'t> {
+    pub name: &'t [u8],
+    pub rest: &'t [u8],
+}
+
+impl<'t> Model for Named<'t> {
+    ghost use Rattle.dfuse_memory.specs.Reading.{Named};
+
+    ghost Value = { Named };
+
+    ghost view = { λ n. record { name = n.name.now; rest = n.rest.now } };
+}
+
+/// Bytes without the spaces at their end.
+fn trimmed(bytes: &[u8]) -> &[u8]
+    ensures { result.now ≡ trimmed bytes.now }
+{
+    let mut end = 0;
+    let mut count = 0;
+    for byte in bytes {
+        count += 1;
+        if *byte != b' ' {
+            end = count;
+        }
+    }
+    let (kept, _) = bytes.split_at(end);
+    kept
+}
+
+/// Where the first `/` stands.
+fn stroke_in(text: &[u8]) -> Option<usize>
+    ensures value { result ≡ position is_stroke text.now }
+    ensures within { IfSome result (λ at. at < length text.now) }
+{
+    text.iter().position(|byte| *byte == b'/')
+}
+
+/// Takes a name that `@` begins and `/` ends.
+#[tactic(auto, using(std::proofs::lemmas::Bool::Decides::nat_tests), unfolding(crate::specs::Reading::name_at))]
+pub(crate) fn take_name(text: &[u8]) -> Result<Named<'_>, MapFault>
+    ensures { result ≡ name_at text.now }
+{
+    let Some(name) = behind(b'@', text) else {
+        return Err(MapFault::NoMap);
+    };
+    let Some(end) = stroke_in(name) else {
+        return Err(MapFault::NoMap);
+    };
+    let (front, _) = name.split_at(end);
+    let (_, rest) = name.split_at(end + 1);
+    Ok(Named {
+        name: trimmed(front),
+        rest,
+    })
+}

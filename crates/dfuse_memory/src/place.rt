@@ -1,0 +1,58 @@
+//! Where ranges begin: at an address of their own, or where the one before ends.
+
+ghost use Rattle.std.specs.Prelude.{◌≡◌, ◌<◌, ◌^◌, IfOk, IfSome};
+ghost use Rattle.dfuse_memory.specs.Reading.{behind_prefix, address_at, next_at};
+
+use crate::digits::take_number;
+use crate::fault::MapFault;
+use crate::text::{Number, behind, front};
+
+/// A text behind `0x` or `0X`, which it may lack.
+#[tactic(auto, using(std::proofs::lemmas::Bool::Decides::nat_tests), unfolding(crate::specs::Reading::behind_prefix))]
+fn behind_prefix(text: &[u8]) -> &[u8]
+    ensures { result.now ≡ behind_prefix text.now }
+{
+    match front(text) {
+        Some((b'0', digits)) => match front(digits) {
+            Some((b'x' | b'X', rest)) => rest,
+            _ => text,
+        },
+        _ => text,
+    }
+}
+
+/// Takes an address, and `/`.
+#[tactic(auto, using(std::proofs::lemmas::Bool::Decides::nat_tests), unfolding(crate::specs::Reading::address_at))]
+pub(crate) fn take_address(text: &[u8]) -> Result<Number<'_>, MapFault>
+    ensures value { result ≡ address_at text.now }
+    ensures small { IfOk result (λ n. n.value < 2 ^ 33) }
+{
+    match take_number(16, 8, behind_prefix(text)) {
+        Some(number) => match behind(b'/', number.rest) {
+            Some(rest) => Ok(Number {
+                value: number.value,
+                rest,
+            }),
+            None => Err(MapFault::BadAddress),
+        },
+        None => Err(MapFault::BadAddress),
+    }
+}
+
+/// Takes what leads to the next range, behind one that ends at this address.
+#[tactic(auto, using(std::proofs::lemmas::Bool::Decides::nat_tests), unfolding(crate::specs::Reading::next_at))]
+pub(crate) fn take_next(end: u64, text: &[u8]) -> Result<Option<Number<'_>>, MapFault>
+    requires { end < 2 ^ 33 }
+    ensures value { result ≡ next_at end text.now }
+    ensures small { IfOk result (λ o. IfSome o (λ n. n.value < 2 ^ 33)) }
+{
+    match front(text) {
+        None => Ok(None),
+        Some((b',', rest)) => Ok(Some(Number { value: end, rest })),
+        Some((b'/', rest)) => match take_address(rest) {
+            Ok(place) => Ok(Some(place)),
+            Err(fault) => Err(fault),
+        },
+        Some(_) => Err(MapFault::Trailing),
+    }
+}

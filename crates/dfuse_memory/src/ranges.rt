@@ -1,0 +1,52 @@
+//! Ranges, one behind the other.
+
+ghost use Rattle.std.specs.Prelude.{◌≡◌, ◌<◌, ◌≤◌, ◌^◌, IfOk};
+ghost use Rattle.std.specs.List.{All};
+ghost use Rattle.dfuse_memory.specs.Ranges.{IsRange, end_of, is_apart, is_apart_from, are_apart};
+ghost use Rattle.dfuse_memory.specs.Reading.{ranges_at};
+ghost use Rattle.dfuse_memory.specs.inside.Listing.{Lists};
+
+use crate::fault::MapFault;
+use crate::group::take_group;
+use crate::limits::MOST_RANGES;
+use crate::pages::Pages;
+use crate::place::take_next;
+use arrayvec::ArrayVec;
+
+/// The address behind the last byte of a range.
+pub(crate) fn end_of(pages: &Pages) -> u64
+    requires { IsRange pages.now }
+    ensures value { result ≡ end_of pages.now }
+    ensures fits { result ≤ 2 ^ 32 }
+{
+    pages.start as u64 + pages.count as u64 * pages.size
+}
+
+/// Takes ranges up to the end of the text, the first of which begins at this address.
+pub(crate) fn take_ranges(start: u64, text: &[u8]) -> Result<ArrayVec<Pages, MOST_RANGES>, MapFault>
+    requires { start < 2 ^ 33 }
+    ensures value { Lists result (ranges_at 32 start text.now) }
+    ensures sound { IfOk result (λ ranges. All IsRange ranges.items) }
+{
+    let mut ranges = ArrayVec::new();
+    let mut at = start;
+    let mut rest = text;
+    loop {
+        let group = match take_group(at, rest) {
+            Ok(group) => group,
+            Err(fault) => return Err(fault),
+        };
+        if ranges.is_full() {
+            return Err(MapFault::TooManyRanges);
+        }
+        ranges.push(group.pages);
+        match take_next(end_of(&group.pages), group.rest) {
+            Ok(None) => return Ok(ranges),
+            Ok(Some(next)) => {
+                at = next.value;
+                rest = next.rest;
+            }
+            Err(fault) => return Err(fault),
+        }
+    }
+}

@@ -1,0 +1,45 @@
+//! Text, taken off the front.
+
+ghost use Rattle.std.specs.Prelude.{◌≡◌, [], ◌∷◌, Some, None, IfSome, MatchOption};
+ghost use Rattle.dfuse_memory.specs.Reading.{behind};
+
+use std::marker::Model;
+
+/// A number, and the text behind it.
+#[derive(Drop)]
+pub(crate) struct Number<'t> {
+    pub value: u64,
+    pub rest: &'t [u8],
+}
+
+impl<'t> Model for Number<'t> {
+    ghost use Rattle.dfuse_memory.specs.Reading.{Said};
+
+    ghost Value = { Said };
+
+    ghost view = { λ n. record { value = n.value; rest = n.rest.now } };
+}
+
+/// The first byte, and what stands behind it.
+pub(crate) fn front(text: &[u8]) -> Option<(u8, &[u8])>
+    ensures none { result ≡ None → text.now ≡ [] }
+    ensures some { IfSome result (λ f. text.now ≡ f.0 ∷ f.1.now) }
+{
+    if text.len() == 0 {
+        return None;
+    }
+    let byte = text[0];
+    let (_, rest) = text.split_at(1);
+    Some((byte, rest))
+}
+
+/// What stands behind this byte, if the text begins with it.
+#[tactic(auto, using(std::proofs::lemmas::Bool::Decides::nat_tests), unfolding(crate::specs::Reading::behind))]
+pub(crate) fn behind(byte: u8, text: &[u8]) -> Option<&[u8]>
+    ensures { MatchOption result (behind byte text.now ≡ None) (λ rest. behind byte text.now ≡ Some rest.now) }
+{
+    match front(text) {
+        Some((first, rest)) if first == byte => Some(rest),
+        _ => None,
+    }
+}

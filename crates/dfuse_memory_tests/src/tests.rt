@@ -1,0 +1,20 @@
+//! Strings of devices and of no device, with what they say, worked out by hand.
+
+mod refused;
+mod rows;
+
+use dfuse_memory::{Access, Pages};
+
+/// A range whose access is told by letters, as `rew`.
+fn pages(start: u32, count: u32, size: u64, access: &str) -> Pages {
+    Pages {
+        start,
+        size,
+        count,
+        access: Access {
+            is_readable: access.contains('r'),
+            is_erasable: access.contains('e'),
+            is_writable: access.contains('w'),
+        },
+    }
+}
