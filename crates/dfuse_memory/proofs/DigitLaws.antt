@@ -17,16 +17,16 @@ pub differ : (a b : ℕ) → (a ≡ b → ⊥) → eqb a b ≡ false
 differ a b h = grind (arith, nat_tests)
 
 -- A digit is counted.
-digits_cons : (base b : ℕ) (bs : List ℕ) → digit_value b < base → digits_in base (b ∷ bs) ≡ suc (digits_in base bs)
+pub digits_cons : (base b : ℕ) (bs : List ℕ) → digit_value b < base → digits_in base (b ∷ bs) ≡ suc (digits_in base bs)
 unfolding digits_in
 digits_cons base b bs h = rw (less (digit_value b) base h) refl
 
 -- Any other byte ends the count.
-digits_no : (base b : ℕ) (bs : List ℕ) → base ≤ digit_value b → digits_in base (b ∷ bs) ≡ 0
+pub digits_no : (base b : ℕ) (bs : List ℕ) → base ≤ digit_value b → digits_in base (b ∷ bs) ≡ 0
 unfolding digits_in
 digits_no base b bs h = rw (not_less (digit_value b) base h) refl
 
-digits_none : (base : ℕ) → digits_in base [] ≡ 0
+pub digits_none : (base : ℕ) → digits_in base [] ≡ 0
 unfolding digits_in
 digits_none base = refl
 

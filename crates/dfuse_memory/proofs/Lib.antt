@@ -1,4 +1,13 @@
 pub mod DigitLaws
+pub mod GroupsFound
+pub mod GroupsRead
+pub mod MapsFound
+pub mod MapsRead
 pub mod NameLaws
+pub mod NumbersRead
+pub mod OnePageLaw
 pub mod OneRange
+pub mod PlacesFound
+pub mod PlacesRead
 pub mod RangeLaws
+pub mod Steps

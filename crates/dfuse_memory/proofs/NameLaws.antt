@@ -6,14 +6,14 @@ use Rattle.dfuse_memory.specs.Reading.{trimmed}
 use Rattle.dfuse_memory.proofs.DigitLaws.{differ}
 
 -- A first byte stays before bytes that stay, and before none if it is no space.
-abbrev first_of : ℕ → List ℕ → List ℕ
+abbrev pub first_of : ℕ → List ℕ → List ℕ
 first_of b kept = cond (eqb b 32 && eqb (length kept) 0) [] (b ∷ kept)
 
-trimmed_cons : (b : ℕ) (bs : List ℕ) → trimmed (b ∷ bs) ≡ first_of b (trimmed bs)
+pub trimmed_cons : (b : ℕ) (bs : List ℕ) → trimmed (b ∷ bs) ≡ first_of b (trimmed bs)
 unfolding trimmed
 trimmed_cons b bs = refl
 
-trimmed_nil : trimmed [] ≡ []
+pub trimmed_nil : trimmed [] ≡ []
 unfolding trimmed
 trimmed_nil = refl
 
@@ -26,14 +26,14 @@ no_and true b h = cc
 no_and false b h = refl
 
 -- It stays before bytes of which there are some.
-stays : (b : ℕ) (kept : List ℕ) → 1 ≤ length kept → first_of b kept ≡ b ∷ kept
+pub stays : (b : ℕ) (kept : List ℕ) → 1 ≤ length kept → first_of b kept ≡ b ∷ kept
 stays b kept h = rw (and_no (eqb b 32) (eqb (length kept) 0) (differ (length kept) 0 (λ z. omega (arith, h, z)))) refl
 
 -- It stays if it is no space.
-stays_so : (b : ℕ) (kept : List ℕ) → (b ≡ 32 → ⊥) → first_of b kept ≡ b ∷ kept
+pub stays_so : (b : ℕ) (kept : List ℕ) → (b ≡ 32 → ⊥) → first_of b kept ≡ b ∷ kept
 stays_so b kept h = rw (no_and (eqb b 32) (eqb (length kept) 0) (differ b 32 h)) refl
 
-goes_off : (b : ℕ) → b ≡ 32 → first_of b [] ≡ []
+pub goes_off : (b : ℕ) → b ≡ 32 → first_of b [] ≡ []
 goes_off b h = rw (eq-eqb b 32 h) refl
 
 -- A space more changes nothing.

@@ -16,7 +16,7 @@ found_by : (t : Bool) (q p : Pages) (o : Option Pages) → cond t (Some q) o ≡
 found_by true q p o h = inl (refl, cc)
 found_by false q p o h = inr (refl, h)
 
-found : (x : ℕ) (q p : Pages) (qs : List Pages) → range_at x (q ∷ qs) ≡ Some p →
+pub found : (x : ℕ) (q p : Pages) (qs : List Pages) → range_at x (q ∷ qs) ≡ Some p →
     ((has x q ≡ true) × (q ≡ p)) ⊎ ((has x q ≡ false) × (range_at x qs ≡ Some p))
 unfolding range_at
 found x q p qs h = found_by (has x q) q p (range_at x qs) h
@@ -29,7 +29,7 @@ behind : (x : ℕ) (q : Pages) (qs : List Pages) → has x q ≡ false → range
 unfolding range_at
 behind x q qs h = rw h refl
 
-no_range : (x : ℕ) (p : Pages) → range_at x [] ≡ Some p → ⊥
+pub no_range : (x : ℕ) (p : Pages) → range_at x [] ≡ Some p → ⊥
 unfolding range_at
 no_range x p h = cc
 

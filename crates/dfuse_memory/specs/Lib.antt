@@ -1,3 +1,4 @@
+pub mod Grammar
 pub mod Lookups
 pub mod Ranges
 pub mod Reading

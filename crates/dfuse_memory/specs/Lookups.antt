@@ -4,7 +4,8 @@ use Rattle.std.specs.Option.{option_map}
 use Rattle.dfuse_memory.specs.declared.pages.Access.{Access}
 use Rattle.dfuse_memory.specs.declared.pages.Pages.{Pages}
 use Rattle.dfuse_memory.specs.declared.pages.Page.{Page}
-use Rattle.dfuse_memory.specs.Ranges.{end_of}
+use Rattle.std.specs.List.{All}
+use Rattle.dfuse_memory.specs.Ranges.{IsRange, end_of, are_apart}
 
 -- A range has this address.
 abbrev pub has : ℕ → Pages → Bool
@@ -45,3 +46,9 @@ IsGranted wanted (Some p) = grants p.access wanted ≡ true
 -- Each address from the one to before the other is in a range that grants what is wanted.
 abbrev pub AllGranted : Access → (start end : ℕ) → List Pages → Type 0
 AllGranted wanted start end ranges = (a : ℕ) → start ≤ a → a < end → IsGranted wanted (range_at a ranges)
+
+-- Each address of a page is on that page.
+abbrev pub OnePage : Type 0
+OnePage =
+    (ranges : List Pages) (a b : ℕ) (page : Page) → All IsRange ranges → are_apart ranges ≡ true → page_at a ranges ≡ Some page →
+    page.start ≤ b → b < page_end page → page_at b ranges ≡ Some page

@@ -5,6 +5,7 @@ mod apart;
 mod digits;
 mod fault;
 mod group;
+pub mod laws;
 mod limits;
 mod lookups;
 mod map;

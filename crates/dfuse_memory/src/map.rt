@@ -1,9 +1,11 @@
 //! A memory map.
 
-ghost use Rattle.std.specs.Prelude.{◌≡◌, ◌≤◌, ◌<◌, ◌^◌, ◌↔◌, length, true, IsTrue, IfSome};
+ghost use Rattle.std.specs.Prelude.{◌≡◌, ◌≤◌, ◌<◌, ◌^◌, ◌↔◌, length, true, IsTrue, Ok, Err, IfOk, IfSome};
 ghost use Rattle.std.specs.List.{All};
 ghost use Rattle.dfuse_memory.specs.Ranges.{IsRange, are_apart};
-ghost use Rattle.dfuse_memory.specs.Reading.{map_at};
+ghost use Rattle.dfuse_memory.specs.Reading.{Content, map_at};
+ghost use Rattle.dfuse_memory.specs.declared.fault.MapFault.{MapFault};
+ghost use Rattle.dfuse_memory.specs.Grammar.{IsMap, First};
 ghost use Rattle.dfuse_memory.specs.Lookups.{range_at, page_at, page_end, AllGranted};
 
 use crate::apart::are_apart;
@@ -37,35 +39,47 @@ impl<'t> Model for Map<'t> {
     ghost invariant = { λ m. All IsRange m.ranges.items × (are_apart m.ranges.items ≡ true) };
 }
 
+/// What a string says, or its first fault.
+#[tactic(auto, using(std::proofs::lemmas::Bool::Decides::nat_tests), unfolding(crate::specs::Reading::map_at))]
+fn read_map(text: &[u8]) -> Result<Map<'_>, MapFault>
+    ensures { result ≡ map_at text.now }
+{
+    let named = match take_name(text) {
+        Ok(named) => named,
+        Err(fault) => return Err(fault),
+    };
+    let place = match take_address(named.rest) {
+        Ok(place) => place,
+        Err(fault) => return Err(fault),
+    };
+    let ranges = match take_ranges(place.value, place.rest) {
+        Ok(ranges) => ranges,
+        Err(fault) => return Err(fault),
+    };
+    if !are_apart(&ranges) {
+        return Err(MapFault::Overlaps);
+    }
+    Ok(Map {
+        name: named.name,
+        ranges,
+    })
+}
+
 impl<'t> Map<'t> {
     /// Reads the string of an alternate setting.
     ///
     /// # Errors
     ///
     /// The fault of the first place at which the string goes on as no map does, or Overlaps.
-    #[tactic(auto, using(std::proofs::lemmas::Bool::Decides::nat_tests), unfolding(crate::specs::Reading::map_at))]
     pub fn read(text: &'t [u8]) -> Result<Map<'t>, MapFault>
-        ensures { result ≡ map_at text.now }
+        // What is read is a map.
+        ensures found { IfOk result (λ m. IsMap m text.now) }
+        // Each map is read.
+        ensures only { (m : Content) → IsMap m text.now → result ≡ Ok m }
+        // All else has a first fault, which is the answer.
+        ensures fault { (fault : MapFault) → (result ≡ Err fault) ↔ First fault text.now }
     {
-        let named = match take_name(text) {
-            Ok(named) => named,
-            Err(fault) => return Err(fault),
-        };
-        let place = match take_address(named.rest) {
-            Ok(place) => place,
-            Err(fault) => return Err(fault),
-        };
-        let ranges = match take_ranges(place.value, place.rest) {
-            Ok(ranges) => ranges,
-            Err(fault) => return Err(fault),
-        };
-        if !are_apart(&ranges) {
-            return Err(MapFault::Overlaps);
-        }
-        Ok(Map {
-            name: named.name,
-            ranges,
-        })
+        read_map(text)
     }
 
     /// The name of the memory.

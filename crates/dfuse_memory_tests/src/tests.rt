@@ -1,5 +1,6 @@
 //! Strings of devices and of no device, with what they say, worked out by hand.
 
+mod lookups;
 mod refused;
 mod rows;
 

@@ -1,0 +1,97 @@
+-- The grammar of a memory map, built from the front: `@NAME/ADDRESS/COUNT*SIZE LETTER`, with more ranges behind `,` or behind `/ADDRESS/`.
+use Rattle.std.specs.Prelude.{◌≡◌, ◌≢◌, ℕ, ◌*◌, ◌<◌, ◌≤◌, true, ◌⊎◌, List, [], ◌∷◌, ◌++◌, length, replicate}
+use Rattle.dfuse_memory.specs.declared.pages.Pages.{Pages}
+use Rattle.dfuse_memory.specs.declared.fault.MapFault.{MapFault}
+use Rattle.dfuse_memory.specs.Ranges.{IsRange, end_of, are_apart}
+use Rattle.dfuse_memory.specs.Reading.{Content, digit_value, said, unit_of, access_of, map_at}
+use Rattle.std.specs.Prelude.{Err}
+
+-- These bytes are digits of a base.
+unfoldable pub AreDigits : (base : ℕ) → List ℕ → Type 0
+AreDigits base [] = Unit {0}
+AreDigits base (b ∷ bs) = (digit_value b < base) × AreDigits base bs
+
+-- The number in digits of a base: one digit at least, and so many at most.
+pub record IsNumber (base most n : ℕ) (digits : List ℕ) : Type 0 where
+  pub are_digits : AreDigits base digits
+  pub some : 1 ≤ length digits
+  pub few : length digits ≤ most
+  pub makes : n ≡ said base 0 digits
+
+-- A unit has so many bytes: K 1,024, M 1,048,576, and B, the space, and none at all 1.
+abbrev pub IsUnit : (times : ℕ) → List ℕ → Type 0
+IsUnit times [] = times ≡ 1
+IsUnit times (b ∷ []) = (times ≡ unit_of b) × (unit_of b ≢ 0)
+IsUnit times (a ∷ b ∷ bs) = ⊥
+
+-- A range that begins at this address: a count, `*`, a size and its unit, and the letter of what may be done.
+pub record IsGroup (start : ℕ) (p : Pages) (text : List ℕ) : Type 0 where
+  pub count_digits : List ℕ
+  pub size_digits : List ℕ
+  pub unit : List ℕ
+  pub number : ℕ
+  pub times : ℕ
+  pub letter : ℕ
+  pub spelled : text ≡ count_digits ++ 42 ∷ (size_digits ++ (unit ++ letter ∷ []))
+  pub count_is : IsNumber 10 5 p.count count_digits
+  pub number_is : IsNumber 10 5 number size_digits
+  pub unit_is : IsUnit times unit
+  pub size_is : p.size ≡ times * number
+  pub from_a : 97 ≤ letter
+  pub to_g : letter ≤ 103
+  pub access_is : p.access ≡ access_of letter
+  pub starts : p.start ≡ start
+  pub sound : IsRange p
+
+-- What may stand before an address: `0x`, `0X` or nothing.
+abbrev pub IsPrefix : List ℕ → Type 0
+IsPrefix [] = Unit {0}
+IsPrefix (a ∷ []) = ⊥
+IsPrefix (a ∷ b ∷ []) = (a ≡ 48) × ((b ≡ 120) ⊎ (b ≡ 88))
+IsPrefix (a ∷ b ∷ c ∷ cs) = ⊥
+
+-- An address of one to eight hexadecimal digits.
+pub record IsAddress (address : ℕ) (text : List ℕ) : Type 0 where
+  pub prefix : List ℕ
+  pub digits : List ℕ
+  pub spelled : text ≡ prefix ++ digits
+  pub prefix_is : IsPrefix prefix
+  pub number_is : IsNumber 16 8 address digits
+
+-- Ranges, of which the first begins at this address. Behind `,` one begins where the one before ends; behind `/` stands its address, and `/`.
+pub data AreRanges : (start : ℕ) → List Pages → List ℕ → Type 0 where
+  last : {start : ℕ} {p : Pages} {text : List ℕ} → IsGroup start p text → AreRanges start (p ∷ []) text
+  following : {start : ℕ} {p : Pages} {ps : List Pages} {group more : List ℕ} →
+      IsGroup start p group → AreRanges (end_of p) ps more → AreRanges start (p ∷ ps) (group ++ 44 ∷ more)
+  elsewhere : {start place : ℕ} {p : Pages} {ps : List Pages} {group address more : List ℕ} →
+      IsGroup start p group → IsAddress place address → AreRanges place ps more →
+      AreRanges start (p ∷ ps) (group ++ 47 ∷ (address ++ 47 ∷ more))
+
+-- No byte is `/`.
+unfoldable pub HasNoStroke : List ℕ → Type 0
+HasNoStroke [] = Unit {0}
+HasNoStroke (b ∷ bs) = (b ≢ 47) × HasNoStroke bs
+
+-- There is no last byte, or it is no space.
+unfoldable pub EndsInNoSpace : List ℕ → Type 0
+EndsInNoSpace [] = Unit {0}
+EndsInNoSpace (b ∷ []) = b ≢ 32
+EndsInNoSpace (a ∷ b ∷ bs) = EndsInNoSpace (b ∷ bs)
+
+-- A string is a map: `@`, a name, spaces, and between strokes an address, and up to 32 ranges from there on that share no address.
+pub record IsMap (m : Content) (text : List ℕ) : Type 0 where
+  pub spaces : ℕ
+  pub place : ℕ
+  pub address : List ℕ
+  pub list : List ℕ
+  pub spelled : text ≡ 64 ∷ (m.name ++ (replicate spaces 32 ++ 47 ∷ (address ++ 47 ∷ list)))
+  pub no_stroke : HasNoStroke m.name
+  pub no_space : EndsInNoSpace m.name
+  pub address_is : IsAddress place address
+  pub list_is : AreRanges place m.ranges list
+  pub few : length m.ranges ≤ 32
+  pub apart : are_apart m.ranges ≡ true
+
+-- This is the first fault of a string that is no map.
+abbrev pub First : MapFault → List ℕ → Type 0
+First fault text = map_at text ≡ Err fault
