@@ -1,0 +1,298 @@
+-- A device is asked to leave once all was compared, and not before.
+use Rattle.std.proofs.Common.{◌≡◌, ℕ, zero, suc, pred, true, false, cond, eqb, Option, Some, None, refl, sym, subst}
+use Rattle.dfu_wire.specs.declared.codes.Code.{Code}
+use Rattle.dfu_wire.specs.declared.codes.Code.TheVariants as code
+use Rattle.dfu_wire.specs.declared.states.State.{State}
+use Rattle.dfu_wire.specs.declared.states.State.TheVariants as state
+use Rattle.dfuse_host.specs.declared.plan.Plan.{Plan}
+use Rattle.dfuse_host.specs.declared.phase.Phase.{Phase}
+use Rattle.dfuse_host.specs.declared.phase.Phase.TheVariants.{On, Over}
+use Rattle.dfuse_host.specs.declared.work.Work.{Work}
+use Rattle.dfuse_host.specs.declared.work.Work.TheVariants as work
+use Rattle.dfuse_host.specs.declared.place.Place.{Place}
+use Rattle.dfuse_host.specs.declared.place.Place.TheVariants as place
+use Rattle.dfuse_host.specs.declared.step.Step.{Step}
+use Rattle.dfuse_host.specs.declared.step.Step.TheVariants as step
+use Rattle.dfuse_host.specs.declared.heard.Heard.{Heard}
+use Rattle.dfuse_host.specs.declared.heard.Heard.TheVariants as heard
+use Rattle.dfuse_host.specs.declared.command.Command.{Command}
+use Rattle.dfuse_host.specs.declared.command.Command.TheVariants as command
+use Rattle.dfuse_host.specs.declared.report.Report.TheVariants as report
+use Rattle.dfuse_host.specs.declared.report.Leaving.TheVariants as leaving
+use Rattle.dfuse_host.specs.declared.session.Session.{Session}
+use Rattle.dfuse_host.specs.Images.{image_start, image_end}
+use Rattle.dfuse_host.specs.Plans.{front_end, page_end, write_end}
+use Rattle.dfuse_host.specs.Settling.{stand, byte_in, can_read, sending, comparing, leaving_by, staying, to_leave, compare_front_or, to_compare_front, write_front_or, to_write_front, compare_or, to_compare, write_or, to_write, erase_or, to_erase, settle}
+use Rattle.dfuse_host.specs.Commands.{command_of, done, erased, written, unsure}
+use Rattle.dfuse_host.specs.Table.{state_found, ends_comparing, fault_found, status_found, on_abort, on_ask_state, on_ask_status, on_clear_wait, on_send, probed, on_probe, refused, polled, on_poll, on_poll_wait, begun, ended, on_begin_reading, on_end_reading, read_on, on_read, on_close, close_probed, on_close_probe, close_polled, on_close_poll, row}
+use Rattle.dfuse_host.specs.Sessions.{budgeted, spent_at, resumed, restarted, restarted_leaving, restarted_in, told, after_phase}
+use Rattle.dfuse_host.specs.ReadBack.{Closes, ClosesIn, ClosesAlways}
+
+module _ (plan : Plan) where
+  -- ---- the order of work
+
+  by_sending : (w : Work) (p : Place) → Closes w (sending p)
+  by_sending w place.Lost = tt
+  by_sending w (place.At p) = tt
+  by_sending w (place.Reading p) = tt
+
+  by_comparing : (w : Work) (at : ℕ) (p : Place) → Closes w (comparing plan at p)
+  by_comparing w at place.Lost = tt
+  by_comparing w at (place.At p) = elim (eqb p at) as (λ t. Closes w (cond t step.BeginReading step.Send)) [ true ↦ tt | false ↦ tt ]
+  by_comparing w at (place.Reading base) = elim (can_read plan base at) as (λ t. Closes w (cond t step.Read step.EndReading)) [ true ↦ tt | false ↦ tt ]
+
+  by_leaving : (p : Place) → ClosesIn (leaving_by plan p)
+  by_leaving place.Lost = tt
+  by_leaving (place.At p) = elim (eqb p plan.start) as (λ t. ClosesIn (cond t (stand work.Leave (place.At p) step.Close) (stand work.Leave (place.At p) step.Send))) [
+    | true ↦ refl
+    | false ↦ tt
+  ]
+  by_leaving (place.Reading p) = tt
+
+  by_staying : (p : Place) → ClosesIn (staying p)
+  by_staying place.Lost = tt
+  by_staying (place.At p) = tt
+  by_staying (place.Reading p) = tt
+
+  at_leave : (p : Place) → ClosesIn (to_leave plan p)
+  unfolding to_leave
+  at_leave p = elim plan.leaves as (λ t. ClosesIn (cond t (leaving_by plan p) (staying p))) [ true ↦ by_leaving p | false ↦ by_staying p ]
+
+  compare_front_by : (p : Place) (o : Option ℕ) → ClosesIn (compare_front_or plan p o)
+  compare_front_by p None = at_leave p
+  compare_front_by p (Some at) = by_comparing (work.CompareFront at) at p
+
+  at_compare_front : (p : Place) (at : ℕ) → ClosesIn (to_compare_front plan p at)
+  unfolding to_compare_front
+  at_compare_front p at = compare_front_by p (byte_in plan at (front_end plan))
+
+  write_front_by : (p : Place) (o : Option ℕ) → ClosesIn (write_front_or plan p o)
+  write_front_by p None = at_compare_front p (image_start plan.image.now)
+  write_front_by p (Some at) = by_sending (work.WriteFront at) p
+
+  at_write_front : (p : Place) (at : ℕ) → ClosesIn (to_write_front plan p at)
+  unfolding to_write_front
+  at_write_front p at = write_front_by p (byte_in plan at (front_end plan))
+
+  compare_by : (p : Place) (o : Option ℕ) → ClosesIn (compare_or plan p o)
+  compare_by p None = at_write_front p (image_start plan.image.now)
+  compare_by p (Some at) = by_comparing (work.Compare at) at p
+
+  at_compare : (p : Place) (at : ℕ) → ClosesIn (to_compare plan p at)
+  unfolding to_compare
+  at_compare p at = compare_by p (byte_in plan at (image_end plan.image.now))
+
+  write_by : (p : Place) (end : ℕ) (o : Option ℕ) → ClosesIn (write_or plan p end o)
+  write_by p end None = at_compare p (front_end plan)
+  write_by p end (Some at) = by_sending (work.Write at end) p
+
+  at_write : (p : Place) (at end : ℕ) → ClosesIn (to_write plan p at end)
+  unfolding to_write
+  at_write p at end = write_by p end (byte_in plan at end)
+
+  erase_by : (p : Place) (o : Option ℕ) → ClosesIn (erase_or plan p o)
+  erase_by p None = at_write p (front_end plan) (image_end plan.image.now)
+  erase_by p (Some at) = by_sending (work.Erase at) p
+
+  at_erase : (p : Place) (at : ℕ) → ClosesIn (to_erase plan p at)
+  unfolding to_erase
+  at_erase p at = erase_by p (byte_in plan at (image_end plan.image.now))
+
+  at_settle : (w : Work) (p : Place) → ClosesIn (settle plan w p)
+  unfolding settle
+  at_settle (work.Erase at) p = at_erase p at
+  at_settle (work.EraseAgain page end) p = by_sending (work.EraseAgain page end) p
+  at_settle (work.Write at end) p = at_write p at end
+  at_settle (work.Compare at) p = at_compare p at
+  at_settle (work.WriteFront at) p = at_write_front p at
+  at_settle (work.CompareFront at) p = at_compare_front p at
+  at_settle work.Leave p = at_leave p
+
+  -- ---- commands
+
+  at_unsure : (w : Work) (c : Command) → ClosesIn (unsure plan w c)
+  at_unsure w (command.SetAddress at) = tt
+  at_unsure w (command.ErasePage at) = tt
+  at_unsure w (command.Write at) = tt
+
+  at_erased : (w : Work) (at : ℕ) → ClosesIn (erased plan w at)
+  at_erased (work.EraseAgain page end) at = at_write place.Lost _ end
+  at_erased w at = at_erase place.Lost (page_end plan at)
+
+  at_written : (w : Work) (at : ℕ) → ClosesIn (written plan w at)
+  at_written (work.Write from end) at = at_write place.Lost (write_end plan at end) end
+  at_written w at = at_write_front place.Lost (write_end plan at (front_end plan))
+
+  at_done : (w : Work) (c : Command) → ClosesIn (done plan w c)
+  at_done w (command.SetAddress at) = at_settle w (place.At at)
+  at_done w (command.ErasePage at) = at_erased w at
+  at_done w (command.Write at) = at_written w at
+
+  -- ---- rows
+
+  at_ends : (w : Work) (c : Code) → ClosesIn (ends_comparing w c)
+  at_ends w code.StalledPkt = tt
+  at_ends w c = tt
+
+  at_fault : (w : Work) (c : Code) → ClosesIn (fault_found w c)
+  at_fault (work.Erase at) c = tt
+  at_fault w code.Vendor = tt
+  at_fault (work.Compare at) c = at_ends (work.Compare at) c
+  at_fault (work.CompareFront at) c = at_ends (work.CompareFront at) c
+  at_fault w c = tt
+
+  at_status : (w : Work) (c : Code) (poll : ℕ) (s : State) → ClosesIn (status_found w c poll s)
+  at_status w c poll state.Error = at_fault w c
+  at_status w c poll s = tt
+
+  at_state : (w : Work) (s : State) → ClosesIn (state_found plan w s)
+  at_state w state.DfuIdle = at_settle w place.Lost
+  at_state w s = tt
+
+  at_abort : (w : Work) (x : Heard) → ClosesIn (on_abort w x)
+  at_abort w heard.Acked = tt
+  at_abort w x = tt
+
+  at_ask_state : (w : Work) (x : Heard) → ClosesIn (on_ask_state plan w x)
+  at_ask_state w (heard.StateIs s) = at_state w s
+  at_ask_state w x = tt
+
+  at_ask_status : (w : Work) (x : Heard) → ClosesIn (on_ask_status w x)
+  at_ask_status w (heard.Told status) = at_status w status.code status.poll_ms status.state
+  at_ask_status w x = tt
+
+  at_clear_wait : (w : Work) (ms : ℕ) (x : Heard) → ClosesIn (on_clear_wait w ms x)
+  at_clear_wait w ms heard.Waited = tt
+  at_clear_wait w ms x = tt
+
+  at_send : (w : Work) (p : Place) (x : Heard) → ClosesIn (on_send w p x)
+  at_send w p heard.Acked = tt
+  at_send w p x = tt
+
+  at_probed : (w : Work) (p : Place) (s : State) → ClosesIn (probed plan w p s)
+  at_probed w p state.DownloadSync = tt
+  at_probed w p state.DfuIdle = tt
+  at_probed w p state.DownloadIdle = tt
+  at_probed w p state.Error = tt
+  at_probed w p s = at_unsure w (command_of plan w p)
+
+  at_probe : (w : Work) (p : Place) (x : Heard) → ClosesIn (on_probe plan w p x)
+  at_probe w p (heard.StateIs s) = at_probed w p s
+  at_probe w p heard.Stalled = at_unsure w (command_of plan w p)
+  at_probe w p x = tt
+
+  at_refused : (w : Work) (p : Place) (c : Code) → ClosesIn (refused plan w p c)
+  at_refused w p code.StalledPkt = at_unsure w (command_of plan w p)
+  at_refused w p c = tt
+
+  at_polled : (w : Work) (p : Place) (c : Code) (poll : ℕ) (s : State) → ClosesIn (polled plan w p c poll s)
+  at_polled w p c poll state.DownloadSync = tt
+  at_polled w p c poll state.DownloadBusy = tt
+  at_polled w p c poll state.DownloadIdle = at_done w (command_of plan w p)
+  at_polled w p c poll state.Error = at_refused w p c
+  at_polled w p c poll s = at_unsure w (command_of plan w p)
+
+  at_poll : (w : Work) (p : Place) (last : ℕ) (x : Heard) → ClosesIn (on_poll plan w p last x)
+  at_poll w p last (heard.Told status) = at_polled w p status.code status.poll_ms status.state
+  at_poll w p last x = tt
+
+  at_poll_wait : (w : Work) (p : Place) (ms : ℕ) (x : Heard) → ClosesIn (on_poll_wait w p ms x)
+  at_poll_wait w p ms heard.Waited = tt
+  at_poll_wait w p ms x = tt
+
+  at_begin : (w : Work) (p : Place) (x : Heard) → ClosesIn (on_begin_reading plan w p x)
+  at_begin w p heard.Acked = at_settle w (begun p)
+  at_begin w p x = tt
+
+  at_end : (w : Work) (p : Place) (x : Heard) → ClosesIn (on_end_reading plan w p x)
+  at_end w p heard.Acked = at_settle w (ended p)
+  at_end w p x = tt
+
+  at_read : (w : Work) (p : Place) (x : Heard) → ClosesIn (on_read plan w p x)
+  at_read w p (heard.Compared true) = at_settle (read_on plan w) p
+  at_read w p (heard.Compared false) = tt
+  at_read w p x = tt
+
+  at_close : (w : Work) (p : Place) (x : Heard) → w ≡ work.Leave → ClosesIn (on_close w p x)
+  at_close w p heard.Acked e = e
+  at_close w p x e = e
+
+  at_close_probed : (w : Work) (p : Place) (s : State) → w ≡ work.Leave → ClosesIn (close_probed w p s)
+  at_close_probed w p state.DfuIdle e = e
+  at_close_probed w p state.DownloadIdle e = e
+  at_close_probed w p state.Error e = tt
+  at_close_probed w p s e = e
+
+  at_close_probe : (w : Work) (p : Place) (x : Heard) → w ≡ work.Leave → ClosesIn (on_close_probe w p x)
+  at_close_probe w p (heard.StateIs s) e = at_close_probed w p s e
+  at_close_probe w p x e = e
+
+  at_close_polled : (w : Work) (p : Place) (c : Code) (s : State) → w ≡ work.Leave → ClosesIn (close_polled w p c s)
+  at_close_polled w p c state.DfuIdle e = e
+  at_close_polled w p c state.DownloadIdle e = e
+  at_close_polled w p c state.Error e = tt
+  at_close_polled w p code.Ok state.Manifest e = tt
+  at_close_polled w p code.Ok state.ManifestWaitReset e = tt
+  at_close_polled w p c s e = e
+
+  at_close_poll : (w : Work) (p : Place) (x : Heard) → w ≡ work.Leave → ClosesIn (on_close_poll w p x)
+  at_close_poll w p (heard.Told status) e = at_close_polled w p status.code status.state e
+  at_close_poll w p x e = e
+
+  at_row : (w : Work) (p : Place) (s : Step) (x : Heard) → Closes w s → ClosesIn (row plan w p s x)
+  at_row w p step.Abort x c = at_abort w x
+  at_row w p step.AskState x c = at_ask_state w x
+  at_row w p step.AskStatus x c = at_ask_status w x
+  at_row w p (step.ClearWait ms) x c = at_clear_wait w ms x
+  at_row w p step.ClearStatus x c = tt
+  at_row w p step.Send x c = at_send w p x
+  at_row w p step.Probe x c = at_probe w p x
+  at_row w p (step.Poll last) x c = at_poll w p last x
+  at_row w p (step.PollWait ms) x c = at_poll_wait w p ms x
+  at_row w p step.BeginReading x c = at_begin w p x
+  at_row w p step.EndReading x c = at_end w p x
+  at_row w p step.Read x c = at_read w p x
+  at_row w p step.Close x c = at_close w p x c
+  at_row w p step.CloseProbe x c = at_close_probe w p x c
+  at_row w p step.ClosePoll x c = at_close_poll w p x c
+
+  at_resumed : (w : Work) (p : Place) (s : Step) → ClosesIn (resumed plan w p s)
+  at_resumed w p (step.Poll last) = at_unsure w (command_of plan w p)
+  at_resumed w p (step.PollWait ms) = at_unsure w (command_of plan w p)
+  at_resumed w p s = tt
+
+-- ---- sessions
+
+at_spent_at : (w : Work) (s : Step) → ClosesIn (spent_at w s)
+at_spent_at work.Leave s = tt
+at_spent_at w s = tt
+
+at_budgeted : (n : ℕ) (p : Phase) → ClosesIn p → ClosesIn (budgeted n p)
+at_budgeted n (Over r) c = tt
+at_budgeted zero (On s) c = at_spent_at s.work s.step
+at_budgeted (suc n) (On s) c = c
+
+at_restarted : (s : Session) (p : Phase) (n : ℕ) → ClosesIn p → ClosesIn (restarted s p n).phase
+at_restarted s p zero c = at_budgeted (pred s.actions) (Over report.RestartsSpent) tt
+at_restarted s p (suc n) c = at_budgeted (pred s.actions) p c
+
+at_restarted_leaving : (s : Session) (p : Place) (at : Step) → ClosesIn (restarted_leaving s p at).phase
+at_restarted_leaving s p step.Close = at_budgeted (pred s.actions) (Over (report.Verified leaving.Unknown)) tt
+at_restarted_leaving s p step.CloseProbe = at_budgeted (pred s.actions) (Over (report.Verified leaving.Unknown)) tt
+at_restarted_leaving s p step.ClosePoll = at_budgeted (pred s.actions) (Over (report.Verified leaving.Unknown)) tt
+at_restarted_leaving s p at = at_restarted s (resumed s.plan work.Leave p at) s.restarts (at_resumed s.plan work.Leave p at)
+
+at_restart : (s : Session) (w : Work) (p : Place) (at : Step) → ClosesIn (restarted_in s w p at).phase
+at_restart s work.Leave p at = at_restarted_leaving s p at
+at_restart s w p at = at_restarted s (resumed s.plan w p at) s.restarts (at_resumed s.plan w p at)
+
+at_told : (s : Session) (w : Work) (p : Place) (at : Step) (x : Heard) → Closes w at → ClosesIn (told s w p at x).phase
+at_told s w p at heard.Restarted c = at_restart s w p at
+at_told s w p at x c = at_budgeted (pred s.actions) (row s.plan w p at x) (at_row s.plan w p at x c)
+
+at_phase : (s : Session) (p : Phase) (x : Heard) → s.phase ≡ p → ClosesIn p → ClosesIn (after_phase s p x).phase
+at_phase s (Over r) x e c = subst ClosesIn (sym e) tt
+at_phase s (On at) x e c = at_told s at.work at.place at.step x c
+
+pub closes_always : ClosesAlways
+closes_always s x c = at_phase s s.phase x refl c

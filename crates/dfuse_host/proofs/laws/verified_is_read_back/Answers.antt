@@ -1,0 +1,6 @@
+use Rattle.dfuse_host.proofs.CloseLaws.{closes_always}
+use Rattle.dfuse_host.proofs.ReadBackLaws.{only_read_back}
+use Rattle.dfuse_host.proofs.laws.verified_is_read_back.Goals as goal
+
+pub returns : goal.returns
+returns c = record { only = only_read_back; closes = closes_always }

@@ -1,0 +1,13 @@
+use Rattle.std.proofs.Common.{◌-◌, ◌≤◌, sym, subst}
+use Rattle.dfuse_host.specs.declared.session.Session.{Session}
+use Rattle.dfuse_host.specs.Sessions.{takes_left}
+use Rattle.dfuse_host.proofs.Takes.{takes_on, over_row}
+use Rattle.dfuse_host.proofs.session.Session.take.Goals as goal
+
+pub returns-in-On-clause-budget : goal.returns-in-On-clause-budget
+returns-in-On-clause-budget c =
+    let s = c.args.self.now in
+    subst (λ (t : Session). takes_left t ≤ takes_left s - 1) (sym c.after.ensures) (takes_on s c.in-On.at c.hear-heard.result c.in-On.is)
+
+pub returns-in_default-clause-row : goal.returns-in_default-clause-row
+returns-in_default-clause-row c = over_row c.args.self.now c.args.seen c.in_default.not-On

@@ -1,0 +1,95 @@
+-- What a session does at each step.
+use Rattle.std.specs.Prelude.{ℕ, ◌+◌, ◌-◌, ◌/◌, ◌%◌, ◌^◌, List, [], ◌∷◌, length}
+use Rattle.std.specs.Int.{w32, to_le_bytes}
+use Rattle.dfu_wire.specs.declared.requests.Request.{Request}
+use Rattle.dfu_wire.specs.declared.requests.Request.TheVariants as request
+use Rattle.dfuse_host.specs.declared.plan.Plan.{Plan}
+use Rattle.dfuse_host.specs.declared.phase.Phase.{Phase}
+use Rattle.dfuse_host.specs.declared.phase.Phase.TheVariants.{On, Over}
+use Rattle.dfuse_host.specs.declared.work.Work.{Work}
+use Rattle.dfuse_host.specs.declared.work.Work.TheVariants as work
+use Rattle.dfuse_host.specs.declared.place.Place.{Place}
+use Rattle.dfuse_host.specs.declared.place.Place.TheVariants as place
+use Rattle.dfuse_host.specs.declared.step.Step.{Step}
+use Rattle.dfuse_host.specs.declared.step.Step.TheVariants as step
+use Rattle.dfuse_host.specs.declared.command.Command.{Command}
+use Rattle.dfuse_host.specs.declared.command.Command.TheVariants as command
+use Rattle.dfuse_host.specs.declared.report.Report.{Report}
+use Rattle.dfuse_host.specs.Plans.{block_size, write_end, read_end}
+use Rattle.dfuse_host.specs.Commands.{command_of, end_of_work, bytes_in}
+
+-- It sends a request with its body, waits, or is done.
+pub data Deed : Type 0 where
+  Send : (request : Request) (body : List ℕ) → Deed
+  Wait : (ms : ℕ) → Deed
+  Done : Report → Deed
+
+-- A DNLOAD of block 0 has a command: its number, and the four bytes of an address, the low one first.
+abbrev pub address_command : (number at : ℕ) → Deed
+address_command number at = Send (request.Dnload 0 5) (number ∷ to_le_bytes w32 (at % 2 ^ 32))
+
+-- A DNLOAD of block 2 has bytes for where the pointer was set.
+abbrev pub download : List ℕ → Deed
+download body = Send (request.Dnload 2 (length body)) body
+
+-- A command is sent.
+abbrev pub sends : Plan → Work → Command → Deed
+sends plan w (command.SetAddress at) = address_command 0x21 at
+sends plan w (command.ErasePage at) = address_command 0x41 at
+sends plan w (command.Write at) = download (bytes_in plan at (write_end plan at (end_of_work plan w)))
+
+-- The address at which a work stands.
+abbrev pub stands_at : Work → ℕ
+stands_at (work.Erase at) = at
+stands_at (work.EraseAgain page end) = page
+stands_at (work.Write at end) = at
+stands_at (work.Compare at) = at
+stands_at (work.WriteFront at) = at
+stands_at (work.CompareFront at) = at
+stands_at work.Leave = 0
+
+-- The bytes of the image that are to be read back.
+unfoldable pub read_bytes : Plan → Work → List ℕ
+read_bytes plan w = bytes_in plan (stands_at w) (read_end plan (stands_at w) (end_of_work plan w))
+
+-- Where the pointer was set for what is read.
+abbrev pub base_of : Place → (at : ℕ) → ℕ
+base_of place.Lost at = at
+base_of (place.At p) at = at
+base_of (place.Reading p) at = p
+
+-- The number of the block that has an address: 2 where the pointer was set, and 65,535 at most.
+unfoldable pub upload_block : Plan → Place → (at : ℕ) → ℕ
+upload_block plan p at = (at - base_of p at) / block_size plan % 65534 + 2
+
+abbrev pub upload : Plan → Work → Place → Deed
+upload plan w p = Send (request.Upload (upload_block plan p (stands_at w)) (length (read_bytes plan w))) []
+
+abbrev pub get_state : Deed
+get_state = Send (request.GetState 1) []
+
+abbrev pub get_status : Deed
+get_status = Send (request.GetStatus 6) []
+
+-- The action of each step.
+abbrev pub deed_of : Plan → Work → Place → Step → Deed
+deed_of plan w p step.Abort = Send request.Abort []
+deed_of plan w p step.AskState = get_state
+deed_of plan w p step.AskStatus = get_status
+deed_of plan w p (step.ClearWait ms) = Wait ms
+deed_of plan w p step.ClearStatus = Send request.ClrStatus []
+deed_of plan w p step.Send = sends plan w (command_of plan w p)
+deed_of plan w p step.Probe = get_state
+deed_of plan w p (step.Poll last) = get_status
+deed_of plan w p (step.PollWait ms) = Wait ms
+deed_of plan w p step.BeginReading = Send request.Abort []
+deed_of plan w p step.EndReading = Send request.Abort []
+deed_of plan w p step.Read = upload plan w p
+deed_of plan w p step.Close = download []
+deed_of plan w p step.CloseProbe = get_state
+deed_of plan w p step.ClosePoll = get_status
+
+-- The action of a phase.
+abbrev pub deed : Plan → Phase → Deed
+deed plan (On s) = deed_of plan s.work s.place s.step
+deed plan (Over report) = Done report

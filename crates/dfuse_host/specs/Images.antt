@@ -1,0 +1,31 @@
+-- Which bytes an image has, by their addresses.
+use Rattle.std.specs.Prelude.{ℕ, ◌+◌, ◌&&◌, nat_lt, nat_le, max, Bool, List, [], ◌∷◌, length, Option, Some, None, if◌then◌else◌}
+use Rattle.dfuse_host.specs.declared.element.Element.{Element}
+
+-- The address behind the last byte of an element.
+abbrev pub end_of : Element → ℕ
+end_of e = e.address + length e.bytes.now
+
+-- An element has a byte for this address.
+abbrev pub holds : ℕ → Element → Bool
+holds at e = nat_le e.address at && nat_lt at (end_of e)
+
+-- The element that has a byte for this address.
+unfoldable pub element_at : ℕ → List Element → Option Element
+element_at at [] = None
+element_at at (e ∷ es) = if holds at e then Some e else element_at at es
+
+-- The first address from this one on for which the image, whose elements ascend, has a byte.
+unfoldable pub next_byte : ℕ → List Element → Option ℕ
+next_byte at [] = None
+next_byte at (e ∷ es) = if nat_lt at (end_of e) then Some (max at e.address) else next_byte at es
+
+-- The address of the first byte.
+unfoldable pub image_start : List Element → ℕ
+image_start [] = 0
+image_start (e ∷ es) = e.address
+
+-- The address behind the last byte.
+unfoldable pub image_end : List Element → ℕ
+image_end [] = 0
+image_end (e ∷ es) = max (end_of e) (image_end es)

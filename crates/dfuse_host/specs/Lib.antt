@@ -1,0 +1,11 @@
+pub mod Budget
+pub mod Commands
+pub mod Deeds
+pub mod Images
+pub mod Plans
+pub mod ReadBack
+pub mod Refusing
+pub mod Sessions
+pub mod Settling
+pub mod Table
+pub mod Wire

@@ -1,0 +1,94 @@
+-- When a plan is refused.
+use Rattle.std.specs.Prelude.{◌≡◌, ℕ, ◌==◌, ◌&&◌, ◌||◌, nat_le, Bool, true, false, List, [], ◌∷◌, length}
+use Rattle.dfuse_memory.specs.declared.pages.Access.{Access}
+use Rattle.dfuse_memory.specs.declared.pages.Pages.{Pages}
+use Rattle.dfuse_memory.specs.Lookups.{AllGranted}
+use Rattle.dfuse_host.specs.declared.element.Element.{Element}
+use Rattle.dfuse_host.specs.declared.plan.Plan.{Plan}
+use Rattle.dfuse_host.specs.declared.fault.PlanFault.{PlanFault}
+use Rattle.dfuse_host.specs.declared.fault.PlanFault.TheVariants.{NoTransferSize, EmptyImage, NotInOrder, Overlapping, OutsideTheMap, NotWritable, NotErasable, NotReadable}
+use Rattle.dfuse_host.specs.Images.{end_of}
+
+-- One of these elements has no bytes.
+abbrev pub has_empty : List Element → Bool
+has_empty [] = false
+has_empty (e ∷ es) = (length e.bytes.now == 0) || has_empty es
+
+-- There are none, or one of them has no bytes.
+abbrev pub is_empty : List Element → Bool
+is_empty es = (length es == 0) || has_empty es
+
+-- None begins before the one before it does; the first one not before this address.
+abbrev pub ascends_from : ℕ → List Element → Bool
+ascends_from start [] = true
+ascends_from start (e ∷ es) = nat_le start e.address && ascends_from e.address es
+
+-- None begins before the one before it ends; the first one not before this address.
+abbrev pub apart_from : ℕ → List Element → Bool
+apart_from end [] = true
+apart_from end (e ∷ es) = nat_le end e.address && apart_from (end_of e) es
+
+-- Each address of these elements is in a range that grants what is wanted.
+abbrev pub EachGranted : Access → List Pages → List Element → Type 0
+EachGranted wanted ranges [] = Unit {0}
+EachGranted wanted ranges (e ∷ es) = AllGranted wanted e.address (end_of e) ranges × EachGranted wanted ranges es
+
+-- What may be wanted of pages.
+abbrev pub wants : (reads erases writes : Bool) → Access
+wants r e w = record { is_readable = r; is_erasable = e; is_writable = w }
+
+-- The pages of a plan's image grant what is wanted.
+abbrev pub Grants : Plan → Access → Type 0
+Grants plan wanted = EachGranted wanted plan.map.now.ranges plan.image.now
+
+-- A plan has this fault.
+abbrev pub HasFault : Plan → PlanFault → Type 0
+HasFault plan NoTransferSize = plan.transfer ≡ 0
+HasFault plan EmptyImage = is_empty plan.image.now ≡ true
+HasFault plan NotInOrder = ascends_from 0 plan.image.now ≡ false
+HasFault plan Overlapping = apart_from 0 plan.image.now ≡ false
+HasFault plan OutsideTheMap = Grants plan (wants false false false) → ⊥
+HasFault plan NotWritable = Grants plan (wants false false true) → ⊥
+HasFault plan NotErasable = Grants plan (wants false true false) → ⊥
+HasFault plan NotReadable = Grants plan (wants true false false) → ⊥
+
+-- A plan without the first faults, in their order.
+abbrev pub Transfers : Plan → Type 0
+Transfers plan = HasFault plan NoTransferSize → ⊥
+
+abbrev pub IsFilled : Plan → Type 0
+IsFilled plan = Transfers plan × (HasFault plan EmptyImage → ⊥)
+
+abbrev pub Ascends : Plan → Type 0
+Ascends plan = IsFilled plan × (HasFault plan NotInOrder → ⊥)
+
+abbrev pub IsApart : Plan → Type 0
+IsApart plan = Ascends plan × (HasFault plan Overlapping → ⊥)
+
+abbrev pub IsMapped : Plan → Type 0
+IsMapped plan = IsApart plan × Grants plan (wants false false false)
+
+abbrev pub IsWritable : Plan → Type 0
+IsWritable plan = IsMapped plan × Grants plan (wants false false true)
+
+abbrev pub IsErasable : Plan → Type 0
+IsErasable plan = IsWritable plan × Grants plan (wants false true false)
+
+-- A plan without a fault.
+abbrev pub IsSound : Plan → Type 0
+IsSound plan = IsErasable plan × Grants plan (wants true false false)
+
+-- A plan has none of the faults that are looked for before this one.
+abbrev pub NoneBefore : Plan → PlanFault → Type 0
+NoneBefore plan NoTransferSize = Unit {0}
+NoneBefore plan EmptyImage = Transfers plan
+NoneBefore plan NotInOrder = IsFilled plan
+NoneBefore plan Overlapping = Ascends plan
+NoneBefore plan OutsideTheMap = IsApart plan
+NoneBefore plan NotWritable = IsMapped plan
+NoneBefore plan NotErasable = IsWritable plan
+NoneBefore plan NotReadable = IsErasable plan
+
+-- This is the first fault of a plan.
+abbrev pub IsFirst : Plan → PlanFault → Type 0
+IsFirst plan fault = HasFault plan fault × NoneBefore plan fault

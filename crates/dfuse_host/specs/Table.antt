@@ -1,0 +1,207 @@
+-- The table: which phase follows what is heard in each, but for a restart of the device and the budget.
+use Rattle.std.specs.Prelude.{ℕ, ◌==◌, true, false, if◌then◌else◌}
+use Rattle.dfu_wire.specs.declared.codes.Code.{Code}
+use Rattle.dfu_wire.specs.declared.codes.Code.TheVariants as code
+use Rattle.dfu_wire.specs.declared.states.State.{State}
+use Rattle.dfu_wire.specs.declared.states.State.TheVariants as state
+use Rattle.dfuse_host.specs.declared.plan.Plan.{Plan}
+use Rattle.dfuse_host.specs.declared.phase.Phase.{Phase}
+use Rattle.dfuse_host.specs.declared.phase.Phase.TheVariants.{Over}
+use Rattle.dfuse_host.specs.declared.work.Work.{Work}
+use Rattle.dfuse_host.specs.declared.work.Work.TheVariants as work
+use Rattle.dfuse_host.specs.declared.place.Place.{Place}
+use Rattle.dfuse_host.specs.declared.place.Place.TheVariants as place
+use Rattle.dfuse_host.specs.declared.step.Step.{Step}
+use Rattle.dfuse_host.specs.declared.step.Step.TheVariants as step
+use Rattle.dfuse_host.specs.declared.heard.Heard.{Heard}
+use Rattle.dfuse_host.specs.declared.heard.Heard.TheVariants as heard
+use Rattle.dfuse_host.specs.declared.report.Report.TheVariants as report
+use Rattle.dfuse_host.specs.declared.report.Leaving.TheVariants as leaving
+use Rattle.dfuse_host.specs.Plans.{read_end}
+use Rattle.dfuse_host.specs.Settling.{stand, settle}
+use Rattle.dfuse_host.specs.Commands.{command_of, end_of_work, cleared, done, unsure}
+
+-- ---- clearing: what an earlier session left is dropped, and waited for, but never started
+
+-- The state once ABORT was sent. From dfuIDLE the work goes on, and the pointer isn't known.
+abbrev pub state_found : Plan → Work → State → Phase
+state_found plan w state.AppIdle = Over report.NotDfu
+state_found plan w state.AppDetach = Over report.NotDfu
+state_found plan w state.DfuIdle = settle plan w place.Lost
+state_found plan w state.DownloadSync = cleared w
+state_found plan w state.DownloadBusy = stand w place.Lost step.AskStatus
+state_found plan w state.DownloadIdle = cleared w
+state_found plan w state.ManifestSync = cleared w
+state_found plan w state.Manifest = stand w place.Lost step.AskStatus
+state_found plan w state.ManifestWaitReset = stand w place.Lost step.AskStatus
+state_found plan w state.UploadIdle = cleared w
+state_found plan w state.Error = stand w place.Lost step.AskStatus
+
+-- A code of dfuERROR by which a session ends that compares: any but that of a request out of place.
+abbrev pub ends_comparing : Work → Code → Phase
+ends_comparing w code.StalledPkt = stand w place.Lost step.ClearStatus
+ends_comparing w c = Over (report.Refused c)
+
+-- The device is in dfuERROR while it is cleared. It may be of an earlier session, unless bytes are read back, or protection shows.
+abbrev pub fault_found : Work → Code → Phase
+fault_found (work.Erase at) c = stand (work.Erase at) place.Lost step.ClearStatus
+fault_found w code.Vendor = Over report.ReadProtected
+fault_found (work.Compare at) c = ends_comparing (work.Compare at) c
+fault_found (work.CompareFront at) c = ends_comparing (work.CompareFront at) c
+fault_found w c = stand w place.Lost step.ClearStatus
+
+-- The status while the device is cleared.
+abbrev pub status_found : Work → Code → (poll : ℕ) → State → Phase
+status_found w c poll state.AppIdle = Over report.NotDfu
+status_found w c poll state.AppDetach = Over report.NotDfu
+status_found w c poll state.DfuIdle = stand w place.Lost step.AskState
+status_found w c poll state.DownloadIdle = cleared w
+status_found w c poll state.UploadIdle = cleared w
+status_found w c poll state.Error = fault_found w c
+status_found w c poll s = stand w place.Lost (step.ClearWait poll)
+
+abbrev pub on_abort : Work → Heard → Phase
+on_abort w heard.Acked = stand w place.Lost step.AskState
+on_abort w heard.Stalled = stand w place.Lost step.AskState
+on_abort w h = cleared w
+
+abbrev pub on_ask_state : Plan → Work → Heard → Phase
+on_ask_state plan w (heard.StateIs s) = state_found plan w s
+on_ask_state plan w heard.Stalled = stand w place.Lost step.AskStatus
+on_ask_state plan w h = stand w place.Lost step.AskState
+
+-- A status that is stalled was asked for too early.
+abbrev pub on_ask_status : Work → Heard → Phase
+on_ask_status w (heard.Told status) = status_found w status.code status.poll_ms status.state
+on_ask_status w heard.Stalled = stand w place.Lost (step.ClearWait 100)
+on_ask_status w h = stand w place.Lost step.AskStatus
+
+abbrev pub on_clear_wait : Work → (ms : ℕ) → Heard → Phase
+on_clear_wait w ms heard.Waited = stand w place.Lost step.AskState
+on_clear_wait w ms h = stand w place.Lost (step.ClearWait ms)
+
+-- ---- a command: DNLOAD brings it, and the GETSTATUS behind it starts it
+
+abbrev pub on_send : Work → Place → Heard → Phase
+on_send w p heard.Acked = stand w p (step.Poll 0)
+on_send w p h = stand w p step.Probe
+
+-- Whether the command came: the question starts nothing. One that isn't there is sent again.
+abbrev pub probed : Plan → Work → Place → State → Phase
+probed plan w p state.DownloadSync = stand w p (step.Poll 0)
+probed plan w p state.DfuIdle = stand w p step.Send
+probed plan w p state.DownloadIdle = stand w p step.Send
+probed plan w p state.Error = cleared w
+probed plan w p s = unsure plan w (command_of plan w p)
+
+abbrev pub on_probe : Plan → Work → Place → Heard → Phase
+on_probe plan w p (heard.StateIs s) = probed plan w p s
+on_probe plan w p heard.Stalled = unsure plan w (command_of plan w p)
+on_probe plan w p h = stand w p step.Probe
+
+-- A command that ends in dfuERROR is refused, with any code, OK too; but for a request out of place, and protection.
+abbrev pub refused : Plan → Work → Place → Code → Phase
+refused plan w p code.StalledPkt = unsure plan w (command_of plan w p)
+refused plan w p code.Vendor = Over report.ReadProtected
+refused plan w p c = Over (report.Refused c)
+
+abbrev pub polled : Plan → Work → Place → Code → (poll : ℕ) → State → Phase
+polled plan w p c poll state.DownloadSync = stand w p (step.PollWait poll)
+polled plan w p c poll state.DownloadBusy = stand w p (step.PollWait poll)
+polled plan w p c poll state.DownloadIdle = done plan w (command_of plan w p)
+polled plan w p c poll state.Error = refused plan w p c
+polled plan w p c poll s = unsure plan w (command_of plan w p)
+
+-- How long is waited for a status that is stalled: as long as the device last said, or 100 milliseconds.
+abbrev pub stalled_ms : ℕ → ℕ
+stalled_ms last = if last == 0 then 100 else last
+
+abbrev pub on_poll : Plan → Work → Place → (last : ℕ) → Heard → Phase
+on_poll plan w p last (heard.Told status) = polled plan w p status.code status.poll_ms status.state
+on_poll plan w p last heard.Stalled = stand w p (step.PollWait (stalled_ms last))
+on_poll plan w p last h = stand w p (step.Poll last)
+
+abbrev pub on_poll_wait : Work → Place → (ms : ℕ) → Heard → Phase
+on_poll_wait w p ms heard.Waited = stand w p (step.Poll ms)
+on_poll_wait w p ms h = stand w p (step.PollWait ms)
+
+-- ---- reading back
+
+-- The pointer stays where it was set when the device goes to dfuIDLE.
+abbrev pub begun : Place → Place
+begun (place.At p) = place.Reading p
+begun p = p
+
+abbrev pub ended : Place → Place
+ended (place.Reading p) = place.At p
+ended p = p
+
+abbrev pub on_begin_reading : Plan → Work → Place → Heard → Phase
+on_begin_reading plan w p heard.Acked = settle plan w (begun p)
+on_begin_reading plan w p heard.Stalled = cleared w
+on_begin_reading plan w p h = stand w p step.BeginReading
+
+abbrev pub on_end_reading : Plan → Work → Place → Heard → Phase
+on_end_reading plan w p heard.Acked = settle plan w (ended p)
+on_end_reading plan w p heard.Stalled = cleared w
+on_end_reading plan w p h = stand w p step.EndReading
+
+-- The work behind the bytes that were read back.
+abbrev pub read_on : Plan → Work → Work
+read_on plan (work.Compare at) = work.Compare (read_end plan at (end_of_work plan (work.Compare at)))
+read_on plan (work.CompareFront at) = work.CompareFront (read_end plan at (end_of_work plan (work.CompareFront at)))
+read_on plan w = w
+
+abbrev pub on_read : Plan → Work → Place → Heard → Phase
+on_read plan w p (heard.Compared true) = settle plan (read_on plan w) p
+on_read plan w p (heard.Compared false) = Over report.Different
+on_read plan w p heard.Stalled = cleared w
+on_read plan w p h = stand w p step.Read
+
+-- ---- leaving
+
+abbrev pub on_close : Work → Place → Heard → Phase
+on_close w p heard.Acked = stand w p step.ClosePoll
+on_close w p h = stand w p step.CloseProbe
+
+abbrev pub close_probed : Work → Place → State → Phase
+close_probed w p state.DfuIdle = stand w p step.Close
+close_probed w p state.DownloadIdle = stand w p step.Close
+close_probed w p state.Error = cleared w
+close_probed w p s = stand w p step.ClosePoll
+
+abbrev pub on_close_probe : Work → Place → Heard → Phase
+on_close_probe w p (heard.StateIs s) = close_probed w p s
+on_close_probe w p heard.Stalled = stand w p step.ClosePoll
+on_close_probe w p h = stand w p step.CloseProbe
+
+abbrev pub close_polled : Work → Place → Code → State → Phase
+close_polled w p c state.DfuIdle = stand w p step.Close
+close_polled w p c state.DownloadIdle = stand w p step.Close
+close_polled w p c state.Error = cleared w
+close_polled w p code.Ok state.Manifest = Over (report.Verified leaving.Left)
+close_polled w p code.Ok state.ManifestWaitReset = Over (report.Verified leaving.Left)
+close_polled w p c s = stand w p step.ClosePoll
+
+abbrev pub on_close_poll : Work → Place → Heard → Phase
+on_close_poll w p (heard.Told status) = close_polled w p status.code status.state
+on_close_poll w p h = stand w p step.ClosePoll
+
+-- ---- the table
+
+abbrev pub row : Plan → Work → Place → Step → Heard → Phase
+row plan w p step.Abort h = on_abort w h
+row plan w p step.AskState h = on_ask_state plan w h
+row plan w p step.AskStatus h = on_ask_status w h
+row plan w p (step.ClearWait ms) h = on_clear_wait w ms h
+row plan w p step.ClearStatus h = cleared w
+row plan w p step.Send h = on_send w p h
+row plan w p step.Probe h = on_probe plan w p h
+row plan w p (step.Poll last) h = on_poll plan w p last h
+row plan w p (step.PollWait ms) h = on_poll_wait w p ms h
+row plan w p step.BeginReading h = on_begin_reading plan w p h
+row plan w p step.EndReading h = on_end_reading plan w p h
+row plan w p step.Read h = on_read plan w p h
+row plan w p step.Close h = on_close w p h
+row plan w p step.CloseProbe h = on_close_probe w p h
+row plan w p step.ClosePoll h = on_close_poll w p h

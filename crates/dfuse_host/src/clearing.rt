@@ -1,0 +1,119 @@
+//! Clearing: what an earlier session left is dropped, and waited for, but never started.
+
+ghost use Rattle.std.specs.Prelude.{◌≡◌};
+ghost use Rattle.dfuse_host.specs.Table.{state_found, ends_comparing, fault_found, status_found, on_abort, on_ask_state, on_ask_status, on_clear_wait};
+
+use crate::command::cleared;
+use crate::heard::Heard;
+use crate::phase::Phase;
+use crate::place::Place;
+use crate::plan::Plan;
+use crate::report::Report;
+use crate::settling::stand;
+use crate::step::Step;
+use crate::work::Work;
+use dfu_wire::{Code, State, Status};
+
+/// How long is waited for a status that was asked for too early, in milliseconds.
+pub(crate) const TOO_EARLY_MS: u32 = 100;
+
+/// A step of clearing.
+fn clearing(work: Work, step: Step) -> Phase
+    ensures { result ≡ Phase.On (record { work = work; place = Place.Lost; step = step }) }
+{
+    stand(work, Place::Lost, step)
+}
+
+/// The device is in dfuERROR while bytes are read back.
+fn ends_comparing(work: Work, code: Code) -> Phase
+    ensures { result ≡ ends_comparing work code }
+{
+    match code {
+        Code::StalledPkt => clearing(work, Step::ClearStatus),
+        _ => Phase::Over(Report::Refused(code)),
+    }
+}
+
+/// The device is in dfuERROR.
+fn fault_found(work: Work, code: Code) -> Phase
+    ensures { result ≡ fault_found work code }
+{
+    match (work, code) {
+        (Work::Erase { .. }, _) => clearing(work, Step::ClearStatus),
+        (_, Code::Vendor) => Phase::Over(Report::ReadProtected),
+        (Work::Compare { .. } | Work::CompareFront { .. }, _) => ends_comparing(work, code),
+        _ => clearing(work, Step::ClearStatus),
+    }
+}
+
+/// The status while the device is cleared.
+fn status_found(work: Work, status: &Status) -> Phase
+    ensures { result ≡ status_found work status.now.code status.now.poll_ms status.now.state }
+{
+    match status.state() {
+        State::AppIdle | State::AppDetach => Phase::Over(Report::NotDfu),
+        State::DfuIdle => clearing(work, Step::AskState),
+        State::DownloadIdle | State::UploadIdle => cleared(work),
+        State::Error => fault_found(work, status.code()),
+        _ => clearing(work, Step::ClearWait(status.poll_ms())),
+    }
+}
+
+/// ABORT.
+pub(crate) fn on_abort(work: Work, heard: &Heard) -> Phase
+    ensures { result ≡ on_abort work heard.now }
+{
+    match heard {
+        Heard::Acked | Heard::Stalled => clearing(work, Step::AskState),
+        _ => cleared(work),
+    }
+}
+
+/// GETSTATUS, while the device is cleared.
+pub(crate) fn on_ask_status(work: Work, heard: &Heard) -> Phase
+    ensures { result ≡ on_ask_status work heard.now }
+{
+    match heard {
+        Heard::Told(status) => status_found(work, status),
+        Heard::Stalled => clearing(work, Step::ClearWait(TOO_EARLY_MS)),
+        _ => clearing(work, Step::AskStatus),
+    }
+}
+
+/// A wait, while the device is cleared.
+pub(crate) fn on_clear_wait(work: Work, ms: u32, heard: &Heard) -> Phase
+    ensures { result ≡ on_clear_wait work ms heard.now }
+{
+    match heard {
+        Heard::Waited => clearing(work, Step::AskState),
+        _ => clearing(work, Step::ClearWait(ms)),
+    }
+}
+
+impl Plan<'_> {
+    /// The state once ABORT was sent.
+    fn state_found(&self, work: Work, state: State) -> Phase
+        ensures { result ≡ state_found self.now work state }
+    {
+        match state {
+            State::AppIdle | State::AppDetach => Phase::Over(Report::NotDfu),
+            State::DfuIdle => self.settle(work, Place::Lost),
+            State::DownloadSync | State::DownloadIdle | State::ManifestSync | State::UploadIdle =>
+                cleared(work),
+            State::DownloadBusy | State::Manifest | State::ManifestWaitReset | State::Error => {
+                clearing(work, Step::AskStatus)
+            }
+        }
+    }
+
+    /// GETSTATE, while the device is cleared.
+    pub(crate) fn on_ask_state(&self, work: Work, heard: &Heard) -> Phase
+        ensures { result ≡ on_ask_state self.now work heard.now }
+    {
+        match heard {
+            Heard::StateIs(state) => self.state_found(work, *state),
+            Heard::Stalled => clearing(work, Step::AskStatus),
+            _ => clearing(work, Step::AskState),
+        }
+    }
+}

@@ -1,0 +1,87 @@
+//! What is understood of what is seen.
+
+ghost use Rattle.std.specs.Prelude.{◌≡◌};
+ghost use Rattle.dfuse_host.specs.Wire.{Hears, HearsBytes, ReadsState, ReadsStatus, compared};
+
+use crate::plan::Plan;
+use crate::seen::Seen;
+use crate::step::Step;
+use crate::work::Work;
+use dfu_wire::{State, Status};
+
+/// What is understood of what is seen of an action.
+#[derive(Clone, Copy)]
+pub(crate) enum Heard {
+    Acked,
+    Told(Status),
+    StateIs(State),
+    /// Bytes were read back, as many as were asked for, and whether they are the image's.
+    Compared(bool),
+    Stalled,
+    Nothing,
+    Waited,
+    Restarted,
+}
+
+/// The answer to GETSTATUS.
+fn status_in(bytes: &[u8]) -> Heard
+    ensures { ReadsStatus bytes.now result }
+{
+    match Status::decode(bytes) {
+        Ok(status) => Heard::Told(status),
+        Err(_) => Heard::Nothing,
+    }
+}
+
+/// The answer to GETSTATE, one byte.
+fn state_in(bytes: &[u8]) -> Heard
+    ensures { ReadsState bytes.now result }
+{
+    match bytes {
+        [byte] => match State::from_byte(*byte) {
+            Ok(state) => Heard::StateIs(state),
+            Err(_) => Heard::Nothing,
+        },
+        _ => Heard::Nothing,
+    }
+}
+
+/// Bytes that were read back.
+#[tactic(auto, using(std::proofs::lemmas::Bool::Decides::nat_tests))]
+fn compared(wanted: &[u8], bytes: &[u8]) -> Heard
+    ensures { result ≡ compared wanted.now bytes.now }
+{
+    if bytes.len() == wanted.len() {
+        Heard::Compared(bytes == wanted)
+    } else {
+        Heard::Nothing
+    }
+}
+
+impl Plan<'_> {
+    /// What bytes say that come at a step.
+    fn answered(&self, work: Work, step: Step, bytes: &[u8]) -> Heard
+        ensures { HearsBytes self.now work step bytes.now result }
+    {
+        match step {
+            Step::AskState | Step::Probe | Step::CloseProbe => state_in(bytes),
+            Step::AskStatus | Step::Poll(_) | Step::ClosePoll => status_in(bytes),
+            Step::Read => compared(self.read_bytes(work), bytes),
+            _ => Heard::Nothing,
+        }
+    }
+
+    /// What is understood of what is seen at a step.
+    pub(crate) fn hear(&self, work: Work, step: Step, seen: Seen<'_>) -> Heard
+        ensures { Hears self.now work step seen.entry result }
+    {
+        match seen {
+            Seen::Ack => Heard::Acked,
+            Seen::Bytes(bytes) => self.answered(work, step, bytes),
+            Seen::Stall => Heard::Stalled,
+            Seen::Nothing => Heard::Nothing,
+            Seen::Waited => Heard::Waited,
+            Seen::Restarted => Heard::Restarted,
+        }
+    }
+}

@@ -1,0 +1,72 @@
+//! Which bytes an image has, by their addresses.
+
+ghost use Rattle.std.specs.Prelude.{◌≡◌, ◌≤◌, ◌<◌, ◌+◌, ◌^◌, length, IfSome};
+ghost use Rattle.dfuse_host.specs.Images.{end_of, holds, element_at, next_byte, image_start, image_end};
+
+use crate::element::Element;
+
+/// The address behind the last byte of an element.
+pub(crate) fn end_of(element: &Element<'_>) -> u64
+    ensures value { result ≡ end_of element.now }
+    ensures fits { result < 2 ^ 63 + 2 ^ 32 }
+{
+    element.address as u64 + element.bytes.len() as u64
+}
+
+/// Whether an element has a byte for this address.
+fn holds(at: u64, element: &Element<'_>) -> bool
+    ensures { result ≡ holds at element.now }
+{
+    element.address as u64 <= at && at < end_of(element)
+}
+
+/// The element that has a byte for this address.
+#[tactic(auto, unfolding(crate::specs::Images::element_at))]
+pub(crate) fn element_at<'f>(at: u64, image: &[Element<'f>]) -> Option<Element<'f>>
+    ensures value { result ≡ element_at at image.now }
+    ensures has { IfSome result (λ e. (e.address ≤ at) × (at < end_of e)) }
+{
+    for element in image {
+        if holds(at, element) {
+            return Some(*element);
+        }
+    }
+    None
+}
+
+/// The first address from this one on for which the image has a byte.
+#[tactic(auto, unfolding(crate::specs::Images::next_byte))]
+pub(crate) fn next_byte(at: u64, image: &[Element<'_>]) -> Option<u64>
+    ensures { result ≡ next_byte at image.now }
+{
+    for element in image {
+        if at < end_of(element) {
+            return Some(at.max(element.address as u64));
+        }
+    }
+    None
+}
+
+/// The address of the first byte.
+#[tactic(auto, unfolding(crate::specs::Images::image_start))]
+pub(crate) fn image_start(image: &[Element<'_>]) -> u64
+    ensures value { result ≡ image_start image.now }
+    ensures fits { result < 2 ^ 32 }
+{
+    if image.len() == 0 {
+        return 0;
+    }
+    image[0].address as u64
+}
+
+/// The address behind the last byte.
+#[tactic(auto, unfolding(crate::specs::Images::image_end))]
+pub(crate) fn image_end(image: &[Element<'_>]) -> u64
+    ensures { result ≡ image_end image.now }
+{
+    let mut end = 0;
+    for element in image {
+        end = end_of(element).max(end);
+    }
+    end
+}

@@ -1,0 +1,18 @@
+//! Laws of sessions. Each is the contract of a function with an empty body, which is proved and not to be called.
+
+ghost use Rattle.dfuse_host.specs.Budget.{OverInTime, StaysOver};
+ghost use Rattle.dfuse_host.specs.ReadBack.{OnlyReadBack, ClosesAlways};
+
+/// Whatever is seen, a session is over after as many calls of `take` as it has actions, and after one if it has none; and then nothing
+/// changes any more.
+pub fn sessions_end()
+    ensures in_time { OverInTime }
+    ensures stays { StaysOver }
+{}
+
+/// A byte counts as read back only once it was, and no more from the moment at which its page is erased or it is written again. So the
+/// report Verified says that each byte of the image was read back since it was last written.
+pub fn verified_is_read_back()
+    ensures only { OnlyReadBack }
+    ensures closes { ClosesAlways }
+{}

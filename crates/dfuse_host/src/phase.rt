@@ -1,0 +1,23 @@
+//! Where a session stands.
+
+use crate::place::Place;
+use crate::report::Report;
+use crate::step::Step;
+use crate::work::Work;
+
+/// What a session works at, what it knows of the device, and what it does next.
+#[derive(Clone, Copy, Debug, PartialEq, Eq)]
+pub struct Standing {
+    pub work: Work,
+    pub place: Place,
+    pub step: Step,
+}
+
+/// Where a session stands.
+#[derive(Clone, Copy, Debug, PartialEq, Eq)]
+pub enum Phase {
+    /// It goes on.
+    On(Standing),
+    /// It is over.
+    Over(Report),
+}

@@ -1,0 +1,107 @@
+//! What a session is to do.
+
+ghost use Rattle.std.specs.Prelude.{◌≡◌, ◌+◌, ◌≤◌, ◌<◌, ◌^◌, IfSome};
+ghost use Rattle.dfuse_host.specs.Plans.{page_of, page_start, page_end, element_end, front_end, block_size, write_end, read_end};
+
+use crate::element::Element;
+use crate::image::{element_at, end_of, image_start};
+use dfuse_memory::{Map, Page};
+
+/// What a session is to do.
+#[derive(Clone, Copy)]
+pub struct Plan<'f> {
+    /// The memory.
+    pub map: &'f Map<'f>,
+    /// The image.
+    pub image: &'f [Element<'f>],
+    /// The most bytes of a block.
+    pub transfer: u16,
+    /// How many bytes of the image are written last of all, if its first element and its first page have so many.
+    pub front: u16,
+    /// Whether the device is to leave once all was compared.
+    pub leaves: bool,
+    /// The address at which it is to start its application.
+    pub start: u32,
+}
+
+impl Plan<'_> {
+    /// The page that has an address.
+    #[tactic(auto, using(std::proofs::lemmas::Bool::Decides::nat_tests), unfolding(crate::specs::Plans::page_of))]
+    fn page_of(&self, at: u64) -> Option<Page>
+        ensures value { result ≡ page_of self.now at }
+        ensures fits { IfSome result (λ p. p.start + p.size ≤ 2 ^ 32) }
+    {
+        if at >= 0x1_0000_0000 {
+            return None;
+        }
+        self.map.page_at(at as u32)
+    }
+
+    /// Where the page of an address begins.
+    pub(crate) fn page_start(&self, at: u64) -> u64
+        ensures { result ≡ page_start self.now at }
+    {
+        match self.page_of(at) {
+            None => at,
+            Some(page) => page.start as u64,
+        }
+    }
+
+    /// Where the page of an address ends.
+    pub(crate) fn page_end(&self, at: u64) -> u64
+        ensures { result ≡ page_end self.now at }
+    {
+        match self.page_of(at) {
+            None => at,
+            Some(page) => page.start as u64 + page.size,
+        }
+    }
+
+    /// Where the element of an address ends.
+    fn element_end(&self, at: u64) -> u64
+        ensures { result ≡ element_end self.now at }
+    {
+        match element_at(at, self.image) {
+            None => at,
+            Some(element) => end_of(&element),
+        }
+    }
+
+    /// The address behind the front.
+    #[tactic(auto, unfolding(crate::specs::Plans::front_end))]
+    pub(crate) fn front_end(&self) -> u64
+        ensures { result ≡ front_end self.now }
+    {
+        let at = image_start(self.image);
+        (at + self.front as u64).min(self.element_end(at).min(self.page_end(at)))
+    }
+
+    /// The most bytes of a block, at least one.
+    pub(crate) fn block_size(&self) -> u64
+        ensures value { result ≡ block_size self.now }
+        ensures some { 1 ≤ result }
+        ensures fits { result < 2 ^ 16 }
+    {
+        (self.transfer as u64).max(1)
+    }
+
+    /// The address behind the bytes that are written at once from this one on.
+    #[tactic(auto, unfolding(crate::specs::Plans::write_end))]
+    pub(crate) fn write_end(&self, at: u64, end: u64) -> u64
+        ensures value { result ≡ write_end self.now at end }
+        ensures fits { result < at + 2 ^ 16 }
+    {
+        at.saturating_add(self.block_size())
+            .min(self.element_end(at).min(self.page_end(at)).min(end))
+    }
+
+    /// The address behind the bytes that are read at once from this one on.
+    #[tactic(auto, unfolding(crate::specs::Plans::read_end))]
+    pub(crate) fn read_end(&self, at: u64, end: u64) -> u64
+        ensures value { result ≡ read_end self.now at end }
+        ensures fits { result < at + 2 ^ 16 }
+    {
+        at.saturating_add(self.block_size())
+            .min(self.element_end(at).min(end))
+    }
+}

@@ -1,0 +1,88 @@
+//! Reading back.
+
+ghost use Rattle.std.specs.Prelude.{◌≡◌};
+ghost use Rattle.dfuse_host.specs.Table.{begun, ended, on_begin_reading, on_end_reading, read_on, on_read};
+
+use crate::command::cleared;
+use crate::heard::Heard;
+use crate::phase::Phase;
+use crate::place::Place;
+use crate::plan::Plan;
+use crate::report::Report;
+use crate::settling::stand;
+use crate::step::Step;
+use crate::work::Work;
+
+/// The device went to dfuIDLE, from which bytes can be read.
+fn begun(place: Place) -> Place
+    ensures { result ≡ begun place }
+{
+    match place {
+        Place::At(pointer) => Place::Reading(pointer),
+        _ => place,
+    }
+}
+
+/// The device left dfuUPLOAD-IDLE.
+fn ended(place: Place) -> Place
+    ensures { result ≡ ended place }
+{
+    match place {
+        Place::Reading(pointer) => Place::At(pointer),
+        _ => place,
+    }
+}
+
+impl Plan<'_> {
+    ghost use Rattle.dfuse_host.specs.declared.work.Work.{Work};
+
+    /// ABORT, to begin to read.
+    pub(crate) fn on_begin_reading(&self, work: Work, place: Place, heard: &Heard) -> Phase
+        ensures { result ≡ on_begin_reading self.now work place heard.now }
+    {
+        match heard {
+            Heard::Acked => self.settle(work, begun(place)),
+            Heard::Stalled => cleared(work),
+            _ => stand(work, place, Step::BeginReading),
+        }
+    }
+
+    /// ABORT, to read no more.
+    pub(crate) fn on_end_reading(&self, work: Work, place: Place, heard: &Heard) -> Phase
+        ensures { result ≡ on_end_reading self.now work place heard.now }
+    {
+        match heard {
+            Heard::Acked => self.settle(work, ended(place)),
+            Heard::Stalled => cleared(work),
+            _ => stand(work, place, Step::EndReading),
+        }
+    }
+
+    /// The work behind the bytes that were read back.
+    fn read_on(&self, work: Work) -> Work
+        ensures { result ≡ read_on self.now work }
+    {
+        let end = self.end_of_work(work);
+        match work {
+            Work::Compare { at } => Work::Compare {
+                at: self.read_end(at, end),
+            },
+            Work::CompareFront { at } => Work::CompareFront {
+                at: self.read_end(at, end),
+            },
+            _ => work,
+        }
+    }
+
+    /// UPLOAD.
+    pub(crate) fn on_read(&self, work: Work, place: Place, heard: &Heard) -> Phase
+        ensures { result ≡ on_read self.now work place heard.now }
+    {
+        match heard {
+            Heard::Compared(true) => self.settle(self.read_on(work), place),
+            Heard::Compared(false) => Phase::Over(Report::Different),
+            Heard::Stalled => cleared(work),
+            _ => stand(work, place, Step::Read),
+        }
+    }
+}

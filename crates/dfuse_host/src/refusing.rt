@@ -1,0 +1,115 @@
+//! When a plan is refused.
+
+ghost use Rattle.std.specs.Prelude.{◌≡◌, ◌↔◌, IsTrue, IfErr, OnOk};
+ghost use Rattle.dfuse_host.specs.Refusing.{has_empty, is_empty, ascends_from, apart_from, Grants, wants, IsSound, IsFirst};
+
+use crate::element::Element;
+use crate::fault::PlanFault;
+use crate::image::end_of;
+use crate::plan::Plan;
+use dfuse_memory::Access;
+
+/// Whether there is no element, or one without bytes.
+#[tactic(auto, using(std::proofs::lemmas::Bool::Decides::nat_tests))]
+fn is_empty(image: &[Element<'_>]) -> bool
+    ensures { result ≡ is_empty image.now }
+{
+    image.len() == 0 || has_empty(image)
+}
+
+/// Whether an element has no bytes.
+#[tactic(auto, using(std::proofs::lemmas::Bool::Decides::nat_tests))]
+fn has_empty(image: &[Element<'_>]) -> bool
+    ensures { result ≡ has_empty image.now }
+{
+    for element in image {
+        if element.bytes.len() == 0 {
+            return true;
+        }
+    }
+    false
+}
+
+/// Whether no element begins before the one before it does.
+#[tactic(auto, using(std::proofs::lemmas::Bool::Decides::nat_tests))]
+fn ascends(image: &[Element<'_>]) -> bool
+    ensures { result ≡ ascends_from 0 image.now }
+{
+    let mut start = 0;
+    for element in image {
+        if element.address < start {
+            return false;
+        }
+        start = element.address;
+    }
+    true
+}
+
+/// Whether no element begins before the one before it ends.
+#[tactic(auto, using(std::proofs::lemmas::Bool::Decides::nat_tests))]
+fn are_apart(image: &[Element<'_>]) -> bool
+    ensures { result ≡ apart_from 0 image.now }
+{
+    let mut end = 0;
+    for element in image {
+        if (element.address as u64) < end {
+            return false;
+        }
+        end = end_of(element);
+    }
+    true
+}
+
+impl Plan<'_> {
+    /// Whether the pages of the image grant what is wanted.
+    fn grants(&self, wanted: Access) -> bool
+        ensures { IsTrue result ↔ Grants self.now wanted }
+    {
+        for element in self.image {
+            if !self
+                .map
+                .grants(wanted, element.address as u64, end_of(element))
+            {
+                return false;
+            }
+        }
+        true
+    }
+
+    /// Checks the plan.
+    pub(crate) fn check(&self) -> Result<(), PlanFault>
+        ensures sound { OnOk result (IsSound self.now) }
+        ensures fault { IfErr result (IsFirst self.now) }
+    {
+        let wants = |is_readable: bool, is_erasable: bool, is_writable: bool| Access {
+            is_readable,
+            is_erasable,
+            is_writable,
+        };
+        if self.transfer == 0 {
+            return Err(PlanFault::NoTransferSize);
+        }
+        if is_empty(self.image) {
+            return Err(PlanFault::EmptyImage);
+        }
+        if !ascends(self.image) {
+            return Err(PlanFault::NotInOrder);
+        }
+        if !are_apart(self.image) {
+            return Err(PlanFault::Overlapping);
+        }
+        if !self.grants(wants(false, false, false)) {
+            return Err(PlanFault::OutsideTheMap);
+        }
+        if !self.grants(wants(false, false, true)) {
+            return Err(PlanFault::NotWritable);
+        }
+        if !self.grants(wants(false, true, false)) {
+            return Err(PlanFault::NotErasable);
+        }
+        if !self.grants(wants(true, false, false)) {
+            return Err(PlanFault::NotReadable);
+        }
+        Ok(())
+    }
+}

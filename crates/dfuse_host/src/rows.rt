@@ -1,0 +1,40 @@
+//! The table.
+
+ghost use Rattle.std.specs.Prelude.{◌≡◌};
+ghost use Rattle.dfuse_host.specs.Table.{row};
+
+use crate::clearing::{on_abort, on_ask_status, on_clear_wait};
+use crate::closing::{on_close, on_close_poll, on_close_probe};
+use crate::command::cleared;
+use crate::heard::Heard;
+use crate::phase::Phase;
+use crate::place::Place;
+use crate::plan::Plan;
+use crate::sending::{on_poll_wait, on_send};
+use crate::step::Step;
+use crate::work::Work;
+
+impl Plan<'_> {
+    /// The phase that follows, by what a session works at, knows and does, and what was heard of that.
+    pub(crate) fn row(&self, work: Work, place: Place, step: Step, heard: &Heard) -> Phase
+        ensures { result ≡ row self.now work place step heard.now }
+    {
+        match step {
+            Step::Abort => on_abort(work, heard),
+            Step::AskState => self.on_ask_state(work, heard),
+            Step::AskStatus => on_ask_status(work, heard),
+            Step::ClearWait(ms) => on_clear_wait(work, ms, heard),
+            Step::ClearStatus => cleared(work),
+            Step::Send => on_send(work, place, heard),
+            Step::Probe => self.on_probe(work, place, heard),
+            Step::Poll(last) => self.on_poll(work, place, last, heard),
+            Step::PollWait(ms) => on_poll_wait(work, place, ms, heard),
+            Step::BeginReading => self.on_begin_reading(work, place, heard),
+            Step::EndReading => self.on_end_reading(work, place, heard),
+            Step::Read => self.on_read(work, place, heard),
+            Step::Close => on_close(work, place, heard),
+            Step::CloseProbe => on_close_probe(work, place, heard),
+            Step::ClosePoll => on_close_poll(work, place, heard),
+        }
+    }
+}

@@ -1,0 +1,113 @@
+//! A command: DNLOAD brings it, and the GETSTATUS behind it starts it.
+
+ghost use Rattle.std.specs.Prelude.{◌≡◌};
+ghost use Rattle.dfuse_host.specs.Commands.{command_of, unsure};
+ghost use Rattle.dfuse_host.specs.Table.{on_send, probed, on_probe, refused, polled, stalled_ms, on_poll, on_poll_wait};
+
+use crate::clearing::TOO_EARLY_MS;
+use crate::command::cleared;
+use crate::heard::Heard;
+use crate::phase::Phase;
+use crate::place::Place;
+use crate::plan::Plan;
+use crate::report::Report;
+use crate::settling::stand;
+use crate::step::Step;
+use crate::work::Work;
+use dfu_wire::{Code, State, Status};
+
+/// DNLOAD of a command.
+pub(crate) fn on_send(work: Work, place: Place, heard: &Heard) -> Phase
+    ensures { result ≡ on_send work place heard.now }
+{
+    match heard {
+        Heard::Acked => stand(work, place, Step::Poll(0)),
+        _ => stand(work, place, Step::Probe),
+    }
+}
+
+/// A wait until a command should be done.
+pub(crate) fn on_poll_wait(work: Work, place: Place, ms: u32, heard: &Heard) -> Phase
+    ensures { result ≡ on_poll_wait work place ms heard.now }
+{
+    match heard {
+        Heard::Waited => stand(work, place, Step::Poll(ms)),
+        _ => stand(work, place, Step::PollWait(ms)),
+    }
+}
+
+/// How long is waited for a status that is stalled.
+#[tactic(auto, using(std::proofs::lemmas::Bool::Decides::nat_tests))]
+fn stalled_ms(last: u32) -> u32
+    ensures { result ≡ stalled_ms last }
+{
+    if last == 0 { TOO_EARLY_MS } else { last }
+}
+
+impl Plan<'_> {
+    /// The command of a work may have been started, and its end isn't known.
+    fn unsure_of(&self, work: Work, place: Place) -> Phase
+        ensures { result ≡ unsure self.now work (command_of self.now work place) }
+    {
+        self.unsure(work, self.command_of(work, place))
+    }
+
+    /// The state in which a device is whose answer to a command was lost.
+    fn probed(&self, work: Work, place: Place, state: State) -> Phase
+        ensures { result ≡ probed self.now work place state }
+    {
+        match state {
+            State::DownloadSync => stand(work, place, Step::Poll(0)),
+            State::DfuIdle | State::DownloadIdle => stand(work, place, Step::Send),
+            State::Error => cleared(work),
+            _ => self.unsure_of(work, place),
+        }
+    }
+
+    /// GETSTATE, to learn whether a command came.
+    pub(crate) fn on_probe(&self, work: Work, place: Place, heard: &Heard) -> Phase
+        ensures { result ≡ on_probe self.now work place heard.now }
+    {
+        match heard {
+            Heard::StateIs(state) => self.probed(work, place, *state),
+            Heard::Stalled => self.unsure_of(work, place),
+            _ => stand(work, place, Step::Probe),
+        }
+    }
+
+    /// A command ended in dfuERROR.
+    fn refused(&self, work: Work, place: Place, code: Code) -> Phase
+        ensures { result ≡ refused self.now work place code }
+    {
+        match code {
+            Code::StalledPkt => self.unsure_of(work, place),
+            Code::Vendor => Phase::Over(Report::ReadProtected),
+            _ => Phase::Over(Report::Refused(code)),
+        }
+    }
+
+    /// The status behind a command.
+    fn polled(&self, work: Work, place: Place, status: &Status) -> Phase
+        ensures { result ≡ polled self.now work place status.now.code status.now.poll_ms status.now.state }
+    {
+        match status.state() {
+            State::DownloadSync | State::DownloadBusy => {
+                stand(work, place, Step::PollWait(status.poll_ms()))
+            }
+            State::DownloadIdle => self.done(work, self.command_of(work, place)),
+            State::Error => self.refused(work, place, status.code()),
+            _ => self.unsure_of(work, place),
+        }
+    }
+
+    /// GETSTATUS, to start a command, or to learn whether it is done.
+    pub(crate) fn on_poll(&self, work: Work, place: Place, last: u32, heard: &Heard) -> Phase
+        ensures { result ≡ on_poll self.now work place last heard.now }
+    {
+        match heard {
+            Heard::Told(status) => self.polled(work, place, status),
+            Heard::Stalled => stand(work, place, Step::PollWait(stalled_ms(last))),
+            _ => stand(work, place, Step::Poll(last)),
+        }
+    }
+}

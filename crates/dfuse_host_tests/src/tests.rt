@@ -1,0 +1,8 @@
+//! Sessions worked out by hand, and sessions over a model of a device with each fault at each action.
+
+mod clean;
+mod dialogue;
+mod faults;
+mod lost;
+mod model;
+mod refused;

@@ -1,0 +1,165 @@
+//! Each fault at each action, and pairs of them, over the model of a device.
+
+use super::model::{Fate, MEMORY, Model};
+use dfuse_host::{Action, Element, Limits, Plan, Report, Session};
+use dfuse_memory::Map;
+use std::process::Abort;
+use std::test::Fail;
+
+/// Two elements, in pages 0 and 1, and in page 2.
+static IMAGE: [Element<'static>; 2] = [
+    Element {
+        address: 2,
+        bytes: &[0x11, 0x22, 0x33, 0x44, 0x55, 0x66, 0x77, 0x88, 0x99],
+    },
+    Element {
+        address: 20,
+        bytes: &[0xaa, 0xbb, 0xcc],
+    },
+];
+
+const LIMITS: Limits = Limits {
+    actions: 400,
+    restarts: 4,
+};
+
+/// The faults.
+static FATES: [Fate; 5] = [
+    Fate::LostOut,
+    Fate::LostBack,
+    Fate::Twice,
+    Fate::RestartsBefore,
+    Fate::RestartsAfter,
+];
+
+/// Whether the first bytes of an element, so many at most, stand in the memory.
+fn stand(memory: &[u8; MEMORY], element: &Element<'_>, most: usize) -> bool {
+    for (i, byte) in element.bytes.iter().enumerate() {
+        if i < most && memory.get((element.address as usize).saturating_add(i)) != Some(byte) {
+            return false;
+        }
+    }
+    true
+}
+
+/// One element, in page 1.
+static SMALL: [Element<'static>; 1] = [Element {
+    address: 9,
+    bytes: &[0x11, 0x22, 0x33, 0x44, 0x55],
+}];
+
+/// Whether an image stands there.
+fn holds(memory: &[u8; MEMORY], image: &[Element<'_>]) -> bool {
+    for element in image {
+        if !stand(memory, element, MEMORY) {
+            return false;
+        }
+    }
+    true
+}
+
+/// Whether the front of an image, three bytes, stands there.
+fn has_front(memory: &[u8; MEMORY], image: &[Element<'_>]) -> bool {
+    match image {
+        [first, ..] => stand(memory, first, 3),
+        _ => false,
+    }
+}
+
+/// A session from a state of the device, in which these actions have these fates. At each moment no page but the image's three has
+/// changed, and the front stands only if all of the image does. It answers how many actions it took.
+fn run(
+    rt: &impl Abort,
+    map: &Map<'_>,
+    image: &[Element<'_>],
+    state: u8,
+    faults: [(usize, Fate); 2],
+) -> Result<usize, Fail> {
+    let plan = Plan {
+        map,
+        image,
+        transfer: 4,
+        front: 3,
+        leaves: true,
+        start: 2,
+    };
+    let mut session = Session::begin(plan, LIMITS)?;
+    let mut model = Model::new(state);
+    let mut taken = 0usize;
+    for _ in 0..500u32 {
+        let action = session.next();
+        if let Action::Done(report) = action {
+            assert!(rt;
+                matches!(report, Report::Verified(_)),
+                "{state} {faults:?} {report:?}"
+            );
+            assert!(rt; holds(&model.memory, image), "{state} {faults:?}");
+            return Ok(taken);
+        }
+        let mut fate = Fate::Passes;
+        for (at, fault) in &faults {
+            if *at == taken {
+                fate = *fault;
+            }
+        }
+        let seen = model.perform(action, fate);
+        session.take(seen);
+        taken = taken.saturating_add(1);
+        let (_, beyond) = model.memory.split_at(24);
+        assert!(rt; beyond == [0x5au8; 24].as_slice(), "{state} {faults:?}");
+        assert!(rt;
+            !has_front(&model.memory, image) || holds(&model.memory, image),
+            "{state} {faults:?}"
+        );
+    }
+    assert!(rt; false, "{state} {faults:?} does not end");
+    Ok(taken)
+}
+
+/// Each fault at each action, alone, or with each at a third of the later ones.
+fn run_all(rt: &impl Abort, image: &[Element<'_>], state: u8, pairs: bool) -> Result<(), Fail> {
+    let map = Map::read(b"@F/0/6*8g")?;
+    let none = (500, Fate::Passes);
+    let clean = run(rt, &map, image, state, [none, none])?;
+    for first in 0..clean {
+        for fate in &FATES {
+            let length = run(rt, &map, image, state, [(first, *fate), none])?;
+            if pairs {
+                for second in first.saturating_add(1)..length {
+                    // One of three pairs of actions, to be done in seconds.
+                    if second.saturating_add(first) % 3 == 0 {
+                        for other in &FATES {
+                            run(rt, &map, image, state, [(first, *fate), (second, *other)])?;
+                        }
+                    }
+                }
+            }
+        }
+    }
+    Ok(())
+}
+
+#[test]
+fn each_fault_ends_as_verified(rt: HostRuntime) -> Result<(), Fail> {
+    // dfuIDLE, a command of an earlier session, dfuDNLOAD-IDLE, dfuUPLOAD-IDLE, dfuERROR.
+    for state in [2u8, 3, 5, 9, 10] {
+        run_all(&rt, &IMAGE, state, false)?;
+    }
+    Ok(())
+}
+
+#[test]
+fn pairs_of_faults_end_as_verified(rt: HostRuntime) -> Result<(), Fail> {
+    run_all(&rt, &SMALL, 2, true)
+}
+
+#[test]
+fn a_clean_session_takes_so_many_actions(rt: HostRuntime) -> Result<(), Fail> {
+    let map = Map::read(b"@F/0/6*8g")?;
+    let none = (500, Fate::Passes);
+    let taken = run(&rt, &map, &IMAGE, 2, [none, none])?;
+    // Two actions clear the device, and two leave. Each command takes four: 3 pages, 4 blocks that are written, each with its address,
+    // and 3 addresses of what is read. 4 blocks are read, and each address has two aborts.
+    assert_eq!(rt; taken, 2 + 4 * (3 + 2 * 4 + 3) + 4 + 2 * 3 + 2);
+    Ok(())
+}

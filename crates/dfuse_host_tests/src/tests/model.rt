@@ -1,0 +1,295 @@
+//! A model of a device: six pages of eight bytes, whose writes can only clear bits.
+
+use dfuse_host::{Action, Seen};
+
+/// How many bytes the memory has, and a page.
+pub(crate) const MEMORY: usize = 48;
+
+const PAGE: usize = 8;
+
+/// What becomes of an action.
+#[derive(Clone, Copy, Debug, PartialEq, Eq)]
+pub(crate) enum Fate {
+    Passes,
+    /// The request doesn't come.
+    LostOut,
+    /// The answer doesn't.
+    LostBack,
+    /// The request comes twice, and the first answer is lost.
+    Twice,
+    /// The device restarts before the request comes.
+    RestartsBefore,
+    /// It restarts right after.
+    RestartsAfter,
+}
+
+/// A command that came, or runs.
+#[derive(Clone, Copy)]
+enum Task {
+    Nothing,
+    SetAddress(usize),
+    Erase(usize),
+    Write {
+        at: usize,
+        bytes: [u8; 4],
+        len: usize,
+    },
+}
+
+/// A device.
+#[derive(Clone, Copy)]
+pub(crate) struct Model {
+    pub memory: [u8; MEMORY],
+    pointer: usize,
+    /// bState and bStatus.
+    state: u8,
+    code: u8,
+    task: Task,
+    /// The last answer, as long as it is.
+    out: [u8; 6],
+    len: usize,
+}
+
+/// What a request leads to.
+#[derive(Clone, Copy)]
+enum Answer {
+    Ack,
+    Stall,
+    /// So many bytes of `out`.
+    Bytes(usize),
+}
+
+/// A byte of the memory becomes this, or keeps the bits that are 0.
+fn put(memory: &mut [u8; MEMORY], at: usize, byte: u8) {
+    if at < MEMORY {
+        memory[at] = byte;
+    }
+}
+
+/// The byte at a place of a slice, or 0.
+fn byte_at(bytes: &[u8], at: usize) -> u8 {
+    match bytes.get(at) {
+        Some(byte) => *byte,
+        None => 0,
+    }
+}
+
+/// A byte of the memory, or 0.
+fn cell(memory: &[u8; MEMORY], at: usize) -> u8 {
+    if at < MEMORY { memory[at] } else { 0 }
+}
+
+/// A page is erased, or its first bytes.
+fn erase(memory: &mut [u8; MEMORY], at: usize, is_rest: bool) {
+    let start = at / PAGE * PAGE;
+    for i in 0..PAGE {
+        if is_rest || i < 3 {
+            put(memory, start.saturating_add(i), 0xff);
+        }
+    }
+}
+
+/// Bytes are written, or the first one.
+fn write(memory: &mut [u8; MEMORY], at: usize, bytes: [u8; 4], len: usize, is_rest: bool) {
+    for i in 0..4usize {
+        if i < len && (is_rest || i == 0) {
+            let place = at.saturating_add(i);
+            let byte = cell(memory, place) & bytes[i];
+            put(memory, place, byte);
+        }
+    }
+}
+
+impl Model {
+    /// A device in this state, with a memory of 5Ah.
+    pub(crate) fn new(state: u8) -> Model {
+        Model {
+            memory: [0x5a; MEMORY],
+            pointer: 0,
+            state,
+            code: 0,
+            task: if state == 3 {
+                Task::Erase(40)
+            } else {
+                Task::Nothing
+            },
+            out: [0; 6],
+            len: 0,
+        }
+    }
+
+    /// The part of the command that is done by its half, or the rest.
+    fn run(&mut self, is_rest: bool) {
+        match self.task {
+            Task::Nothing => {}
+            Task::SetAddress(at) => self.pointer = at,
+            Task::Erase(at) => {
+                erase(&mut self.memory, at, is_rest);
+                self.pointer = 47;
+            }
+            Task::Write { at, bytes, len } => {
+                write(&mut self.memory, at, bytes, len, is_rest);
+                self.pointer = 1;
+            }
+        }
+    }
+
+    /// The device restarts.
+    fn restart(&mut self) {
+        self.pointer = 0;
+        self.state = 2;
+        self.code = 0;
+        self.task = Task::Nothing;
+    }
+
+    /// A request out of place.
+    fn refuse(&mut self) -> Answer {
+        self.state = 10;
+        self.code = 15;
+        self.task = Task::Nothing;
+        Answer::Stall
+    }
+
+    /// DNLOAD.
+    fn download(&mut self, block: u8, body: &[u8]) -> Answer {
+        if self.state != 2 && self.state != 5 {
+            return self.refuse();
+        }
+        if body.len() == 0 {
+            self.state = 6;
+            return Answer::Ack;
+        }
+        self.state = 3;
+        let address = byte_at(body, 1) as usize;
+        self.task = match byte_at(body, 0) {
+            0x21 if block == 0 => Task::SetAddress(address),
+            0x41 if block == 0 => Task::Erase(address),
+            _ => Task::Write {
+                at: self.pointer,
+                bytes: [
+                    byte_at(body, 0),
+                    byte_at(body, 1),
+                    byte_at(body, 2),
+                    byte_at(body, 3),
+                ],
+                len: body.len(),
+            },
+        };
+        Answer::Ack
+    }
+
+    /// UPLOAD.
+    fn upload(&mut self, block: u8, length: u8) -> Answer {
+        if self.state != 2 && self.state != 9 || block < 2 || length > 4 {
+            return self.refuse();
+        }
+        self.state = 9;
+        let from = self.pointer.saturating_add((block - 2) as usize * 4);
+        for i in 0..4usize {
+            let byte = cell(&self.memory, from.saturating_add(i));
+            self.out[i] = byte;
+        }
+        Answer::Bytes(length as usize)
+    }
+
+    /// GETSTATUS starts a command that came, and finishes one that runs.
+    fn status(&mut self) -> Answer {
+        if self.state == 3 {
+            self.run(false);
+            self.state = 4;
+        } else if self.state == 4 {
+            self.run(true);
+            self.task = Task::Nothing;
+            self.state = 5;
+        } else if self.state == 6 {
+            self.state = 7;
+        }
+        self.out = [self.code, 1, 0, 0, self.state, 0];
+        Answer::Bytes(6)
+    }
+
+    /// A request comes.
+    fn comes(&mut self, setup: [u8; 8], body: &[u8]) -> Answer {
+        let [_, request, block, _, _, _, length, _] = setup;
+        match request {
+            1 => self.download(block, body),
+            2 => self.upload(block, length),
+            3 => self.status(),
+            4 if self.state == 10 => {
+                self.restart_idle();
+                Answer::Ack
+            }
+            5 => {
+                self.out = [self.state, 0, 0, 0, 0, 0];
+                Answer::Bytes(1)
+            }
+            6 if self.state != 4 && self.state != 10 => {
+                self.state = 2;
+                self.task = Task::Nothing;
+                Answer::Ack
+            }
+            _ => self.refuse(),
+        }
+    }
+
+    /// The device is in dfuIDLE again, and its pointer stays.
+    fn restart_idle(&mut self) {
+        self.state = 2;
+        self.code = 0;
+        self.task = Task::Nothing;
+    }
+
+    /// What is seen of an answer.
+    fn seen(&mut self, answer: Answer) -> Seen<'_> {
+        match answer {
+            Answer::Ack => Seen::Ack,
+            Answer::Stall => Seen::Stall,
+            Answer::Bytes(count) => {
+                let (bytes, _) = self.out.split_at(count.min(6));
+                Seen::Bytes(bytes)
+            }
+        }
+    }
+
+    /// A request comes, with this fate.
+    fn carry(&mut self, setup: [u8; 8], body: &[u8], fate: Fate) -> Seen<'_> {
+        match fate {
+            Fate::Passes => {
+                let answer = self.comes(setup, body);
+                self.seen(answer)
+            }
+            Fate::LostOut => Seen::Nothing,
+            Fate::LostBack => {
+                let _ = self.comes(setup, body);
+                Seen::Nothing
+            }
+            Fate::Twice => {
+                let _ = self.comes(setup, body);
+                let answer = self.comes(setup, body);
+                self.seen(answer)
+            }
+            Fate::RestartsBefore => {
+                self.restart();
+                Seen::Restarted
+            }
+            Fate::RestartsAfter => {
+                let _ = self.comes(setup, body);
+                self.restart();
+                Seen::Restarted
+            }
+        }
+    }
+
+    /// An action is done, with this fate.
+    pub(crate) fn perform(&mut self, action: Action<'_>, fate: Fate) -> Seen<'_> {
+        match (action, fate) {
+            (Action::Send { setup, body }, _) => self.carry(setup, body, fate),
+            (Action::Command { setup, body }, _) => self.carry(setup, &body, fate),
+            (Action::Wait(_), Fate::RestartsBefore | Fate::RestartsAfter) => {
+                self.restart();
+                Seen::Restarted
+            }
+            (Action::Wait(_) | Action::Done(_), _) => Seen::Waited,
+        }
+    }
+}
