@@ -1,9 +1,5 @@
 -- A device is asked to leave once all was compared, and not before.
 use Rattle.std.proofs.Common.{◌≡◌, ℕ, zero, suc, pred, true, false, cond, eqb, Option, Some, None, refl, sym, subst}
-use Rattle.dfu_wire.specs.declared.codes.Code.{Code}
-use Rattle.dfu_wire.specs.declared.codes.Code.TheVariants as code
-use Rattle.dfu_wire.specs.declared.states.State.{State}
-use Rattle.dfu_wire.specs.declared.states.State.TheVariants as state
 use Rattle.dfuse_host.specs.declared.plan.Plan.{Plan}
 use Rattle.dfuse_host.specs.declared.phase.Phase.{Phase}
 use Rattle.dfuse_host.specs.declared.phase.Phase.TheVariants.{On, Over}
@@ -24,8 +20,9 @@ use Rattle.dfuse_host.specs.Images.{image_start, image_end}
 use Rattle.dfuse_host.specs.Plans.{front_end, page_end, write_end}
 use Rattle.dfuse_host.specs.Settling.{stand, byte_in, can_read, sending, comparing, leaving_by, staying, to_leave, compare_front_or, to_compare_front, write_front_or, to_write_front, compare_or, to_compare, write_or, to_write, erase_or, to_erase, settle}
 use Rattle.dfuse_host.specs.Commands.{command_of, done, erased, written, unsure}
-use Rattle.dfuse_host.specs.Table.{state_found, ends_comparing, fault_found, status_found, on_abort, on_ask_state, on_ask_status, on_clear_wait, on_send, probed, on_probe, refused, polled, on_poll, on_poll_wait, begun, ended, on_begin_reading, on_end_reading, read_on, on_read, on_close, close_probed, on_close_probe, close_polled, on_close_poll, row}
+use Rattle.dfuse_host.specs.Table.{read_on, row}
 use Rattle.dfuse_host.specs.Sessions.{budgeted, spent_at, resumed, restarted, restarted_leaving, restarted_in, told, after_phase}
+use Rattle.dfuse_host.proofs.RowForms.{RowForm, stays, settles, reads, does, doubts, fails, leaves, row_form}
 use Rattle.dfuse_host.specs.ReadBack.{Closes, ClosesIn, ClosesAlways}
 
 module _ (plan : Plan) where
@@ -120,7 +117,7 @@ module _ (plan : Plan) where
   at_erased w at = at_erase place.Lost (page_end plan at)
 
   at_written : (w : Work) (at : ℕ) → ClosesIn (written plan w at)
-  at_written (work.Write from end) at = at_write place.Lost (write_end plan at end) end
+  at_written (work.Write from end) at = at_write place.Lost _ end
   at_written w at = at_write_front place.Lost (write_end plan at (front_end plan))
 
   at_done : (w : Work) (c : Command) → ClosesIn (done plan w c)
@@ -130,131 +127,17 @@ module _ (plan : Plan) where
 
   -- ---- rows
 
-  at_ends : (w : Work) (c : Code) → ClosesIn (ends_comparing w c)
-  at_ends w code.StalledPkt = tt
-  at_ends w c = tt
-
-  at_fault : (w : Work) (c : Code) → ClosesIn (fault_found w c)
-  at_fault (work.Erase at) c = tt
-  at_fault w code.Vendor = tt
-  at_fault (work.Compare at) c = at_ends (work.Compare at) c
-  at_fault (work.CompareFront at) c = at_ends (work.CompareFront at) c
-  at_fault w c = tt
-
-  at_status : (w : Work) (c : Code) (poll : ℕ) (s : State) → ClosesIn (status_found w c poll s)
-  at_status w c poll state.Error = at_fault w c
-  at_status w c poll s = tt
-
-  at_state : (w : Work) (s : State) → ClosesIn (state_found plan w s)
-  at_state w state.DfuIdle = at_settle w place.Lost
-  at_state w s = tt
-
-  at_abort : (w : Work) (x : Heard) → ClosesIn (on_abort w x)
-  at_abort w heard.Acked = tt
-  at_abort w x = tt
-
-  at_ask_state : (w : Work) (x : Heard) → ClosesIn (on_ask_state plan w x)
-  at_ask_state w (heard.StateIs s) = at_state w s
-  at_ask_state w x = tt
-
-  at_ask_status : (w : Work) (x : Heard) → ClosesIn (on_ask_status w x)
-  at_ask_status w (heard.Told status) = at_status w status.code status.poll_ms status.state
-  at_ask_status w x = tt
-
-  at_clear_wait : (w : Work) (ms : ℕ) (x : Heard) → ClosesIn (on_clear_wait w ms x)
-  at_clear_wait w ms heard.Waited = tt
-  at_clear_wait w ms x = tt
-
-  at_send : (w : Work) (p : Place) (x : Heard) → ClosesIn (on_send w p x)
-  at_send w p heard.Acked = tt
-  at_send w p x = tt
-
-  at_probed : (w : Work) (p : Place) (s : State) → ClosesIn (probed plan w p s)
-  at_probed w p state.DownloadSync = tt
-  at_probed w p state.DfuIdle = tt
-  at_probed w p state.DownloadIdle = tt
-  at_probed w p state.Error = tt
-  at_probed w p s = at_unsure w (command_of plan w p)
-
-  at_probe : (w : Work) (p : Place) (x : Heard) → ClosesIn (on_probe plan w p x)
-  at_probe w p (heard.StateIs s) = at_probed w p s
-  at_probe w p heard.Stalled = at_unsure w (command_of plan w p)
-  at_probe w p x = tt
-
-  at_refused : (w : Work) (p : Place) (c : Code) → ClosesIn (refused plan w p c)
-  at_refused w p code.StalledPkt = at_unsure w (command_of plan w p)
-  at_refused w p c = tt
-
-  at_polled : (w : Work) (p : Place) (c : Code) (poll : ℕ) (s : State) → ClosesIn (polled plan w p c poll s)
-  at_polled w p c poll state.DownloadSync = tt
-  at_polled w p c poll state.DownloadBusy = tt
-  at_polled w p c poll state.DownloadIdle = at_done w (command_of plan w p)
-  at_polled w p c poll state.Error = at_refused w p c
-  at_polled w p c poll s = at_unsure w (command_of plan w p)
-
-  at_poll : (w : Work) (p : Place) (last : ℕ) (x : Heard) → ClosesIn (on_poll plan w p last x)
-  at_poll w p last (heard.Told status) = at_polled w p status.code status.poll_ms status.state
-  at_poll w p last x = tt
-
-  at_poll_wait : (w : Work) (p : Place) (ms : ℕ) (x : Heard) → ClosesIn (on_poll_wait w p ms x)
-  at_poll_wait w p ms heard.Waited = tt
-  at_poll_wait w p ms x = tt
-
-  at_begin : (w : Work) (p : Place) (x : Heard) → ClosesIn (on_begin_reading plan w p x)
-  at_begin w p heard.Acked = at_settle w (begun p)
-  at_begin w p x = tt
-
-  at_end : (w : Work) (p : Place) (x : Heard) → ClosesIn (on_end_reading plan w p x)
-  at_end w p heard.Acked = at_settle w (ended p)
-  at_end w p x = tt
-
-  at_read : (w : Work) (p : Place) (x : Heard) → ClosesIn (on_read plan w p x)
-  at_read w p (heard.Compared true) = at_settle (read_on plan w) p
-  at_read w p (heard.Compared false) = tt
-  at_read w p x = tt
-
-  at_close : (w : Work) (p : Place) (x : Heard) → w ≡ work.Leave → ClosesIn (on_close w p x)
-  at_close w p heard.Acked e = e
-  at_close w p x e = e
-
-  at_close_probed : (w : Work) (p : Place) (s : State) → w ≡ work.Leave → ClosesIn (close_probed w p s)
-  at_close_probed w p state.DfuIdle e = e
-  at_close_probed w p state.DownloadIdle e = e
-  at_close_probed w p state.Error e = tt
-  at_close_probed w p s e = e
-
-  at_close_probe : (w : Work) (p : Place) (x : Heard) → w ≡ work.Leave → ClosesIn (on_close_probe w p x)
-  at_close_probe w p (heard.StateIs s) e = at_close_probed w p s e
-  at_close_probe w p x e = e
-
-  at_close_polled : (w : Work) (p : Place) (c : Code) (s : State) → w ≡ work.Leave → ClosesIn (close_polled w p c s)
-  at_close_polled w p c state.DfuIdle e = e
-  at_close_polled w p c state.DownloadIdle e = e
-  at_close_polled w p c state.Error e = tt
-  at_close_polled w p code.Ok state.Manifest e = tt
-  at_close_polled w p code.Ok state.ManifestWaitReset e = tt
-  at_close_polled w p c s e = e
-
-  at_close_poll : (w : Work) (p : Place) (x : Heard) → w ≡ work.Leave → ClosesIn (on_close_poll w p x)
-  at_close_poll w p (heard.Told status) e = at_close_polled w p status.code status.state e
-  at_close_poll w p x e = e
+  by_form : (w : Work) (p : Place) (s : Step) (x : Heard) (next : Phase) → RowForm plan w p s x next → ClosesIn next
+  by_form w p s x next (stays p' s' c) = c
+  by_form w p s x next (settles p') = at_settle w p'
+  by_form w p s x next reads = at_settle (read_on plan w) p
+  by_form w p s x next does = at_done w (command_of plan w p)
+  by_form w p s x next doubts = at_unsure w (command_of plan w p)
+  by_form w p s x next (fails r no_success) = tt
+  by_form w p s x next (leaves e) = tt
 
   at_row : (w : Work) (p : Place) (s : Step) (x : Heard) → Closes w s → ClosesIn (row plan w p s x)
-  at_row w p step.Abort x c = at_abort w x
-  at_row w p step.AskState x c = at_ask_state w x
-  at_row w p step.AskStatus x c = at_ask_status w x
-  at_row w p (step.ClearWait ms) x c = at_clear_wait w ms x
-  at_row w p step.ClearStatus x c = tt
-  at_row w p step.Send x c = at_send w p x
-  at_row w p step.Probe x c = at_probe w p x
-  at_row w p (step.Poll last) x c = at_poll w p last x
-  at_row w p (step.PollWait ms) x c = at_poll_wait w p ms x
-  at_row w p step.BeginReading x c = at_begin w p x
-  at_row w p step.EndReading x c = at_end w p x
-  at_row w p step.Read x c = at_read w p x
-  at_row w p step.Close x c = at_close w p x c
-  at_row w p step.CloseProbe x c = at_close_probe w p x c
-  at_row w p step.ClosePoll x c = at_close_poll w p x c
+  at_row w p s x c = by_form w p s x (row plan w p s x) (row_form plan w p s x c)
 
   at_resumed : (w : Work) (p : Place) (s : Step) → ClosesIn (resumed plan w p s)
   at_resumed w p (step.Poll last) = at_unsure w (command_of plan w p)

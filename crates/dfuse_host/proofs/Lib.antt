@@ -1,6 +1,11 @@
 pub mod CloseLaws
+pub mod ForgetLaws
 pub mod ImageLaws
 pub mod ReadBackLaws
+pub mod RowForms
 pub mod RowLaws
 pub mod SettlingLaws
 pub mod Takes
+pub mod TouchLaws
+pub mod TouchedBytes
+pub mod TouchedSessions

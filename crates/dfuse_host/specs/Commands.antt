@@ -50,7 +50,7 @@ erased plan w at = to_erase plan place.Lost (page_end plan at)
 
 -- Bytes were written, after which the pointer isn't known.
 abbrev pub written : Plan → Work → (at : ℕ) → Phase
-written plan (work.Write from end) at = to_write plan place.Lost (write_end plan at end) end
+written plan (work.Write from end) at = to_write plan place.Lost (max from (write_end plan at end)) end
 written plan w at = to_write_front plan place.Lost (write_end plan at (front_end plan))
 
 -- A command is done.

@@ -1,6 +1,7 @@
 pub mod Budget
 pub mod Commands
 pub mod Deeds
+pub mod Forgetting
 pub mod Images
 pub mod Plans
 pub mod ReadBack
@@ -8,4 +9,5 @@ pub mod Refusing
 pub mod Sessions
 pub mod Settling
 pub mod Table
+pub mod Touching
 pub mod Wire

@@ -85,7 +85,9 @@ impl Plan<'_> {
         ensures { result ≡ written self.now work at }
     {
         match work {
-            Work::Write { end, .. } => self.to_write(Place::Lost, self.write_end(at, end), end),
+            Work::Write { at: from, end } => {
+                self.to_write(Place::Lost, from.max(self.write_end(at, end)), end)
+            }
             _ => self.to_write_front(Place::Lost, self.write_end(at, self.front_end())),
         }
     }

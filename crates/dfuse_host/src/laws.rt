@@ -1,7 +1,9 @@
 //! Laws of sessions. Each is the contract of a function with an empty body, which is proved and not to be called.
 
 ghost use Rattle.dfuse_host.specs.Budget.{OverInTime, StaysOver};
+ghost use Rattle.dfuse_host.specs.Forgetting.{ForgetsPointer};
 ghost use Rattle.dfuse_host.specs.ReadBack.{OnlyReadBack, ClosesAlways};
+ghost use Rattle.dfuse_host.specs.Touching.{TouchesAlways, OnlyTouched, FrontIsLast};
 
 /// Whatever is seen, a session is over after as many calls of `take` as it has actions, and after one if it has none; and then nothing
 /// changes any more.
@@ -15,4 +17,17 @@ pub fn sessions_end()
 pub fn verified_is_read_back()
     ensures only { OnlyReadBack }
     ensures closes { ClosesAlways }
+{}
+
+/// Whatever is heard, a session erases only pages that have a byte of the image, and writes only bytes of the image, at once on one page.
+/// When it writes bytes of the front, each byte behind the front was read back.
+pub fn only_touched()
+    ensures always { TouchesAlways }
+    ensures only { OnlyTouched }
+    ensures front_last { FrontIsLast }
+{}
+
+/// After a restart nothing is known of the device's address pointer, so it is set before anything is written or read.
+pub fn restart_forgets_the_pointer()
+    ensures { ForgetsPointer }
 {}

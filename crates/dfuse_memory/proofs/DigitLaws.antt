@@ -1,20 +1,8 @@
 -- Digits at the front of a text, and what they say.
-use Rattle.std.proofs.Common.{◌≡◌, ℕ, zero, suc, ◌+◌, ◌*◌, ◌^◌, ◌<◌, ◌≤◌, true, false, eqb, ltb, List, [], ◌∷◌, length, take, drop, get_or, refl, ap, ◌∙◌, arith}
+use Rattle.std.proofs.Common.{◌≡◌, ℕ, zero, suc, ◌+◌, ◌*◌, ◌^◌, ◌<◌, ◌≤◌, List, [], ◌∷◌, length, take, drop, get_or, refl, ap, ◌∙◌, arith}
 use Rattle.std.proofs.Math.Nat.{pow-succ', pow-le-pow_right}
-use Rattle.std.proofs.lemmas.Bool.Decides.{nat_tests}
 use Rattle.dfuse_memory.specs.Reading.{digit_value, digits_in, said}
-
--- A test of two numbers in order says yes.
-pub less : (a b : ℕ) → a < b → ltb a b ≡ true
-less a b h = grind (arith, nat_tests)
-
--- A test of two numbers out of order says no.
-pub not_less : (a b : ℕ) → b ≤ a → ltb a b ≡ false
-not_less a b h = grind (arith, nat_tests)
-
--- A test of two numbers that differ says no.
-pub differ : (a b : ℕ) → (a ≡ b → ⊥) → eqb a b ≡ false
-differ a b h = grind (arith, nat_tests)
+use Rattle.dfuse_memory.proofs.TestLaws.{less, not_less}
 
 -- A digit is counted.
 pub digits_cons : (base b : ℕ) (bs : List ℕ) → digit_value b < base → digits_in base (b ∷ bs) ≡ suc (digits_in base bs)

@@ -7,6 +7,7 @@ use Rattle.dfuse_memory.specs.Reading.{Said, Allows, Grouped, ◌>>=◌, or, cou
 use Rattle.dfuse_memory.specs.Grammar.{IsNumber, IsUnit, IsGroup}
 use Rattle.dfuse_memory.proofs.NumbersRead.{Spelled, number_found}
 use Rattle.dfuse_memory.proofs.Steps.{then_ok, or_ok, counting_ok, behind_found}
+use Rattle.dfuse_memory.proofs.TestLaws.{and_true}
 
 -- A count that was read.
 record Counted (c : Said) (text : List ℕ) : Type 0 where
@@ -107,10 +108,6 @@ record Lettered (a : Allows) (text : List ℕ) : Type 0 where
   from_a : 97 ≤ letter
   to_g : letter ≤ 103
   access_is : a.access ≡ access_of letter
-
-and_true : (a b : Bool) → (a && b) ≡ true → (a ≡ true) × (b ≡ true)
-and_true true b h = (refl, h)
-and_true false b h = (h, cc)
 
 lettered_by : (b : ℕ) (bs : List ℕ) (a : Allows) (t : Bool) → (leb 97 b && leb b 103) ≡ t →
     ◌≡◌ {A = Result Allows MapFault} (cond t (Ok (record { access = access_of b; rest = bs })) (Err BadType)) (Ok a) → Lettered a (b ∷ bs)

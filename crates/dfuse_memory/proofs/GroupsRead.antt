@@ -7,8 +7,8 @@ use Rattle.dfuse_memory.specs.declared.pages.Pages.{Pages}
 use Rattle.dfuse_memory.specs.Ranges.{IsRange}
 use Rattle.dfuse_memory.specs.Reading.{Said, Grouped, behind, count_at, unit_of, unit_at, size_at, access_of, access_at, ranged, group_at, digit_value}
 use Rattle.dfuse_memory.specs.Grammar.{IsNumber, IsUnit, IsGroup}
-use Rattle.dfuse_memory.proofs.DigitLaws.{not_less, differ}
 use Rattle.dfuse_memory.proofs.NumbersRead.{NoDigitFirst, no_digit, number_read}
+use Rattle.dfuse_memory.proofs.TestLaws.{not_less, differ}
 
 -- ---- what is spelled is read
 

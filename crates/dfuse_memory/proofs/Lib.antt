@@ -11,3 +11,4 @@ pub mod PlacesFound
 pub mod PlacesRead
 pub mod RangeLaws
 pub mod Steps
+pub mod TestLaws

@@ -13,6 +13,7 @@ use Rattle.dfuse_memory.specs.Grammar.{IsMap, AreRanges, last, following, elsewh
 use Rattle.dfuse_memory.proofs.Steps.{then_ok, or_ok, behind_found}
 use Rattle.dfuse_memory.proofs.GroupsFound.{GroupSpelled, group_found}
 use Rattle.dfuse_memory.proofs.PlacesFound.{Leads, address_found, next_found}
+use Rattle.dfuse_memory.proofs.TestLaws.{and_true}
 
 -- ---- ranges
 
@@ -78,10 +79,6 @@ record Trimmed (kept bytes : List ℕ) : Type 0 where
   bytes_are : bytes ≡ kept ++ replicate spaces 32
   no_space : EndsInNoSpace kept
 
-and_true : (a b : Bool) → (a && b) ≡ true → (a ≡ true) × (b ≡ true)
-and_true true b h = (refl, h)
-and_true false b h = (h, cc)
-
 none_left : (bs : List ℕ) → eqb (length bs) 0 ≡ true → bs ≡ []
 none_left [] h = refl
 none_left (b ∷ bs) h = absurd (omega (arith, eqb-true (length (b ∷ bs)) 0 h))
@@ -133,10 +130,6 @@ no_stroke_none xs = tt
 no_stroke_more : (b n : ℕ) (bs : List ℕ) → (b ≡ 47 → ⊥) → HasNoStroke (take n bs) → HasNoStroke (take (suc n) (b ∷ bs))
 unfolding HasNoStroke
 no_stroke_more b n bs h k = (h, k)
-
-not_true : (t : Bool) → not t ≡ true → t ≡ false
-not_true true h = cc
-not_true false h = refl
 
 stroke_by : (b : ℕ) (bs : List ℕ) (k : ℕ) (t : Bool) → eqb b 47 ≡ t → (k < length bs → Stroke k bs) →
     cond (not t) (1 + k) 0 < length (b ∷ bs) → Stroke (cond (not t) (1 + k) 0) (b ∷ bs)

@@ -8,10 +8,10 @@ use Rattle.dfuse_memory.specs.Ranges.{end_of}
 use Rattle.dfuse_memory.specs.Reading.{Content, Named, group_at, next_at, ranges_at, trimmed, is_stroke, cut_at, name_at, map_at}
 use Rattle.dfuse_memory.specs.Grammar.{IsMap, IsGroup, AreRanges, HasNoStroke, EndsInNoSpace}
 use Rattle.dfuse_memory.specs.Grammar.{last, following, elsewhere}
-use Rattle.dfuse_memory.proofs.DigitLaws.{differ, less}
 use Rattle.dfuse_memory.proofs.GroupsRead.{behind_read, group_read}
 use Rattle.dfuse_memory.proofs.PlacesRead.{address_read, comma_read, stroke_read, end_read}
 use Rattle.dfuse_memory.proofs.NameLaws.{trimmed_nil, trimmed_cons, first_of, stays, stays_so, goes_off}
+use Rattle.dfuse_memory.proofs.TestLaws.{less, differ}
 
 -- ---- ranges
 

@@ -3,7 +3,7 @@ use Rattle.std.proofs.Common.{◌≡◌, ℕ, zero, suc, ◌<◌, ◌≤◌, ◌
 use Rattle.std.proofs.lemmas.Bool.{eq-eqb}
 use Rattle.std.proofs.lemmas.List.{take_all}
 use Rattle.dfuse_memory.specs.Reading.{trimmed}
-use Rattle.dfuse_memory.proofs.DigitLaws.{differ}
+use Rattle.dfuse_memory.proofs.TestLaws.{differ}
 
 -- A first byte stays before bytes that stay, and before none if it is no space.
 abbrev pub first_of : ℕ → List ℕ → List ℕ

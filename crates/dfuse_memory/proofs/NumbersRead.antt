@@ -4,7 +4,8 @@ use Rattle.std.proofs.lemmas.Bool.{ltb-true, ltb-false}
 use Rattle.std.proofs.lemmas.List.{take-append-drop, take_at, drop_at}
 use Rattle.dfuse_memory.specs.Reading.{Said, digit_value, digits_in, said, number_at}
 use Rattle.dfuse_memory.specs.Grammar.{AreDigits, IsNumber}
-use Rattle.dfuse_memory.proofs.DigitLaws.{not_less, differ, digits_cons, digits_no, digits_none}
+use Rattle.dfuse_memory.proofs.DigitLaws.{digits_cons, digits_no, digits_none}
+use Rattle.dfuse_memory.proofs.TestLaws.{not_less, differ, not_zero, or_false}
 
 -- No digit of a base stands first.
 unfoldable pub NoDigitFirst : (base : ℕ) → List ℕ → Type 0
@@ -71,19 +72,11 @@ unless : (t : Bool) (x y : Said) → cond t None (Some x) ≡ Some y → (t ≡ 
 unless true x y h = cc
 unless false x y h = (refl, cc)
 
-or_false : (a b : Bool) → (a || b) ≡ false → (a ≡ false) × (b ≡ false)
-or_false true b h = (h, cc)
-or_false false b h = (refl, h)
-
 -- A number that was read was spelled by these digits.
 pub record Spelled (base most : ℕ) (n : Said) (text : List ℕ) : Type 0 where
   pub digits : List ℕ
   pub text_is : text ≡ digits ++ n.rest
   pub number_is : IsNumber base most n.value digits
-
-not_zero : (n : ℕ) → eqb n 0 ≡ false → 1 ≤ n
-not_zero zero h = absurd (cc)
-not_zero (suc n) h = omega arith
 
 pub number_found : (base most : ℕ) (n : Said) (text : List ℕ) → number_at base most text ≡ Some n → Spelled base most n text
 unfolding number_at

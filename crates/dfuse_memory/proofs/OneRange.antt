@@ -1,15 +1,12 @@
 -- An address is in one range of a map alone.
-use Rattle.std.proofs.Common.{◌≡◌, ℕ, ◌<◌, ◌≤◌, ◌&&◌, Bool, true, false, cond, List, [], ◌∷◌, Option, Some, ◌⊎◌, inl, inr, refl, sym, ap, ◌∙◌, subst, arith}
+use Rattle.std.proofs.Common.{◌≡◌, ℕ, ◌<◌, ◌≤◌, Bool, true, false, cond, List, [], ◌∷◌, Option, Some, ◌⊎◌, inl, inr, refl, sym, ap, ◌∙◌, subst, arith}
 use Rattle.std.proofs.lemmas.Bool.{cases_lt}
 use Rattle.std.proofs.lemmas.Bool.Decides.{nat_tests}
 use Rattle.dfuse_memory.specs.declared.pages.Access.{Access}
 use Rattle.dfuse_memory.specs.declared.pages.Pages.{Pages}
 use Rattle.dfuse_memory.specs.Ranges.{end_of, is_apart, is_apart_from, are_apart}
 use Rattle.dfuse_memory.specs.Lookups.{has, range_at, grants, IsGranted, AllGranted}
-
-and_true : (a b : Bool) → (a && b) ≡ true → (a ≡ true) × (b ≡ true)
-and_true true b h = (refl, h)
-and_true false b h = (h, cc)
+use Rattle.dfuse_memory.proofs.TestLaws.{and_true}
 
 -- What a look-up finds here, or behind.
 found_by : (t : Bool) (q p : Pages) (o : Option Pages) → cond t (Some q) o ≡ Some p → ((t ≡ true) × (q ≡ p)) ⊎ ((t ≡ false) × (o ≡ Some p))

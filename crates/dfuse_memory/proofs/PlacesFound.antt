@@ -7,6 +7,7 @@ use Rattle.dfuse_memory.specs.Reading.{Said, ◌>>=◌, or, behind, number_at, b
 use Rattle.dfuse_memory.specs.Grammar.{IsNumber, IsPrefix, IsAddress}
 use Rattle.dfuse_memory.proofs.NumbersRead.{number_found}
 use Rattle.dfuse_memory.proofs.Steps.{then_ok, or_ok, behind_found}
+use Rattle.dfuse_memory.proofs.TestLaws.{and_true}
 
 -- What stands before the digits is a prefix.
 record Prefixed (rest text : List ℕ) : Type 0 where
@@ -17,10 +18,6 @@ record Prefixed (rest text : List ℕ) : Type 0 where
 or_true : (a b : Bool) → (a || b) ≡ true → (a ≡ true) ⊎ (b ≡ true)
 or_true true b h = inl refl
 or_true false b h = inr h
-
-and_true : (a b : Bool) → (a && b) ≡ true → (a ≡ true) × (b ≡ true)
-and_true true b h = (refl, h)
-and_true false b h = (h, cc)
 
 an_x : (b : ℕ) → (eqb b 120 || eqb b 88) ≡ true → (b ≡ 120) ⊎ (b ≡ 88)
 an_x b h = elim (or_true (eqb b 120) (eqb b 88) h) [ inl e ↦ inl (eqb-true b 120 e) | inr e ↦ inr (eqb-true b 88 e) ]

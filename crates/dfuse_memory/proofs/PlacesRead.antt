@@ -2,9 +2,9 @@
 use Rattle.std.proofs.Common.{◌≡◌, ℕ, ◌<◌, ◌≤◌, ◌&&◌, ◌⊎◌, inl, inr, true, false, cond, eqb, List, [], ◌∷◌, ◌++◌, length, refl, ap, ◌∙◌, arith, Some, None, Ok, append_assoc}
 use Rattle.dfuse_memory.specs.Reading.{behind_prefix, address_at, next_at, digit_value}
 use Rattle.dfuse_memory.specs.Grammar.{AreDigits, IsPrefix, IsAddress}
-use Rattle.dfuse_memory.proofs.DigitLaws.{differ}
 use Rattle.dfuse_memory.proofs.NumbersRead.{no_digit, number_read}
 use Rattle.dfuse_memory.proofs.GroupsRead.{behind_read}
+use Rattle.dfuse_memory.proofs.TestLaws.{differ}
 
 -- ---- what is spelled is read
 

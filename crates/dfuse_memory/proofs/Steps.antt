@@ -1,8 +1,9 @@
 -- What steps of reading say that came to an end.
-use Rattle.std.proofs.Common.{◌≡◌, ℕ, zero, suc, ◌≤◌, Bool, true, false, cond, eqb, List, [], ◌∷◌, refl, arith, Option, Some, None, Result, Ok, Err}
+use Rattle.std.proofs.Common.{◌≡◌, ℕ, ◌≤◌, Bool, true, false, cond, eqb, List, [], ◌∷◌, refl, Option, Some, None, Result, Ok, Err}
 use Rattle.std.proofs.lemmas.Bool.{eqb-true}
 use Rattle.dfuse_memory.specs.declared.fault.MapFault.{MapFault}
 use Rattle.dfuse_memory.specs.Reading.{Said, ◌>>=◌, or, counting, behind}
+use Rattle.dfuse_memory.proofs.TestLaws.{not_zero}
 
 -- Two steps came to an end: the first did, and then the second.
 pub then_ok : {A B : Type 0} (r : Result A MapFault) (f : A → Result B MapFault) (y : B) → (r >>= f) ≡ Ok y → (x : A) × (r ≡ Ok x) × (f x ≡ Ok y)
@@ -17,10 +18,6 @@ counting_by : (fault : MapFault) (n m : Said) (t : Bool) → eqb n.value 0 ≡ t
     ◌≡◌ {A = Result Said MapFault} (cond t (Err fault) (Ok n)) (Ok m) → (n ≡ m) × (eqb n.value 0 ≡ false)
 counting_by fault n m true e h = cc
 counting_by fault n m false e h = (cc, e)
-
-not_zero : (n : ℕ) → eqb n 0 ≡ false → 1 ≤ n
-not_zero zero h = absurd (cc)
-not_zero (suc n) h = omega arith
 
 pub counting_ok : (fault : MapFault) (n m : Said) → counting fault n ≡ Ok m → (n ≡ m) × (1 ≤ n.value)
 counting_ok fault n m h =
