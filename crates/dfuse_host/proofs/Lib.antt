@@ -4,6 +4,7 @@ pub mod ImageLaws
 pub mod ReadBackLaws
 pub mod RowForms
 pub mod RowLaws
+pub mod RunLaws
 pub mod SettlingLaws
 pub mod Takes
 pub mod TouchLaws

@@ -5,6 +5,7 @@ pub mod Forgetting
 pub mod Images
 pub mod Plans
 pub mod ReadBack
+pub mod ReadInRun
 pub mod Refusing
 pub mod Sessions
 pub mod Settling

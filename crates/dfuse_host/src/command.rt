@@ -12,7 +12,7 @@ use crate::step::Step;
 use crate::work::Work;
 
 /// What a DNLOAD asks for.
-#[derive(Clone, Copy, Debug, PartialEq, Eq)]
+#[derive(Clone, Copy)]
 pub(crate) enum Command {
     /// Set the address pointer.
     SetAddress(u64),

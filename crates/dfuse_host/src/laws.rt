@@ -3,6 +3,7 @@
 ghost use Rattle.dfuse_host.specs.Budget.{OverInTime, StaysOver};
 ghost use Rattle.dfuse_host.specs.Forgetting.{ForgetsPointer};
 ghost use Rattle.dfuse_host.specs.ReadBack.{OnlyReadBack, ClosesAlways};
+ghost use Rattle.dfuse_host.specs.ReadInRun.{EachIsRead};
 ghost use Rattle.dfuse_host.specs.Touching.{TouchesAlways, OnlyTouched, FrontIsLast};
 
 /// Whatever is seen, a session is over after as many calls of `take` as it has actions, and after one if it has none; and then nothing
@@ -13,10 +14,11 @@ pub fn sessions_end()
 {}
 
 /// A byte counts as read back only once it was, and no more from the moment at which its page is erased or it is written again. So the
-/// report Verified says that each byte of the image was read back since it was last written.
+/// report Verified says that each byte of the image was read back since it was last written: among what was seen is its answer.
 pub fn verified_is_read_back()
     ensures only { OnlyReadBack }
     ensures closes { ClosesAlways }
+    ensures each { EachIsRead }
 {}
 
 /// Whatever is heard, a session erases only pages that have a byte of the image, and writes only bytes of the image, at once on one page.

@@ -6,7 +6,7 @@ use crate::step::Step;
 use crate::work::Work;
 
 /// What a session works at, what it knows of the device, and what it does next.
-#[derive(Clone, Copy, Debug, PartialEq, Eq)]
+#[derive(Clone, Copy)]
 pub struct Standing {
     pub work: Work,
     pub place: Place,
@@ -14,7 +14,7 @@ pub struct Standing {
 }
 
 /// Where a session stands.
-#[derive(Clone, Copy, Debug, PartialEq, Eq)]
+#[derive(Clone, Copy)]
 pub enum Phase {
     /// It goes on.
     On(Standing),

@@ -1,7 +1,7 @@
 //! What is known of the device's address pointer.
 
 /// What is known of the device's address pointer, once the device is ready for a command.
-#[derive(Clone, Copy, Debug, PartialEq, Eq)]
+#[derive(Clone, Copy)]
 pub enum Place {
     /// Nothing.
     Lost,
