@@ -2,7 +2,10 @@
 
 mod clean;
 mod dialogue;
+mod ended;
 mod faults;
+mod flash;
 mod lost;
 mod model;
+mod played;
 mod refused;

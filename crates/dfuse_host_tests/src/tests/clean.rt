@@ -1,71 +1,81 @@
-//! Sessions without a fault.
+//! A session without a fault.
 
 use super::dialogue::{
-    ABORT, AMPLE, CLOSE, F4, GET_STATE, GET_STATUS, IDLE, LEAVES, asks, commands, does, follow,
-    plan_of, wants,
+    ABORT, AMPLE, CLEARED, CLOSE, DONE, ERASE_FIRST, GET_STATUS, LEAVES, POINT_FIRST, READ, Script,
 };
-use dfuse_host::{Action, Element, Leaving, Report, Seen, Session};
-use dfuse_memory::Map;
-use std::process::Abort;
-use std::test::Fail;
+use dfuse_host::{Action, Element, Leaving, Report, Seen};
 
-/// An element in each of two pages.
-static IMAGE: [Element<'static>; 2] = [
-    Element {
-        address: 0x0800_0000,
-        bytes: &[1, 2, 3, 4],
-    },
-    Element {
-        address: 0x0800_4000,
-        bytes: &[5, 6],
-    },
-];
+const ERASE_SECOND: Action<'static> = Action::Command {
+    setup: [0x21, 1, 0, 0, 0, 0, 5, 0],
+    body: [0x41, 0, 0x40, 0, 8],
+};
 
-const FIRST: [u8; 4] = [0, 0, 0, 8];
+const POINT_SECOND: Action<'static> = Action::Command {
+    setup: [0x21, 1, 0, 0, 0, 0, 5, 0],
+    body: [0x21, 0, 0x40, 0, 8],
+};
 
-const SECOND: [u8; 4] = [0, 0x40, 0, 8];
+const WRITE_FOUR: Action<'static> = Action::Send {
+    setup: [0x21, 1, 2, 0, 0, 0, 4, 0],
+    body: &[1, 2, 3, 4],
+};
 
-/// Bytes are written at an address, and read back.
-fn writes(
-    rt: &impl Abort,
-    session: &mut Session<'_>,
-    address: [u8; 4],
-    bytes: &'static [u8],
-    length: u8,
-) {
-    does(rt, session, commands(0x21, address));
-    let setup = [0x21, 1, 2, 0, 0, 0, length, 0];
-    does(rt, session, Action::Send { setup, body: bytes });
-    does(rt, session, commands(0x21, address));
-    let upload = asks([0xa1, 2, 2, 0, 0, 0, length, 0]);
-    follow(
-        rt,
-        session,
+const WRITE_TWO: Action<'static> = Action::Send {
+    setup: [0x21, 1, 2, 0, 0, 0, 2, 0],
+    body: &[5, 6],
+};
+
+const READ_FOUR: Action<'static> = Action::Send {
+    setup: [0xa1, 2, 2, 0, 0, 0, 4, 0],
+    body: &[],
+};
+
+/// An element in each of two pages. All but the front is written and read back, and then the front, which is the first element.
+/// It takes 34 transfers and 8 waits.
+pub(crate) static TWO_ELEMENTS: Script = Script {
+    name: "two elements on an F4",
+    image: &[
+        Element {
+            address: 0x0800_0000,
+            bytes: &[1, 2, 3, 4],
+        },
+        Element {
+            address: 0x0800_4000,
+            bytes: &[5, 6],
+        },
+    ],
+    leaves: true,
+    limits: AMPLE,
+    parts: &[
+        CLEARED,
+        &[(ERASE_FIRST, Seen::Ack)],
+        DONE,
+        &[(ERASE_SECOND, Seen::Ack)],
+        DONE,
+        &[(POINT_SECOND, Seen::Ack)],
+        DONE,
+        &[(WRITE_TWO, Seen::Ack)],
+        DONE,
+        &[(POINT_SECOND, Seen::Ack)],
+        DONE,
         &[
             (ABORT, Seen::Ack),
-            (upload, Seen::Bytes(bytes)),
+            (READ, Seen::Bytes(&[5, 6])),
             (ABORT, Seen::Ack),
         ],
-    );
-}
-
-#[test]
-fn two_elements_on_an_f4(rt: HostRuntime) -> Result<(), Fail> {
-    let map = Map::read(F4.as_bytes())?;
-    let mut session = Session::begin(plan_of(&map, &IMAGE), AMPLE)?;
-    follow(&rt, &mut session, &[(ABORT, Seen::Ack), (GET_STATE, IDLE)]);
-    does(&rt, &mut session, commands(0x41, FIRST));
-    does(&rt, &mut session, commands(0x41, SECOND));
-    // All but the front, and then the front, which is the first element.
-    writes(&rt, &mut session, SECOND, &[5, 6], 2);
-    writes(&rt, &mut session, FIRST, &[1, 2, 3, 4], 4);
-    follow(
-        &rt,
-        &mut session,
+        &[(POINT_FIRST, Seen::Ack)],
+        DONE,
+        &[(WRITE_FOUR, Seen::Ack)],
+        DONE,
+        &[(POINT_FIRST, Seen::Ack)],
+        DONE,
+        &[
+            (ABORT, Seen::Ack),
+            (READ_FOUR, Seen::Bytes(&[1, 2, 3, 4])),
+            (ABORT, Seen::Ack),
+        ],
         &[(CLOSE, Seen::Ack), (GET_STATUS, LEAVES)],
-    );
-    wants(&rt, &session, Action::Done(Report::Verified(Leaving::Left)));
-    // 34 transfers and 8 waits.
-    assert_eq!(rt; AMPLE.actions.saturating_sub(session.actions), 42);
-    Ok(())
-}
+    ],
+    last: Action::Done(Report::Verified(Leaving::Left)),
+    taken: 42,
+};

@@ -1,8 +1,7 @@
 //! What sessions do, and what comes of it.
 
-use dfuse_host::{Action, Element, Limits, Plan, Seen, Session};
+use dfuse_host::{Action, Element, Limits, Plan, Seen};
 use dfuse_memory::Map;
-use std::process::Abort;
 
 /// The memory of an F4.
 pub(crate) static F4: &'static str = "@Internal Flash  /0x08000000/04*016Kg,01*064Kg,07*128Kg";
@@ -51,49 +50,61 @@ pub(crate) const SYNC: Seen<'static> = Seen::Bytes(&[3]);
 
 pub(crate) const ERROR: Seen<'static> = Seen::Bytes(&[10]);
 
-/// A request without a body.
-pub(crate) fn asks(setup: [u8; 8]) -> Action<'static> {
-    Action::Send { setup, body: &[] }
-}
+/// The first page is erased.
+pub(crate) const ERASE_FIRST: Action<'static> = Action::Command {
+    setup: [0x21, 1, 0, 0, 0, 0, 5, 0],
+    body: [0x41, 0, 0, 0, 8],
+};
 
-/// A command with an address.
-pub(crate) fn commands(number: u8, address: [u8; 4]) -> Action<'static> {
-    let [a, b, c, d] = address;
-    Action::Command {
-        setup: [0x21, 1, 0, 0, 0, 0, 5, 0],
-        body: [number, a, b, c, d],
-    }
-}
+/// The pointer is set to its begin.
+pub(crate) const POINT_FIRST: Action<'static> = Action::Command {
+    setup: [0x21, 1, 0, 0, 0, 0, 5, 0],
+    body: [0x21, 0, 0, 0, 8],
+};
+
+/// An image of two bytes.
+pub(crate) const IMAGE: &'static [Element<'static>] = &[Element {
+    address: 0x0800_0000,
+    bytes: &[7, 8],
+}];
+
+/// They are written.
+pub(crate) const DATA: Action<'static> = Action::Send {
+    setup: [0x21, 1, 2, 0, 0, 0, 2, 0],
+    body: &[7, 8],
+};
+
+/// Two bytes are read.
+pub(crate) const READ: Action<'static> = Action::Send {
+    setup: [0xa1, 2, 2, 0, 0, 0, 2, 0],
+    body: &[],
+};
 
 /// An action, and what comes of it.
 pub(crate) type Turn = (Action<'static>, Seen<'static>);
 
-/// The session wants this done next.
-pub(crate) fn wants(rt: &impl Abort, session: &Session<'_>, action: Action<'_>) {
-    assert_eq!(rt; session.next(), action);
-}
+/// What is left by an earlier session is dropped.
+pub(crate) const CLEARED: &'static [Turn] = &[(ABORT, Seen::Ack), (GET_STATE, IDLE)];
 
-/// The session does these, one after the other.
-pub(crate) fn follow(rt: &impl Abort, session: &mut Session<'_>, turns: &[Turn]) {
-    for (action, seen) in turns {
-        wants(rt, session, *action);
-        session.take(*seen);
-    }
-}
+/// A command that was sent is done after 5 ms.
+pub(crate) const DONE: &'static [Turn] = &[
+    (GET_STATUS, BUSY),
+    (Action::Wait(5), Seen::Waited),
+    (GET_STATUS, READY),
+];
 
-/// A command that is done after 5 ms.
-pub(crate) fn does(rt: &impl Abort, session: &mut Session<'_>, command: Action<'_>) {
-    wants(rt, session, command);
-    session.take(Seen::Ack);
-    follow(
-        rt,
-        session,
-        &[
-            (GET_STATUS, BUSY),
-            (Action::Wait(5), Seen::Waited),
-            (GET_STATUS, READY),
-        ],
-    );
+/// A session, as it was worked out by hand.
+pub(crate) struct Script {
+    pub name: &'static str,
+    pub image: &'static [Element<'static>],
+    pub leaves: bool,
+    pub limits: Limits,
+    /// What it does, one part behind the other.
+    pub parts: &'static [&'static [Turn]],
+    /// What it wants then.
+    pub last: Action<'static>,
+    /// How many actions it has taken.
+    pub taken: u32,
 }
 
 /// A plan for an image, with blocks of 2,048 bytes and a front of 32.

@@ -1,6 +1,7 @@
 //! Each fault at each action, and pairs of them, over the model of a device.
 
-use super::model::{Fate, MEMORY, Model};
+use super::flash::MEMORY;
+use super::model::{Fate, Model};
 use dfuse_host::{Action, Element, Limits, Plan, Report, Session};
 use dfuse_memory::Map;
 use std::process::Abort;

@@ -1,6 +1,6 @@
 //! Plans that are refused.
 
-use super::dialogue::{AMPLE, F4, plan_of};
+use super::dialogue::{AMPLE, plan_of};
 use dfuse_host::{Element, Plan, PlanFault, Session};
 use dfuse_memory::Map;
 use std::test::Fail;
@@ -8,65 +8,60 @@ use std::test::Fail;
 /// A memory of which parts can't be erased, written or read.
 static PARTS: &'static str = "@X/0x0/1*16g,1*16e,1*16c,1*16f,1*16g";
 
-/// Sixteen bytes.
-static BYTES: [u8; 16] = [0; 16];
+/// Bytes of elements.
+const NONE: &'static [u8] = &[];
 
-/// So many bytes for an address.
-fn part(address: u32, count: usize) -> Element<'static> {
-    let (bytes, _) = BYTES.split_at(count.min(16));
-    Element { address, bytes }
-}
+const ONE: &'static [u8] = &[0];
 
-/// The fault of an image.
-fn fault_of<'f>(map: &'f Map<'f>, image: &'f [Element<'f>]) -> Option<PlanFault> {
-    match Session::begin(plan_of(map, image), AMPLE) {
-        Ok(_) => None,
-        Err(fault) => Some(fault),
-    }
+const TWO: &'static [u8] = &[0, 0];
+
+const SIXTEEN: &'static [u8] = &[0, 0, 0, 0, 0, 0, 0, 0, 0, 0, 0, 0, 0, 0, 0, 0];
+
+/// Two elements, each an address and its bytes, and the fault of the image.
+type Row = (u32, &'static [u8], u32, &'static [u8], Option<PlanFault>);
+
+static ROWS: [Row; 12] = [
+    (0, SIXTEEN, 64, SIXTEEN, None),
+    (0, ONE, 1, ONE, None),
+    (0, ONE, 64, NONE, Some(PlanFault::EmptyImage)),
+    (64, ONE, 0, ONE, Some(PlanFault::NotInOrder)),
+    (0, TWO, 1, ONE, Some(PlanFault::Overlapping)),
+    (0, TWO, 0, ONE, Some(PlanFault::Overlapping)),
+    (0, ONE, 79, TWO, Some(PlanFault::OutsideTheMap)),
+    (0, ONE, 0xffff_ffff, SIXTEEN, Some(PlanFault::OutsideTheMap)),
+    (0, ONE, 32, ONE, Some(PlanFault::NotWritable)),
+    (0, ONE, 16, ONE, Some(PlanFault::NotErasable)),
+    (0, ONE, 48, ONE, Some(PlanFault::NotReadable)),
+    (0, ONE, 31, TWO, Some(PlanFault::NotWritable)),
+];
+
+/// The fault of a plan with blocks of so many bytes.
+fn fault_of(map: &Map<'_>, image: &[Element<'_>], transfer: u16) -> Option<PlanFault> {
+    let plan = Plan {
+        transfer,
+        ..plan_of(map, image)
+    };
+    Session::begin(plan, AMPLE).err()
 }
 
 #[test]
 fn each_fault(rt: HostRuntime) -> Result<(), Fail> {
     let map = Map::read(PARTS.as_bytes())?;
-    let rows = [
-        ([part(0, 16), part(64, 16)], None),
-        ([part(0, 1), part(1, 1)], None),
-        ([part(0, 1), part(64, 0)], Some(PlanFault::EmptyImage)),
-        ([part(64, 1), part(0, 1)], Some(PlanFault::NotInOrder)),
-        ([part(0, 2), part(1, 1)], Some(PlanFault::Overlapping)),
-        ([part(0, 2), part(0, 1)], Some(PlanFault::Overlapping)),
-        ([part(0, 1), part(79, 2)], Some(PlanFault::OutsideTheMap)),
-        (
-            [part(0, 1), part(0xffff_ffff, 16)],
-            Some(PlanFault::OutsideTheMap),
-        ),
-        ([part(0, 1), part(32, 1)], Some(PlanFault::NotWritable)),
-        ([part(0, 1), part(16, 1)], Some(PlanFault::NotErasable)),
-        ([part(0, 1), part(48, 1)], Some(PlanFault::NotReadable)),
-        ([part(0, 1), part(31, 2)], Some(PlanFault::NotWritable)),
-    ];
-    for (image, fault) in &rows {
-        assert_eq!(rt; fault_of(&map, image), *fault);
+    for (at, bytes, next, more, fault) in &ROWS {
+        let image = [
+            Element {
+                address: *at,
+                bytes,
+            },
+            Element {
+                address: *next,
+                bytes: more,
+            },
+        ];
+        assert_eq!(rt; fault_of(&map, &image, 2048), *fault, "{at} {next}");
     }
-    Ok(())
-}
-
-#[test]
-fn no_image_and_no_transfer_size(rt: HostRuntime) -> Result<(), Fail> {
-    let map = Map::read(F4.as_bytes())?;
-    let none = plan_of(&map, &[]);
-    assert_eq!(rt;
-        Session::begin(none, AMPLE).err(),
-        Some(PlanFault::EmptyImage)
-    );
-    let mute = Plan {
-        transfer: 0,
-        ..none
-    };
-    assert_eq!(rt;
-        Session::begin(mute, AMPLE).err(),
-        Some(PlanFault::NoTransferSize)
-    );
+    assert_eq!(rt; fault_of(&map, &[], 2048), Some(PlanFault::EmptyImage));
+    assert_eq!(rt; fault_of(&map, &[], 0), Some(PlanFault::NoTransferSize));
     Ok(())
 }
 
