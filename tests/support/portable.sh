@@ -21,14 +21,15 @@ program() {
     shift 3
     "$@" -std=c11 -w -I "$top/include" "$source" "$over/dfu_device.o" "$over/dfu_asking.o" "$over/dfu_host.o" -o "$made" -lpthread
 }
-# runs NAME WORD..: it runs, under `run` if that is set, and ends well. (A compiler for Windows names it NAME.exe.)
+# runs NAME WORD..: it runs, under `run` if that is set, and ends well. (A compiler for Windows names it NAME.exe, and wine has messages of
+# its own on standard error.)
 runs() {
     it=$work/$1
     [ ! -e "$it.exe" ] || it=$it.exe
     shift
     # shellcheck disable=SC2086
-    ${run-} "$it" "$@" > "$work/printed" 2>&1 || {
-        tail -n 5 "$work/printed"
+    ${run-} "$it" "$@" > "$work/printed" 2> "$work/complained" || {
+        tail -n 5 "$work/printed" "$work/complained"
         return 1
     }
 }
@@ -36,7 +37,10 @@ runs() {
 prints() {
     wanted=$1
     shift
-    runs "$@" && tr -d '\r' < "$work/printed" | cmp - "$wanted"
+    runs "$@" || return 1
+    tr -d '\r' < "$work/printed" | cmp - "$wanted" && return 0
+    head -n 3 "$work/printed" "$work/complained"
+    return 1
 }
 # suite WHAT FOLDER CALLS WORD..: the programs of tests/c and examples/c, compiled with these words over the objects in FOLDER. CALLS is how
 # many calls of chance each of them makes at most. The program that takes minutes, asking_power, is left out if `is_short` is 1.
