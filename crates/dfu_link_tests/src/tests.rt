@@ -18,6 +18,8 @@ use bench::{AMPLE, Setup, USUAL, W, go, offer, pass, play, stands, world};
 use dfu_host::{Limits, Report};
 use dfu_link::{Event, Fate};
 use dfu_wire::{Code, State};
+use std::alloc::Global;
+use std::process::Abort;
 use std::test::Fail;
 
 const QUICK: Setup = Setup {
@@ -26,37 +28,72 @@ const QUICK: Setup = Setup {
     ..USUAL
 };
 
+/// A device, how many passes a download to it has, and what the last one reports.
 #[rattlefmt::skip]
+static CLEAN: [(Setup, usize, Option<Report>); 5] = [
+    (USUAL, 12, None),
+    (USUAL, 13, Some(Report::Installed)),
+    (Setup { attributes: 0x0f, ..USUAL }, 13, Some(Report::Installed)),
+    (QUICK, 8, None),
+    (QUICK, 9, Some(Report::Installed)),
+];
+
+/// The payload is in place after so many passes, and the device is back where something is reported.
+fn downloads(
+    rt: &impl Abort,
+    alloc: Global,
+    setup: Setup,
+    passes: usize,
+    last: Option<Report>,
+) -> Result<(), Fail> {
+    let mut world = world(alloc, setup)?;
+    play(rt, &mut world, &[offer(&W), pass(passes)], last);
+    stands(rt, &world, state_after(last), Code::Ok, &[0xff; 4]);
+    Ok(())
+}
+
+/// Where a device stands whose host reported this last: back in appIDLE, or still in dfuIDLE where nothing came yet.
+pub(crate) fn state_after(last: Option<Report>) -> State {
+    match last {
+        Some(_) => State::AppIdle,
+        None => State::DfuIdle,
+    }
+}
+
 #[test]
 fn clean_downloads_have_their_count(rt: HostRuntime) -> Result<(), Fail> {
-    let rows = [
-        (USUAL, 12, None),
-        (USUAL, 13, Some(Report::Installed)),
-        (Setup { attributes: 0x0f, ..USUAL }, 13, Some(Report::Installed)),
-        (QUICK, 8, None),
-        (QUICK, 9, Some(Report::Installed)),
-    ];
-    for (setup, passes, last) in rows {
-        let mut world = world(rt.alloc(), setup)?;
-        play(&rt, &mut world, &[offer(&W), pass(passes)], last);
-        let state = if last.is_some() { State::AppIdle } else { State::DfuIdle };
-        stands(&rt, &world, state, Code::Ok, &[0xff; 4]);
+    for (setup, passes, last) in &CLEAN {
+        downloads(&rt, rt.alloc(), *setup, *passes, *last)?;
     }
     Ok(())
 }
 
+/// A device, how many passes a download to it has, and what it is refused as.
 #[rattlefmt::skip]
+static REFUSING: [(Setup, usize, Report); 2] = [
+    (Setup { capacity: 3, ..USUAL }, 6, Report::Refused(Code::Address)),
+    (Setup { least: 5, ..USUAL }, 10, Report::Refused(Code::NotDone)),
+];
+
+/// The device refuses the payload with the last of so many passes, and keeps its image.
+fn refuses(
+    rt: &impl Abort,
+    alloc: Global,
+    setup: Setup,
+    passes: usize,
+    report: Report,
+) -> Result<(), Fail> {
+    let mut world = world(alloc, setup)?;
+    play(rt, &mut world, &[offer(&W), pass(passes)], Some(report));
+    assert_eq!(rt; world.device().state(), State::Error);
+    assert_eq!(rt; world.device().slots().active_len(), 1);
+    Ok(())
+}
+
 #[test]
 fn devices_refuse_images(rt: HostRuntime) -> Result<(), Fail> {
-    let rows = [
-        (Setup { capacity: 3, ..USUAL }, 6, Report::Refused(Code::Address)),
-        (Setup { least: 5, ..USUAL }, 10, Report::Refused(Code::NotDone)),
-    ];
-    for (setup, passes, report) in rows {
-        let mut world = world(rt.alloc(), setup)?;
-        play(&rt, &mut world, &[offer(&W), pass(passes)], Some(report));
-        assert_eq!(rt; world.device().state(), State::Error);
-        assert_eq!(rt; world.device().slots().active_len(), 1);
+    for (setup, passes, report) in &REFUSING {
+        refuses(&rt, rt.alloc(), *setup, *passes, *report)?;
     }
     Ok(())
 }

@@ -14,15 +14,16 @@ const CUT: Turn<'static, 'static> = Turn {
     times: 1,
 };
 
+static TEARS: [&'static [u8]; 4] = [&[], &[0x00], &[0xa5], &[0xff]];
+
+static LONG: [u8; 64] = [0xa5; 64];
+
 /// What a harmed write leaves: nothing new, a closed gate, an open one, bytes as they stood, or an
 /// open gate at the front of a long range.
 fn tear(number: u32) -> &'static [u8] {
-    match number {
-        0 => &[],
-        1 => &[0x00],
-        2 => &[0xa5],
-        3 => &[0xff],
-        _ => &[0xa5; 64],
+    match TEARS.get(number as usize) {
+        Some(tear) => *tear,
+        None => &LONG,
     }
 }
 
@@ -65,47 +66,56 @@ fn comes_to(
     play(rt, world, &[go(fate)], report);
 }
 
-/// A cut after so many actions, at each of the first writes with each tear. The image is the old one
-/// or the new one, and a download installs.
+/// A cut after so many actions. The image is the old one or the new one, and a download installs.
+fn cut_after(
+    rt: &impl Abort,
+    alloc: Global,
+    late: bool,
+    before: usize,
+    fate: Fate<'static>,
+) -> Result<(), Fail> {
+    let mut world = world(alloc, USUAL)?;
+    let spent = Some(Report::RestartsSpent);
+    comes_to(rt, &mut world, late, before, fate, spent);
+    assert_eq!(rt; world.device().state(), State::AppIdle);
+    is_old_or_new(rt, &world);
+    play(
+        rt,
+        &mut world,
+        &[offer(&W), pass(13)],
+        Some(Report::Installed),
+    );
+    Ok(())
+}
+
+/// The same at each of the first writes with each tear.
 fn cuts_after(rt: &impl Abort, alloc: Global, late: bool, before: usize) -> Result<(), Fail> {
     for number in 0..20u32 {
-        let mut world = world(alloc, USUAL)?;
         let fate = Fate::Cut {
             writes: number / 5,
             tear: tear(number % 5),
         };
-        comes_to(
-            rt,
-            &mut world,
-            late,
-            before,
-            fate,
-            Some(Report::RestartsSpent),
-        );
-        assert_eq!(rt; world.device().state(), State::AppIdle);
-        is_old_or_new(rt, &world);
-        play(
-            rt,
-            &mut world,
-            &[offer(&W), pass(13)],
-            Some(Report::Installed),
-        );
+        cut_after(rt, alloc, late, before, fate)?;
     }
     Ok(())
+}
+
+/// A write that fails or lies, by its number.
+fn harm(number: u32) -> Fate<'static> {
+    let writes = number / 5 % 4;
+    let tear = tear(number % 5);
+    if number < 20 {
+        Fate::Fail { writes, tear }
+    } else {
+        Fate::Lie { writes, tear }
+    }
 }
 
 /// The same with a write that fails or lies, which is reported later.
 fn fails_after(rt: &impl Abort, alloc: Global, before: usize) -> Result<(), Fail> {
     for number in 0..40u32 {
         let mut world = world(alloc, USUAL)?;
-        let writes = number / 5 % 4;
-        let tear = tear(number % 5);
-        let fate = if number < 20 {
-            Fate::Fail { writes, tear }
-        } else {
-            Fate::Lie { writes, tear }
-        };
-        comes_to(rt, &mut world, false, before, fate, None);
+        comes_to(rt, &mut world, false, before, harm(number), None);
         is_old_or_new(rt, &world);
     }
     Ok(())

@@ -4,34 +4,48 @@ use super::bench::{AMPLE, Turn, USUAL, W, go, offer, pass, play, stands, world};
 use dfu_host::{Limits, Report};
 use dfu_link::{Event, Fate};
 use dfu_wire::{Code, State};
+use std::alloc::Global;
+use std::process::Abort;
 use std::test::Fail;
-
-fn time(ms: u32) -> Turn<'static, 'static> {
-    Turn {
-        event: Event::Time(ms),
-        times: 1,
-    }
-}
 
 const RESET: Turn<'static, 'static> = Turn {
     event: Event::Reset,
     times: 1,
 };
 
-#[rattlefmt::skip]
+/// How many actions pass, what comes then, and how many pass until the session ends.
+static LATE: [(usize, Event<'static, 'static>, usize); 5] = [
+    (4, Event::Go(Fate::LostBack), 9),
+    (4, Event::Go(Fate::LostOut), 10),
+    (4, Event::Go(Fate::TwiceLostBack), 13),
+    (6, Event::Go(Fate::Slip(4)), 13),
+    (2, Event::Time(255), 14),
+];
+
+/// A download installs although this event comes in it.
+fn is_made_good(
+    rt: &impl Abort,
+    alloc: Global,
+    before: usize,
+    event: Event<'static, 'static>,
+    after: usize,
+) -> Result<(), Fail> {
+    let mut world = world(alloc, USUAL)?;
+    let turn = Turn { event, times: 1 };
+    play(
+        rt,
+        &mut world,
+        &[offer(&W), pass(before), turn, pass(after)],
+        Some(Report::Installed),
+    );
+    stands(rt, &world, State::AppIdle, Code::Ok, &[0xff; 4]);
+    Ok(())
+}
+
 #[test]
 fn lost_and_late_requests_are_made_good(rt: HostRuntime) -> Result<(), Fail> {
-    let rows = [
-        (4, go(Fate::LostBack), 9),
-        (4, go(Fate::LostOut), 10),
-        (4, go(Fate::TwiceLostBack), 13),
-        (6, go(Fate::Slip(4)), 13),
-        (2, time(255), 14),
-    ];
-    for (before, turn, after) in rows {
-        let mut world = world(rt.alloc(), USUAL)?;
-        play(&rt, &mut world, &[offer(&W), pass(before), turn, pass(after)], Some(Report::Installed));
-        stands(&rt, &world, State::AppIdle, Code::Ok, &[0xff; 4]);
+    for (before, event, after) in &LATE {
+        is_made_good(&rt, rt.alloc(), *before, *event, *after)?;
     }
     Ok(())
 }

@@ -32,17 +32,18 @@ fn refused_events_change_nothing(rt: HostRuntime) -> Result<(), Fail> {
 }
 
 #[rattlefmt::skip]
+static TEXTS: [(LinkFault, &'static str); 5] = [
+    (LinkFault::HostBusy, "a session is live already"),
+    (LinkFault::NoHost, "no session is live"),
+    (LinkFault::BadOffer(OfferFault::Suffix(SuffixFault::NoSignature)), "the session is refused: the file has no DFU signature"),
+    (LinkFault::BadOffer(OfferFault::Host(HostFault::CannotDownload)), "the session is refused: the device takes no downloads"),
+    (LinkFault::NoMemory, "out of memory"),
+];
+
 #[test]
 fn faults_have_their_texts(rt: HostRuntime) -> Result<(), Fail> {
-    let rows = [
-        (LinkFault::HostBusy, "a session is live already"),
-        (LinkFault::NoHost, "no session is live"),
-        (LinkFault::BadOffer(OfferFault::Suffix(SuffixFault::NoSignature)), "the session is refused: the file has no DFU signature"),
-        (LinkFault::BadOffer(OfferFault::Host(HostFault::CannotDownload)), "the session is refused: the device takes no downloads"),
-        (LinkFault::NoMemory, "out of memory"),
-    ];
-    for (fault, text) in rows {
-        assert_eq!(rt; format!(in rt.alloc(); "{fault}")?.as_str(), text);
+    for (fault, text) in &TEXTS {
+        assert_eq!(rt; format!(in rt.alloc(); "{fault}")?.as_str(), *text);
     }
     Ok(())
 }

@@ -1,5 +1,7 @@
 //! Random lists of events, and what a stranger sees of the device after each of them.
 
+ghost use Rattle.std.specs.Prelude.{◌<◌};
+
 use super::bench::{Setup, world_on};
 use super::dice::{Dice, event, payload};
 use super::plain::plain_image;
@@ -134,35 +136,81 @@ fn taken_apart(
     }
 }
 
-/// After each event the image is the first one or an offered one; where the host reports Installed
-/// or Verified the device stands in appIDLE with the image that was offered last, and where it
-/// reports Different with another one.
+/// Where the host reports Installed or Verified the device stands in appIDLE with the image that was
+/// offered last, and where it reports Different with another one.
+fn is_as_reported(
+    rt: &impl Abort,
+    device: &Device<SimMedium>,
+    image: &[u8],
+    report: Report,
+    last: u32,
+) {
+    match report {
+        Report::Installed | Report::Verified => {
+            assert!(rt; image == payload(last));
+            assert_eq!(rt; device.state(), State::AppIdle);
+            assert_eq!(rt; device.code(), Code::Ok);
+        }
+        Report::Different => assert!(rt; image != payload(last)),
+        _ => {}
+    }
+}
+
+/// After an event the image is the first one or an offered one, as was reported, and as the medium's bytes have it.
+fn is_kept(
+    rt: &impl Abort,
+    alloc: Global,
+    device: &Device<SimMedium>,
+    unit: u32,
+    reported: Option<Report>,
+    (offered, last): (u32, u32),
+) -> Result<(), Fail> {
+    let mut buffer = [0; 256];
+    let image = shown(device, &mut buffer);
+    assert!(rt; is_known(image, offered));
+    if let Some(report) = reported {
+        is_as_reported(rt, device, image, report, last);
+    }
+    looked_at(rt, alloc, device, unit)
+}
+
+/// The files that were offered, a bit for each, and the last of them, after an event that was not refused.
+fn offered_by(event: Event<'static, 'static>, number: u32, before: (u32, u32)) -> (u32, u32)
+    requires { number < 5 }
+{
+    match event {
+        Event::Offer { .. } | Event::OfferVerified { .. } => (before.0 | 1 << number, number),
+        _ => before,
+    }
+}
+
+/// An event comes, and the device is looked at.
+fn play_event(
+    rt: &impl Abort,
+    alloc: Global,
+    dice: &mut Dice,
+    world: &mut World<'static, SimMedium>,
+    unit: u32,
+    before: (u32, u32),
+) -> Result<(u32, u32), Fail> {
+    let number = dice.roll(5);
+    let event = event(dice, number);
+    let (reported, after) = match world.step(event) {
+        Ok(reported) => (reported, offered_by(event, number, before)),
+        Err(_) => (None, before),
+    };
+    is_kept(rt, alloc, world.device(), unit, reported, after)?;
+    Ok(after)
+}
+
+/// A list of events.
 fn play_list(rt: &impl Abort, alloc: Global, dice: &mut Dice) -> Result<(), Fail> {
     let setup = setup(dice);
     let unit = dice.roll(4);
     let mut world = world_on(alloc, blank(alloc, unit)?, setup, &[0])?;
-    let mut offered = 0;
-    let mut last = 0;
+    let mut offered = (0, 0);
     for _ in 0..EVENTS {
-        let number = dice.roll(5);
-        let event = event(dice, number);
-        let answer = world.step(event);
-        if let (Event::Offer { .. } | Event::OfferVerified { .. }, Ok(_)) = (event, answer) {
-            offered |= 1 << number;
-            last = number;
-        }
-        let mut buffer = [0; 256];
-        let image = shown(world.device(), &mut buffer);
-        assert!(rt; is_known(image, offered));
-        if let Ok(Some(Report::Installed | Report::Verified)) = answer {
-            assert!(rt; image == payload(last));
-            assert_eq!(rt; world.device().state(), State::AppIdle);
-            assert_eq!(rt; world.device().code(), Code::Ok);
-        }
-        if answer == Ok(Some(Report::Different)) {
-            assert!(rt; image != payload(last));
-        }
-        looked_at(rt, alloc, world.device(), unit)?;
+        offered = play_event(rt, alloc, dice, &mut world, unit, offered)?;
         if dice.roll(4) == 0 {
             world = taken_apart(rt, alloc, world);
         }

@@ -6,6 +6,8 @@ use super::bench::{
 use dfu_host::{HostFault, Report};
 use dfu_link::{Event, Fate, LinkFault, OfferFault};
 use dfu_wire::{Code, State};
+use std::alloc::Global;
+use std::process::Abort;
 use std::test::Fail;
 
 const ABORT: Turn<'static, 'static> = Turn {
@@ -33,23 +35,40 @@ fn an_upload_gives_the_image_of_its_time(rt: HostRuntime) -> Result<(), Fail> {
     Ok(())
 }
 
-#[rattlefmt::skip]
+/// The image, how many actions pass, the fate of the next one, and how many pass until the session ends.
+static LOSSES: [(&'static [u8], usize, Fate<'static>, usize); 5] = [
+    (&EIGHT, 4, Fate::Twice, 6),
+    (&EIGHT, 4, Fate::LostOut, 4),
+    (&EIGHT, 5, Fate::LostBack, 4),
+    (&EIGHT, 5, Fate::Slip(7), 1),
+    (&[0], 4, Fate::Twice, 1),
+];
+
+/// An upload gives the image although an action in it has this fate.
+fn goes_on(
+    rt: &impl Abort,
+    alloc: Global,
+    image: &[u8],
+    before: usize,
+    fate: Fate<'static>,
+    after: usize,
+) -> Result<(), Fail> {
+    let mut world = world_of(alloc, USUAL, image)?;
+    play(
+        rt,
+        &mut world,
+        &[UPLOAD, pass(before), go(fate), pass(after)],
+        Some(Report::Uploaded),
+    );
+    assert_eq!(rt; world.uploaded(), image);
+    Ok(())
+}
+
 #[test]
 fn uploads_go_on_after_losses(rt: HostRuntime) -> Result<(), Fail> {
-    let rows = [
-        (4, Fate::Twice, 6),
-        (4, Fate::LostOut, 4),
-        (5, Fate::LostBack, 4),
-        (5, Fate::Slip(7), 1),
-    ];
-    for (before, fate, after) in rows {
-        let mut world = world_of(rt.alloc(), USUAL, &EIGHT)?;
-        play(&rt, &mut world, &[UPLOAD, pass(before), go(fate), pass(after)], Some(Report::Uploaded));
-        assert_eq!(rt; world.uploaded(), EIGHT.as_slice());
+    for (image, before, fate, after) in &LOSSES {
+        goes_on(&rt, rt.alloc(), *image, *before, *fate, *after)?;
     }
-    let mut short = world(rt.alloc(), USUAL)?;
-    play(&rt, &mut short, &[UPLOAD, pass(4), go(Fate::Twice), pass(1)], Some(Report::Uploaded));
-    assert_eq!(rt; short.uploaded(), [0].as_slice());
     Ok(())
 }
 

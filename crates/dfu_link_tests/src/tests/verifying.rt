@@ -4,6 +4,7 @@ use super::bench::{
     AMPLE, Setup, Turn, USUAL, W, go, pass, play, refused, stands, world, world_of,
 };
 use super::runs::zeros;
+use super::state_after;
 use dfu_host::{HostFault, Limits, Report};
 use dfu_link::{Event, Fate, LinkFault, OfferFault, World};
 use dfu_slots::SimMedium;
@@ -27,41 +28,61 @@ fn verify(file: &[u8]) -> Turn<'_, 'static> {
     }
 }
 
+/// A device, how many passes a session with it has, and what the last one reports.
 #[rattlefmt::skip]
+static VERIFIED: [(Setup, usize, Option<Report>); 8] = [
+    (USUAL, 18, None),
+    (USUAL, 19, Some(Report::Verified)),
+    (Setup { attributes: 0x0f, ..USUAL }, 19, Some(Report::Verified)),
+    (Setup { transfer: 4, ..USUAL }, 20, Some(Report::Verified)),
+    (Setup { transfer: 3, ..USUAL }, 24, Some(Report::Verified)),
+    (Setup { busy_ms: 0, manifest_ms: 0, ..USUAL }, 15, Some(Report::Verified)),
+    (SILENT, 17, None),
+    (SILENT, 18, Some(Report::Verified)),
+];
+
+/// The payload is in place after so many passes, and what was read to compare is not kept as an upload.
+fn verifies(
+    rt: &impl Abort,
+    alloc: Global,
+    setup: Setup,
+    passes: usize,
+    last: Option<Report>,
+) -> Result<(), Fail> {
+    let mut world = world(alloc, setup)?;
+    play(rt, &mut world, &[verify(&W), pass(passes)], last);
+    stands(rt, &world, state_after(last), Code::Ok, &[0xff; 4]);
+    assert!(rt; world.uploaded().is_empty());
+    Ok(())
+}
+
 #[test]
 fn each_device_that_uploads_is_verified(rt: HostRuntime) -> Result<(), Fail> {
-    let rows = [
-        (USUAL, 18, None),
-        (USUAL, 19, Some(Report::Verified)),
-        (Setup { attributes: 0x0f, ..USUAL }, 19, Some(Report::Verified)),
-        (Setup { transfer: 4, ..USUAL }, 20, Some(Report::Verified)),
-        (Setup { transfer: 3, ..USUAL }, 24, Some(Report::Verified)),
-        (Setup { busy_ms: 0, manifest_ms: 0, ..USUAL }, 15, Some(Report::Verified)),
-        (SILENT, 17, None),
-        (SILENT, 18, Some(Report::Verified)),
-    ];
-    for (setup, passes, last) in rows {
-        let mut world = world(rt.alloc(), setup)?;
-        play(&rt, &mut world, &[verify(&W), pass(passes)], last);
-        let state = if last.is_some() { State::AppIdle } else { State::DfuIdle };
-        stands(&rt, &world, state, Code::Ok, &[0xff; 4]);
-        assert!(rt; world.uploaded().is_empty());
+    for (setup, passes, last) in &VERIFIED {
+        verifies(&rt, rt.alloc(), *setup, *passes, *last)?;
     }
+    Ok(())
+}
+
+static OTHERS: [&'static [u8]; 5] = [&[0], &[], &[0xff; 3], &[0xff; 5], &[0xff; 8]];
+
+/// A device that still has this image when it is compared is found to differ.
+fn differs(rt: &impl Abort, alloc: Global, image: &[u8]) -> Result<(), Fail> {
+    let mut world = world_of(alloc, SILENT, image)?;
+    play(
+        rt,
+        &mut world,
+        &[verify(&W), pass(10), go(Fate::Slip(4)), pass(7)],
+        Some(Report::Different),
+    );
+    stands(rt, &world, State::AppIdle, Code::Ok, image);
     Ok(())
 }
 
 #[test]
 fn a_device_that_lost_the_image_differs(rt: HostRuntime) -> Result<(), Fail> {
-    let images: [&[u8]; 5] = [&[0], &[], &[0xff; 3], &[0xff; 5], &[0xff; 8]];
-    for image in images {
-        let mut world = world_of(rt.alloc(), SILENT, image)?;
-        play(
-            &rt,
-            &mut world,
-            &[verify(&W), pass(10), go(Fate::Slip(4)), pass(7)],
-            Some(Report::Different),
-        );
-        stands(&rt, &world, State::AppIdle, Code::Ok, image);
+    for image in &OTHERS {
+        differs(&rt, rt.alloc(), *image)?;
     }
     Ok(())
 }
@@ -79,28 +100,64 @@ fn ends(rt: &impl Abort, world: &mut World<'_, SimMedium>, passes: usize) -> Opt
 }
 
 #[rattlefmt::skip]
+static FATES: [Fate<'static>; 7] = [
+    Fate::LostOut,
+    Fate::LostBack,
+    Fate::Twice,
+    Fate::TwiceLostBack,
+    Fate::Cut { writes: 0, tear: &[] },
+    Fate::Fail { writes: 9, tear: &[] },
+    Fate::Lie { writes: 9, tear: &[] },
+];
+
+#[rattlefmt::skip]
+static DEVICES: [Setup; 3] = [USUAL, SILENT, Setup { transfer: 2, ..USUAL }];
+
+/// A session with one restart.
+const ONCE: Turn<'static, 'static> = Turn {
+    event: Event::OfferVerified {
+        file: &W,
+        limits: Limits {
+            actions: 80,
+            restarts: 1,
+        },
+    },
+    times: 1,
+};
+
+/// After so many passes comes an action with this fate, and the session still ends well.
+fn is_verified(
+    rt: &impl Abort,
+    alloc: Global,
+    setup: Setup,
+    before: usize,
+    fate: Fate<'static>,
+) -> Result<(), Fail> {
+    let mut world = world(alloc, setup)?;
+    play(rt, &mut world, &[ONCE, pass(before), go(fate)], None);
+    assert_eq!(rt; ends(rt, &mut world, 60), Some(Report::Verified));
+    stands(rt, &world, State::AppIdle, Code::Ok, &[0xff; 4]);
+    Ok(())
+}
+
+/// The same after each number of passes.
+fn is_verified_wherever(
+    rt: &impl Abort,
+    alloc: Global,
+    setup: Setup,
+    fate: Fate<'static>,
+) -> Result<(), Fail> {
+    for before in 0..17 {
+        is_verified(rt, alloc, setup, before, fate)?;
+    }
+    Ok(())
+}
+
 #[test]
 fn one_loss_anywhere_changes_no_verdict(rt: HostRuntime) -> Result<(), Fail> {
-    let fates = [
-        Fate::LostOut,
-        Fate::LostBack,
-        Fate::Twice,
-        Fate::TwiceLostBack,
-        Fate::Cut { writes: 0, tear: &[] },
-        Fate::Fail { writes: 9, tear: &[] },
-        Fate::Lie { writes: 9, tear: &[] },
-    ];
-    let once = Limits { actions: 80, restarts: 1 };
-    for fate in fates {
-        for setup in [USUAL, SILENT, Setup { transfer: 2, ..USUAL }] {
-            for before in 0..17 {
-                let mut world = world(rt.alloc(), setup)?;
-                let mut begun = verify(&W);
-                begun.event = Event::OfferVerified { file: &W, limits: once };
-                play(&rt, &mut world, &[begun, pass(before), go(fate)], None);
-                assert_eq!(rt; ends(&rt, &mut world, 60), Some(Report::Verified));
-                stands(&rt, &world, State::AppIdle, Code::Ok, &[0xff; 4]);
-            }
+    for fate in &FATES {
+        for setup in &DEVICES {
+            is_verified_wherever(&rt, rt.alloc(), *setup, *fate)?;
         }
     }
     Ok(())

@@ -152,54 +152,54 @@ fn ends_after(
 
 const SHOWN: &str = "state appIDLE status OK image 00\n";
 
-/// No read is made after the reader's end, after its error, or after the byte past the limit, which
-/// the last number of a row counts; and the lines before have run.
+/// What a reader gives, and whether it fails then: the end of its script, what is out, and how often it was called.
+type Limit = (
+    &'static [u8],
+    usize,
+    bool,
+    Result<(), ScriptFault>,
+    &'static str,
+    usize,
+);
+
+#[rattlefmt::skip]
+static LIMITS: [Limit; 9] = [
+    (b"", 16_777_216, false, Ok(()), "image 00\n", 257),
+    (b"", 16_777_217, false, Err(ScriptFault::TooLarge), "", 257),
+    (b"", 16_777_217, true, Err(ScriptFault::TooLarge), "", 257),
+    (b"", 16_777_216, true, Err(ScriptFault::Read), "", 257),
+    (b"", 0, true, Err(ScriptFault::Read), "", 1),
+    (b"show\n", 16_777_212, false, Err(ScriptFault::TooLarge), SHOWN, 257),
+    (b"show\n", 0, true, Err(ScriptFault::Read), SHOWN, 2),
+    (b"show\nsho", 0, true, Err(ScriptFault::Read), SHOWN, 2),
+    (b"?\n", 16_777_216, true, Err(ScriptFault::BadLine(1)), "", 1),
+];
+
+/// No read is made after the reader's end, after its error, or after the byte past the limit; and the lines before
+/// have run.
 #[test]
 fn texts_have_a_limit(rt: HostRuntime) {
-    let none = b"".as_slice();
-    let show = b"show\n".as_slice();
-    let rows = [
-        (none, 16_777_216, false, Ok(()), "image 00\n", 257),
-        (none, 16_777_217, false, Err(ScriptFault::TooLarge), "", 257),
-        (none, 16_777_217, true, Err(ScriptFault::TooLarge), "", 257),
-        (none, 16_777_216, true, Err(ScriptFault::Read), "", 257),
-        (none, 0, true, Err(ScriptFault::Read), "", 1),
-        (
-            show,
-            16_777_212,
-            false,
-            Err(ScriptFault::TooLarge),
-            SHOWN,
-            257,
-        ),
-        (show, 0, true, Err(ScriptFault::Read), SHOWN, 2),
-        (
-            b"show\nsho".as_slice(),
-            0,
-            true,
-            Err(ScriptFault::Read),
-            SHOWN,
-            2,
-        ),
-        (
-            b"?\n".as_slice(),
-            16_777_216,
-            true,
-            Err(ScriptFault::BadLine(1)),
-            "",
-            1,
-        ),
-    ];
-    for (front, left, fails, end, out, calls) in rows {
+    for (front, left, fails, end, out, calls) in &LIMITS {
         let mut blank = Blank {
-            front,
-            left,
-            fails,
+            front: *front,
+            left: *left,
+            fails: *fails,
             calls: 0,
         };
-        ends_after(&rt, rt.alloc(), &mut blank, end, out);
-        assert_eq!(rt; blank.calls, calls);
+        ends_after(&rt, rt.alloc(), &mut blank, *end, *out);
+        assert_eq!(rt; blank.calls, *calls);
     }
+}
+
+/// A writer that takes as many bytes as this front of the text has takes these.
+fn fails_at(rt: &impl Abort, alloc: Global, text: &[u8], front: &[u8]) {
+    let mut narrow = Narrow {
+        taken: Vec::new(alloc),
+        left: front.len(),
+    };
+    let end = script(alloc, text, &mut narrow);
+    assert_eq!(rt; end, Err(ScriptFault::Write));
+    assert_eq!(rt; narrow.taken.as_slice(), front);
 }
 
 /// Wherever the writer fails, a front of the text is out.
@@ -212,13 +212,7 @@ fn writers_fail_anywhere(rt: HostRuntime) -> Result<(), Fail> {
     let mut whole = Vec::new(rt.alloc());
     assert_eq!(rt; script(rt.alloc(), text.as_slice(), &mut whole), Ok(()));
     for left in 0..whole.len() {
-        let taken = Vec::new(rt.alloc());
-        let mut narrow = Narrow { taken, left };
-        assert_eq!(rt;
-            script(rt.alloc(), text.as_slice(), &mut narrow),
-            Err(ScriptFault::Write)
-        );
-        assert_eq!(rt; narrow.taken.as_slice(), &whole[..left]);
+        fails_at(&rt, rt.alloc(), &text, &whole[..left]);
     }
     Ok(())
 }
