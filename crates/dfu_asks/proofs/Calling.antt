@@ -86,7 +86,8 @@ begins a m b s flash xs ys j asked len mode_is block medium store sound noted du
 }
 
 -- What comes of it is what the call answers, where the row that is due is the call's.
-pub called_from : (a : LentAsking) (flash out : List ℕ) (Row : Answer → List ℕ → Shown → Type 0) (now : LentAsking) (out' : List ℕ) (r : Reply)
+pub called_from : (a : LentAsking) (flash out : List ℕ) (Row : Answer → List ℕ → Shown → Type 0) (now : LentAsking) (out' : List ℕ)
+    (r : Reply)
     (d : Shown) (len : ℕ) → d ≡ device_in a flash → Comes d len d.slots flash flash out now out' r → IsDueRow len (device_in a flash) Row
     → Called a flash out Row now out' r
 called_from a flash out Row now out' r d len is comes due =
@@ -106,7 +107,8 @@ called_from a flash out Row now out' r d len is comes due =
     })
 
 -- A call that begins the row that is due is answered by the plan that is that row.
-pub due_called : (a : LentAsking) (flash out : List ℕ) (p : Plan) (asked : Option ℕ) (len : ℕ) (now : LentAsking) (out' : List ℕ) (r : Reply)
+pub due_called : (a : LentAsking) (flash out : List ℕ) (p : Plan) (asked : Option ℕ) (len : ℕ) (now : LentAsking) (out' : List ℕ)
+    (r : Reply)
     → ¬ IsSure p → IsSureOrDue p (profile (device_in a flash)) (stage_of a.mode (spare_of (store_in a flash)) a.block) asked len
     → (IsDueStage (stage_of a.mode (spare_of (store_in a flash)) a.block) asked len
     → Comes (device_in a flash) len (store_in a flash) flash flash out now out' r)

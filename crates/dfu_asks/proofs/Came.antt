@@ -48,13 +48,15 @@ module _ (s now : SlotsState) (store : IsStore s) where
   -- A `begin` whose writes worked.
   pub begun : CallWorked s Begin now → BeginLeaves s done now
   begun worked =
-      (begin_done {T = Unit {0}} {s = s} {v = s} refl (record { store = store; active_there = refl; spare_there = refl }) now done tt worked).1
+      (begin_done {T = Unit {0}} {s = s} {v = s} refl
+      (record { store = store; active_there = refl; spare_there = refl }) now done tt worked).1
 
   -- It leaves the slots where they were.
   pub begun_places : CallWorked s Begin now → SamePlaces s.medium now.medium
   begun_places worked =
       let kept =
-      (begin_done {T = Unit {0}} {s = s} {v = s} refl (record { store = store; active_there = refl; spare_there = refl }) now done tt worked).0 in
+      (begin_done {T = Unit {0}} {s = s} {v = s} refl
+      (record { store = store; active_there = refl; spare_there = refl }) now done tt worked).0 in
       record { active = sym kept.active_there; spare = sym kept.spare_there }
 
   -- So does one that was broken off.
@@ -71,7 +73,8 @@ module _ (s now : SlotsState) (store : IsStore s) where
   -- A `begin` that was broken off.
   pub begin_broken : (fault : WriteFault) → CallFailed fault s Begin now → BeginLeaves s (broken fault) now
   begin_broken Failed failed =
-      (begin_done {T = Unit {0}} {s = s} {v = s} refl (record { store = store; active_there = refl; spare_there = refl }) now (broken Failed) tt
+      (begin_done {T = Unit {0}} {s = s} {v = s} refl (record { store = store; active_there = refl; spare_there = refl }) now
+      (broken Failed) tt
       failed).1
   begin_broken NotVerified failed =
       (begin_done {T = Unit {0}} {s = s} {v = s} refl (record { store = store; active_there = refl; spare_there = refl }) now
@@ -81,7 +84,8 @@ module _ (s now : SlotsState) (store : IsStore s) where
     put_done_by : (result : Result (Unit {0}) PutFault) → ¬ IsErrOf result NotBegun → ¬ IsErrOf result TooLarge
         → Changes s (Put at bytes) result now → SamePlaces s.medium now.medium × PutLeaves s at bytes result now
     put_done_by result begun small changes =
-        let both = put_done {T = Unit {0}} {s = s} {v = s} refl (record { store = store; active_there = refl; spare_there = refl }) now at bytes
+        let both = put_done {T = Unit {0}} {s = s} {v = s} refl
+        (record { store = store; active_there = refl; spare_there = refl }) now at bytes
         here result (λ e. absurd (begun e), λ o. absurd (begun_closed s ready o))
         (λ e. absurd (small e), λ over. absurd (large s (at + length bytes) fits over.1)) changes in
         (record { active = sym both.0.active_there; spare = sym both.0.spare_there }, both.1)
@@ -93,7 +97,8 @@ module _ (s now : SlotsState) (store : IsStore s) where
     -- A `put` that was broken off. It does too.
     pub put_broken : (fault : WriteFault) → CallFailed fault s (Put at bytes) now
         → SamePlaces s.medium now.medium × PutLeaves s at bytes (broken fault) now
-    put_broken fault failed = put_done_by (broken fault) (no_other fault) (not_large fault) (changes_broken fault s now (Put at bytes) failed)
+    put_broken fault failed = put_done_by (broken fault) (no_other fault) (not_large fault)
+        (changes_broken fault s now (Put at bytes) failed)
 
   module _ (len : ℕ) (within : len ≤ s.put_end) (ready : is_begun s ≡ true) where
     -- A `commit` whose writes worked.

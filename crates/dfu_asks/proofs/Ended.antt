@@ -55,7 +55,8 @@ module _ (a now : LentAsking) (w : Work) (len : ℕ) (s : SlotsState) (was flash
       → Gives (λ y sent. IsAnswered a.config now.mode w.asked y sent) x count out out'
       → HasEnded flash x count out out' now (λ y sent w'. Works len (device_of a s) y sent w')
   all_ended all fin gives =
-      let left = store_of (mapped (grain_in a) flash) (held_after (grain_in a) a.mode a.held a.block) (end_after a.mode a.put_end a.block) in
+      let left = store_of (mapped (grain_in a) flash) (held_after (grain_in a) a.mode a.held a.block)
+      (end_after a.mode a.put_end a.block) in
       ended a now w.asked flash x count out out' left
       (done_mode a.config a.mode (length a.block)) (Stays a.mode s left) (λ y sent w'. Works len (device_of a s) y sent w') fin.config
       (λ i. store_of (mapped (record { unit = fin.unit i; sector = (fin.sector i).size }) flash) (fin.held i) (fin.end i))

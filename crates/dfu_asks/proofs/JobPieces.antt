@@ -1,5 +1,5 @@
 -- The pieces of what a job writes.
-use Rattle.std.proofs.Common.{◌≡◌, ◌==◌, true, false, if◌then◌else◌, ℕ, ◌+◌, ◌-◌, ◌≤◌, ◌<◌, min, List, ◌++◌, length, take, drop, replicate, slice_range, sym, ◌∙◌, ap, subst, arith}
+use Rattle.std.proofs.Common.{◌≡◌, ◌==◌, true, false, if◌then◌else◌, ℕ, ◌+◌, ◌-◌, ◌≤◌, ◌<◌, min, List, ◌++◌, length, take, drop, replicate, slice_range, sym, ◌∙◌, ap, arith}
 use Rattle.std.proofs.lemmas.Bool.{eq-eqb}
 use Rattle.dfu_slots.specs.Units.{Grain, gate_size, gate_room, whole_part, filled}
 use Rattle.dfu_slots.specs.Layout.{OPEN, gate_unit, header_unit}
@@ -75,23 +75,6 @@ module _ (w : Grain) (at : ℕ) (held block : List ℕ) where
           bytes_are =
               bytes ∙ sym (range_of_front all whole (head + n) (head + n + k) within) ∙ sym (range_behind (take whole all) head n k);
         }
-
--- A part of a step that is known by other terms.
-pub part_as : (at there : ℕ) (bytes is : List ℕ) (n : ℕ) (p : Step) → at ≡ there → bytes ≡ is → IsPart (program at bytes) n p
-    → IsPart (program there is) n p
-part_as at there bytes is n p place same part = subst (λ (s : Step). IsPart s n p) (λ i. program (place i) (same i)) part
-
--- So is a piece.
-pub piece_as : (sector at there : ℕ) (bytes is : List ℕ) (n : ℕ) (p : Step) → at ≡ there → bytes ≡ is
-    → IsPiece (some_steps sector at bytes) n p
-    → IsPiece (some_steps sector there is) n p
-piece_as sector at there bytes is n p place same piece =
-    subst (λ (ss : List Step). IsPiece ss n p) (λ i. some_steps sector (place i) (same i)) piece
-
--- And the bytes of it.
-pub total_as : (sector at there : ℕ) (bytes is : List ℕ) → at ≡ there → bytes ≡ is
-    → total (step_writes (some_steps sector at bytes)) ≡ total (step_writes (some_steps sector there is))
-total_as sector at there bytes is place same = λ i. total (step_writes (some_steps sector (place i) (same i)))
 
 module _ (w : Grain) (spare end gen crc : ℕ) (held block : List ℕ) where
   abbrev part : List Step

@@ -7,6 +7,7 @@ mod Rows
 mod Pieces
 mod Locating
 mod JobPieces
+mod Cutting
 pub mod Working
 mod Quiet
 mod Sending

@@ -56,12 +56,13 @@ module _ (sector at n done : ℕ) (large : 1 < sector) where
       }
 
   -- The same, by what the code reads.
-  pub walked_first : (size : ℕ) → size ≡ sector → (place : ℕ) → (at % size ≡ 0 → place ≡ at → Walked sector at n done place done)
-      × (at % size ≢ 0 → place ≡ at + (size - at % size) → Walked sector at n done place done)
-  walked_first size is place = (
-    λ begins there. subst (λ (p : ℕ). Walked sector at n done p done) (sym there) (here (subst (λ (k : ℕ). at % k ≡ 0) is begins)),
-    λ inner there. subst (λ (p : ℕ). Walked sector at n done p done) (sym (there ∙ ap (λ (k : ℕ). at + (k - at % k)) is))
-        (later (subst (λ (k : ℕ). at % k ≢ 0) is inner)),
+  pub walked_first : (size behind : ℕ) → size ≡ sector → behind ≡ at % sector → (place : ℕ)
+      → (behind ≡ 0 → place ≡ at → Walked sector at n done place done)
+      × (behind ≢ 0 → place ≡ at + (size - behind) → Walked sector at n done place done)
+  walked_first size behind is far place = (
+    λ begins there. subst (λ (p : ℕ). Walked sector at n done p done) (sym there) (here (sym far ∙ begins)),
+    λ inner there. subst (λ (p : ℕ). Walked sector at n done p done) (sym (there ∙ (λ i. at + (is i - far i))))
+        (later (λ e. inner (far ∙ e))),
   )
 
   module _ (place rest : ℕ) (to : Walked sector at n done place rest) where

@@ -1,10 +1,9 @@
 -- The pieces of a series, step by step.
-use Rattle.std.proofs.Common.{◌≡◌, ◌≢◌, inl, inr, Bool, true, false, if◌then◌else◌, ℕ, ◌+◌, ◌-◌, ◌≤◌, ◌<◌, min, List, [], ◌∷◌, ◌++◌, length, take, drop, replicate, slice_range, refl, sym, ◌∙◌, ap, subst, arith}
+use Rattle.std.proofs.Common.{◌≡◌, ◌≢◌, inl, inr, Bool, true, false, if◌then◌else◌, ℕ, ◌+◌, ◌-◌, ◌≤◌, ◌<◌, min, List, [], ◌∷◌, ◌++◌, length, take, drop, slice_range, refl, sym, ◌∙◌, ap, subst, arith}
 use Rattle.std.proofs.lemmas.Bool.{cases_eq}
-use Rattle.std.proofs.lemmas.List.{take-take, drop-drop, take-replicate}
+use Rattle.std.proofs.lemmas.List.{take-take, drop-drop}
 use Rattle.std.proofs.lemmas.Slice.{between_is}
 use Rattle.dfu_slots.specs.Medium.{Write}
-use Rattle.dfu_slots.proofs.Within.{take_past}
 use Rattle.dfu_asks.specs.Steps.{Step, step_writes}
 use Rattle.dfu_asks.specs.Carried.{total, IsPart, IsPiece, IsReached}
 
@@ -37,13 +36,6 @@ range_behind l h i k =
     let e : i + h ≡ h + i = omega arith in
     (λ n. take (a n) (drop i (drop h l)))
     ∙ ap (λ (x : List ℕ). take (h + i + k - (h + i)) x) (drop-drop i h l)
-
--- The front of bytes that are filled up with zeros.
-pub padded : (l : List ℕ) (n most : ℕ) → length l ≤ n → n ≤ most
-    → take n (l ++ replicate (most - length l) 0) ≡ l ++ replicate (n - length l) 0
-padded l n most low high =
-    take_past l (replicate (most - length l) 0) n low
-    ∙ ap (λ (x : List ℕ). l ++ x) (take-replicate (n - length l) (most - length l) 0 (omega (arith, low, high)))
 
 -- The next piece of a step is one.
 part_one : (s : Step) (n : ℕ) (p q : Step) → IsPart s n p → IsPart s n q → p ≡ q

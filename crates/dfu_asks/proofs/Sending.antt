@@ -71,8 +71,16 @@ sent_row w len part block size place number m count is after = by_test (nat_lt (
     by_test : (b : Bool) → nat_lt (length part) size ≡ b
         → Done (if b then Sure (Data part) InDfuIdle else Sure (Data part) (InUploadIdle (place + size) number)) len w
         answer.Bytes part (shows w.config w.slots m block)
-    by_test true less = ((refl, refl), ap (λ (k : Mode). shows w.config w.slots k block) (after.last (omega (arith, is, ltb-true _ _ less))))
-    by_test false more = ((refl, refl), ap (λ (k : Mode). shows w.config w.slots k block) (after.more (omega (arith, is, ltb-false _ _ more))))
+    by_test true less = (
+      (refl, refl),
+      ap (λ (k : Mode). shows w.config w.slots k block)
+          (after.last (omega (arith, is, ltb-true _ _ less))),
+    )
+    by_test false more = (
+      (refl, refl),
+      ap (λ (k : Mode). shows w.config w.slots k block)
+          (after.more (omega (arith, is, ltb-false _ _ more))),
+    )
 
 -- No plan sends more bytes than a block may have.
 abbrev pub IsSmall : ℕ → Plan → Type 0
@@ -157,4 +165,9 @@ pub data_room : (s : SlotsState) (at len : ℕ) → IsStore s → at ≡ active_
 data_room s at len store here fits =
     let g = gate_of s.medium in
     let sized = (standing store.has_image.active).sized in
-    omega (arith, fits, data_length g s.medium.bytes at (omega (arith, here, active_end g s.medium.bytes sized)) (omega (arith, sized.room)))
+    omega (
+      arith,
+      fits,
+      data_length g s.medium.bytes at (omega (arith, here, active_end g s.medium.bytes sized))
+          (omega (arith, sized.room)),
+    )

@@ -268,7 +268,8 @@ module _ (c : Setting) (w : Grain) (b held : List ℕ) (end : ℕ) (j : Job) (le
       next_stage t = if t then InManifestSyncComplete else InManifestWaitReset
 
       tolerant : (t : Bool) → CommitDone s n (store_on (mapped w flash)) → (a ≡ answer.Ack) × (out ≡ [])
-          → Ends c (store_on (mapped w flash)) (next_mode t) b (Stays (mode.Manifest n passed) s (store_on (mapped w flash))) (((a ≡ answer.Ack) × (out ≡ []))
+          → Ends c (store_on (mapped w flash)) (next_mode t) b (Stays (mode.Manifest n passed) s (store_on (mapped w flash)))
+          (((a ≡ answer.Ack) × (out ≡ []))
           × Committed (take n (spare_of s)) c s (next_stage t) (shows c (store_on (mapped w flash)) (next_mode t) b))
       tolerant true got says = record {
         comes = (says, record { config_is = refl; room = got.room; stage_is = refl; calls = got.calls; image = got.image });

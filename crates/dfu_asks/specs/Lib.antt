@@ -3,6 +3,7 @@ pub mod Steps
 pub mod Carried
 pub mod Series
 pub mod Jobs
+pub mod Cuts
 pub mod Located
 pub mod Due
 pub mod Noted

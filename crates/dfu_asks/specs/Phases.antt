@@ -10,7 +10,7 @@ use Rattle.dfu_asks.specs.declared.formatting.Formatting.{Formatting}
 use Rattle.dfu_asks.specs.Mapped.{grain_of}
 use Rattle.dfu_asks.specs.Steps.{Step, anew_steps, some_steps, open_steps, close_step}
 
--- The steps that write these bytes from there on, in pieces of 4096 and a shorter last one; the first number is at least their length.
+-- The steps that write these bytes from there on, 4096 at a time and fewer at last; the first number is at least their length.
 abbrev pub piece_steps : ℕ → ℕ → ℕ → List ℕ → List Step
 piece_steps sector zero at bytes = []
 piece_steps sector (suc n) at [] = []

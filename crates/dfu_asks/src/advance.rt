@@ -1,13 +1,15 @@
 //! How a device goes on with what is left to be written of a row.
-ghost use Rattle.std.specs.Prelude.{◌≡◌, ◌≤◌, ◌<◌, ◌↔◌, ℕ, List, length, take, Some};
+ghost use Rattle.std.specs.Prelude.{◌≡◌, ◌+◌, ◌^◌, ◌≤◌, ◌<◌, ◌↔◌, ℕ, List, length, take, Some};
 ghost use Rattle.dfu_slots.specs.Seen.{SlotsState};
 ghost use Rattle.dfu_asks.specs.declared.work.Work.{Work};
 ghost use Rattle.dfu_asks.specs.Jobs.{steps_for};
 ghost use Rattle.dfu_asks.specs.Carried.{total, carried, IsReached};
+ghost use Rattle.dfu_asks.specs.Cuts.{IsNext};
 ghost use Rattle.dfu_asks.specs.Lent.{lent, IsSetUpAs};
 ghost use Rattle.dfu_asks.specs.Asks.{device_of, IsWorking, IsBrokenOff, NotesAfter, IsAnswered, Gives, writes_in, steps_in};
 ghost use Rattle.dfu_asks.specs.Calls.{Comes, HasAtMost};
 
+use crate::cut::{cut_at, stands};
 use crate::next_piece::next_piece;
 use crate::piece::Stock;
 use crate::{Asking, Reply, Work};
@@ -31,38 +33,57 @@ impl Asking {
         }
     }
 
-    /// Asks for the next write of this work, or comes to the end of the row.
+    /// How many bytes the next piece of this work has, and whether they stand on this flash; or 0, and none is left.
+    pub(crate) fn look_at(
+        &self,
+        work: &Work,
+        block: &[u8],
+        held: &[u8; 256],
+        flash: &[u8],
+    ) -> (usize, bool)
+        ensures next { 0 < result.0 →
+            IsNext (steps_in (lent self.now block.now held.now) work.now) work.now.done flash.now result.0 result.1 }
+        ensures end { work.now.done + result.0 < 2 ^ 32 }
+        ensures none { result.0 ≡ 0 → total (writes_in (lent self.now block.now held.now) work.now) ≤ work.now.done }
+    {
+        let mut cut = cut_at(self.stock(block, held), work.done);
+        if !next_piece(work.job, &mut cut) {
+            return (0, false);
+        }
+        (cut.piece.len, stands(flash, &cut))
+    }
+
+    /// Asks for the next write of what is left to be written, or comes to the end of the row.
     pub(crate) fn advance(
         &mut self,
-        work: Work,
         block: &[u8],
         held: &mut [u8; 256],
         flash: &[u8],
         out: &mut [u8],
     ) -> Reply
         requires { 6 ≤ length out.old }
-        ensures outcome { let a = lent self.old block.now held.old in (len : ℕ) (s : SlotsState) (was : List ℕ) → IsWorking a work len s was →
+        ensures outcome { let a = lent self.old block.now held.old in (work : Work) (len : ℕ) (s : SlotsState) (was : List ℕ) →
+            self.old.work ≡ Some work → IsWorking a work len s was →
             flash.now ≡ carried was (writes_in a work) work.done → IsReached (steps_in a work) work.done →
             Comes (device_of a s) len s was flash.now out.old (lent self.new block.now held.new) out.new result }
-        ensures more { (result ≡ Reply.Asks) ↔ (work.done < total (writes_in (lent self.old block.now held.old) work)) }
-        ensures kept { result ≡ Reply.Asks → self.new.work ≡ Some work }
+        ensures more { (work : Work) → self.old.work ≡ Some work →
+            (result ≡ Reply.Asks) ↔ (work.done < total (writes_in (lent self.old block.now held.old) work)) }
+        ensures kept { result ≡ Reply.Asks → self.new.work ≡ self.old.work }
         ensures few { HasAtMost 6 result }
         ensures same { IsSetUpAs self.old self.new }
         ensures block { self.new.block_len ≡ self.old.block_len }
     {
-        let mut bytes = [0; 256];
-        let stock = self.stock(block, held);
-        match next_piece(work.job, &stock, work.done as usize, &mut bytes) {
-            Some(_) => {
-                self.work = Some(work);
-                Reply::Asks
-            }
-            None => {
-                self.finish(block, held, flash);
-                let (answer, count) = self.answer(work.asked, out);
-                Reply::Answered(answer, count)
-            }
+        let Some(work) = self.work else {
+            return Reply::Answered(Answer::Ack, 0);
+        };
+        // (Without a flash it tells whether a piece is left.)
+        let (len, _) = self.look_at(&work, block, held, &[]);
+        if len > 0 {
+            return Reply::Asks;
         }
+        self.finish(block, held, flash);
+        let (answer, count) = self.answer(work.asked, out);
+        Reply::Answered(answer, count)
     }
 
     /// A write had this fault: the row ends with it.

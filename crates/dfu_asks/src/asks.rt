@@ -1,5 +1,6 @@
 //! The writes that are asked for: the next one, and how it went.
-ghost use Rattle.std.specs.Prelude.{◌≡◌, ◌≢◌, ◌+◌, ◌≤◌, ◌<◌, ◌^◌, false, ◌↔◌, ℕ, List, length, replicate, slice_range, Some, IfOk, IfErr, IfSome, IfNone, OnOk, OnErr, IsTrue, not};
+ghost use Rattle.std.specs.Prelude.{◌≡◌, ◌≢◌, ◌+◌, ◌≤◌, ◌<◌, ◌^◌, ◌↔◌, ℕ, List, length, Some, IfOk, IfErr, IfSome, IfNone, OnOk, OnErr, IsTrue, not, ◌&&◌, if◌then◌else◌};
+ghost use Rattle.dfu_slots.specs.declared.fault.WriteFault.TheVariants.{Failed, NotVerified};
 ghost use Rattle.dfu_slots.specs.Medium.{Torn};
 ghost use Rattle.dfu_slots.specs.Image.{Active};
 ghost use Rattle.dfu_slots.specs.Seen.{SlotsState};
@@ -13,6 +14,8 @@ ghost use Rattle.dfu_asks.specs.Calls.{Asks, Took, AsksOn, HasAtMost};
 ghost use Rattle.dfu_asks.specs.Refused.{IsLeft, IsNotTaken, IsTaken};
 ghost use Rattle.dfu_asks.specs.declared.work.Work.{Work};
 
+use crate::cut::{cut_at, fill};
+use crate::located::behind_edge;
 use crate::next_piece::next_piece;
 use crate::{Asking, Mapped, Piece, Refusal, Reply, Sector, Work};
 use dfu_slots::laws::active_image_is_one;
@@ -20,38 +23,6 @@ use dfu_slots::{Unit, WriteFault, check};
 
 // The first byte of an open gate.
 const OPEN_GATE: u8 = 0xa5;
-
-// Whether all bytes are FFh.
-fn is_blank(bytes: &[u8]) -> bool
-    ensures { IsTrue result ↔ (bytes.now ≡ replicate (length bytes.now) 255) }
-{
-    for i in 0..bytes.len() {
-        if bytes[i] != 0xff {
-            return false;
-        }
-    }
-    true
-}
-
-/// Whether these bytes stand where a piece was to program them, or FFh where it was to erase.
-pub(crate) fn stands(flash: &[u8], piece: Piece, bytes: &[u8; 256]) -> bool
-    requires some { 0 < piece.len }
-    requires most { piece.erases ≡ false → piece.len ≤ 256 }
-    requires small { piece.at < 2 ^ 43 }
-    requires large { piece.len < 2 ^ 32 }
-    ensures within { IsTrue result → piece.at + piece.len ≤ length flash.now }
-    ensures stands { let p = (asked piece bytes.now).write in
-        IsTrue result ↔ (slice_range flash.now p.at (p.at + length p.bytes) ≡ p.bytes) }
-{
-    if piece.at + piece.len as u64 > flash.len() as u64 {
-        return false;
-    }
-    let at = piece.at as usize;
-    if piece.erases {
-        return is_blank(&flash[at..at + piece.len]);
-    }
-    flash[at..at + piece.len] == bytes[..piece.len]
-}
 
 // Whether a range lies within the spare slot of this flash.
 fn is_spare(flash: &[u8], unit: Unit, sector: Sector, at: u64, len: u64) -> bool
@@ -85,24 +56,43 @@ fn is_spare(flash: &[u8], unit: Unit, sector: Sector, at: u64, len: u64) -> bool
 
 /// Whether a piece programs, or erases one whole sector.
 pub(crate) fn is_sound(sector: Sector, piece: Piece) -> bool
-    requires { 0 < piece.len }
+    requires some { 0 < piece.len }
+    requires small { piece.at < 2 ^ 43 }
     ensures { (bytes : List ℕ) → IsTrue result ↔ IsSound sector.size (asked piece bytes) }
 {
     if !piece.erases {
         return true;
     }
     let size = sector.size();
-    piece.len == size as usize && piece.at % u64::from(size) == 0
+    size > 0 && piece.len == size as usize && behind_edge(size, piece.at) == 0
+}
+
+// Whether a piece did not fail, and stands on the flash.
+fn went_well(failed: bool, stands: bool) -> bool
+    ensures { result ≡ not failed && stands }
+{
+    !failed && stands
+}
+
+// The fault of a piece that failed, or that does not stand on the flash.
+fn fault_of(failed: bool) -> WriteFault
+    ensures { result ≡ (if failed then Failed else NotVerified) }
+{
+    if failed {
+        WriteFault::Failed
+    } else {
+        WriteFault::NotVerified
+    }
 }
 
 impl Asking {
     /// The next piece that is asked for: at most 256 bytes to be programmed, or one sector to be erased. Whatever is kept, it lies
-    /// within the spare slot of the flash as it stands, where that has an active image. The bytes of a program stand at the front of
+    /// within the spare slot of the flash as it stands, if that has an active image. The bytes of a program stand at the front of
     /// `out` then.
     ///
-    /// None where no write is due, where its range does not lie so, where the slot's gate is open and no image is active, or where
+    /// None if no write is due, if its range does not lie so, if the slot's gate is open and no image is active, or if
     /// what is kept would erase less than a sector. Then `out` is as it was.
-    /// It is Some where a call answered `Asks` and the pieces before this one stand on the flash.
+    /// It is Some if a call answered `Asks` and the pieces before this one stand on the flash.
     pub fn next(
         &self,
         block: &[u8],
@@ -114,24 +104,30 @@ impl Asking {
             IsPiece (steps_in (lent self.now block.now held.now) w) w.done (asked p out.new)) }
         ensures most { IfSome result (λ p. IsFit self.now.sector.size p out.new) }
         ensures sector { IfSome result (λ p. IsSound self.now.sector.size (asked p out.new)) }
-        ensures spare { IfSome result (λ p. (image : List ℕ) → Active (mapped (grain_in (lent self.now block.now held.now)) flash.now) image →
+        ensures spare { IfSome result (λ p. (image : List ℕ) →
+            Active (mapped (grain_in (lent self.now block.now held.now)) flash.now) image →
             IsInSpare (mapped (grain_in (lent self.now block.now held.now)) flash.now) p.at p.len) }
         ensures inside { IfSome result (λ p. p.at + p.len ≤ length flash.now) }
         ensures due { IfSome result (λ p. (w : Work) × IsLeft (lent self.now block.now held.now) w) }
-        ensures none { IfNone result ((w : Work) (p : Step) → self.now.work ≡ Some w → IsPiece (steps_in (lent self.now block.now held.now) w) w.done p →
-            IsSound self.now.sector.size p → IsHeldBack (mapped (grain_in (lent self.now block.now held.now)) flash.now) p.write.at (length p.write.bytes)) }
+        ensures none { IfNone result ((w : Work) (p : Step) → self.now.work ≡ Some w →
+            IsPiece (steps_in (lent self.now block.now held.now) w) w.done p →
+            IsSound self.now.sector.size p →
+            IsHeldBack (mapped (grain_in (lent self.now block.now held.now)) flash.now) p.write.at (length p.write.bytes)) }
         ensures unchanged { IfNone result (out.new ≡ out.old) }
-        ensures goes { IfNone result ((len : ℕ) (s : SlotsState) (was : List ℕ) → ¬ Asks (lent self.now block.now held.now) len s was flash.now) }
+        ensures goes { IfNone result ((len : ℕ) (s : SlotsState) (was : List ℕ) →
+            ¬ Asks (lent self.now block.now held.now) len s was flash.now) }
     {
         let work = self.work?;
-        let mut bytes = [0; 256];
-        let stock = self.stock(block, held);
-        let piece = next_piece(work.job, &stock, work.done as usize, &mut bytes)?;
+        let mut cut = cut_at(self.stock(block, held), work.done);
+        if !next_piece(work.job, &mut cut) {
+            return None;
+        }
+        let piece = cut.piece;
         if !is_sound(self.sector, piece) {
             return None;
         }
         if is_spare(flash, self.unit, self.sector, piece.at, piece.len as u64) {
-            *out = bytes;
+            fill(&cut, out);
             Some(piece)
         } else {
             None
@@ -144,7 +140,7 @@ impl Asking {
     ///
     /// # Errors
     ///
-    /// `NoRoom` where the buffer has less than 6 bytes; else `NoDevice` where no write is due. Nothing changed then.
+    /// `NoRoom` if the buffer has less than 6 bytes; else `NoDevice` if no write is due. Nothing changed then.
     pub fn took(
         &mut self,
         block: &[u8],
@@ -154,13 +150,18 @@ impl Asking {
         out: &mut [u8],
     ) -> Result<Reply, Refusal>
         ensures outcome { IfOk result
-            (λ r. (len : ℕ) (s : SlotsState) (was before : List ℕ) (asks : Asks (lent self.old block.now held.old) len s was before) (p : Step) →
-            IsPiece (steps_in (lent self.old block.now held.old) asks.work) asks.work.done p → Torn before p.write.at p.write.bytes flash.now →
-            Took (device_of (lent self.old block.now held.old) s) len s was p.write failed flash.now out.old (lent self.new block.now held.new) out.new r) }
-        ensures on { IfOk result (λ r. (w : Work) (p : Step) → self.old.work ≡ Some w → IsPiece (steps_in (lent self.old block.now held.old) w) w.done p →
+            (λ r. (len : ℕ) (s : SlotsState) (was before : List ℕ)
+            (asks : Asks (lent self.old block.now held.old) len s was before) (p : Step) →
+            IsPiece (steps_in (lent self.old block.now held.old) asks.work) asks.work.done p →
+            Torn before p.write.at p.write.bytes flash.now →
+            Took (device_of (lent self.old block.now held.old) s) len s was p.write failed flash.now out.old
+            (lent self.new block.now held.new) out.new r) }
+        ensures on { IfOk result (λ r. (w : Work) (p : Step) → self.old.work ≡ Some w →
+            IsPiece (steps_in (lent self.old block.now held.old) w) w.done p →
             (r ≡ Reply.Asks) ↔ AsksOn (lent self.old block.now held.old) w p.write failed flash.now) }
         ensures further { IfOk result (λ r. r ≡ Reply.Asks → (w : Work) (p : Step) → self.old.work ≡ Some w →
-            IsPiece (steps_in (lent self.old block.now held.old) w) w.done p → self.new.work ≡ Some (record w { done = w.done + length p.write.bytes })) }
+            IsPiece (steps_in (lent self.old block.now held.old) w) w.done p →
+            self.new.work ≡ Some (record w { done = w.done + length p.write.bytes })) }
         ensures refused { IfErr result (λ e. IsNotTaken e (lent self.old block.now held.old) (length out.old)) }
         ensures taken { OnOk result (IsTaken (lent self.old block.now held.old) (length out.old)) }
         ensures few { IfOk result (λ r. HasAtMost 6 r) }
@@ -174,24 +175,20 @@ impl Asking {
         let Some(work) = self.work else {
             return Err(Refusal::NoDevice);
         };
-        let mut bytes = [0; 256];
-        let stock = self.stock(block, held);
-        let Some(piece) = next_piece(work.job, &stock, work.done as usize, &mut bytes) else {
+        let (len, stands) = self.look_at(&work, block, held, flash);
+        if len == 0 {
             return Err(Refusal::NoDevice);
-        };
-        if failed {
-            let (answer, count) = self.fail(WriteFault::Failed, work.asked, flash, out);
-            return Ok(Reply::Answered(answer, count));
         }
-        if !stands(flash, piece, &bytes) {
-            let (answer, count) = self.fail(WriteFault::NotVerified, work.asked, flash, out);
+        if !went_well(failed, stands) {
+            let (answer, count) = self.fail(fault_of(failed), work.asked, flash, out);
             return Ok(Reply::Answered(answer, count));
         }
         let further = Work {
             job: work.job,
             asked: work.asked,
-            done: work.done + piece.len as u32,
+            done: work.done + len as u32,
         };
-        Ok(self.advance(further, block, held, flash, out))
+        self.work = Some(further);
+        Ok(self.advance(block, held, flash, out))
     }
 }

@@ -80,7 +80,7 @@ impl Asking {
         let Some(view) = look(&medium, &self.noted) else {
             return Err(Refusal::NoMedium);
         };
-        if !self.is_fit(room, &medium, view) {
+        if !self.is_fit(room, &medium, &view) {
             return Err(Refusal::NoDevice);
         }
         Ok((medium, view))
@@ -92,7 +92,7 @@ impl Asking {
         block: &mut [u8],
         held: &mut [u8; 256],
         medium: &Mapped<'_>,
-        view: View,
+        view: &View,
         setup: &[u8; 8],
         body: &[u8],
         out: &mut [u8],
@@ -100,10 +100,10 @@ impl Asking {
         requires room { answer_room self.old.config ≤ length out.old }
         requires unit { medium.now.unit ≡ self.old.unit }
         requires sector { medium.now.sector ≡ self.old.sector }
-        requires view { IsView view self.old.noted (mapped (grain_of self.old.unit self.old.sector) medium.now.bytes.now) }
+        requires view { IsView view.now self.old.noted (mapped (grain_of self.old.unit self.old.sector) medium.now.bytes.now) }
         requires idle { self.old.work ≡ None }
         requires block { self.old.block_len ≤ length block.old }
-        requires end { self.old.put_end ≤ view.room }
+        requires end { self.old.put_end ≤ view.now.room }
         requires held { self.old.held_len ≤ self.old.put_end }
         ensures outcome { let a = lent self.old block.old held.old in
             let flash = medium.now.bytes.now in IsKept self.old block.old held.old flash →
@@ -166,7 +166,7 @@ impl Asking {
             return Err(Refusal::NoRoom);
         }
         let (medium, view) = self.see(block.len(), flash)?;
-        Ok(self.respond(block, held, &medium, view, setup, body, out))
+        Ok(self.respond(block, held, &medium, &view, setup, body, out))
     }
 
     /// So many milliseconds pass, as `Device::elapse`; or the row writes, and its writes are asked for now.
@@ -200,7 +200,7 @@ impl Asking {
         let profile = self.config.profile(u64::from(view.room));
         let decision = decide_time(&profile, self.mode, ms);
         let mut out = [0; 6];
-        Ok(self.carry_out(decision, None, &[], block, held, &medium, view, &mut out))
+        Ok(self.carry_out(decision, None, &[], block, held, &medium, &view, &mut out))
     }
 
     /// The bus is reset, as `Device::usb_reset`.

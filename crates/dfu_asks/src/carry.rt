@@ -44,11 +44,11 @@ fn put_front(bytes: &[u8], asked: u16, out: &mut [u8]) -> usize
 }
 
 // Puts the bytes of the active image at the front of a buffer, from `place` on, at most `size`; and answers how many they are.
-fn put_image(medium: &Mapped<'_>, view: View, place: u32, size: u16, out: &mut [u8]) -> usize
-    requires view { (n : Noted) × IsView view n (mapped (grain_of medium.now.unit medium.now.sector) medium.now.bytes.now) }
-    ensures count { result ≡ min (view.len - place) (min size (length out.old)) }
+fn put_image(medium: &Mapped<'_>, view: &View, place: u32, size: u16, out: &mut [u8]) -> usize
+    requires view { (n : Noted) × IsView view.now n (mapped (grain_of medium.now.unit medium.now.sector) medium.now.bytes.now) }
+    ensures count { result ≡ min (view.now.len - place) (min size (length out.old)) }
     ensures bytes { let m = mapped (grain_of medium.now.unit medium.now.sector) medium.now.bytes.now in
-        out.new ≡ take result (drop place (slot_of m view.active).data_bytes) ++ drop result out.old }
+        out.new ≡ take result (drop place (slot_of m view.now.active).data_bytes) ++ drop result out.old }
 {
     let rest = view.len.saturating_sub(place);
     let count = (rest as usize).min(usize::from(size)).min(out.len());
@@ -59,7 +59,7 @@ fn put_image(medium: &Mapped<'_>, view: View, place: u32, size: u16, out: &mut [
 }
 
 impl Asking {
-    /// Puts a reply at the front of a buffer, where so many bytes of a status or of a state are asked for.
+    /// Puts a reply at the front of a buffer, if so many bytes of a status or of a state are asked for.
     pub(crate) fn give(
         &self,
         reply: dfu_device::Reply,
@@ -93,16 +93,16 @@ impl Asking {
         block: &mut [u8],
         held: &mut [u8; 256],
         medium: &Mapped<'_>,
-        view: View,
+        view: &View,
         out: &mut [u8],
     ) -> Reply
         requires room { 6 ≤ length out.old }
         requires unit { medium.now.unit ≡ self.old.unit }
         requires sector { medium.now.sector ≡ self.old.sector }
-        requires view { IsView view self.old.noted (mapped (grain_of self.old.unit self.old.sector) medium.now.bytes.now) }
+        requires view { IsView view.now self.old.noted (mapped (grain_of self.old.unit self.old.sector) medium.now.bytes.now) }
         requires idle { self.old.work ≡ None }
         requires block { self.old.block_len ≤ length block.old }
-        requires end { self.old.put_end ≤ view.room }
+        requires end { self.old.put_end ≤ view.now.room }
         requires held { self.old.held_len ≤ self.old.put_end }
         ensures outcome { let a = lent self.old block.old held.old in
             let flash = medium.now.bytes.now in
@@ -149,8 +149,9 @@ impl Asking {
                 };
                 Reply::Answered(Answer::Bytes, count)
             }
-            Decision::Writes { .. } => self.start(asked, block, held, medium, view, out),
-            Decision::Commits { .. } => self.start(asked, block, held, medium, view, out),
+            Decision::Writes { .. } | Decision::Commits { .. } => {
+                self.start(asked, block, held, medium, view, out)
+            }
         }
     }
 }

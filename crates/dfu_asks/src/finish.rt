@@ -7,7 +7,6 @@ ghost use Rattle.dfu_asks.specs.Noted.{IsNoted};
 ghost use Rattle.dfu_asks.specs.Lent.{lent, IsSetUpAs};
 ghost use Rattle.dfu_asks.specs.Asks.{is_block, capped, done_mode, failed_mode, IsFinished, IsBrokenOff, NotesAfter, IsAnswered, Gives};
 
-use crate::piece::copy_joined;
 use crate::{Asking, Noted};
 use dfu_device::{Answer, Config, Mode, Reply};
 use dfu_slots::{Unit, WriteFault};
@@ -52,7 +51,7 @@ fn done_mode(config: Config, mode: Mode, len: u32) -> Mode
     }
 }
 
-// Where a device goes from a mode where a write had this fault.
+// Where a device goes from a mode in which a write had this fault.
 fn failed_mode(mode: Mode, fault: WriteFault) -> Mode
     ensures { result ≡ failed_mode fault mode }
 {
@@ -74,9 +73,15 @@ fn keep_rest(unit: Unit, held: &mut [u8; 256], held_len: usize, block: &[u8]) ->
     let size = unit.size() as usize;
     let all = held_len + block.len();
     let rest = all % size;
-    let mut bytes = [0; 256];
-    copy_joined(&held[..held_len], block, all - rest, &mut bytes[..rest]);
-    held[..rest].copy_from_slice(&bytes[..rest]);
+    let from = all - rest;
+    for i in 0..rest {
+        let at = from + i;
+        held[i] = if at < held_len {
+            held[at]
+        } else {
+            block[at - held_len]
+        };
+    }
     rest
 }
 

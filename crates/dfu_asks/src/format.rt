@@ -1,5 +1,5 @@
 //! The calls for a format that asks for its writes.
-ghost use Rattle.std.specs.Prelude.{◌≡◌, ◌≢◌, ◌+◌, ◌++◌, ◌≤◌, ◌^◌, ◌<◌, ℕ, List, length, IfOk, IfErr, OnOk, IfSome, IfNone};
+ghost use Rattle.std.specs.Prelude.{◌≡◌, ◌≢◌, ◌+◌, ◌++◌, ◌≤◌, ◌^◌, ◌<◌, ℕ, List, [], not, IsTrue, length, IfOk, IfErr, OnOk, IfSome, IfNone};
 ghost use Rattle.dfu_suffix.specs.Register.{register};
 ghost use Rattle.dfu_slots.specs.Units.{Grain};
 ghost use Rattle.dfu_slots.specs.Medium.{Torn};
@@ -8,11 +8,13 @@ ghost use Rattle.dfu_asks.specs.Mapped.{grain_of, mapped};
 ghost use Rattle.dfu_asks.specs.Steps.{Step, step_writes};
 ghost use Rattle.dfu_asks.specs.Carried.{total, IsPiece, IsSound};
 ghost use Rattle.dfu_asks.specs.Jobs.{asked, IsFit};
+ghost use Rattle.dfu_asks.specs.Cuts.{step_of, IsCut};
 ghost use Rattle.dfu_asks.specs.Phases.{grain_within, part_left, steps_left, part_steps, steps_from};
 ghost use Rattle.dfu_asks.specs.Formats.{IsUnderWay, AsksFormat, ComesTo, TookPiece, IsSameFormat};
 
-use crate::asks::{is_sound, stands};
-use crate::format_piece::{filled_len, part_piece};
+use crate::asks::is_sound;
+use crate::cut::{Cut, cut_at, fill, stands};
+use crate::format_piece::{filled_len, part_piece, stock_for};
 use crate::{Formatting, Mapped, Phase, Piece, Progress, Sector};
 use dfu_slots::{FormatFault, Slots, Unit, WriteFault};
 use dfu_suffix::Crc;
@@ -86,7 +88,7 @@ impl Formatting {
     ///
     /// # Errors
     ///
-    /// `WrongSize` where the flash is not two slots, as `Slots::format` has it, or has 2^32 bytes or more; `TooLarge` where the image
+    /// `WrongSize` if the flash is not two slots, as `Slots::format` has it, or has 2^32 bytes or more; `TooLarge` if the image
     /// has more bytes than a slot's data. They are looked for in this order.
     pub fn start(
         flash: &[u8],
@@ -110,27 +112,31 @@ impl Formatting {
         })
     }
 
-    // The next piece of the part that is being carried out. `out` has its bytes then.
-    fn due(&self, flash: &[u8], image: &[u8], out: &mut [u8; 256]) -> Option<Piece>
-        ensures some { IfSome result (λ p. IsPiece (part_left self.now (length flash.now) image.now) self.now.done (asked p out.new)) }
-        ensures fits { IfSome result (λ p. IsFit self.now.sector.size p out.new) }
-        ensures end { IfSome result (λ p. self.now.done + p.len ≤ 2 ^ 20) }
-        ensures flash { IfSome result (λ p. length flash.now < 2 ^ 32) }
-        ensures image { IfSome result (λ p. length image.now ≤ 2 ^ 24) }
-        ensures none { IfNone result (length flash.now < 2 ^ 32 → length image.now ≤ 2 ^ 24 →
-            total (step_writes (part_left self.now (length flash.now) image.now)) ≤ self.now.done) }
+    // Whether a piece is left of the part that is being carried out. Then the next one is found.
+    fn due(&self, flash: &[u8], cut: &mut Cut<'_>) -> bool
+        requires held { cut.old.stock.held.now ≡ [] }
+        requires unit { cut.old.stock.unit ≡ self.now.unit }
+        requires sector { cut.old.stock.sector ≡ self.now.sector }
+        ensures found { IsTrue result →
+            IsPiece (part_left self.now (length flash.now) cut.old.stock.block.now) cut.old.rest (step_of cut.new) }
+        ensures is { IsTrue result → IsCut self.now.sector.size cut.new }
+        ensures end { IsTrue result → cut.old.rest + cut.new.piece.len ≤ 2 ^ 20 }
+        ensures flash { IsTrue result → length flash.now < 2 ^ 32 }
+        ensures image { IsTrue result → length cut.old.stock.block.now ≤ 2 ^ 24 }
+        ensures none { IsTrue (not result) → length flash.now < 2 ^ 32 → length cut.old.stock.block.now ≤ 2 ^ 24 →
+            total (step_writes (part_left self.now (length flash.now) cut.old.stock.block.now)) ≤ cut.old.rest }
     {
-        if flash.len() > 0xffff_ffff || image.len() > MOST_IMAGE {
-            return None;
+        if flash.len() > 0xffff_ffff || cut.stock.block.len() > MOST_IMAGE {
+            return false;
         }
-        part_piece(self, flash.len(), image, out)
+        part_piece(self, flash.len(), cut)
     }
 
     /// The next piece that is asked for: at most 256 bytes to be programmed, or one sector to be erased. Whatever is kept, it lies
     /// within the flash. The bytes of a program stand at the front of `out` then. The image is the one that the format began with.
     ///
-    /// None where no write is due, or its range does not lie so, or what is kept would erase less than a sector. Then `out` is as it was.
-    /// It is Some where `start` or `took` asked, and the pieces before this one stand on the flash.
+    /// None if no write is due, or its range does not lie so, or what is kept would erase less than a sector. Then `out` is as it was.
+    /// It is Some if `start` or `took` asked, and the pieces before this one stand on the flash.
     pub fn next(&self, flash: &[u8], image: &[u8], out: &mut [u8; 256]) -> Option<Piece>
         ensures piece { IfSome result (λ p. IsPiece (steps_left self.now (length flash.now) image.now) self.now.done (asked p out.new)) }
         ensures most { IfSome result (λ p. IsFit self.now.sector.size p out.new) }
@@ -139,23 +145,24 @@ impl Formatting {
         ensures unchanged { IfNone result (out.new ≡ out.old) }
         ensures goes { IfNone result ((was : List ℕ) → ¬ AsksFormat self.now image.now was flash.now) }
     {
-        let mut bytes = [0; 256];
-        let Some(piece) = self.due(flash, image, &mut bytes) else {
+        let mut cut = cut_at(stock_for(self, image), self.done);
+        if !self.due(flash, &mut cut) {
             return None;
-        };
+        }
+        let piece = cut.piece;
         if !is_sound(self.sector, piece) {
             return None;
         }
         if piece.at + piece.len as u64 > flash.len() as u64 {
             return None;
         }
-        *out = bytes;
+        fill(&cut, out);
         Some(piece)
     }
 
     /// The piece that `next` gave was carried out, or it failed. It is read back on the flash: of an erase the whole sector, as FFh.
     ///
-    /// None where no write is due. Nothing changed then.
+    /// None if no write is due. Nothing changed then.
     pub fn took(&mut self, flash: &[u8], image: &[u8], failed: bool) -> Option<Progress>
         ensures outcome { IfSome result (λ r. (was before : List ℕ) → AsksFormat self.old image.now was before → (p : Step) →
             IsPiece (steps_left self.old (length was) image.now) self.old.done p → Torn before p.write.at p.write.bytes flash.now →
@@ -166,19 +173,19 @@ impl Formatting {
             → ¬ AsksFormat self.old image.now was before) }
         ensures unchanged { IfNone result (self.new ≡ self.old) }
     {
-        let mut bytes = [0; 256];
-        let Some(piece) = self.due(flash, image, &mut bytes) else {
+        let mut cut = cut_at(stock_for(self, image), self.done);
+        if !self.due(flash, &mut cut) {
             return None;
-        };
+        }
         if failed {
             self.phase = Phase::Ended;
             return Some(Progress::Broken(WriteFault::Failed));
         }
-        if !stands(flash, piece, &bytes) {
+        if !stands(flash, &cut) {
             self.phase = Phase::Ended;
             return Some(Progress::Broken(WriteFault::NotVerified));
         }
-        self.done += piece.len as u32;
+        self.done += cut.piece.len as u32;
         Some(self.advance(flash.len(), image))
     }
 
@@ -192,11 +199,11 @@ impl Formatting {
         ensures same { IsSameFormat self.old self.new }
         ensures ended { result ≢ Progress.Asks → self.new.phase ≡ Phase.Ended }
     {
-        let mut bytes = [0; 256];
-        match part_piece(self, size, image, &mut bytes) {
-            Some(_) => Progress::Asks,
-            None => self.go_on(image),
+        let mut cut = cut_at(stock_for(self, image), self.done);
+        if part_piece(self, size, &mut cut) {
+            return Progress::Asks;
         }
+        self.go_on(image)
     }
 
     // A part is carried out: goes on with the one behind it, if there is one.

@@ -6,6 +6,7 @@ mod asking;
 mod asks;
 mod calls;
 mod carry;
+mod cut;
 mod finish;
 mod format;
 mod format_piece;

@@ -1,5 +1,5 @@
 //! Where so many bytes of a write and of the erases before it lead.
-ghost use Rattle.std.specs.Prelude.{◌≡◌, ◌+◌, ◌^◌, ◌≤◌, ◌<◌};
+ghost use Rattle.std.specs.Prelude.{◌≡◌, ◌+◌, ◌%◌, ◌^◌, ◌≤◌, ◌<◌};
 ghost use Rattle.dfu_asks.specs.Located.{LeadsToErase, LeadsTo, IsWithin};
 
 use crate::Sector;
@@ -26,6 +26,18 @@ pub(crate) enum Located {
     },
 }
 
+/// How many bytes a place is behind the first one of its sector. It takes two divisions of 32 bits for one of 64, which a small processor
+/// does by a call.
+pub(crate) fn behind_edge(sector: u32, at: u64) -> u32
+    requires some { 0 < sector }
+    requires most { sector ≤ 2 ^ 17 }
+    requires small { at < 2 ^ 43 }
+    ensures { result ≡ at % sector }
+{
+    let high = (at / 32_768) as u32 % sector;
+    (high * 32_768 + (at % 32_768) as u32) % sector
+}
+
 // Where so many bytes of the erases lead that begin in a range.
 fn locate_erase(sector: u32, at: u64, len: usize, done: usize) -> Located
     requires some { 0 < sector }
@@ -37,7 +49,7 @@ fn locate_erase(sector: u32, at: u64, len: usize, done: usize) -> Located
 {
     let size = u64::from(sector);
     let end = at + len as u64;
-    let behind = at % size;
+    let behind = u64::from(behind_edge(sector, at));
     let mut place = if behind == 0 {
         at
     } else {

@@ -17,7 +17,7 @@ pub struct Mapped<'m> {
 }
 
 impl<'m> Mapped<'m> {
-    /// The medium of these bytes, which is written in place, in this unit; None where they are 2^32 or more.
+    /// The medium of these bytes, which is written in place, in this unit; None if they are 2^32 or more.
     pub fn new(bytes: &'m [u8], unit: Unit) -> Option<Mapped<'m>>
         ensures some { IfSome result (λ m. mapped (grain_of m.unit m.sector) m.bytes.now ≡ mapped (in_place unit) bytes.now) }
         ensures none { IfNone result (2 ^ 32 ≤ length bytes.now) }
@@ -27,7 +27,7 @@ impl<'m> Mapped<'m> {
 
     /// The medium of these bytes, which is written in this unit, in sectors of so many bytes that are erased before, or at 0 in place.
     ///
-    /// None where the sector is neither 0 nor a multiple of 256 up to 131,072, or where there are 2^32 bytes or more.
+    /// None if the sector is neither 0 nor a multiple of 256 up to 131,072, or if there are 2^32 bytes or more.
     pub fn with_sectors(bytes: &'m [u8], unit: Unit, sector: u32) -> Option<Mapped<'m>>
         ensures some { IfSome result (λ m. mapped (grain_of m.unit m.sector) m.bytes.now
             ≡ mapped (record { unit = unit; sector = sector }) bytes.now) }

@@ -1,251 +1,240 @@
 //! The next piece of the writes of a job.
-ghost use Rattle.std.specs.Prelude.{◌≡◌, ◌+◌, ◌^◌, ◌<◌, ◌≤◌, ◌∷◌, [], length, IfSome, IfNone, IfOk, IfErr};
+ghost use Rattle.std.specs.Prelude.{◌≡◌, ◌+◌, ◌^◌, ◌<◌, ◌≤◌, ◌∷◌, [], length, replicate, not, true, IsTrue};
 ghost use Rattle.dfu_slots.specs.Units.{gate_size, gate_room};
-ghost use Rattle.dfu_slots.specs.Layout.{OPEN, gate_unit, header_unit};
+ghost use Rattle.dfu_slots.specs.Layout.{gate_unit, header_unit};
 ghost use Rattle.dfu_asks.specs.Steps.{step_writes, anew_steps, some_steps, put_steps, close_step};
 ghost use Rattle.dfu_asks.specs.Carried.{total, IsPiece};
-ghost use Rattle.dfu_asks.specs.Jobs.{grain_for, steps_for, asked, IsFit};
+ghost use Rattle.dfu_asks.specs.Jobs.{grain_for, steps_for};
+ghost use Rattle.dfu_asks.specs.Cuts.{source_bytes, range_in, step_of, IsCut};
 
+use crate::cut::{Cut, Source};
 use crate::located::{Located, locate};
-use crate::piece::{
-    Stock, erase_piece, fill_size, fill_up, gate_room, gate_size, head_size, header, held_place,
-    joined_piece, rest_of,
-};
-use crate::{Job, Piece, Sector};
+use crate::piece::{Stock, fill_size, gate_room, gate_size, head_size, header, held_place};
+use crate::{Job, Piece};
 
-/// How many bytes are programmed at a time at most.
-pub(crate) const MOST: usize = 256;
+// How many bytes are programmed at a time at most.
+const MOST: usize = 256;
 
-// The first byte of an open gate.
-const OPEN_GATE: u8 = 0xa5;
+/// The first byte of an open gate.
+pub(crate) const OPEN_GATE: u8 = 0xa5;
 
 // The first byte of a gate unit that is written to close it.
 const CLOSED_GATE: u8 = 0x00;
 
-// The next piece of what a `put` writes, behind the first `done` bytes of it.
-fn put_piece(at: u64, stock: &Stock<'_>, done: usize, out: &mut [u8; 256]) -> Option<Piece>
-    requires small { at < 2 ^ 40 }
-    requires held { length stock.now.held.now ≤ 256 }
-    requires block { length stock.now.block.now ≤ 4096 }
-    ensures some { IfSome result (λ p.
-        IsPiece (put_steps (grain_for stock.now) at stock.now.held.now stock.now.block.now) done (asked p out.new)) }
-    ensures fits { IfSome result (λ p. IsFit stock.now.sector.size p out.new) }
-    ensures end { IfSome result (λ p. done + p.len ≤ 2 ^ 20) }
-    ensures none { IfNone result (total (step_writes (put_steps (grain_for stock.now) at stock.now.held.now stock.now.block.now)) ≤ done) }
+// An erase of so many bytes there is found.
+fn find_erase(at: u64, len: usize, cut: &mut Cut<'_>)
+    ensures piece { (cut.new.piece.erases ≡ true) × (cut.new.piece.at ≡ at) × (cut.new.piece.len ≡ len) }
+    ensures rest { (cut.new.stock ≡ cut.old.stock) × (cut.new.rest ≡ cut.old.rest) }
 {
-    let size = stock.unit.size() as usize;
-    let all = stock.held.len() + stock.block.len();
-    let whole = all - all % size;
-    let head = head_size(stock);
-    match locate(stock.sector, at, head, done) {
-        Located::Erase { place, len } => Some(erase_piece(place, len, out)),
+    cut.piece = Piece {
+        erases: true,
+        at,
+        len,
+    };
+}
+
+/// Whether the next piece is one of a write of `len` bytes there, or of its erases: of the bytes of this source, without the first
+/// `skip`. Then it is found; else the search goes on behind the write.
+pub(crate) fn write_piece(
+    at: u64,
+    source: Source,
+    skip: usize,
+    len: usize,
+    cut: &mut Cut<'_>,
+) -> bool
+    requires small { at < 2 ^ 41 }
+    requires short { len ≤ 4608 }
+    requires within { skip + len ≤ length (source_bytes source cut.old.stock cut.old.front) + 256 }
+    requires skipped { skip ≤ 2 ^ 32 }
+    ensures found { IsTrue result → IsPiece (some_steps cut.old.stock.sector.size at (range_in source cut.old.stock cut.old.front skip len))
+        cut.old.rest (step_of cut.new) }
+    ensures same { cut.new.stock ≡ cut.old.stock }
+    ensures is { IsTrue result → IsCut cut.old.stock.sector.size cut.new }
+    ensures end { IsTrue result → cut.old.rest + cut.new.piece.len ≤ 2 ^ 18 }
+    ensures behind { IsTrue (not result) →
+        total (step_writes (some_steps cut.old.stock.sector.size at (range_in source cut.old.stock cut.old.front skip len))) + cut.new.rest
+        ≡ cut.old.rest }
+    ensures past { IsTrue (not result) → cut.old.rest ≤ cut.new.rest + 2 ^ 18 }
+{
+    match locate(cut.stock.sector, at, len, cut.rest) {
+        Located::Erase { place, len } => {
+            find_erase(place, len, cut);
+            true
+        }
         Located::Program { from } => {
-            let len = (head - from).min(MOST);
-            Some(joined_piece(at, stock, from, len, out))
+            cut.piece = Piece {
+                erases: false,
+                at: at + from as u64,
+                len: (len - from).min(MOST),
+            };
+            cut.source = source;
+            cut.from = skip + from;
+            true
         }
         Located::Behind { rest } => {
-            let left = whole - head;
-            match locate(stock.sector, at + head as u64, left, rest) {
-                Located::Erase { place, len } => Some(erase_piece(place, len, out)),
-                Located::Program { from } => {
-                    let len = (left - from).min(MOST);
-                    Some(joined_piece(at, stock, head + from, len, out))
-                }
-                Located::Behind { .. } => None,
-            }
+            cut.rest = rest;
+            false
         }
     }
 }
 
-// The next piece of a write of these bytes, with its erases, behind the first `done` bytes of all; or where those lead behind it.
-#[inline(never)]
-fn write_piece(
-    sector: Sector,
-    at: u64,
-    bytes: &[u8],
-    done: usize,
-    out: &mut [u8; 256],
-) -> Result<Piece, usize>
-    requires most { length bytes.now ≤ 256 }
+// Whether the next piece is one of what a `put` writes.
+fn put_piece(at: u64, cut: &mut Cut<'_>) -> bool
     requires small { at < 2 ^ 40 }
-    ensures ok { IfOk result (λ p. IsPiece (some_steps sector.size at bytes.now) done (asked p out.new)) }
-    ensures fits { IfOk result (λ p. IsFit sector.size p out.new) }
-    ensures end { IfOk result (λ p. done + p.len ≤ 2 ^ 18) }
-    ensures behind { IfErr result (λ rest. total (step_writes (some_steps sector.size at bytes.now)) + rest ≡ done) }
-    ensures past { IfErr result (λ rest. done ≤ rest + 2 ^ 18) }
+    requires held { length cut.old.stock.held.now ≤ 256 }
+    requires block { length cut.old.stock.block.now ≤ 4096 }
+    ensures found { IsTrue result →
+        IsPiece (put_steps (grain_for cut.old.stock) at cut.old.stock.held.now cut.old.stock.block.now) cut.old.rest (step_of cut.new) }
+    ensures same { cut.new.stock ≡ cut.old.stock }
+    ensures is { IsTrue result → IsCut cut.old.stock.sector.size cut.new }
+    ensures end { IsTrue result → cut.old.rest + cut.new.piece.len ≤ 2 ^ 20 }
+    ensures none { IsTrue (not result) →
+        total (step_writes (put_steps (grain_for cut.old.stock) at cut.old.stock.held.now cut.old.stock.block.now)) ≤ cut.old.rest }
 {
-    match locate(sector, at, bytes.len(), done) {
-        Located::Erase { place, len } => Ok(erase_piece(place, len, out)),
-        Located::Program { from } => Ok(rest_of(at, bytes, from, out)),
-        Located::Behind { rest } => Err(rest),
+    let size = cut.stock.unit.size() as usize;
+    let all = cut.stock.held.len() + cut.stock.block.len();
+    let whole = all - all % size;
+    let head = head_size(&cut.stock);
+    if write_piece(at, Source::Joined, 0, head, cut) {
+        return true;
     }
+    write_piece(at + head as u64, Source::Joined, head, whole - head, cut)
 }
 
-/// The next piece of the header of the slot that begins there, with its erases, behind the first `done` bytes of all; or where
-/// those lead behind it.
-#[inline(never)]
+/// Whether the next piece is one of the header of the slot that begins there, or of its erases.
 pub(crate) fn header_piece(
     spare: u32,
     generation: u8,
     len: u32,
     register: u32,
-    stock: &Stock<'_>,
-    done: usize,
-    out: &mut [u8; 256],
-) -> Result<Piece, usize>
-    ensures ok { let w = grain_for stock.now in
-        IfOk result (λ p. IsPiece (anew_steps w.sector (spare + gate_room w) (header_unit (gate_size w.unit) generation len register))
-        done (asked p out.new)) }
-    ensures fits { IfOk result (λ p. IsFit stock.now.sector.size p out.new) }
-    ensures end { IfOk result (λ p. done + p.len ≤ 2 ^ 18) }
-    ensures behind { let w = grain_for stock.now in IfErr result (λ rest.
-        total (step_writes (anew_steps w.sector (spare + gate_room w) (header_unit (gate_size w.unit) generation len register))) + rest
-        ≡ done) }
-    ensures past { IfErr result (λ rest. done ≤ rest + 2 ^ 18) }
+    cut: &mut Cut<'_>,
+) -> bool
+    ensures found { let w = grain_for cut.old.stock in IsTrue result →
+        IsPiece (anew_steps w.sector (spare + gate_room w) (header_unit (gate_size w.unit) generation len register))
+        cut.old.rest (step_of cut.new) }
+    ensures same { cut.new.stock ≡ cut.old.stock }
+    ensures is { IsTrue result → IsCut cut.old.stock.sector.size cut.new }
+    ensures end { IsTrue result → cut.old.rest + cut.new.piece.len ≤ 2 ^ 18 }
+    ensures behind { let w = grain_for cut.old.stock in IsTrue (not result) →
+        total (step_writes (anew_steps w.sector (spare + gate_room w) (header_unit (gate_size w.unit) generation len register)))
+        + cut.new.rest ≡ cut.old.rest }
+    ensures past { IsTrue (not result) → cut.old.rest ≤ cut.new.rest + 2 ^ 18 }
 {
-    let gate = gate_size(stock.unit);
-    let unit = fill_up(&header(generation, len, register));
-    let at = u64::from(spare) + gate_room(stock.unit, stock.sector);
-    write_piece(stock.sector, at, &unit[..gate], done, out)
+    cut.front = header(generation, len, register);
+    let at = u64::from(spare) + gate_room(cut.stock.unit, cut.stock.sector);
+    write_piece(at, Source::Unit, 0, gate_size(cut.stock.unit), cut)
 }
 
-/// The next piece of what opens the gate of the slot that begins there, in the same way.
-#[inline(never)]
-pub(crate) fn gate_piece(
-    spare: u32,
-    stock: &Stock<'_>,
-    done: usize,
-    out: &mut [u8; 256],
-) -> Result<Piece, usize>
-    ensures ok { let w = grain_for stock.now in
-        IfOk result (λ p. IsPiece (anew_steps w.sector spare (gate_unit (gate_size w.unit) OPEN)) done (asked p out.new)) }
-    ensures fits { IfOk result (λ p. IsFit stock.now.sector.size p out.new) }
-    ensures end { IfOk result (λ p. done + p.len ≤ 2 ^ 18) }
-    ensures behind { let w = grain_for stock.now in
-        IfErr result (λ rest. total (step_writes (anew_steps w.sector spare (gate_unit (gate_size w.unit) OPEN))) + rest ≡ done) }
-    ensures past { IfErr result (λ rest. done ≤ rest + 2 ^ 18) }
+// The front of a gate unit.
+fn gate_front(first: u8) -> [u8; 16]
+    ensures { result ≡ first ∷ replicate 15 0 }
 {
-    let gate = gate_size(stock.unit);
-    let unit = fill_up(&[OPEN_GATE]);
-    write_piece(stock.sector, u64::from(spare), &unit[..gate], done, out)
+    [first, 0, 0, 0, 0, 0, 0, 0, 0, 0, 0, 0, 0, 0, 0, 0]
 }
 
-// The next piece of what a commit writes, behind the first `done` bytes of it.
-fn commit_piece(
-    spare: u32,
-    generation: u8,
-    register: u32,
-    stock: &Stock<'_>,
-    done: usize,
-    out: &mut [u8; 256],
-) -> Option<Piece>
-    requires held { length stock.now.held.now ≤ 256 }
-    ensures some { IfSome result (λ p. IsPiece (steps_for (Job.Commit spare generation register) stock.now) done (asked p out.new)) }
-    ensures fits { IfSome result (λ p. IsFit stock.now.sector.size p out.new) }
-    ensures end { IfSome result (λ p. done + p.len ≤ 2 ^ 21) }
-    ensures none { IfNone result (total (step_writes (steps_for (Job.Commit spare generation register) stock.now)) ≤ done) }
+/// Whether the next piece is one of the gate unit with this first byte of the slot that begins there, or of its erases.
+pub(crate) fn gate_piece(spare: u32, first: u8, cut: &mut Cut<'_>) -> bool
+    ensures found { let w = grain_for cut.old.stock in IsTrue result →
+        IsPiece (anew_steps w.sector spare (gate_unit (gate_size w.unit) first)) cut.old.rest (step_of cut.new) }
+    ensures same { cut.new.stock ≡ cut.old.stock }
+    ensures is { IsTrue result → IsCut cut.old.stock.sector.size cut.new }
+    ensures end { IsTrue result → cut.old.rest + cut.new.piece.len ≤ 2 ^ 18 }
+    ensures behind { let w = grain_for cut.old.stock in IsTrue (not result) →
+        total (step_writes (anew_steps w.sector spare (gate_unit (gate_size w.unit) first))) + cut.new.rest ≡ cut.old.rest }
+    ensures past { IsTrue (not result) → cut.old.rest ≤ cut.new.rest + 2 ^ 18 }
 {
-    let size = stock.held.len() + fill_size(stock.unit, stock.held.len());
-    let part = fill_up(stock.held);
-    let at = held_place(spare, stock);
-    let after_part = match write_piece(stock.sector, at, &part[..size], done, out) {
-        Ok(piece) => return Some(piece),
-        Err(rest) => rest,
-    };
-    let header = header_piece(
-        spare,
-        generation,
-        stock.put_end,
-        register,
-        stock,
-        after_part,
-        out,
-    );
-    let after_header = match header {
-        Ok(piece) => return Some(piece),
-        Err(rest) => rest,
-    };
-    match gate_piece(spare, stock, after_header, out) {
-        Ok(piece) => Some(piece),
-        Err(_) => None,
+    cut.front = gate_front(first);
+    write_piece(
+        u64::from(spare),
+        Source::Unit,
+        0,
+        gate_size(cut.stock.unit),
+        cut,
+    )
+}
+
+// Whether the next piece is one of what a commit writes.
+fn commit_piece(spare: u32, generation: u8, register: u32, cut: &mut Cut<'_>) -> bool
+    requires held { length cut.old.stock.held.now ≤ 256 }
+    ensures found { IsTrue result →
+        IsPiece (steps_for (Job.Commit spare generation register) cut.old.stock) cut.old.rest (step_of cut.new) }
+    ensures same { cut.new.stock ≡ cut.old.stock }
+    ensures is { IsTrue result → IsCut cut.old.stock.sector.size cut.new }
+    ensures end { IsTrue result → cut.old.rest + cut.new.piece.len ≤ 2 ^ 21 }
+    ensures none { IsTrue (not result) →
+        total (step_writes (steps_for (Job.Commit spare generation register) cut.old.stock)) ≤ cut.old.rest }
+{
+    let size = cut.stock.held.len() + fill_size(cut.stock.unit, cut.stock.held.len());
+    let at = held_place(spare, &cut.stock);
+    if write_piece(at, Source::Held, 0, size, cut) {
+        return true;
     }
+    if header_piece(spare, generation, cut.stock.put_end, register, cut) {
+        return true;
+    }
+    gate_piece(spare, OPEN_GATE, cut)
 }
 
-/// The next piece of what closes the gate of the slot that begins there, behind its first `done` bytes; or where those lead behind it.
-#[inline(never)]
-pub(crate) fn close_piece(
-    spare: u32,
-    stock: &Stock<'_>,
-    done: usize,
-    out: &mut [u8; 256],
-) -> Result<Piece, usize>
-    ensures ok { IfOk result (λ p. IsPiece (close_step (grain_for stock.now) spare ∷ []) done (asked p out.new)) }
-    ensures fits { IfOk result (λ p. IsFit stock.now.sector.size p out.new) }
-    ensures end { IfOk result (λ p. done + p.len ≤ 2 ^ 17) }
-    ensures behind { IfErr result (λ rest. total (step_writes (close_step (grain_for stock.now) spare ∷ [])) + rest ≡ done) }
-    ensures past { IfErr result (λ rest. done ≤ rest + 2 ^ 17) }
+/// Whether the next piece is one of what closes the gate of the slot that begins there.
+pub(crate) fn close_piece(spare: u32, cut: &mut Cut<'_>) -> bool
+    ensures found { IsTrue result → IsPiece (close_step (grain_for cut.old.stock) spare ∷ []) cut.old.rest (step_of cut.new) }
+    ensures same { cut.new.stock ≡ cut.old.stock }
+    ensures is { IsTrue result → IsCut cut.old.stock.sector.size cut.new }
+    ensures end { IsTrue result → cut.old.rest + cut.new.piece.len ≤ 2 ^ 18 }
+    ensures behind { IsTrue (not result) →
+        total (step_writes (close_step (grain_for cut.old.stock) spare ∷ [])) + cut.new.rest ≡ cut.old.rest }
+    ensures past { IsTrue (not result) → cut.old.rest ≤ cut.new.rest + 2 ^ 18 }
 {
-    let sector = stock.sector.size() as usize;
-    if sector > 0 {
-        if done < sector {
-            let at = u64::from(spare) + done as u64;
-            return Ok(erase_piece(at, sector - done, out));
-        }
-        return Err(done - sector);
+    let sector = cut.stock.sector.size() as usize;
+    if sector == 0 {
+        return gate_piece(spare, CLOSED_GATE, cut);
     }
-    let gate = gate_size(stock.unit);
-    if done < gate {
-        let unit = fill_up(&[CLOSED_GATE]);
-        return Ok(rest_of(u64::from(spare), &unit[..gate], done, out));
+    if cut.rest < sector {
+        let at = u64::from(spare) + cut.rest as u64;
+        find_erase(at, sector - cut.rest, cut);
+        return true;
     }
-    Err(done - gate)
+    cut.rest -= sector;
+    false
 }
 
-// The next piece of what a block writes, behind the first `done` bytes of it.
-fn block_piece(
-    spare: u32,
-    close: bool,
-    stock: &Stock<'_>,
-    done: usize,
-    out: &mut [u8; 256],
-) -> Option<Piece>
-    requires held { length stock.now.held.now ≤ 256 }
-    requires block { length stock.now.block.now ≤ 4096 }
-    ensures some { IfSome result (λ p. IsPiece (steps_for (Job.Block spare close) stock.now) done (asked p out.new)) }
-    ensures fits { IfSome result (λ p. IsFit stock.now.sector.size p out.new) }
-    ensures end { IfSome result (λ p. done + p.len ≤ 2 ^ 21) }
-    ensures none { IfNone result (total (step_writes (steps_for (Job.Block spare close) stock.now)) ≤ done) }
+// Whether the next piece is one of what a block writes.
+fn block_piece(spare: u32, close: bool, cut: &mut Cut<'_>) -> bool
+    requires held { length cut.old.stock.held.now ≤ 256 }
+    requires block { length cut.old.stock.block.now ≤ 4096 }
+    ensures found { IsTrue result →
+        IsPiece (steps_for (Job.Block spare close) cut.old.stock) cut.old.rest (step_of cut.new) }
+    ensures same { cut.new.stock ≡ cut.old.stock }
+    ensures is { IsTrue result → IsCut cut.old.stock.sector.size cut.new }
+    ensures end { IsTrue result → cut.old.rest + cut.new.piece.len ≤ 2 ^ 21 }
+    ensures none { IsTrue (not result) → total (step_writes (steps_for (Job.Block spare close) cut.old.stock)) ≤ cut.old.rest }
 {
-    let at = held_place(spare, stock);
+    let at = held_place(spare, &cut.stock);
     if !close {
-        return put_piece(at, stock, done, out);
+        return put_piece(at, cut);
     }
-    match close_piece(spare, stock, done, out) {
-        Ok(piece) => Some(piece),
-        Err(rest) => put_piece(at, stock, rest, out),
+    if close_piece(spare, cut) {
+        return true;
     }
+    put_piece(at, cut)
 }
 
-/// The next piece of the writes of a job, behind their first `done` bytes; None where no byte is left. `out` has its bytes then.
-pub(crate) fn next_piece(
-    job: Job,
-    stock: &Stock<'_>,
-    done: usize,
-    out: &mut [u8; 256],
-) -> Option<Piece>
-    requires held { length stock.now.held.now ≤ 256 }
-    requires block { length stock.now.block.now ≤ 4096 }
-    ensures some { IfSome result (λ p. IsPiece (steps_for job stock.now) done (asked p out.new)) }
-    ensures fits { IfSome result (λ p. IsFit stock.now.sector.size p out.new) }
-    ensures end { IfSome result (λ p. done + p.len ≤ 2 ^ 21) }
-    ensures none { IfNone result (total (step_writes (steps_for job stock.now)) ≤ done) }
+/// Whether a piece of the writes of a job is left. Then the next one is found.
+pub(crate) fn next_piece(job: Job, cut: &mut Cut<'_>) -> bool
+    requires held { length cut.old.stock.held.now ≤ 256 }
+    requires block { length cut.old.stock.block.now ≤ 4096 }
+    ensures found { IsTrue result → IsPiece (steps_for job cut.old.stock) cut.old.rest (step_of cut.new) }
+    ensures same { cut.new.stock ≡ cut.old.stock }
+    ensures is { IsTrue result → IsCut cut.old.stock.sector.size cut.new }
+    ensures end { IsTrue result → cut.old.rest + cut.new.piece.len ≤ 2 ^ 21 }
+    ensures none { IsTrue (not result) → total (step_writes (steps_for job cut.old.stock)) ≤ cut.old.rest }
 {
     match job {
-        Job::Block { spare, close } => block_piece(spare, close, stock, done, out),
+        Job::Block { spare, close } => block_piece(spare, close, cut),
         Job::Commit {
             spare,
             generation,
             register,
-        } => commit_piece(spare, generation, register, stock, done, out),
+        } => commit_piece(spare, generation, register, cut),
     }
 }

@@ -1,7 +1,7 @@
 //! How many bytes are erased at a time.
 ghost use Rattle.std.specs.Prelude.{◌≡◌, ◌%◌, ◌^◌, ◌≤◌, IfSome, IfNone};
 
-/// How many bytes of flash are erased at a time: 0 where it is written over in place, else a multiple of 256 up to 131,072.
+/// How many bytes of flash are erased at a time: 0 if it is written over in place, else a multiple of 256 up to 131,072.
 #[derive(Clone, Copy, Debug, PartialEq, Eq, Drop)]
 pub struct Sector {
     size: u32,
@@ -17,7 +17,7 @@ impl Sector {
         Sector { size: 0 }
     }
 
-    /// Sectors of so many bytes; None where that is no multiple of 256, or more than 131,072.
+    /// Sectors of so many bytes; None if that is no multiple of 256, or more than 131,072.
     pub fn new(size: u32) -> Option<Sector>
         ensures some { IfSome result (λ s. s.size ≡ size) }
         ensures fits { IfSome result (λ s. (size % 256 ≡ 0) × (size ≤ 2 ^ 17)) }

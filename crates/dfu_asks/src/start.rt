@@ -29,11 +29,11 @@ fn register_of(flash: &[u8], from: usize, size: usize, held: &[u8]) -> u32
 
 impl Asking {
     // The job of a commit of all that was put.
-    fn commit_job(&self, held: &[u8; 256], medium: &Mapped<'_>, view: View) -> Job
+    fn commit_job(&self, held: &[u8; 256], medium: &Mapped<'_>, view: &View) -> Job
         requires unit { medium.now.unit ≡ self.now.unit }
         requires sector { medium.now.sector ≡ self.now.sector }
-        requires view { IsView view self.now.noted (mapped (grain_of self.now.unit self.now.sector) medium.now.bytes.now) }
-        requires end { self.now.put_end ≤ view.room }
+        requires view { IsView view.now self.now.noted (mapped (grain_of self.now.unit self.now.sector) medium.now.bytes.now) }
+        requires end { self.now.put_end ≤ view.now.room }
         requires held { self.now.held_len ≤ self.now.put_end }
         ensures { (block : List ℕ) → let a = lent self.now block held.now in IsDevice a medium.now.bytes.now →
             IsCommitJob self.now.put_end (store_in a medium.now.bytes.now) result self.now.put_end a.held }
@@ -49,10 +49,10 @@ impl Asking {
 
     // The job of a block behind so many bytes, and how many bytes are held back and where the puts end then: before a first block what was
     // put is forgotten.
-    fn block_job(&self, written: u32, medium: &Mapped<'_>, view: View) -> (Job, usize, u32)
+    fn block_job(&self, written: u32, medium: &Mapped<'_>, view: &View) -> (Job, usize, u32)
         requires unit { medium.now.unit ≡ self.now.unit }
         requires sector { medium.now.sector ≡ self.now.sector }
-        requires view { IsView view self.now.noted (mapped (grain_of self.now.unit self.now.sector) medium.now.bytes.now) }
+        requires view { IsView view.now self.now.noted (mapped (grain_of self.now.unit self.now.sector) medium.now.bytes.now) }
         ensures job { (block held : List ℕ) → let s = store_in (lent self.now block held) medium.now.bytes.now in
             IsDevice (lent self.now block held) medium.now.bytes.now → (written ≡ 0) ⊎ (is_put written s ≡ true) →
             IsBlockJob written s result.0 result.2 (take result.1 held) }
@@ -73,11 +73,11 @@ impl Asking {
     }
 
     // The job of the row that is due, and what is held back and put then.
-    fn begin_job(&self, held: &[u8; 256], medium: &Mapped<'_>, view: View) -> (Job, usize, u32)
+    fn begin_job(&self, held: &[u8; 256], medium: &Mapped<'_>, view: &View) -> (Job, usize, u32)
         requires unit { medium.now.unit ≡ self.now.unit }
         requires sector { medium.now.sector ≡ self.now.sector }
-        requires view { IsView view self.now.noted (mapped (grain_of self.now.unit self.now.sector) medium.now.bytes.now) }
-        requires end { self.now.put_end ≤ view.room }
+        requires view { IsView view.now self.now.noted (mapped (grain_of self.now.unit self.now.sector) medium.now.bytes.now) }
+        requires end { self.now.put_end ≤ view.now.room }
         requires held { self.now.held_len ≤ self.now.put_end }
         ensures due { (block spare unwritten : List ℕ) (asked : Option ℕ) (len : ℕ) → let a = lent self.now block held.now in
             IsDevice a medium.now.bytes.now → IsDueStage (stage_of self.now.mode spare unwritten) asked len →
@@ -102,14 +102,14 @@ impl Asking {
         block: &[u8],
         held: &mut [u8; 256],
         medium: &Mapped<'_>,
-        view: View,
+        view: &View,
         out: &mut [u8],
     ) -> Reply
         requires room { 6 ≤ length out.old }
         requires unit { medium.now.unit ≡ self.old.unit }
         requires sector { medium.now.sector ≡ self.old.sector }
-        requires view { IsView view self.old.noted (mapped (grain_of self.old.unit self.old.sector) medium.now.bytes.now) }
-        requires end { self.old.put_end ≤ view.room }
+        requires view { IsView view.now self.old.noted (mapped (grain_of self.old.unit self.old.sector) medium.now.bytes.now) }
+        requires end { self.old.put_end ≤ view.now.room }
         requires held { self.old.held_len ≤ self.old.put_end }
         ensures outcome { let a = lent self.old block.now held.old in
             let flash = medium.now.bytes.now in
@@ -129,6 +129,7 @@ impl Asking {
             asked,
             done: 0,
         };
-        self.advance(work, block, held, medium.bytes, out)
+        self.work = Some(work);
+        self.advance(block, held, medium.bytes, out)
     }
 }

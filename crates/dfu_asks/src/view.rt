@@ -6,7 +6,7 @@ ghost use Rattle.dfu_asks.specs.Refused.{IsKept, Fits};
 
 use crate::{Asking, Mapped, Noted};
 use dfu_device::{PutSoFar, is_filled};
-use dfu_slots::{Medium, capacity_of, has_puts, header_of, is_open, is_sized, length_in};
+use dfu_slots::{Medium, capacity_of, gate_of, has_puts, is_open, is_sized, length_in};
 
 /// What a call sees of its flash by what is noted.
 #[derive(Clone, Copy, Drop)]
@@ -22,7 +22,8 @@ pub(crate) struct View {
 }
 
 // Whether two headers are the same, byte by byte: that is less code than `==`.
-fn are_same(one: &[u8; 16], other: &[u8; 16]) -> bool
+fn are_same(one: &[u8], other: &[u8; 16]) -> bool
+    requires { length one.now ≡ 16 }
     ensures { IsTrue result ↔ (one.now ≡ other.now) }
 {
     for i in 0..16 {
@@ -51,11 +52,11 @@ pub(crate) fn look(medium: &Mapped<'_>, noted: &Noted) -> Option<View>
     if !is_open(medium, active) {
         return None;
     }
-    let header = header_of(medium, active);
-    if !are_same(&header, &noted.header) {
+    let from = (active + gate_of(medium)) as usize;
+    if !are_same(&medium.bytes[from..from + 16], &noted.header) {
         return None;
     }
-    let (room, len) = (capacity_of(medium), length_in(&header));
+    let (room, len) = (capacity_of(medium), length_in(&noted.header));
     if len > room {
         return None;
     }
@@ -68,16 +69,16 @@ pub(crate) fn look(medium: &Mapped<'_>, noted: &Noted) -> Option<View>
 }
 
 impl Asking {
-    /// Whether what is kept goes with what is seen, where the block's memory has so many bytes.
+    /// Whether what is kept goes with what is seen, if the block's memory has so many bytes.
     #[inline(never)]
-    pub(crate) fn is_fit(&self, room: usize, medium: &Mapped<'_>, view: View) -> bool
+    pub(crate) fn is_fit(&self, room: usize, medium: &Mapped<'_>, view: &View) -> bool
         requires unit { medium.now.unit ≡ self.now.unit }
         requires sector { medium.now.sector ≡ self.now.sector }
-        requires view { IsView view self.now.noted (mapped (grain_of self.now.unit self.now.sector) medium.now.bytes.now) }
+        requires view { IsView view.now self.now.noted (mapped (grain_of self.now.unit self.now.sector) medium.now.bytes.now) }
         ensures kept { (block held : List ℕ) → length block ≡ room → length held ≡ 256 →
             IsKept self.now block held medium.now.bytes.now → IsTrue result }
         ensures fits { IsTrue result → Fits self.now room }
-        ensures end { IsTrue result → self.now.put_end ≤ view.room }
+        ensures end { IsTrue result → self.now.put_end ≤ view.now.room }
         ensures held { IsTrue result → self.now.held_len ≤ self.now.put_end }
     {
         if self.block_len > room

@@ -7,7 +7,7 @@ use crate::Job;
 pub struct Work {
     /// What is written.
     pub job: Job,
-    /// wLength of the GETSTATUS that is answered last; None where nothing is, since time has passed.
+    /// wLength of the GETSTATUS that is answered last; None if nothing is, since time has passed.
     pub asked: Option<u16>,
     /// How many bytes of the writes are carried out.
     pub done: u32,

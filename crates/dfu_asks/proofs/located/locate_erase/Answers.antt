@@ -1,4 +1,4 @@
-use Rattle.std.proofs.Common.{◌≡◌, ◌+◌, ◌-◌, ◌<◌, true, ℕ, subst, sym, arith}
+use Rattle.std.proofs.Common.{◌≡◌, ◌+◌, ◌-◌, ◌<◌, true, ℕ, ◌∙◌, subst, sym, arith}
 use Rattle.dfu_asks.proofs.Locating.{Walked, walked_first, walked_more, walked_erase, walked_all}
 use Rattle.dfu_asks.specs.Steps.{erase_step, marked}
 use Rattle.dfu_asks.specs.Carried.{IsPiece}
@@ -8,8 +8,8 @@ use Rattle.dfu_asks.proofs.located.locate_erase.Goals as goal
 
 pub loop-place-init : goal.loop-place-init
 loop-place-init c =
-    let first = walked_first c.args.sector c.args.at c.args.len c.args.done c.requires.large c.from-size.result c.from-size.ensures
-    c.if-behind-eq0.place in
+    let first = walked_first c.args.sector c.args.at c.args.len c.args.done c.requires.large c.from-size.result c.from-behind.result
+    c.from-size.ensures (c.from-behind.ensures ∙ c.behind_edge.ensures) c.if-behind-eq0.place in
     elim c.if-behind-eq0.branch [
       | then-behind-eq0 w ↦ first.0 w.if-behind-eq0.true w.place-is
       | else-behind-eq0 w ↦ first.1 w.if-behind-eq0.false w.place-is

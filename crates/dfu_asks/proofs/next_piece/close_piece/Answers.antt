@@ -1,24 +1,22 @@
-use Rattle.std.proofs.Common.{◌≡◌, inl, ℕ, ◌-◌, ◌∷◌, [], List, take, replicate, sym, ◌∙◌, ap, subst, arith}
-use Rattle.dfu_slots.specs.Units.{gate_size}
-use Rattle.dfu_slots.specs.Layout.{gate_unit}
-use Rattle.dfu_asks.specs.Steps.{Step}
-use Rattle.dfu_asks.specs.Carried.{IsPart}
-use Rattle.dfu_asks.specs.Jobs.{grain_for, asked}
-use Rattle.dfu_asks.proofs.Pieces.{padded}
-use Rattle.dfu_asks.proofs.JobPieces.{part_as, close_is}
+use Rattle.std.proofs.Common.{◌≡◌, ◌+◌, List, not, subst, arith, IsTrue}
+use Rattle.dfu_asks.specs.Steps.{Step, step_writes}
+use Rattle.dfu_asks.specs.Carried.{total, IsPiece}
+use Rattle.dfu_asks.specs.Jobs.{grain_for}
+use Rattle.dfu_asks.specs.Cuts.{step_of}
+use Rattle.dfu_asks.proofs.Cutting.{close_steps}
 use Rattle.dfu_asks.proofs.next_piece.close_piece.Goals as goal
 
-pub returns-then-done-gate-clause-ok : goal.returns-then-done-gate-clause-ok
-returns-then-done-gate-clause-ok c =
-    let s = c.args.stock.now in
-    let g = c.gate_size-gate.result in
-    let size : g ≡ gate_size s.unit = c.gate_size-gate.ensures.value in
-    let none : s.sector.size ≡ 0 = omega (arith, c.size-sector.ensures.value, c.if-sector-gt0.false) in
-    let bytes : take g c.fill_up-unit.result ≡ gate_unit (gate_size s.unit) 0 =
-    ap (λ (l : List ℕ). take g l) c.fill_up-unit.ensures
-    ∙ padded (0 ∷ []) g 256 (omega (arith, size)) (omega (arith, c.gate_size-gate.ensures.most))
-    ∙ ap (λ (k : ℕ). 0 ∷ replicate (k - 1) 0) size in
-    inl (subst (λ (x : Step). IsPart x c.args.done (asked c.rest_of.result c.rest_of.new.out))
-    (sym (close_is (grain_for s) c.args.spare none))
-    (part_as c.from-then-done-gate.result c.args.spare (take g c.fill_up-unit.result) (gate_unit (gate_size s.unit) 0) c.args.done
-    (asked c.rest_of.result c.rest_of.new.out) c.from-then-done-gate.ensures bytes c.rest_of.ensures.part))
+pub returns-then-sector-eq0-clause-found : goal.returns-then-sector-eq0-clause-found
+returns-then-sector-eq0-clause-found c =
+    let s = c.args.cut.now.stock in
+    let none : s.sector.size ≡ 0 = omega (arith, c.size-sector.ensures.value, c.if-sector-eq0.true) in
+    subst (λ (ss : List Step). IsTrue c.gate_piece.result → IsPiece ss c.args.cut.now.rest (step_of c.gate_piece.new.cut))
+    (close_steps (grain_for s) c.args.spare none) c.gate_piece.ensures.found
+
+pub returns-then-sector-eq0-clause-behind : goal.returns-then-sector-eq0-clause-behind
+returns-then-sector-eq0-clause-behind c =
+    let s = c.args.cut.now.stock in
+    let none : s.sector.size ≡ 0 = omega (arith, c.size-sector.ensures.value, c.if-sector-eq0.true) in
+    subst (λ (ss : List Step). IsTrue (not c.gate_piece.result) → total (step_writes ss) + c.gate_piece.new.cut.rest
+    ≡ c.args.cut.now.rest)
+    (close_steps (grain_for s) c.args.spare none) c.gate_piece.ensures.behind

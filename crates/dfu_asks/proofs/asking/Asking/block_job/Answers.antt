@@ -19,7 +19,7 @@ returns-then-written-eq0-clause-job c = λ block held is before.
     let none : n ≡ 0 = c.if-written-eq0.true in
     let same : mapped (record { unit = c.args.medium.now.unit; sector = c.args.medium.now.sector.size }) flash ≡ s.medium =
     λ i. mapped (record { unit = c.requires.unit i; sector = (c.requires.sector i).size }) flash in
-    let spare : c.args.view.spare ≡ spare_at (gate_of s.medium) s.medium.bytes =
+    let spare : c.args.view.now.spare ≡ spare_at (gate_of s.medium) s.medium.bytes =
     c.requires.view.spare ∙ noted_spare a.noted s.medium is.noted in
     let gate : c.is_open.result ≡ ((n == 0) && not (is_begun s)) =
     c.is_open.ensures ∙ (λ i. (slot_of (same i) (spare i)).gate == OPEN) ∙ open_is s
@@ -36,7 +36,7 @@ returns-clause-job c = λ block held is before.
     let s = store_in (lent a block held) c.args.medium.now.bytes.now in
     let n = c.args.written in
     let some : (n == 0) ≡ false = ne_eqb n 0 c.if-written-eq0.false in
-    let spare : c.args.view.spare ≡ spare_at (gate_of s.medium) s.medium.bytes =
+    let spare : c.args.view.now.spare ≡ spare_at (gate_of s.medium) s.medium.bytes =
     c.requires.view.spare ∙ noted_spare a.noted s.medium is.noted in
     record {
       job_is = λ i. Block (spare i) (sym some i && not (is_begun s));

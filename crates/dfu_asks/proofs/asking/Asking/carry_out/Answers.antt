@@ -1,4 +1,4 @@
-use Rattle.std.proofs.Common.{◌≡◌, ◌++◌, IsTrue, ℕ, ◌+◌, ◌-◌, ◌≤◌, min, List, [], length, take, drop, refl, sym, ◌∙◌, ap, subst, arith}
+use Rattle.std.proofs.Common.{◌≡◌, inl, inr, ◌++◌, IsTrue, ℕ, ◌+◌, ◌-◌, ◌≤◌, min, List, [], length, take, drop, refl, sym, ◌∙◌, ap, subst, arith}
 use Rattle.std.proofs.lemmas.List.{take_all, take_at, length-take, length-take-le, length-drop}
 use Rattle.dfu_slots.specs.Medium.{MediumState}
 use Rattle.dfu_slots.specs.Layout.{header_length}
@@ -40,8 +40,8 @@ returns-in-Sure-clause-outcome c = λ kept possible due within.
     c.requires.idle c.give-answer.result.0 c.give-answer.result.1 c.args.out.now c.give-answer.new.out g.sent
     (λ x sent d'. Done (plan_of (profile w) (image_of s) (spare_of s) l.block c.args.body.now c.args.decision) len w x sent d')
     g.count_is g.out_is
-    (subst (λ (d : Decision). Done (plan_of (profile w) (image_of s) (spare_of s) l.block c.args.body.now d) len w c.give-answer.result.0 g.sent
-    (shows l.config s m l.block)) (sym c.in-Sure.is) (says (room_of s) (spare_of s) l.block, refl)))
+    (subst (λ (d : Decision). Done (plan_of (profile w) (image_of s) (spare_of s) l.block c.args.body.now d) len w
+    c.give-answer.result.0 g.sent (shows l.config s m l.block)) (sym c.in-Sure.is) (says (room_of s) (spare_of s) l.block, refl)))
 
 pub returns-in-Holds-clause-outcome : goal.returns-in-Holds-clause-outcome
 returns-in-Holds-clause-outcome c = λ kept possible due within.
@@ -75,7 +75,7 @@ returns-after-count-from-clause-outcome c = λ kept possible due within.
     let l = lent c.args.self.now c.args.block.now c.args.held.now in
     let s = store_in l flash in
     let w = device_in l flash in
-    let v = c.args.view in
+    let v = c.args.view.now in
     let place = c.in-Sends.place in
     let size = c.in-Sends.size in
     let count = c.put_image-count.result in
@@ -96,7 +96,8 @@ returns-after-count-from-clause-outcome c = λ kept possible due within.
     subst (λ (d : Decision). SendsWithin d image (length c.args.out.now)) c.in-Sends.is within in
     let sized : count ≡ min size (length image - place) =
     omega (arith, c.put_image-count.ensures.count, long, ideal, length-take size (drop place image), length-drop place image) in
-    let sent : take count (drop place (slot_of (mapped (record { unit = k.unit; sector = k.sector.size }) flash) v.active).data_bytes) ≡ part =
+    let sent : take count (drop place (slot_of (mapped (record { unit = k.unit; sector = k.sector.size }) flash) v.active).data_bytes)
+    ≡ part =
     ap (λ (x : MediumState). take count (drop place (slot_of x v.active).data_bytes)) same
     ∙ sym (front_of (slot_of s.medium v.active).data_bytes place v.len count (omega (arith, sized, long)))
     ∙ ap (λ (x : List ℕ). take count (drop place x)) (sym front) ∙ counted image place size count sized in
@@ -131,17 +132,8 @@ returns-in-Writes-clause-outcome c = λ kept possible due within.
     let w = device_in l flash in
     due_called l flash c.args.out.now (plan_of (profile w) (image_of s) (spare_of s) l.block c.args.body.now c.args.decision) c.args.asked
     (wanted c.args.asked) (lent c.start.new.self c.args.block.now c.start.new.held) c.start.new.out c.start.result
-    (λ sure. subst (λ (d : Decision). IsSure (plan_of (profile w) (image_of s) (spare_of s) l.block c.args.body.now d)) c.in-Writes.is sure)
+    (λ sure. elim c.in-Writes.is [
+      | inl e ↦ subst (λ (d : Decision). IsSure (plan_of (profile w) (image_of s) (spare_of s) l.block c.args.body.now d)) e.4 sure
+      | inr e ↦ subst (λ (d : Decision). IsSure (plan_of (profile w) (image_of s) (spare_of s) l.block c.args.body.now d)) e.3 sure
+    ])
     due (λ stage. c.start.ensures.outcome (wanted c.args.asked) kept.is stage)
-
-pub returns-in-Commits-clause-outcome : goal.returns-in-Commits-clause-outcome
-returns-in-Commits-clause-outcome c = λ kept possible due within.
-    let flash = c.args.medium.now.bytes.now in
-    let l = lent c.args.self.now c.args.block.now c.args.held.now in
-    let s = store_in l flash in
-    let w = device_in l flash in
-    let begun = c.start-in-Commits in
-    due_called l flash c.args.out.now (plan_of (profile w) (image_of s) (spare_of s) l.block c.args.body.now c.args.decision) c.args.asked
-    (wanted c.args.asked) (lent begun.new.self c.args.block.now begun.new.held) begun.new.out begun.result
-    (λ sure. subst (λ (d : Decision). IsSure (plan_of (profile w) (image_of s) (spare_of s) l.block c.args.body.now d)) c.in-Commits.is sure)
-    due (λ stage. begun.ensures.outcome (wanted c.args.asked) kept.is stage)

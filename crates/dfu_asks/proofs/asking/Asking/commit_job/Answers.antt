@@ -20,7 +20,7 @@ returns c = λ block is.
     let s = store_in l flash in
     let m = mapped (record { unit = c.args.medium.now.unit; sector = c.args.medium.now.sector.size }) flash in
     let same : m ≡ s.medium = λ i. mapped (record { unit = c.requires.unit i; sector = (c.requires.sector i).size }) flash in
-    let spare : c.args.view.spare ≡ spare_at (gate_of s.medium) s.medium.bytes =
+    let spare : c.args.view.now.spare ≡ spare_at (gate_of s.medium) s.medium.bytes =
     c.requires.view.spare ∙ noted_spare a.noted s.medium is.noted in
     let gen : (slice_index a.noted.header 0 + 1) % 256 ≡ next_generation (generation (active_slot s)) =
     ap (λ (h : List ℕ). (slice_index h 0 + 1) % 256) is.noted.header in

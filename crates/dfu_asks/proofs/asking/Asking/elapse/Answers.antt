@@ -49,7 +49,8 @@ returns-clause-outcome c = λ kept.
     subst (λ (z : Plan). IsSureOrDue z (profile w) w.stage None 0) (sym row) (time_due (profile w) w.stage c.args.ms) in (
       c.carry_out.new.out,
       subst (λ (f : List ℕ). Called l f zeros
-          (λ x sent d'. (x ≡ answer.Ack) × (sent ≡ []) × Elapses c.args.ms (device_in l f) d') now c.carry_out.new.out c.carry_out.result) same_flash
+          (λ x sent d'. (x ≡ answer.Ack) × (sent ≡ []) × Elapses c.args.ms (device_in l f) d') now c.carry_out.new.out c.carry_out.result)
+          same_flash
           (called_by l flash zeros (λ x sent d'. Done p 0 w x sent d')
           (λ x sent d'. (x ≡ answer.Ack) × (sent ≡ []) × Elapses c.args.ms w d') now c.carry_out.new.out c.carry_out.result
           (λ x sent d' done.

@@ -23,7 +23,7 @@ returns-then-not-has_puts-clause-kept c = λ block held room size kept.
     let m = mapped (record { unit = c.args.medium.now.unit; sector = c.args.medium.now.sector.size }) c.args.medium.now.bytes.now in
     let same : m ≡ s.medium =
     λ i. mapped (record { unit = c.requires.unit i; sector = (c.requires.sector i).size }) c.args.medium.now.bytes.now in
-    let spare : c.args.view.spare ≡ spare_at (gate_of m) m.bytes = c.requires.view.spare ∙ noted_spare a.noted s.medium kept.is.noted
+    let spare : c.args.view.now.spare ≡ spare_at (gate_of m) m.bytes = c.requires.view.spare ∙ noted_spare a.noted s.medium kept.is.noted
     ∙ sym (ap (λ (x : MediumState). spare_at (gate_of x) x.bytes) same) in
     let count : length l.held ≡ a.held_len = length-take-le a.held_len held (omega (arith, size, a.few)) in
     absurd (is_false c.has_puts.result c.if-not-has_puts.true ((c.has_puts.ensures.puts l.held count spare).1
@@ -37,7 +37,7 @@ returns-clause-kept c = λ block held room size kept.
     let m = mapped (record { unit = c.args.medium.now.unit; sector = c.args.medium.now.sector.size }) c.args.medium.now.bytes.now in
     let same : m ≡ s.medium =
     λ i. mapped (record { unit = c.requires.unit i; sector = (c.requires.sector i).size }) c.args.medium.now.bytes.now in
-    let there : c.args.view.spare ≡ spare_at (gate_of s.medium) s.medium.bytes =
+    let there : c.args.view.now.spare ≡ spare_at (gate_of s.medium) s.medium.bytes =
     c.requires.view.spare ∙ noted_spare a.noted s.medium kept.is.noted in
     let gate : c.is_open.result ≡ ((slot_of s.medium (spare_at (gate_of s.medium) s.medium.bytes)).gate == OPEN) =
     c.is_open.ensures ∙ (λ i. (slot_of (same i) (there i)).gate == OPEN) in

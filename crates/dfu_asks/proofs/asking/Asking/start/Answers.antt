@@ -1,4 +1,4 @@
-use Rattle.std.proofs.Common.{refl, sym}
+use Rattle.std.proofs.Common.{Some, refl, sym}
 use Rattle.dfu_slots.specs.Seen.{spare_of}
 use Rattle.dfu_asks.specs.declared.work.Work.{Work}
 use Rattle.dfu_asks.specs.Lent.{LentAsking, lent}
@@ -14,9 +14,12 @@ returns-clause-outcome c = λ len is due.
     let l = lent c.args.self.now c.args.block.now c.args.held.now in
     let s = store_in l flash in
     let job = c.begin_job-job.result in
-    let now : LentAsking = lent (record c.args.self.now { held_len = job.1; put_end = job.2; few = c.begin_job-job.ensures.few }) c.args.block.now
-    c.args.held.now in
     let work : Work = record { job = job.0; asked = c.args.asked; done = 0 } in
-    let working = begins now l.mode l.block s flash (spare_of s) l.block job.0 c.args.asked len refl refl refl is.store is.sound is.noted due
+    let now : LentAsking = lent
+    (record c.args.self.now { held_len = job.1; put_end = job.2; work = Some work; few = c.begin_job-job.ensures.few })
+    c.args.block.now c.args.held.now in
+    let working = begins now l.mode l.block s flash
+    (spare_of s) l.block job.0 c.args.asked len refl refl refl is.store is.sound is.noted due
     (c.begin_job-job.ensures.due c.args.block.now (spare_of s) l.block c.args.asked len is due) in
-    c.advance.ensures.outcome len s flash working (sym (carried_none (writes_in now work) flash)) (reached_none (steps_in now work))
+    c.advance.ensures.outcome work len s flash refl working
+    (sym (carried_none (writes_in now work) flash)) (reached_none (steps_in now work))

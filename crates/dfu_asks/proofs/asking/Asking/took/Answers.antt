@@ -1,45 +1,67 @@
-use Rattle.std.proofs.Common.{◌≡◌, ℕ, ◌+◌, ◌≤◌, length, slice_range, Some, refl, sym, ◌∙◌, ap, subst, arith}
-use Rattle.std.proofs.lemmas.Bool.{false≢true}
+use Rattle.std.proofs.Common.{◌≡◌, ◌&&◌, Bool, true, false, not, if◌then◌else◌, ℕ, ◌+◌, ◌≤◌, List, length, slice_range, Some, refl, sym, ◌∙◌, ap, subst, arith}
+use Rattle.dfu_slots.specs.declared.fault.WriteFault.{WriteFault}
 use Rattle.dfu_slots.specs.declared.fault.WriteFault.TheVariants.{Failed, NotVerified}
-use Rattle.dfu_asks.specs.Lent.{lent}
+use Rattle.dfu_slots.specs.Medium.{Write}
+use Rattle.dfu_slots.specs.Seen.{SlotsState}
+use Rattle.dfu_device.specs.declared.answer.Answer.{Answer}
+use Rattle.dfu_device.specs.Shown.{Shown}
+use Rattle.dfu_asks.specs.declared.reply.Reply.TheVariants as reply
+use Rattle.dfu_asks.specs.Lent.{LentAsking, lent}
+use Rattle.dfu_asks.specs.Due.{Fails}
 use Rattle.dfu_asks.specs.Steps.{Step}
 use Rattle.dfu_asks.specs.declared.work.Work.{Work}
 use Rattle.dfu_asks.specs.Carried.{total, carried, IsReached}
-use Rattle.dfu_asks.specs.Jobs.{asked, steps_for}
-use Rattle.dfu_asks.specs.Asks.{writes_in, steps_in, IsWorking}
-use Rattle.dfu_asks.specs.Calls.{took_well, took_failed, took_lied}
+use Rattle.dfu_asks.specs.Asks.{writes_in, steps_in, device_of, IsWorking}
+use Rattle.dfu_asks.specs.Calls.{HasEnded, Took, took_well, took_failed, took_lied}
 use Rattle.dfu_asks.proofs.Pieces.{reached_step}
-use Rattle.dfu_asks.proofs.Calling.{same_work, is_true, is_false, one_piece, none_left, taken_from, piece_failed, piece_stands}
+use Rattle.dfu_asks.proofs.Calling.{same_work, is_true, is_false, one_piece, taken_from, piece_failed, piece_stands}
 use Rattle.dfu_asks.proofs.asking.Asking.took.Goals as goal
 
-pub returns-then-failed-clause-outcome : goal.returns-then-failed-clause-outcome
-returns-then-failed-clause-outcome c = λ len s was before asks p piece torn.
-    let block = c.args.block.now in
-    let held = c.args.held.now in
-    let w = c.in-Some.work in
-    let same : asks.work ≡ w = same_work asks.work w (sym asks.work_is ∙ c.in-Some.is) in
-    took_failed c.fail-answer.result.0 c.fail-answer.result.1 c.if-failed.true refl
-    (piece_failed (lent c.args.self.now block held) len s was before asks p piece c.args.flash.now torn Failed
-    (lent c.fail-answer.new.self block held) w.asked
-    c.fail-answer.result.0 c.fail-answer.result.1 c.args.out.now c.fail-answer.new.out (ap (λ (x : Work). x.asked) same)
-    (c.fail-answer.ensures.broken block held) (c.fail-answer.ensures.notes block held) c.fail-answer.ensures.gives)
+-- A piece that did not go well, and did not fail, does not stand.
+not_there : (failed stands : Bool) → not failed && stands ≡ false → failed ≡ false → stands ≡ false
+not_there true stands e works = cc
+not_there false stands e works = e
 
-pub returns-then-not-stands-clause-outcome : goal.returns-then-not-stands-clause-outcome
-returns-then-not-stands-clause-outcome c = λ len s was before asks p piece torn.
+-- A piece that went well did not fail.
+works : (failed stands : Bool) → not failed && stands ≡ true → failed ≡ false
+works true stands e = cc
+works false stands e = refl
+
+-- And it stands.
+on_flash : (failed stands : Bool) → not failed && stands ≡ true → stands ≡ true
+on_flash true stands e = cc
+on_flash false stands e = e
+
+-- The row ends with the fault of a piece that failed, or that does not stand.
+took_badly : (d : Shown) (len : ℕ) (s : SlotsState) (was : List ℕ) (p : Write) (failed : Bool) (flash out : List ℕ) (now : LentAsking)
+    (out' : List ℕ) (x : Answer) (count : ℕ) (fault : WriteFault) → fault ≡ (if failed then Failed else NotVerified)
+    → (failed ≡ false → ¬ (slice_range flash p.at (p.at + length p.bytes) ≡ p.bytes))
+    → HasEnded flash x count out out' now (λ y sent w'. Fails fault len d y sent w')
+    → Took d len s was p failed flash out now out' (reply.Answered x count)
+took_badly d len s was p true flash out now out' x count fault is other ended =
+    took_failed x count refl refl
+    (subst (λ (f : WriteFault). HasEnded flash x count out out' now (λ y sent w'. Fails f len d y sent w')) is ended)
+took_badly d len s was p false flash out now out' x count fault is other ended =
+    took_lied x count refl (other refl) refl
+    (subst (λ (f : WriteFault). HasEnded flash x count out out' now (λ y sent w'. Fails f len d y sent w')) is ended)
+
+pub returns-then-not-went_well-clause-outcome : goal.returns-then-not-went_well-clause-outcome
+returns-then-not-went_well-clause-outcome c = λ len s was before asks p piece torn.
     let a = lent c.args.self.now c.args.block.now c.args.held.now in
     let w = c.in-Some.work in
+    let nx = c.look_at-len.ensures.next (omega (arith, c.if-len-eq0.false)) in
     let same : asks.work ≡ w = same_work asks.work w (sym asks.work_is ∙ c.in-Some.is) in
-    let q = asked c.in-Some-next_piece.piece c.next_piece.new.out in
-    let one : p ≡ q = one_piece a w asks.work (steps_for w.job c.stock-stock.result) p q same
-    (c.stock-stock.ensures.steps w) piece c.in-Some-next_piece.ensures.some in
-    let fail = c.fail-answer-then-not-stands in
-    took_lied fail.result.0 fail.result.1 c.if-failed.false
-    (λ st. is_false c.stands.result c.if-not-stands.true
-    (c.stands.ensures.stands.1
+    let q = nx.piece in
+    let one : p ≡ q = one_piece a w asks.work (steps_in a w) p q same refl piece nx.is in
+    let fail = c.fail-answer in
+    let now = lent fail.new.self c.args.block.now c.args.held.now in
+    took_badly (device_of a s) len s was p.write c.args.failed c.args.flash.now c.args.out.now now fail.new.out
+    fail.result.0 fail.result.1 c.fault_of.result c.fault_of.ensures
+    (λ works st. is_false c.look_at-len.result.1
+    (not_there c.args.failed c.look_at-len.result.1 (sym c.went_well.ensures ∙ c.if-not-went_well.true) works)
+    (nx.there.1
     (subst (λ (y : Step). slice_range c.args.flash.now y.write.at (y.write.at + length y.write.bytes) ≡ y.write.bytes) one st)))
-    refl
-    (piece_failed a len s was before asks p piece c.args.flash.now torn NotVerified
-    (lent fail.new.self c.args.block.now c.args.held.now) w.asked
+    (piece_failed a len s was before asks p piece c.args.flash.now torn c.fault_of.result now w.asked
     fail.result.0 fail.result.1 c.args.out.now fail.new.out (ap (λ (x : Work). x.asked) same)
     (fail.ensures.broken c.args.block.now c.args.held.now) (fail.ensures.notes c.args.block.now c.args.held.now) fail.ensures.gives)
 
@@ -48,61 +70,55 @@ returns-clause-outcome c = λ len s was before asks p piece torn.
     let a = lent c.args.self.now c.args.block.now c.args.held.now in
     let flash = c.args.flash.now in
     let w = c.in-Some.work in
-    let n = c.in-Some-next_piece.piece.len in
+    let nx = c.look_at-len.ensures.next (omega (arith, c.if-len-eq0.false)) in
+    let n = c.look_at-len.result.0 in
     let same : asks.work ≡ w = same_work asks.work w (sym asks.work_is ∙ c.in-Some.is) in
-    let q = asked c.in-Some-next_piece.piece c.next_piece.new.out in
-    let one : p ≡ q = one_piece a w asks.work (steps_for w.job c.stock-stock.result) p q same
-    (c.stock-stock.ensures.steps w) piece c.in-Some-next_piece.ensures.some in
-    let on = is_true c.stands.result c.if-not-stands.false in
+    let q = nx.piece in
+    let one : p ≡ q = one_piece a w asks.work (steps_in a w) p q same
+    refl piece nx.is in
+    let on = is_true c.look_at-len.result.1
+    (on_flash c.args.failed c.look_at-len.result.1 (sym c.went_well.ensures ∙ c.if-not-went_well.false)) in
     let there : slice_range flash p.write.at (p.write.at + length p.write.bytes) ≡ p.write.bytes =
     subst (λ (y : Step). slice_range flash y.write.at (y.write.at + length y.write.bytes) ≡ y.write.bytes) (sym one)
-    (c.stands.ensures.stands.0 on) in
-    let size : length p.write.bytes ≡ n = ap (λ (y : Step). length y.write.bytes) one ∙ c.in-Some-next_piece.ensures.fits.count in
+    (nx.there.0 on) in
+    let size : length p.write.bytes ≡ n = ap (λ (y : Step). length y.write.bytes) one ∙ nx.size in
     let fits : p.write.at + length p.write.bytes ≤ length flash =
-    omega (arith, c.stands.ensures.within on, ap (λ (y : Step). y.write.at) one, size) in
+    omega (arith, nx.within on, ap (λ (y : Step). y.write.at) one, size) in
     let k : IsWorking a w len s was = subst (λ (x : Work). IsWorking a x len s was) same asks.working in
     let further : Work = record { job = w.job; asked = w.asked; done = w.done + n } in
     let stood : flash ≡ carried was (writes_in a w) (w.done + length p.write.bytes) =
     subst (λ (x : Work). flash ≡ carried was (writes_in a x) (x.done + length p.write.bytes)) same
     (piece_stands a len s was before asks p piece flash torn fits there) in
-    took_well c.if-failed.false there
-    (c.advance.ensures.outcome len s was
+    took_well (works c.args.failed c.look_at-len.result.1 (sym c.went_well.ensures ∙ c.if-not-went_well.false)) there
+    (c.advance.ensures.outcome further len s was refl
     (record { medium = k.medium; store = k.store; sound = k.sound; due = k.due; noted = k.noted })
     (stood ∙ ap (λ (m : ℕ). carried was (writes_in a w) (w.done + m)) size)
     (subst (λ (m : ℕ). IsReached (steps_in a w) (w.done + m)) size
     (subst (λ (x : Work). IsReached (steps_in a x) (x.done + length p.write.bytes)) same
     (reached_step (steps_in a asks.work) asks.work.done p asks.reached piece))))
 
-pub returns-then-failed-clause-taken : goal.returns-then-failed-clause-taken
-returns-then-failed-clause-taken c =
+pub returns-then-not-went_well-clause-taken : goal.returns-then-not-went_well-clause-taken
+returns-then-not-went_well-clause-taken c =
     let w = c.in-Some.work in
+    let nx = c.look_at-len.ensures.next (omega (arith, c.if-len-eq0.false)) in
     taken_from (lent c.args.self.now c.args.block.now c.args.held.now) w
-    (steps_for w.job c.stock-stock.result) (asked c.in-Some-next_piece.piece c.next_piece.new.out) (length c.args.out.now)
+    (steps_in (lent c.args.self.now c.args.block.now c.args.held.now) w) (nx.piece) (length c.args.out.now)
     (omega (arith, c.if-out-lt6.false)) c.in-Some.is
-    (c.stock-stock.ensures.steps w) c.in-Some-next_piece.ensures.some
+    refl nx.is
 
-pub returns-then-not-stands-clause-taken : goal.returns-then-not-stands-clause-taken
-returns-then-not-stands-clause-taken c =
-    let w = c.in-Some.work in
-    taken_from (lent c.args.self.now c.args.block.now c.args.held.now) w
-    (steps_for w.job c.stock-stock.result) (asked c.in-Some-next_piece.piece c.next_piece.new.out) (length c.args.out.now)
-    (omega (arith, c.if-out-lt6.false)) c.in-Some.is
-    (c.stock-stock.ensures.steps w) c.in-Some-next_piece.ensures.some
-
-pub returns-then-failed-clause-on : goal.returns-then-failed-clause-on
-returns-then-failed-clause-on c = λ w p is piece. (λ asks. cc, λ on. absurd (false≢true (sym on.well ∙ c.if-failed.true)))
-
-pub returns-then-not-stands-clause-on : goal.returns-then-not-stands-clause-on
-returns-then-not-stands-clause-on c = λ w p is piece.
+pub returns-then-not-went_well-clause-on : goal.returns-then-not-went_well-clause-on
+returns-then-not-went_well-clause-on c = λ w p is piece.
     let a = lent c.args.self.now c.args.block.now c.args.held.now in
     let v = c.in-Some.work in
-    let one : p ≡ asked c.in-Some-next_piece.piece c.next_piece.new.out =
-    one_piece a v w (steps_for v.job c.stock-stock.result) p (asked c.in-Some-next_piece.piece c.next_piece.new.out)
+    let nx = c.look_at-len.ensures.next (omega (arith, c.if-len-eq0.false)) in
+    let one : p ≡ nx.piece =
+    one_piece a v w (steps_in a v) p (nx.piece)
     (same_work w v (sym is ∙ c.in-Some.is))
-    (c.stock-stock.ensures.steps v) piece c.in-Some-next_piece.ensures.some in (
+    refl piece nx.is in (
       λ asks. cc,
-      λ on. absurd (is_false c.stands.result c.if-not-stands.true
-          (c.stands.ensures.stands.1
+      λ on. absurd (is_false c.look_at-len.result.1
+          (not_there c.args.failed c.look_at-len.result.1 (sym c.went_well.ensures ∙ c.if-not-went_well.true) on.well)
+          (nx.there.1
           (subst (λ (y : Step). slice_range c.args.flash.now y.write.at (y.write.at + length y.write.bytes) ≡ y.write.bytes)
           one on.stands))),
     )
@@ -111,41 +127,45 @@ pub returns-clause-on : goal.returns-clause-on
 returns-clause-on c = λ w p is piece.
     let a = lent c.args.self.now c.args.block.now c.args.held.now in
     let v = c.in-Some.work in
+    let nx = c.look_at-len.ensures.next (omega (arith, c.if-len-eq0.false)) in
     let same = same_work w v (sym is ∙ c.in-Some.is) in
-    let one : p ≡ asked c.in-Some-next_piece.piece c.next_piece.new.out =
-    one_piece a v w (steps_for v.job c.stock-stock.result) p (asked c.in-Some-next_piece.piece c.next_piece.new.out) same
-    (c.stock-stock.ensures.steps v) piece c.in-Some-next_piece.ensures.some in
-    let size : length p.write.bytes ≡ c.in-Some-next_piece.piece.len =
-    ap (λ (y : Step). length y.write.bytes) one ∙ c.in-Some-next_piece.ensures.fits.count in
+    let one : p ≡ nx.piece =
+    one_piece a v w (steps_in a v) p (nx.piece) same
+    refl piece nx.is in
+    let size : length p.write.bytes ≡ c.look_at-len.result.0 =
+    ap (λ (y : Step). length y.write.bytes) one ∙ nx.size in
+    let further : Work = record { job = v.job; asked = v.asked; done = v.done + c.look_at-len.result.0 } in
     let all : total (writes_in a w) ≡ total (writes_in a v) = ap (λ (x : Work). total (writes_in a x)) same in
     let done : w.done ≡ v.done = ap (λ (x : Work). x.done) same in (
       λ asks. record {
-        well = c.if-failed.false;
+        well = (works c.args.failed c.look_at-len.result.1 (sym c.went_well.ensures ∙ c.if-not-went_well.false));
         stands = subst (λ (y : Step). slice_range c.args.flash.now y.write.at (y.write.at + length y.write.bytes) ≡ y.write.bytes) (sym one)
-            (c.stands.ensures.stands.0 (is_true c.stands.result c.if-not-stands.false));
-        more = omega (arith, c.advance.ensures.more.0 asks, size, all, done);
+            (nx.there.0 (is_true c.look_at-len.result.1
+            (on_flash c.args.failed c.look_at-len.result.1 (sym c.went_well.ensures ∙ c.if-not-went_well.false))));
+        more = omega (arith, (c.advance.ensures.more further refl).0 asks, size, all, done);
       },
-      λ on. c.advance.ensures.more.1 (omega (arith, on.more, size, all, done)),
+      λ on. (c.advance.ensures.more further refl).1 (omega (arith, on.more, size, all, done)),
     )
 
 pub returns-clause-further : goal.returns-clause-further
 returns-clause-further c = λ asks w p is piece.
     let a = lent c.args.self.now c.args.block.now c.args.held.now in
     let v = c.in-Some.work in
+    let nx = c.look_at-len.ensures.next (omega (arith, c.if-len-eq0.false)) in
     let same = same_work w v (sym is ∙ c.in-Some.is) in
-    let one : p ≡ asked c.in-Some-next_piece.piece c.next_piece.new.out =
-    one_piece a v w (steps_for v.job c.stock-stock.result) p (asked c.in-Some-next_piece.piece c.next_piece.new.out) same
-    (c.stock-stock.ensures.steps v) piece c.in-Some-next_piece.ensures.some in
-    let size : length p.write.bytes ≡ c.in-Some-next_piece.piece.len =
-    ap (λ (y : Step). length y.write.bytes) one ∙ c.in-Some-next_piece.ensures.fits.count in
+    let one : p ≡ nx.piece =
+    one_piece a v w (steps_in a v) p (nx.piece) same
+    refl piece nx.is in
+    let size : length p.write.bytes ≡ c.look_at-len.result.0 =
+    ap (λ (y : Step). length y.write.bytes) one ∙ nx.size in
     c.advance.ensures.kept asks
     ∙ (λ i. Some (record { job = (sym same i).job; asked = (sym same i).asked; done = (sym same i).done + sym size i }))
 
-pub returns-in_default-next_piece-clause-refused : goal.returns-in_default-next_piece-clause-refused
-returns-in_default-next_piece-clause-refused c =
+pub returns-then-len-eq0-clause-refused : goal.returns-then-len-eq0-clause-refused
+returns-then-len-eq0-clause-refused c =
     let a = lent c.args.self.now c.args.block.now c.args.held.now in
     let v = c.in-Some.work in
-    let le = none_left a v (steps_for v.job c.stock-stock.result) (c.stock-stock.ensures.steps v) c.in_default-next_piece.ensures.none in (
+    let le = c.look_at-len.ensures.none c.if-len-eq0.true in (
       omega (arith, c.if-out-lt6.false),
       λ w left.
           let same : w ≡ v = same_work w v (sym left.work_is ∙ c.in-Some.is) in
@@ -155,6 +175,7 @@ returns-in_default-next_piece-clause-refused c =
 pub returns-clause-taken : goal.returns-clause-taken
 returns-clause-taken c =
     let w = c.in-Some.work in
+    let nx = c.look_at-len.ensures.next (omega (arith, c.if-len-eq0.false)) in
     taken_from (lent c.args.self.now c.args.block.now c.args.held.now) w
-    (steps_for w.job c.stock-stock.result) (asked c.in-Some-next_piece.piece c.next_piece.new.out) (length c.args.out.now)
-    (omega (arith, c.if-out-lt6.false)) c.in-Some.is (c.stock-stock.ensures.steps w) c.in-Some-next_piece.ensures.some
+    (steps_in (lent c.args.self.now c.args.block.now c.args.held.now) w) (nx.piece) (length c.args.out.now)
+    (omega (arith, c.if-out-lt6.false)) c.in-Some.is refl nx.is

@@ -2,11 +2,13 @@ use Rattle.std.proofs.Common.{◌≡◌, ℕ, ◌+◌, ◌≤◌, length, slice_
 use Rattle.dfu_slots.specs.declared.fault.WriteFault.TheVariants.{Failed, NotVerified}
 use Rattle.dfu_asks.specs.Steps.{Step, step_writes}
 use Rattle.dfu_asks.specs.Carried.{total, IsPiece}
-use Rattle.dfu_asks.specs.Jobs.{asked}
+use Rattle.dfu_asks.specs.declared.piece.Stock.{Stock}
+use Rattle.dfu_asks.specs.Cuts.{step_of}
 use Rattle.dfu_asks.specs.Phases.{steps_left, part_left}
 use Rattle.dfu_asks.specs.Formats.{format_well, format_failed, format_lied}
 use Rattle.dfu_asks.proofs.Pieces.{piece_one, piece_end}
-use Rattle.dfu_asks.proofs.Calling.{is_true, is_false}
+use Rattle.dfu_asks.proofs.Calling.{is_true, is_false, is_off}
+use Rattle.dfu_asks.proofs.Cutting.{step_size, part_found, part_none}
 use Rattle.dfu_asks.proofs.FormatGoing.{in_left, way_size, way_small, way_broken, way_further}
 use Rattle.dfu_asks.proofs.formatting.Formatting.took.Goals as goal
 
@@ -20,10 +22,14 @@ returns-then-not-stands-clause-outcome c = λ was before asks p piece torn.
     let f = c.args.self.now in
     let image = c.args.image.now in
     let flash = c.args.flash.now in
-    let q = asked c.in-Some.piece c.due.new.out in
+    let yes = is_true c.due.result c.if-not-due.false in
+    let block = ap (λ (s : Stock). s.block.now) c.cut_at-cut.ensures.stock ∙ c.stock_for.ensures.block in
+    let found = part_found c.args.self.now (length c.args.flash.now) c.args.self.now.done c.args.image.now c.cut_at-cut.result block
+    c.cut_at-cut.ensures.rest (step_of c.due.new.cut) (c.due.ensures.found yes) in
+    let q = step_of c.due.new.cut in
     let size : length flash ≡ length was = torn.size ∙ way_size f image was before asks.way in
     let part : IsPiece (part_left f (length was) image) f.done q =
-    subst (λ (n : ℕ). IsPiece (part_left f n image) f.done q) size c.in-Some.ensures.some in
+    subst (λ (n : ℕ). IsPiece (part_left f n image) f.done q) size found in
     let one : p ≡ q = piece_one (steps_left f (length was) image) f.done p q piece (in_left f (length was) image f.done q part) in
     format_lied c.if-failed.false
     (λ st. is_false c.stands.result c.if-not-stands.true
@@ -36,33 +42,41 @@ returns-clause-outcome c = λ was before asks p piece torn.
     let f = c.args.self.now in
     let image = c.args.image.now in
     let flash = c.args.flash.now in
-    let q = asked c.in-Some.piece c.due.new.out in
-    let n = c.in-Some.piece.len in
+    let yes = is_true c.due.result c.if-not-due.false in
+    let block = ap (λ (s : Stock). s.block.now) c.cut_at-cut.ensures.stock ∙ c.stock_for.ensures.block in
+    let found = part_found c.args.self.now (length c.args.flash.now) c.args.self.now.done c.args.image.now c.cut_at-cut.result block
+    c.cut_at-cut.ensures.rest (step_of c.due.new.cut) (c.due.ensures.found yes) in
+    let q = step_of c.due.new.cut in
+    let n = c.due.new.cut.piece.len in
     let size : length flash ≡ length was = torn.size ∙ way_size f image was before asks.way in
     let part : IsPiece (part_left f (length was) image) f.done q =
-    subst (λ (n : ℕ). IsPiece (part_left f n image) f.done q) size c.in-Some.ensures.some in
+    subst (λ (n : ℕ). IsPiece (part_left f n image) f.done q) size found in
     let one : p ≡ q = piece_one (steps_left f (length was) image) f.done p q piece (in_left f (length was) image f.done q part) in
     let on = is_true c.stands.result c.if-not-stands.false in
     let there : slice_range flash p.write.at (p.write.at + length p.write.bytes) ≡ p.write.bytes =
     subst (λ (y : Step). slice_range flash y.write.at (y.write.at + length y.write.bytes) ≡ y.write.bytes) (sym one)
     (c.stands.ensures.stands.0 on) in
-    let count : length p.write.bytes ≡ n = ap (λ (y : Step). length y.write.bytes) one ∙ c.in-Some.ensures.fits.count in
+    let count : length p.write.bytes ≡ n = ap (λ (y : Step). length y.write.bytes) one
+    ∙ (step_size _ c.due.new.cut (c.due.ensures.is yes)) in
     let fits : p.write.at + length p.write.bytes ≤ length flash =
     omega (arith, c.stands.ensures.within on, ap (λ (y : Step). y.write.at) one, count) in
     format_well c.advance.result c.if-failed.false there
     (c.advance.ensures.outcome was flash (sym size)
     (way_further f image was before asks.way p piece flash torn fits there (f.done + n) (omega (arith, count)))
-    (omega (arith, piece_end (part_left f (length was) image) f.done q part, c.in-Some.ensures.fits.count)))
+    (omega (arith, piece_end (part_left f (length was) image) f.done q part, (step_size _ c.due.new.cut (c.due.ensures.is yes)))))
 
-pub returns-in_default-clause-taken : goal.returns-in_default-clause-taken
-returns-in_default-clause-taken c = λ was before same asks.
+pub returns-then-not-due-clause-taken : goal.returns-then-not-due-clause-taken
+returns-then-not-due-clause-taken c = λ was before same asks.
     let f = c.args.self.now in
     let image = c.args.image.now in
     let small = way_small f image was before asks.way in
     let size : length c.args.flash.now ≡ length was = sym same ∙ way_size f image was before asks.way in
+    let block = ap (λ (s : Stock). s.block.now) c.cut_at-cut.ensures.stock ∙ c.stock_for.ensures.block in
     omega (
       arith,
       asks.left,
       ap (λ (n : ℕ). total (step_writes (part_left f n image))) size,
-      c.in_default.ensures.none (omega (arith, small.0, same)) small.1,
+      (part_none c.args.self.now (length c.args.flash.now) c.args.self.now.done c.args.image.now c.cut_at-cut.result block
+          c.cut_at-cut.ensures.rest (c.due.ensures.none (is_off c.due.result c.if-not-due.true) (omega (arith, small.0, same))
+          (omega (arith, ap length block, small.1)))),
     )

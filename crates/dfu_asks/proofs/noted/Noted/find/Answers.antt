@@ -10,7 +10,8 @@ pub returns-in-Ok-clause-some : goal.returns-in-Ok-clause-some
 returns-in-Ok-clause-some c =
     let k = c.in_ok-medium.medium in
     let m = mapped (record { unit = k.unit; sector = k.sector.size }) k.bytes.now in
-    subst (λ (x : MediumState). IsNoted (record { second = not (c.in-Ok.places.active == 0); header = c.header_of.result }) x) c.in_ok-medium.ensures.some (record {
+    subst (λ (x : MediumState). IsNoted (record { second = not (c.in-Ok.places.active == 0); header = c.header_of.result }) x)
+    c.in_ok-medium.ensures.some (record {
       place = noted_place (gate_of m) m.bytes c.in-Ok.places.active c.in-Ok.ensures.active;
       header = c.header_of.ensures ∙ ap (λ (at : ℕ). (slot_of m at).header) c.in-Ok.ensures.active;
     })
