@@ -1,0 +1,14 @@
+mod Pieces
+mod Broken
+mod Within
+mod Cut
+mod Closing
+mod Installs
+mod Due
+mod Turns
+mod Called
+mod Works
+mod Each
+mod Runs
+mod Boards
+mod Served

@@ -1,0 +1,61 @@
+-- A board: a device that asks for its writes, with the memory that its program lends it and with its flash.
+use Rattle.std.specs.Prelude.{ℕ, Bool, List, []}
+use Rattle.dfu_wire.specs.declared.states.State.{State}
+use Rattle.dfu_slots.specs.Medium.{MediumState}
+use Rattle.dfu_device.specs.declared.answer.Answer.{Answer}
+use Rattle.dfu_device.specs.Shown.{Shown}
+use Rattle.dfu_device.specs.Stage.{state_of}
+use Rattle.dfu_device.specs.Parts.{stage_of}
+use Rattle.dfu_asks.specs.declared.asking.Asking.{Asking}
+use Rattle.dfu_asks.specs.Lent.{LentAsking, lent}
+use Rattle.dfu_asks.specs.Mapped.{mapped}
+use Rattle.dfu_asks.specs.Asks.{grain_in, device_in}
+
+-- A board: what is kept of the device, the bytes in its two memories, and those of its flash.
+pub record Board : Type 0 where
+  pub asking : Asking
+  pub block : List ℕ
+  pub held : List ℕ
+  pub flash : List ℕ
+
+-- The device with what is in its memories.
+abbrev pub lent_on : Board → LentAsking
+lent_on b = lent b.asking b.block b.held
+
+-- Its flash as a medium, of which any write may fail.
+abbrev pub medium_on : Board → MediumState
+medium_on b = mapped (grain_in (lent_on b)) b.flash
+
+-- The device of the device table that it is, if no writes are due.
+abbrev pub device_on : Board → Shown
+device_on b = device_in (lent_on b) b.flash
+
+-- Its state of the standard, as `Asking::state` tells it.
+abbrev pub state_on : Board → State
+state_on b = state_of (stage_of b.asking.mode [] [])
+
+-- What may happen to a board.
+pub data Event : Type 0 where
+  -- The calls `handle`, `elapse` and `usb_reset`.
+  Handle : (setup body : List ℕ) → Event
+  Elapse : (ms : ℕ) → Event
+  UsbReset : Event
+  -- The flash changes in the range of the piece that `next` hands out.
+  Write : Event
+  -- The call `took`.
+  Report : (failed : Bool) → Event
+  -- The power goes, and comes back: `power_on`.
+  Restart : Event
+
+-- What is said then: nothing, as by a call that is refused; that writes are due; or an answer with its bytes.
+pub data Says : Type 0 where
+  Nothing : Says
+  WritesDue : Says
+  Answers : (a : Answer) (out : List ℕ) → Says
+
+-- A step of a board.
+pub record BoardStep : Type 0 where
+  pub before : Board
+  pub event : Event
+  pub says : Says
+  pub after : Board

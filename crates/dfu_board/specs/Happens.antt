@@ -1,0 +1,96 @@
+-- What may come of a step of a board: what the clauses of a call say, and what may become of its flash.
+use Rattle.std.specs.Prelude.{◌≡◌, ℕ, Bool, List, [], ◌∷◌, length, take, Some, None}
+use Rattle.dfu_slots.specs.Medium.{Torn}
+use Rattle.dfu_slots.specs.Seen.{SlotsState}
+use Rattle.dfu_device.specs.declared.answer.Answer.TheVariants as answer
+use Rattle.dfu_device.specs.Table.{reset_stage}
+use Rattle.dfu_device.specs.Shown.{powered_on}
+use Rattle.dfu_device.specs.Rows.{Cause, Transfer, Passing, Row}
+use Rattle.dfu_asks.specs.declared.reply.Reply.{Reply}
+use Rattle.dfu_asks.specs.declared.reply.Reply.TheVariants as reply
+use Rattle.dfu_asks.specs.declared.work.Work.{Work}
+use Rattle.dfu_asks.specs.Lent.{IsSetUpAs}
+use Rattle.dfu_asks.specs.Steps.{Step}
+use Rattle.dfu_asks.specs.Carried.{IsPiece}
+use Rattle.dfu_asks.specs.Asks.{device_of, IsDevice, steps_in}
+use Rattle.dfu_asks.specs.Calls.{Asks, Called, Took}
+use Rattle.dfu_asks.specs.Refused.{Fits, IsKept, IsLeft}
+use Rattle.dfu_board.specs.Board.{Board, lent_on, medium_on, device_on, Event, Handle, Elapse, UsbReset, Write, Report, Restart, Says, Nothing, WritesDue, Answers, BoardStep}
+
+-- What a reply says, with these bytes in the buffer of the call.
+abbrev pub said_by : Reply → List ℕ → Says
+said_by reply.Asks out = WritesDue
+said_by (reply.Answered a count) out = Answers a (take count out)
+
+-- A call of `handle` or `elapse` that is not refused, by the clauses `served` and `outcome`: the row of its cause answers it, or its
+-- writes are due.
+pub record IsServedBy (b : Board) (cause : Cause) (says : Says) (b' : Board) : Type 0 where
+  pub idle : b.asking.work ≡ None
+  pub fits : Fits b.asking (length b.block)
+  pub flash : b'.flash ≡ b.flash
+  pub reply : Reply
+  pub outcome : IsKept b.asking b.block b.held b.flash → (out out' : List ℕ)
+      × Called (lent_on b) b.flash out (λ x sent d'. Row (device_on b) cause x sent d') (lent_on b') out' reply
+      × (says ≡ said_by reply out')
+
+-- A call of `usb_reset` that is not refused, by its clauses `served`, `row`, `is` and `work`.
+pub record IsReset (b : Board) (says : Says) (b' : Board) : Type 0 where
+  pub idle : b.asking.work ≡ None
+  pub fits : Fits b.asking (length b.block)
+  pub flash : b'.flash ≡ b.flash
+  pub row : device_on b' ≡ record (device_on b) { stage = reset_stage (device_on b).stage }
+  pub is : IsKept b.asking b.block b.held b.flash → IsKept b'.asking b'.block b'.held b'.flash
+  pub work : b'.asking.work ≡ None
+  pub says_is : says ≡ Answers answer.Ack []
+
+-- `next` hands out this piece, by its clauses `due` and `piece`.
+abbrev pub IsHanded : Board → Step → Type 0
+IsHanded b p = (w : Work) × (b.asking.work ≡ Some w) × IsPiece (steps_in (lent_on b) w) w.done p
+
+-- The flash changes in the range of that piece, and nowhere else. Any bytes may stand there then: the piece may be carried out, whole
+-- or in part, or fail, or lie.
+pub record IsWritten (b : Board) (b' : Board) : Type 0 where
+  pub piece : Step
+  pub handed : IsHanded b piece
+  pub torn : Torn b.flash piece.write.at piece.write.bytes b'.flash
+  pub asking : b'.asking ≡ b.asking
+  pub block : b'.block ≡ b.block
+  pub held : b'.held ≡ b.held
+
+-- A call of `took` that is not refused, by its clauses `taken` and `outcome`.
+pub record IsTold (b : Board) (failed : Bool) (says : Says) (b' : Board) : Type 0 where
+  pub work : Work
+  pub left : IsLeft (lent_on b) work
+  pub flash : b'.flash ≡ b.flash
+  pub reply : Reply
+  pub out : List ℕ
+  pub out' : List ℕ
+  pub outcome : (len : ℕ) (s : SlotsState) (was before : List ℕ) (asks : Asks (lent_on b) len s was before) (p : Step)
+      → IsPiece (steps_in (lent_on b) asks.work) asks.work.done p → Torn before p.write.at p.write.bytes b.flash
+      → Took (device_of (lent_on b) s) len s was p.write failed b.flash out (lent_on b') out' reply
+  pub says_is : says ≡ said_by reply out'
+
+-- It just got power, by the clauses `device`, `is` and `work` of `power_on`.
+pub record IsOn (b : Board) : Type 0 where
+  pub device : device_on b ≡ powered_on b.asking.config (medium_on b)
+  pub is : IsDevice (lent_on b) b.flash
+  pub work : b.asking.work ≡ None
+
+-- Nothing is said and nothing changes, as if a call is refused; or else this.
+abbrev pub IsRefusedOr : Says → Board → Board → Type 0 → Type 0
+IsRefusedOr Nothing b b' P = b' ≡ b
+IsRefusedOr says b b' P = P
+
+-- What comes of an event. If the power goes, the flash stays as it stands.
+abbrev pub Happens : Board → Event → Says → Board → Type 0
+Happens b (Handle setup body) says b' = IsRefusedOr says b b' (IsServedBy b (Transfer setup body) says b')
+Happens b (Elapse ms) says b' = IsRefusedOr says b b' (IsServedBy b (Passing ms) says b')
+Happens b UsbReset says b' = IsRefusedOr says b b' (IsReset b says b')
+Happens b Write says b' = (says ≡ Nothing) × IsWritten b b'
+Happens b (Report failed) says b' = IsRefusedOr says b b' (IsTold b failed says b')
+Happens b Restart says b' = (says ≡ Nothing) × (b'.flash ≡ b.flash) × IsOn b'
+
+-- These steps come to a board, each beginning where the one before ended, and each leaves it set up as it was.
+abbrev pub IsRun : Board → List BoardStep → Board → Type 0
+IsRun b [] b' = b' ≡ b
+IsRun b (s ∷ rest) b' = (s.before ≡ b) × Happens b s.event s.says s.after × IsSetUpAs b.asking s.after.asking × IsRun s.after rest b'

@@ -1,0 +1,104 @@
+-- The steps of a board are a history of the device table.
+use Rattle.std.specs.Prelude.{◌≡◌, ◌⊎◌, ℕ, List, [], ◌∷◌, ◌++◌, Option, Some, None}
+use Rattle.dfu_slots.specs.Medium.{Torn}
+use Rattle.dfu_slots.specs.Image.{Active}
+use Rattle.dfu_slots.specs.Seen.{SlotsState, image_of}
+use Rattle.dfu_device.specs.declared.answer.Answer.{Answer}
+use Rattle.dfu_device.specs.declared.answer.Answer.TheVariants as answer
+use Rattle.dfu_device.specs.Stage.{state_of}
+use Rattle.dfu_device.specs.Shown.{Shown, situation}
+use Rattle.dfu_device.specs.Rows.{Cause, Transfer, Passing, BusReset, PowerOn, Row}
+use Rattle.dfu_device.specs.History.{IsHistory}
+use Rattle.dfu_device.specs.History.{Step as TableRow}
+use Rattle.dfu_device.specs.Taken.{taken_of}
+use Rattle.dfu_asks.specs.Steps.{Step}
+use Rattle.dfu_asks.specs.Carried.{IsPiece}
+use Rattle.dfu_asks.specs.Due.{IsDueRow}
+use Rattle.dfu_asks.specs.Asks.{device_of, IsDevice, steps_in}
+use Rattle.dfu_asks.specs.Calls.{Asks}
+use Rattle.dfu_board.specs.Board.{Board, lent_on, medium_on, device_on, state_on, Event, Handle, Elapse, UsbReset, Write, Report, Restart, Says, Nothing, WritesDue, Answers, BoardStep}
+use Rattle.dfu_board.specs.Happens.{IsOn, IsRun}
+
+-- There is one row, of this cause, with this answer.
+pub record IsOne (cause : Cause) (a : Answer) (out : List ℕ) (rows : List TableRow) : Type 0 where
+  pub row : TableRow
+  pub rows_are : rows ≡ row ∷ []
+  pub cause_is : row.cause ≡ cause
+  pub answer_is : row.answer ≡ a
+  pub out_is : row.out ≡ out
+
+-- There are two rows: one of this cause, whose answer nobody saw, and that of the power that came back.
+pub record IsCut (cause : Cause) (rows : List TableRow) : Type 0 where
+  pub row : TableRow
+  pub power : TableRow
+  pub rows_are : rows ≡ row ∷ power ∷ []
+  pub cause_is : row.cause ≡ cause
+  pub power_is : power.cause ≡ PowerOn
+
+-- The rows of a call for this cause, and what is due after it: none if it is refused; none yet if writes are due, and then its own row
+-- is due; its own row if it answers.
+abbrev pub TellsCall : Cause → Option Cause → Says → List TableRow → Option Cause → Type 0
+TellsCall cause due Nothing rows due' = (rows ≡ []) × (due' ≡ due)
+TellsCall cause due WritesDue rows due' = (rows ≡ []) × (due' ≡ Some cause)
+TellsCall cause due (Answers a out) rows due' = IsOne cause a out rows × (due' ≡ None)
+
+-- The rows of an event, if the row of this cause, or none, is due before it; and what is due after it.
+abbrev pub Tells : Option Cause → Event → Says → List TableRow → Option Cause → Type 0
+Tells due (Handle setup body) says rows due' = TellsCall (Transfer setup body) due says rows due'
+Tells due (Elapse ms) says rows due' = TellsCall (Passing ms) due says rows due'
+Tells due UsbReset says rows due' = TellsCall BusReset due says rows due'
+Tells due Write says rows due' = (rows ≡ []) × (due' ≡ due)
+Tells (Some cause) (Report failed) says rows due' = TellsCall cause (Some cause) says rows due'
+Tells None (Report failed) says rows due' = (rows ≡ []) × (due' ≡ None)
+Tells (Some cause) Restart says rows due' = IsCut cause rows × (due' ≡ None)
+Tells None Restart says rows due' = IsOne PowerOn answer.Ack [] rows × (due' ≡ None)
+
+-- The rows of these steps, in their order, and what is due after them.
+abbrev pub TellsAll : Option Cause → List BoardStep → List TableRow → Option Cause → Type 0
+TellsAll due [] rows due' = (rows ≡ []) × (due' ≡ due)
+TellsAll due (s ∷ rest) rows due' = (first later : List TableRow) × (mid : Option Cause) × (rows ≡ first ++ later)
+    × Tells due s.event s.says first mid × TellsAll mid rest later due'
+
+-- A board carries out the writes of this device's row for this cause: some pieces stand on its flash, and in the range of the next one
+-- anything may stand.
+pub record IsAtWork (b : Board) (cause : Cause) (d : Shown) : Type 0 where
+  pub len : ℕ
+  pub s : SlotsState
+  pub was : List ℕ
+  pub stood : List ℕ
+  pub asks : Asks (lent_on b) len s was stood
+  pub device : device_of (lent_on b) s ≡ d
+  pub row : IsDueRow len d (λ x sent d'. Row d cause x sent d')
+  pub torn : (p : Step) → IsPiece (steps_in (lent_on b) asks.work) asks.work.done p → Torn stood p.write.at p.write.bytes b.flash
+
+-- No writes are due on a board, and it is this device.
+pub record IsIdle (b : Board) (d : Shown) : Type 0 where
+  pub work : b.asking.work ≡ None
+  pub is : IsDevice (lent_on b) b.flash
+  pub device : device_on b ≡ d
+
+-- A board stands for a device: it is the device, or carries out its row that is due.
+abbrev pub StandsFor : Board → Option Cause → Shown → Type 0
+StandsFor b None d = IsIdle b d
+StandsFor b (Some cause) d = IsAtWork b cause d
+
+-- The steps of a board are rows from this device to another, which it stands for now and whose state it is in. The active image of its
+-- flash is that device's, or if writes are due it may be the bytes that the device has taken.
+pub record HasRefined (w : Shown) (steps : List BoardStep) (b : Board) : Type 0 where
+  pub rows : List TableRow
+  pub due : Option Cause
+  pub device : Shown
+  pub history : IsHistory w rows device
+  pub tells : TellsAll None steps rows due
+  pub stands : StandsFor b due device
+  pub state : state_on b ≡ state_of device.stage
+  pub image : (image : List ℕ) → Active (medium_on b) image
+      → (image ≡ image_of device.slots) ⊎ ((due ≡ None → ⊥) × (image ≡ taken_of (situation device)))
+
+-- Whatever steps come to a board on which no writes are due, they are rows of the device that it is.
+abbrev pub IdleRefines : Type 0
+IdleRefines = (b b' : Board) (d : Shown) (steps : List BoardStep) → IsIdle b d → IsRun b steps b' → HasRefined d steps b'
+
+-- Whatever steps come to a board that just got power, they are rows of the device table.
+abbrev pub RunRefines : Type 0
+RunRefines = (b b' : Board) (steps : List BoardStep) → IsOn b → IsRun b steps b' → HasRefined (device_on b) steps b'

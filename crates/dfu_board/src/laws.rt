@@ -1,0 +1,40 @@
+//! Laws over all that may happen to a board. Each is the contract of a function that calls other laws alone, which is proved and not to
+//! be called for what it does.
+
+ghost use Rattle.dfu_board.specs.Keeps.{RunKeeps, RunStays, RunInstalls};
+ghost use Rattle.dfu_board.specs.Refines.{RunRefines, IdleRefines};
+
+use dfu_asks::laws::{pieces_are_the_writes, steps_are_the_writes, writes_are_the_calls};
+use dfu_device::laws::rows_take;
+use dfu_slots::laws::active_image_is_one;
+
+/// Whatever steps come to a board that just got power, they are a history of the device table: each answer ends a row of it, a loss of
+/// power within a row is that row, broken off by a write that failed, and then the row of power. The board is in the state of the
+/// device to which the rows lead, and its flash has that device's active image, or while writes are due the bytes that it has taken.
+/// The same holds from any later time on at which no writes are due.
+pub fn boards_are_devices()
+    ensures power { RunRefines }
+    ensures idle { IdleRefines }
+{
+    pieces_are_the_writes();
+    steps_are_the_writes();
+    writes_are_the_calls();
+    rows_take();
+    active_image_is_one();
+}
+
+/// Whatever steps come to a board that just got power, its flash has an active image: the one that it had then, or all bytes of a download
+/// that was closed since. The same holds from any later time on at which the state is neither dfuMANIFEST-SYNC nor dfuMANIFEST, of the
+/// image and the downloads from that time on. If a step leads from one of these two states to dfuIDLE or dfuMANIFEST-WAIT-RESET, all
+/// bytes taken are the active image.
+pub fn boards_keep_an_image()
+    ensures keeps { RunKeeps }
+    ensures stays { RunStays }
+    ensures installs { RunInstalls }
+{
+    pieces_are_the_writes();
+    steps_are_the_writes();
+    writes_are_the_calls();
+    rows_take();
+    active_image_is_one();
+}

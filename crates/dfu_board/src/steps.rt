@@ -1,0 +1,113 @@
+//! Each call of a device that asks is a step of a board. Each function makes the call of its name and nothing else; its contract says
+//! which step that is, from the call's contract alone.
+ghost use Rattle.std.specs.Prelude.{◌≡◌, ℕ, List, [], length, IfErr, IfSome, IfNone, IsSome};
+ghost use Rattle.dfu_slots.specs.Image.{HasImage};
+ghost use Rattle.dfu_slots.specs.Seen.{SlotsState};
+ghost use Rattle.dfu_device.specs.Lent.{answer_room};
+ghost use Rattle.dfu_asks.specs.Lent.{lent, IsSetUpAs};
+ghost use Rattle.dfu_asks.specs.Calls.{Asks};
+ghost use Rattle.dfu_asks.specs.Refused.{IsRefused, IsNotTaken};
+ghost use Rattle.dfu_asks.specs.Mapped.{grain_of, mapped};
+ghost use Rattle.dfu_asks.specs.Jobs.{asked};
+ghost use Rattle.dfu_board.specs.Board.{Board, BoardStep, Handle, Elapse, UsbReset, Report, medium_on};
+ghost use Rattle.dfu_board.specs.Happens.{IsHanded, IsOn, Happens, IsRun};
+ghost use Rattle.dfu_board.specs.Steps.{board, said, said_of_reset};
+
+use crate::laws::boards_keep_an_image;
+use dfu_asks::{Asking, Piece, Refusal, Reply, Sector};
+use dfu_device::Config;
+use dfu_slots::Unit;
+
+/// `Asking::handle` is a step of a board.
+pub fn handle(
+    asking: &mut Asking,
+    block: &mut [u8],
+    held: &mut [u8; 256],
+    flash: &[u8],
+    setup: &[u8; 8],
+    body: &[u8],
+    out: &mut [u8],
+) -> Result<Reply, Refusal>
+    ensures step { Happens (board asking.old block.old held.old flash.now) (Handle setup.now body.now) (said result out.new)
+        (board asking.new block.new held.new flash.now) }
+    ensures refused { IfErr result (λ e.
+        IsRefused e asking.old block.old held.old flash.now (answer_room asking.old.config) (length out.old)) }
+    ensures same { IsSetUpAs asking.old asking.new }
+{
+    asking.handle(block, held, flash, setup, body, out)
+}
+
+/// `Asking::elapse` is a step of a board.
+pub fn elapse(
+    asking: &mut Asking,
+    block: &mut [u8],
+    held: &mut [u8; 256],
+    flash: &[u8],
+    ms: u32,
+) -> Result<Reply, Refusal>
+    ensures step { Happens (board asking.old block.old held.old flash.now) (Elapse ms) (said result [])
+        (board asking.new block.new held.new flash.now) }
+    ensures refused { IfErr result (λ e. IsRefused e asking.old block.old held.old flash.now 0 0) }
+    ensures same { IsSetUpAs asking.old asking.new }
+{
+    asking.elapse(block, held, flash, ms)
+}
+
+/// `Asking::usb_reset` is a step of a board.
+pub fn usb_reset(
+    asking: &mut Asking,
+    block: &[u8],
+    held: &[u8; 256],
+    flash: &[u8],
+) -> Result<(), Refusal>
+    ensures step { Happens (board asking.old block.now held.now flash.now) UsbReset (said_of_reset result)
+        (board asking.new block.now held.now flash.now) }
+    ensures refused { IfErr result (λ e. IsRefused e asking.old block.now held.now flash.now 0 0) }
+    ensures same { IsSetUpAs asking.old asking.new }
+{
+    asking.usb_reset(block, held, flash)
+}
+
+/// `Asking::next` hands out the piece in whose range a step may change the flash.
+pub fn next(
+    asking: &Asking,
+    block: &[u8],
+    held: &[u8; 256],
+    flash: &[u8],
+    out: &mut [u8; 256],
+) -> Option<Piece>
+    ensures piece { IfSome result (λ p. IsHanded (board asking.now block.now held.now flash.now) (asked p out.new)) }
+    ensures goes { IfNone result ((len : ℕ) (s : SlotsState) (was : List ℕ) → ¬ Asks (lent asking.now block.now held.now) len s was flash.now) }
+{
+    asking.next(block, held, flash, out)
+}
+
+/// `Asking::took` is a step of a board.
+pub fn took(
+    asking: &mut Asking,
+    block: &[u8],
+    held: &mut [u8; 256],
+    flash: &[u8],
+    failed: bool,
+    out: &mut [u8],
+) -> Result<Reply, Refusal>
+    ensures step { Happens (board asking.old block.now held.old flash.now) (Report failed) (said result out.new)
+        (board asking.new block.now held.new flash.now) }
+    ensures refused { IfErr result (λ e. IsNotTaken e (lent asking.old block.now held.old) (length out.old)) }
+    ensures same { IsSetUpAs asking.old asking.new }
+{
+    asking.took(block, held, flash, failed, out)
+}
+
+/// `Asking::power_on` makes a board that just got power, whatever stands in its memories. It does so on the flash that any steps left.
+pub fn power_on(config: Config, unit: Unit, sector: Sector, flash: &[u8]) -> Option<Asking>
+    ensures on { (block held : List ℕ) → IfSome result (λ a. IsOn (board a block held flash.now)) }
+    ensures set_up { IfSome result (λ a. (a.config ≡ config) × (a.unit ≡ unit) × (a.sector ≡ sector)) }
+    ensures none { IfNone result (¬ HasImage (mapped (grain_of unit sector) flash.now)) }
+    ensures starts { (b b' : Board) (steps : List BoardStep) → IsOn b → IsRun b steps b' →
+        medium_on b' ≡ mapped (grain_of unit sector) flash.now → IsSome result }
+{
+    // Called for its clause `keeps`.
+    boards_keep_an_image();
+    Asking::power_on(config, unit, sector, flash)
+}

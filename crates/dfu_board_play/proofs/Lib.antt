@@ -1,0 +1,9 @@
+mod Served
+mod Fixed
+mod Timed
+mod Acted
+mod Became
+mod Sent
+mod Played
+mod Ran
+mod Sessions

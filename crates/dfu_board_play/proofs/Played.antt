@@ -1,0 +1,161 @@
+-- What holds of a board and its host through all that may come.
+use Rattle.std.specs.Prelude.{◌≡◌, ◌⊎◌, ℕ, ◌<◌, List, Option, Some}
+use Rattle.std.proofs.Common.{inl, inr, refl, sym, ap, ◌∙◌, subst}
+use Rattle.dfu_slots.specs.Seen.{image_of}
+use Rattle.dfu_device.specs.Stage.{Profile, InAppIdle}
+use Rattle.dfu_device.specs.Outcome.{Situation, Outcome, elapsed}
+use Rattle.dfu_device.specs.Shown.{Shown, profile, situation}
+use Rattle.dfu_device.specs.Rows.{Passing, BusReset}
+use Rattle.dfu_device.specs.Came.{time_came}
+use Rattle.dfu_host.specs.Phases.{Send, Deed, Nothing as NothingHeard, Waited, WasReset}
+use Rattle.dfu_sim.specs.Session.{Loading, IsOneOf, SaysInPlace}
+use Rattle.dfu_sim.specs.Happening.{Pass, Slip}
+use Rattle.dfu_sim.specs.Course.{course_of}
+use Rattle.dfu_sim.specs.Play.{Answered, Took, took, told}
+use Rattle.dfu_sim.specs.Bench.{Session, Hosted}
+use Rattle.dfu_sim.specs.Bytes.{Acts}
+use Rattle.dfu_sim.specs.Agreement.{live_of, IsLiveOffer}
+use Rattle.dfu_sim.specs.LinkAgreement.{IsSound}
+use Rattle.dfu_sim.specs.Fact.{SessionFact}
+use Rattle.dfu_sim.specs.Simulation.{Simulation, OnlyOffered}
+use Rattle.dfu_board.specs.Board.{Board, Handle, Elapse, UsbReset, Event, Says, BoardStep}
+use Rattle.dfu_board.specs.Refines.{IsIdle, IdleRefines}
+use Rattle.dfu_board_play.specs.Calls.{Reaches, Stops}
+use Rattle.dfu_board_play.specs.Comes.{BoardLink, IsUnderWay, left, Comes, passes, sends, waits, resets, is_reset, restarts}
+use Rattle.dfu_board_play.proofs.Served.{served}
+use Rattle.dfu_board_play.proofs.Fixed.{row_profile}
+use Rattle.dfu_board_play.proofs.Timed.{DeviceWell, timed}
+use Rattle.dfu_board_play.proofs.Acted.{ActedWell, acted_well, told_well, no_time}
+use Rattle.dfu_board_play.proofs.Became.{Became, then_well, resets_well, reaches_well, passes_stops, elapses_well}
+use Rattle.dfu_board_play.proofs.Sent.{hears_nothing, sent_well, sent_stops}
+
+-- No writes are due on a board, it is this device, and what has to hold of it and of the live session holds: its image is the first one or
+-- one of those offered, bytes that were closed are one of these, and so is the payload of the live session, which is the last one.
+pub record Stands (c : Profile) (first : List ℕ) (past : List (List ℕ)) (last : Option (List ℕ)) (l : BoardLink) (d : Shown)
+    : Type 0 where
+  pub idle : IsIdle l.board d
+  pub profile_is : profile d ≡ c
+  pub fact : SessionFact c (situation d) l.session
+  pub live : (payload : List ℕ) → live_of l.session ≡ Loading payload → last ≡ Some payload
+  pub offered : IsLiveOffer past (live_of l.session)
+  pub sound : IsSound past d.stage
+  pub known : (image_of d.slots ≡ first) ⊎ IsOneOf (image_of d.slots) past
+
+-- What came of the next thing.
+pub record WentOn (c : Profile) (first : List ℕ) (past : List (List ℕ)) (last : Option (List ℕ)) (answer : Answered) (l' : BoardLink)
+    : Type 0 where
+  pub device : Shown
+  pub stands : Stands c first past last l' device
+  pub done : SaysInPlace answer.report → (device.stage ≡ InAppIdle) × (last ≡ Some (image_of device.slots))
+  pub gives : (bytes : List ℕ) → answer.gave ≡ Some bytes → bytes ≡ image_of device.slots
+
+known_on : (first : List ℕ) (past : List (List ℕ)) (s s' : Situation) → (s.image ≡ first) ⊎ IsOneOf s.image past → DeviceWell past s s'
+    → (s'.image ≡ first) ⊎ IsOneOf s'.image past
+known_on first past s s' known w = elim (w.image) [
+  | inl same ↦ elim known [
+    | inl here ↦ inl (same ∙ here)
+    | inr one ↦ inr (subst (λ (i : List ℕ). IsOneOf i past) (sym same) one)
+  ]
+  | inr one ↦ inr one
+]
+
+-- What an action of a host, or a restart of which it hears, comes to.
+took_on : (c : Profile) (first : List ℕ) (past : List (List ℕ)) (last : Option (List ℕ)) (l : BoardLink) (d d' : Shown) (b' : Board)
+    (t : Took) → Stands c first past last l d → IsIdle b' d' → profile d' ≡ c
+    → ActedWell c past l.session (situation d) (situation d') t → WentOn c first past last t.answer (left b' t)
+took_on c first past last l d d' b' t s idle fixed w = record {
+  device = d';
+  stands = record {
+    idle = idle;
+    profile_is = fixed;
+    fact = w.fact;
+    live = λ payload e. elim (w.live) [
+      | inl same ↦ s.live payload (sym same ∙ e)
+      | inr none ↦ absurd (cc)
+    ];
+    offered = w.offered;
+    sound = w.device.sound;
+    known = known_on first past (situation d) (situation d') s.known w.device;
+  };
+  done = λ e. let x = w.done e in (x.0, s.live (image_of d'.slots) x.1);
+  gives = w.gives;
+}
+
+module _ (refines : IdleRefines) (simulation : Simulation) (only : OnlyOffered) (c : Profile) (sized : 0 < c.transfer)
+    (past : List (List ℕ)) where
+  -- A call that was under way came to its end.
+  way_well : (session : Session) (call : Event) (b b' : Board) (d : Shown) (steps : List BoardStep) (says : Says) → IsIdle b d
+      → profile d ≡ c → IsSound past d.stage → IsLiveOffer past (live_of session) → SessionFact c (situation d) session
+      → IsUnderWay session call → Reaches call b steps says b' → Became c past (situation d) b'
+  way_well session (Elapse ms) b b' d steps says k e sound offered f way reaches = reaches_well refines c past ms b b' d steps says k e sound reaches
+  way_well (Hosted h) (Handle setup body) b b' d steps says k e sound offered f (q, is, asked) reaches =
+      let x = sent_well refines simulation only c sized past h q setup body is asked d e sound offered f b b' steps says NothingHeard k reaches
+      (hears_nothing (Send q body) says) (λ none. absurd (cc)) in
+      record { device = x.device; idle = x.idle; profile_is = x.profile_is; well = x.acted.device }
+  way_well session call b b' d steps says k e sound offered f way reaches = elim way [ ]
+
+  -- The power goes with a call under way.
+  stops_well : (session : Session) (call : Event) (b b' : Board) (d : Shown) (steps : List BoardStep) → IsIdle b d → profile d ≡ c
+      → IsSound past d.stage → IsLiveOffer past (live_of session) → SessionFact c (situation d) session → IsUnderWay session call
+      → Stops call b steps b' → Became c past (situation d) b'
+  stops_well session (Elapse ms) b b' d steps k e sound offered f way stops = passes_stops refines c past ms b b' d steps k e sound stops
+  stops_well (Hosted h) (Handle setup body) b b' d steps k e sound offered f (q, is, asked) stops =
+      sent_stops refines simulation only c sized past h q setup body is asked d e sound offered f b b' steps k stops
+  stops_well session call b b' d steps k e sound offered f way stops = elim way [ ]
+
+  -- What holds holds again, whatever comes.
+  pub went_on : (first : List ℕ) (last : Option (List ℕ)) (l l' : BoardLink) (d : Shown) (steps : List BoardStep) (answer : Answered)
+      → Stands c first past last l d → Comes l steps answer l' → WentOn c first past last answer l'
+  went_on first last l _ d steps _ s (passes {ms = ms} {a = a} {out = out} {b' = b'} serves) =
+      let x = served refines l.board b' d (Elapse ms) (Passing ms) steps a out refl s.idle serves in
+      let y = time_came ms d x.device x.row.2 in
+      let there : elapsed c (situation d) ms y.luck ≡ situation x.device =
+      ap (λ (p : Profile). elapsed p (situation d) ms y.luck) (sym s.profile_is) ∙ ap (λ (o : Outcome). o.after) y.same in
+      let w = elapses_well refines c past ms d x.device s.profile_is s.sound x.row.2 in
+      record {
+        device = x.device;
+        stands = record {
+          idle = x.idle;
+          profile_is = y.fixed ∙ s.profile_is;
+          fact = subst (λ (z : Situation). SessionFact c z l.session) there (timed c (situation d) ms y.luck l.session s.fact);
+          live = s.live;
+          offered = s.offered;
+          sound = w.sound;
+          known = known_on first past (situation d) (situation x.device) s.known w;
+        };
+        done = λ e. elim e [ ];
+        gives = λ bytes e. absurd (cc);
+      }
+  went_on first last l _ d steps _ s (sends {h = h} {q = q} {setup = setup} {body = body} {says = says} {b' = b'} {heard = heard}
+      live is asked reaches hears room) =
+      let f = subst (λ (x : Session). SessionFact c (situation d) x) live s.fact in
+      let o = subst (λ (x : Session). IsLiveOffer past (live_of x)) live s.offered in
+      let x = sent_well refines simulation only c sized past h q setup body is asked d s.profile_is s.sound o f l.board b' steps says heard s.idle reaches hears room in
+      took_on c first past last l d x.device b' (took h heard) s x.idle x.profile_is
+      (subst (λ (y : Session). ActedWell c past y (situation d) (situation x.device) (took h heard)) (sym live) x.acted)
+  went_on first last l _ d _ _ s (waits {h = h} {ms = ms} live is) =
+      let f = subst (λ (x : Session). SessionFact c (situation d) x) live s.fact in
+      let o = subst (λ (x : Session). IsLiveOffer past (live_of x)) live s.offered in
+      let w = acted_well simulation only c sized past d d h Waited (Slip 0) s.profile_is s.sound o f refl
+      (subst (λ (x : Deed). Acts x (course_of (Slip 0)) d d Waited) (sym is) (no_time d, refl)) (λ e. absurd (cc)) in
+      took_on c first past last l d d l.board (took h Waited) s s.idle s.profile_is
+      (subst (λ (y : Session). ActedWell c past y (situation d) (situation d) (took h Waited)) (sym live) w)
+  went_on first last l _ d steps _ s (resets {h = h} {a = a} {out = out} {b' = b'} live is serves) =
+      let f = subst (λ (x : Session). SessionFact c (situation d) x) live s.fact in
+      let o = subst (λ (x : Session). IsLiveOffer past (live_of x)) live s.offered in
+      let x = served refines l.board b' d UsbReset BusReset steps a out refl s.idle serves in
+      let w = acted_well simulation only c sized past d x.device h WasReset Pass s.profile_is s.sound o f refl
+      (subst (λ (y : Deed). Acts y (course_of Pass) d x.device WasReset) (sym is) (x.row.2, refl)) (λ e. absurd (cc)) in
+      took_on c first past last l d x.device b' (took h WasReset) s x.idle
+      (row_profile d x.device BusReset a out x.row ∙ s.profile_is)
+      (subst (λ (y : Session). ActedWell c past y (situation d) (situation x.device) (took h WasReset)) (sym live) w)
+  went_on first last l _ d _ _ s (is_reset {call = call} {steps = steps} {more = more} {says = says} {a = a} {out = out} {mid = mid} {b' = b'} way
+      reaches serves) =
+      let x = way_well l.session call l.board mid d steps says s.idle s.profile_is s.sound s.offered s.fact way reaches in
+      let y = then_well refines c past (situation d) mid b' x (resets_well refines c past mid b' x.device more a out x.idle x.profile_is serves) in
+      took_on c first past last l d y.device b' (told l.session) s y.idle y.profile_is
+      (told_well simulation only c sized past (situation d) (situation y.device) l.session s.offered s.fact y.well)
+  went_on first last l _ d steps _ s (restarts {call = call} {b' = b'} way stops) =
+      let x = stops_well l.session call l.board b' d steps s.idle s.profile_is s.sound s.offered s.fact way stops in
+      took_on c first past last l d x.device b' (told l.session) s x.idle x.profile_is
+      (told_well simulation only c sized past (situation d) (situation x.device) l.session s.offered s.fact x.well)

@@ -1,0 +1,45 @@
+-- All that comes to a board is a run of it.
+use Rattle.std.specs.Prelude.{List, [], ◌∷◌, ◌++◌}
+use Rattle.std.proofs.Common.{refl, subst}
+use Rattle.dfu_sim.specs.Play.{Answered}
+use Rattle.dfu_board.specs.Board.{Board, Event, Handle, Says, BoardStep}
+use Rattle.dfu_board.specs.Happens.{IsRun}
+use Rattle.dfu_board_play.specs.Calls.{Reaches, lost, once, twice, Stops, behind, within, within_second}
+use Rattle.dfu_board_play.specs.Comes.{BoardLink, Comes, passes, sends, waits, resets, is_reset, restarts}
+use Rattle.dfu_board_play.specs.Plays.{starts, offers, uploads, aborts as gives_up, goes_on, PlaysRun}
+
+run_append : (b mid b' : Board) (xs ys : List BoardStep) → IsRun b xs mid → IsRun mid ys b' → IsRun b (xs ++ ys) b'
+run_append b mid b' [] ys run more = subst (λ (x : Board). IsRun x ys b') run more
+run_append b mid b' (x ∷ xs) ys run more = (run.0, run.1, run.2, run_append x.after mid b' xs ys run.3 more)
+
+reaches_run : (call : Event) (b b' : Board) (steps : List BoardStep) (says : Says) → Reaches call b steps says b' → IsRun b steps b'
+reaches_run call b _ _ _ lost = refl
+reaches_run call b _ steps _ (once serves) = serves.run
+reaches_run call b b' _ _ (twice {first = first} {second = second} {mid = mid} serves more) =
+    run_append b mid b' first second serves.run more.run
+
+stops_run : (call : Event) (b b' : Board) (steps : List BoardStep) → Stops call b steps b' → IsRun b steps b'
+stops_run call b b' _ (behind {steps = steps} {says = says} {mid = mid} power reaches run e) =
+    run_append b mid b' steps (power ∷ []) (reaches_run call b mid steps says reaches) run
+stops_run call b b' steps (within run br) = run
+stops_run call b b' _ (within_second {first = first} {second = second} {mid = mid} serves run br) =
+    run_append b mid b' first second serves.run run
+
+comes_run : (l l' : BoardLink) (steps : List BoardStep) (answer : Answered) → Comes l steps answer l' → IsRun l.board steps l'.board
+comes_run l _ steps _ (passes serves) = serves.run
+comes_run l _ steps _ (sends {setup = setup} {body = body} {says = says} {b' = b'} live is asked reaches hears room) =
+    reaches_run (Handle setup body) l.board b' steps says reaches
+comes_run l _ _ _ (waits live is) = refl
+comes_run l _ steps _ (resets live is serves) = serves.run
+comes_run l _ _ _ (is_reset {call = call} {steps = steps} {more = more} {says = says} {mid = mid} {b' = b'} way reaches serves) =
+    run_append l.board mid b' steps more (reaches_run call l.board mid steps says reaches) serves.run
+comes_run l _ steps _ (restarts {call = call} {b' = b'} way stops) = stops_run call l.board b' steps stops
+
+-- Each list of plays is a run of the board.
+pub plays_run : PlaysRun
+plays_run b _ _ _ _ starts = refl
+plays_run b steps _ _ _ (offers {past = past} {last = last} {l = l} aim payload limits p none some) = plays_run b steps past last l p
+plays_run b steps past _ _ (uploads {last = last} {l = l} limits p none) = plays_run b steps past last l p
+plays_run b steps past last _ (gives_up {l = l} p live) = plays_run b steps past last l p
+plays_run b _ past last _ (goes_on {steps = steps} {more = more} {l = l} {l' = l'} {answer = answer} p comes) =
+    run_append b l.board l'.board steps more (plays_run b steps past last l p) (comes_run l l' more answer comes)

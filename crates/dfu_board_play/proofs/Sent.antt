@@ -1,0 +1,124 @@
+-- What comes of a host's request to a board.
+use Rattle.std.specs.Prelude.{◌≡◌, ℕ, ◌<◌, IsTrue, List, []}
+use Rattle.std.proofs.Common.{inl, inr, refl, sym, ◌∙◌, subst}
+use Rattle.dfu_wire.specs.declared.requests.Request.{Request}
+use Rattle.dfu_device.specs.declared.answer.Answer.{Answer}
+use Rattle.dfu_device.specs.Stage.{Profile}
+use Rattle.dfu_device.specs.Shown.{Shown, profile, situation}
+use Rattle.dfu_device.specs.Rows.{Transfer, Handles}
+use Rattle.dfu_host.specs.Phases.{Send, Deed, Heard, NoRoom, Nothing as NothingHeard}
+use Rattle.dfu_host.specs.Table.{deed}
+use Rattle.dfu_host.specs.Host.{HostState, wants_memory}
+use Rattle.dfu_host.specs.Wire.{IsAsked}
+use Rattle.dfu_sim.specs.declared.back.Back.TheVariants as back
+use Rattle.dfu_sim.specs.Happening.{Pass, LostOut, LostBack, Twice, TwiceLostBack}
+use Rattle.dfu_sim.specs.Course.{course_of}
+use Rattle.dfu_sim.specs.Play.{took}
+use Rattle.dfu_sim.specs.Bench.{Hosted}
+use Rattle.dfu_sim.specs.Bytes.{Acts, unseen, once as once_there, again}
+use Rattle.dfu_sim.specs.Agreement.{live_of, IsLiveOffer}
+use Rattle.dfu_sim.specs.LinkAgreement.{IsSound}
+use Rattle.dfu_sim.specs.Fact.{SessionFact}
+use Rattle.dfu_sim.specs.Simulation.{Simulation, OnlyOffered}
+use Rattle.dfu_board.specs.Board.{Board, Handle, Says, Answers, BoardStep}
+use Rattle.dfu_board.specs.Refines.{IsIdle, IdleRefines}
+use Rattle.dfu_board_play.specs.Calls.{Reaches, lost, once, twice, Stops, behind, within, within_second}
+use Rattle.dfu_board_play.specs.Comes.{HearsBack}
+use Rattle.dfu_board_play.proofs.Served.{served, breaks}
+use Rattle.dfu_board_play.proofs.Fixed.{row_profile}
+use Rattle.dfu_board_play.proofs.Acted.{ActedWell, acted_well}
+use Rattle.dfu_board_play.proofs.Became.{Became, powers_well, then_well, broken_well}
+
+-- Nothing may always be heard.
+pub hears_nothing : (d : Deed) (says : Says) → HearsBack d says NothingHeard
+hears_nothing d (Answers a out) = inl refl
+hears_nothing d says = refl
+
+module _ (refines : IdleRefines) (simulation : Simulation) (only : OnlyOffered) (c : Profile) (sized : 0 < c.transfer)
+    (past : List (List ℕ)) (h : HostState) (q : Request) (setup body : List ℕ) (is : deed h.task h.phase ≡ Send q body)
+    (asked : IsAsked q setup) (d : Shown) (e : profile d ≡ c) (sound : IsSound past d.stage) (offered : IsLiveOffer past (live_of (Hosted h)))
+    (f : SessionFact c (situation d) (Hosted h)) where
+  -- The device went from the one to the other, and this was heard.
+  abbrev pub Acted : Shown → Heard → Type 0
+  Acted d' heard = ActedWell c past (Hosted h) (situation d) (situation d') (took h heard)
+
+  -- The request got lost.
+  lost_well : (heard : Heard) → heard ≡ NothingHeard → (heard ≡ NoRoom → IsTrue (wants_memory h.phase)) → Acted d heard
+  lost_well heard none room = acted_well simulation only c sized past d d h heard LostOut e sound offered f refl
+      (subst (λ (x : Deed). Acts x (course_of LostOut) d d heard) (sym is)
+      (setup, asked, record { came = back.Lost; out = []; reaches = unseen; hears = none })) room
+
+  -- It came once.
+  once_well : (d' : Shown) (a : Answer) (out : List ℕ) (heard : Heard) → Handles setup body d a out d'
+      → HearsBack (Send q body) (Answers a out) heard → (heard ≡ NoRoom → IsTrue (wants_memory h.phase)) → Acted d' heard
+  once_well d' a out heard row hears room = elim hears [
+    | inl none ↦ acted_well simulation only c sized past d d' h heard LostBack e sound offered f refl
+        (subst (λ (y : Deed). Acts y (course_of LostBack) d d' heard) (sym is)
+        (setup, asked, record { came = back.Answered a; out = out; reaches = once_there row; hears = none })) room
+    | inr some ↦ acted_well simulation only c sized past d d' h heard Pass e sound offered f refl
+        (subst (λ (y : Deed). Acts y (course_of Pass) d d' heard) (sym is)
+        (setup, asked, record { came = back.Answered a; out = out; reaches = once_there row; hears = some })) room
+  ]
+
+  -- It came twice.
+  twice_well : (mid d' : Shown) (a x : Answer) (out said : List ℕ) (heard : Heard) → Handles setup body d x said mid
+      → Handles setup body mid a out d' → HearsBack (Send q body) (Answers a out) heard
+      → (heard ≡ NoRoom → IsTrue (wants_memory h.phase)) → Acted d' heard
+  twice_well mid d' a x out said heard row more hears room = elim hears [
+    | inl none ↦ acted_well simulation only c sized past d d' h heard TwiceLostBack e sound offered f refl
+        (subst (λ (y : Deed). Acts y (course_of TwiceLostBack) d d' heard) (sym is)
+        (setup, asked, record { came = back.Answered a; out = out; reaches = again row more; hears = none })) room
+    | inr some ↦ acted_well simulation only c sized past d d' h heard Twice e sound offered f refl
+        (subst (λ (y : Deed). Acts y (course_of Twice) d d' heard) (sym is)
+        (setup, asked, record { came = back.Answered a; out = out; reaches = again row more; hears = some })) room
+  ]
+
+  -- What was heard of it, and what the board became.
+  pub record Sent (b' : Board) (heard : Heard) : Type 0 where
+    pub device : Shown
+    pub idle : IsIdle b' device
+    pub profile_is : profile device ≡ c
+    pub acted : Acted device heard
+
+  -- In each of these ways.
+  pub sent_well : (b b' : Board) (steps : List BoardStep) (says : Says) (heard : Heard) → IsIdle b d
+      → Reaches (Handle setup body) b steps says b' → HearsBack (Send q body) says heard
+      → (heard ≡ NoRoom → IsTrue (wants_memory h.phase)) → Sent b' heard
+  sent_well b _ _ _ heard k lost hears room = record { device = d; idle = k; profile_is = e; acted = lost_well heard hears room }
+  sent_well b b' steps _ heard k (once {a = a} {out = out} serves) hears room =
+      let x = served refines b b' d (Handle setup body) (Transfer setup body) steps a out refl k serves in
+      record {
+        device = x.device;
+        idle = x.idle;
+        profile_is = row_profile d x.device (Transfer setup body) a out x.row ∙ e;
+        acted = once_well x.device a out heard x.row hears room;
+      }
+  sent_well b b' _ _ heard k (twice {first = first} {second = second} {a = a} {x = a0} {out = out} {said = out0} {mid = mid} serves more)
+      hears room =
+      let x = served refines b mid d (Handle setup body) (Transfer setup body) first a0 out0 refl k serves in
+      let y = served refines mid b' x.device (Handle setup body) (Transfer setup body) second a out refl x.idle more in
+      record {
+        device = y.device;
+        idle = y.idle;
+        profile_is = row_profile x.device y.device (Transfer setup body) a out y.row
+            ∙ row_profile d x.device (Transfer setup body) a0 out0 x.row ∙ e;
+        acted = twice_well x.device y.device a a0 out out0 heard x.row y.row hears room;
+      }
+
+  -- The power goes with it under way.
+  pub sent_stops : (b b' : Board) (steps : List BoardStep) → IsIdle b d → Stops (Handle setup body) b steps b'
+      → Became c past (situation d) b'
+  sent_stops b b' _ k (behind {steps = steps} {says = says} {mid = mid} power reaches run event) =
+      let x = sent_well b mid steps says NothingHeard k reaches (hears_nothing (Send q body) says) (λ none. absurd (cc)) in
+      then_well refines c past (situation d) mid b' (record { device = x.device; idle = x.idle; profile_is = x.profile_is; well = x.acted.device })
+      (powers_well refines c past mid b' x.device power x.idle x.profile_is run event)
+  sent_stops b b' steps k (within run br) =
+      let x = breaks refines b b' d (Handle setup body) (Transfer setup body) steps refl k run br in
+      broken_well refines c past d d (Transfer setup body) b' x e
+      (once_well x.rows.mid x.rows.answer x.rows.out NothingHeard x.rows.row (inl refl) (λ none. absurd (cc))).device
+  sent_stops b b' _ k (within_second {first = first} {second = second} {a = a} {out = out} {mid = mid} serves run br) =
+      let x = served refines b mid d (Handle setup body) (Transfer setup body) first a out refl k serves in
+      let y = breaks refines mid b' x.device (Handle setup body) (Transfer setup body) second refl x.idle run br in
+      let w = (twice_well x.device y.rows.mid y.rows.answer a y.rows.out out NothingHeard x.row y.rows.row (inl refl)
+      (λ none. absurd (cc))).device in
+      broken_well refines c past d x.device (Transfer setup body) b' y (row_profile d x.device (Transfer setup body) a out x.row ∙ e) w
