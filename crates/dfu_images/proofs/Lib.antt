@@ -1,0 +1,6 @@
+pub mod LayLaws
+pub mod LineLaws
+pub mod PairLaws
+pub mod PlaceLaws
+pub mod ReadLaws
+pub mod TestLaws

@@ -1,0 +1,38 @@
+use Rattle.std.proofs.Common.{◌≡◌, ◌*◌, length, ◌+◌, ◌<◌, drop, get_or, ℕ, List, sym, subst, arith}
+use Rattle.std.proofs.Common.{inl, inr}
+use Rattle.dfu_images.specs.Digits.{hex, pairs}
+use Rattle.dfu_images.proofs.PairLaws.{joined, spelled_all, spelled_odd, spelled_high, spelled_low, spelled_more}
+use Rattle.dfu_images.proofs.digits.pairs.Goals as goal
+
+pub returns-then-at-digits : goal.returns-then-at-digits
+returns-then-at-digits c = spelled_odd c.args.digits.now c.loop-at.bytes.items c.loop-at.at (omega arith) c.loop-at.invariant.so_far
+
+pub returns-then-high-eq16 : goal.returns-then-high-eq16
+returns-then-high-eq16 c =
+    let xs = c.args.digits.now in
+    let i = c.loop-at.at in
+    let j : i + 1 < length xs = omega arith in
+    elim c.then-high-eq16.either [
+      | inl high ↦ spelled_high xs c.loop-at.bytes.items i (i + 1) (i + 2) (omega arith) (omega arith) j
+          (omega (arith, high, c.hex-high.ensures.value)) c.loop-at.invariant.so_far
+      | inr low ↦ spelled_low xs c.loop-at.bytes.items i (i + 1) (i + 2) (omega arith) (omega arith) j
+          (omega (arith, low.1, c.hex-low.ensures.value)) c.loop-at.invariant.so_far
+    ]
+
+pub loop-at-preserved : goal.loop-at-preserved
+loop-at-preserved c =
+    let xs = c.args.digits.now in
+    let i = c.loop-at.at in
+    let j : i + 1 < length xs = omega arith in
+    let high : hex (get_or xs i 0) < 16 = omega (arith, c.hex-high.ensures.value, c.hex-high.ensures.small, c.if-high-eq16.false) in
+    let low : hex (get_or xs (i + 1) 0) < 16 = omega (arith, c.hex-low.ensures.value, c.hex-low.ensures.small, c.if-low-eq16.false) in
+    let more = spelled_more xs c.loop-at.bytes.items i (i + 1) (i + 2) (16 * c.hex-high.result + c.hex-low.result) (omega arith) (omega arith) j high low
+    (omega (arith, c.hex-high.ensures.value, c.hex-low.ensures.value)) c.loop-at.invariant.so_far in
+    record {
+      within = omega arith;
+      halves = omega (arith, c.push.ensures.len, c.loop-at.invariant.halves);
+      so_far = subst (λ (front : List ℕ). joined front (pairs (drop (i + 2) xs)) ≡ pairs xs) (sym c.push.ensures.items) more;
+    }
+
+pub returns : goal.returns
+returns c = spelled_all c.args.digits.now c.loop-at.bytes.items c.loop-at.at (omega arith) c.loop-at.invariant.so_far

@@ -1,0 +1,14 @@
+use Rattle.std.proofs.Common.{◌≡◌, ◌-◌, ◌*◌, ◌≤◌, length, drop}
+use Rattle.dfu_images.specs.Digits.{pairs}
+use Rattle.dfu_images.proofs.PairLaws.{joined}
+use Rattle.dfu_images.proofs.digits.pairs.Given as goal
+
+abbrev pub invariant-loop-at : goal.invariant-loop-at
+invariant-loop-at l = record {
+  within : l.at ≤ length l.digits;
+  halves : 2 * length l.bytes.items ≡ l.at;
+  so_far : joined l.bytes.items (pairs (drop l.at l.digits)) ≡ pairs l.digits;
+}
+
+abbrev pub decreases-loop-at : goal.decreases-loop-at
+decreases-loop-at l = length l.digits - l.at

@@ -1,0 +1,10 @@
+use Rattle.std.proofs.Common.{◌≤◌, length, drop}
+use Rattle.dfu_images.specs.Laying.{laid, lowest}
+use Rattle.dfu_images.proofs.LayLaws.{LaysOn}
+use Rattle.dfu_images.proofs.laying.lay.Given as goal
+
+abbrev pub invariant-loop-element : goal.invariant-loop-element
+invariant-loop-element l = record {
+  few : length l.bytes.items ≤ 16777216;
+  on : LaysOn (laid l.fill 0 (lowest l.elements) l.elements) l.fill l.bytes.items l.end (drop l.element-index l.elements);
+}

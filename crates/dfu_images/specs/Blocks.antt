@@ -1,0 +1,42 @@
+-- How a file of UF2 blocks is read, block by block, with the fault of each. Blocks are counted from 0.
+use Rattle.std.specs.Prelude.{ℕ, ◌+◌, ◌/◌, ◌%◌, ◌^◌, ◌==◌, ◌&&◌, ◌||◌, not, nat_lt, Bool, if◌then◌else◌, List, length, take, drop, Result, Ok, Err}
+use Rattle.dfu_images.specs.declared.fault.ImageFault.{ImageFault}
+use Rattle.dfu_images.specs.declared.fault.ImageFault.TheVariants.{BadSize, BadMagic, BadBlock, BadNumber, FileContainer, OtherFamily, PastTheEnd}
+use Rattle.dfu_images.specs.Reading.{◌>>=◌, parts_read}
+use Rattle.dfu_images.specs.Numbers.{le32}
+use Rattle.dfu_images.specs.Elements.{Piece, Gathering, nothing, added, gathered}
+
+-- The three marks of a block.
+abbrev pub is_block : List ℕ → Bool
+is_block block = (le32 block 0 == 0x0A324655) && ((le32 block 4 == 0x9E5D5157) && (le32 block 508 == 0x0AB16F30))
+
+-- A flag of a block, by its value.
+abbrev pub has_flag : List ℕ → ℕ → Bool
+has_flag block flag = le32 block 8 / flag % 2 == 1
+
+-- The family of boards that a block is for, or 0 if it names none.
+abbrev pub family_of : List ℕ → ℕ
+family_of block = if has_flag block 0x2000 then le32 block 28 else 0
+
+-- The data of a block goes to its address; a block that isn't for the main flash says nothing.
+unfoldable pub flashed : (family index : ℕ) → Gathering → List ℕ → Result Gathering ImageFault
+flashed family index g block =
+    if has_flag block 1 then Ok g
+    else if has_flag block 0x1000 then Err (FileContainer index)
+    else if not (family_of block == family) then Err (OtherFamily index)
+    else if nat_lt (2 ^ 32) (le32 block 12 + le32 block 16) then Err (PastTheEnd index)
+    else added index g (record { address = le32 block 12; bytes = take (le32 block 16) (drop 32 block) })
+
+-- A block has its marks, up to 476 bytes of data, its number, and the count of all.
+unfoldable pub block_read : (total family index : ℕ) → Gathering → List ℕ → Result Gathering ImageFault
+block_read total family index g block =
+    if not (is_block block) then Err (BadMagic index)
+    else if nat_lt 476 (le32 block 16) then Err (BadBlock index)
+    else if not ((le32 block 20 == index) && (le32 block 24 == total)) then Err (BadNumber index)
+    else flashed family index g block
+
+-- The elements that a file has, or its first fault. It is for the family that its first block names.
+unfoldable pub elements_of : List ℕ → Result (List Piece) ImageFault
+elements_of file =
+    if (length file == 0) || not (length file % 512 == 0) then Err BadSize
+    else parts_read 512 (block_read (length file / 512) (family_of (take 512 file))) (length file / 512) 0 nothing file >>= gathered

@@ -1,0 +1,28 @@
+-- Bytes in two hexadecimal digits each.
+use Rattle.std.specs.Prelude.{ℕ, ◌+◌, ◌-◌, ◌*◌, ◌&&◌, nat_lt, nat_le, if◌then◌else◌, List, [], ◌∷◌, length, Option, Some, None, Result, Err}
+use Rattle.dfu_images.specs.declared.fault.ImageFault.{ImageFault}
+use Rattle.dfu_images.specs.declared.fault.ImageFault.TheVariants.{BadDigit, BadLength}
+use Rattle.dfu_images.specs.Reading.{or}
+
+-- The value of a digit of either case; 16 for a byte that is none.
+abbrev pub hex : ℕ → ℕ
+hex b =
+    if nat_le 48 b && nat_le b 57 then b - 48
+    else if nat_le 97 b && nat_le b 102 then b - 87
+    else if nat_le 65 b && nat_le b 70 then b - 55
+    else 16
+
+-- A byte before others, if there are any others to put it before.
+abbrev pub before : ℕ → Option (List ℕ) → Option (List ℕ)
+before b None = None
+before b (Some bs) = Some (b ∷ bs)
+
+-- The bytes that digits spell, two for each, the high one first.
+unfoldable pub pairs : List ℕ → Option (List ℕ)
+pairs [] = Some []
+pairs (a ∷ []) = None
+pairs (a ∷ b ∷ bs) = if nat_lt (hex a) 16 && nat_lt (hex b) 16 then before (16 * hex a + hex b) (pairs bs) else None
+
+-- The bytes of a record, of which there are 260 at most.
+unfoldable pub bytes_at : (at : ℕ) → List ℕ → Result (List ℕ) ImageFault
+bytes_at at digits = if nat_lt 520 (length digits) then Err (BadLength at) else or (BadDigit at) (pairs digits)

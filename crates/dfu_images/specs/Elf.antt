@@ -1,0 +1,33 @@
+-- How an ELF file of 32 bits, little endian, is read, segment by segment, with the fault of each. Segments are counted from 0.
+use Rattle.std.specs.Prelude.{ℕ, ◌+◌, ◌*◌, ◌^◌, ◌==◌, ◌&&◌, not, nat_lt, Bool, if◌then◌else◌, List, length, take, drop, slice_index, Result, Ok, Err}
+use Rattle.dfu_images.specs.declared.fault.ImageFault.{ImageFault}
+use Rattle.dfu_images.specs.declared.fault.ImageFault.TheVariants.{NotElf, CutHeader, CutSegment, PastTheEnd}
+use Rattle.dfu_images.specs.Reading.{◌>>=◌, parts_read}
+use Rattle.dfu_images.specs.Numbers.{le16, le32}
+use Rattle.dfu_images.specs.Elements.{Piece, Gathering, nothing, added, gathered}
+
+-- The header of 52 bytes, its mark, and 1 each for 32 bits, little endian and the version.
+abbrev pub is_elf : List ℕ → Bool
+is_elf file =
+    not (nat_lt (length file) 52) && ((le32 file 0 == 0x464C457F)
+    && ((slice_index file 4 == 1) && ((slice_index file 5 == 1) && (slice_index file 6 == 1))))
+
+-- What a segment has in the file goes to its physical address. A segment that isn't to be loaded says nothing.
+unfoldable pub segment_read : (file : List ℕ) → (index : ℕ) → Gathering → (header : List ℕ) → Result Gathering ImageFault
+segment_read file index g header =
+    if not (le32 header 0 == 1) then Ok g
+    else if nat_lt (length file) (le32 header 4 + le32 header 16) then Err (CutSegment index)
+    else if nat_lt (2 ^ 32) (le32 header 12 + le32 header 16) then Err (PastTheEnd index)
+    else added index g (record { address = le32 header 12; bytes = take (le32 header 16) (drop (le32 header 4) file) })
+
+-- The program headers of 32 bytes, which the file has whole.
+abbrev pub has_headers : List ℕ → Bool
+has_headers file = (le16 file 42 == 32) && not (nat_lt (length file) (le32 file 28 + 32 * le16 file 44))
+
+-- The elements that a file has, or its first fault. One without program headers has none.
+unfoldable pub elements_of : List ℕ → Result (List Piece) ImageFault
+elements_of file =
+    if not (is_elf file) then Err NotElf
+    else if le16 file 44 == 0 then gathered nothing
+    else if not (has_headers file) then Err CutHeader
+    else parts_read 32 (segment_read file) (le16 file 44) 0 nothing (drop (le32 file 28) file) >>= gathered

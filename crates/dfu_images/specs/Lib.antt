@@ -1,0 +1,11 @@
+pub mod Blocks
+pub mod Digits
+pub mod Elements
+pub mod Elf
+pub mod Formats
+pub mod IntelHex
+pub mod Laying
+pub mod Lines
+pub mod Numbers
+pub mod Reading
+pub mod SRecord

@@ -1,0 +1,31 @@
+-- Steps of reading, one after the other, and what a call gives of what is read.
+use Rattle.std.specs.Prelude.{◌≡◌, ℕ, zero, suc, ◌+◌, List, take, drop, Option, Some, None, Result, Ok, Err}
+use Rattle.dfu_images.specs.declared.fault.ImageFault.{ImageFault}
+use Rattle.dfu_images.specs.declared.fault.ImageFault.TheVariants.{NoMemory}
+
+-- One step of reading after another: the first fault is that of all.
+infixl 10 ◌>>=◌
+abbrev pub ◌>>=◌ : {A B : Type 0} → Result A ImageFault → (A → Result B ImageFault) → Result B ImageFault
+(Err fault) >>= f = Err fault
+(Ok x) >>= f = f x
+
+-- What there is, or this fault.
+abbrev pub or : {A : Type 0} → ImageFault → Option A → Result A ImageFault
+or fault None = Err fault
+or fault (Some x) = Ok x
+
+-- So many parts of this size are read one after the other, the first of which has this index.
+unfoldable pub parts_read : {S : Type 0} → (size : ℕ) → (read : ℕ → S → List ℕ → Result S ImageFault) → (left index : ℕ) → S → List ℕ →
+    Result S ImageFault
+parts_read size read zero index s bytes = Ok s
+parts_read size read (suc n) index s bytes = read index s (take size bytes) >>= λ t. parts_read size read n (index + 1) t (drop size bytes)
+
+-- A call that failed gives the fault of what is read; NoMemory says nothing of it.
+abbrev pub Fails : {A : Type 0} → ImageFault → Result A ImageFault → Type 0
+Fails NoMemory read = Unit {0}
+Fails fault read = read ≡ Err fault
+
+-- A call gives what is read, unless memory ran out.
+abbrev pub Gives : {A : Type 0} → Result A ImageFault → Result A ImageFault → Type 0
+Gives (Ok x) read = read ≡ Ok x
+Gives (Err fault) read = Fails fault read

@@ -1,0 +1,99 @@
+-- How a file of S-records is read, line by line, with the fault of each.
+use Rattle.std.specs.Prelude.{ℕ, ◌+◌, ◌-◌, ◌*◌, ◌^◌, ◌%◌, ◌==◌, ◌&&◌, ◌||◌, not, nat_lt, nat_le, Bool, true, false, if◌then◌else◌, List, [], ◌∷◌, length, take, drop, slice_index, sum, fold, Result, Ok, Err}
+use Rattle.dfu_images.specs.declared.fault.ImageFault.{ImageFault}
+use Rattle.dfu_images.specs.declared.fault.ImageFault.TheVariants.{NoMark, BadLength, BadChecksum, BadType, BadCount, PastSegment, Trailing}
+use Rattle.dfu_images.specs.Reading.{◌>>=◌}
+use Rattle.dfu_images.specs.Digits.{bytes_at}
+use Rattle.dfu_images.specs.Lines.{lines, lines_read}
+use Rattle.dfu_images.specs.Elements.{Piece, Gathering, nothing, added, gathered}
+
+-- The type of a record, and its bytes.
+pub record Typed : Type 0 where
+  pub kind : ℕ
+  pub bytes : List ℕ
+
+-- A record's type and bytes: `S`, a digit, and two digits for each byte.
+unfoldable pub spelled : (at : ℕ) → List ℕ → Result Typed ImageFault
+spelled at [] = Err (NoMark at)
+spelled at (b ∷ []) = Err (NoMark at)
+spelled at (b ∷ kind ∷ digits) =
+    if (b == 83) && (nat_le 48 kind && nat_le kind 57) then (bytes_at at digits >>= λ bytes. Ok (record { kind = kind - 48; bytes = bytes }))
+    else Err (NoMark at)
+
+-- How many bytes the address has: four of types 3 and 7, three of 2, 6 and 8, and else two.
+abbrev pub width : (kind : ℕ) → ℕ
+width kind =
+    if (kind == 3) || (kind == 7) then 4
+    else if (kind == 2) || ((kind == 6) || (kind == 8)) then 3
+    else 2
+
+-- The number in bytes, the highest first.
+abbrev pub number : List ℕ → ℕ
+number bytes = fold (λ n b. 256 * n + b) 0 bytes
+
+-- A record: its type, its address, and its data.
+pub record Record : Type 0 where
+  pub kind : ℕ
+  pub address : ℕ
+  pub content : List ℕ
+
+-- A record of a count, an address, data, and a checksum by which all bytes together make 255; the count is of all behind it.
+unfoldable pub framed : (at : ℕ) → Typed → Result Record ImageFault
+framed at t =
+    if not (length t.bytes == slice_index t.bytes 0 + 1) || nat_lt (length t.bytes) (width t.kind + 2) then Err (BadLength at)
+    else if not (sum t.bytes % 256 == 255) then Err (BadChecksum at)
+    else Ok (record {
+      kind = t.kind;
+      address = number (take (width t.kind) (drop 1 t.bytes));
+      content = take (length t.bytes - (width t.kind + 2)) (drop (width t.kind + 1) t.bytes);
+    })
+
+-- What was read up to a line: the elements, how many records of data, whether a count or an end record came behind the last of them, and
+-- whether the end record was read.
+pub record State : Type 0 where
+  pub gathering : Gathering
+  pub count : ℕ
+  pub is_whole : Bool
+  pub is_ended : Bool
+
+-- Data, which ends by the last address of 32 bits.
+unfoldable pub data_at : (at : ℕ) → State → Record → Result State ImageFault
+data_at at s r =
+    if nat_lt (2 ^ 32) (r.address + length r.content) then Err (PastSegment at)
+    else added at s.gathering (record { address = r.address; bytes = r.content })
+    >>= λ g. Ok (record { gathering = g; count = s.count + 1; is_whole = false; is_ended = s.is_ended })
+
+-- The count of the records of data so far, or the end, each of which has no data.
+unfoldable pub closed : (at : ℕ) → State → Record → Result State ImageFault
+closed at s r =
+    if not (length r.content == 0) then Err (BadLength at)
+    else if nat_le 7 r.kind then Ok (record { gathering = s.gathering; count = s.count; is_whole = true; is_ended = true })
+    else if r.address == s.count then Ok (record { gathering = s.gathering; count = s.count; is_whole = true; is_ended = s.is_ended })
+    else Err (BadCount at)
+
+-- What a record says: 0 a title, 1 to 3 data, 5 and 6 a count, 7 to 9 the end.
+unfoldable pub meant : (at : ℕ) → State → Record → Result State ImageFault
+meant at s r =
+    if r.kind == 0 then Ok s
+    else if nat_le r.kind 3 then data_at at s r
+    else if r.kind == 4 then Err (BadType at)
+    else closed at s r
+
+-- A line: a record, or nothing. Behind the end record there is nothing.
+unfoldable pub line_read : (at : ℕ) → State → List ℕ → Result State ImageFault
+line_read at s line =
+    if length line == 0 then Ok s
+    else if s.is_ended then Err (Trailing at)
+    else spelled at line >>= framed at >>= meant at s
+
+-- Before the first line.
+abbrev pub start : State
+start = record { gathering = nothing; count = 0; is_whole = false; is_ended = false }
+
+-- A count or an end record came behind all data.
+abbrev pub is_whole : State → Bool
+is_whole s = s.is_whole
+
+-- The elements that a file has, or its first fault.
+unfoldable pub elements_of : List ℕ → Result (List Piece) ImageFault
+elements_of text = lines_read is_whole line_read 1 start (lines text) >>= λ s. gathered s.gathering

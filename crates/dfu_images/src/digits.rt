@@ -1,0 +1,69 @@
+//! Bytes in two hexadecimal digits each.
+
+ghost use Rattle.std.specs.Prelude.{◌≡◌, ◌*◌, ◌≤◌, length, sum, MatchOption, MatchResult, None, Some, Ok, Err};
+ghost use Rattle.dfu_images.specs.Digits.{hex, pairs, bytes_at};
+
+use crate::fault::ImageFault;
+use crate::limits::MAX_RECORD;
+use arrayvec::ArrayVec;
+
+/// The value of a digit, or 16.
+fn hex(byte: u8) -> u8
+    ensures value { result ≡ hex byte }
+    ensures small { result ≤ 16 }
+{
+    match byte {
+        b'0'..=b'9' => byte - b'0',
+        b'a'..=b'f' => byte - b'a' + 10,
+        b'A'..=b'F' => byte - b'A' + 10,
+        _ => 16,
+    }
+}
+
+/// The bytes that digits spell, two for each.
+fn pairs(digits: &[u8]) -> Option<ArrayVec<u8, MAX_RECORD>>
+    requires { length digits.now ≤ 520 }
+    ensures { MatchOption result (pairs digits.now ≡ None) (λ bytes. pairs digits.now ≡ Some bytes.items) }
+{
+    let mut bytes = ArrayVec::new();
+    let mut at = 0;
+    while at < digits.len() {
+        if at + 1 == digits.len() {
+            return None;
+        }
+        let high = hex(digits[at]);
+        let low = hex(digits[at + 1]);
+        if high == 16 || low == 16 {
+            return None;
+        }
+        bytes.push(16 * high + low);
+        at += 2;
+    }
+    Some(bytes)
+}
+
+/// The bytes of a record, from its digits.
+#[tactic(auto, using(std::proofs::lemmas::Bool::Decides::nat_tests), unfolding(crate::specs::Digits::bytes_at))]
+pub(crate) fn bytes_at(at: usize, digits: &[u8]) -> Result<ArrayVec<u8, MAX_RECORD>, ImageFault>
+    ensures { MatchResult result (λ bytes. bytes_at at digits.now ≡ Ok bytes.items) (λ fault. bytes_at at digits.now ≡ Err fault) }
+{
+    if digits.len() > 2 * MAX_RECORD {
+        return Err(ImageFault::BadLength(at));
+    }
+    match pairs(digits) {
+        Some(bytes) => Ok(bytes),
+        None => Err(ImageFault::BadDigit(at)),
+    }
+}
+
+/// The sum of the bytes of a record.
+pub(crate) fn sum_of(bytes: &[u8]) -> u32
+    requires { length bytes.now ≤ 260 }
+    ensures { result ≡ sum bytes.now }
+{
+    let mut sum: u32 = 0;
+    for byte in bytes {
+        sum += *byte as u32;
+    }
+    sum
+}

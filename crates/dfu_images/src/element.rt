@@ -1,0 +1,60 @@
+//! A part of an image.
+
+ghost use Rattle.std.specs.Prelude.{◌≡◌, ◌+◌, ◌≤◌, ◌^◌, length};
+ghost use Rattle.dfu_images.specs.Elements.{end_of};
+
+use std::marker::Model;
+
+/// Bytes that stand one behind the other, and the address of the first. There is a byte at least, and the last has an address of 32 bits.
+#[derive(Drop)]
+pub struct Element {
+    address: u32,
+    bytes: Vec<u8>,
+}
+
+impl Model for Element {
+    ghost use Rattle.std.specs.Prelude.{◌+◌, ◌≤◌, ◌^◌, length};
+    ghost use Rattle.dfu_images.specs.Elements.{Piece};
+
+    ghost Value = { Piece };
+
+    ghost view = { λ e. record { address = e.address; bytes = e.bytes.items } };
+
+    ghost invariant = { λ e. (1 ≤ length e.bytes.items) × (e.address + length e.bytes.items ≤ 2 ^ 32) };
+}
+
+impl Element {
+    /// An element of these bytes.
+    pub(crate) fn new(address: u64, bytes: Vec<u8>) -> Element
+        requires some { 1 ≤ length bytes.items }
+        requires ends { address + length bytes.items ≤ 2 ^ 32 }
+        ensures { result ≡ record { address = address; bytes = bytes.items } }
+    {
+        Element {
+            address: address as u32,
+            bytes,
+        }
+    }
+
+    /// The address of the first byte.
+    pub fn address(&self) -> u32
+        ensures { result ≡ self.now.address }
+    {
+        self.address
+    }
+
+    /// The bytes.
+    pub fn bytes(&self) -> &[u8]
+        ensures { result.now ≡ self.now.bytes }
+    {
+        &self.bytes
+    }
+
+    /// The address behind the last byte, up to 2^32.
+    pub fn end(&self) -> u64
+        ensures value { result ≡ end_of self.now }
+        ensures fits { result ≤ 2 ^ 32 }
+    {
+        self.address as u64 + self.bytes.len() as u64
+    }
+}

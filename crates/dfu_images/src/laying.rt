@@ -1,0 +1,86 @@
+//! An image as one piece, from the lowest address of its elements on.
+
+ghost use Rattle.std.specs.Prelude.{◌≡◌, ◌+◌, ◌-◌, ◌≤◌, ◌<◌, ◌++◌, length, IfOk, Ok, Err};
+ghost use Rattle.dfu_images.specs.Elements.{AreApart};
+ghost use Rattle.dfu_images.specs.Laying.{part_of, in_front, laid, lowest, Lays};
+
+use crate::element::Element;
+use crate::limits::MAX_IMAGE;
+use std::alloc::Global;
+use thiserror::Error;
+
+/// Why elements make no image.
+#[derive(Clone, Copy, Debug, PartialEq, Eq, Error)]
+pub enum LayFault {
+    /// An allocation was refused.
+    #[error("an allocation was refused")]
+    NoMemory,
+    /// Nothing has these addresses, from the first up to before the second, and there is nothing to fill them with.
+    #[error("nothing is at {0:08X} to before {1:08X}, and no filling is given")]
+    Gap(u64, u32),
+    /// With what fills the gaps there are over 16,777,216 bytes.
+    #[error("from the lowest to the highest address there are over 16,777,216 bytes")]
+    TooLarge,
+}
+
+/// Puts an element behind bytes that end at this address.
+#[tactic(auto, using(std::proofs::lemmas::Bool::Decides::nat_tests), unfolding(crate::specs::Laying::part_of))]
+fn with_part(
+    mut bytes: Vec<u8>,
+    fill: Option<u8>,
+    end: u64,
+    element: &Element,
+) -> Result<Vec<u8>, LayFault>
+    requires ahead { end ≤ element.now.address }
+    requires few { length bytes.items ≤ 16777216 }
+    ensures value { Lays result (in_front bytes.items (part_of fill (length bytes.items) end element.now)) }
+    ensures few { IfOk result (λ v. length v.items ≤ 16777216) }
+{
+    let gap = (element.address() as u64 - end) as usize;
+    if fill.is_none() && gap != 0 {
+        return Err(LayFault::Gap(end, element.address()));
+    }
+    let count = bytes.len();
+    if gap > MAX_IMAGE - count || element.bytes().len() > MAX_IMAGE - count - gap {
+        return Err(LayFault::TooLarge);
+    }
+    let Ok(()) = bytes.resize(count + gap, fill.unwrap_or(0)) else {
+        return Err(LayFault::NoMemory);
+    };
+    match bytes.extend_from_slice(element.bytes()) {
+        Ok(()) => Ok(bytes),
+        Err(_) => Err(LayFault::NoMemory),
+    }
+}
+
+/// The lowest address of elements, or 0 if there are none.
+pub fn lowest(elements: &[Element]) -> u32
+    ensures { result ≡ lowest elements.now }
+{
+    match elements.first() {
+        Some(element) => element.address(),
+        None => 0,
+    }
+}
+
+/// The bytes of elements from the lowest address on, with gaps filled by a byte, if one is given.
+///
+/// # Errors
+///
+/// The first from the front: Gap if nothing is to fill it, or TooLarge. NoMemory where an allocation was refused.
+pub fn lay(alloc: Global, elements: &[Element], fill: Option<u8>) -> Result<Vec<u8>, LayFault>
+    requires { AreApart 0 elements.now }
+    ensures value { Lays result (laid fill 0 (lowest elements.now) elements.now) }
+    ensures few { IfOk result (λ v. length v.items ≤ 16777216) }
+{
+    let mut bytes = Vec::new(alloc);
+    let mut end = lowest(elements) as u64;
+    for element in elements {
+        bytes = match with_part(bytes, fill, end, element) {
+            Ok(next) => next,
+            Err(fault) => return Err(fault),
+        };
+        end = element.end();
+    }
+    Ok(bytes)
+}

@@ -1,0 +1,113 @@
+//! One S-record: its type, its address and its data, from the text of its line.
+
+ghost use Rattle.std.specs.Prelude.{◌≡◌, ◌+◌, ◌≤◌, ◌<◌, ◌^◌, length, Ok, Err};
+ghost use Rattle.dfu_images.specs.SRecord.{spelled, width, number, framed};
+
+use crate::digits::{bytes_at, sum_of};
+use crate::fault::ImageFault;
+use crate::limits::MAX_RECORD;
+use arrayvec::ArrayVec;
+use std::marker::Model;
+
+/// The type of a record, and its bytes.
+#[derive(Drop)]
+pub(crate) struct Typed {
+    kind: u8,
+    bytes: ArrayVec<u8, MAX_RECORD>,
+}
+
+impl Model for Typed {
+    ghost use Rattle.std.specs.Prelude.{◌≤◌};
+    ghost use Rattle.dfu_images.specs.SRecord as srec;
+
+    ghost Value = { srec.Typed };
+
+    ghost view = { λ t. record { kind = t.kind; bytes = t.bytes.items } };
+
+    ghost invariant = { λ t. t.kind ≤ 9 };
+}
+
+/// A record's type and bytes, from the text of its line.
+#[tactic(auto, using(std::proofs::lemmas::Bool::Decides::nat_tests), unfolding(crate::specs::SRecord::spelled))]
+pub(crate) fn spelled(at: usize, line: &[u8]) -> Result<Typed, ImageFault>
+    ensures { result ≡ spelled at line.now }
+{
+    match line {
+        [b'S', kind, digits @ ..] if *kind >= b'0' && *kind <= b'9' => match bytes_at(at, digits) {
+            Ok(bytes) => Ok(Typed {
+                kind: *kind - b'0',
+                bytes,
+            }),
+            Err(fault) => Err(fault),
+        },
+        _ => Err(ImageFault::NoMark(at)),
+    }
+}
+
+/// How many bytes the address of a record has.
+fn width(kind: u8) -> usize
+    ensures value { result ≡ width kind }
+    ensures few { result ≤ 4 }
+{
+    match kind {
+        3 | 7 => 4,
+        2 | 6 | 8 => 3,
+        _ => 2,
+    }
+}
+
+/// The number in up to four bytes, the highest first.
+fn number(bytes: &[u8]) -> u64
+    requires { length bytes.now ≤ 4 }
+    ensures value { result ≡ number bytes.now }
+    ensures small { result < 256 ^ length bytes.now }
+{
+    let mut value: u64 = 0;
+    for byte in bytes {
+        value = 256 * value + *byte as u64;
+    }
+    value
+}
+
+/// A record: its type, its address, and its data.
+#[derive(Drop)]
+pub(crate) struct Record<'t> {
+    pub(crate) kind: u8,
+    pub(crate) address: u64,
+    pub(crate) content: &'t [u8],
+}
+
+impl<'t> Model for Record<'t> {
+    ghost use Rattle.std.specs.Prelude.{◌<◌, ◌^◌};
+    ghost use Rattle.dfu_images.specs.SRecord as srec;
+
+    ghost Value = { srec.Record };
+
+    ghost view = { λ r. record { kind = r.kind; address = r.address; content = r.content.now } };
+
+    ghost invariant = { λ r. r.address < 2 ^ 32 };
+}
+
+/// A record, of its type and bytes.
+#[tactic(auto, using(std::proofs::lemmas::Bool::Decides::nat_tests), unfolding(crate::specs::SRecord::framed))]
+pub(crate) fn framed(at: usize, typed: &Typed) -> Result<Record<'_>, ImageFault>
+    ensures { result ≡ framed at typed.now }
+{
+    let bytes = typed.bytes.as_slice();
+    let width = width(typed.kind);
+    if bytes.len() == 0 || bytes.len() != bytes[0] as usize + 1 || bytes.len() < width + 2 {
+        return Err(ImageFault::BadLength(at));
+    }
+    if sum_of(bytes) % 256 != 255 {
+        return Err(ImageFault::BadChecksum(at));
+    }
+    let (_, behind) = bytes.split_at(1);
+    let (address, _) = behind.split_at(width);
+    let (_, behind) = bytes.split_at(width + 1);
+    let (content, _) = behind.split_at(bytes.len() - (width + 2));
+    Ok(Record {
+        kind: typed.kind,
+        address: number(address),
+        content,
+    })
+}

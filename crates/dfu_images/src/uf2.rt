@@ -1,0 +1,144 @@
+//! UF2.
+
+ghost use Rattle.std.specs.Prelude.{◌≡◌, ◌+◌, ◌*◌, ◌≤◌, ◌<◌, length, IfOk, Ok, Err};
+ghost use Rattle.dfu_images.specs.Reading.{parts_read, Gives, Fails};
+ghost use Rattle.dfu_images.specs.Numbers as numbers;
+ghost use Rattle.dfu_images.specs.Elements.{AreApart, Lists, nothing};
+ghost use Rattle.dfu_images.specs.Blocks.{is_block, has_flag, family_of, flashed, block_read, elements_of};
+
+use crate::element::Element;
+use crate::fault::ImageFault;
+use crate::gathering::Gathering;
+use crate::numbers::le32;
+use std::alloc::Global;
+
+/// Whether a block has its three marks.
+fn is_block(block: &[u8]) -> bool
+    requires { length block.now ≡ 512 }
+    ensures { result ≡ is_block block.now }
+{
+    le32(block, 0) == 0x0a32_4655
+        && le32(block, 4) == 0x9e5d_5157
+        && le32(block, 508) == 0x0ab1_6f30
+}
+
+/// Whether a block has a flag.
+fn has_flag(block: &[u8], flag: u32) -> bool
+    requires size { length block.now ≡ 512 }
+    requires flag { 1 ≤ flag }
+    ensures { result ≡ has_flag block.now flag }
+{
+    le32(block, 8) / flag % 2 == 1
+}
+
+/// The family of boards that a block is for, or 0.
+fn family_of(block: &[u8]) -> u32
+    requires { length block.now ≡ 512 }
+    ensures { result ≡ family_of block.now }
+{
+    if has_flag(block, 0x2000) {
+        le32(block, 28)
+    } else {
+        0
+    }
+}
+
+/// The data of a block.
+#[tactic(auto, using(std::proofs::lemmas::Bool::Decides::nat_tests), unfolding(crate::specs::Blocks::flashed))]
+fn flashed(
+    alloc: Global,
+    index: usize,
+    family: u32,
+    gathering: Gathering,
+    block: &[u8],
+) -> Result<Gathering, ImageFault>
+    requires size { length block.now ≡ 512 }
+    requires few { numbers.le32 block.now 16 ≤ 476 }
+    ensures { Gives result (flashed family index gathering block.now) }
+{
+    if has_flag(block, 1) {
+        return Ok(gathering);
+    }
+    if has_flag(block, 0x1000) {
+        return Err(ImageFault::FileContainer(index));
+    }
+    if family_of(block) != family {
+        return Err(ImageFault::OtherFamily(index));
+    }
+    let address = le32(block, 12) as u64;
+    let count = le32(block, 16) as usize;
+    if address + count as u64 > 0x1_0000_0000 {
+        return Err(ImageFault::PastTheEnd(index));
+    }
+    let (_, behind) = block.split_at(32);
+    let (content, _) = behind.split_at(count);
+    gathering.add(alloc, index, address, content)
+}
+
+/// A block.
+#[tactic(auto, using(std::proofs::lemmas::Bool::Decides::nat_tests), unfolding(crate::specs::Blocks::block_read))]
+fn block_read(
+    alloc: Global,
+    index: usize,
+    total: usize,
+    family: u32,
+    gathering: Gathering,
+    block: &[u8],
+) -> Result<Gathering, ImageFault>
+    requires { length block.now ≡ 512 }
+    ensures { Gives result (block_read total family index gathering block.now) }
+{
+    if !is_block(block) {
+        return Err(ImageFault::BadMagic(index));
+    }
+    if le32(block, 16) > 476 {
+        return Err(ImageFault::BadBlock(index));
+    }
+    if le32(block, 20) as usize != index || le32(block, 24) as usize != total {
+        return Err(ImageFault::BadNumber(index));
+    }
+    flashed(alloc, index, family, gathering, block)
+}
+
+/// All blocks.
+fn blocks_read(
+    alloc: Global,
+    total: usize,
+    family: u32,
+    file: &[u8],
+) -> Result<Gathering, ImageFault>
+    requires { length file.now ≡ 512 * total }
+    ensures { Gives result (parts_read 512 (block_read total family) total 0 nothing file.now) }
+{
+    let mut gathering = Gathering::new(alloc);
+    let mut rest = file;
+    let mut index: usize = 0;
+    while index < total {
+        let (block, behind) = rest.split_at(512);
+        gathering = match block_read(alloc, index, total, family, gathering, block) {
+            Ok(next) => next,
+            Err(fault) => return Err(fault),
+        };
+        rest = behind;
+        index += 1;
+    }
+    Ok(gathering)
+}
+
+/// The elements of a file.
+#[tactic(auto, using(std::proofs::lemmas::Bool::Decides::nat_tests), unfolding(crate::specs::Blocks::elements_of))]
+pub fn read(alloc: Global, file: &[u8]) -> Result<Vec<Element>, ImageFault>
+    // What the file says, or its first fault.
+    ensures value { Lists result (elements_of file.now) }
+    // The elements are by address, and no two share one.
+    ensures apart { IfOk result (λ v. AreApart 0 v.items) }
+{
+    if file.len() == 0 || file.len() % 512 != 0 {
+        return Err(ImageFault::BadSize);
+    }
+    let (first, _) = file.split_at(512);
+    match blocks_read(alloc, file.len() / 512, family_of(first), file) {
+        Ok(gathering) => gathering.finish(),
+        Err(fault) => Err(fault),
+    }
+}

@@ -1,0 +1,148 @@
+//! ELF, in files with two program headers and four bytes behind them.
+
+use super::told;
+use dfu_images::elf;
+use std::alloc::Global;
+use std::process::Abort;
+use std::test::Fail;
+
+/// The fields of a program header that count: type, offset in the file, physical address, and size in the file.
+type Fields = [u32; 4];
+
+/// Adds a program header.
+fn push_header(file: &mut Vec<u8>, fields: &Fields) -> Result<(), Fail> {
+    let [kind, from, address, size] = fields;
+    let fields: [u32; 8] = [*kind, *from, 0x2000_0000, *address, *size, 0x100, 7, 4];
+    for field in &fields {
+        file.extend_from_slice(&field.to_le_bytes())?;
+    }
+    Ok(())
+}
+
+/// A file with A0h to A3h at 116 to 119.
+fn file_of(alloc: Global, first: &Fields, second: &Fields) -> Result<Vec<u8>, Fail> {
+    let mut file = Vec::new(alloc);
+    file.extend_from_slice(b"\x7fELF\x01\x01\x01\0\0\0\0\0\0\0\0\0")?;
+    // An executable file for ARM, of version 1; it begins at 1, and its program headers at 52.
+    let fields: [u32; 9] = [0x0028_0002, 1, 1, 52, 0, 0, 0x0020_0034, 0x0028_0002, 0];
+    for field in &fields {
+        file.extend_from_slice(&field.to_le_bytes())?;
+    }
+    push_header(&mut file, first)?;
+    push_header(&mut file, second)?;
+    file.extend_from_slice(&[0xa0, 0xa1, 0xa2, 0xa3])?;
+    Ok(file)
+}
+
+/// Two program headers, with what they say.
+static ROWS: [(Fields, Fields, &'static str); 10] = [
+    (
+        [1, 116, 0x0800_0000, 2],
+        [1, 118, 0x0800_0002, 2],
+        " 08000000:A0A1A2A3",
+    ),
+    (
+        [1, 116, 0x0800_0000, 2],
+        [1, 116, 0x0800_0003, 1],
+        " 08000000:A0A1 08000003:A0",
+    ),
+    (
+        [1, 118, 0x0800_0010, 2],
+        [1, 116, 0x0800_0000, 2],
+        " 08000000:A0A1 08000010:A2A3",
+    ),
+    // Only what is loaded, and has bytes.
+    (
+        [6, 52, 0, 64],
+        [1, 116, 0x0800_0000, 4],
+        " 08000000:A0A1A2A3",
+    ),
+    (
+        [1, 116, 0x0800_0000, 1],
+        [1, 120, 0x2000_0000, 0],
+        " 08000000:A0",
+    ),
+    ([1, 119, 0xffff_ffff, 1], [0, 0, 0, 0], " FFFFFFFF:A3"),
+    (
+        [1, 116, 0, 1],
+        [1, 117, 0x0800_0000, 4],
+        "segment 1: it is cut off",
+    ),
+    (
+        [1, 0xffff_ffff, 0, 0xffff_ffff],
+        [0, 0, 0, 0],
+        "segment 0: it is cut off",
+    ),
+    (
+        [1, 116, 0xffff_fffe, 3],
+        [0, 0, 0, 0],
+        "at 0: the data ends behind address FFFFFFFF",
+    ),
+    (
+        [1, 116, 0x0800_0000, 2],
+        [1, 116, 0x0800_0001, 2],
+        "two records have a byte at address 08000001",
+    ),
+];
+
+#[test]
+fn rows(rt: HostRuntime) -> Result<(), Fail> {
+    for (first, second, says) in &ROWS {
+        let file = file_of(rt.alloc(), first, second)?;
+        let said = told(rt.alloc(), elf::read(rt.alloc(), &file))?;
+        assert_eq!(rt; said.as_str(), *says);
+    }
+    Ok(())
+}
+
+/// What a file with this byte at a place says.
+fn changed(rt: &impl Abort, alloc: Global, at: usize, byte: u8, says: &str) -> Result<(), Fail> {
+    let mut file = file_of(alloc, &[1, 116, 0, 4], &[0, 0, 0, 0])?;
+    if at < file.len() {
+        file[at] = byte;
+    }
+    let said = told(alloc, elf::read(alloc, &file))?;
+    assert_eq!(rt; said.as_str(), says, "{at}");
+    Ok(())
+}
+
+#[test]
+fn headers(rt: HostRuntime) -> Result<(), Fail> {
+    // Another mark, 64 bits, big endian, another version.
+    for (at, byte) in [(0, 0x7e), (3, 0x47), (4, 2), (5, 2), (6, 2)] {
+        changed(
+            &rt,
+            rt.alloc(),
+            at,
+            byte,
+            "the file isn't an ELF file of 32 bits, little endian",
+        )?;
+    }
+    // Program headers of 56 bytes, one too many, and where there can't be any.
+    for (at, byte) in [(42, 56), (44, 3), (28, 57), (31, 255)] {
+        changed(
+            &rt,
+            rt.alloc(),
+            at,
+            byte,
+            "the program headers are cut off, or have another size",
+        )?;
+    }
+    changed(&rt, rt.alloc(), 44, 0, "")?;
+    changed(&rt, rt.alloc(), 44, 1, " 00000000:A0A1A2A3")
+}
+
+#[test]
+fn no_header(rt: HostRuntime) -> Result<(), Fail> {
+    let file = file_of(rt.alloc(), &[0, 0, 0, 0], &[0, 0, 0, 0])?;
+    for size in [0, 4, 51] {
+        let front = file.get(..size).ok_or("the file is longer")?;
+        let said = told(rt.alloc(), elf::read(rt.alloc(), front))?;
+        assert_eq!(rt;
+            said.as_str(),
+            "the file isn't an ELF file of 32 bits, little endian",
+            "{size}"
+        );
+    }
+    Ok(())
+}
