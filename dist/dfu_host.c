@@ -413,7 +413,7 @@ static void dfu_host_c_holding_session_of(unsigned char *a0, unsigned char *a1, 
     uint8_t r6_28_0, r6_54_0, r6_28_0_2, r6_0_0_0, r6_28_0_3, r6_54_0_2, r70, r75;
     uint16_t r6_80_0, r6_80_0_2, r65, r77, r81;
     uint32_t r13 = load32(a1);
-    if (r13 == 200) goto join_3;
+    if (r13 == 300) goto join_3;
     goto then_1;
 then_1:
     memset(a0, 0, 72);
@@ -935,7 +935,7 @@ arm_25:
     r24_63_0 = 0;
     goto dfu_host_c_phases_numbers_of_exit;
 dfu_host_c_phases_numbers_of_exit:
-    store32(a0, 200);
+    store32(a0, 300);
     store32(a0 + 4, (uint32_t)r9 + 1);
     store64(a0 + 8, r24_52_0);
     store64(a0 + 16, a2);
@@ -3221,7 +3221,7 @@ join_4:
 
 /* dfu_host_version */
 int32_t dfu_host_version(void) {
-    return signed32(200);
+    return signed32(300);
 }
 
 /* dfu_host_file */

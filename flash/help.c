@@ -57,5 +57,5 @@ void words_help(void)
 /* The version of all of Fustrelan: `dfu --help` begins with it too. */
 void words_version(void)
 {
-    puts("dfu-flash 0.2.0");
+    puts("dfu-flash 0.3.0");
 }

@@ -4,7 +4,6 @@
 #include "bus.h"
 #include "say.h"
 
-#include <string.h>
 #include <time.h>
 
 static int64_t clock_ms(void)
@@ -28,7 +27,7 @@ static void look(struct bus *bus)
 void bus_pass(struct bus *bus)
 {
     int32_t before = machine_state(&bus->machine);
-    int64_t now = clock_ms(), ms = before == STATE_APP_DETACH ? now - bus->told : machine_due(&bus->machine);
+    int64_t now = clock_ms(), ms = before == DFU_STATE_APP_DETACH ? now - bus->told : machine_due(&bus->machine);
     bus->told = now;
     if (ms <= 0)
         return;
@@ -97,30 +96,28 @@ static bool decide(struct bus *bus, const uint8_t setup[8], uint8_t out[MOST_TRA
             return false;
         break;
     }
-    *answer = machine_handle(&bus->machine, setup, body, length, out);
+    *answer = machine_handle(&bus->machine, setup, body, out);
     if (bus->machine.refusal == 0)
         say_exchange(setup, body, length, *answer, out);
     return true;
 }
 
-/* FunctionFS has put this function's own number of the interface into wIndex, which is 0. Other requests than those of the class are
-   nobody's. */
+/* FunctionFS has put this function's own number of the interface into wIndex, which is 0, as in the configuration. Other requests than
+   those of the class are nobody's. */
 void bus_serve(struct bus *bus, const uint8_t setup[8])
 {
     struct function *function = &bus->functions[bus->mode];
-    uint8_t out[MOST_TRANSFER], request[8];
+    uint8_t out[MOST_TRANSFER];
     int32_t answer = DFU_STALL;
     int64_t began = clock_ms();
-    memcpy(request, setup, 8);
-    request[4] = request[5] = 0;
     bus_pass(bus);
-    if ((request[0] & 0x7f) == 0x21 && !decide(bus, request, out, &answer)) {
+    if ((setup[0] & 0x7f) == 0x21 && !decide(bus, setup, out, &answer)) {
         say_event("gave-up: the host sent no data stage");
         return;
     }
     if (bus->machine.refusal == 0)
         send(function, setup, answer, out);
-    say_request(request, answer, out, machine_state(&bus->machine), clock_ms() - began);
+    say_request(setup, answer, out, machine_state(&bus->machine), clock_ms() - began);
     look(bus);
     bus_pass(bus);
 }
@@ -128,7 +125,7 @@ void bus_serve(struct bus *bus, const uint8_t setup[8])
 int bus_pause(struct bus *bus)
 {
     int64_t left = bus->told + machine_due(&bus->machine) - clock_ms();
-    if (machine_state(&bus->machine) != STATE_APP_DETACH)
+    if (machine_state(&bus->machine) != DFU_STATE_APP_DETACH)
         return -1;
     return left < 0 ? 0 : (int)left;
 }

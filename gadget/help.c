@@ -45,5 +45,5 @@ void words_help(void)
 /* The version of all of Fustrelan. */
 void words_version(void)
 {
-    puts("dfu-gadget 0.2.0");
+    puts("dfu-gadget 0.3.0");
 }

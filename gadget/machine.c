@@ -2,18 +2,16 @@
 /* The calls of the proved library. Each may ask for writes: these are carried out one by one, in the order in which they are asked
    for, each on the disk before the next, and no other call is made meanwhile. */
 #include "machine.h"
+#include "dfu_device_memory.h"
 #include "say.h"
 #include "stop.h"
 
 #include <errno.h>
 #include <stdio.h>
-#include <string.h>
 
-#define SECTOR 0 /* a file is written over in place */
-
-/* For what is asked of a medium alone: of a configuration, its unit counts there. */
-static const struct dfu_config layout = {.version = DFU_VERSION, .transfer = 1, .attributes = 4, .least = 1, .unit = MACHINE_UNIT};
-enum { WORK_INSTALL = 2 }; /* dfu_asking.work while an image is put in place */
+/* For what is asked of a medium alone: of a configuration, its unit and its sector count there. A file is written over in place. */
+static const struct dfu_config layout = {
+    .version = DFU_VERSION, .transfer = 1, .attributes = DFU_MANIFESTATION_TOLERANT, .least = 1, .unit = MACHINE_UNIT, .sector = 0};
 
 static int32_t note(struct machine *machine, int32_t answer)
 {
@@ -22,28 +20,34 @@ static int32_t note(struct machine *machine, int32_t answer)
     return answer;
 }
 
-/* One write, and how it went. Behind one that failed the library reads what the disk has. */
-static bool carry_out(const struct machine *machine, const struct dfu_ask *ask)
+/* One write, and how it went: 0 where it is on the disk. Behind one that failed the library reads what the disk has. */
+static int program(void *own, uint32_t at, const uint8_t *bytes, uint32_t length)
 {
-    const struct medium *medium = machine->medium;
-    bool is_sound = ask->kind == DFU_PROGRAM && ask->length <= MEDIUM_MOST_WRITE && ask->at <= medium->size
-        && ask->length <= medium->size - ask->at;
+    const struct medium *medium = ((const struct machine *)own)->medium;
+    bool is_sound = length <= MEDIUM_MOST_WRITE && at <= medium->size && length <= medium->size - at;
     errno = EINVAL;
-    if (is_sound && medium_write(medium, ask->at, ask->bytes, ask->length))
-        return true;
+    if (is_sound && medium_write(medium, at, bytes, length))
+        return 0;
     say_failed(medium->name, "was not written");
-    if (is_sound && !medium_forget(medium, ask->at, ask->length)) {
+    if (is_sound && !medium_forget(medium, at, length)) {
         fflush(NULL);
         stop_lost();
     }
-    return false;
+    return 1;
+}
+
+/* Of a medium that is written over in place no erase is asked for. */
+static int erase(void *own, uint32_t at, uint32_t length)
+{
+    (void)own, (void)at, (void)length;
+    return 1;
 }
 
 /* Another image is in place where the active one begins somewhere else. */
 static void look_for_image(struct machine *machine)
 {
     struct dfu_place place;
-    if (dfu_asking_image(&machine->config, SECTOR, machine->medium->bytes, machine->medium->size, &place) != 0)
+    if (dfu_device_image(&machine->device, &place) != 0)
         return;
     machine->is_installed = machine->is_installed || place.at != machine->place.at;
     machine->place = place;
@@ -52,36 +56,24 @@ static void look_for_image(struct machine *machine)
 /* The writes that are due, until the library has its answer. */
 static int32_t settle(struct machine *machine, int32_t answer, uint8_t *out, size_t room)
 {
-    const struct medium *medium = machine->medium;
-    bool may_install = false;
-    while (answer == DFU_ASKS) {
-        struct dfu_ask ask;
-        may_install = may_install || machine->asking.work == WORK_INSTALL;
-        answer = dfu_asking_next(&machine->config, &machine->asking, machine->block, sizeof machine->block, medium->bytes,
-                                 medium->size, &ask);
-        if (answer != 0)
-            return note(machine, answer < DFU_STALL ? answer : DFU_NO_DEVICE);
-        answer = dfu_asking_took(&machine->config, &machine->asking, machine->block, sizeof machine->block, medium->bytes,
-                                 medium->size, carry_out(machine, &ask) ? 0 : 1, out, room);
-    }
+    int32_t state = dfu_device_state(&machine->device);
+    bool may_install = answer == DFU_ASKS && (state == DFU_STATE_MANIFEST_SYNC || state == DFU_STATE_MANIFEST);
+    answer = note(machine, dfu_device_settle(&machine->device, answer, out, room));
     if (may_install)
         look_for_image(machine);
-    return note(machine, answer);
+    return answer;
 }
 
 int32_t machine_power_on(struct machine *machine, const struct medium *medium, bool is_upgrade)
 {
-    static const uint8_t detach[8] = {0x21, 0, 0xff, 0xff, 0, 0, 0, 0}, none[1];
-    uint8_t out[MOST_TRANSFER];
+    struct dfu_device *device = &machine->device;
     machine->medium = medium;
     machine->refusal = 0;
-    if (note(machine, dfu_asking_power_on(&machine->config, &machine->asking, SECTOR, medium->bytes, medium->size)) == 0)
-        note(machine, machine_image(medium, &machine->place));
-    if (machine->refusal == 0 && is_upgrade) {
-        machine_handle(machine, detach, none, 0, out);
-        if (machine_state(machine) < STATE_DFU_IDLE)
-            machine_reset(machine);
-    }
+    machine->driver = (struct dfu_driver){.own = machine, .erase = erase, .program = program};
+    *device = (struct dfu_device){.config = &machine->config, .flash = medium->bytes, .size = medium->size, .block = machine->block,
+                                  .most = sizeof machine->block, .driver = &machine->driver};
+    if (note(machine, is_upgrade ? dfu_device_begin(device) : dfu_device_power_on(device)) == 0)
+        note(machine, dfu_device_image(device, &machine->place));
     return machine->refusal;
 }
 
@@ -92,61 +84,49 @@ enum plan machine_plan(struct machine *machine, const uint8_t setup[8])
     if ((setup[0] & 0x80) != 0 || length == 0)
         return PLAN_ANSWER;
     if (length > machine->config.transfer) {
-        note(machine, dfu_asking_too_long(&machine->config, &machine->asking, setup));
+        note(machine, dfu_device_too_long(&machine->device, setup));
         return PLAN_STALL;
     }
-    if (note(machine, dfu_asking_would_stall(&machine->config, &machine->asking, machine->medium->size, setup)) == 0)
+    if (note(machine, dfu_device_would_stall(&machine->device, setup)) == 0)
         return PLAN_TAKE;
     if (machine->refusal == 0) {
         uint8_t out[MOST_TRANSFER], body[MOST_TRANSFER] = {0};
-        machine_handle(machine, setup, body, length, out);
+        machine_handle(machine, setup, body, out);
     }
     return PLAN_STALL;
 }
 
-int32_t machine_handle(struct machine *machine, const uint8_t setup[8], const uint8_t *body, size_t length, uint8_t out[MOST_TRANSFER])
+int32_t machine_handle(struct machine *machine, const uint8_t setup[8], const uint8_t *body, uint8_t out[MOST_TRANSFER])
 {
-    return settle(machine,
-                  dfu_asking_handle(&machine->config, &machine->asking, machine->block, sizeof machine->block, machine->medium->bytes,
-                                    machine->medium->size, setup, body, length, out, MOST_TRANSFER),
-                  out, MOST_TRANSFER);
+    return settle(machine, dfu_device_handle(&machine->device, setup, body, out, MOST_TRANSFER), out, MOST_TRANSFER);
 }
 
 void machine_pass(struct machine *machine, int64_t ms)
 {
     uint8_t out[MOST_TRANSFER];
     uint32_t passed = ms < 0 ? 0 : ms > UINT32_MAX ? UINT32_MAX : (uint32_t)ms;
-    settle(machine,
-           dfu_asking_elapse(&machine->config, &machine->asking, machine->block, sizeof machine->block, machine->medium->bytes,
-                             machine->medium->size, passed),
-           out, sizeof out);
+    settle(machine, dfu_device_elapse(&machine->device, passed), out, sizeof out);
 }
 
 void machine_reset(struct machine *machine)
 {
-    uint8_t out[MOST_TRANSFER];
-    settle(machine,
-           dfu_asking_usb_reset(&machine->config, &machine->asking, machine->block, sizeof machine->block, machine->medium->bytes,
-                                machine->medium->size),
-           out, sizeof out);
+    note(machine, dfu_device_usb_reset(&machine->device));
 }
 
 int64_t machine_due(struct machine *machine)
 {
-    int64_t due = dfu_device_due(&machine->config, &machine->asking.device);
-    if (due < 0)
-        note(machine, (int32_t)due);
+    int32_t due = note(machine, dfu_device_due(&machine->device));
     return due < 0 ? 0 : due;
 }
 
 int32_t machine_state(struct machine *machine)
 {
-    return note(machine, dfu_device_state(&machine->asking.device));
+    return note(machine, dfu_device_state(&machine->device));
 }
 
 bool machine_is_upgrade(struct machine *machine)
 {
-    return machine_state(machine) >= STATE_DFU_IDLE;
+    return machine_state(machine) >= DFU_STATE_IDLE;
 }
 
 int32_t machine_functional(const struct machine *machine, uint8_t out[9])
@@ -156,12 +136,12 @@ int32_t machine_functional(const struct machine *machine, uint8_t out[9])
 
 int32_t machine_image(const struct medium *medium, struct dfu_place *place)
 {
-    return dfu_asking_image(&layout, SECTOR, medium->bytes, medium->size, place);
+    return dfu_core_image(&layout, medium->bytes, medium->size, place);
 }
 
 int32_t machine_format(uint8_t *memory, size_t size, const uint8_t *image, size_t length)
 {
-    return dfu_asking_format(&layout, SECTOR, memory, size, image, length);
+    return dfu_memory_format(&layout, memory, size, image, length);
 }
 
 const char *machine_words(int32_t refusal)

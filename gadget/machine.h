@@ -1,10 +1,10 @@
 /* SPDX-License-Identifier: MIT OR Apache-2.0 */
-/* The device, as the proved library decides it. All calls of that library are in machine.c; what it asks to be written is written
-   there before anything else is asked of it. */
+/* The device, as the proved library decides it. All calls of that library are in machine.c; what it asks for is carried out there
+   before anything else is asked of it. */
 #ifndef DFU_GADGET_MACHINE_H
 #define DFU_GADGET_MACHINE_H
 
-#include "dfu_asking.h"
+#include "dfu_device.h"
 #include "medium.h"
 
 #include <stdbool.h>
@@ -12,11 +12,10 @@
 #define MOST_TRANSFER 4096 /* bytes of a block */
 #define MACHINE_UNIT 1     /* a file is written byte by byte, as far as its layout goes */
 
-enum { STATE_APP_DETACH = 1, STATE_DFU_IDLE = 2 };
-
 struct machine {
     struct dfu_config config;
-    struct dfu_asking asking;
+    struct dfu_device device;
+    struct dfu_driver driver;
     uint8_t block[MOST_TRANSFER];
     const struct medium *medium;
     struct dfu_place place;  /* of the active image */
@@ -31,8 +30,8 @@ int32_t machine_power_on(struct machine *machine, const struct medium *medium, b
 enum plan { PLAN_ANSWER, PLAN_STALL, PLAN_TAKE };
 enum plan machine_plan(struct machine *machine, const uint8_t setup[8]);
 
-/* The answer: how many bytes of `out`, or negative for a stall. */
-int32_t machine_handle(struct machine *machine, const uint8_t setup[8], const uint8_t *body, size_t length, uint8_t out[MOST_TRANSFER]);
+/* The answer: how many bytes of `out`, or negative for a stall. Where the host sends, the body has wLength bytes. */
+int32_t machine_handle(struct machine *machine, const uint8_t setup[8], const uint8_t *body, uint8_t out[MOST_TRANSFER]);
 
 /* So many milliseconds passed; the bus was reset. */
 void machine_pass(struct machine *machine, int64_t ms);

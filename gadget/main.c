@@ -1,6 +1,6 @@
 /* SPDX-License-Identifier: MIT OR Apache-2.0 */
 /* dfu-gadget: a Linux board as a device of DFU. What is answered, when time matters and what is written, and in which order, is decided
-   by the proved device (dfu_asking.h, called in machine.c alone); this program carries it out, by FunctionFS and on the medium. The rest
+   by the proved device (dfu_device.h, called in machine.c alone); this program carries it out, by FunctionFS and on the medium. The rest
    is proved by nobody. share/man/dfu-gadget.1 says how it is used.
 
    words, config, help     the command line, and the file of --config

@@ -1,222 +1,290 @@
 /* SPDX-License-Identifier: MIT OR Apache-2.0 */
-/* A device of USB device firmware upgrade (USB DFU 1.1) for a program in C, as a bootloader runs it.
+/**
+ * @file dfu_device.h
+ * @brief A device of USB device firmware upgrade (USB DFU 1.1), as a bootloader runs it.
  *
- * The program owns everything: the configuration, the record of what is kept between two calls, the memory of one block of
- * a download beside it, and the medium, which is plain memory. The library has no state and takes no memory. Of a C library it
- * wants at most memcpy, memmove and memset. Its body is dfu_device.c, in C11, for processors of 32 or 64 bits that store the low
- * byte of a number first.
+ * The flash is mapped into memory for reading, and written by a driver of two functions. Two slots hold an image each: a download goes
+ * to the spare one, and becomes active in one step at its end. So whenever power is lost, the old image or the whole new one is active.
  *
- * Return values: 0 or more is an answer; a negative number is DFU_STALL or a refusal. A refusal changes nothing: not the
- * record, not the block, not the medium, and not the buffer of the answer.
+ *     static uint8_t block[1024], body[1024], out[1024];   // of wTransferSize bytes each: THREE BUFFERS, no two may overlap
+ *     static struct dfu_device dfu = {.config = &config, .flash = flash, .size = size, .block = block, .most = sizeof block,
+ *                                     .driver = &driver};
+ *
+ *     power:                dfu_device_power_on(&dfu), or dfu_device_begin(&dfu) to begin in dfuIDLE, as for a button or a flag.
+ *                           DFU_NO_MEDIUM: a new board. dfu_device_format(&dfu, image, length), and again
+ *     a request of this class (bmRequestType 21h or A1h; other requests are the program's own):
+ *                           if the host sends, receive the whole data stage into body
+ *                           n = dfu_device_serve(&dfu, setup, body, out, sizeof out)
+ *                           n >= 0: answer with n bytes of out, or acknowledge if the host sent. Else stall endpoint 0
+ *     its answer is out:    dfu_device_work(&dfu)
+ *     the bus is reset:     dfu_device_reset(&dfu), once per enumeration
+ *     time, in appDETACH alone:  dfu_device_elapse(&dfu, milliseconds). If that leads to dfuIDLE (bitWillDetach), leave the bus and
+ *                           come back, and report no reset for it
+ *     then:                 dfu_device_state(&dfu): in appIDLE start the image at dfu_device_image; in appDETACH it runs still;
+ *                           elsewhere the upgrade does. An image that is a program of its own answers by dfu_runtime.h
+ *
+ * A program that can't wait for its flash has no driver. It calls dfu_device_handle and dfu_device_answered in place of serve and work:
+ *
+ *     while (n == DFU_ASKS && dfu_device_next(&dfu, &ask) == 0) {
+ *         failed = not 0 if the flash could not do what ask says, once it has done it;
+ *         n = dfu_device_took(&dfu, failed, out, sizeof out);
+ *     }
+ *
+ * and n is the answer of the call that asked then. Meanwhile the host gets NAK, and every other call is refused with DFU_ASKED.
+ *
+ * Rules of the loop:
+ * - THE WORK, dfu_device_work, writes the block or puts the image in place. Call it right after each answer is out, in one go: no
+ *   clock is asked, the host waits meanwhile, and gets NAK if it asks. It comes before the next request and a reset too, as
+ *   dfu_device_serve and dfu_device_reset have it: a host may be early, and a stack may not say that an answer is out. Without it a
+ *   request is an error, and a reset ends the upgrade; either drops what was taken.
+ * - Passing milliseconds are for appDETACH alone. The times of dfuDNBUSY and dfuMANIFEST pass in the work.
+ * - The reset that counts is the first reset, or unplugging, after a SET_CONFIGURATION of another value than 0. Hosts reset a device
+ *   twice as they enumerate it, and a second reset would lead from dfuIDLE to appIDLE. The first enumeration of a device that began in
+ *   dfuIDLE has none that counts.
+ * - The time until a block or an image stands is busy_ms and manifest_ms: DFU_BLOCK_ERASES and DFU_BLOCK_PROGRAMS times what the part
+ *   needs at most. With 0 they are written before the GETSTATUS is answered; for fwupd manifest_ms should be 0 if the device is tolerant.
+ * - A stack that acknowledges a data stage as it takes it (Linux's FunctionFS does) asks before it: dfu_device_work, then
+ *   dfu_device_would_stall. 1: dfu_device_handle with any body of that length, and stall the setup. 0: receive the data stage.
  *
  * What the program owes, always:
- * - No pointer is NULL, also where its length is 0. Each points to as much as its length or its type says. Where address 0
- *   is memory, nothing that is handed in begins there.
- * - Nothing that is handed in overlaps anything else that is: BODY AND OUT ARE TWO BUFFERS, also where the stack has one.
- * - One call at a time for a record or a medium, and up to 9,000 bytes of stack below a call. Two devices share nothing: a
- *   call for one may interrupt a call for the other. An interrupt that may come within a call makes none for the same device.
- * What it owes so that the device goes on from where it was:
- * - The configuration is the same in every call.
- * - The record, the block and the medium are as the last call left them. A record begins with dfu_device_power_on.
- * Then each call is a row of Fustrelan's device table. Where a program keeps one of them otherwise, a call takes the device
- * that they are now, or refuses. No call fails in another way, whatever they hold. Since a call reads no image, it is
- * answered also where bytes of the active image changed since the device got power or the image was put in place, and
- * where a garbled record notes a slot whose image has another register: dfu_device_power_on finds both. And where the
- * block's bytes changed, the changed ones are written.
+ * - No pointer is NULL, also if its length is 0, but driver. Each points to as much as its length or its type says. Nothing that is
+ *   handed in begins at address 0 or overlaps anything else that is.
+ * - One call at a time for a device, and DFU_STACK bytes of stack. Two devices share nothing: a call for one may interrupt one for
+ *   the other. An interrupt that may come within a call makes none for the same device.
+ * and so that the device goes on from where it was:
+ * - The configuration stays. Record, block and flash are as the last call left them. A record begins with power_on or begin, after each
+ *   loss of power.
+ * - Flash reads as it stands: caches are invalidated once an operation is carried out. Only the operations that are asked for change it.
+ *   One that a loss of power breaks off may leave any bytes in its range, and no other byte changed.
  *
- * The loop of a bootloader:
+ * What to do on a refusal. Stall the request, and:
+ * - DFU_NO_CONFIG, DFU_NO_BLOCK, DFU_NO_ROOM, DFU_WRONG_SIZE, DFU_TOO_LARGE: a mistake of the program. It stays until that is mended.
+ * - DFU_NO_MEDIUM of power_on, begin or image: there is no image. Format.
+ * - DFU_NO_MEDIUM or DFU_NO_DEVICE elsewhere: flash, block or record changed. Give power again; the host begins again.
+ * - DFU_ASKED: operations are due. Carry them out (dfu_device_settle with DFU_ASKS), then make the call again.
+ * - DFU_NOT_WRITTEN: format again; if that goes on, the part or its driver is broken.
+ * - DFU_NOT_LONG: it is a request for dfu_device_handle.
  *
- *     on power:            dfu_device_power_on; or dfu_device_begin for a device that is to begin in dfuIDLE
- *     on a bus reset:      the work, then dfu_device_usb_reset, once per enumeration
- *     on a request of this class (bmRequestType 21h or A1h) to the interface of this standard:
- *                          the work
- *                          set wIndex, bytes 4 and 5 of the setup, to 0, whatever number the interface has
- *                          if the host sends, receive the whole data stage first, wLength bytes
- *                          n = dfu_device_handle(..)
- *                          0 or more: answer with the n bytes of out, or acknowledge if the host sent
- *                          DFU_STALL: stall endpoint 0; the device may be in another state now
- *     once the answer is out: the work
- *     the work:            if the state is 4 or 7, dfu_device_elapse with what dfu_device_due says, at once
- *     as time passes:      in state 1 alone, dfu_device_elapse with the milliseconds; dfu_device_due says how many are left
- *                          bitWillDetach, and the state went from 1 to 2: leave the bus and come back; report no reset for that
- *     then:                dfu_device_state says what runs: the application in 0 and 1, the upgrade elsewhere
+ * Images are read by power_on, begin, image and format_start, at the start and the end of the work that puts one in place, and by the
+ * first operation of a download. No other call reads one. So an image that fades under its standing header while the device runs is
+ * found at the next power-on.
  *
- * - Other requests, as SET_INTERFACE, are the program's own: dfu_device_handle stalls them.
- * - The work writes the block, or puts the image in place, while the host waits for the time that it was told. In state 4 or 7
- *   a request, GETSTATUS too, is an error, and a bus reset ends the upgrade: either drops what was taken. A host may be early,
- *   and a stack may not say that an answer is out, so the work comes before each of them too.
- * - Some stacks acknowledge a data stage as they take it, so that it is too late for a stall (Linux's FunctionFS and
- *   raw-gadget do). There ask dfu_device_would_stall before the data stage. 1: call dfu_device_handle, with any body of
- *   wLength bytes, and stall the setup. 0: receive the data stage, then call dfu_device_handle.
- * - Do not cut a body that is longer than your buffer, which has at least transfer bytes: call dfu_device_too_long with its
- *   setup, and stall it.
- * - Report one bus reset per enumeration; skip the first one if you started in dfuIDLE. Another reset ends the upgrade: by
- *   the table, one in dfuIDLE leads to appIDLE.
- * - The medium is written in the work. If the busy or the manifestation time is 0, it is written in the dfu_device_handle
- *   that answers GETSTATUS. A DNLOAD writes nothing.
- * - dfu_device_power_on, dfu_device_begin and dfu_device_image read the whole active image, to check it, and the image
- *   before it too until the next download writes its first block. The call that puts an image in place reads the new one
- *   twice. No other call reads an image, as long as the record is as the last call left it.
- * - Each write of the medium is whole units at multiples of the unit. Bytes that make no whole unit yet wait in the record.
- * - Where a block device keeps the medium, choose C so that no sector has bytes of both slots: 2 * G + C (dfu_device_format)
- *   is a multiple of the sector's size. */
+ * Memory: sizeof(struct dfu_device), 352 bytes with pointers of 32 bits, and the three buffers: 544 bytes in all for blocks of 64,
+ * 3,424 for 1,024, and 12,640 for 4,096.
+ */
 #ifndef DFU_DEVICE_H
 #define DFU_DEVICE_H
 
-#include <stddef.h>
-#include <stdint.h>
+#include "dfu_core.h"
 
-#if defined(__BYTE_ORDER__) && defined(__ORDER_LITTLE_ENDIAN__) && __BYTE_ORDER__ != __ORDER_LITTLE_ENDIAN__
-#error "dfu_device is for processors that store the low byte of a number first"
+#if defined(__clang__) && defined(__has_warning)
+#pragma clang diagnostic push
+#if __has_warning("-Wunsafe-buffer-usage")
+#pragma clang diagnostic ignored "-Wunsafe-buffer-usage"
 #endif
-#if UINTPTR_MAX > 0xffffffffffffffffu
-#error "dfu_device is for pointers of at most 64 bits"
-#endif
-
-/* The version: 10,000 for each major one, 100 for each minor one, and 1 for each patch. */
-#ifndef DFU_VERSION
-#define DFU_VERSION 200
-#define DFU_VERSION_TEXT "0.2.0"
 #endif
 
 #ifdef __cplusplus
 extern "C" {
 #endif
 
-/* The configuration: what a device is set up with. It begins with the version of this header, so that an archive of another
- * one refuses it. */
-struct dfu_config {
-    uint32_t version;     /* DFU_VERSION */
-    uint16_t device;      /* bcdDevice */
-    uint16_t product;     /* idProduct */
-    uint16_t vendor;      /* idVendor */
-    uint16_t detach_ms;   /* wDetachTimeOut, milliseconds */
-    uint16_t transfer;    /* wTransferSize, bytes: 1 to 4,096 */
-    uint8_t attributes;   /* bmAttributes: bit 0 bitCanDnload, 1 bitCanUpload, 2 bitManifestationTolerant, 3 bitWillDetach */
-    uint32_t busy_ms;     /* how long a block takes to be written, 0 to 16,777,215 ms */
-    uint32_t manifest_ms; /* how long an image takes to be put in place, 0 to 16,777,215 ms; at least 1 without bit 2 */
-    uint32_t least;       /* the fewest bytes of an image, 1 to 16,777,216: with more than a slot holds no download can end */
-    uint32_t unit;        /* how many bytes the medium is written at a time: 1, 16, 64 or 256 */
+/** @brief Bytes of stack below a call, at most: as measured without optimisation. With it they are 1,500 at most. */
+#define DFU_STACK 3000
+
+/** @brief Bytes that the gate of a slot has for itself, and as many its header. */
+#define DFU_GATE(unit, sector) ((unit) > (sector) ? ((unit) > 16 ? (unit) : 16) : ((sector) > 16 ? (sector) : 16))
+
+/** @brief Bytes of flash for images of at most `capacity` bytes, which is 1 to 16,777,216, and whole in the unit and in the sector.
+ *
+ *      64 KiB, erased by 1,024, programmed by  16: DFU_MEDIUM_SIZE( 16, 1024,  30720): images of up to  30 KiB
+ *     128 KiB, erased by 2,048, programmed by  64: DFU_MEDIUM_SIZE( 64, 2048,  61440): images of up to  60 KiB
+ *     256 KiB, erased by 4,096, programmed by 256: DFU_MEDIUM_SIZE(256, 4096, 122880): images of up to 120 KiB
+ *
+ *  A microcontroller's own flash has so much less as its bootloader takes. An image runs at either slot: link it for both places. */
+#define DFU_MEDIUM_SIZE(unit, sector, capacity) (2 * (2 * DFU_GATE(unit, sector) + (capacity)))
+
+/** @brief Erases that a block costs at most: the gate's, and each sector's that begins in it. */
+#define DFU_BLOCK_ERASES(transfer, sector) \
+    ((sector) == 0 ? 0 : 1 + ((transfer) + (sector) - 1) / ((sector) + ((sector) == 0)))
+/** @brief Programs that a block costs at most: one for each 256 bytes, and one for a unit that was begun before, or for the gate
+ *  of flash without sectors. */
+#define DFU_BLOCK_PROGRAMS(transfer) (((transfer) + 255) / 256 + 1)
+/** @brief Erases that putting an image in place costs at most: for the last unit, the header and the gate. */
+#define DFU_COMMIT_ERASES(sector) ((sector) == 0 ? 0 : 3)
+/** @brief Programs that it costs at most: the last unit, the header, the gate. */
+#define DFU_COMMIT_PROGRAMS 3
+
+/** @brief What writes the flash. Each function returns 0 if it is done, else any number. */
+struct dfu_driver {
+    void *own;                                                                            /**< handed to both functions */
+    int (*erase)(void *own, uint32_t at, uint32_t length);                                /**< the sector at flash[at], to FFh */
+    int (*program)(void *own, uint32_t at, const uint8_t *bytes, uint32_t length);        /**< 1 to 256 bytes at flash[at] */
 };
 
-/* The record: what is kept of a device between two calls. A program reads it by dfu_device_state and dfu_device_code, and
- * writes nothing in it.
- *
- * mode  state (bState)                         first            second  number
- *  0    appIDLE (0)
- *  1    appDETACH (1)                          its timer, ms    ms      -
- *  2    dfuIDLE (2)
- *  3    dfuDNLOAD-SYNC (3), block not written  bytes written    -       of the next block
- *  4    dfuDNLOAD-SYNC (3), all written        bytes written    -       of the next block
- *  5    dfuDNBUSY (4)                          bytes written    ms      of the next block
- *  6    dfuDNLOAD-IDLE (5)                     bytes written    -       of the next block
- *  7    dfuMANIFEST-SYNC (6), not complete     bytes written
- *  8    dfuMANIFEST-SYNC (6), complete
- *  9    dfuMANIFEST (7)                        bytes written    ms
- * 10    dfuMANIFEST-WAIT-RESET (8)
- * 11    dfuUPLOAD-IDLE (9)                     bytes sent       -       of the next block
- * 12    dfuERROR (10)                          -                -       the status code, 0 to 15
- *
- * version: DFU_VERSION of the archive; a record of another one is none of a device. ms: how many milliseconds passed in the
- * state. put_end: how many bytes were put in the spare slot. length: in modes 3 and 5 so many bytes at the front of the
- * block's memory are the block that is not written yet. slot and header: which slot the last call found to be the
- * active one, 0 or 1, and the 16 bytes of its header, as they stood on the medium. held_length: so many bytes at the front
- * of held were put and make no whole unit yet. */
+/** @brief A device. The program fills in all but the last two fields. */
 struct dfu_device {
-    uint32_t version, mode, first, second, put_end, slot;
-    uint16_t number, length;
-    uint8_t header[16];
-    uint16_t held_length;
-    uint8_t held[256];
+    const struct dfu_config *config; /**< what it is set up with */
+    const uint8_t *flash;            /**< both slots, mapped for reading */
+    size_t size;                     /**< bytes of flash, DFU_MEDIUM_SIZE */
+    uint8_t *block;                  /**< memory in which a block waits to be written */
+    size_t most;                     /**< bytes of it, at least the transfer size */
+    const struct dfu_driver *driver; /**< NULL for a program that carries out what is asked by itself */
+    struct dfu_record record;        /**< private */
+    uint32_t unused;                 /**< fills the struct up to a multiple of 8 bytes */
 };
 
-/* Where the active image stands: its first byte is medium[at]. */
-struct dfu_place {
-    uint32_t at, length;
-};
+/** @brief The device gets power: after each loss of power, before any other call. @return as dfu_core_power_on */
+static inline int32_t dfu_device_power_on(struct dfu_device *d) {
+    return dfu_core_power_on(d->config, &d->record, d->flash, d->size);
+}
 
-/* Negative return values: the first is an answer, all others are refusals. */
-enum {
-    DFU_STALL = -1,      /* stall the request; the device may be in another state now */
-    DFU_NO_CONFIG = -2,  /* the configuration has another version, or a number that is out of its range */
-    DFU_NO_MEDIUM = -3,  /* the medium has no active image, or 2^32 bytes or more */
-    DFU_NO_DEVICE = -4,  /* the record is none of a device on that medium with that block, or of another version */
-    DFU_NO_ROOM = -5,    /* out has less room than an answer may need: 6 bytes, or the transfer size where that is more */
-    DFU_WRONG_SIZE = -6, /* the medium has no length that two slots of its unit can have */
-    DFU_TOO_LARGE = -7,  /* the image is longer than a slot's data */
-    DFU_NOT_LONG = -9,   /* the host sends no more bytes with this setup than a block may have */
-    DFU_NO_BLOCK = -10   /* the block's memory has fewer bytes than the transfer size */
-};
+/** @brief The device gets power and begins in dfuIDLE. @return as dfu_core_begin */
+static inline int32_t dfu_device_begin(struct dfu_device *d) {
+    return dfu_core_begin(d->config, &d->record, d->flash, d->size);
+}
 
-/* Writes an image into the first slot and makes it the active one, whatever stood on the medium: 0; or the first that
- * holds of DFU_NO_CONFIG, DFU_NO_MEDIUM (2^32 bytes or more), DFU_WRONG_SIZE, DFU_TOO_LARGE. A medium for images of at most
- * C bytes has 2 * (2 * G + C) bytes, G being 16, or the unit where that is more. C is 1 to 16,777,216, and whole in the unit.
- * It is for when a board is made: a loss of power within it may leave no image.
- * An image of length 0 is allowed, and means that there is no application yet: dfu_device_image then gives length 0. */
-int32_t dfu_device_format(const struct dfu_config *config, uint8_t *medium, size_t size, const uint8_t *image, size_t length);
+/** @brief As dfu_core_handle. @param body wLength bytes if the host sends and they are at most transfer; else it is not read */
+static inline int32_t dfu_device_handle(struct dfu_device *d, const uint8_t setup[8], const uint8_t *body, uint8_t *out, size_t room) {
+    const uint32_t length = setup[0] == 0x21 ? DFU_TO(uint32_t, setup[6]) | DFU_TO(uint32_t, setup[7]) << 8 : 0;
+    if (length > d->config->transfer)
+        return dfu_core_too_long(d->config, &d->record, setup);
+    return dfu_core_handle(d->config, &d->record, d->block, d->most, d->flash, d->size, setup, body, length, out, room);
+}
 
-/* The device gets power: 0, and the record is that of a device in appIDLE, whatever it held; or the first that holds of
- * DFU_NO_CONFIG, DFU_NO_MEDIUM. It writes nothing on the medium. Call it after each loss of power: only the medium has to
- * last through one. A loss of power within a call was tried after each instruction on x86-64, and isn't proved here. The
- * writes are plain stores. Caches and memory have to let them through in the processor's order: what opens the new slot
- * comes last. */
-int32_t dfu_device_power_on(const struct dfu_config *config, struct dfu_device *device, uint8_t *medium, size_t size);
+/** @brief As dfu_core_elapse. */
+static inline int32_t dfu_device_elapse(struct dfu_device *d, uint32_t ms) {
+    return dfu_core_elapse(d->config, &d->record, d->block, d->most, d->flash, d->size, ms);
+}
 
-/* The device gets power and begins in dfuIDLE: as dfu_device_power_on, a DETACH and a reset of the bus. */
-int32_t dfu_device_begin(const struct dfu_config *config, struct dfu_device *device, uint8_t *medium, size_t size);
+/** @brief As dfu_core_usb_reset: the work has to be done before. */
+static inline int32_t dfu_device_usb_reset(struct dfu_device *d) {
+    return dfu_core_usb_reset(d->config, &d->record, d->block, d->most, d->flash, d->size);
+}
 
-/* Answers a setup with its body. BODY AND OUT MUST NOT SHARE A BYTE. block is memory of most bytes, at least the transfer
- * size, in which a block waits to be written; it belongs to the record, and is the same in each call. The number is how many
- * bytes of out are the answer: 0 where it is acknowledged, or has none; or DFU_STALL; or the first that holds of
- * DFU_NO_ROOM, DFU_NO_CONFIG, DFU_NO_BLOCK, DFU_NO_MEDIUM, DFU_NO_DEVICE. */
-int32_t dfu_device_handle(const struct dfu_config *config, struct dfu_device *device, uint8_t *block, size_t most,
-                          uint8_t *medium, size_t size, const uint8_t setup[8], const uint8_t *body, size_t length,
-                          uint8_t *out, size_t room);
+/** @brief As dfu_core_next. */
+static inline int32_t dfu_device_next(const struct dfu_device *d, struct dfu_ask *ask) {
+    return dfu_core_next(d->config, &d->record, d->block, d->most, d->flash, d->size, ask);
+}
 
-/* So many milliseconds pass: 0; or the first that holds of DFU_NO_CONFIG, DFU_NO_BLOCK, DFU_NO_MEDIUM, DFU_NO_DEVICE. They
- * count in appDETACH, dfuDNBUSY and dfuMANIFEST. A call changes the state at most once; the rest of its time is dropped. */
-int32_t dfu_device_elapse(const struct dfu_config *config, struct dfu_device *device, uint8_t *block, size_t most,
-                          uint8_t *medium, size_t size, uint32_t ms);
+/** @brief As dfu_core_took. */
+static inline int32_t dfu_device_took(struct dfu_device *d, uint32_t failed, uint8_t *out, size_t room) {
+    return dfu_core_took(d->config, &d->record, d->block, d->most, d->flash, d->size, failed, out, room);
+}
 
-/* The bus is reset: 0; or the first that holds of DFU_NO_CONFIG, DFU_NO_BLOCK, DFU_NO_MEDIUM, DFU_NO_DEVICE. appDETACH leads
- * to dfuIDLE, every other state to appIDLE. */
-int32_t dfu_device_usb_reset(const struct dfu_config *config, struct dfu_device *device, uint8_t *block, size_t most,
-                             uint8_t *medium, size_t size);
+/** @brief As dfu_core_would_stall. */
+static inline int32_t dfu_device_would_stall(const struct dfu_device *d, const uint8_t setup[8]) {
+    return dfu_core_would_stall(d->config, &d->record, d->size, setup);
+}
 
-/* Whether dfu_device_handle will stall this setup, whatever body of wLength bytes comes with it: 1 or 0; or the first that
- * holds of DFU_NO_CONFIG, DFU_NO_DEVICE, the latter as dfu_device_state. The medium has size bytes. Nothing changes. */
-int32_t dfu_device_would_stall(const struct dfu_config *config, const struct dfu_device *device, size_t size,
-                               const uint8_t setup[8]);
+/** @brief As dfu_core_too_long. */
+static inline int32_t dfu_device_too_long(struct dfu_device *d, const uint8_t setup[8]) {
+    return dfu_core_too_long(d->config, &d->record, setup);
+}
 
-/* As dfu_device_handle for a setup whose body has more than transfer bytes, without the body: DFU_STALL; or the first that
- * holds of DFU_NO_CONFIG, DFU_NO_DEVICE as dfu_device_state, DFU_NOT_LONG. */
-int32_t dfu_device_too_long(const struct dfu_config *config, struct dfu_device *device, const uint8_t setup[8]);
+/** @brief As dfu_core_due. */
+static inline int32_t dfu_device_due(const struct dfu_device *d) {
+    return dfu_core_due(d->config, &d->record);
+}
 
-/* In how many milliseconds dfu_device_elapse changes the state, at least 1; 0 where no time changes it; or the first that
- * holds of DFU_NO_CONFIG, DFU_NO_DEVICE as dfu_device_state. */
-int64_t dfu_device_due(const struct dfu_config *config, const struct dfu_device *device);
+/** @brief As dfu_core_state. */
+static inline int32_t dfu_device_state(const struct dfu_device *d) {
+    return dfu_core_state(&d->record);
+}
 
-/* The functional descriptor (USB DFU 1.1, section 4.1.3), for the configuration descriptor: 9, and out has its 9 bytes; or
- * DFU_NO_CONFIG. */
-int32_t dfu_device_functional(const struct dfu_config *config, uint8_t out[9]);
+/** @brief As dfu_core_code. */
+static inline int32_t dfu_device_code(const struct dfu_device *d) {
+    return dfu_core_code(&d->record);
+}
 
-/* The state, bState: 0 to 10; or DFU_NO_DEVICE where the record is of another version, or mode, or number in mode 12, is out
- * of its range. */
-int32_t dfu_device_state(const struct dfu_device *device);
+/** @brief As dfu_core_image. */
+static inline int32_t dfu_device_image(const struct dfu_device *d, struct dfu_place *place) {
+    return dfu_core_image(d->config, d->flash, d->size, place);
+}
 
-/* The status code, bStatus: 0 to 15, and 0 in every state but dfuERROR; or DFU_NO_DEVICE as dfu_device_state. */
-int32_t dfu_device_code(const struct dfu_device *device);
+/** @brief As dfu_core_functional. */
+static inline int32_t dfu_device_functional(const struct dfu_config *config, uint8_t out[9]) {
+    return dfu_core_functional(config, out);
+}
 
-/* Where the active image stands, for a program that runs it in place: 0; or the first that holds of DFU_NO_CONFIG,
- * DFU_NO_MEDIUM, and place is as it was. It writes nothing. The place holds until the next image is put in place. A length of
- * 0 means that there is no application. */
-int32_t dfu_device_image(const struct dfu_config *config, uint8_t *medium, size_t size, struct dfu_place *place);
+/** @brief As dfu_core_format_start. */
+static inline int32_t dfu_device_format_start(struct dfu_device *d, const uint8_t *image, size_t length) {
+    return dfu_core_format_start(d->config, &d->record, d->flash, d->size, image, length);
+}
 
-/* The version of the archive: DFU_VERSION, where header and archive belong together. */
-int32_t dfu_device_version(void);
+/** @brief As dfu_core_format_next. */
+static inline int32_t dfu_device_format_next(const struct dfu_device *d, const uint8_t *image, size_t length, struct dfu_ask *ask) {
+    return dfu_core_format_next(d->config, &d->record, d->flash, d->size, image, length, ask);
+}
+
+/** @brief As dfu_core_format_took. */
+static inline int32_t dfu_device_format_took(struct dfu_device *d, const uint8_t *image, size_t length, uint32_t failed) {
+    return dfu_core_format_took(d->config, &d->record, d->flash, d->size, image, length, failed);
+}
+
+/** @brief Carries out an operation by the driver. @return 0 if it is done */
+static inline uint32_t dfu_device_carry_out(const struct dfu_driver *driver, const struct dfu_ask *ask) {
+    const int failed = ask->kind == DFU_ERASE ? driver->erase(driver->own, ask->at, ask->length)
+                                              : driver->program(driver->own, ask->at, ask->bytes, ask->length);
+    return failed != 0;
+}
+
+/** @brief An answer is out: in dfuDNBUSY and dfuMANIFEST the time that is due passes at once. @return 0; DFU_ASKS; as dfu_core_elapse */
+static inline int32_t dfu_device_answered(struct dfu_device *d) {
+    const int32_t state = dfu_device_state(d), due = dfu_device_due(d);
+    if (state != DFU_STATE_DNBUSY && state != DFU_STATE_MANIFEST)
+        return state < 0 ? state : 0;
+    return due < 0 ? due : dfu_device_elapse(d, DFU_TO(uint32_t, due));
+}
+
+/** @brief While n is DFU_ASKS, and there is a driver, carries out what is due. @return the answer of the call that gave n; as
+ *         dfu_core_next and dfu_core_took */
+static inline int32_t dfu_device_settle(struct dfu_device *d, int32_t n, uint8_t *out, size_t room) {
+    while (n == DFU_ASKS && d->driver) {
+        struct dfu_ask ask;
+        n = dfu_device_next(d, &ask);
+        if (n == 0)
+            n = dfu_device_took(d, dfu_device_carry_out(d->driver, &ask), out, room);
+    }
+    return n;
+}
+
+/** @brief The work: dfu_device_answered, and carries out what is due. @return 0; as dfu_core_elapse and dfu_device_settle */
+static inline int32_t dfu_device_work(struct dfu_device *d) {
+    uint8_t none[6];
+    return dfu_device_settle(d, dfu_device_answered(d), none, sizeof none);
+}
+
+/** @brief The work, dfu_device_handle, and carries out what is due. @return as dfu_core_handle; as dfu_device_work */
+static inline int32_t dfu_device_serve(struct dfu_device *d, const uint8_t setup[8], const uint8_t *body, uint8_t *out, size_t room) {
+    const int32_t worked = dfu_device_work(d);
+    return worked < 0 ? worked : dfu_device_settle(d, dfu_device_handle(d, setup, body, out, room), out, room);
+}
+
+/** @brief The work, and the bus is reset. @return 0; as dfu_core_usb_reset; as dfu_device_work */
+static inline int32_t dfu_device_reset(struct dfu_device *d) {
+    const int32_t worked = dfu_device_work(d);
+    return worked < 0 ? worked : dfu_device_usb_reset(d);
+}
+
+/** @brief Puts an image of 0 bytes or more into the first slot, whatever stands on the flash, by the driver. A loss of power within it
+ *         may leave no image. Then call dfu_device_power_on. @return 0; as the calls of a format */
+static inline int32_t dfu_device_format(struct dfu_device *d, const uint8_t *image, size_t length) {
+    int32_t n = dfu_device_format_start(d, image, length);
+    while (n == DFU_ASKS && d->driver) {
+        struct dfu_ask ask;
+        n = dfu_device_format_next(d, image, length, &ask);
+        if (n == 0)
+            n = dfu_device_format_took(d, image, length, dfu_device_carry_out(d->driver, &ask));
+    }
+    return n;
+}
 
 #ifdef __cplusplus
 }
+#endif
+
+#if defined(__clang__) && defined(__has_warning)
+#pragma clang diagnostic pop
 #endif
 
 #endif

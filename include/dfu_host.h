@@ -75,8 +75,8 @@
 
 /* The version: 10,000 for each major one, 100 for each minor one, and 1 for each patch. */
 #ifndef DFU_VERSION
-#define DFU_VERSION 200
-#define DFU_VERSION_TEXT "0.2.0"
+#define DFU_VERSION 300
+#define DFU_VERSION_TEXT "0.3.0"
 #endif
 
 /* Before a member of 8 bytes: it stands at a multiple of 8, also where the processor's ABI asks for less. */

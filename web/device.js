@@ -1,13 +1,17 @@
 // SPDX-License-Identifier: MIT OR Apache-2.0
-// The proved device, with its medium in the memory of the library.
+// The proved device. It asks for each operation of the flash, which is carried out here, in the memory of the library: its driver.
+import { LAYOUT } from './records.js'
 import { Library } from './library.js'
 
 const STALL = -1
+const ASKS = -11
+const ERASE = 1
+const ERASED = 0xff
 const MOST_BODY = 65536
 const MOST_ANSWER = 4096
 const MOST_BLOCK = 4096
 
-// A device is refused: `number` is that of dfu_device.h.
+// A device is refused: `number` is that of dfu_core.h.
 export class Refused extends Error {
   constructor(number) {
     super(`the proved device refuses: ${number}`)
@@ -24,32 +28,67 @@ export class Device extends Library {
   // config: the fields of struct dfu_config. The medium is made for images of up to `capacity` bytes, all FFh but for `image`.
   constructor(module, config, capacity, image) {
     super(module)
-    this.config = this.record('dfu_config', { unit: 1, ...config })
-    this.device = this.record('dfu_device')
+    const whole = { unit: 1, sector: 0, ...config }
+    this.config = this.record('dfu_config', whole)
+    this.kept = this.record('dfu_record')
+    this.ask = this.record('dfu_ask')
     this.block = this.reserve(MOST_BLOCK)
-    this.size = this.sizeFor(capacity)
+    this.gate = Math.max(16, whole.unit, whole.sector) // bytes of a slot's gate, and of its header
+    this.size = 2 * (2 * this.gate + capacity)
     this.medium = this.reserve(this.size)
-    this.mediumBytes().fill(0xff)
+    this.mediumBytes().fill(ERASED)
     this.setup = this.reserve(8)
     this.body = this.reserve(MOST_BODY)
     this.out = this.reserve(MOST_ANSWER)
     this.place = this.record('dfu_place')
-    const words = [this.config, this.medium, this.size, this.put(image), image.length].map(BigInt)
-    taken(this.calls.dfu_device_format(...words))
+    this.driver = operation => this.carryOut(operation)
+    this.format(image)
     this.power()
   }
 
-  sizeFor(capacity) {
-    return 2 * (32 + capacity)
+  // Carries out an operation, bytes that are to stand there: whether that was done.
+  carryOut({ at, bytes }) {
+    this.mediumBytes().set(bytes, at)
+    return true
+  }
+
+  // The operation that the library asks for.
+  asked() {
+    const { kind, at, length } = this.read('dfu_ask', this.ask)
+    const isErase = kind === ERASE
+    const bytes = isErase ? new Uint8Array(length).fill(ERASED) : this.copy(this.ask + LAYOUT.dfu_ask.fields.bytes.at, length)
+    return { isErase, at, bytes }
+  }
+
+  // Has the operations carried out that a call asks for, one by one; its answer then.
+  settle(number, next, took) {
+    let answer = number
+    while (answer === ASKS) {
+      taken(next())
+      answer = took(this.driver(this.asked()) ? 0 : 1)
+    }
+    return answer
   }
 
   words() {
-    return [this.config, this.device, this.block, MOST_BLOCK, this.medium, this.size].map(BigInt)
+    return [this.config, this.kept, this.block, MOST_BLOCK, this.medium, this.size].map(BigInt)
+  }
+
+  work(number) {
+    const { dfu_core_next: next, dfu_core_took: took } = this.calls
+    return this.settle(number, () => next(...this.words(), BigInt(this.ask)),
+      failed => took(...this.words(), failed, BigInt(this.out), BigInt(MOST_ANSWER)))
+  }
+
+  format(image) {
+    const { dfu_core_format_start: start, dfu_core_format_next: next, dfu_core_format_took: took } = this.calls
+    const words = [this.config, this.kept, this.medium, this.size, this.put(image), image.length].map(BigInt)
+    taken(this.settle(start(...words), () => next(...words, BigInt(this.ask)), failed => took(...words, failed)))
   }
 
   // The power comes, or goes and comes back.
   power() {
-    taken(this.calls.dfu_device_power_on(BigInt(this.config), BigInt(this.device), BigInt(this.medium), BigInt(this.size)))
+    taken(this.calls.dfu_core_power_on(...[this.config, this.kept, this.medium, this.size].map(BigInt)))
   }
 
   // The bytes of the answer, none where it is acknowledged; null for a stall.
@@ -57,35 +96,35 @@ export class Device extends Library {
     this.bytes(this.setup, 8).set(setup)
     this.bytes(this.body, body.length).set(body)
     const rest = [this.setup, this.body, body.length, this.out, MOST_ANSWER].map(BigInt)
-    const count = this.calls.dfu_device_handle(...this.words(), ...rest)
+    const count = this.work(this.calls.dfu_core_handle(...this.words(), ...rest))
     return count === STALL ? null : this.copy(this.out, taken(count))
   }
 
   elapse(ms) {
-    taken(this.calls.dfu_device_elapse(...this.words(), ms))
+    taken(this.work(this.calls.dfu_core_elapse(...this.words(), ms)))
   }
 
   reset() {
-    taken(this.calls.dfu_device_usb_reset(...this.words()))
+    taken(this.calls.dfu_core_usb_reset(...this.words()))
   }
 
   functional() {
     const at = this.reserve(9)
-    taken(this.calls.dfu_device_functional(BigInt(this.config), BigInt(at)))
+    taken(this.calls.dfu_core_functional(BigInt(this.config), BigInt(at)))
     return this.copy(at, 9)
   }
 
   state() {
-    return taken(this.calls.dfu_device_state(BigInt(this.device)))
+    return taken(this.calls.dfu_core_state(BigInt(this.kept)))
   }
 
   code() {
-    return taken(this.calls.dfu_device_code(BigInt(this.device)))
+    return taken(this.calls.dfu_core_code(BigInt(this.kept)))
   }
 
   // Where the active image stands on the medium.
   imagePlace() {
-    taken(this.calls.dfu_device_image(...[this.config, this.medium, this.size, this.place].map(BigInt)))
+    taken(this.calls.dfu_core_image(...[this.config, this.medium, this.size, this.place].map(BigInt)))
     return this.read('dfu_place', this.place)
   }
 

@@ -1,62 +1,58 @@
 // SPDX-License-Identifier: MIT OR Apache-2.0
-// A write of the medium that is harmed. The medium of the proved device is plain memory here, where each write works, and a call
-// makes all of its writes at once. So a call is made, and then its writes are made again up to the harmed one, in the order of
-// docs/PROFILE.md ("The slot medium"), on the bytes that stood before. Of a cut nothing else is left: the device starts anew on that
-// medium. After a write that fails or lies it goes on, in dfuERROR: its record is set to that here, which no program in earnest does.
-// tests/web holds what comes of all this against `dfu run`.
+// A write of the medium that is harmed: it cuts the power, fails or lies, as docs/PROFILE.md has it ("The slot medium"). The library asks
+// for a write in operations of at most 256 bytes, so the call is made twice: to see which operations make up each write, and once all is
+// as before, with that write harmed. tests/web holds what comes of it against `dfu run`.
 
-const GATE = 0
-const HEADER = 16
-const DATA = 32
-const OPEN = 0xa5
-const ERROR_MODE = 12
-const IN_BLOCK = [3, 5]     // modes of the record, as dfu_device.h has them: a block is taken and not written,
-const IN_MANIFEST = [7, 9]  // and the image is not in place
-const CODES = { block: { fail: 3, lie: 7 }, commit: { fail: 6, lie: 7 } } // errWRITE, errVERIFY, errPROG
+const MOST_OPERATION = 256
 
-const rangeOf = (bytes, at, length) => ({ at, bytes: bytes.slice(at, at + length) })
+class Cut extends Error {}
 
-// What a call is to be held against: the medium before it, the slot that is written, and what the record says.
-function lookAt(device) {
-  const half = device.size / 2
-  const spare = device.imagePlace().at < half ? half : 0
-  return { bytes: device.mediumBytes().slice(), spare, ...device.read('dfu_device', device.device) }
-}
-
-// The writes that the call made, in their order.
-function writesOf(before, device) {
-  const { mode } = device.read('dfu_device', device.device)
-  const { spare, first, length } = before
-  const after = device.mediumBytes()
-  if (IN_BLOCK.includes(before.mode) && ![...IN_BLOCK, ERROR_MODE].includes(mode)) {
-    const isBegin = first === 0 && before.bytes[spare + GATE] === OPEN
-    return { kind: 'block', writes: [
-      ...(isBegin ? [rangeOf(after, spare + GATE, HEADER - GATE)] : []), rangeOf(after, spare + DATA + first, length)] }
+// Makes the call with this driver in place of the device's own.
+function callWith(device, driver, call) {
+  const own = device.driver
+  device.driver = driver
+  try {
+    call()
+  } finally {
+    device.driver = own
   }
-  if (IN_MANIFEST.includes(before.mode) && ![...IN_MANIFEST, ERROR_MODE].includes(mode))
-    return { kind: 'commit', writes: [rangeOf(after, spare + HEADER, DATA - HEADER), rangeOf(after, spare + GATE, HEADER - GATE)] }
-  return { kind: 'none', writes: [] }
 }
 
-// The medium behind the harmed write. Whether all bytes of it came to stand there is told by isTrue.
-function harmedBytes(before, writes, number, tear) {
-  const bytes = before.bytes.slice()
-  for (const one of writes.slice(0, number)) bytes.set(one.bytes, one.at)
-  const { at, bytes: wanted } = writes[number]
-  bytes.set(tear.slice(0, wanted.length), at)
-  return { bytes, isTrue: wanted.every((byte, index) => bytes[at + index] === byte) }
+// The writes of a call, in their order: where each begins, how many bytes it has, and the numbers of its first and last operation.
+function writesOf(device, call) {
+  const memory = device.bytes(0, device.end).slice()
+  const { first, held_length: held } = device.read('dfu_record', device.kept)
+  const writes = []
+  let count = 0
+  let before = null
+  callWith(device, operation => {
+    const { isErase, at, bytes } = operation
+    const isWhole = before === null || isErase || before.isErase || before.bytes.length < MOST_OPERATION ||
+      before.at + MOST_OPERATION !== at || (first > 0 && held > 0 && writes.filter(one => !one.isErase).length === 1)
+    if (isWhole) writes.push({ isErase, at, length: 0, first: count })
+    Object.assign(writes.at(-1), { length: at + bytes.length - writes.at(-1).at, last: count++ })
+    before = operation
+    return device.carryOut(operation)
+  }, call)
+  device.bytes(0, memory.length).set(memory)
+  return writes
 }
 
-// Makes a call of the device, with the write of that number harmed: 'cut', 'fail' or 'lie'. Whether one was.
+// Makes a call of the device, with the write of that number harmed if it makes so many: 'cut', 'fail' or 'lie'. The harmed one leaves the
+// bytes of `tear` at the front of its range.
 export function harm(device, kind, number, tear, call) {
-  const before = lookAt(device)
-  call()
-  const made = writesOf(before, device)
-  if (number >= made.writes.length) return false
-  const { bytes, isTrue } = harmedBytes(before, made.writes, number, tear)
-  if (kind === 'lie' && isTrue) return false
-  device.mediumBytes().set(bytes)
-  const error = { mode: ERROR_MODE, first: 0, second: 0, put_end: 0, length: 0 }
-  if (kind !== 'cut') device.write('dfu_device', device.device, { ...error, number: CODES[made.kind][kind] })
-  return true
+  const write = writesOf(device, call)[number] ?? { first: Infinity, last: Infinity }
+  let count = 0
+  const driver = operation => {
+    const index = count++
+    if (index < write.first || index > write.last) return device.carryOut(operation)
+    if (index === write.first) device.carryOut({ at: write.at, bytes: tear.slice(0, write.length) })
+    if (kind === 'cut') throw new Cut()
+    return kind === 'lie'
+  }
+  try {
+    callWith(device, driver, call)
+  } catch (error) {
+    if (!(error instanceof Cut)) throw error
+  }
 }

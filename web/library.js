@@ -51,12 +51,8 @@ export class Library {
     return readRecord(this.view(), name, at)
   }
 
-  write(name, at, values) {
-    writeRecord(this.view(), name, at, values)
-  }
-
   version() {
-    const { dfu_device_version: ofDevice, dfu_host_version: ofHost } = this.calls
+    const { dfu_core_version: ofDevice, dfu_host_version: ofHost } = this.calls
     return (ofDevice ?? ofHost ?? (() => 0))()
   }
 }

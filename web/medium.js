@@ -3,40 +3,42 @@
 import { make } from './elements.js'
 import { digits } from './names.js'
 
-const HEADER = 16
-const DATA = 32
 const OPEN = 0xa5
-const MOST_SHOWN = 288 // bytes of a slot, a multiple of 16
+const HEAD = 16 // bytes of a gate and of a header that say something
+const MOST_SHOWN = 256 // bytes of a slot's data, a multiple of 16
 const ACROSS = 8 // bytes of a row; style.css sets two rows side by side if there is room
 
 const number4 = (bytes, at) => new DataView(bytes.buffer, bytes.byteOffset).getUint32(at, true)
 
-// What a slot says of itself.
-function wordsOf(bytes, isActive) {
-  const gate = bytes[0] === OPEN ? 'gate open' : 'gate closed'
-  const header = bytes[HEADER + 1] === 2
-    ? `generation ${bytes[HEADER]}, length ${number4(bytes, HEADER + 4)}, register ${digits(number4(bytes, HEADER + 8), 8)}` : 'no header'
-  return `${isActive ? 'active, ' : ''}${gate}, ${header}`
+// What a slot says of itself. Its gate and its header have `gate` bytes each.
+function wordsOf(bytes, gate, isActive) {
+  const header = bytes.subarray(gate)
+  const isOpen = bytes[0] === OPEN ? 'gate open' : 'gate closed'
+  const says = header[1] === 2
+    ? `generation ${header[0]}, length ${number4(header, 4)}, register ${digits(number4(header, 8), 8)}` : 'no header'
+  return `${isActive ? 'active, ' : ''}${isOpen}, ${says}`
 }
 
 // The row of bytes from there on, with each part of the slot in a class of its own, and what changed marked.
-function rowOf(bytes, before, from) {
+function rowOf(bytes, before, gate, from) {
   const row = make('div', {}, make('span', { className: 'at' }, digits(from, 4)))
   for (let at = from; at < Math.min(from + ACROSS, bytes.length); at++) {
-    const part = at === 0 ? 'gate' : at < HEADER ? 'fill' : at < DATA ? 'header' : 'data'
+    const part = at === 0 ? 'gate' : at < gate ? 'fill' : at < 2 * gate ? 'header' : 'data'
     const isNew = before !== null && before[at] !== bytes[at]
     row.append(' ', make(isNew ? 'mark' : 'span', { className: part }, digits(bytes[at], 2)))
   }
   return row
 }
 
-function slotOf(name, bytes, before, isActive) {
-  const shown = bytes.slice(0, MOST_SHOWN)
+// Of a gate and a header that are longer than what they say, the rest is left out.
+function slotOf(name, bytes, before, gate, isActive) {
+  const end = Math.min(2 * gate + MOST_SHOWN, bytes.length)
   const rows = []
-  for (let from = 0; from < shown.length; from += ACROSS) rows.push(rowOf(shown, before, from))
-  if (shown.length < bytes.length) rows.push(make('div', {}, `.. ${bytes.length - shown.length} bytes more`))
+  for (const [first, behind] of [[0, HEAD], [gate, gate + HEAD], [2 * gate, end]])
+    for (let from = first; from < behind; from += ACROSS) rows.push(rowOf(bytes, before, gate, from))
+  if (end < bytes.length) rows.push(make('div', {}, `.. ${bytes.length - end} bytes more`))
   return make('figure', { className: isActive ? 'slot active' : 'slot' },
-    make('figcaption', {}, `${name}: ${wordsOf(bytes, isActive)}`), make('div', { className: 'bytes' }, ...rows))
+    make('figcaption', {}, `${name}: ${wordsOf(bytes, gate, isActive)}`), make('div', { className: 'bytes' }, ...rows))
 }
 
 // Shows the medium in that place. `before` is what it was when it was shown last, or null.
@@ -45,7 +47,7 @@ export function showMedium(place, device, before) {
   const bytes = device.mediumBytes().slice()
   const isFirst = device.imagePlace().at < half
   const partOf = (whole, from) => (whole === null ? null : whole.slice(from, from + half))
-  place.replaceChildren(slotOf('First slot', partOf(bytes, 0), partOf(before, 0), isFirst),
-    slotOf('Second slot', partOf(bytes, half), partOf(before, half), !isFirst))
+  place.replaceChildren(slotOf('First slot', partOf(bytes, 0), partOf(before, 0), device.gate, isFirst),
+    slotOf('Second slot', partOf(bytes, half), partOf(before, half), device.gate, !isFirst))
   return bytes
 }

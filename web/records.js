@@ -1,5 +1,5 @@
 // SPDX-License-Identifier: MIT OR Apache-2.0
-// The records of include/dfu_host.h and include/dfu_device.h, as they lie in the memory of the libraries. This is the one place
+// The records of include/dfu_host.h and include/dfu_core.h, as they lie in the memory of the libraries. This is the one place
 // that knows them: the fields in their order, with their types. tests/web holds them against the headers. Where each field
 // stands follows by the rules of C: a number stands at a multiple of its size, and a record ends at one of its largest.
 export const RECORDS = {
@@ -10,11 +10,12 @@ export const RECORDS = {
     'u8 tolerant, u8 will_detach',
   dfu_action: 'u32 what, u32 value, u64 from, u64 length, u32 code, u8[8] setup',
   dfu_config:
-    'u32 version, u16 device, u16 product, u16 vendor, u16 detach_ms, u16 transfer, u8 attributes, u32 busy_ms, u32 manifest_ms, ' +
-    'u32 least, u32 unit',
-  dfu_device:
-    'u32 version, u32 mode, u32 first, u32 second, u32 put_end, u32 slot, u16 number, u16 length, u8[16] header, ' +
-    'u16 held_length, u8[256] held',
+    'u32 version, u16 device, u16 product, u16 vendor, u16 detach_ms, u16 transfer, u8 attributes, u8 interface_number, u32 busy_ms, ' +
+    'u32 manifest_ms, u32 least, u32 unit, u32 sector',
+  dfu_record:
+    'u32 version, u32 mode, u32 first, u32 second, u32 put_end, u32 slot, u16 number, u16 length, u8[16] header, u32 work, ' +
+    'u32 spare, u32 sum, u32 done, u32 asked, u8 generation, u8 close, u16 held_length, u8[256] held',
+  dfu_ask: 'u32 kind, u32 at, u32 length, u8[256] bytes',
   dfu_place: 'u32 at, u32 length',
 }
 

@@ -31,10 +31,9 @@ export class World {
   // The device is set up by the first line that does something.
   start() {
     if (this.device !== null) return
-    if (this.unit !== 1) throw new ScriptEnd(`not played here: the device of this page is written in bytes, not in units of ${this.unit}`)
-    if (this.sector !== 0) throw new ScriptEnd('not played here: the device of this page has no sectors')
     try {
-      this.device = new Device(this.modules.device, this.config, this.capacity, this.image)
+      const { unit, sector, capacity, image } = this
+      this.device = new Device(this.modules.device, { ...this.config, unit, sector }, capacity, image)
     } catch (error) {
       throw error instanceof Refused ? new ScriptEnd('refused BadConfig') : error
     }
@@ -125,10 +124,9 @@ export class World {
   // Makes calls of the device, of which a write may be harmed, and the power cut.
   call(line, calls) {
     const { device } = this
-    if (line.writes === undefined) return calls()
-    const isHarmed = harm(device, line.fate, line.writes, line.tear, calls)
+    if (line.writes === undefined) calls()
+    else harm(device, line.fate, line.writes, line.tear, calls)
     if (line.fate === 'cut') device.power()
-    return isHarmed
   }
 
   // A wait, or a reset of the bus.
@@ -145,10 +143,8 @@ export class World {
     const { device } = this
     if (line.fate === 'lostout') return { seen: SEEN.NOTHING }
     let bytes = null
-    const isHarmed = this.call(line, () => { bytes = device.handle(setup, body) })
+    this.call(line, () => { bytes = device.handle(setup, body) })
     if (line.fate === 'cut') return { seen: SEEN.RESTART }
-    // A device that found its write harmed says so in the same answer; to ask for it once more changes nothing in dfuERROR.
-    if (isHarmed === true) bytes = device.handle(setup, body)
     if (line.fate === 'twice' || line.fate === 'twicelostback') bytes = device.handle(setup, body)
     if (line.fate === 'slip') device.elapse(line.ms)
     if (line.fate === 'lostback' || line.fate === 'twicelostback') return { seen: SEEN.NOTHING }

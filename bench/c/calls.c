@@ -3,26 +3,27 @@
 #include <stdio.h>
 #include <time.h>
 
-#include "dfu_device.h"
+#include "dfu_device_memory.h"
 
-static const struct dfu_config config = {DFU_VERSION, 0x0100, 1, 0x1209, 255, 4096, 7, 5, 10, 1, 1};
-static struct dfu_device device;
+static const struct dfu_config config = {DFU_VERSION, 0x0100, 1, 0x1209, 255, 4096, 7, 0, 5, 10, 1, 1, 0};
 static struct dfu_place place;
-static uint8_t medium[2 * (32 + (1 << 20))], image[1 << 20], out[4096], block[4096], pending[4096];
+static uint8_t medium[DFU_MEDIUM_SIZE(1, 0, 1 << 20)], image[1 << 20], out[4096], body[4096], block[4096];
+static const struct dfu_driver driver = DFU_MEMORY_DRIVER(medium);
+static struct dfu_device device = {.config = &config, .flash = medium, .size = sizeof medium, .block = block, .most = sizeof block,
+                                   .driver = &driver};
 
 static void ask(uint8_t kind, uint8_t request, uint16_t length) {
     uint8_t setup[8] = {kind, request, 0, 0, 0, 0, (uint8_t)length, (uint8_t)(length >> 8)};
-    dfu_device_handle(&config, &device, pending, sizeof pending, medium, sizeof medium, setup, block, kind == 0x21 ? length : 0,
-                      out, sizeof out);
+    dfu_device_handle(&device, setup, body, out, sizeof out);
 }
 
 static void call(int which) {
     switch (which) {
-    case 0: dfu_device_power_on(&config, &device, medium, sizeof medium); break;
-    case 1: ask(0xa1, 5, 1); break;
-    case 2: dfu_device_elapse(&config, &device, pending, sizeof pending, medium, sizeof medium, 0); break;
-    case 3: dfu_device_usb_reset(&config, &device, pending, sizeof pending, medium, sizeof medium); break;
-    case 4: dfu_device_image(&config, medium, sizeof medium, &place); break;
+    case 0: dfu_device_power_on(&device); break;
+    case 1: ask(0xa1, DFU_GETSTATE, 1); break;
+    case 2: dfu_device_elapse(&device, 0); break;
+    case 3: dfu_device_usb_reset(&device); break;
+    case 4: dfu_device_image(&device, &place); break;
     case 5: dfu_device_state(&device); break;
     }
 }
@@ -36,8 +37,7 @@ int main(void) {
         for (int size = 0; size < 3; size++) {
             struct timespec from, to;
             long turns = size == 0 ? 100000 : size == 1 ? 500 : 40;
-            if (dfu_device_format(&config, medium, sizeof medium, image, sizes[size]) != 0
-                || dfu_device_power_on(&config, &device, medium, sizeof medium) != 0)
+            if (dfu_device_format(&device, image, sizes[size]) != 0 || dfu_device_power_on(&device) != 0)
                 return 1;
             clock_gettime(CLOCK_MONOTONIC, &from);
             for (long turn = 0; turn < turns; turn++)

@@ -125671,7 +125671,7 @@ main:
 	.type	.Lstatic.3,@object
 	.section	.rodata..Lstatic.3,"a",@progbits
 .Lstatic.3:
-	.ascii	"dfu 0.2.0: firmware files and upgrades over USB (DFU 1.1)"
+	.ascii	"dfu 0.3.0: firmware files and upgrades over USB (DFU 1.1)"
 	.size	.Lstatic.3, 57
 
 	.type	.Lstatic.4,@object
@@ -125683,7 +125683,7 @@ main:
 	.type	.Lstatic.5,@object
 	.section	.rodata..Lstatic.5,"a",@progbits
 .Lstatic.5:
-	.ascii	"0.2.0"
+	.ascii	"0.3.0"
 	.size	.Lstatic.5, 5
 
 	.type	.Lstatic.6,@object

@@ -1,9 +1,10 @@
 # shellcheck shell=sh disable=SC2034,SC2154
 # What dist/ is made of, and what crates.txt says of it. A script that reads this file has set `top`, the folder of the repository.
 
-# The program; each library with the name of its header; and the libraries that the page takes, as modules of WebAssembly.
+# The program; each library with the name of its header, its C being NAME.c of a crate NAME_c; and the libraries that the page takes, as
+# modules of WebAssembly.
 program=dfu_cmd
-libraries='dfu_device_c:dfu_device dfu_host_c:dfu_host dfu_asks_c:dfu_asking'
+libraries='dfu_device_c:dfu_core dfu_host_c:dfu_host'
 of_page='dfu_device_c dfu_host_c'
 wanted=$program
 for it in $libraries; do

@@ -4,32 +4,33 @@
 #include <stdio.h>
 #include <string.h>
 
-#include "dfu_device.h"
+#include "dfu_device_memory.h"
 #include "dfu_host.h"
 
 static const struct dfu_config config = {
     .version = DFU_VERSION, .device = 0x0100, .product = 1, .vendor = 0x1209, .detach_ms = 255, .transfer = 64,
-    .attributes = 7, .busy_ms = 5, .manifest_ms = 10, .least = 1, .unit = 1,
+    .attributes = DFU_CAN_DNLOAD | DFU_CAN_UPLOAD | DFU_MANIFESTATION_TOLERANT, .interface_number = 0,
+    .busy_ms = 5, .manifest_ms = 0, .least = 1, .unit = 1, .sector = 0,
 };
 static const uint8_t descriptor[9] = {9, 0x21, 7, 255, 0, 64, 0, 0x10, 1};
 static const struct dfu_ids ids = {0x0100, 1, 0x1209};
-static uint8_t medium[2 * (32 + 65536)], file[65536 + 255], answer[65535];
-static struct dfu_device device;
-static uint8_t pending[64];
+static uint8_t flash[DFU_MEDIUM_SIZE(1, 0, 65536)], block[64], file[65536 + 255], answer[65535];
+static const struct dfu_driver driver = DFU_MEMORY_DRIVER(flash);
+static struct dfu_device device = {.config = &config, .flash = flash, .size = sizeof flash, .block = block, .most = sizeof block,
+                                   .driver = &driver};
 
 /* Does one action: 0, and what was seen of it, with how many bytes came; or a refusal of the device library. */
 static int32_t act(const struct dfu_action *a, uint32_t *seen, size_t *count) {
     *count = 0;
     if (a->what == DFU_WAIT) {
         *seen = DFU_SEEN_WAIT;
-        return dfu_device_elapse(&config, &device, pending, sizeof pending, medium, sizeof medium, a->value);
+        return dfu_device_work(&device);
     }
     if (a->what == DFU_RESET) {
         *seen = DFU_SEEN_RESET;
-        return dfu_device_usb_reset(&config, &device, pending, sizeof pending, medium, sizeof medium);
+        return dfu_device_reset(&device);
     }
-    int32_t sent = dfu_device_handle(&config, &device, pending, sizeof pending, medium, sizeof medium, a->setup, file + a->from,
-                                     a->length, answer, sizeof answer);
+    int32_t sent = dfu_device_serve(&device, a->setup, file + a->from, answer, sizeof answer);
     if (sent == DFU_STALL) {
         *seen = DFU_SEEN_STALL;
         return 0;
@@ -40,7 +41,7 @@ static int32_t act(const struct dfu_action *a, uint32_t *seen, size_t *count) {
 }
 
 int main(int words, char **word) {
-    if (dfu_host_version() != DFU_VERSION || dfu_device_version() != DFU_VERSION)
+    if (dfu_host_version() != DFU_VERSION || dfu_core_version() != DFU_VERSION)
         return 2;
     FILE *in = words == 2 ? fopen(word[1], "rb") : NULL;
     if (!in)
@@ -53,9 +54,9 @@ int main(int words, char **word) {
     struct dfu_action a = {0};
     uint8_t name[16];
     int steps = 0;
-    int32_t refusal = dfu_device_format(&config, medium, sizeof medium, (const uint8_t *)"", 1);
+    int32_t refusal = dfu_device_format(&device, (const uint8_t *)"", 1);
     if (refusal == 0)
-        refusal = dfu_device_power_on(&config, &device, medium, sizeof medium);
+        refusal = dfu_device_power_on(&device);
     if (refusal == 0)
         refusal = dfu_host_file(file, length, &said);
     if (refusal == 0)

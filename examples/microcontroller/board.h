@@ -11,11 +11,11 @@
 
 /* The flash behind the bootloader is the device's medium: two slots, each with a page for its gate, one for its header, and the rest
  * for the image. */
-#define MEDIUM 0x6800u
+#define MEDIUM 0x4000u
 #define MEDIUM_SIZE (FLASH_SIZE - MEDIUM)
 
 /* The memory behind the bootloader's is the image's. */
-#define IMAGE_MEMORY 0x20002700u
+#define IMAGE_MEMORY 0x20001000u
 #define IMAGE_MEMORY_END 0x20004000u
 
 extern const struct dfu_config board_config;

@@ -1,12 +1,12 @@
-/* Many calls of the device library, chosen by dice of its own: downloads and uploads that mostly keep to the protocol, requests that
- * don't, losses of power between calls, odd configurations, and garbled records and mediums. After each 1,000 calls it prints a digest
- * of every answer, record, buffer and medium so far, so that two builds of the library can be compared. It takes how many calls to make,
- * a seed, and how many bytes behind an aligned address each buffer begins. */
+/* Many calls of the device library over plain memory, chosen by dice of its own: downloads and uploads that mostly keep to the
+   protocol, requests that don't, losses of power between calls, odd configurations, and garbled records and mediums. After each 1,000
+   calls it prints a digest of every answer, record, buffer and medium so far, so that two builds of the library can be compared. It
+   takes how many calls to make, a seed, and how many bytes behind an aligned address each buffer begins. */
 #include <stdio.h>
 #include <stdlib.h>
 #include <string.h>
 
-#include "dfu_device.h"
+#include "../c/memory.h"
 
 #define MOST 3000 /* bytes of an image */
 #define ANSWER 4096
@@ -14,9 +14,9 @@
 static uint64_t dice, sum = 14695981039346656037u;
 static uint8_t rooms[5][2 * (600 + MOST + 300) + 8] __attribute__((aligned(8)));
 static uint8_t *medium, *out, *body, *image, *pending;
-static struct dfu_device device;
 static struct dfu_config config;
-static size_t size;
+static struct dfu_driver driver = DFU_MEMORY_DRIVER(NULL);
+static struct dfu_device device = {.config = &config, .driver = &driver};
 static uint16_t block, part;
 static long refused[16], stalled, answered, placed, uploaded;
 
@@ -66,39 +66,42 @@ static void make_board(void) {
     config.manifest_ms = roll(3) ? 1 + roll(20) : roll(16) ? 0 : 1u << 24;
     config.least = roll(16) ? 1 + roll(20) : roll(2) ? 0 : 1u << 24;
     config.unit = roll(32) ? units[roll(4)] : roll(300);
-    size_t gate = config.unit > 16 ? config.unit : 16, over = roll(16) ? capacity % (config.unit ? config.unit : 1) : 0;
+    config.interface_number = (uint8_t)(roll(4) ? 0 : roll(4));
+    size_t gate = DFU_GATE(config.unit, 0), over = roll(16) ? capacity % (config.unit ? config.unit : 1) : 0;
     capacity = capacity > over ? capacity - over : gate;
-    size = 2 * (2 * gate + capacity);
+    size_t size = 2 * (2 * gate + capacity);
     size_t length = roll((uint32_t)capacity + 1);
     fill(medium, size);
     fill(image, length);
-    size_t given = roll(32) ? size : size - 1;
+    device.size = roll(32) ? size : size - 1;
     if (roll(32) == 0)
         length = capacity + 1;
-    count(dfu_device_format(&config, medium, given, image, length));
-    count(dfu_device_power_on(&config, &device, medium, size));
+    count(dfu_device_format(&device, image, length));
+    device.size = size;
+    count(dfu_device_power_on(&device));
     block = part = 0;
 }
 
 /* A setup, of whose bytes one in 200 has one that is any; and one in 100 has too little room for the answer. */
 static int32_t ask(uint8_t kind, uint8_t request, uint16_t value, uint16_t length, size_t sent) {
-    uint8_t setup[8] = {kind, request, (uint8_t)value, (uint8_t)(value >> 8), 0, 0, (uint8_t)length, (uint8_t)(length >> 8)};
+    uint8_t setup[8] = {kind, request, (uint8_t)value, (uint8_t)(value >> 8), config.interface_number, 0,
+                        (uint8_t)length, (uint8_t)(length >> 8)};
     if (roll(200) == 0) {
         uint32_t at = roll(8);
         setup[at] = any();
     }
     memset(out, 0x5a, ANSWER);
     size_t room = roll(100) ? ANSWER : roll(ANSWER + 1);
-    return count(dfu_device_handle(&config, &device, pending, ANSWER, medium, size, setup, body, sent, out, room));
+    return count(handle_in_memory(&device, setup, body, sent, out, room));
 }
 
 static int32_t reset(void) {
     block = part = 0;
-    return count(dfu_device_usb_reset(&config, &device, pending, ANSWER, medium, size));
+    return count(dfu_device_usb_reset(&device));
 }
 
 static int32_t pass(uint32_t ms) {
-    return count(dfu_device_elapse(&config, &device, pending, ANSWER, medium, size, ms));
+    return count(elapse_in_memory(&device, ms));
 }
 
 static int32_t send_block(void) {
@@ -133,15 +136,15 @@ static int32_t keep_to_it(int32_t state) {
 static int32_t step(int32_t state) {
     uint8_t request = (uint8_t)roll(8);
     uint16_t value = (uint16_t)roll(4), length = (uint16_t)roll(9);
-    uint32_t at = roll(4) ? 0 : 1 + roll(sizeof device);
+    uint32_t at = roll(4) ? 0 : 1 + roll(sizeof device.record);
     switch (roll(40)) {
     case 0: return reset();
-    case 1: block = part = 0; return count(dfu_device_power_on(&config, &device, medium, size));
+    case 1: block = part = 0; return count(dfu_device_power_on(&device));
     case 2: return pass(roll(8) ? roll(40) : (uint32_t)dice);
     case 3: return ask(0x21, request, value, 0, 0);
     case 4: return ask(0xa1, request, value, length, 0);
-    case 5: return at ? (((uint8_t *)&device)[at - 1] = (uint8_t)(roll(2) ? roll(256) : roll(14))) : 0;
-    case 6: return at ? (medium[roll((uint32_t)size)] ^= (uint8_t)(1u << roll(8))) : 0;
+    case 5: return at ? (((uint8_t *)&device.record)[at - 1] = (uint8_t)(roll(2) ? roll(256) : roll(14))) : 0;
+    case 6: return at ? (medium[roll((uint32_t)device.size)] ^= (uint8_t)(1u << roll(8))) : 0;
     case 7: return roll(6) ? 0 : (make_board(), 0);
     case 8: return ask(0x21, roll(2) ? 4 : 6, 0, 0, 0);
     default: return keep_to_it(state);
@@ -150,16 +153,18 @@ static int32_t step(int32_t state) {
 
 static void look(int32_t answer) {
     struct dfu_place place = {1, 2};
-    add(&device, sizeof device), add(pending, ANSWER), add(medium, size), add(out, answer > 0 && answer <= ANSWER ? (size_t)answer : 0);
+    add(&device.record, sizeof device.record), add(pending, ANSWER), add(medium, device.size);
+    add(out, answer > 0 && answer <= ANSWER ? (size_t)answer : 0);
     count(dfu_device_state(&device)), count(dfu_device_code(&device));
-    count(dfu_device_image(&config, medium, size, &place)), add(&place, sizeof place);
+    count(dfu_device_image(&device, &place)), add(&place, sizeof place);
 }
 
 int main(int words, char **word) {
     long calls = words > 1 ? atol(word[1]) : 10000, odd = words > 3 ? atol(word[3]) : 0;
     dice = (uint64_t)(words > 2 ? atol(word[2]) : 1) * 0x9e3779b97f4a7c15u + 1;
     medium = rooms[0] + odd, out = rooms[1] + odd, body = rooms[2] + odd, image = rooms[3] + odd, pending = rooms[4] + odd;
-    memset(&device, 0xff, sizeof device);
+    driver.own = medium, device.flash = medium, device.block = pending, device.most = ANSWER;
+    memset(&device.record, 0xff, sizeof device.record);
     make_board();
     for (long call = 1; call <= calls; call++) {
         int32_t before = dfu_device_state(&device);

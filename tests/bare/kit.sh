@@ -7,8 +7,8 @@
 . "$top/tests/support/archives.sh"
 bare=$top/tests/bare
 
-# target NAME: what builds for it, and the machine of QEMU that runs it; `device`, `host` and `asks` are its archives, which make builds
-# if it has not yet. What each program has is compiled into a folder of its own, `here`.
+# target NAME: what builds for it, and the machine of QEMU that runs it; `device` and `host` are its archives, which make builds if it has
+# not yet. What each program has is compiled into a folder of its own, `here`.
 target() {
     target=$1
     compiler=arm-none-eabi-gcc
@@ -47,8 +47,7 @@ target() {
     esac
     device=$work/$1/libraries/libdfu_device.a
     host=$work/$1/libraries/libdfu_host.a
-    asks=$work/$1/libraries/libdfu_asking.a
-    [ -e "$asks" ] || libraries "$1/libraries" "-Os -ffreestanding $flags"
+    [ -e "$device" ] || libraries "$1/libraries" "-Os -ffreestanding $flags"
     prepare "$1"
 }
 prepare() {
@@ -124,10 +123,12 @@ as_here() {
 
 # What each target runs in a minute: rows, losses of power between calls, sessions, garbled calls, the examples; and its sizes.
 run_short() {
-    for name in rows power; do
+    for name in rows operations time power; do
         program "$name" "$top/tests/c/$name.c" "$device"
         is "$target: $name" run "$name"
     done
+    program runtime "$top/tests/c/runtime.c" "$device"
+    is "$target: runtime" run runtime 5000
     program sessions "$top/tests/c/sessions.c" "$host" "$device"
     is "$target: sessions" run sessions
     program garbled "$top/tests/c/garbled.c" "$device"
@@ -135,21 +136,15 @@ run_short() {
     for name in garbled garbled_sessions; do
         is "$target: $name" run "$name" 5000
     done
-    for name in bootloader early_stack; do
+    for name in bootloader nor_bootloader early_stack application; do
         program "$name" "$top/examples/c/$name.c" "$device"
         is "$target: $name" prints "$top/examples/c/$name.out" "$name"
     done
     program flasher "$top/examples/c/flasher.c" "$host" "$device"
     is "$target: flasher" prints "$top/examples/c/flasher.out" flasher "$(ones)"
-    for name in rows twins garbled; do
-        program "asking_$name" "$top/tests/c/asking_$name.c" "$asks" "$device"
-    done
-    is "$target: asking_rows" run asking_rows
-    is "$target: asking_twins" run asking_twins 2000
-    is "$target: asking_garbled" run asking_garbled 5000
-    for name in asking_bootloader nor_bootloader; do
-        program "$name" "$top/examples/c/$name.c" "$asks" "$device"
-        is "$target: $name" prints "$top/examples/c/$name.out" "$name"
+    for name in twins garbled_flash; do
+        program "$name" "$top/tests/c/$name.c" "$device"
+        is "$target: $name" run "$name" 5000
     done
     digests 5000 10000 1
 }
@@ -168,19 +163,16 @@ digests() {
         is "$target: the host as on x86-64, $odd bytes off" as_here digest_host "$of_host" "$odd"
     done
 }
-# sizes DEVICE HOST ASKS NEEDS: the libraries are under so many bytes, and need no other names; and how deep their calls go.
+# sizes DEVICE HOST NEEDS: the libraries are under so many bytes, and need no other names; and how deep their calls go.
 sizes() {
     echo "$target"
     is "$target: size of ${device##*/}" is_small "$device" "$1"
     is "$target: size of ${host##*/}" is_small "$host" "$2"
-    is "$target: size of ${asks##*/}" is_small "$asks" "$3"
-    for library in "$device" "$host" "$asks"; do
-        is "$target: what ${library##*/} needs" needs_only "$library" "$4"
+    for library in "$device" "$host"; do
+        is "$target: what ${library##*/} needs" needs_only "$library" "$3"
     done
     program stack "$top/tests/c/stack.c" "$device"
-    is "$target: stack of the device" deepest stack 6300
+    is "$target: stack of the device" deepest stack 1500
     program host_stack "$top/tests/c/host_stack.c" "$host"
     is "$target: stack of the host" deepest host_stack 850
-    program asking_stack "$top/tests/c/asking_stack.c" "$asks" "$device"
-    is "$target: stack of the device that asks" deepest asking_stack 7900
 }

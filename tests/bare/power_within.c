@@ -5,7 +5,7 @@
 #include <string.h>
 
 #include "cut.h"
-#include "dfu_device.h"
+#include "../c/memory.h"
 
 #define IMAGE 150 /* bytes, in blocks of 100 */
 
@@ -13,8 +13,10 @@ static struct dfu_config config = {
     .version = DFU_VERSION, .device = 0x0100, .product = 1, .vendor = 0x1209, .detach_ms = 255, .transfer = 100,
     .attributes = 7, .busy_ms = 5, .manifest_ms = 10, .least = 1, .unit = 1,
 };
-static struct dfu_device device;
-static uint8_t pending[100], medium[2 * (32 + 160)], last[sizeof medium];
+static uint8_t pending[100], medium[DFU_MEDIUM_SIZE(1, 0, 160)], last[sizeof medium];
+static const struct dfu_driver driver = DFU_MEMORY_DRIVER(medium);
+static struct dfu_device device = {.config = &config, .flash = medium, .size = sizeof medium, .block = pending, .most = sizeof pending,
+                                   .driver = &driver};
 static long cuts, mediums;
 
 /* The image before, and the new one. */
@@ -24,7 +26,7 @@ static int is_new;
 
 static void ask(uint8_t kind, uint8_t request, uint16_t value, const uint8_t *body, uint16_t length) {
     uint8_t setup[8] = {kind, request, (uint8_t)value, 0, 0, 0, (uint8_t)length, 0}, out[100];
-    dfu_device_handle(&config, &device, pending, sizeof pending, medium, sizeof medium, setup, body, kind == 0x21 ? length : 0,
+    handle_in_memory(&device, setup, body, kind == 0x21 ? length : 0,
                       out, sizeof out);
 }
 
@@ -33,11 +35,11 @@ static void poll(void) {
 }
 
 static void write_block(void) {
-    dfu_device_elapse(&config, &device, pending, sizeof pending, medium, sizeof medium, 5);
+    elapse_in_memory(&device, 5);
 }
 
 static void put_in_place(void) {
-    dfu_device_elapse(&config, &device, pending, sizeof pending, medium, sizeof medium, 10);
+    elapse_in_memory(&device, 10);
 }
 
 static void whole(void (*call)(void)) {
@@ -46,9 +48,9 @@ static void whole(void (*call)(void)) {
 
 /* Installs an image; `may_write` makes each call that may write. */
 static void install(const uint8_t image[IMAGE], void (*may_write)(void (*call)(void))) {
-    dfu_device_power_on(&config, &device, medium, sizeof medium);
+    dfu_device_power_on(&device);
     ask(0x21, 0, 100, image, 0);
-    dfu_device_usb_reset(&config, &device, pending, sizeof pending, medium, sizeof medium);
+    dfu_device_usb_reset(&device);
     for (uint16_t block = 0; block < 2; block++) {
         ask(0x21, 1, block, image + 100 * block, block == 1 ? IMAGE - 100 : 100);
         poll(), may_write(write_block), poll();
@@ -59,15 +61,15 @@ static void install(const uint8_t image[IMAGE], void (*may_write)(void (*call)(v
 
 static int has(const uint8_t *bytes, uint32_t length) {
     struct dfu_place place;
-    return dfu_device_image(&config, medium, sizeof medium, &place) == 0 && place.length == length
+    return dfu_device_image(&device, &place) == 0 && place.length == length
         && memcmp(medium + place.at, bytes, length) == 0;
 }
 
 /* Whether the medium stands a loss of power now. */
 static int stands(void) {
     static uint8_t third[IMAGE] = {9, 9};
-    memset(&device, 0xa5, sizeof device);
-    if (dfu_device_power_on(&config, &device, medium, sizeof medium) != 0 || has(before, length_before) + has(next, IMAGE) != 1
+    memset(&device.record, 0xa5, sizeof device.record);
+    if (dfu_device_power_on(&device) != 0 || has(before, length_before) + has(next, IMAGE) != 1
         || (is_new && !has(next, IMAGE)))
         return 0;
     is_new = has(next, IMAGE);
@@ -80,8 +82,8 @@ static int failed;
 /* Makes a call, cut after each number of ticks in turn, until it comes to its end. */
 static void each(void (*call)(void)) {
     static uint8_t start[sizeof medium], block[sizeof pending];
-    static struct dfu_device record;
-    memcpy(start, medium, sizeof medium), memcpy(block, pending, sizeof pending), record = device;
+    static struct dfu_record record;
+    memcpy(start, medium, sizeof medium), memcpy(block, pending, sizeof pending), record = device.record;
     for (uint32_t ticks = 1; cut(call, ticks); ticks++) {
         cuts++;
         if (memcmp(last, medium, sizeof medium) != 0) {
@@ -89,7 +91,7 @@ static void each(void (*call)(void)) {
             if (!stands())
                 failed = 1;
         }
-        memcpy(medium, start, sizeof medium), memcpy(pending, block, sizeof pending), device = record;
+        memcpy(medium, start, sizeof medium), memcpy(pending, block, sizeof pending), device.record = record;
     }
 }
 
@@ -109,7 +111,7 @@ int main(void) {
     for (int turn = 0; turn < 4; turn++) {
         config.attributes = turn & 1 ? 7 : 3;
         config.unit = turn & 2 ? 16 : 1;
-        dfu_device_format(&config, medium, sizeof medium, old, sizeof old);
+        dfu_device_format(&device, old, sizeof old);
         goes(old, sizeof old, first);
         goes(first, sizeof first, second);
     }

@@ -5,8 +5,7 @@
 #include <stdlib.h>
 #include <string.h>
 
-#include "dfu_asking.h"
-#include "dfu_device.h"
+#include "dfu_device_memory.h"
 #include "dfu_host.h"
 
 static const struct dfu_config config = {
@@ -24,38 +23,33 @@ static void is(const char *what, long got, long wanted) {
 
 /* Images of any length, in units of any size, and what is too large. */
 static void formats(void) {
-    enum { SIZE = 2 * (2 * 256 + 16384) };
+    enum { SIZE = DFU_MEDIUM_SIZE(256, 0, 16384) };
     static uint8_t medium[SIZE], image[17000];
     struct dfu_config other = config;
     struct dfu_place place;
-    struct dfu_device device;
+    struct dfu_record record;
     for (size_t at = 0; at < sizeof image; at++)
         image[at] = (uint8_t)(at * 7 + at / 251);
     for (uint32_t unit = 1; unit <= 256; unit *= unit == 1 ? 16 : 4) {
         other.unit = unit;
         for (size_t length = 0; length <= 16384; length += length < 4090 ? 409 : 1023) {
-            is("format", dfu_device_format(&other, medium, SIZE, image, length), 0);
-            is("image", dfu_device_image(&other, medium, SIZE, &place), 0);
+            memset(medium, 0, SIZE);
+            is("format", dfu_memory_format(&other, medium, SIZE, image, length), 0);
+            is("image", dfu_core_image(&other, medium, SIZE, &place), 0);
             is("its length", (long)place.length, (long)length);
             is("its bytes", memcmp(medium + place.at, image, length), 0);
-            memset(medium, 0, SIZE);
-            is("asking: format", dfu_asking_format(&other, 0, medium, SIZE, image, length), 0);
-            is("asking: image", dfu_asking_image(&other, 0, medium, SIZE, &place), 0);
-            is("asking: its bytes", memcmp(medium + place.at, image, length), 0);
         }
-        is("too large", dfu_device_format(&other, medium, SIZE, image, 17000), DFU_TOO_LARGE);
-        is("asking: too large", dfu_asking_format(&other, 0, medium, SIZE, image, 17000), DFU_TOO_LARGE);
+        is("too large", dfu_memory_format(&other, medium, SIZE, image, 17000), DFU_TOO_LARGE);
     }
-    is("wrong size", dfu_device_format(&config, medium, 63, image, 1), DFU_WRONG_SIZE);
-    is("odd size", dfu_device_format(&config, medium, SIZE - 1, image, 1), DFU_WRONG_SIZE);
+    is("wrong size", dfu_memory_format(&config, medium, 63, image, 1), DFU_WRONG_SIZE);
+    is("odd size", dfu_memory_format(&config, medium, SIZE - 1, image, 1), DFU_WRONG_SIZE);
     memset(medium, 0, SIZE);
-    is("no image", dfu_device_image(&config, medium, SIZE, &place), DFU_NO_MEDIUM);
-    is("no device", dfu_device_power_on(&config, &device, medium, SIZE), DFU_NO_MEDIUM);
-    is("none to begin", dfu_device_begin(&config, &device, medium, SIZE), DFU_NO_MEDIUM);
+    is("no image", dfu_core_image(&config, medium, SIZE, &place), DFU_NO_MEDIUM);
+    is("no device", dfu_core_power_on(&config, &record, medium, SIZE), DFU_NO_MEDIUM);
+    is("none to begin", dfu_core_begin(&config, &record, medium, SIZE), DFU_NO_MEDIUM);
     other.version++;
-    is("another version", dfu_device_format(&other, medium, SIZE, image, 1), DFU_NO_CONFIG);
-    is("another version, image", dfu_device_image(&other, medium, SIZE, &place), DFU_NO_CONFIG);
-    is("another version, asking", dfu_asking_format(&other, 0, medium, SIZE, image, 1), DFU_NO_CONFIG);
+    is("another version", dfu_memory_format(&other, medium, SIZE, image, 1), DFU_NO_CONFIG);
+    is("another version, image", dfu_core_image(&other, medium, SIZE, &place), DFU_NO_CONFIG);
 }
 
 /* Files of every refusal. One of more than 16 MiB takes that much memory, which a small machine does not have. */
@@ -100,46 +94,38 @@ static void names(void) {
 
 /* What wants NULL for nothing, and what stands in every mode where a device is asked without a medium. */
 static void nothing(void) {
-    static uint8_t medium[2 * (32 + 1024)], block[64], out[64];
+    static uint8_t medium[DFU_MEDIUM_SIZE(1, 0, 1024)], block[64], out[64];
     static const uint8_t setup[8] = {0xa1, 3, 0, 0, 0, 0, 6, 0}, download[8] = {0x21, 1, 0, 0, 0, 0, 65, 0}, detach[8] = {0x21, 0, 255};
-    struct dfu_device device;
-    struct dfu_asking asking;
+    struct dfu_record record;
     struct dfu_session session;
     struct dfu_action action;
     struct dfu_file file;
     struct dfu_place place;
     struct dfu_ask ask;
-    is("format", dfu_device_format(&config, medium, sizeof medium, NULL, 0), 0);
-    is("no medium", dfu_device_format(&config, NULL, 0, NULL, 0), DFU_WRONG_SIZE);
-    is("no medium to start from", dfu_device_power_on(&config, &device, NULL, 0), DFU_NO_MEDIUM);
-    is("start", dfu_device_begin(&config, &device, medium, sizeof medium), 0);
-    is("no block", dfu_device_handle(&config, &device, NULL, 0, medium, sizeof medium, setup, NULL, 0, out, 64), DFU_NO_BLOCK);
-    is("no room", dfu_device_handle(&config, &device, block, 64, medium, sizeof medium, setup, NULL, 0, NULL, 0), DFU_NO_ROOM);
-    is("no medium", dfu_device_handle(&config, &device, block, 64, NULL, 0, setup, NULL, 0, out, 64), DFU_NO_MEDIUM);
-    is("no time", dfu_device_elapse(&config, &device, NULL, 0, NULL, 0, 1), DFU_NO_BLOCK);
-    is("no reset", dfu_device_usb_reset(&config, &device, block, 64, NULL, 0), DFU_NO_MEDIUM);
-    is("no place", dfu_device_image(&config, NULL, 0, &place), DFU_NO_MEDIUM);
-    is("status", dfu_device_handle(&config, &device, block, 64, medium, sizeof medium, setup, NULL, 0, out, 64), 6);
+    is("format", dfu_memory_format(&config, medium, sizeof medium, NULL, 0), 0);
+    is("no medium", dfu_memory_format(&config, NULL, 0, NULL, 0), DFU_WRONG_SIZE);
+    is("no medium to start from", dfu_core_power_on(&config, &record, NULL, 0), DFU_NO_MEDIUM);
+    is("start", dfu_core_begin(&config, &record, medium, sizeof medium), 0);
+    is("no block", dfu_core_handle(&config, &record, NULL, 0, medium, sizeof medium, setup, NULL, 0, out, 64), DFU_NO_BLOCK);
+    is("no room", dfu_core_handle(&config, &record, block, 64, medium, sizeof medium, setup, NULL, 0, NULL, 0), DFU_NO_ROOM);
+    is("no medium", dfu_core_handle(&config, &record, block, 64, NULL, 0, setup, NULL, 0, out, 64), DFU_NO_MEDIUM);
+    is("no time", dfu_core_elapse(&config, &record, NULL, 0, NULL, 0, 1), DFU_NO_BLOCK);
+    is("no reset", dfu_core_usb_reset(&config, &record, block, 64, NULL, 0), DFU_NO_MEDIUM);
+    is("no place", dfu_core_image(&config, NULL, 0, &place), DFU_NO_MEDIUM);
+    is("status", dfu_core_handle(&config, &record, block, 64, medium, sizeof medium, setup, NULL, 0, out, 64), 6);
     for (uint32_t mode = 0; mode < 14; mode++) {
-        struct dfu_device it = device, old;
+        struct dfu_record it = record, old;
         it.mode = mode, it.number = 0, old = it;
-        is("due", (long)dfu_device_due(&config, &it) < 0, mode == 13);
-        is("would stall", (long)dfu_device_would_stall(&config, &it, sizeof medium, setup) < 0, mode == 13);
+        is("due", dfu_core_due(&config, &it) < 0, mode == 13);
+        is("would stall", dfu_core_would_stall(&config, &it, sizeof medium, setup) < 0, mode == 13);
         is("as it was", memcmp(&it, &old, sizeof it), 0);
-        is("not long", (long)dfu_device_too_long(&config, &it, setup), mode == 13 ? DFU_NO_DEVICE : DFU_NOT_LONG);
-        is("detach is not long", (long)dfu_device_too_long(&config, &it, detach), mode == 13 ? DFU_NO_DEVICE : DFU_NOT_LONG);
-        is("too long", (long)dfu_device_too_long(&config, &it, download), mode == 13 ? DFU_NO_DEVICE : DFU_STALL);
-        is("stalled", dfu_device_state(&it), mode == 13 ? DFU_NO_DEVICE : mode < 2 ? 0 : mode == 10 ? 8 : 10);
+        is("not long", dfu_core_too_long(&config, &it, setup), mode == 13 ? DFU_NO_DEVICE : DFU_NOT_LONG);
+        is("detach is not long", dfu_core_too_long(&config, &it, detach), mode == 13 ? DFU_NO_DEVICE : DFU_NOT_LONG);
+        is("too long", dfu_core_too_long(&config, &it, download), mode == 13 ? DFU_NO_DEVICE : DFU_STALL);
+        is("stalled", dfu_core_state(&it), mode == 13 ? DFU_NO_DEVICE : mode < 2 ? 0 : mode == 10 ? 8 : 10);
     }
-    is("asking: no medium", dfu_asking_format(&config, 0, NULL, 0, NULL, 0), DFU_WRONG_SIZE);
-    is("asking: format", dfu_asking_format(&config, 0, medium, sizeof medium, NULL, 0), 0);
-    is("asking: no flash", dfu_asking_power_on(&config, &asking, 0, NULL, 0), DFU_NO_MEDIUM);
-    is("asking: start", dfu_asking_power_on(&config, &asking, 0, medium, sizeof medium), 0);
-    is("asking: no block", dfu_asking_elapse(&config, &asking, NULL, 0, NULL, 0, 1), DFU_NO_BLOCK);
-    is("asking: no reset", dfu_asking_usb_reset(&config, &asking, block, 64, NULL, 0), DFU_NO_MEDIUM);
-    is("asking: nothing", dfu_asking_next(&config, &asking, block, 64, medium, sizeof medium, &ask), DFU_NO_DEVICE);
-    is("asking: nothing took", dfu_asking_took(&config, &asking, block, 64, NULL, 0, 0, out, 64), DFU_NO_DEVICE);
-    is("asking: no place", dfu_asking_image(&config, 0, NULL, 0, &place), DFU_NO_MEDIUM);
+    is("nothing is due", dfu_core_next(&config, &record, block, 64, medium, sizeof medium, &ask), DFU_NO_DEVICE);
+    is("nothing took", dfu_core_took(&config, &record, block, 64, NULL, 0, 0, out, 64), DFU_NO_DEVICE);
     is("host: no file", dfu_host_file(NULL, 0, &file), DFU_FILE_TOO_SHORT);
     is("host: no descriptor", dfu_host_upload(&session, NULL, 0, 1, 0), DFU_SHORT);
     memset(&session, 0, sizeof session);

@@ -1,13 +1,14 @@
-/* Calls with a record or a medium that were garbled: each is answered or refused, and writes nothing outside what it was
- * given. One that is refused changes nothing at all, and none changes the size of anything. It takes how many calls to make. */
+/* Calls with a record or a medium that were garbled, over plain memory, with what they ask for carried out: each is answered or refused,
+ * and nothing is written outside what it was given. One that is refused changes nothing at all. It takes how many calls to make. */
 #include <stdio.h>
 #include <stdlib.h>
 #include <string.h>
 
-#include "dfu_device.h"
+#include "dfu_device_memory.h"
 
-static const struct dfu_config config = {DFU_VERSION, 0x0100, 1, 0x1209, 255, 8, 7, 5, 10, 1, 1};
+static const struct dfu_config config = {DFU_VERSION, 0x0100, 1, 0x1209, 255, 8, 7, 0, 5, 10, 1, 1, 0};
 static uint32_t dice = 1;
+static long operations;
 
 static uint32_t roll(uint32_t sides) {
     dice = dice * 1664525u + 1013904223u;
@@ -29,15 +30,32 @@ static int is_newest(const uint8_t *mine, const uint8_t *other) {
     return mine[16] == (uint8_t)(other[16] + 1);
 }
 
+/* Carries out what is asked for: the answer, or DFU_ASKS if next or took refuses with this record, medium and room. */
+static int32_t settle(const struct dfu_config *used, struct dfu_record *record, const uint8_t *block, size_t most, uint8_t *medium,
+                      uint8_t *out, size_t room) {
+    int32_t result = DFU_ASKS;
+    while (result == DFU_ASKS) {
+        struct dfu_ask ask;
+        if (dfu_core_next(used, record, block, most, medium, 192, &ask) != 0)
+            return DFU_ASKS;
+        dfu_memory_program(medium, ask.at, ask.bytes, ask.length);
+        result = dfu_core_took(used, record, block, most, medium, 192, 0, out, room);
+        operations++;
+        if (result < -1)
+            return DFU_ASKS;
+    }
+    return result;
+}
+
 int main(int count, char **words) {
     /* A guard on both sides of each. */
     static uint8_t field[64 + 192 + 64], given[64 + 8 + 64], held[64 + 12 + 64], start[192];
     static uint8_t field_before[sizeof field], given_before[sizeof given], held_before[sizeof held];
-    static struct dfu_device records[3], record_before;
-    struct dfu_device *record = &records[1];
+    static struct dfu_record records[3], record_before;
+    struct dfu_record *record = &records[1];
     uint8_t *medium = field + 64, *out = given + 64, *block = held + 64;
     long answered = 0, refused = 0, all = count > 1 ? atol(words[1]) : 1000;
-    if (dfu_device_format(&config, start, sizeof start, (const uint8_t *)"\x11\x22", 2) != 0)
+    if (dfu_memory_format(&config, start, sizeof start, (const uint8_t *)"\x11\x22", 2) != 0)
         return 1;
     for (long call = 0; call < all; call++) {
         uint8_t body[8] = {1, 2, 3, 4, 5, 6, 7, 8};
@@ -55,11 +73,14 @@ int main(int count, char **words) {
         /* In bytes or in units of 16; what is held back goes with where the puts end in seven of eight. */
         struct dfu_config used = config;
         used.unit = roll(2) ? 1 : 16;
-        *record = (struct dfu_device){DFU_VERSION + (roll(16) == 0), roll(14), roll(12), roll(20), roll(12), roll(3), (uint16_t)roll(18),
-                                      (uint16_t)roll(14), {0}, 0, {1, 2, 3}};
+        memset(record, 0, sizeof *record);
+        record->version = DFU_VERSION + (roll(16) == 0), record->mode = roll(14), record->first = roll(12), record->second = roll(20);
+        record->put_end = roll(12), record->slot = roll(8) ? 0 : roll(3);
+        record->number = (uint16_t)roll(18), record->length = (uint16_t)roll(14);
+        record->held[0] = 1, record->held[1] = 2, record->held[2] = 3;
         record->held_length = (uint16_t)(roll(8) ? record->put_end % used.unit : roll(300));
-        /* Two of three note a header that stands on the medium. */
-        if (roll(3))
+        /* Seven of eight note a header that stands on the medium. */
+        if (roll(8))
             memcpy(record->header, medium + (record->slot ? 96 : 0) + 16, 16);
         if (roll(4) == 0)
             ((uint8_t *)record)[roll(sizeof *record)] = (uint8_t)roll(256);
@@ -79,28 +100,31 @@ int main(int count, char **words) {
         record_before = *record;
         int32_t result, what = (int32_t)roll(6);
         if (what == 0)
-            result = dfu_device_elapse(&used, record, block, most, medium, 192, roll(12));
+            result = dfu_core_elapse(&used, record, block, most, medium, 192, roll(12));
         else if (what == 1 && roll(4) == 0)
-            result = dfu_device_usb_reset(&used, record, block, most, medium, 192);
+            result = dfu_core_usb_reset(&used, record, block, most, medium, 192);
         else if (what == 2 && roll(4) == 0)
-            result = dfu_device_power_on(&used, record, medium, 192);
+            result = dfu_core_power_on(&used, record, medium, 192);
         else
-            result = dfu_device_handle(&used, record, block, most, medium, 192, setup, body, setup[0] == 0x21 ? setup[6] : 0,
-                                       out, room);
+            result = dfu_core_handle(&used, record, block, most, medium, 192, setup, body, setup[0] == 0x21 ? setup[6] : 0, out, room);
+        if (result == DFU_ASKS)
+            result = settle(&used, record, block, most, medium, out, room);
         *(result >= -1 ? &answered : &refused) += 1;
         if (room < 8 && what > 2 && result != DFU_NO_ROOM)
             return printf("garbled: call %ld has no room and answered %d\n", call, (int)result), 1;
         if (most < 8 && what < 2 && result >= -1)
             return printf("garbled: call %ld has no block and answered %d\n", call, (int)result), 1;
-        if (result < -1 && (memcmp(field_before, field, sizeof field) != 0 || memcmp(given_before, given, sizeof given) != 0
+        if (result < -1 && result != DFU_ASKS && (memcmp(field_before, field, sizeof field) != 0
+            || memcmp(given_before, given, sizeof given) != 0
             || memcmp(held_before, held, sizeof held) != 0 || memcmp(&record_before, record, sizeof *record) != 0))
             return printf("garbled: call %ld was refused with %d and changed something\n", call, (int)result), 1;
         /* The slot that the record notes is not written, where it stands there as the active one. */
         size_t slot = record_before.slot ? 96 : 0, spare = 96 - slot;
-        if (result >= -1 && is_newest(field_before + 64 + slot, field_before + 64 + spare)
-            && memcmp(record_before.header, field_before + 64 + slot + 16, 16) == 0 && memcmp(field_before + 64 + slot, medium + slot, 96) != 0)
+        if ((result >= -1 || result == DFU_ASKS) && is_newest(field_before + 64 + slot, field_before + 64 + spare)
+            && memcmp(record_before.header, field_before + 64 + slot + 16, 16) == 0
+            && memcmp(field_before + 64 + slot, medium + slot, 96) != 0)
             return printf("garbled: call %ld wrote in the active slot\n", call), 1;
-        if ((result < DFU_NO_ROOM && result != DFU_NO_BLOCK) || result > 8)
+        if ((result < DFU_NO_ROOM && result != DFU_NO_BLOCK && result != DFU_ASKS && result != DFU_ASKED) || result > 8)
             return printf("garbled: call %ld answered %d\n", call, (int)result), 1;
         for (size_t i = 0; i < 64; i++)
             if (field[i] != 0x5a || field[256 + i] != 0x5a || given[i] != 0x5a || given[72 + i] != 0x5a || held[i] != 0x5a
@@ -110,6 +134,6 @@ int main(int count, char **words) {
             if (((uint8_t *)&records[0])[i] != 0x5a || ((uint8_t *)&records[2])[i] != 0x5a)
                 return printf("garbled: call %ld wrote outside the record\n", call), 1;
     }
-    printf("garbled: %ld calls, %ld answered, %ld refused\n", all, answered, refused);
-    return answered == 0 || refused == 0;
+    printf("garbled: %ld calls, %ld answered, %ld refused, %ld operations\n", all, answered, refused, operations);
+    return answered == 0 || refused == 0 || operations == 0;
 }

@@ -1,10 +1,10 @@
 /* The layout that a DFU_VERSION stands for: the size of each struct of the headers, and where each of its fields begins. A program and a
  * library that agree on the version agree on these. So a change here takes a new version, and a new version takes a look at these. */
-#include "dfu_asking.h"
 #include "dfu_device.h"
 #include "dfu_host.h"
+#include "dfu_runtime.h"
 
-#if DFU_VERSION != 200
+#if DFU_VERSION != 300
 #error "another version: write down its layout here"
 #endif
 #ifndef __cplusplus
@@ -13,7 +13,7 @@
 #define SIZE(type, bytes) static_assert(sizeof(struct type) == (bytes), "the size of " #type)
 #define AT(type, field, byte) static_assert(offsetof(struct type, field) == (byte), #type "." #field)
 
-SIZE(dfu_config, 32);
+SIZE(dfu_config, 36);
 AT(dfu_config, version, 0);
 AT(dfu_config, device, 4);
 AT(dfu_config, product, 6);
@@ -21,44 +21,65 @@ AT(dfu_config, vendor, 8);
 AT(dfu_config, detach_ms, 10);
 AT(dfu_config, transfer, 12);
 AT(dfu_config, attributes, 14);
+AT(dfu_config, interface_number, 15);
 AT(dfu_config, busy_ms, 16);
 AT(dfu_config, manifest_ms, 20);
 AT(dfu_config, least, 24);
 AT(dfu_config, unit, 28);
+AT(dfu_config, sector, 32);
 
-SIZE(dfu_device, 304);
-AT(dfu_device, version, 0);
-AT(dfu_device, mode, 4);
-AT(dfu_device, first, 8);
-AT(dfu_device, second, 12);
-AT(dfu_device, put_end, 16);
-AT(dfu_device, slot, 20);
-AT(dfu_device, number, 24);
-AT(dfu_device, length, 26);
-AT(dfu_device, header, 28);
-AT(dfu_device, held_length, 44);
-AT(dfu_device, held, 46);
-
-SIZE(dfu_place, 8);
-AT(dfu_place, at, 0);
-AT(dfu_place, length, 4);
-
-SIZE(dfu_asking, 332);
-AT(dfu_asking, device, 0);
-AT(dfu_asking, sector, 304);
-AT(dfu_asking, work, 308);
-AT(dfu_asking, spare, 312);
-AT(dfu_asking, sum, 316);
-AT(dfu_asking, done, 320);
-AT(dfu_asking, asked, 324);
-AT(dfu_asking, generation, 328);
-AT(dfu_asking, close, 329);
+SIZE(dfu_record, 324);
+AT(dfu_record, version, 0);
+AT(dfu_record, mode, 4);
+AT(dfu_record, first, 8);
+AT(dfu_record, second, 12);
+AT(dfu_record, put_end, 16);
+AT(dfu_record, slot, 20);
+AT(dfu_record, number, 24);
+AT(dfu_record, length, 26);
+AT(dfu_record, header, 28);
+AT(dfu_record, work, 44);
+AT(dfu_record, spare, 48);
+AT(dfu_record, sum, 52);
+AT(dfu_record, done, 56);
+AT(dfu_record, asked, 60);
+AT(dfu_record, generation, 64);
+AT(dfu_record, close, 65);
+AT(dfu_record, held_length, 66);
+AT(dfu_record, held, 68);
 
 SIZE(dfu_ask, 268);
 AT(dfu_ask, kind, 0);
 AT(dfu_ask, at, 4);
 AT(dfu_ask, length, 8);
 AT(dfu_ask, bytes, 12);
+
+SIZE(dfu_place, 8);
+AT(dfu_place, at, 0);
+AT(dfu_place, length, 4);
+
+/* The context has pointers: with those of 32 bits the memory is the one that dfu_device.h names. */
+SIZE(dfu_device, sizeof(void *) == 4 ? 352 : 376);
+AT(dfu_device, config, 0);
+AT(dfu_device, flash, sizeof(void *));
+AT(dfu_device, size, 2 * sizeof(void *));
+AT(dfu_device, block, 3 * sizeof(void *));
+AT(dfu_device, most, 4 * sizeof(void *));
+AT(dfu_device, driver, 5 * sizeof(void *));
+AT(dfu_device, record, 6 * sizeof(void *));
+AT(dfu_device, unused, 6 * sizeof(void *) + 324);
+
+SIZE(dfu_driver, 3 * sizeof(void *));
+AT(dfu_driver, own, 0);
+AT(dfu_driver, erase, sizeof(void *));
+AT(dfu_driver, program, 2 * sizeof(void *));
+
+SIZE(dfu_runtime, 12);
+AT(dfu_runtime, detach_ms, 0);
+AT(dfu_runtime, interface_number, 2);
+AT(dfu_runtime, attributes, 3);
+AT(dfu_runtime, state, 4);
+AT(dfu_runtime, left, 8);
 
 SIZE(dfu_ids, 6);
 AT(dfu_ids, device, 0);

@@ -3,11 +3,13 @@
 #include <stdio.h>
 #include <string.h>
 
-#include "dfu_device.h"
+#include "memory.h"
 
-static struct dfu_config config = {DFU_VERSION, 0x0100, 1, 0x1209, 255, 8, 7, 5, 10, 1, 1};
-static struct dfu_device device;
-static uint8_t medium[2 * (32 + 64)], pending[8], image[20];
+static struct dfu_config config = {DFU_VERSION, 0x0100, 1, 0x1209, 255, 8, 7, 0, 5, 10, 1, 1, 0};
+static uint8_t medium[DFU_MEDIUM_SIZE(1, 0, 64)], pending[8], image[20];
+static const struct dfu_driver driver = DFU_MEMORY_DRIVER(medium);
+static struct dfu_device device = {.config = &config, .flash = medium, .size = sizeof medium, .block = pending, .most = sizeof pending,
+                                   .driver = &driver};
 static const uint8_t old[3] = {1, 2, 3};
 /* How many calls are made before the power goes, and how many were made. */
 static int last, made;
@@ -19,23 +21,23 @@ static int is_off(void) {
 static void ask(uint8_t kind, uint8_t request, uint16_t value, const uint8_t *body, uint16_t length) {
     uint8_t setup[8] = {kind, request, (uint8_t)value, 0, 0, 0, (uint8_t)length, 0}, out[8];
     if (!is_off())
-        dfu_device_handle(&config, &device, pending, sizeof pending, medium, sizeof medium, setup, body, kind == 0x21 ? length : 0,
+        handle_in_memory(&device, setup, body, kind == 0x21 ? length : 0,
                           out, sizeof out);
 }
 
 static void pass(uint32_t ms) {
     if (!is_off())
-        dfu_device_elapse(&config, &device, pending, sizeof pending, medium, sizeof medium, ms);
+        elapse_in_memory(&device, ms);
 }
 
 static void power_on(void) {
     if (!is_off())
-        dfu_device_power_on(&config, &device, medium, sizeof medium);
+        dfu_device_power_on(&device);
 }
 
 static void reset(void) {
     if (!is_off())
-        dfu_device_usb_reset(&config, &device, pending, sizeof pending, medium, sizeof medium);
+        dfu_device_usb_reset(&device);
 }
 
 static void install(void) {
@@ -56,7 +58,7 @@ static void install(void) {
 
 static int has(const uint8_t *bytes, uint32_t length) {
     struct dfu_place place;
-    return dfu_device_image(&config, medium, sizeof medium, &place) == 0 && place.length == length && memcmp(medium + place.at, bytes, length) == 0;
+    return dfu_device_image(&device, &place) == 0 && place.length == length && memcmp(medium + place.at, bytes, length) == 0;
 }
 
 int main(void) {
@@ -66,18 +68,18 @@ int main(void) {
     for (int tolerant = 0; tolerant < 2; tolerant++)
         for (calls = 0, last = 0; last == 0 || calls >= last; last++) {
             config.attributes = (uint8_t)(3 + 4 * tolerant);
-            if (dfu_device_format(&config, medium, sizeof medium, old, sizeof old) != 0)
+            if (dfu_device_format(&device, old, sizeof old) != 0)
                 return 1;
             made = 0;
             install();
             calls = made;
             olds += has(old, sizeof old);
             news += has(image, sizeof image);
-            if (has(old, sizeof old) + has(image, sizeof image) != 1 || dfu_device_power_on(&config, &device, medium, sizeof medium) != 0)
+            if (has(old, sizeof old) + has(image, sizeof image) != 1 || dfu_device_power_on(&device) != 0)
                 return printf("power: off after %d calls\n", last), 1;
             int kept = last;
             last = 1000;
-            memset(&device, 0xa5, sizeof device);
+            memset(&device.record, 0xa5, sizeof device.record);
             install();
             last = kept;
             if (!has(image, sizeof image))

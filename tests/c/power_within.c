@@ -1,23 +1,26 @@
 /* Two images are installed, one after the other, and each call that may write is gone through instruction by instruction, on x86-64
  * by the processor's trap flag: after each instruction that changed the medium the power may have gone. On each medium that stood
  * there so a device gets power, its image is the one before or the one that is installed, whole, and never the one before again once
- * it was the new one; and an image can be installed on it. So it is in units of a byte and of 16 bytes. What caches and memory do behind the processor is not seen here. */
+ * it was the new one; and an image can be installed on it. So it is in units of a byte and of 16 bytes. What caches and memory do behind
+ * the processor is not seen here. */
 #define _POSIX_C_SOURCE 200809L
 #include <signal.h>
 #include <stdio.h>
 #include <string.h>
 #include <x86intrin.h>
 
-#include "dfu_device.h"
+#include "memory.h"
 
 #define MOST 20000
 #define TRAP 0x100
 
 #define IMAGE 150 /* bytes, in blocks of 100; in units of 16 some are held back after each */
 
-static struct dfu_config config = {DFU_VERSION, 0x0100, 1, 0x1209, 255, 100, 7, 5, 10, 1, 1};
-static struct dfu_device device;
-static uint8_t pending[100], medium[2 * (32 + 160)], mediums[MOST][sizeof medium];
+static struct dfu_config config = {DFU_VERSION, 0x0100, 1, 0x1209, 255, 100, 7, 0, 5, 10, 1, 1, 0};
+static uint8_t pending[100], medium[DFU_MEDIUM_SIZE(1, 0, 160)], mediums[MOST][sizeof medium];
+static const struct dfu_driver driver = DFU_MEMORY_DRIVER(medium);
+static struct dfu_device device = {.config = &config, .flash = medium, .size = sizeof medium, .block = pending, .most = sizeof pending,
+                                   .driver = &driver};
 static unsigned count;
 static unsigned long steps;
 static int is_stepped;
@@ -38,21 +41,21 @@ static void step(int is_on) {
 static void ask(uint8_t kind, uint8_t request, uint16_t value, const uint8_t *body, uint16_t length) {
     uint8_t setup[8] = {kind, request, (uint8_t)value, 0, 0, 0, (uint8_t)length, 0}, out[100];
     step(1);
-    dfu_device_handle(&config, &device, pending, sizeof pending, medium, sizeof medium, setup, body, kind == 0x21 ? length : 0,
+    handle_in_memory(&device, setup, body, kind == 0x21 ? length : 0,
                       out, sizeof out);
     step(0);
 }
 
 static void pass(uint32_t ms) {
     step(1);
-    dfu_device_elapse(&config, &device, pending, sizeof pending, medium, sizeof medium, ms);
+    elapse_in_memory(&device, ms);
     step(0);
 }
 
 static void install(const uint8_t image[IMAGE]) {
-    dfu_device_power_on(&config, &device, medium, sizeof medium);
+    dfu_device_power_on(&device);
     ask(0x21, 0, 100, image, 0);
-    dfu_device_usb_reset(&config, &device, pending, sizeof pending, medium, sizeof medium);
+    dfu_device_usb_reset(&device);
     for (uint16_t block = 0; block < 2; block++) {
         ask(0x21, 1, block, image + 100 * block, block == 1 ? IMAGE - 100 : 100);
         ask(0xa1, 3, 0, image, 6);
@@ -67,7 +70,7 @@ static void install(const uint8_t image[IMAGE]) {
 
 static int has(const uint8_t *bytes, uint32_t length) {
     struct dfu_place place;
-    return dfu_device_image(&config, medium, sizeof medium, &place) == 0 && place.length == length
+    return dfu_device_image(&device, &place) == 0 && place.length == length
         && memcmp(medium + place.at, bytes, length) == 0;
 }
 
@@ -77,8 +80,8 @@ static int stands(const uint8_t *before, uint32_t length, const uint8_t image[IM
     int is_new = 0;
     for (unsigned at = 0; at < count; at++) {
         memcpy(medium, mediums[at], sizeof medium);
-        memset(&device, 0xa5, sizeof device);
-        if (dfu_device_power_on(&config, &device, medium, sizeof medium) != 0 || has(before, length) + has(image, IMAGE) != 1
+        memset(&device.record, 0xa5, sizeof device.record);
+        if (dfu_device_power_on(&device) != 0 || has(before, length) + has(image, IMAGE) != 1
             || (is_new && !has(image, IMAGE)))
             return printf("power within: no image, or a wrong one, on medium %u of %u\n", at, count), 0;
         is_new = has(image, IMAGE);
@@ -117,7 +120,7 @@ int main(void) {
     for (int turn = 0; turn < 4; turn++) {
         config.attributes = turn & 1 ? 7 : 3;
         config.unit = turn & 2 ? 16 : 1;
-        if (dfu_device_format(&config, medium, sizeof medium, old, sizeof old) != 0 || !goes(old, sizeof old, first))
+        if (dfu_device_format(&device, old, sizeof old) != 0 || !goes(old, sizeof old, first))
             return 1;
         seen += count;
         if (!goes(first, sizeof first, second))

@@ -4,8 +4,8 @@
 #include <stdlib.h>
 #include <string.h>
 
-#include "dfu_device.h"
 #include "dfu_host.h"
+#include "memory.h"
 
 static const struct dfu_config config = {
     .version = DFU_VERSION, .device = 0x0100, .product = 1, .vendor = 0x1209, .detach_ms = 255, .transfer = 8,
@@ -14,8 +14,10 @@ static const struct dfu_config config = {
 static const uint8_t descriptor[9] = {9, 0x21, 7, 255, 0, 8, 0, 0x10, 1};
 static const struct dfu_ids ids = {0x0100, 1, 0x1209};
 static const uint8_t ones[20] = {255, 255, 255, 255, 255, 255, 255, 255, 255, 255, 0, 1, 'U', 'F', 'D', 16, 113, 200, 81, 12};
-static uint8_t pending[8], medium[2 * (32 + 1024)], buffer[64], answer[64];
-static struct dfu_device device;
+static uint8_t pending[8], medium[DFU_MEDIUM_SIZE(1, 0, 1024)], buffer[64], answer[64];
+static const struct dfu_driver driver = DFU_MEMORY_DRIVER(medium);
+static struct dfu_device device = {.config = &config, .flash = medium, .size = sizeof medium, .block = pending, .most = sizeof pending,
+                                   .driver = &driver};
 static int failed;
 
 static void is(const char *what, long got, long wanted) {
@@ -26,22 +28,22 @@ static void is(const char *what, long got, long wanted) {
 }
 
 static void start(const char *image, size_t length) {
-    is("format", dfu_device_format(&config, medium, sizeof medium, (const uint8_t *)image, length), 0);
-    is("power on", dfu_device_power_on(&config, &device, medium, sizeof medium), 0);
+    is("format", dfu_device_format(&device, (const uint8_t *)image, length), 0);
+    is("power on", dfu_device_power_on(&device), 0);
 }
 
 /* Does what the session wants: what was seen of it, and in `sent` how many bytes were answered. */
 static uint32_t act(const struct dfu_action *a, int32_t *sent) {
     *sent = 0;
     if (a->what == DFU_RESET) {
-        dfu_device_usb_reset(&config, &device, pending, sizeof pending, medium, sizeof medium);
+        dfu_device_usb_reset(&device);
         return DFU_SEEN_RESET;
     }
     if (a->what == DFU_WAIT) {
-        dfu_device_elapse(&config, &device, pending, sizeof pending, medium, sizeof medium, a->value);
+        elapse_in_memory(&device, a->value);
         return DFU_SEEN_WAIT;
     }
-    *sent = dfu_device_handle(&config, &device, pending, sizeof pending, medium, sizeof medium, a->setup, ones + a->from, a->length,
+    *sent = handle_in_memory(&device, a->setup, ones + a->from, a->length,
                               answer, sizeof answer);
     return *sent < 0 ? DFU_SEEN_STALL : a->setup[0] & 0x80 ? DFU_SEEN_BYTES : DFU_SEEN_ACK;
 }
@@ -56,7 +58,7 @@ static uint32_t run_left(struct dfu_session *s) {
         if (seen == DFU_SEEN_ACK && a.setup[1] == 1 && a.length == 0)
             closed = 1;
         if (seen == DFU_SEEN_WAIT && closed == 1) {
-            dfu_device_usb_reset(&config, &device, pending, sizeof pending, medium, sizeof medium);
+            dfu_device_usb_reset(&device);
             seen = DFU_SEEN_LEFT;
             closed = 2;
         }
@@ -90,7 +92,7 @@ static uint32_t run(struct dfu_session *s, size_t payload, size_t room, int lost
 
 static int has(const uint8_t *image, size_t length) {
     struct dfu_place place;
-    return dfu_device_image(&config, medium, sizeof medium, &place) == 0 && place.length == length && !memcmp(medium + place.at, image, length);
+    return dfu_device_image(&device, &place) == 0 && place.length == length && !memcmp(medium + place.at, image, length);
 }
 
 static uint32_t upload(size_t room) {

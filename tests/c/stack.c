@@ -1,50 +1,73 @@
-/* How deep each call goes below its caller: a thread runs it on a stack that was painted. It takes the most bytes that
- * are allowed. */
+/* How deep each call goes below its caller: a thread runs it on a stack that was painted. It takes the most bytes that are allowed, and
+ * prints the size of the record too. The lines that begin with "format" are those of calls that a bootloader may leave out. */
 #define _GNU_SOURCE
 #include <pthread.h>
 #include <stdio.h>
 #include <stdlib.h>
 #include <string.h>
 
-#include "dfu_device.h"
+#include "dfu_device_memory.h"
 
-static const struct dfu_config config = {DFU_VERSION, 0x0100, 1, 0x1209, 255, 4096, 7, 5, 10, 1, 16};
-static struct dfu_device device;
+static const struct dfu_config config = {DFU_VERSION, 0x0100, 1, 0x1209, 255, 4096, 7, 0, 0, 10, 1, 256, 0};
 static struct dfu_place place;
-static uint8_t medium[2 * (32 + 100000)], out[4096], block[4096], pending[4096];
+static struct dfu_ask due;
+static uint8_t medium[DFU_MEDIUM_SIZE(256, 0, 256 * 400)], out[4096], block[4096], pending[4096];
 static uint8_t painted[1 << 20] __attribute__((aligned(4096)));
+static const struct dfu_driver driver = DFU_MEMORY_DRIVER(medium);
+static struct dfu_device device = {.config = &config, .flash = medium, .size = sizeof medium, .block = pending, .most = sizeof pending,
+                                   .driver = &driver};
+static struct dfu_device other;
+static int32_t answer;
 
 static void ask(uint8_t kind, uint8_t request, uint8_t value, uint16_t length) {
     uint8_t setup[8] = {kind, request, value, 0, 0, 0, (uint8_t)length, (uint8_t)(length >> 8)};
-    dfu_device_handle(&config, &device, pending, sizeof pending, medium, sizeof medium, setup, block, kind == 0x21 ? length : 0,
-                      out, sizeof out);
+    answer = dfu_device_handle(&device, setup, block, out, sizeof out);
 }
 
-static void pass(uint32_t ms) {
-    dfu_device_elapse(&config, &device, pending, sizeof pending, medium, sizeof medium, ms);
+static int32_t next(void) {
+    return dfu_device_next(&device, &due);
+}
+
+static void took(void) {
+    answer = dfu_device_took(&device, dfu_device_carry_out(&driver, &due), out, sizeof out);
 }
 
 static void *run(void *word) {
     switch (*(int *)word) {
-    case 1: dfu_device_format(&config, medium, sizeof medium, block, sizeof block); break;
-    case 2: dfu_device_power_on(&config, &device, medium, sizeof medium); break;
-    case 3: ask(0x21, 0, 200, 0); break;
-    case 4: dfu_device_usb_reset(&config, &device, pending, sizeof pending, medium, sizeof medium); break;
-    case 5: ask(0x21, 1, 0, 4090); break;
-    case 6: ask(0xa1, 3, 0, 6); break;
-    case 7: pass(5); break;
-    case 8: ask(0xa1, 3, 0, 6), ask(0x21, 1, 1, 0), ask(0xa1, 3, 0, 6), pass(10); break;
-    case 9: ask(0xa1, 3, 0, 6), ask(0xa1, 2, 0, 4000); break;
-    case 10: dfu_device_image(&config, medium, sizeof medium, &place); break;
+    case 1: dfu_device_power_on(&device); break;
+    case 2: ask(0x21, 0, 200, 0); break;
+    case 3: dfu_device_usb_reset(&device); break;
+    case 4: ask(0x21, 1, 0, 4000); break;
+    case 5: ask(0xa1, 3, 0, 6); break;
+    case 6: next(); break;
+    case 7: took(); break;
+    case 8: ask(0x21, 1, 1, 0), ask(0xa1, 3, 0, 6); break;
+    case 9: answer = dfu_device_elapse(&device, 10); break;
+    case 10: while (answer == DFU_ASKS && next() == 0) took(); break;
+    case 11: ask(0xa1, 3, 0, 6), ask(0xa1, 2, 0, 4096); break;
+    case 12: dfu_device_image(&device, &place); break;
+    case 13: dfu_device_work(&device); break;
+    case 14: dfu_device_reset(&device); break;
+    case 15: dfu_device_format_start(&other, block, sizeof block); break;
+    case 16: dfu_device_format_next(&other, block, sizeof block, &due); break;
+    case 17: dfu_device_format_took(&other, block, sizeof block, dfu_device_carry_out(&driver, &due)); break;
+    case 18: dfu_device_format(&other, block, sizeof block); break;
+    default: break;
     }
     return word;
 }
 
+static const char *const names[] = {"nothing", "power on", "DETACH", "bus reset", "DNLOAD of 4,000", "GETSTATUS, a block is due", "next",
+    "took", "GETSTATUS, to manifest", "pass, an image is due", "its operations", "UPLOAD of 4,096", "image", "work",
+    "the work, and a reset",
+    "format: start", "format: next", "format: took", "format: all of it"};
+
 int main(int count, char **words) {
-    static const char *const names[] = {"nothing", "format", "power on", "DETACH", "bus reset", "DNLOAD of 4,090",
-        "GETSTATUS", "pass, block written", "pass, image in place", "UPLOAD of 4,000", "image"};
     size_t empty = 0, most = 0, allowed = count > 1 ? (size_t)atol(words[1]) : 0;
-    for (int call = 0; call < 11; call++) {
+    if (dfu_device_format(&device, block, sizeof block) != 0)
+        return 1;
+    other = device;
+    for (int call = 0; call < (int)(sizeof names / sizeof *names); call++) {
         pthread_attr_t how;
         pthread_t thread;
         size_t untouched = 0;
@@ -60,8 +83,12 @@ int main(int count, char **words) {
         if (call == 0)
             empty = deep;
         else
-            printf("%-22s %6zu bytes of stack\n", names[call], deep - empty);
+            printf("%-26s %6zu bytes of stack\n", names[call], deep - empty);
         most = deep - empty > most ? deep - empty : most;
+        if (call == 7)
+            while (answer == DFU_ASKS && next() == 0)
+                took();
     }
-    return most > allowed || dfu_device_state(&device) != 9;
+    printf("the record has %zu bytes\n", sizeof device.record);
+    return most > allowed || dfu_device_state(&device) != 0 || place.length != 4000;
 }

@@ -12,12 +12,12 @@ equal 'what is built' "$of_flash" "$(ls build)"
 if command -v arm-none-eabi-gcc > /dev/null; then
     says 0 libraries CC=arm-none-eabi-gcc CFLAGS='-mcpu=cortex-m4 -mthumb' BUILD=build-m4
     unsaid 'warning'
-    is 'an archive of Cortex-M' sh -c 'arm-none-eabi-nm build-m4/libdfu_device.a | grep -q " T dfu_device_handle$"'
+    is 'an archive of Cortex-M' sh -c 'arm-none-eabi-nm build-m4/libdfu_device.a | grep -q " T dfu_core_handle$"'
     is 'it has the processor' sh -c 'arm-none-eabi-readelf -A build-m4/libdfu_device.a | grep -q "Tag_CPU_arch: v7E-M"'
     says 0 CC=arm-none-eabi-gcc CFLAGS='-mcpu=cortex-m4 -mthumb' BUILD=build-m4
     said 'dfu is left out'
     said 'dfu-gadget is left out'
-    equal 'there is no program' 'libdfu_asking.a libdfu_device.a libdfu_host.a objects' "$(cd build-m4 && echo *)"
+    equal 'there is no program' 'libdfu_device.a libdfu_host.a objects' "$(cd build-m4 && echo *)"
 fi
 if command -v aarch64-linux-gnu-gcc > /dev/null; then
     says 0 CC=aarch64-linux-gnu-gcc BUILD=build-aarch64

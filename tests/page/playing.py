@@ -1,17 +1,12 @@
 """The view to play with: the examples of its menu, and buttons clicked at random, whose script `dfu run` plays too."""
-import os
-import pathlib
 import random
-import subprocess
-import tempfile
 import urllib.request
 
 from counting import check, check_that
 from layout import CUT_OFF, diagram, fits, tab_order
-from scripts import TOP, examples
+from scripts import PROGRAM, TOP, by_program, examples
 from views import ENTER, SPACE, is_labelled, is_quiet, is_readable, open_page, shot, shown, tab_to
 
-PROGRAM = pathlib.Path(os.environ.get('BUILD') or TOP / 'build').absolute() / 'dfu'
 CHOOSE = 'const it = document.getElementById("example"); it.value = arguments[0]; it.dispatchEvent(new Event("change"))'
 PRINTED = 'return document.getElementById("printed").textContent'
 SCRIPT = 'return document.getElementById("script").textContent'
@@ -26,7 +21,7 @@ def menu(browser):
     """Each example prints what `dfu run` prints of it, and on a phone nothing of it is cut off, before it or behind it."""
     browser.size(400, 760)
     for name, script, wanted in examples():
-        if '\nerase ' in script or '\nunit ' in script or '\nexpect ' in script:
+        if '\nexpect ' in script:
             continue
         browser.run(CHOOSE, name.removesuffix('.script'))
         cut_off = browser.run(CUT_OFF)
@@ -34,14 +29,6 @@ def menu(browser):
         check(f'{name}, from the menu', browser.run(PRINTED), wanted)
         check(f'{name}, from the menu: what is cut off', cut_off + browser.run(CUT_OFF), [])
     browser.size(1100, 1400)
-
-
-def by_program(script):
-    """What `dfu run` prints, where the program is built."""
-    with tempfile.NamedTemporaryFile('w', suffix='.script') as file:
-        file.write(script)
-        file.flush()
-        return subprocess.run([PROGRAM, 'run', file.name], capture_output=True, text=True, check=False).stdout
 
 
 def at_random(browser, seed):

@@ -34,6 +34,7 @@ def main(page, flash):
             check('wasm64', browser.run('return runs.runsWasm64()'), True)
             timed('texts', texts.run, browser, page)
             timed('scripts', scripts.play, browser)
+            timed('scripts at random', scripts.at_random, browser)
             timed('sessions', sessions.run, browser, flash)
             timed('what only WebUSB has', odd.run, browser)
             check('the console', browser.console(), [])

@@ -78,7 +78,8 @@ export class StandInUsb extends EventTarget {
     super()
     this.settings = { ...USUAL, ...settings, config: { ...USUAL.config, ...settings.config } }
     Object.assign(this, { count: 0, log: [], faults: [], ms: 0, backAt: 0, isLost: false, told: performance.now() })
-    this.device = new Device(module, this.settings.config, this.settings.capacity, this.settings.image)
+    const { config, interface: number, capacity, image } = this.settings
+    this.device = new Device(module, { ...config, interface_number: number }, capacity, image)
     if (!this.settings.startsInApp) this.enterDfuMode()
     this.current = new StandInDevice(this)
     this.others = Array.from({ length: this.settings.others }, () => new StandInDevice(this, { isOther: true }))
@@ -87,7 +88,7 @@ export class StandInUsb extends EventTarget {
   }
 
   enterDfuMode() {
-    this.device.handle([0x21, 0, 0xe8, 3, 0, 0, 0, 0])
+    this.device.handle([0x21, 0, 0xe8, 3, this.settings.interface, 0, 0, 0])
     if (this.settings.config.attributes & 8) this.device.elapse(1)
     else this.device.reset()
   }

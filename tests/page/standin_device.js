@@ -104,6 +104,6 @@ export class StandInDevice {
       throw failure('InvalidStateError', 'The specified interface has not been claimed.')
     if (!this.isApp && this.setting !== setting) this.usb.faults.push(`a request is made in the setting ${this.setting}`)
     if (this.isSwapped) this.usb.faults.push('a request goes to another board')
-    return new Uint8Array([kind, request, value & 255, value >> 8, 0, 0, length & 255, length >> 8])
+    return new Uint8Array([kind, request, value & 255, value >> 8, index & 255, index >> 8, length & 255, length >> 8])
   }
 }

@@ -3,12 +3,12 @@
 # shellcheck shell=sh disable=SC2154
 c=${C:-$top/dist}
 
-# objects FOLDER WORD..: the three files, compiled with these words, in FOLDER.
+# objects FOLDER WORD..: the two files, compiled with these words, in FOLDER.
 objects() {
     folder=$1
     shift
     mkdir -p "$folder"
-    for name in device asking host; do
+    for name in device host; do
         "$@" -std=c11 -I "$top/include" -c "$c/dfu_$name.c" -o "$folder/dfu_$name.o" || return 1
     done
 }
@@ -19,7 +19,7 @@ program() {
     over=$2
     source=$3
     shift 3
-    "$@" -std=c11 -w -I "$top/include" "$source" "$over/dfu_device.o" "$over/dfu_asking.o" "$over/dfu_host.o" -o "$made" -lpthread
+    "$@" -std=c11 -w -I "$top/include" "$source" "$over/dfu_device.o" "$over/dfu_host.o" -o "$made" -lpthread
 }
 # runs NAME WORD..: it runs, under `run` if that is set, and ends well. (A compiler for Windows names it NAME.exe, and wine has messages of
 # its own on standard error.)
@@ -43,28 +43,28 @@ prints() {
     return 1
 }
 # suite WHAT FOLDER CALLS WORD..: the programs of tests/c and examples/c, compiled with these words over the objects in FOLDER. CALLS is how
-# many calls of chance each of them makes at most. The program that takes minutes, asking_power, is left out if `is_short` is 1.
+# many calls of chance each of them makes at most. The program that takes minutes, cuts, is left out if `is_short` is 1.
 suite() {
     label=$1
     objects=$2
     times=$3
     shift 3
-    for name in rows asking power sessions asking_rows asking_format asking_power; do
-        [ "$name" != asking_power ] || [ "${is_short-0}" -eq 0 ] || continue
+    for name in rows operations questions time power sessions format cuts; do
+        [ "$name" != cuts ] || [ "${is_short-0}" -eq 0 ] || continue
         is "$label: $name is built" program "$name" "$objects" "$top/tests/c/$name.c" "$@"
         is "$label: $name" runs "$name"
     done
-    for name in garbled noted garbled_sessions asking_twins asking_garbled edges; do
+    for name in garbled garbled_flash garbled_sessions twins runtime counts edges; do
         is "$label: $name is built" program "$name" "$objects" "$top/tests/c/$name.c" "$@"
     done
     is "$label: garbled" runs garbled "$times"
-    is "$label: noted" runs noted "$times"
-    is "$label: noted in units of 16" runs noted "$times" 16
+    is "$label: garbled flash" runs garbled_flash "$times"
     is "$label: garbled sessions" runs garbled_sessions "$times"
-    is "$label: twins" runs asking_twins $((times / 10))
-    is "$label: asking garbled" runs asking_garbled "$times"
+    is "$label: twins" runs twins $((times / 10))
+    is "$label: runtime" runs runtime "$times"
+    is "$label: counts" runs counts $((times / 1000))
     is "$label: edges" runs edges
-    for name in bootloader early_stack asking_bootloader nor_bootloader; do
+    for name in bootloader nor_bootloader early_stack application; do
         is "$label: $name is built" program "$name" "$objects" "$top/examples/c/$name.c" "$@"
         is "$label: $name" prints "$top/examples/c/$name.out" "$name"
     done
@@ -73,7 +73,7 @@ suite() {
     is "$label: flasher" prints "$top/examples/c/flasher.out" flasher "${ones:-$work/ones.dfu}"
 }
 # digests WHAT FOLDER CALLS REFERENCE SEED.. -- WORD..: the digests of so many calls for each seed are those in the folder REFERENCE, of the
-# device in digest.SEED, of the device that asks in asking.SEED, of sessions of the host in digest_sessions.SEED, of its calls in
+# device over memory in digest.SEED and over flash in flash.SEED, of sessions of the host in digest_sessions.SEED, of its calls in
 # digest_host.
 digests() {
     label=$1
@@ -90,11 +90,11 @@ digests() {
     for name in digest digest_host digest_sessions; do
         is "$label: $name is built" program "$name" "$objects" "$top/tests/bare/$name.c" "$@"
     done
-    is "$label: asking_garbled is built" program asking_garbled "$objects" "$top/tests/c/asking_garbled.c" "$@"
+    is "$label: garbled_flash is built" program garbled_flash "$objects" "$top/tests/c/garbled_flash.c" "$@"
     for seed in $seeds; do
         is "$label: digest of seed $seed" prints "$reference/digest.$seed" digest "$calls" "$seed" 1
         is "$label: sessions of seed $seed" prints "$reference/digest_sessions.$seed" digest_sessions 5000 "$seed"
-        is "$label: asking of seed $seed" prints "$reference/asking.$seed" asking_garbled "$calls" "$seed"
+        is "$label: flash of seed $seed" prints "$reference/flash.$seed" garbled_flash "$calls" "$seed"
     done
     is "$label: digest of the host" prints "$reference/digest_host" digest_host "$calls" 1
 }

@@ -1,18 +1,17 @@
 /* The proved device of crates/dfu_device_c, with its medium in memory. */
+#include "bus.h"
 #include "model.h"
 #include "settings.h"
 
-#include "dfu_device.h"
+#include "dfu_device_memory.h"
 
 #include <stdlib.h>
 #include <string.h>
 
-#define SLOT_HEAD 32 /* bytes in front of a slot's data, on a medium that is written byte by byte */
-
 static struct dfu_config config;
-static struct dfu_device device;
 static uint8_t pending[4096], *medium;
-static size_t size;
+static struct dfu_driver driver = { .erase = dfu_memory_erase, .program = dfu_memory_program };
+static struct dfu_device device = { .config = &config, .block = pending, .most = sizeof pending, .driver = &driver };
 
 static void must(int32_t answer, const char *what)
 {
@@ -20,10 +19,12 @@ static void must(int32_t answer, const char *what)
         fail_loudly("the proved device: %s answers %d", what, (int)answer);
 }
 
+/* The board that stands there now may have another number of its interface. */
 static void power(void)
 {
-    memset(&device, 0, sizeof device);
-    must(dfu_device_power_on(&config, &device, medium, size), "power_on");
+    config.interface_number = bus_interface();
+    memset(&device.record, 0, sizeof device.record);
+    must(dfu_device_power_on(&device), "power_on");
 }
 
 static void configure(void)
@@ -44,8 +45,8 @@ static void configure(void)
 static int handle(const uint8_t setup[8], const uint8_t *body, size_t length, uint8_t *out, size_t room)
 {
     static uint8_t answer[4096 + 8];
-    int32_t count = dfu_device_handle(&config, &device, pending, sizeof pending, medium, size, setup, body, length,
-                                      answer, sizeof answer);
+    int32_t count = dfu_device_settle(&device, dfu_device_handle(&device, setup, body, answer, sizeof answer), answer, sizeof answer);
+    (void)length;
     if (count == DFU_STALL)
         return STALLED;
     must(count, "handle");
@@ -57,41 +58,27 @@ static int handle(const uint8_t setup[8], const uint8_t *body, size_t length, ui
 
 static void usb_reset(void)
 {
-    must(dfu_device_usb_reset(&config, &device, pending, sizeof pending, medium, size), "usb_reset");
+    must(dfu_device_usb_reset(&device), "usb_reset");
 }
 
 static void elapse(uint32_t ms)
 {
-    must(dfu_device_elapse(&config, &device, pending, sizeof pending, medium, size, ms), "elapse");
-}
-
-/* Into DFU mode as a host leads it there: DETACH, and then a reset, or the time that a device takes which detaches itself. */
-static void enter_dfu_mode(void)
-{
-    const uint8_t detach[8] = { 0x21, 0, 0xe8, 0x03, 0, 0, 0, 0 };
-    uint8_t none[8] = { 0 };
-    if (handle(detach, none, 0, none, 0) != 0)
-        fail_loudly("the proved device does not take DETACH");
-    if (settings.attributes & 0x08)
-        elapse(1);
-    else
-        usb_reset();
-    if (dfu_device_state(&device) != 2)
-        fail_loudly("the proved device is not in dfuIDLE after DETACH");
+    uint8_t none[6];
+    must(dfu_device_settle(&device, dfu_device_elapse(&device, ms), none, sizeof none), "elapse");
 }
 
 static void make(void)
 {
     struct part image = read_image(settings.image);
     configure();
-    size = 2 * (SLOT_HEAD + (size_t)settings.capacity);
-    medium = calloc(1, size);
+    device.size = DFU_MEDIUM_SIZE(1, 0, (size_t)settings.capacity);
+    device.flash = driver.own = medium = calloc(1, device.size);
     if (medium == NULL)
-        fail_loudly("no memory for a medium of %zu bytes", size);
-    must(dfu_device_format(&config, medium, size, image.at, image.size), "format");
+        fail_loudly("no memory for a medium of %zu bytes", device.size);
+    must(dfu_device_format(&device, image.at, image.size), "format");
     power();
     if (!settings.starts_in_app)
-        enter_dfu_mode();
+        must(dfu_device_begin(&device), "begin");
 }
 
 static void set_interface(void) {}
@@ -119,13 +106,13 @@ static bool is_app(void)
 static struct part image(void)
 {
     struct dfu_place place;
-    must(dfu_device_image(&config, medium, size, &place), "image");
+    must(dfu_device_image(&device, &place), "image");
     return (struct part){ medium + place.at, place.length };
 }
 
 static struct part keeps(unsigned number)
 {
-    const struct part parts[] = { { &device, sizeof device }, { medium, size }, { NULL, 0 } };
+    const struct part parts[] = { { &device.record, sizeof device.record }, { medium, device.size }, { NULL, 0 } };
     return parts[number];
 }
 

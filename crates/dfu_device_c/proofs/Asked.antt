@@ -1,63 +1,173 @@
--- What is said of a setup before its body is there is so for the device that the record is.
-use Rattle.std.proofs.Common.{◌≡◌, ◌-◌, ◌*◌, ◌/◌, Bool, true, false, IsTrue, Some, ℕ, ℤ, pos, List, length, refl, sym, ap, ◌∙◌, subst}
+-- What is said of a setup before its body is there is so for the device that the record is, and what becomes of one that is too long.
+use Rattle.std.proofs.Common.{◌≡◌, ◌≢◌, ◌<◌, ◌-◌, ◌*◌, ◌/◌, ◌&&◌, Bool, true, false, IsTrue, Option, Some, None, ℕ, ℤ, pos, List, [], length, refl, sym, ap, ◌∙◌, subst, arith}
 use Rattle.std.proofs.lemmas.Bool.{eq-eqb}
+use Rattle.std.proofs.lemmas.Grind.{common_steps}
 use Rattle.dfu_wire.specs.declared.setups.Setup.{Setup}
 use Rattle.dfu_wire.specs.declared.requests.Request.{Request as Asked}
 use Rattle.dfu_wire.specs.Setup.{IsSetup}
 use Rattle.dfu_wire.specs.Request.{Asks}
-use Rattle.dfu_slots.specs.Seen.{image_of, spare_of, room_of}
+use Rattle.dfu_slots.specs.Seen.{SlotsState, image_of, spare_of, room_of, is_shaped}
+use Rattle.dfu_device.specs.declared.answer.Answer.TheVariants as answer
 use Rattle.dfu_device.specs.declared.mode.Mode.{Mode}
 use Rattle.dfu_device.specs.Stage.{Profile}
 use Rattle.dfu_device.specs.Table.{plan}
-use Rattle.dfu_device.specs.Shown.{Shown, profile, profile_of}
-use Rattle.dfu_device.specs.Parts.{stage_of, is_sound}
-use Rattle.dfu_device.specs.Rows.{meant, body_length, setup_plan}
-use Rattle.dfu_c_parts.specs.declared.config.DfuConfig.{DfuConfig}
-use Rattle.dfu_c_parts.specs.declared.record.DfuDevice.{DfuDevice}
-use Rattle.dfu_c_parts.specs.Config.{setting_of, unit_of, gate_in}
-use Rattle.dfu_c_parts.specs.Record.{HasMode}
+use Rattle.dfu_device.specs.Shown.{profile, profile_of}
+use Rattle.dfu_device.specs.Parts.{stage_of, is_sound, is_filled}
+use Rattle.dfu_device.specs.Rows.{Handles, meant, body_length, setup_plan}
+use Rattle.dfu_asks.specs.declared.asking.Asking.{Asking}
+use Rattle.dfu_asks.specs.declared.work.Work.{Work}
+use Rattle.dfu_asks.specs.declared.job.Job.{Job}
+use Rattle.dfu_asks.specs.declared.job.Job.TheVariants as job
+use Rattle.dfu_slots.specs.Units.{gate_room}
+use Rattle.dfu_asks.specs.Lent.{LentAsking, lent}
+use Rattle.dfu_asks.specs.Asks.{grain_in, store_in, device_in, IsDevice}
+use Rattle.dfu_device_c.specs.declared.config.DfuConfig.{DfuConfig}
+use Rattle.dfu_device_c.specs.Config.{setting_of, transfer_of, grain_of}
+use Rattle.dfu_device_c.specs.Mode.{HasMode}
 use Rattle.dfu_device.specs.Decision.{HoldsWritten, HasLength}
 use Rattle.dfu_device.proofs.Before.{has_length}
 use Rattle.dfu_device.proofs.Carried.{holds_written}
-use Rattle.dfu_c_parts.specs.Stalls.{verdict}
-use Rattle.dfu_c_parts.proofs.Setups.{served_stalls, told_row}
-use Rattle.dfu_device_c.specs.Record.{block_in, store_in}
-use Rattle.dfu_device_c.specs.Device.{IsDevice}
+use Rattle.dfu_device_c.specs.Verdict.{verdict}
+use Rattle.dfu_device_c.specs.AfterLong.{after_long}
+use Rattle.dfu_device_c.proofs.Verdicts.{served_stalls, told_row}
+use Rattle.dfu_device_c.proofs.LongSetups.{after_free, long_elsewhere, long_here}
+use Rattle.dfu_device_c.specs.declared.record.DfuRecord.{DfuRecord}
+use Rattle.dfu_device_c.specs.Kept.{IsFlag, HasJob, HasWork, IsKept, with_memory}
 use Rattle.dfu_device_c.specs.Stalls.{ToldStall}
-use Rattle.dfu_slots.specs.declared.unit.Unit.{Unit as WriteUnit}
+use Rattle.dfu_device_c.specs.Long.{TakesLong}
 
--- The room of a slot of these bytes.
-pub room_in : (u : WriteUnit) (r : DfuDevice) (bytes : List ℕ) → room_of (store_in u r bytes) ≡ length bytes / 2 - 2 * gate_in u
+-- The room of a slot of this flash.
+pub room_in : (a : LentAsking) (flash : List ℕ) → room_of (store_in a flash) ≡ length flash / 2 - 2 * gate_room (grain_in a)
 unfolding room_of
-room_in u r bytes = refl
+room_in a flash = refl
 
-module _ (c : DfuConfig) (r : DfuDevice) (size : ℕ) (setup : List ℕ) (p : Setup) (q : Asked) (m : Mode) (b : Bool)
+module _ (c : DfuConfig) (r : DfuRecord) (size : ℕ) (setup : List ℕ) (p : Setup) (q : Asked) (m : Mode) (b : Bool)
     (the_setup : (x : Setup) → IsSetup x setup → p ≡ x) (the_request : (x : Asked) → Asks p x → q ≡ x)
     (the_mode : (x : Mode) → HasMode r x → m ≡ x)
     (said : (image spare unwritten body : List ℕ) → HoldsWritten m spare → HasLength q body
-    → Some b ≡ verdict (plan (profile_of (setting_of c) (size / 2 - 2 * gate_in (unit_of c))) image
+    → Some b ≡ verdict (plan (profile_of (setting_of c) (size / 2 - 2 * gate_room (grain_of c))) image
     (stage_of m spare unwritten) (meant q body))) where
   -- So it is said of the device.
-  stalls_device : (block bytes : List ℕ) (d : Shown) → IsDevice c r block bytes d → length bytes ≡ size → (body : List ℕ)
-      → length body ≡ body_length p
-      → Asks p q → Some b ≡ verdict (setup_plan d p q body)
-  stalls_device block bytes d device size_is body fits asks =
-      let store = store_in (unit_of c) r bytes in
-      let same : m ≡ device.mode = the_mode device.mode device.has_mode in
-      let stage_is : d.stage ≡ stage_of m (spare_of store) (block_in r block) =
-      ap (λ (w : Shown). w.stage) device.device_is ∙ (λ i. stage_of (sym same i) (spare_of store) (block_in r block)) in
-      let room : room_of d.slots ≡ size / 2 - 2 * gate_in (unit_of c) = ap (λ (w : Shown). room_of w.slots) device.device_is
-      ∙ room_in (unit_of c) r bytes ∙ ap (λ n. n / 2 - 2 * gate_in (unit_of c)) size_is in
-      subst
-      (λ (x : Profile). Some b ≡ verdict (plan x (image_of d.slots) (stage_of m (spare_of store) (block_in r block)) (meant q body)))
-      (λ i. profile_of (sym (ap (λ (w : Shown). w.config) device.device_is) i) (sym room i))
-      (said (image_of d.slots) (spare_of store) (block_in r block) body
-      (holds_written m r.length store (subst (λ x. IsTrue (is_sound x r.length store)) (sym same) device.sound))
+  stalls_device : (block flash : List ℕ) (k : Asking) → IsKept c r k → IsDevice (with_memory r block k) flash → length flash ≡ size
+      → (body : List ℕ)
+      → length body ≡ body_length p → Asks p q → Some b ≡ verdict (setup_plan (device_in (with_memory r block k) flash) p q body)
+  stalls_device block flash k kept device size_is body fits asks =
+      let a : LentAsking = with_memory r block k in
+      let store = store_in a flash in
+      let d = device_in a flash in
+      let same : m ≡ a.mode = the_mode a.mode kept.mode in
+      let stage_is : d.stage ≡ stage_of m (spare_of store) a.block = λ i. stage_of (sym same i) (spare_of store) a.block in
+      let room : room_of store ≡ size / 2 - 2 * gate_room (grain_of c) = room_in a flash
+      ∙ (λ i. size_is i / 2 - 2 * gate_room (record { unit = kept.set_up.unit_is i; sector = kept.set_up.sector_is i })) in
+      subst (λ (x : Profile). Some b ≡ verdict (plan x (image_of d.slots) (stage_of m (spare_of store) a.block) (meant q body)))
+      (λ i. profile_of (sym kept.set_up.config_is i) (sym room i))
+      (said (image_of d.slots) (spare_of store) a.block body
+      (holds_written m (length a.block) store
+      (subst (λ x. IsTrue (is_sound x (length a.block) store)) (sym same) device.sound))
       (has_length p q body asks fits))
       ∙ ap (λ x. verdict (plan (profile d) (image_of d.slots) x (meant q body))) (sym stage_is)
-      ∙ sym (served_stalls d m (spare_of store) (block_in r block) p q body stage_is (eq-eqb (length body) (body_length p) fits))
+      ∙ sym (served_stalls d m (spare_of store) a.block p q body stage_is (eq-eqb (length body) (body_length p) fits))
 
   -- So the call says of each device that these are whether it stalls the setup.
   pub told_stall : (result : ℤ) → (b ≡ true → result ≡ pos 1) → (b ≡ false → result ≡ pos 0) → ToldStall c r size setup result
-  told_stall result is_one is_zero block bytes d device size_is body body_is =
-      told_row setup p q b the_setup the_request result is_one is_zero d body body_is (stalls_device block bytes d device size_is body)
+  told_stall result is_one is_zero block flash k kept device size_is body body_is =
+      told_row setup p q b the_setup the_request result is_one is_zero (device_in (with_memory r block k) flash) body body_is
+      (stalls_device block flash k kept device size_is body)
+
+-- No work is due if the record has the number of none.
+none_kept : (r : DfuRecord) (w : Option Work) → r.work ≡ 0 → HasWork r w → w ≡ None
+none_kept r None is has = refl
+none_kept r (Some w) is has = absurd (some_job r w.job is has.0)
+  where
+    some_job : (r : DfuRecord) (j : Job) → r.work ≡ 0 → HasJob r j → ⊥
+    some_job r (job.Block spare close) is has = omega (arith, is, has.0)
+    some_job r (job.Commit spare generation register) is has = omega (arith, is, has.0)
+
+-- A device is one in a mode in which nothing is put.
+moved_sound : (s : SlotsState) (m m' : Mode) (n : ℕ) → IsTrue (is_sound m n s) → is_filled m' n s ≡ true → IsTrue (is_sound m' n s)
+moved_sound s m m' n sound free = both (is_shaped s) (is_filled m n s) (is_filled m' n s) sound free
+  where
+    both : (x y z : Bool) → IsTrue (x && y) → z ≡ true → IsTrue (x && z)
+    both x y z t e = grind (arith, common_steps, t, e)
+
+module _ (c : DfuConfig) (r r' : DfuRecord) (setup : List ℕ) (p : Setup) (m : Mode) (is : IsSetup p setup)
+    (long : transfer_of c < body_length p) (the_mode : (x : Mode) → HasMode r x → m ≡ x) (idle : r.work ≡ 0) where
+  -- A request for another interface.
+  pub takes_elsewhere : p.index ≢ 0 → r' ≡ r → TakesLong c r setup r'
+  takes_elsewhere other same a kept = (
+    a,
+    subst (λ x. IsKept c x a) (sym same) kept,
+    none_kept r a.work idle kept.work,
+    refl,
+    λ block flash device body body_is. subst (λ (x : DfuRecord). IsDevice (with_memory x block a) flash
+        × Handles setup body (device_in (with_memory r block a) flash) answer.Stall [] (device_in (with_memory x block a) flash)) (sym same)
+        (device, long_elsewhere setup p is (device_in (with_memory r block a) flash) other body),
+  )
+
+  -- Another one.
+  module _ (index : p.index ≡ 0) (moved : HasMode r' (after_long m)) (rest : r' ≡ record r {
+    version = r'.version;
+    mode = r'.mode;
+    first = r'.first;
+    second = r'.second;
+    number = r'.number;
+  }) (a : Asking) (kept : IsKept c r a) where
+    abbrev after : Asking
+    after = record a { mode = after_long m }
+
+    same_bytes : r'.held ≡ r.held
+    same_bytes = ap (λ (x : DfuRecord). x.held) rest
+
+    -- What is left to be written is in neither record.
+    after_work : HasWork r' a.work
+    after_work = subst (λ (w : Option Work). HasWork r' w) (sym (none_kept r a.work idle kept.work))
+        (ap (λ (x : DfuRecord). x.work) rest ∙ idle)
+
+    after_kept : IsKept c r' after
+    after_kept = record {
+      set_up = kept.set_up;
+      mode = moved;
+      block = kept.block ∙ sym (ap (λ (x : DfuRecord). x.length) rest);
+      held = kept.held ∙ sym (ap (λ (x : DfuRecord). x.held_length) rest);
+      end = kept.end ∙ sym (ap (λ (x : DfuRecord). x.put_end) rest);
+      noted = record {
+        second = subst (λ (n : ℕ). IsFlag a.noted.second n) (sym (ap (λ (x : DfuRecord). x.slot) rest)) kept.noted.second;
+        header = kept.noted.header ∙ sym (ap (λ (x : DfuRecord). x.header) rest);
+      };
+      work = after_work;
+    }
+
+    -- The device and the row of a body that long.
+    after_row : (block flash : List ℕ) → IsDevice (with_memory r block a) flash → (body : List ℕ) → length body ≡ body_length p
+        → IsDevice (with_memory r block after) flash
+        × Handles setup body (device_in (with_memory r block a) flash) answer.Stall [] (device_in (with_memory r block after) flash)
+    after_row block flash device body fits =
+        let l : LentAsking = with_memory r block a in
+        let s = store_in l flash in (
+          record {
+            store = device.store;
+            sound = moved_sound s a.mode (after_long m) (length l.block) device.sound (after_free m (length l.block) s);
+            noted = device.noted;
+          },
+          long_here setup p is (device_in l flash) m (spare_of s) l.block
+              (λ i. stage_of (sym (the_mode a.mode kept.mode) i) (spare_of s) l.block)
+              (omega (arith, long, ap (λ s. s.functional.transfer) kept.set_up.config_is)) index body fits,
+        )
+
+  pub takes_here : p.index ≡ 0 → HasMode r' (after_long m) → r' ≡ record r {
+    version = r'.version;
+    mode = r'.mode;
+    first = r'.first;
+    second = r'.second;
+    number = r'.number;
+  } → TakesLong c r setup r'
+  takes_here index moved rest a kept = (
+    record a { mode = after_long m },
+    after_kept index moved rest a kept,
+    none_kept r a.work idle kept.work,
+    refl,
+    λ block flash device body body_is. subst (λ (h : List ℕ). IsDevice (lent (record a { mode = after_long m }) block h) flash
+        × Handles setup body (device_in (with_memory r block a) flash) answer.Stall []
+        (device_in (lent (record a { mode = after_long m }) block h) flash)) (sym (same_bytes index moved rest a kept))
+        (after_row index moved rest a kept block flash device body (body_is p is)),
+  )

@@ -1,5 +1,5 @@
 -- When a change of state is due is so for the device that the record is.
-use Rattle.std.proofs.Common.{◌≡◌, ◌≢◌, ◌+◌, ◌-◌, ◌<◌, ◌≤◌, ◌==◌, ◌++◌, max, nat_le, Bool, true, false, ℕ, ℤ, pos, negsuc, List, [], inl, inr, refl, sym, ap, ◌∙◌, subst, arith, if◌then◌else◌}
+use Rattle.std.proofs.Common.{◌≡◌, ◌≢◌, ◌+◌, ◌-◌, ◌<◌, ◌≤◌, ◌==◌, ◌++◌, max, min, nat_le, Bool, true, false, ℕ, ℤ, pos, List, [], inl, inr, refl, sym, ap, ◌∙◌, subst, arith, if◌then◌else◌}
 use Rattle.std.proofs.lemmas.Bool.{eqb-true, eqb-false, leb-true, leb-false}
 use Rattle.dfu_slots.specs.Seen.{spare_of}
 use Rattle.dfu_device.specs.declared.answer.Answer.TheVariants as answer
@@ -10,12 +10,14 @@ use Rattle.dfu_device.specs.Table.{Plan, Writes, Commits, ack, time_plan}
 use Rattle.dfu_device.specs.Shown.{Shown, profile}
 use Rattle.dfu_device.specs.Parts.{stage_of}
 use Rattle.dfu_device.specs.Rows.{Done}
-use Rattle.dfu_c_parts.specs.declared.config.DfuConfig.{DfuConfig}
-use Rattle.dfu_c_parts.specs.declared.record.DfuDevice.{DfuDevice}
-use Rattle.dfu_c_parts.specs.Config.{unit_of, setting_of}
-use Rattle.dfu_c_parts.specs.Record.{HasMode}
-use Rattle.dfu_device_c.specs.Record.{block_in, store_in}
-use Rattle.dfu_device_c.specs.Due.{due_of, IsDue, ToldDue}
+use Rattle.dfu_asks.specs.Lent.{LentAsking}
+use Rattle.dfu_asks.specs.Asks.{device_in, store_in}
+use Rattle.dfu_device_c.specs.declared.config.DfuConfig.{DfuConfig}
+use Rattle.dfu_device_c.specs.declared.record.DfuRecord.{DfuRecord}
+use Rattle.dfu_device_c.specs.Config.{setting_of}
+use Rattle.dfu_device_c.specs.Mode.{HasMode}
+use Rattle.dfu_device_c.specs.Kept.{with_memory}
+use Rattle.dfu_device_c.specs.Due.{LATEST, due_of, IsDue, ToldDue}
 
 -- Some time passed.
 some_time : (ms : ℕ) → (ms == 0) ≡ false → 1 ≤ ms
@@ -31,7 +33,7 @@ module _ (ms : ℕ) (d d' : Shown) where
   same due is never = record {
     none = λ _. is;
     before = λ _. ap (λ (w : Shown). state_of w.stage) is;
-    from = λ some past. absurd (never some past);
+    from = λ some short past. absurd (never some past);
   }
 
   -- The state is as it was, before the change was due.
@@ -39,7 +41,7 @@ module _ (ms : ℕ) (d d' : Shown) where
   early due soon is = record {
     none = λ none. absurd (omega (arith, none, soon));
     before = λ _. is;
-    from = λ some past. absurd (omega (arith, past, soon));
+    from = λ some short past. absurd (omega (arith, past, soon));
   }
 
   -- It changed as it was due.
@@ -47,7 +49,7 @@ module _ (ms : ℕ) (d d' : Shown) where
   changed due some past is = record {
     none = λ none. absurd (omega (arith, none, some));
     before = λ soon. absurd (omega (arith, past, soon));
-    from = λ _ _. is;
+    from = λ _ _ _. is;
   }
 
   -- A stage was entered with another state.
@@ -141,21 +143,27 @@ module _ (ms : ℕ) (d d' : Shown) where
   time_due (mode.UploadIdle place number) spare block is done = same 0 (stayed _ is done) (λ some past. omega (arith, some))
   time_due (mode.Error code) spare block is done = same 0 (stayed _ is done) (λ some past. omega (arith, some))
 
--- A number is that of one number.
-abbrev pub nat_of : ℤ → ℕ
-nat_of (pos n) = n
-nat_of (negsuc n) = 0
+-- So it is of the number that is said, which is LATEST if the change is due later than that.
+said_due : (due ms : ℕ) (d d' : Shown) → IsDue due ms d d' → IsDue (min LATEST due) ms d d'
+said_due due ms d d' is = record {
+  none = λ none. is.none (omega (arith, none));
+  before = λ soon. is.before (omega (arith, soon));
+  from = λ some short past. is.from (omega (arith, some)) (omega (arith, short)) (omega (arith, short, past));
+}
 
--- So what is said of a record is so for its device.
-pub told_due : (c : DfuConfig) (r : DfuDevice) (m : Mode) (result : ℤ) → ((x : Mode) → HasMode r x → m ≡ x)
-    → result ≡ pos (due_of (setting_of c) m)
+-- So what is said of a record is so for each device that it is.
+pub told_due : (c : DfuConfig) (r : DfuRecord) (m : Mode) (result : ℤ) → ((x : Mode) → HasMode r x → m ≡ x)
+    → result ≡ pos (min LATEST (due_of (setting_of c) m))
     → ToldDue c r result
-told_due c r m result the_mode says block bytes d device ms d' went n is =
-    let same : m ≡ device.mode = the_mode device.mode device.has_mode in
-    let store = store_in (unit_of c) r bytes in
-    let stage_is : d.stage ≡ stage_of device.mode (spare_of store) (block_in r block) = ap (λ (w : Shown). w.stage) device.device_is in
-    let due_is : due_of d.config device.mode ≡ n =
-    (λ i. due_of (ap (λ (w : Shown). w.config) device.device_is i) (sym same i)) ∙ ap nat_of (sym says ∙ is) in
-    subst (λ (k : ℕ). IsDue k ms d d') due_is
-    (time_due ms d d' device.mode (spare_of store) (block_in r block) stage_is
-    (subst (λ (x : Stage). Done (time_plan (profile d) x ms) 0 d answer.Ack [] d') stage_is went))
+told_due c r m result the_mode says = record {
+  due = min LATEST (due_of (setting_of c) m);
+  number_is = says;
+  told = λ block flash a kept device ms d' went.
+      let l : LentAsking = with_memory r block a in
+      let d : Shown = device_in l flash in
+      let store = store_in l flash in
+      let due_is : min LATEST (due_of d.config l.mode) ≡ min LATEST (due_of (setting_of c) m) =
+      λ i. min LATEST (due_of (kept.set_up.config_is i) (sym (the_mode l.mode kept.mode) i)) in
+      subst (λ (k : ℕ). IsDue k ms d d') due_is
+      (said_due (due_of d.config l.mode) ms d d' (time_due ms d d' l.mode (spare_of store) l.block refl went));
+}

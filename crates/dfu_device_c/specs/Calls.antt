@@ -1,72 +1,107 @@
 -- What a call answers to a program in C.
-use Rattle.std.specs.Prelude.{◌≡◌, ◌⊎◌, ℕ, ℤ, pos, ◌<◌, ◌≤◌, List, ◌++◌, length, drop}
-use Rattle.std.specs.Borrow.{MutBor}
+use Rattle.std.specs.Prelude.{◌≡◌, ◌≢◌, ◌⊎◌, ℕ, ℤ, Bool, ◌<◌, ◌≤◌, IsSome, List, length, replicate, None}
+use Rattle.dfu_slots.specs.Medium.{Torn}
+use Rattle.dfu_slots.specs.Seen.{SlotsState}
 use Rattle.dfu_device.specs.declared.answer.Answer.{Answer}
-use Rattle.dfu_device.specs.declared.mode.Mode.{Mode}
 use Rattle.dfu_device.specs.Shown.{Shown}
-use Rattle.dfu_device.specs.Lent.{answer_room}
-use Rattle.dfu_c_parts.specs.declared.config.DfuConfig.{DfuConfig}
-use Rattle.dfu_c_parts.specs.declared.record.DfuDevice.{DfuDevice}
+use Rattle.dfu_asks.specs.declared.asking.Asking.{Asking}
+use Rattle.dfu_asks.specs.declared.reply.Reply.{Reply}
+use Rattle.dfu_asks.specs.declared.work.Work.{Work}
+use Rattle.dfu_asks.specs.Carried.{IsPiece}
+use Rattle.dfu_asks.specs.Steps.{Step}
+use Rattle.dfu_asks.specs.Lent.{LentAsking}
+use Rattle.dfu_asks.specs.Asks.{device_of, steps_in}
+use Rattle.dfu_asks.specs.Calls.{Called, Asks, Took}
+use Rattle.dfu_asks.specs.Refused.{IsKept as IsWhole, IsThere, Fits, IsLeft}
+use Rattle.dfu_device_c.specs.declared.config.DfuConfig.{DfuConfig}
+use Rattle.dfu_device_c.specs.declared.record.DfuRecord.{DfuRecord}
 use Rattle.dfu_device_c.specs.declared.refusal.Refusal.{Refusal}
-use Rattle.dfu_c_parts.specs.Config.{setting_of, transfer_of, IsConfig}
-use Rattle.dfu_c_parts.specs.Record.{HasMode}
-use Rattle.dfu_device_c.specs.Device.{IsRefusedSeen, Takes}
-use Rattle.dfu_device_c.specs.Numbers.{refusal_number, answer_number, NO_CONFIG, NO_DEVICE, NO_ROOM, NO_BLOCK}
+use Rattle.dfu_device_c.specs.declared.refusal.Refusal.TheVariants as refusal
+use Rattle.dfu_device_c.specs.Config.{transfer_of, IsConfig}
+use Rattle.dfu_device_c.specs.Kept.{IsKept}
+use Rattle.dfu_device_c.specs.Formatting.{FORMAT}
+use Rattle.dfu_device_c.specs.Numbers.{refusal_number, reply_number, passed_number, NO_ROOM}
 
--- A call is refused with this number: for the configuration; or else for the room of the block; or else for what it finds.
-abbrev pub IsCause : DfuConfig → DfuDevice → List ℕ → List ℕ → ℤ → Type 0
-IsCause c r block bytes result = ((result ≡ NO_CONFIG) × ¬ IsConfig c)
-    ⊎ ((result ≡ NO_BLOCK) × IsConfig c × (length block < transfer_of c))
-    ⊎ ((e : Refusal) × (result ≡ refusal_number e) × IsConfig c × (transfer_of c ≤ length block) × IsRefusedSeen e c r block bytes)
+-- By this there is no device that asks, if the memory of its block has so many bytes: a format is due; or else the
+-- configuration is not allowed; or else the memory has too little room; or else the record is none of such a device with a block
+-- that fits in it.
+abbrev pub IsUnfound : Refusal → DfuConfig → DfuRecord → ℕ → Type 0
+IsUnfound refusal.Asked c r room = r.work ≡ FORMAT
+IsUnfound refusal.NoConfig c r room = (r.work ≢ FORMAT) × ¬ IsConfig c
+IsUnfound refusal.NoBlock c r room = (r.work ≢ FORMAT) × IsConfig c × (room < transfer_of c)
+IsUnfound refusal.NoDevice c r room = (r.work ≢ FORMAT) × IsConfig c × (transfer_of c ≤ room)
+    × ((a : Asking) → IsKept c r a → room < a.block_len)
+IsUnfound e c r room = ⊥
 
--- A call with this number was refused, and left the record, the block and the medium as they were.
-pub record Refuses (c : DfuConfig) (r : DfuDevice) (block bytes : List ℕ) (result : ℤ) (r' : DfuDevice) (block' bytes' : List ℕ)
-    : Type 0 where
-  pub cause : IsCause c r block bytes result
+-- A record and the memory of its block are a device that asks, as the last call left it on this flash.
+abbrev pub IsIntact : DfuRecord → List ℕ → List ℕ → Asking → Type 0
+IsIntact r block flash a = IsWhole a block r.held flash
+
+-- By this a call for a device that asks is refused: writes are due; or else the noted header is not in an open slot of the flash; or else
+-- the device is not as the last call left it.
+abbrev pub IsRefusedAsking : Refusal → DfuRecord → (block flash : List ℕ) → Asking → Type 0
+IsRefusedAsking refusal.Asked r block flash a = IsSome a.work
+IsRefusedAsking refusal.NoMedium r block flash a = (a.work ≡ None) × ¬ IsThere a flash
+IsRefusedAsking refusal.NoDevice r block flash a = (a.work ≡ None) × IsThere a flash × ¬ IsIntact r block flash a
+IsRefusedAsking e r block flash a = ⊥
+
+-- By this a call is refused: there is no device that asks; or else what is refused is a call for that device.
+abbrev pub IsRefused : Refusal → DfuConfig → DfuRecord → (block flash : List ℕ) → Type 0
+IsRefused e c r block flash = IsUnfound e c r (length block)
+    ⊎ ((a : Asking) × IsConfig c × IsKept c r a × (transfer_of c ≤ length block) × IsRefusedAsking e r block flash a)
+
+-- A call with this number was refused, and left the record and the block as they were.
+pub record Refuses (c : DfuConfig) (r : DfuRecord) (block flash : List ℕ) (result : ℤ) (r' : DfuRecord) (block' : List ℕ) : Type 0 where
+  pub why : Refusal
+  pub number_is : result ≡ refusal_number why
+  pub cause : IsRefused why c r block flash
   pub unchanged : r' ≡ r
   pub block_is : block' ≡ block
-  pub untouched : bytes' ≡ bytes
 
--- A call answered 0, and took the device by this step.
-pub record Goes (c : DfuConfig) (r : DfuDevice) (block bytes : List ℕ) (Step : Shown → Shown → Type 0) (result : ℤ) (r' : DfuDevice)
-    (block' bytes' : List ℕ) : Type 0 where
-  pub number_is : result ≡ pos 0
-  pub takes : Takes c r block bytes Step r' block' bytes'
+-- The record was a device that asks, and is one now, whose block fits in its memory if it did: a call did this to it.
+pub record Goes (c : DfuConfig) (r : DfuRecord) (block : List ℕ) (r' : DfuRecord) (block' : List ℕ) (Does : Asking → Asking → Type 0)
+    : Type 0 where
+  pub config : IsConfig c
+  pub room : transfer_of c ≤ length block
+  pub before : Asking
+  pub after : Asking
+  pub was : IsKept c r before
+  pub is : IsKept c r' after
+  pub fits : Fits before (length block) → Fits after (length block')
+  pub does : Does before after
 
--- The device answered a setup like this, by this row for each answer with its bytes: they are so many, and all of them stand in the buffer.
-pub record Handled (c : DfuConfig) (r : DfuDevice) (block bytes out : List ℕ) (Row : Answer → List ℕ → Shown → Shown → Type 0)
-    (answer : Answer) (count : ℕ) (r' : DfuDevice) (block' bytes' out' : List ℕ) : Type 0 where
-  pub sent : List ℕ
-  pub count_is : count ≡ length sent
-  pub most : count ≤ 65535
-  pub whole : count ≤ length out
-  pub out_is : out' ≡ sent ++ drop count out
-  pub takes : Takes c r block bytes (Row answer sent) r' block' bytes'
+-- No writes were due, and the number says what came of a call, which is a row, or asks for its writes, of a device that is as the last
+-- call left it.
+pub record Replied (Whole : Type 0) (a : LentAsking) (flash out : List ℕ) (Row : Answer → List ℕ → Shown → Type 0) (number : Reply → ℤ)
+    (result : ℤ) (a' : LentAsking) (out' : List ℕ) : Type 0 where
+  pub idle : a.work ≡ None
+  pub reply : Reply
+  pub number_is : result ≡ number reply
+  pub called : Whole → Called a flash out Row a' out' reply
 
--- A setup was answered by the device, and the number says how.
-pub record Answered (c : DfuConfig) (r : DfuDevice) (block bytes out : List ℕ) (Row : Answer → List ℕ → Shown → Shown → Type 0)
-    (result : ℤ) (r' : DfuDevice) (block' bytes' out' : List ℕ) : Type 0 where
-  pub answer : Answer
-  pub count : ℕ
-  pub number_is : result ≡ answer_number answer count
-  pub handled : Handled c r block bytes out Row answer count r' block' bytes' out'
+-- The same of time that passed, of which the number says 0, or that writes are asked for.
+pub record Passed (Whole : Type 0) (a : LentAsking) (flash : List ℕ) (Row : Answer → List ℕ → Shown → Type 0) (result : ℤ) (a' : LentAsking)
+    : Type 0 where
+  pub idle : a.work ≡ None
+  pub reply : Reply
+  pub number_is : result ≡ passed_number reply
+  pub called : Whole → (out : List ℕ) × Called a flash (replicate 6 0) Row a' out reply
+
+-- Writes were due, the program said how a piece went, and the number says what came of it.
+pub record Went (a : LentAsking) (flash : List ℕ) (failed : Bool) (out : List ℕ) (result : ℤ) (a' : LentAsking) (out' : List ℕ)
+    : Type 0 where
+  pub work : Work
+  pub left : IsLeft a work
+  pub reply : Reply
+  pub number_is : result ≡ reply_number reply
+  pub took : (len : ℕ) (s : SlotsState) (was before : List ℕ) (asks : Asks a len s was before) (p : Step)
+      → IsPiece (steps_in a asks.work) asks.work.done p → Torn before p.write.at p.write.bytes flash
+      → Took (device_of a s) len s was p.write failed flash out a' out' reply
 
 -- The buffer was too small, and nothing happened.
-pub record HasNoRoom (c : DfuConfig) (r : DfuDevice) (block bytes out : List ℕ) (result : ℤ) (r' : DfuDevice)
-    (block' bytes' out' : List ℕ) : Type 0 where
+pub record HasNoRoom (least : ℕ) (r : DfuRecord) (block out : List ℕ) (result : ℤ) (r' : DfuRecord) (block' out' : List ℕ) : Type 0 where
   pub number_is : result ≡ NO_ROOM
-  pub short : length out < answer_room (setting_of c)
+  pub short : length out < least
   pub unchanged : r' ≡ r
   pub block_is : block' ≡ block
-  pub untouched : bytes' ≡ bytes
   pub nothing_given : out' ≡ out
-
--- Memory came back as it was lent.
-pub record IsBack (old new : MutBor (List ℕ)) : Type 0 where
-  pub name : new.ghost_name ≡ old.ghost_name
-  pub bytes : new.now ≡ old.now
-
--- A question was not answered: the configuration is not allowed, or else the record has no mode.
-abbrev pub RefusesAsking : DfuConfig → DfuDevice → ℤ → Type 0
-RefusesAsking c r result = ((result ≡ NO_CONFIG) × ¬ IsConfig c)
-    ⊎ ((result ≡ NO_DEVICE) × IsConfig c × ((m : Mode) → ¬ HasMode r m))

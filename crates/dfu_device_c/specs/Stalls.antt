@@ -3,13 +3,18 @@ use Rattle.std.specs.Prelude.{◌≡◌, ℕ, ℤ, List, length}
 use Rattle.dfu_device.specs.declared.answer.Answer.{Answer}
 use Rattle.dfu_device.specs.Rows.{Handles}
 use Rattle.dfu_device.specs.Shown.{Shown}
-use Rattle.dfu_c_parts.specs.declared.config.DfuConfig.{DfuConfig}
-use Rattle.dfu_c_parts.specs.declared.record.DfuDevice.{DfuDevice}
-use Rattle.dfu_c_parts.specs.Stalls.{IsBodyOf, SaysStall}
-use Rattle.dfu_device_c.specs.Device.{IsDevice}
+use Rattle.dfu_asks.specs.declared.asking.Asking.{Asking}
+use Rattle.dfu_asks.specs.Asks.{device_in, IsDevice}
+use Rattle.dfu_device_c.specs.declared.config.DfuConfig.{DfuConfig}
+use Rattle.dfu_device_c.specs.Verdict.{IsBodyOf, SaysStall}
+use Rattle.dfu_device_c.specs.declared.record.DfuRecord.{DfuRecord}
+use Rattle.dfu_device_c.specs.Kept.{IsKept, with_memory}
 
--- The result says how the device, whose medium has so many bytes, answers this setup, whatever its body is.
-abbrev pub ToldStall : DfuConfig → DfuDevice → ℕ → List ℕ → ℤ → Type 0
-ToldStall c r size setup result = (block bytes : List ℕ) (d : Shown) → IsDevice c r block bytes d → length bytes ≡ size
-    → (body : List ℕ) → IsBodyOf setup body → (a : Answer) (sent : List ℕ) (d' : Shown) → Handles setup body d a sent d'
-    → SaysStall result a
+-- The result says how each device that the record is, whose flash has so many bytes, answers this setup, whatever its body is. Where it
+-- asks for writes it will not stall.
+abbrev pub ToldStall : DfuConfig → DfuRecord → ℕ → List ℕ → ℤ → Type 0
+ToldStall c r size setup result = (block flash : List ℕ) (a : Asking) → IsKept c r a → IsDevice (with_memory r block a) flash
+    → length flash ≡ size
+    → (body : List ℕ) → IsBodyOf setup body → (x : Answer) (sent : List ℕ) (d' : Shown)
+    → Handles setup body (device_in (with_memory r block a) flash) x sent d'
+    → SaysStall result x

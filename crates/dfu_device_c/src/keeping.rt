@@ -1,112 +1,102 @@
-//! A device is put together of what is kept of it, and kept again.
-ghost use Rattle.std.specs.Prelude.{◌≡◌, ◌≤◌, false, length, IfOk, IfErr, IfSome, IfNone, OnErr};
-ghost use Rattle.dfu_device.specs.declared.mode.Mode.{Mode as Stands};
-ghost use Rattle.dfu_c_parts.specs.declared.config.DfuConfig.{DfuConfig as Given};
-ghost use Rattle.dfu_c_parts.specs.Config.{setting_of, transfer_of, unit_of, IsConfig};
-ghost use Rattle.dfu_device_c.specs.Memory.{memory_at, is_on, seen_of, plain_device};
-ghost use Rattle.dfu_c_parts.specs.Record.{HasMode};
-ghost use Rattle.dfu_device_c.specs.Noted.{Notes};
-ghost use Rattle.dfu_device_c.specs.Device.{IsDevice, IsRefusedSeen, IsMade};
-ghost use Rattle.dfu_device_c.specs.Calls.{IsBack};
+//! A device that asks is read from its record, and written into it again.
+ghost use Rattle.std.specs.Prelude.{◌≡◌, ◌≤◌, ◌<◌, IfOk, IfErr, OnOk, IfSome, IfNone};
+ghost use Rattle.dfu_asks.specs.declared.asking.Asking.{Asking as Device};
+ghost use Rattle.dfu_asks.specs.declared.noted.Noted.{Noted as Note};
+ghost use Rattle.dfu_device_c.specs.declared.config.DfuConfig.{DfuConfig as Given};
+ghost use Rattle.dfu_device_c.specs.Config.{transfer_of, IsConfig};
+ghost use Rattle.dfu_device_c.specs.Kept.{IsFlag, IsKept, IsSetUp, HasNote};
+ghost use Rattle.dfu_device_c.specs.Calls.{IsUnfound};
 
-use crate::memory::Memory;
-use crate::noted::note;
-use crate::open::open;
+use crate::config::{DfuConfig, Settings, settings_of};
+use crate::formatting::WORK;
+use crate::mode::{mode_of, set_mode};
+use crate::record::DfuRecord;
 use crate::refusal::Refusal;
-use dfu_c_parts::{DfuConfig, DfuDevice, config_of, mode_of, set_held, set_mode};
-use dfu_device::{LentBlock, LentDevice, Mode};
+use crate::work::{set_work, work_of};
+use dfu_asks::{Asking, Noted};
 
-/// A device whose medium and block are in the memory of the caller.
-pub(crate) type Kept<'m, 'b> = LentDevice<Memory<'m>, LentBlock<'b>>;
-
-// The mode of a record, with its block, which is taken out of its place; none where the record has no mode, or a block that
-// is longer than the memory or than 4,096 bytes.
-fn stand<'b>(kept: &DfuDevice, block: &mut LentBlock<'b>) -> Option<(Mode, LentBlock<'b>)>
-    ensures mode { IfSome result (λ p. HasMode kept.now p.0) }
-    ensures only { IfSome result (λ p. (m : Stands) → HasMode kept.now m → p.0 ≡ m) }
-    ensures fits { IfSome result (λ p. kept.now.length ≤ length block.old.memory.now) }
-    ensures short { IfSome result (λ p. kept.now.length ≤ 4096) }
-    ensures memory { IfSome result (λ p. p.1.memory ≡ block.old.memory) }
-    ensures len { IfSome result (λ p. p.1.len ≡ kept.now.length) }
-    ensures none { IfNone result ((m : Stands) → HasMode kept.now m → kept.now.length ≤ 4096
-        → ¬ (kept.now.length ≤ length block.old.memory.now)) }
-    ensures back { IfNone result (block.new.memory ≡ block.old.memory) }
+/// The number of a slot, by whether it is the second one.
+pub(crate) fn slot_of(second: bool) -> u32
+    ensures { IsFlag second result }
 {
-    let len = usize::from(kept.length);
-    if len > 4096 || len > block.memory.len() {
-        return None;
-    }
-    let Some(mode) = mode_of(kept) else {
-        return None;
-    };
-    let LentBlock { memory, len: _ } = std::mem::replace(
-        block,
-        LentBlock {
-            memory: &mut [],
-            len: 0,
-        },
-    );
-    Some((mode, LentBlock { memory, len }))
+    u32::from(second)
 }
 
-/// The device of a record, over the memory of its medium and of its block, which are taken out of their places; or why there
-/// is none, and both are back.
-pub(crate) fn made<'m, 'b>(
-    config: &DfuConfig,
-    kept: &DfuDevice,
-    block: &mut LentBlock<'b>,
-    memory: &mut Memory<'m>,
-) -> Result<Kept<'m, 'b>, Refusal>
-    requires config { IsConfig config.now }
-    requires room { transfer_of config.now ≤ length block.old.memory.now }
-    requires unit { unit_of config.now ≡ memory.old.unit }
-    requires plain { is_on memory.old.cover ≡ false }
-    ensures ok { IfOk result (λ d. IsMade config.now kept.now block.old.memory memory.old.bytes d) }
-    ensures err { IfErr result (λ e. IsRefusedSeen e config.now kept.now block.old.memory.now memory.old.bytes.now) }
-    ensures back { OnErr result (IsBack memory.old.bytes memory.new.bytes) }
-    ensures block_back { OnErr result (block.new.memory ≡ block.old.memory) }
+// What a record notes, if its slot is one of the two.
+fn noted_in(kept: &DfuRecord) -> Option<Noted>
+    ensures some { IfSome result (λ n. HasNote kept.now n) }
+    ensures none { IfNone result ((n : Note) → ¬ HasNote kept.now n) }
 {
-    let Some(setting) = config_of(config) else {
-        unreachable!()
+    if kept.slot > 1 {
+        return None;
+    }
+    Some(Noted {
+        second: kept.slot == 1,
+        header: kept.header,
+    })
+}
+
+// The device that asks which a record is.
+fn asking_of(settings: Settings, kept: &DfuRecord) -> Option<Asking>
+    ensures some { IfSome result (λ a. (c : Given) → IsSetUp c settings.config settings.unit settings.sector → IsKept c kept.now a) }
+    ensures none { IfNone result ((c : Given) (a : Device) → ¬ IsKept c kept.now a) }
+{
+    if kept.held_length > 256 || kept.length > 4096 {
+        return None;
+    }
+    let mode = mode_of(kept)?;
+    let noted = noted_in(kept)?;
+    let work = work_of(kept)?;
+    Some(Asking {
+        config: settings.config,
+        unit: settings.unit,
+        sector: settings.sector,
+        mode,
+        block_len: usize::from(kept.length),
+        held_len: usize::from(kept.held_length),
+        put_end: kept.put_end,
+        noted,
+        work,
+    })
+}
+
+/// The device that asks which a record is, if the memory of its block has so much room; or why there is none.
+#[inline(never)]
+pub(crate) fn found(config: &DfuConfig, kept: &DfuRecord, room: usize) -> Result<Asking, Refusal>
+    ensures ok { IfOk result (λ a. IsKept config.now kept.now a) }
+    ensures config { OnOk result (IsConfig config.now) }
+    ensures room { OnOk result (transfer_of config.now ≤ room) }
+    ensures err { IfErr result (λ e. IsUnfound e config.now kept.now room) }
+{
+    if kept.work == WORK {
+        return Err(Refusal::Asked);
+    }
+    let Some(settings) = settings_of(config) else {
+        return Err(Refusal::NoConfig);
     };
-    let slots = open(kept, memory)?;
-    let Some(standing) = stand(kept, block) else {
-        *memory = slots.into_medium();
+    if room < usize::from(config.transfer) {
+        return Err(Refusal::NoBlock);
+    }
+    let Some(asking) = asking_of(settings, kept) else {
         return Err(Refusal::NoDevice);
     };
-    let (mode, taken) = standing;
-    match LentDevice::from_parts(setting, slots, mode, taken) {
-        Ok(device) => Ok(device),
-        Err(refused) => {
-            let (slots, taken) = refused;
-            *memory = slots.into_medium();
-            *block = taken;
-            Err(Refusal::NoDevice)
-        }
+    if asking.block_len > room {
+        return Err(Refusal::NoDevice);
     }
+    Ok(asking)
 }
 
-/// Keeps a device: the record says of it and notes the active slot, and the memory of its medium and of its block is back.
-pub(crate) fn keep<'m, 'b>(
-    device: Kept<'m, 'b>,
-    kept: &mut DfuDevice,
-    block: &mut LentBlock<'b>,
-    memory: &mut Memory<'m>,
-)
-    ensures medium { memory_at memory.new.unit memory.new.bytes memory.new.cover ≡ device.entry.device.slots.medium }
-    ensures device { (c : Given) → IsConfig c → transfer_of c ≤ device.entry.memory.room → device.entry.device.config ≡ setting_of c
-        → memory.new.unit ≡ unit_of c
-        → IsDevice c kept.new block.new.memory.now (seen_of memory.new.bytes.now memory.new.cover) (plain_device device.entry.device) }
-    ensures notes { Notes memory.new.unit kept.new memory.new.bytes.now (seen_of memory.new.bytes.now memory.new.cover) }
-    ensures name { block.new.memory.ghost_name ≡ device.entry.memory.name }
+/// Keeps a device that asks in its record. The bytes held back are there already.
+#[inline(never)]
+pub(crate) fn keep(asking: &Asking, kept: &mut DfuRecord)
+    ensures kept { (c : Given) → IsSetUp c asking.now.config asking.now.unit asking.now.sector → IsKept c kept.new asking.now }
+    ensures held { kept.new.held ≡ kept.old.held }
 {
-    let (slots, mode, taken) = device.into_parts();
-    kept.length = taken.len as u16;
-    set_held(kept, slots.held());
-    set_mode(kept, mode);
-    kept.put_end = slots.put_end();
-    let first = slots.is_first();
-    *memory = slots.into_medium();
-    *block = taken;
-    note(kept, memory, first);
+    set_mode(kept, asking.mode);
+    set_work(kept, asking.work);
+    kept.length = asking.block_len as u16;
+    kept.held_length = asking.held_len as u16;
+    kept.put_end = asking.put_end;
+    kept.slot = slot_of(asking.noted.second);
+    kept.header = asking.noted.header;
 }

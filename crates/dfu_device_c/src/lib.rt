@@ -1,19 +1,29 @@
-//! A device for programs in C: its configuration, what it keeps between two calls and its medium are the caller's.
+//! A device that asks for its writes, for programs in C: what it is set up with, what it keeps between two calls, its block and
+//! its flash are the caller's.
 #![tactic(auto)]
 
-mod asking;
-mod calls;
-mod copy;
-mod cover;
-mod event;
+mod addressed;
+mod ask;
+mod config;
+mod due;
 mod exports;
+mod format;
+mod formatting;
+mod functional;
+mod idle;
+mod image;
 mod keeping;
 pub mod laws;
 mod long;
-mod memory;
-mod noted;
-mod open;
+mod mode;
+mod numbers;
+mod place;
 mod power;
+mod record;
 mod refusal;
+mod stalls;
+pub mod steps;
 mod tells;
 mod version;
+mod work;
+mod writes;

@@ -1,33 +1,61 @@
-//! A body that is longer than a block may be: it needs no memory, since no byte of it is looked at.
-ghost use Rattle.std.specs.Prelude.{◌≡◌, ◌⊎◌};
-ghost use Rattle.dfu_c_parts.specs.Config.{IsConfig};
+//! A body that is longer than a block may be.
+ghost use Rattle.std.specs.Prelude.{◌≡◌, ◌⊎◌, nat_lt};
+ghost use Rattle.dfu_device.specs.Rows.{body_length};
+ghost use Rattle.dfu_device_c.specs.Addressed.{addressed};
 ghost use Rattle.dfu_device_c.specs.Numbers.{STALL, NOT_LONG};
-ghost use Rattle.dfu_device_c.specs.Calls.{RefusesAsking};
-ghost use Rattle.dfu_c_parts.specs.Long.{IsLong};
+ghost use Rattle.dfu_device_c.specs.AfterLong.{after_long, IsLong};
 ghost use Rattle.dfu_device_c.specs.Long.{TakesLong};
+ghost use Rattle.dfu_device_c.specs.Idle.{IsIdle, RefusesSetup};
 
-use dfu_c_parts::{DfuConfig, DfuDevice, after_long, is_allowed, is_long, mode_of, set_mode};
-use dfu_wire::Setup;
+use crate::addressed::addressed;
+use crate::config::DfuConfig;
+use crate::idle::idle_mode;
+use crate::mode::set_mode;
+use crate::record::DfuRecord;
+use dfu_device::Mode;
+use dfu_wire::{Code, Setup};
 
-/// As `dfu_device_handle` with a body of wLength bytes, which are more than the transfer size: -1. Refused with -9 where
-/// they are not.
+// Where a device goes from this mode by a body that is longer than a block may be.
+fn after_long(mode: Mode) -> Mode
+    ensures { result ≡ after_long mode }
+{
+    match mode {
+        Mode::AppIdle | Mode::AppDetach { .. } => Mode::AppIdle,
+        Mode::ManifestWaitReset => Mode::ManifestWaitReset,
+        Mode::Error { code } => Mode::Error { code },
+        _ => Mode::Error {
+            code: Code::StalledPkt,
+        },
+    }
+}
+
+// Whether the host sends more bytes with this setup than a block has.
+fn is_long(setup: &Setup, transfer: u16) -> bool
+    ensures { result ≡ nat_lt transfer (body_length setup.now) }
+{
+    setup.kind == 0x21 && setup.length > transfer
+}
+
+/// As `dfu_core_handle` with a body of wLength bytes, which are more than the transfer size: -1.
+///
+/// Refused as `dfu_core_would_stall`; then with -9 if the host does not send so many.
 #[unsafe(no_mangle)]
-pub extern "C" fn dfu_device_too_long(
+pub extern "C" fn dfu_core_too_long(
     config: &DfuConfig,
-    device: &mut DfuDevice,
+    device: &mut DfuRecord,
     setup: &[u8; 8],
 ) -> i32
-    ensures outcome { ((result ≡ STALL) × IsLong config.now setup.now × TakesLong config.now device.old setup.now device.new)
-        ⊎ ((device.new ≡ device.old)
-        × (((result ≡ NOT_LONG) × IsConfig config.now × ¬ IsLong config.now setup.now) ⊎ RefusesAsking config.now device.old result)) }
+    ensures outcome { let own = addressed config.now.interface setup.now in
+        ((result ≡ STALL) × IsIdle config.now device.old × IsLong config.now own × TakesLong config.now device.old own device.new)
+        ⊎ ((device.new ≡ device.old) × (((result ≡ NOT_LONG) × IsIdle config.now device.old × ¬ IsLong config.now own)
+        ⊎ RefusesSetup config.now device.old result)) }
 {
-    if !is_allowed(config) {
-        return -2;
-    }
-    let Some(mode) = mode_of(device) else {
-        return -4;
+    let mode = match idle_mode(config, device) {
+        Ok(mode) => mode,
+        Err(refusal) => return refusal.number(),
     };
-    let setup = Setup::decode(setup);
+    let own = addressed(config.interface, setup);
+    let setup = Setup::decode(&own);
     if !is_long(&setup, config.transfer) {
         return -9;
     }

@@ -2,12 +2,18 @@
 ghost use Rattle.std.specs.Prelude.{◌≡◌};
 ghost use Rattle.dfu_device_c.specs.Numbers.{refusal_number};
 
-/// Why a call is refused. They are looked for in this order.
+/// Why a call is refused. Nothing changed then.
 #[derive(Clone, Copy)]
 pub enum Refusal {
-    /// The medium has no active image, or 2^32 bytes or more.
+    /// The configuration is of another version, or not allowed.
+    NoConfig,
+    /// The block's memory has less room than the transfer size.
+    NoBlock,
+    /// Writes are due: they come first.
+    Asked,
+    /// The flash has no active image, or 2^32 bytes or more.
     NoMedium,
-    /// The record is none of a device on that medium.
+    /// The record is none of a device that asks on that flash.
     NoDevice,
 }
 
@@ -17,6 +23,9 @@ impl Refusal {
         ensures { result ≡ refusal_number self }
     {
         match self {
+            Refusal::NoConfig => -2,
+            Refusal::NoBlock => -10,
+            Refusal::Asked => -12,
             Refusal::NoMedium => -3,
             Refusal::NoDevice => -4,
         }

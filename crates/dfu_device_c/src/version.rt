@@ -1,12 +1,13 @@
-//! The version of the library, as a program asks for it.
+//! The version of the library.
 ghost use Rattle.std.specs.Prelude.{◌≡◌, pos};
-ghost use Rattle.dfu_c_parts.specs.Config.{version};
+ghost use Rattle.dfu_device_c.specs.Config.{version};
 
-use dfu_c_parts::VERSION;
+/// The version, 0.3.0: 10,000 for each major one, 100 for each minor one, and 1 for each patch.
+pub(crate) const VERSION: u32 = 300;
 
 /// The version of the library, with which each configuration and each record begins.
 #[unsafe(no_mangle)]
-pub extern "C" fn dfu_device_version() -> i32
+pub extern "C" fn dfu_core_version() -> i32
     ensures { result ≡ pos version }
 {
     VERSION as i32

@@ -14,9 +14,9 @@ use Rattle.dfu_host_c.specs.WrittenNumbers.{numbers_in}
 use Rattle.dfu_host_c.specs.declared.ids.DfuIds.{DfuIds}
 use Rattle.dfu_host_c.specs.declared.session.DfuSession.{DfuSession}
 
--- The version of the library, 0.2.0: 10,000 for each major one, 100 for each minor one, and 1 for each patch.
+-- The version of the library, 0.3.0: 10,000 for each major one, 100 for each minor one, and 1 for each patch.
 abbrev pub version : ℕ
-version = 200
+version = 300
 
 -- The identifiers of a device.
 abbrev pub ids_of : DfuIds → Ids

@@ -3,8 +3,8 @@
 ghost use Rattle.std.specs.Prelude.{◌≡◌, pos};
 ghost use Rattle.dfu_host_c.specs.Sessions.{version};
 
-/// The version, 0.2.0: 10,000 for each major one, 100 for each minor one, and 1 for each patch.
-pub(crate) const VERSION: u32 = 200;
+/// The version, 0.3.0: 10,000 for each major one, 100 for each minor one, and 1 for each patch.
+pub(crate) const VERSION: u32 = 300;
 
 /// The version of the library, which it writes into each record.
 #[unsafe(no_mangle)]

@@ -1,9 +1,9 @@
 //! The texts of `--help`.
 
 /// What `--version` prints behind the program's name.
-pub(crate) const VERSION: &str = "0.2.0";
+pub(crate) const VERSION: &str = "0.3.0";
 
-pub(crate) const DFU: &str = "dfu 0.2.0: firmware files and upgrades over USB (DFU 1.1)";
+pub(crate) const DFU: &str = "dfu 0.3.0: firmware files and upgrades over USB (DFU 1.1)";
 
 pub(crate) const DFU_EXAMPLE: &str = "\
 Examples:

@@ -13,8 +13,7 @@ WHAT_IT_IS = """/* SPDX-License-Identifier: MIT OR Apache-2.0
 #include <stddef.h>
 #include <stdint.h>
 """
-WHAT = {"dfu_device.h": "a device of USB DFU 1.1 over memory.", "dfu_asking.h": "a device of USB DFU 1.1 that asks for each write.",
-        "dfu_host.h": "the host of USB DFU 1.1."}
+WHAT = {"dfu_core.h": "a device of USB DFU 1.1.", "dfu_host.h": "the host of USB DFU 1.1."}
 OF_C = """
 #if defined(__BYTE_ORDER__) && __BYTE_ORDER__ != __ORDER_LITTLE_ENDIAN__
 #error "this file is for processors that store the low byte of a number first"

@@ -1,7 +1,7 @@
 /* The bootloader's flash, and its memory. The stack lies below all else, so that one that overflows leaves the memory and is a fault. */
 MEMORY {
-    flash (rx) : ORIGIN = 0, LENGTH = 26K
-    memory (rw) : ORIGIN = 0x20000000, LENGTH = 9984
+    flash (rx) : ORIGIN = 0, LENGTH = 16K
+    memory (rw) : ORIGIN = 0x20000000, LENGTH = 4K
 }
 ENTRY(on_reset)
 SECTIONS {

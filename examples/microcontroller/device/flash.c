@@ -40,7 +40,8 @@ static int is_in_medium(uint32_t at, uint32_t length, uint32_t whole) {
     return at <= MEDIUM_SIZE && length <= MEDIUM_SIZE - at && at % whole == 0 && length % whole == 0;
 }
 
-uint32_t flash_erase(uint32_t at, uint32_t length) {
+int flash_erase(void *own, uint32_t at, uint32_t length) {
+    (void)own;
     if (!is_in_medium(at, length, PAGE))
         return 1;
     allow(ERASE);
@@ -50,7 +51,8 @@ uint32_t flash_erase(uint32_t at, uint32_t length) {
     return 0;
 }
 
-uint32_t flash_program(uint32_t at, const uint8_t *bytes, uint32_t length) {
+int flash_program(void *own, uint32_t at, const uint8_t *bytes, uint32_t length) {
+    (void)own;
     if (!is_in_medium(at, length, sizeof(uint32_t)))
         return 1;
     allow(WRITE);

@@ -1,10 +1,10 @@
 /* SPDX-License-Identifier: MIT OR Apache-2.0 */
-/* What a programmer writes into the flash of a new board: the bootloader, and the medium with a first image, by dfu_asking_format. */
+/* What a programmer writes into the flash of a new board: the bootloader, and the medium with a first image. */
 #include <stdio.h>
 #include <string.h>
 
 #include "board.h"
-#include "dfu_asking.h"
+#include "dfu_device_memory.h"
 
 static uint8_t flash[FLASH_SIZE], image[FLASH_SIZE];
 
@@ -29,7 +29,7 @@ int main(int count, char **words) {
         fprintf(stderr, "factory: a file can't be read, or is too large\n");
         return 1;
     }
-    int32_t refusal = dfu_asking_format(&board_config, PAGE, flash + MEDIUM, MEDIUM_SIZE, image, length);
+    int32_t refusal = dfu_memory_format(&board_config, flash + MEDIUM, MEDIUM_SIZE, image, length);
     if (refusal != 0) {
         fprintf(stderr, "factory: refused %d\n", (int)refusal);
         return 1;

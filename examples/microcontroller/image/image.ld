@@ -2,7 +2,7 @@
 SECTIONS {
     .text place : { KEEP(*(.table)) *(.text*) *(.rodata*) . = ALIGN(4); __data_in_flash = .; }
     /DISCARD/ : { *(.ARM.exidx*) }
-    . = 0x20002700;
+    . = 0x20001000;
     .data : AT(__data_in_flash) { __data = .; *(.data*) . = ALIGN(4); __data_end = .; }
     .bss (NOLOAD) : { __bss = .; *(.bss*) *(COMMON) . = ALIGN(4); __bss_end = .; }
     __stack = 0x20004000;

@@ -5,7 +5,7 @@
  * it got so many of its sectors, or one of them alone; and where others before it were not flushed, that any of them got lost. Each
  * time the active image has to be the one from before the download or its own, and at a mark the one from before. */
 #define _GNU_SOURCE
-#include "dfu_asking.h"
+#include "dfu_core.h"
 
 #include <endian.h>
 #include <errno.h>
@@ -70,7 +70,7 @@ static bool is_active(const uint8_t *bytes, const struct dfu_place *place, int i
 static void look(const uint8_t *bytes)
 {
     struct dfu_place place;
-    bool is_image = dfu_asking_image(&layout, 0, bytes, disk.size, &place) == 0;
+    bool is_image = dfu_core_image(&layout, bytes, disk.size, &place) == 0;
     states++;
     if (is_image && is_active(bytes, &place, now > 0 ? now - 1 : 0))
         of_before++;

@@ -2,12 +2,12 @@
 # shellcheck shell=sh disable=SC2154
 # shellcheck source=tests/slow/functionfs/common.sh
 . ./common.sh
-export HOME=/root
+export HOME="$PWD"
 ./set-up 0x1209 0x0001 0x0100 F1
 suffixed one two
 # fwupd WORD..: its tool, which of all devices sees those of DFU.
 fwupd() {
-    LD_PRELOAD=/work/no_discovery.so timeout 300 fwupdtool --plugins dfu "$@" > out 2> err < /dev/null
+    LD_PRELOAD=$HOME/no_discovery.so timeout 300 fwupdtool --plugins dfu "$@" > out 2> err < /dev/null
 }
 ./dfu-gadget format --force $medium --most 64K one
 start

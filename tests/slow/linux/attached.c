@@ -161,15 +161,12 @@ static int standard(const uint8_t setup[8], uint8_t *out, int room)
 
 static int handle(const uint8_t setup[8], uint8_t *data)
 {
-    uint8_t request[8];
     uint16_t length = (uint16_t)(setup[6] | setup[7] << 8);
     if ((setup[0] & 0x60) == 0)
         return standard(setup, data, length);
     if ((setup[0] & 0x7f) != 0x21 || setup[4] != bus_interface())
         return USB_ERROR_PIPE;
-    memcpy(request, setup, 8);
-    request[4] = request[5] = 0;
-    return bus_transfer(request, data, length, 1);
+    return bus_transfer(setup, data, length, 1);
 }
 
 /* One transfer: false where the device left. */

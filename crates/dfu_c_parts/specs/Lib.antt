@@ -1,4 +1,0 @@
-pub mod Config
-pub mod Record
-pub mod Stalls
-pub mod Long

@@ -1,0 +1,26 @@
+-- Why a call for a device that asks is refused.
+use Rattle.std.proofs.Common.{List, ℕ, ◌≤◌, arith}
+use Rattle.dfu_asks.specs.declared.asking.Asking.{Asking}
+use Rattle.dfu_asks.specs.declared.refusal.Refusal.{Refusal as Why}
+use Rattle.dfu_asks.specs.declared.refusal.Refusal.TheVariants as why
+use Rattle.dfu_asks.specs.Lent.{LentAsking}
+use Rattle.dfu_asks.specs.Refused.{IsRefused as IsRefusedFor, IsNotTaken}
+use Rattle.dfu_device_c.specs.declared.record.DfuRecord.{DfuRecord}
+use Rattle.dfu_device_c.specs.Calls.{IsRefusedAsking}
+use Rattle.dfu_device_c.specs.Numbers.{refusal_of}
+use Rattle.dfu_device_c.specs.Writes.{IsAtWork}
+
+-- What a call for a device is refused for, if its buffer has room for the answer.
+pub cause_of : (e : Why) (r : DfuRecord) (block flash : List ℕ) (a : Asking) (need room : ℕ) → need ≤ room
+    → IsRefusedFor e a block r.held flash need room → IsRefusedAsking (refusal_of e) r block flash a
+cause_of why.Asked r block flash a need room fits is = is
+cause_of why.NoRoom r block flash a need room fits is = absurd (omega (arith, fits, is.1))
+cause_of why.NoMedium r block flash a need room fits is = (is.0, is.2)
+cause_of why.NoDevice r block flash a need room fits is = (is.0, is.2, is.3)
+
+-- If a piece is not taken, with room for an answer, the device is at no work.
+pub not_taken : (e : Why) (a : LentAsking) (room : ℕ) → 6 ≤ room → IsNotTaken e a room → ¬ IsAtWork a
+not_taken why.NoRoom a room fits short at = omega (arith, fits, short)
+not_taken why.NoDevice a room fits none (flash, (len, s, was, asks)) = none.1 asks.work (record { work_is = asks.work_is; left = asks.left })
+not_taken why.Asked a room fits none at = none
+not_taken why.NoMedium a room fits none at = none

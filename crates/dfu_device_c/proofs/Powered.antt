@@ -1,0 +1,113 @@
+-- The record that a device that gets power leaves is that device.
+use Rattle.std.proofs.Common.{◌≡◌, ◌⊎◌, inl, inr, ◌&&◌, Bool, true, IsTrue, ℕ, ℤ, List, [], pos, None, refl, sym, ap, ◌∙◌, subst, arith}
+use Rattle.std.proofs.lemmas.Grind.{common_steps}
+use Rattle.dfu_slots.specs.Seen.{SlotsState, store_on, is_shaped}
+use Rattle.dfu_slots.specs.Store.{IsStore}
+use Rattle.dfu_slots.specs.Image.{HasImage}
+use Rattle.dfu_slots.proofs.Seeing.{shaped, fresh_leaves}
+use Rattle.dfu_device.specs.declared.mode.Mode.{Mode}
+use Rattle.dfu_device.specs.declared.mode.Mode.TheVariants as mode
+use Rattle.dfu_device.specs.Setting.{Setting}
+use Rattle.dfu_device.specs.Shown.{Shown}
+use Rattle.dfu_device.specs.Parts.{stage_of}
+use Rattle.dfu_slots.specs.declared.unit.Unit.{Unit as WriteUnit}
+use Rattle.dfu_asks.specs.declared.sector.Sector.{Sector}
+use Rattle.dfu_asks.specs.declared.asking.Asking.{Asking}
+use Rattle.dfu_asks.specs.declared.noted.Noted.{Noted}
+use Rattle.dfu_asks.specs.Noted.{IsNoted}
+use Rattle.dfu_asks.specs.Mapped.{grain_of, mapped}
+use Rattle.dfu_device_c.specs.declared.config.DfuConfig.{DfuConfig}
+use Rattle.dfu_device_c.specs.declared.record.DfuRecord.{DfuRecord}
+use Rattle.dfu_device_c.specs.Config.{IsConfig}
+use Rattle.dfu_device_c.specs.Mode.{blank}
+use Rattle.dfu_device_c.specs.Kept.{HasNote, IsSetUp}
+use Rattle.dfu_device_c.specs.Power.{Powers, RefusesPower}
+
+-- A store is a device's in a mode in which nothing is put.
+idle_sound : (s : SlotsState) → IsStore s → IsTrue (is_shaped s && true)
+idle_sound s store = both (is_shaped s) (shaped store)
+  where
+    both : (p : Bool) → p ≡ true → IsTrue (p && true)
+    both p e = grind (arith, common_steps)
+
+-- What is kept of a device that gets power.
+abbrev fresh : Setting → WriteUnit → Sector → Mode → Noted → Asking
+fresh config unit sector m noted = record {
+  config = config;
+  unit = unit;
+  sector = sector;
+  mode = m;
+  block_len = 0;
+  held_len = 0;
+  put_end = 0;
+  noted = noted;
+  work = None;
+  short = omega arith;
+  few = omega arith;
+}
+
+-- The blank record, but for the number of its mode and what it notes, is a device that got power.
+pub powers : (c : DfuConfig) (flash : List ℕ) (config : Setting) (unit : WriteUnit) (sector : Sector) (noted : Noted) (r' : DfuRecord)
+    → IsConfig c → IsSetUp c config unit sector → IsNoted noted (mapped (grain_of unit sector) flash)
+    → HasImage (mapped (grain_of unit sector) flash) → HasNote r' noted
+    → r' ≡ record blank { mode = 0; slot = r'.slot; header = r'.header } → Powers c mode.AppIdle flash (pos 0) r'
+powers c flash config unit sector noted r' allowed set_up is_noted image notes rest =
+    let m = mapped (grain_of unit sector) flash in
+    let store : IsStore (store_on m) = (fresh_leaves image refl refl).store in
+    record {
+      number_is = refl;
+      config = allowed;
+      after = fresh config unit sector mode.AppIdle noted;
+      is = record {
+        set_up = set_up;
+        mode = record { version_is = ap (λ (x : DfuRecord). x.version) rest; numbers = ap (λ (x : DfuRecord). x.mode) rest };
+        block = sym (ap (λ (x : DfuRecord). x.length) rest);
+        held = sym (ap (λ (x : DfuRecord). x.held_length) rest);
+        end = sym (ap (λ (x : DfuRecord). x.put_end) rest);
+        noted = notes;
+        work = ap (λ (x : DfuRecord). x.work) rest;
+      };
+      mode_is = refl;
+      work = refl;
+      device = λ block. record { store = store; sound = idle_sound (store_on m) store; noted = is_noted };
+      shows = λ block i. record {
+        config = set_up.config_is i;
+        slots = store_on (mapped (record { unit = set_up.unit_is i; sector = set_up.sector_is i }) flash);
+        stage = stage_of mode.AppIdle [] [];
+      };
+      rest = rest ∙ ap (λ (n : ℕ). record blank { mode = n; slot = r'.slot; header = r'.header }) (sym (ap (λ (x : DfuRecord). x.mode) rest));
+    }
+
+-- With the number of dfuIDLE it is that device in dfuIDLE.
+pub begins : (c : DfuConfig) (flash : List ℕ) (r : DfuRecord) → Powers c mode.AppIdle flash (pos 0) r
+    → Powers c mode.DfuIdle flash (pos 0) (record r { mode = 2 })
+begins c flash r got = record {
+  number_is = refl;
+  config = got.config;
+  after = record got.after { mode = mode.DfuIdle };
+  is = record {
+    set_up = got.is.set_up;
+    mode = record { version_is = got.is.mode.version_is; numbers = refl };
+    block = got.is.block;
+    held = got.is.held;
+    end = got.is.end;
+    noted = record { second = got.is.noted.second; header = got.is.noted.header };
+    work = got.is.work;
+  };
+  mode_is = refl;
+  work = got.work;
+  device = λ block. record {
+    store = (got.device block).store;
+    sound = idle_sound _ (got.device block).store;
+    noted = (got.device block).noted;
+  };
+  shows = λ block. ap (λ (d : Shown). record d { stage = stage_of mode.DfuIdle [] [] }) (got.shows block);
+  rest = ap (λ (x : DfuRecord). record x { mode = 2 }) got.rest;
+}
+
+-- A device got power if the number is 0.
+pub power_zero : (c : DfuConfig) (flash : List ℕ) (n : ℤ) (r r' : DfuRecord) → n ≡ pos 0
+    → Powers c mode.AppIdle flash n r' ⊎ (RefusesPower c flash n × (r' ≡ r)) → Powers c mode.AppIdle flash (pos 0) r'
+power_zero c flash n r r' zero (inl powers) = subst (λ (x : ℤ). Powers c mode.AppIdle flash x r') zero powers
+power_zero c flash n r r' zero (inr (inl (is, bad), same)) = absurd (cc)
+power_zero c flash n r r' zero (inr (inr (is, config, none), same)) = absurd (cc)

@@ -1,0 +1,69 @@
+use Rattle.std.proofs.Common.{inl, inr, ℕ, refl, sym, ◌∙◌, subst, w32, arith}
+use Rattle.std.proofs.lemmas.Int.{to_z-of_z}
+use Rattle.dfu_asks.specs.Steps.{Step}
+use Rattle.dfu_asks.specs.Carried.{IsPiece, IsSound}
+use Rattle.dfu_asks.specs.Asks.{steps_in}
+use Rattle.dfu_device_c.specs.Kept.{with_memory}
+use Rattle.dfu_device_c.specs.Writes.{refuses_unfound, refuses_piece}
+use Rattle.dfu_device_c.proofs.Handed.{is_kind, programs, by_number, same_step}
+use Rattle.dfu_device_c.proofs.writes.dfu_core_next.Goals as goal
+
+pub returns-in-Err : goal.returns-in-Err
+returns-in-Err c = record {
+  outcome = inr (
+    refuses_unfound c.in-Err.refusal (to_z-of_z w32 _ (omega (arith, c.number.type_inv)) ∙ c.number.ensures) c.in-Err.ensures.err,
+    refl,
+  );
+}
+
+pub returns-in_default : goal.returns-in_default
+returns-in_default c =
+    let found = c.in-Ok.ensures in
+    record {
+      outcome = inr (
+        refuses_piece c.in-Ok.asking
+            (to_z-of_z w32 _ (omega (arith, c.number-in_default.type_inv)) ∙ c.number-in_default.ensures) found.config found.room found.ok
+            (inl (λ at. c.in_default.ensures.goes at.0 at.1 at.2 at.3)),
+        λ i. record c.args.ask.now { bytes = c.in_default.ensures.unchanged i },
+      );
+    }
+
+pub returns-then-flash-gt4294967295 : goal.returns-then-flash-gt4294967295
+returns-then-flash-gt4294967295 c =
+    let found = c.in-Ok.ensures in
+    record {
+      outcome = inr (
+        refuses_piece c.in-Ok.asking
+            (to_z-of_z w32 _ (omega (arith, c.number-then-flash-gt4294967295.type_inv)) ∙ c.number-then-flash-gt4294967295.ensures)
+            found.config found.room found.ok (inr (omega (arith, c.if-flash-gt4294967295.true))),
+        refl,
+      );
+    }
+
+pub returns : goal.returns
+returns c =
+    let found = c.in-Ok.ensures in
+    let r = c.args.device.now in
+    let says = c.in-Some.ensures in
+    let due = says.due in
+    let p = c.in-Some.piece in
+    let same = same_step p.erases c.kind_of-ask.result p.at p.len c.next.new.out c.kind_of-ask.ensures in
+    let l = with_memory r c.args.block.now c.in-Ok.asking in
+    record {
+      outcome = inl (record {
+        number_is = refl;
+        config = found.config;
+        room = found.room;
+        asking = c.in-Ok.asking;
+        is = found.ok;
+        work = due.0;
+        work_is = due.1.work_is;
+        kind = is_kind p.erases c.kind_of-ask.result c.kind_of-ask.ensures;
+        piece = subst (λ (s : Step). IsPiece (steps_in l due.0) due.0.done s) (sym same) (says.piece due.0 due.1.work_is);
+        some = says.most.some;
+        most = λ is. says.most.programs (programs p.erases c.kind_of-ask.result c.kind_of-ask.ensures is);
+        sector = subst (λ (n : ℕ). IsSound n (by_number c.kind_of-ask.result p.at p.len c.next.new.out)) found.ok.set_up.sector_is
+            (subst (λ (s : Step). IsSound l.sector.size s) (sym same) says.sector);
+        spare = says.spare;
+      });
+    }

@@ -1,0 +1,56 @@
+-- A board as a program in C has it, all as bytes and numbers.
+use Rattle.std.specs.Prelude.{◌≡◌, ℕ, ℤ, List, []}
+use Rattle.dfu_wire.specs.declared.states.State.{State}
+use Rattle.dfu_slots.specs.Medium.{MediumState}
+use Rattle.dfu_device.specs.declared.mode.Mode.{Mode}
+use Rattle.dfu_device.specs.Stage.{state_of}
+use Rattle.dfu_device.specs.Parts.{stage_of}
+use Rattle.dfu_asks.specs.Mapped.{mapped}
+use Rattle.dfu_device_c.specs.declared.config.DfuConfig.{DfuConfig}
+use Rattle.dfu_device_c.specs.declared.record.DfuRecord.{DfuRecord}
+use Rattle.dfu_device_c.specs.Config.{grain_of}
+use Rattle.dfu_device_c.specs.Mode.{HasMode}
+
+-- A board in C: its configuration, the record, the bytes in the memory of the block, and those of its flash.
+pub record CoreBoard : Type 0 where
+  pub config : DfuConfig
+  pub kept : DfuRecord
+  pub block : List ℕ
+  pub flash : List ℕ
+
+-- Its flash as a medium, of which any write may fail.
+abbrev pub flash_of : CoreBoard → MediumState
+flash_of b = mapped (grain_of b.config) b.flash
+
+-- It is in this state of the standard, as dfu_core_state tells it.
+pub record IsIn (b : CoreBoard) (state : State) : Type 0 where
+  pub mode : Mode
+  pub has_mode : HasMode b.kept mode
+  pub state_is : state_of (stage_of mode [] []) ≡ state
+
+-- What may happen to it. The bytes `out` are those of the call's buffer before the call.
+pub data CoreEvent : Type 0 where
+  -- The calls dfu_core_handle, dfu_core_elapse and dfu_core_usb_reset.
+  CoreHandle : (setup body out : List ℕ) → CoreEvent
+  CoreElapse : (ms : ℕ) → CoreEvent
+  CoreReset : CoreEvent
+  -- The call dfu_core_too_long, for this setup with this body, which the memory of the block need not hold.
+  CoreTooLong : (setup body : List ℕ) → CoreEvent
+  -- The flash changes in the range of the write that dfu_core_next hands out.
+  CoreWrite : CoreEvent
+  -- The call dfu_core_took.
+  CoreTook : (failed : ℕ) (out : List ℕ) → CoreEvent
+  -- The power goes, and comes back: dfu_core_power_on, which answers 0.
+  CoreRestart : CoreEvent
+
+-- A step of a board in C: an event, the number that the call answers, and the bytes of its buffer then.
+pub record CoreStep : Type 0 where
+  pub before : CoreBoard
+  pub event : CoreEvent
+  pub number : ℤ
+  pub out : List ℕ
+  pub after : CoreBoard
+
+-- The board in C of these parts.
+abbrev pub board : DfuConfig → DfuRecord → (block flash : List ℕ) → CoreBoard
+board c r block flash = record { config = c; kept = r; block = block; flash = flash }

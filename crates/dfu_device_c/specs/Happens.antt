@@ -1,0 +1,99 @@
+-- What may come of a step of a board in C: what the clauses of a call say, and what may become of its flash.
+use Rattle.std.specs.Prelude.{◌≡◌, ◌⊎◌, ◌==◌, ◌≤◌, not, ℕ, ℤ, pos, List, [], ◌∷◌, length, None}
+use Rattle.dfu_slots.specs.Medium.{Torn}
+use Rattle.dfu_device.specs.declared.mode.Mode.TheVariants.{AppIdle}
+use Rattle.dfu_device.specs.declared.answer.Answer.TheVariants as answer
+use Rattle.dfu_device.specs.Rows.{Handles, Elapses}
+use Rattle.dfu_device.specs.Table.{reset_stage}
+use Rattle.dfu_device.specs.Lent.{answer_room}
+use Rattle.dfu_asks.specs.Asks.{device_in}
+use Rattle.dfu_device_c.specs.declared.ask.DfuAsk.{DfuAsk}
+use Rattle.dfu_device_c.specs.Config.{setting_of, transfer_of}
+use Rattle.dfu_device_c.specs.Addressed.{addressed}
+use Rattle.dfu_device_c.specs.Kept.{with_memory}
+use Rattle.dfu_device_c.specs.Numbers.{reply_number, STALL, NOT_LONG}
+use Rattle.dfu_device_c.specs.Calls.{Goes, Replied, Passed, Went, Refuses, HasNoRoom, IsIntact}
+use Rattle.dfu_device_c.specs.Writes.{step_of, HandsOut, RefusesPiece, IsAtWork}
+use Rattle.dfu_device_c.specs.Power.{Powers}
+use Rattle.dfu_device_c.specs.Idle.{IsIdle, RefusesSetup}
+use Rattle.dfu_device_c.specs.Verdict.{IsBodyOf}
+use Rattle.dfu_device_c.specs.AfterLong.{IsLong}
+use Rattle.dfu_device_c.specs.Long.{TakesLong}
+use Rattle.dfu_device_c.specs.Board.{CoreBoard, CoreEvent, CoreHandle, CoreElapse, CoreReset, CoreTooLong, CoreWrite, CoreTook, CoreRestart, CoreStep}
+
+-- A call leaves the configuration and the flash as they were.
+pub record IsCalled (b b' : CoreBoard) : Type 0 where
+  pub config : b'.config ≡ b.config
+  pub flash : b'.flash ≡ b.flash
+
+-- What the clause of dfu_core_handle says, with this setup, body and buffer.
+abbrev pub Handled : CoreBoard → (setup body out : List ℕ) → ℤ → List ℕ → CoreBoard → Type 0
+Handled b setup body out n out' b' =
+    Goes b.config b.kept b.block b'.kept b'.block (λ a a'. let before = with_memory b.kept b.block a in
+    Replied (IsIntact b.kept b.block b.flash a) before b.flash out
+    (λ x sent d'. Handles (addressed b.config.interface setup) body (device_in before b.flash) x sent d') reply_number n
+    (with_memory b'.kept b'.block a') out')
+    ⊎ (Refuses b.config b.kept b.block b.flash n b'.kept b'.block × (out' ≡ out))
+    ⊎ HasNoRoom (answer_room (setting_of b.config)) b.kept b.block out n b'.kept b'.block out'
+
+-- What the clause of dfu_core_elapse says, with so many milliseconds.
+abbrev pub Elapsed : CoreBoard → (ms : ℕ) → ℤ → CoreBoard → Type 0
+Elapsed b ms n b' =
+    Goes b.config b.kept b.block b'.kept b'.block (λ a a'. let before = with_memory b.kept b.block a in
+    Passed (IsIntact b.kept b.block b.flash a) before b.flash
+    (λ x sent d'. (x ≡ answer.Ack) × (sent ≡ []) × Elapses ms (device_in before b.flash) d') n (with_memory b'.kept b'.block a'))
+    ⊎ Refuses b.config b.kept b.block b.flash n b'.kept b'.block
+
+-- What the clause of dfu_core_usb_reset says.
+abbrev pub Reset : CoreBoard → ℤ → CoreBoard → Type 0
+Reset b n b' =
+    Goes b.config b.kept b.block b'.kept b'.block (λ a a'. let before = device_in (with_memory b.kept b.block a) b.flash in
+    (a.work ≡ None) × (n ≡ pos 0) × (a'.work ≡ None)
+    × (device_in (with_memory b'.kept b'.block a') b.flash ≡ record before { stage = reset_stage before.stage })
+    × (IsIntact b.kept b.block b.flash a → IsIntact b'.kept b'.block b.flash a'))
+    ⊎ Refuses b.config b.kept b.block b.flash n b'.kept b'.block
+
+-- What the clause of dfu_core_too_long says, with this setup.
+abbrev pub TookLong : CoreBoard → (setup : List ℕ) → ℤ → CoreBoard → Type 0
+TookLong b setup n b' =
+    let own = addressed b.config.interface setup in
+    ((n ≡ STALL) × IsIdle b.config b.kept × IsLong b.config own × TakesLong b.config b.kept own b'.kept)
+    ⊎ ((b'.kept ≡ b.kept) × (((n ≡ NOT_LONG) × IsIdle b.config b.kept × ¬ IsLong b.config own) ⊎ RefusesSetup b.config b.kept n))
+
+-- What the clause of dfu_core_took says, with this number for a failure and this buffer.
+abbrev pub Told : CoreBoard → (failed : ℕ) (out : List ℕ) → ℤ → List ℕ → CoreBoard → Type 0
+Told b failed out n out' b' =
+    Goes b.config b.kept b.block b'.kept b.block
+    (λ a a'. Went (with_memory b.kept b.block a) b.flash (not (failed == 0)) out n (with_memory b'.kept b.block a') out')
+    ⊎ (RefusesPiece b.config b.kept b.block (λ a. ¬ IsAtWork (with_memory b.kept b.block a)) n × (b'.kept ≡ b.kept) × (out' ≡ out))
+    ⊎ HasNoRoom 6 b.kept b.block out n b'.kept b.block out'
+
+-- The flash changes in the range of a write that dfu_core_next hands out, and nowhere else. Any bytes may stand there then: the write may
+-- be carried out, whole or in part, or fail, or lie.
+pub record IsWritten (b : CoreBoard) (n : ℤ) (b' : CoreBoard) : Type 0 where
+  pub ask : DfuAsk
+  pub handed : HandsOut b.config b.kept b.block b.flash n ask
+  pub torn : Torn b.flash (step_of ask).write.at (step_of ask).write.bytes b'.flash
+  pub config : b'.config ≡ b.config
+  pub kept : b'.kept ≡ b.kept
+  pub block : b'.block ≡ b.block
+
+-- What comes of an event. If the power goes, the flash stays as it stands, and the memory of the block may hold anything.
+abbrev pub CoreHappens : CoreBoard → CoreEvent → ℤ → List ℕ → CoreBoard → Type 0
+CoreHappens b (CoreHandle setup body out) n out' b' = IsCalled b b' × Handled b setup body out n out' b'
+CoreHappens b (CoreElapse ms) n out' b' = IsCalled b b' × Elapsed b ms n b'
+CoreHappens b CoreReset n out' b' = IsCalled b b' × Reset b n b'
+CoreHappens b (CoreTooLong setup body) n out' b' = IsCalled b b' × (b'.block ≡ b.block) × (transfer_of b.config ≤ length b.block)
+    × IsBodyOf (addressed b.config.interface setup) body × TookLong b setup n b'
+CoreHappens b CoreWrite n out' b' = IsWritten b n b'
+CoreHappens b (CoreTook failed out) n out' b' = IsCalled b b' × (b'.block ≡ b.block) × Told b failed out n out' b'
+CoreHappens b CoreRestart n out' b' = IsCalled b b' × Powers b.config AppIdle b.flash n b'.kept
+
+-- These steps come to a board in C, each beginning where the one before ended.
+abbrev pub IsCoreRun : CoreBoard → List CoreStep → CoreBoard → Type 0
+IsCoreRun b [] b' = b' ≡ b
+IsCoreRun b (s ∷ rest) b' = (s.before ≡ b) × CoreHappens b s.event s.number s.out s.after × IsCoreRun s.after rest b'
+
+-- It just got power: dfu_core_power_on made its record of this flash.
+abbrev pub IsCoreOn : CoreBoard → Type 0
+IsCoreOn b = Powers b.config AppIdle b.flash (pos 0) b.kept

@@ -1,0 +1,61 @@
+-- The device that asks which a record is.
+use Rattle.std.specs.Prelude.{◌≡◌, ◌+◌, ◌^◌, ◌<◌, ℕ, Bool, true, false, List, Option, Some, None}
+use Rattle.dfu_slots.specs.declared.unit.Unit.{Unit as WriteUnit}
+use Rattle.dfu_device.specs.Setting.{Setting}
+use Rattle.dfu_asks.specs.declared.sector.Sector.{Sector}
+use Rattle.dfu_asks.specs.declared.job.Job.{Job}
+use Rattle.dfu_asks.specs.declared.job.Job.TheVariants as job
+use Rattle.dfu_asks.specs.declared.work.Work.{Work}
+use Rattle.dfu_asks.specs.declared.asking.Asking.{Asking}
+use Rattle.dfu_asks.specs.declared.noted.Noted.{Noted}
+use Rattle.dfu_asks.specs.Lent.{LentAsking, lent}
+use Rattle.dfu_device_c.specs.declared.config.DfuConfig.{DfuConfig}
+use Rattle.dfu_device_c.specs.declared.record.DfuRecord.{DfuRecord}
+use Rattle.dfu_device_c.specs.Config.{setting_of, unit_of}
+use Rattle.dfu_device_c.specs.Mode.{HasMode}
+
+-- This number is 1 for a yes, and 0 for a no.
+abbrev pub IsFlag : Bool → ℕ → Type 0
+IsFlag true n = n ≡ 1
+IsFlag false n = n ≡ 0
+
+-- The record has the numbers of this job.
+abbrev pub HasJob : DfuRecord → Job → Type 0
+HasJob r (job.Block spare close) = (r.work ≡ 1) × (spare ≡ r.spare) × IsFlag close r.close
+HasJob r (job.Commit spare generation register) =
+    (r.work ≡ 2) × (spare ≡ r.spare) × (generation ≡ r.generation) × (register ≡ r.sum)
+
+-- This number is that of a GETSTATUS that waits, or of none.
+abbrev pub IsAsked : ℕ → Option ℕ → Type 0
+IsAsked n None = n ≡ 0
+IsAsked n (Some len) = (n ≡ len + 1) × (len < 2 ^ 16)
+
+-- The record has this work, or none.
+abbrev pub HasWork : DfuRecord → Option Work → Type 0
+HasWork r None = r.work ≡ 0
+HasWork r (Some w) = HasJob r w.job × IsAsked r.asked w.asked × (w.done ≡ r.done)
+
+-- The record notes this of the active image.
+pub record HasNote (r : DfuRecord) (n : Noted) : Type 0 where
+  pub second : IsFlag n.second r.slot
+  pub header : n.header ≡ r.header
+
+-- These are the setting, the unit and the sectors of a configuration.
+pub record IsSetUp (c : DfuConfig) (config : Setting) (unit : WriteUnit) (sector : Sector) : Type 0 where
+  pub config_is : config ≡ setting_of c
+  pub unit_is : unit ≡ unit_of c
+  pub sector_is : sector.size ≡ c.sector
+
+-- The record is this device that asks.
+pub record IsKept (c : DfuConfig) (r : DfuRecord) (a : Asking) : Type 0 where
+  pub set_up : IsSetUp c a.config a.unit a.sector
+  pub mode : HasMode r a.mode
+  pub block : a.block_len ≡ r.length
+  pub held : a.held_len ≡ r.held_length
+  pub end : a.put_end ≡ r.put_end
+  pub noted : HasNote r a.noted
+  pub work : HasWork r a.work
+
+-- The device with these bytes in the memory of its block, and those in its record that are held back.
+abbrev pub with_memory : DfuRecord → List ℕ → Asking → LentAsking
+with_memory r block a = lent a block r.held

@@ -1,0 +1,68 @@
+-- Which step of a board a step in C is.
+use Rattle.std.specs.Prelude.{◌≡◌, ◌⊎◌, ◌==◌, not, ℕ, ℤ, pos, List, [], ◌∷◌, take}
+use Rattle.dfu_asks.specs.declared.asking.Asking.{Asking}
+use Rattle.dfu_board.specs.Board.{Board, Event, Handle, Elapse, UsbReset, Write, Report, Restart, Says, Nothing, WritesDue, Answers, BoardStep}
+use Rattle.dfu_device_c.specs.declared.config.DfuConfig.{DfuConfig}
+use Rattle.dfu_device_c.specs.declared.refusal.Refusal.{Refusal}
+use Rattle.dfu_device_c.specs.Addressed.{addressed}
+use Rattle.dfu_device_c.specs.Kept.{IsKept}
+use Rattle.dfu_device_c.specs.Numbers.{refusal_number, answer_number, ASKS, NO_ROOM, NOT_LONG}
+use Rattle.dfu_device_c.specs.Board.{CoreBoard, CoreEvent, CoreHandle, CoreElapse, CoreReset, CoreTooLong, CoreWrite, CoreTook, CoreRestart, CoreStep}
+
+-- The board that a board in C is, if its record is this device.
+abbrev pub board_of : CoreBoard → Asking → Board
+board_of b a = record { asking = a; block = b.block; held = b.kept.held; flash = b.flash }
+
+-- A board is what a board in C is.
+pub record IsBoardOf (b : CoreBoard) (x : Board) : Type 0 where
+  pub kept : IsKept b.config b.kept x.asking
+  pub is : x ≡ board_of b x.asking
+
+-- The event that one in C is: a setup is addressed, and a number that is not 0 says that a write failed.
+abbrev pub event_of : DfuConfig → CoreEvent → Event
+event_of c (CoreHandle setup body out) = Handle (addressed c.interface setup) body
+event_of c (CoreElapse ms) = Elapse ms
+event_of c CoreReset = UsbReset
+event_of c (CoreTooLong setup body) = Handle (addressed c.interface setup) body
+event_of c CoreWrite = Write
+event_of c (CoreTook failed out) = Report (not (failed == 0))
+event_of c CoreRestart = Restart
+
+-- A call with this number was refused.
+abbrev pub IsRefusal : ℤ → Type 0
+IsRefusal n = (n ≡ NO_ROOM) ⊎ (n ≡ NOT_LONG) ⊎ ((e : Refusal) × (n ≡ refusal_number e))
+
+-- The number of a call, with these bytes in its buffer then, says this: it was refused; or writes are due; or it is the answer's number,
+-- and the bytes stand at the front of the buffer.
+abbrev pub NumberSays : ℤ → List ℕ → Says → Type 0
+NumberSays n out Nothing = IsRefusal n
+NumberSays n out WritesDue = n ≡ ASKS
+NumberSays n out (Answers a bytes) = (count : ℕ) × (n ≡ answer_number a count) × (bytes ≡ take count out)
+
+-- The same of time that passed, and of a reset of the bus: an answer is 0.
+abbrev pub PassedSays : ℤ → Says → Type 0
+PassedSays n Nothing = IsRefusal n
+PassedSays n WritesDue = n ≡ ASKS
+PassedSays n (Answers a bytes) = n ≡ pos 0
+
+-- The number of an event says this.
+abbrev pub EventSays : CoreEvent → ℤ → List ℕ → Says → Type 0
+EventSays (CoreHandle setup body out) n out' says = NumberSays n out' says
+EventSays (CoreElapse ms) n out' says = PassedSays n says
+EventSays CoreReset n out' says = PassedSays n says
+EventSays (CoreTooLong setup body) n out' says = NumberSays n [] says
+EventSays (CoreTook failed out) n out' says = NumberSays n out' says
+EventSays e n out' says = (n ≡ pos 0) × (says ≡ Nothing)
+
+-- A step in C is this step of a board.
+pub record IsStepOf (s : CoreStep) (t : BoardStep) : Type 0 where
+  pub before : IsBoardOf s.before t.before
+  pub event : t.event ≡ event_of s.before.config s.event
+  pub says : EventSays s.event s.number s.out t.says
+  pub after : IsBoardOf s.after t.after
+
+-- The steps in C are these steps of a board, one by one.
+abbrev pub AreStepsOf : List CoreStep → List BoardStep → Type 0
+AreStepsOf [] [] = Unit {0}
+AreStepsOf (s ∷ ss) (t ∷ ts) = IsStepOf s t × AreStepsOf ss ts
+AreStepsOf ss ts = ⊥

@@ -1,0 +1,62 @@
+-- The writes that a program in C is asked for.
+use Rattle.std.specs.Prelude.{◌≡◌, ◌⊎◌, ◌==◌, ◌^◌, ℕ, ℤ, pos, ◌<◌, ◌≤◌, List, length, take, replicate, Some, if◌then◌else◌}
+use Rattle.dfu_slots.specs.Image.{Active}
+use Rattle.dfu_slots.specs.Seen.{SlotsState}
+use Rattle.dfu_asks.specs.declared.asking.Asking.{Asking}
+use Rattle.dfu_asks.specs.declared.work.Work.{Work}
+use Rattle.dfu_asks.specs.Mapped.{grain_of, mapped, IsInSpare}
+use Rattle.dfu_asks.specs.Steps.{Step}
+use Rattle.dfu_asks.specs.Carried.{IsPiece, IsSound}
+use Rattle.dfu_asks.specs.Asks.{steps_in}
+use Rattle.dfu_asks.specs.Lent.{LentAsking}
+use Rattle.dfu_asks.specs.Calls.{Asks}
+use Rattle.dfu_device_c.specs.declared.ask.DfuAsk.{DfuAsk}
+use Rattle.dfu_device_c.specs.declared.config.DfuConfig.{DfuConfig}
+use Rattle.dfu_device_c.specs.declared.record.DfuRecord.{DfuRecord}
+use Rattle.dfu_device_c.specs.declared.refusal.Refusal.{Refusal}
+use Rattle.dfu_device_c.specs.Config.{transfer_of, IsConfig}
+use Rattle.dfu_device_c.specs.Kept.{IsKept, with_memory}
+use Rattle.dfu_device_c.specs.Calls.{IsUnfound}
+use Rattle.dfu_device_c.specs.Numbers.{refusal_number, NO_DEVICE}
+
+-- The step that is asked for: kind 1 erases so many bytes there, and any other programs these.
+abbrev pub step_of : DfuAsk → Step
+step_of ask = record {
+  erases = ask.kind == 1;
+  write = record { at = ask.at; bytes = if ask.kind == 1 then replicate ask.length 255 else take ask.length ask.bytes };
+}
+
+-- The next write that is due was handed out.
+pub record HandsOut (c : DfuConfig) (r : DfuRecord) (block flash : List ℕ) (result : ℤ) (ask : DfuAsk) : Type 0 where
+  pub number_is : result ≡ pos 0
+  pub config : IsConfig c
+  pub room : transfer_of c ≤ length block
+  pub asking : Asking
+  pub is : IsKept c r asking
+  pub work : Work
+  pub work_is : asking.work ≡ Some work
+  pub kind : (ask.kind ≡ 1) ⊎ (ask.kind ≡ 2)
+  pub piece : IsPiece (steps_in (with_memory r block asking) work) work.done (step_of ask)
+  pub some : 0 < ask.length
+  pub most : ask.kind ≡ 2 → ask.length ≤ 256
+  pub sector : IsSound c.sector (step_of ask)
+  pub spare : (image : List ℕ) → Active (mapped (grain_of asking.unit asking.sector) flash) image
+      → IsInSpare (mapped (grain_of asking.unit asking.sector) flash) ask.at ask.length
+
+-- It asks for the writes of a row, of which those before the next one are carried out on this flash.
+abbrev pub IsAsking : LentAsking → List ℕ → Type 0
+IsAsking a flash = (len : ℕ) × (s : SlotsState) × (was : List ℕ) × Asks a len s was flash
+
+-- No write is handed out: it does not ask for any on this flash, or the flash has 2^32 bytes or more.
+abbrev pub IsHeldBack : LentAsking → List ℕ → Type 0
+IsHeldBack a flash = ¬ IsAsking a flash ⊎ 2 ^ 32 ≤ length flash
+
+-- So it is on some flash.
+abbrev pub IsAtWork : LentAsking → Type 0
+IsAtWork a = (flash : List ℕ) × IsAsking a flash
+
+-- There is no device that asks; or else it is refused with DFU_NO_DEVICE, for this.
+pub data RefusesPiece (c : DfuConfig) (r : DfuRecord) (block : List ℕ) (Why : Asking → Type 0) (result : ℤ) : Type 0 where
+  refuses_unfound : (e : Refusal) → result ≡ refusal_number e → IsUnfound e c r (length block) → RefusesPiece c r block Why result
+  refuses_piece : (a : Asking) → result ≡ NO_DEVICE → IsConfig c → transfer_of c ≤ length block → IsKept c r a → Why a
+      → RefusesPiece c r block Why result

@@ -1,0 +1,85 @@
+//! The format that a record is, by its numbers.
+ghost use Rattle.std.specs.Prelude.{◌≡◌, IfSome, IfNone};
+ghost use Rattle.dfu_asks.specs.declared.phase.Phase.{Phase as Part};
+ghost use Rattle.dfu_asks.specs.declared.formatting.Formatting.{Formatting as Going};
+ghost use Rattle.dfu_device_c.specs.declared.config.DfuConfig.{DfuConfig as Given};
+ghost use Rattle.dfu_device_c.specs.Kept.{IsSetUp};
+ghost use Rattle.dfu_device_c.specs.Formatting.{FORMAT, HasPhase, IsFormatting};
+
+use crate::config::Settings;
+use crate::record::DfuRecord;
+use dfu_asks::{Formatting, Phase};
+
+/// What is due of a record if that is a format.
+pub(crate) const WORK: u32 = 3;
+
+// The part of a format by its number, and where the image goes on.
+fn phase_of(number: u8, from: u32) -> Option<Phase>
+    ensures some { IfSome result (λ phase. HasPhase number from phase) }
+    ensures none { IfNone result ((phase : Part) → ¬ HasPhase number from phase) }
+{
+    match number {
+        0 => Some(Phase::CloseSecond),
+        1 => Some(Phase::CloseFirst),
+        2 => Some(Phase::Image { from }),
+        3 => Some(Phase::Header),
+        4 => Some(Phase::Gate),
+        5 => Some(Phase::Ended),
+        _ => None,
+    }
+}
+
+/// The format that a record is, if it is one.
+pub(crate) fn formatting_of(settings: &Settings, kept: &DfuRecord) -> Option<Formatting>
+    ensures some { IfSome result (λ f. (c : Given) → IsSetUp c settings.now.config settings.now.unit settings.now.sector
+        → IsFormatting c kept.now f) }
+    ensures none { IfNone result ((c : Given) (f : Going) → ¬ IsFormatting c kept.now f) }
+{
+    if kept.work != WORK {
+        return None;
+    }
+    let phase = phase_of(kept.generation, kept.spare)?;
+    Some(Formatting {
+        unit: settings.unit,
+        sector: settings.sector,
+        register: kept.sum,
+        phase,
+        done: kept.done,
+    })
+}
+
+// The number of a part of a format, and where the image goes on.
+fn numbers_of(phase: Phase) -> (u8, u32)
+    ensures { HasPhase result.0 result.1 phase }
+{
+    match phase {
+        Phase::CloseSecond => (0, 0),
+        Phase::CloseFirst => (1, 0),
+        Phase::Image { from } => (2, from),
+        Phase::Header => (3, 0),
+        Phase::Gate => (4, 0),
+        Phase::Ended => (5, 0),
+    }
+}
+
+/// Keeps a format in its record.
+pub(crate) fn keep_format(formatting: &Formatting, kept: &mut DfuRecord)
+    ensures work { kept.new.work ≡ FORMAT }
+    ensures sum { kept.new.sum ≡ formatting.now.register }
+    ensures done { kept.new.done ≡ formatting.now.done }
+    ensures phase { HasPhase kept.new.generation kept.new.spare formatting.now.phase }
+    ensures others { kept.new ≡ record kept.old {
+      work = kept.new.work;
+      spare = kept.new.spare;
+      sum = kept.new.sum;
+      done = kept.new.done;
+      generation = kept.new.generation;
+    } }
+{
+    let (number, from) = numbers_of(formatting.phase);
+    kept.work = WORK;
+    kept.sum = formatting.register;
+    kept.done = formatting.done;
+    kept.generation = number;
+    kept.spare = from;
+}

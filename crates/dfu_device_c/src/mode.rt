@@ -1,0 +1,122 @@
+//! The mode of a record, by its numbers.
+ghost use Rattle.std.specs.Prelude.{◌≡◌, IfSome, IsTrue, Some, not};
+ghost use Rattle.dfu_wire.specs.Code.{code_byte};
+ghost use Rattle.dfu_device_c.specs.Mode.{HasMode, HasNumbers};
+
+use crate::record::DfuRecord;
+use crate::version::VERSION;
+use dfu_device::Mode;
+use dfu_wire::Code;
+
+// The code of this number.
+fn code_of(number: u16) -> Option<Code>
+    ensures some { IfSome result (λ c. code_byte c ≡ number) }
+    ensures only { (c : Code) → code_byte c ≡ number → result ≡ Some c }
+{
+    if number > 15 {
+        return None;
+    }
+    match Code::from_byte(number as u8) {
+        Ok(code) => Some(code),
+        Err(_) => None,
+    }
+}
+
+/// The mode of a record, if it is of this version and has one.
+#[inline(never)]
+pub(crate) fn mode_of(kept: &DfuRecord) -> Option<Mode>
+    ensures some { IfSome result (λ m. HasMode kept.now m) }
+    ensures only { (m : Mode) → HasMode kept.now m → result ≡ Some m }
+{
+    if kept.version != VERSION {
+        return None;
+    }
+    // As a download keeps them.
+    let (written, passed, number) = (kept.first, kept.second, kept.number);
+    let mode = match kept.mode {
+        0 => Mode::AppIdle,
+        1 => Mode::AppDetach {
+            timer: kept.first,
+            passed,
+        },
+        2 => Mode::DfuIdle,
+        3 => Mode::DownloadSync { written, number },
+        4 => Mode::DownloadSyncWritten { written, number },
+        5 => Mode::DownloadBusy {
+            written,
+            number,
+            passed,
+        },
+        6 => Mode::DownloadIdle { written, number },
+        7 => Mode::ManifestSync { written },
+        8 => Mode::ManifestSyncComplete,
+        9 => Mode::Manifest { written, passed },
+        10 => Mode::ManifestWaitReset,
+        11 => Mode::UploadIdle {
+            place: kept.first,
+            number,
+        },
+        12 => match code_of(number) {
+            Some(code) => Mode::Error { code },
+            None => return None,
+        },
+        _ => return None,
+    };
+    Some(mode)
+}
+
+/// Whether a record has a mode.
+pub(crate) fn has_mode(kept: &DfuRecord) -> bool
+    ensures one { IsTrue result → (m : Mode) × HasMode kept.now m }
+    ensures none { IsTrue (not result) → (m : Mode) → ¬ HasMode kept.now m }
+{
+    match mode_of(kept) {
+        Some(_) => true,
+        None => false,
+    }
+}
+
+// The numbers of a mode: its own, `first`, `second` and `number`.
+fn numbers_of(mode: Mode) -> (u32, u32, u32, u16)
+    ensures { (r : DfuRecord) → r.mode ≡ result.0 → r.first ≡ result.1 → r.second ≡ result.2 → r.number ≡ result.3 → HasNumbers r mode }
+{
+    match mode {
+        Mode::AppIdle => (0, 0, 0, 0),
+        Mode::AppDetach { timer, passed } => (1, timer, passed, 0),
+        Mode::DfuIdle => (2, 0, 0, 0),
+        Mode::DownloadSync { written, number } => (3, written, 0, number),
+        Mode::DownloadSyncWritten { written, number } => (4, written, 0, number),
+        Mode::DownloadBusy {
+            written,
+            number,
+            passed,
+        } => (5, written, passed, number),
+        Mode::DownloadIdle { written, number } => (6, written, 0, number),
+        Mode::ManifestSync { written } => (7, written, 0, 0),
+        Mode::ManifestSyncComplete => (8, 0, 0, 0),
+        Mode::Manifest { written, passed } => (9, written, passed, 0),
+        Mode::ManifestWaitReset => (10, 0, 0, 0),
+        Mode::UploadIdle { place, number } => (11, place, 0, number),
+        Mode::Error { code } => (12, 0, 0, u16::from(code.byte())),
+    }
+}
+
+/// Writes a mode into a record.
+#[inline(never)]
+pub(crate) fn set_mode(kept: &mut DfuRecord, mode: Mode)
+    ensures mode { HasMode kept.new mode }
+    ensures others { kept.new ≡ record kept.old {
+      version = kept.new.version;
+      mode = kept.new.mode;
+      first = kept.new.first;
+      second = kept.new.second;
+      number = kept.new.number;
+    } }
+{
+    let (own, first, second, number) = numbers_of(mode);
+    kept.version = VERSION;
+    kept.mode = own;
+    kept.first = first;
+    kept.second = second;
+    kept.number = number;
+}

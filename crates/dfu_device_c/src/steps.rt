@@ -1,0 +1,84 @@
+//! Each call is a step of a board in C. Each function makes the call of its name and nothing else; its contract says which step that is,
+//! from the call's contract alone.
+ghost use Rattle.std.specs.Prelude.{◌≡◌, ◌≤◌, ℕ, List, [], length, pos};
+ghost use Rattle.dfu_device_c.specs.Board.{CoreHandle, CoreElapse, CoreReset, CoreTooLong, CoreTook, board};
+ghost use Rattle.dfu_device_c.specs.Happens.{CoreHappens, IsCoreOn};
+ghost use Rattle.dfu_device_c.specs.Config.{transfer_of};
+ghost use Rattle.dfu_device_c.specs.Addressed.{addressed};
+ghost use Rattle.dfu_device_c.specs.Verdict.{IsBodyOf};
+
+use crate::config::DfuConfig;
+use crate::exports::{dfu_core_elapse, dfu_core_handle, dfu_core_usb_reset};
+use crate::long::dfu_core_too_long;
+use crate::power::dfu_core_power_on;
+use crate::record::DfuRecord;
+use crate::writes::dfu_core_took;
+
+/// `dfu_core_handle` is a step of a board in C.
+pub fn handle(
+    config: &DfuConfig,
+    device: &mut DfuRecord,
+    block: &mut [u8],
+    flash: &[u8],
+    setup: &[u8; 8],
+    body: &[u8],
+    out: &mut [u8],
+) -> i32
+    ensures step { CoreHappens (board config.now device.old block.old flash.now) (CoreHandle setup.now body.now out.old) result out.new
+        (board config.now device.new block.new flash.now) }
+{
+    dfu_core_handle(config, device, block, flash, setup, body, out)
+}
+
+/// `dfu_core_elapse` is a step of a board in C.
+pub fn elapse(
+    config: &DfuConfig,
+    device: &mut DfuRecord,
+    block: &mut [u8],
+    flash: &[u8],
+    ms: u32,
+) -> i32
+    ensures step { CoreHappens (board config.now device.old block.old flash.now) (CoreElapse ms) result []
+        (board config.now device.new block.new flash.now) }
+{
+    dfu_core_elapse(config, device, block, flash, ms)
+}
+
+/// `dfu_core_usb_reset` is a step of a board in C.
+pub fn usb_reset(config: &DfuConfig, device: &mut DfuRecord, block: &mut [u8], flash: &[u8]) -> i32
+    ensures step { CoreHappens (board config.now device.old block.old flash.now) CoreReset result []
+        (board config.now device.new block.new flash.now) }
+{
+    dfu_core_usb_reset(config, device, block, flash)
+}
+
+/// `dfu_core_took` is a step of a board in C.
+pub fn took(
+    config: &DfuConfig,
+    device: &mut DfuRecord,
+    block: &[u8],
+    flash: &[u8],
+    failed: u32,
+    out: &mut [u8],
+) -> i32
+    ensures step { CoreHappens (board config.now device.old block.now flash.now) (CoreTook failed out.old) result out.new
+        (board config.now device.new block.now flash.now) }
+{
+    dfu_core_took(config, device, block, flash, failed, out)
+}
+
+/// `dfu_core_too_long` is a step of a board in C whose memory of the block has room for the transfer size, with any body of wLength bytes.
+pub fn too_long(config: &DfuConfig, device: &mut DfuRecord, setup: &[u8; 8]) -> i32
+    ensures step { (block flash body : List ℕ) → transfer_of config.now ≤ length block →
+        IsBodyOf (addressed config.now.interface setup.now) body →
+        CoreHappens (board config.now device.old block flash) (CoreTooLong setup.now body) result [] (board config.now device.new block flash) }
+{
+    dfu_core_too_long(config, device, setup)
+}
+
+/// `dfu_core_power_on` makes a board in C that just got power, whatever stands in the memory of its block.
+pub fn power_on(config: &DfuConfig, device: &mut DfuRecord, flash: &[u8]) -> i32
+    ensures on { result ≡ pos 0 → (block : List ℕ) → IsCoreOn (board config.now device.new block flash.now) }
+{
+    dfu_core_power_on(config, device, flash)
+}

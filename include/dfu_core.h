@@ -1,0 +1,282 @@
+/* SPDX-License-Identifier: MIT OR Apache-2.0 */
+/**
+ * @file dfu_core.h
+ * @brief The proved device of USB DFU 1.1: types, numbers and calls. A bootloader includes dfu_device.h, which is built on this.
+ *
+ * The body is dfu_device.c, in C11, for processors of 32 or 64 bits that store the low byte of a number first. It has no state, takes
+ * no memory, and wants at most memcpy, memmove and memset of a C library. What the program owes is in dfu_device.h. If it does, each
+ * call is a row of Fustrelan's device table. Else a call takes the device that record, block and flash are now, or refuses: whatever
+ * they hold, it ends, and touches nothing but what its pointers say.
+ */
+#ifndef DFU_CORE_H
+#define DFU_CORE_H
+
+#include <stddef.h>
+#include <stdint.h>
+
+#if defined(__BYTE_ORDER__) && defined(__ORDER_LITTLE_ENDIAN__) && __BYTE_ORDER__ != __ORDER_LITTLE_ENDIAN__
+#error "dfu_device is for processors that store the low byte of a number first"
+#endif
+#if UINTPTR_MAX > 0xffffffffffffffffu
+#error "dfu_device is for pointers of at most 64 bits"
+#endif
+
+/* The version: 10,000 for each major one, 100 for each minor one, and 1 for each patch. */
+#ifndef DFU_VERSION
+#define DFU_VERSION 300
+#define DFU_VERSION_TEXT "0.3.0"
+#endif
+
+/* A cast that C++ takes too. */
+#ifdef __cplusplus
+#define DFU_TO(type, value) static_cast<type>(value)
+extern "C" {
+#else
+#define DFU_TO(type, value) ((type)(value))
+#endif
+
+/** @brief Requests, bRequest (USB DFU 1.1, section 3). */
+enum dfu_request {
+    DFU_DETACH = 0,
+    DFU_DNLOAD = 1,
+    DFU_UPLOAD = 2,
+    DFU_GETSTATUS = 3,
+    DFU_CLRSTATUS = 4,
+    DFU_GETSTATE = 5,
+    DFU_ABORT = 6
+};
+
+/** @brief States, bState (section 6.1.2). */
+enum dfu_state {
+    DFU_STATE_APP_IDLE = 0,
+    DFU_STATE_APP_DETACH = 1,
+    DFU_STATE_IDLE = 2,
+    DFU_STATE_DNLOAD_SYNC = 3,
+    DFU_STATE_DNBUSY = 4,
+    DFU_STATE_DNLOAD_IDLE = 5,
+    DFU_STATE_MANIFEST_SYNC = 6,
+    DFU_STATE_MANIFEST = 7,
+    DFU_STATE_MANIFEST_WAIT_RESET = 8,
+    DFU_STATE_UPLOAD_IDLE = 9,
+    DFU_STATE_ERROR = 10
+};
+
+/** @brief Status codes, bStatus (section 6.1.2). */
+enum dfu_status {
+    DFU_STATUS_OK = 0,
+    DFU_STATUS_ERR_TARGET = 1,
+    DFU_STATUS_ERR_FILE = 2,
+    DFU_STATUS_ERR_WRITE = 3,
+    DFU_STATUS_ERR_ERASE = 4,
+    DFU_STATUS_ERR_CHECK_ERASED = 5,
+    DFU_STATUS_ERR_PROG = 6,
+    DFU_STATUS_ERR_VERIFY = 7,
+    DFU_STATUS_ERR_ADDRESS = 8,
+    DFU_STATUS_ERR_NOTDONE = 9,
+    DFU_STATUS_ERR_FIRMWARE = 10,
+    DFU_STATUS_ERR_VENDOR = 11,
+    DFU_STATUS_ERR_USBR = 12,
+    DFU_STATUS_ERR_POR = 13,
+    DFU_STATUS_ERR_UNKNOWN = 14,
+    DFU_STATUS_ERR_STALLED_PKT = 15
+};
+
+/** @brief Bits of bmAttributes of the functional descriptor (section 4.1.3). */
+enum dfu_attribute {
+    DFU_CAN_DNLOAD = 1,
+    DFU_CAN_UPLOAD = 2,
+    DFU_MANIFESTATION_TOLERANT = 4,
+    DFU_WILL_DETACH = 8
+};
+
+/** @brief Negative results. DFU_STALL and DFU_ASKS are answers; all others are refusals, which change nothing. */
+enum dfu_result {
+    DFU_STALL = -1,       /**< stall the request; the device may be in another state now */
+    DFU_NO_CONFIG = -2,   /**< the configuration has another version, or a number that is out of its range */
+    DFU_NO_MEDIUM = -3,   /**< the flash has no active image, not the noted one, or 2^32 bytes or more */
+    DFU_NO_DEVICE = -4,   /**< the record is none of a device on that flash with that block, or of another version */
+    DFU_NO_ROOM = -5,     /**< out has less room than an answer may need: 6 bytes, or the transfer size if that is more */
+    DFU_WRONG_SIZE = -6,  /**< the flash has no length that two slots can have */
+    DFU_TOO_LARGE = -7,   /**< the image is longer than a slot's data */
+    DFU_NOT_WRITTEN = -8, /**< an operation of a format failed, or other bytes were read back */
+    DFU_NOT_LONG = -9,    /**< the host sends no more bytes with this setup than a block may have */
+    DFU_NO_BLOCK = -10,   /**< the block's memory has fewer bytes than the transfer size */
+    DFU_ASKS = -11,       /**< operations of the flash are due: next, carry it out, took, until that answers otherwise */
+    DFU_ASKED = -12       /**< operations are due, and come first */
+};
+
+/** @brief Kinds of operations of the flash. */
+enum dfu_operation {
+    DFU_ERASE = 1,  /**< the sector at `at`, of `length` bytes, is to read FFh; `bytes` says nothing */
+    DFU_PROGRAM = 2 /**< the first `length` bytes of `bytes` are to stand at `at`; with sectors FFh stands there before */
+};
+
+/** @brief What a device is set up with; the same in every call. */
+struct dfu_config {
+    uint32_t version;         /**< DFU_VERSION: an archive of another version refuses */
+    uint16_t device;          /**< bcdDevice */
+    uint16_t product;         /**< idProduct */
+    uint16_t vendor;          /**< idVendor */
+    uint16_t detach_ms;       /**< wDetachTimeOut, milliseconds */
+    uint16_t transfer;        /**< wTransferSize, bytes: 1 to 4,096 */
+    uint8_t attributes;       /**< bmAttributes: enum dfu_attribute; bits 4 to 7 are ignored */
+    uint8_t interface_number; /**< bInterfaceNumber: a setup whose wIndex is another number is stalled */
+    uint32_t busy_ms;         /**< how long a block takes to be written: 0 to 16,777,215 ms */
+    uint32_t manifest_ms;     /**< how long an image takes to be put in place: 0 to 16,777,215 ms, at least 1 if not tolerant */
+    uint32_t least;           /**< the fewest bytes of an image, 1 to 16,777,216: with more than a slot holds no download can end */
+    uint32_t unit;            /**< bytes programmed at a time: 1, 16, 64 or 256 */
+    uint32_t sector;          /**< bytes erased at a time: a multiple of 256 up to 131,072; 0: the flash is written over in place */
+};
+
+/** @brief What is kept of a device between two calls. A program reads it by dfu_core_state and dfu_core_code, and writes none of it.
+ *
+ * | mode | state                                 | first         | second   | number            |
+ * |------|---------------------------------------|---------------|----------|-------------------|
+ * | 0    | appIDLE                               |               |          |                   |
+ * | 1    | appDETACH                             | its timer, ms | ms in it |                   |
+ * | 2    | dfuIDLE                               |               |          |                   |
+ * | 3    | dfuDNLOAD-SYNC, the block not written | bytes written |          | of the next block |
+ * | 4    | dfuDNLOAD-SYNC, all written           | bytes written |          | of the next block |
+ * | 5    | dfuDNBUSY                             | bytes written | ms in it | of the next block |
+ * | 6    | dfuDNLOAD-IDLE                        | bytes written |          | of the next block |
+ * | 7    | dfuMANIFEST-SYNC, not complete        | bytes written |          |                   |
+ * | 8    | dfuMANIFEST-SYNC, complete            |               |          |                   |
+ * | 9    | dfuMANIFEST                           | bytes written | ms in it |                   |
+ * | 10   | dfuMANIFEST-WAIT-RESET                |               |          |                   |
+ * | 11   | dfuUPLOAD-IDLE                        | bytes sent    |          | of the next block |
+ * | 12   | dfuERROR                              |               |          | the status code   |
+ */
+struct dfu_record {
+    uint32_t version;     /**< DFU_VERSION of the archive */
+    uint32_t mode;        /**< 0 to 12, as above */
+    uint32_t first;       /**< as above */
+    uint32_t second;      /**< as above */
+    uint32_t put_end;     /**< how many bytes were put in the spare slot */
+    uint32_t slot;        /**< the active slot, 0 or 1 */
+    uint16_t number;      /**< as above */
+    uint16_t length;      /**< modes 3 and 5: so many bytes at the front of the block's memory are not written yet */
+    uint8_t header[16];   /**< the header of the active slot, as it stands on the flash */
+    uint32_t work;        /**< which operations are due: 0 none, 1 of a block, 2 those that put an image in place, 3 of a format */
+    uint32_t spare;       /**< of what is due: where the spare slot begins; of a format, how much of the image stands before its part */
+    uint32_t sum;         /**< of what is due: the image's register */
+    uint32_t done;        /**< of what is due: how many bytes are carried out; of a format, in its part */
+    uint32_t asked;       /**< 0, or 1 more than wLength of the GETSTATUS that waits */
+    uint8_t generation;   /**< of what is due: the image's generation; of a format its part, 0 to 4 */
+    uint8_t close;        /**< of what is due: whether the gate is closed first, 1 or 0 */
+    uint16_t held_length; /**< so many bytes at the front of held were put, and make no whole unit yet */
+    uint8_t held[256];    /**< these bytes */
+};
+
+/** @brief An operation of the flash that is due. */
+struct dfu_ask {
+    uint32_t kind;      /**< DFU_ERASE or DFU_PROGRAM */
+    uint32_t at;        /**< where: flash[at] is its first byte */
+    uint32_t length;    /**< that of a sector; or 1 to 256, whole in the unit */
+    uint8_t bytes[256]; /**< of DFU_PROGRAM */
+};
+
+/** @brief Where the active image stands: its first byte is flash[at]. */
+struct dfu_place {
+    uint32_t at;     /**< offset in the flash, bytes */
+    uint32_t length; /**< bytes; 0: there is no application */
+};
+
+/* The calls. Of the refusals that are named the first that holds is the result; a refusal changes nothing. The flash is only read. */
+
+/** @brief The device gets power: the record is that of a device in appIDLE, whatever it held.
+ * @return 0; DFU_NO_CONFIG, DFU_NO_MEDIUM */
+int32_t dfu_core_power_on(const struct dfu_config *config, struct dfu_record *record, const uint8_t *flash, size_t size);
+
+/** @brief The device gets power and begins in dfuIDLE: as dfu_core_power_on, a DETACH and a reset of the bus.
+ * @return as dfu_core_power_on */
+int32_t dfu_core_begin(const struct dfu_config *config, struct dfu_record *record, const uint8_t *flash, size_t size);
+
+/** @brief Answers a setup with its body.
+ * @param block  memory of `most` bytes, at least the transfer size, in which a block waits to be written
+ * @param body   the whole data stage, `length` bytes; of length 0 if the host reads
+ * @param out    room for the answer: at least 6 bytes and the transfer size. It is not body, and not block
+ * @return how many bytes of out are the answer, 0 if it is acknowledged or has none; DFU_STALL; DFU_ASKS;
+ *         DFU_NO_ROOM, DFU_NO_CONFIG, DFU_NO_BLOCK, DFU_NO_DEVICE (none whatever the flash), DFU_ASKED,
+ *         DFU_NO_MEDIUM (the noted header is not in an open slot of the flash), DFU_NO_DEVICE */
+int32_t dfu_core_handle(const struct dfu_config *config, struct dfu_record *record, uint8_t *block, size_t most,
+                        const uint8_t *flash, size_t size, const uint8_t setup[8], const uint8_t *body, size_t length,
+                        uint8_t *out, size_t room);
+
+/** @brief So many milliseconds pass. They count in appDETACH, dfuDNBUSY and dfuMANIFEST. A call changes the state at most once;
+ *         the rest of its time is dropped.
+ * @return 0; DFU_ASKS; the refusals of dfu_core_handle but DFU_NO_ROOM */
+int32_t dfu_core_elapse(const struct dfu_config *config, struct dfu_record *record, uint8_t *block, size_t most,
+                        const uint8_t *flash, size_t size, uint32_t ms);
+
+/** @brief The bus is reset: appDETACH leads to dfuIDLE, every other state to appIDLE.
+ * @return 0; the refusals of dfu_core_elapse */
+int32_t dfu_core_usb_reset(const struct dfu_config *config, struct dfu_record *record, uint8_t *block, size_t most,
+                           const uint8_t *flash, size_t size);
+
+/** @brief The operation that is due. It lies in the spare slot of the flash as it stands, whatever the record holds; in a whole unit or
+ *         sector if the record is as the last call left it. It may be asked for again.
+ * @return 0; DFU_NO_CONFIG, DFU_NO_BLOCK, DFU_NO_DEVICE (none is due, or the flash is not as it was left) */
+int32_t dfu_core_next(const struct dfu_config *config, const struct dfu_record *record, const uint8_t *block, size_t most,
+                      const uint8_t *flash, size_t size, struct dfu_ask *ask);
+
+/** @brief That operation was carried out, or failed if `failed` is not 0. It is read back.
+ * @return DFU_ASKS if the next one is due; the answer of the call that asked, its bytes in out;
+ *         DFU_NO_ROOM (out has less than 6 bytes), DFU_NO_CONFIG, DFU_NO_BLOCK, DFU_NO_DEVICE */
+int32_t dfu_core_took(const struct dfu_config *config, struct dfu_record *record, const uint8_t *block, size_t most,
+                      const uint8_t *flash, size_t size, uint32_t failed, uint8_t *out, size_t room);
+
+/** @brief Whether dfu_core_handle will stall this setup, whatever body of wLength bytes comes with it. The flash has size bytes.
+ * @return 1 or 0; DFU_NO_CONFIG, DFU_NO_DEVICE, DFU_ASKED */
+int32_t dfu_core_would_stall(const struct dfu_config *config, const struct dfu_record *record, size_t size, const uint8_t setup[8]);
+
+/** @brief As dfu_core_handle for a setup whose body has more than transfer bytes, without the body.
+ * @return DFU_STALL; DFU_NO_CONFIG, DFU_NO_DEVICE, DFU_ASKED, DFU_NOT_LONG */
+int32_t dfu_core_too_long(const struct dfu_config *config, struct dfu_record *record, const uint8_t setup[8]);
+
+/** @brief In how many milliseconds dfu_core_elapse changes the state.
+ * @return 1 or more, of which 2,147,483,647 says as many or more; 0 if no time changes it; DFU_NO_CONFIG; DFU_NO_DEVICE as
+ *         dfu_core_state */
+int32_t dfu_core_due(const struct dfu_config *config, const struct dfu_record *record);
+
+/** @brief The functional descriptor (section 4.1.3), for the configuration descriptor.
+ * @return 9, and out has its 9 bytes; DFU_NO_CONFIG */
+int32_t dfu_core_functional(const struct dfu_config *config, uint8_t out[9]);
+
+/** @brief The state.
+ * @return enum dfu_state; DFU_NO_DEVICE if the version, the mode, or the number in mode 12 is out of its range */
+int32_t dfu_core_state(const struct dfu_record *record);
+
+/** @brief The status code, which is DFU_STATUS_OK in every state but dfuERROR.
+ * @return enum dfu_status; DFU_NO_DEVICE as dfu_core_state */
+int32_t dfu_core_code(const struct dfu_record *record);
+
+/** @brief Where the active image stands, until the next one is put in place.
+ * @return 0; DFU_NO_CONFIG, DFU_NO_MEDIUM */
+int32_t dfu_core_image(const struct dfu_config *config, const uint8_t *flash, size_t size, struct dfu_place *place);
+
+/** @brief Begins a format: the image, of 0 bytes or more, is to go into the first slot, whatever stands on the flash. Until it ends the
+ *         other calls are refused with DFU_ASKED. The image is the same in all three calls: the record keeps no pointer.
+ * @return DFU_ASKS; DFU_NO_CONFIG, DFU_NO_MEDIUM (2^32 bytes or more), DFU_WRONG_SIZE, DFU_TOO_LARGE */
+int32_t dfu_core_format_start(const struct dfu_config *config, struct dfu_record *record, const uint8_t *flash, size_t size,
+                              const uint8_t *image, size_t length);
+
+/** @brief The operation of the format that is due. It lies within the flash, whatever the record holds.
+ * @return 0; DFU_NO_CONFIG, DFU_NO_DEVICE (none is due) */
+int32_t dfu_core_format_next(const struct dfu_config *config, const struct dfu_record *record, const uint8_t *flash, size_t size,
+                             const uint8_t *image, size_t length, struct dfu_ask *ask);
+
+/** @brief That operation was carried out, or failed if `failed` is not 0. It is read back.
+ * @return DFU_ASKS if the next one is due; 0 if the image is active; DFU_NOT_WRITTEN, and none is due any more;
+ *         DFU_NO_CONFIG, DFU_NO_DEVICE */
+int32_t dfu_core_format_took(const struct dfu_config *config, struct dfu_record *record, const uint8_t *flash, size_t size,
+                             const uint8_t *image, size_t length, uint32_t failed);
+
+/** @brief The version of the archive.
+ * @return DFU_VERSION, if header and archive belong together */
+int32_t dfu_core_version(void);
+
+#ifdef __cplusplus
+}
+#endif
+
+#endif

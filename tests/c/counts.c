@@ -1,0 +1,89 @@
+/* How many erases and programs a block and putting an image in place cost: at most what the macros of dfu_device.h say, and for some unit,
+ * sector and transfer size as many. Downloads by dice, in blocks of any size, over flash in memory. It takes how many downloads to make. */
+#include <stdio.h>
+#include <stdlib.h>
+#include <string.h>
+
+#include "dfu_device_memory.h"
+
+#define MOST 4096
+
+static struct dfu_config config = {DFU_VERSION, 0x0100, 1, 0x1209, 255, 8, 7, 0, 0, 0, 1, 1, 0};
+static uint8_t medium[DFU_MEDIUM_SIZE(256, 8192, 65536)], block[MOST], body[MOST], out[MOST];
+static uint32_t dice = 1, erases, programs;
+static long blocks, all_erases, all_programs;
+
+/* How often it was as many as the most. */
+static struct { long erases, programs; } of_blocks, of_commits, *full;
+
+static int erase(void *own, uint32_t at, uint32_t length) {
+    erases++, all_erases++;
+    return dfu_memory_erase(own, at, length);
+}
+
+static int program(void *own, uint32_t at, const uint8_t *bytes, uint32_t length) {
+    programs++, all_programs++;
+    return length < 1 || length > 256 || dfu_memory_program(own, at, bytes, length);
+}
+
+static const struct dfu_driver driver = {medium, erase, program};
+static struct dfu_device dfu = {.config = &config, .flash = medium, .block = block, .most = sizeof block, .driver = &driver};
+
+static uint32_t roll(uint32_t sides) {
+    dice = dice * 1664525u + 1013904223u;
+    return (dice >> 8) % sides;
+}
+
+static int32_t serve(uint8_t kind, uint8_t request, uint16_t value, uint16_t length) {
+    const uint8_t setup[8] = {kind, request, (uint8_t)value, (uint8_t)(value >> 8), 0, 0, (uint8_t)length, (uint8_t)(length >> 8)};
+    return dfu_device_serve(&dfu, setup, body, out, sizeof out);
+}
+
+/* GETSTATUS, which carries it out: whether it cost no more than that. */
+static int is_within(uint32_t most_erases, uint32_t most_programs) {
+    erases = programs = 0;
+    if (serve(0xa1, DFU_GETSTATUS, 0, 6) != 6 || out[0] != DFU_STATUS_OK)
+        return 0;
+    full->erases += most_erases > 0 && erases == most_erases;
+    full->programs += programs == most_programs;
+    if (erases <= most_erases && programs <= most_programs)
+        return 1;
+    printf("counts: %u erases of %u, %u programs of %u, unit %u, sector %u, transfer %u\n", (unsigned)erases, (unsigned)most_erases,
+           (unsigned)programs, (unsigned)most_programs, (unsigned)config.unit, (unsigned)config.sector, config.transfer);
+    return 0;
+}
+
+/* One download of so many bytes. */
+static int download(uint32_t left) {
+    uint16_t number = 0;
+    while (left > 0) {
+        uint32_t length = roll(3) ? config.transfer : 1 + roll(config.transfer);
+        length = length < left ? length : left;
+        full = &of_blocks;
+        if (serve(0x21, DFU_DNLOAD, number++, (uint16_t)length) != 0
+            || !is_within(DFU_BLOCK_ERASES(config.transfer, config.sector), DFU_BLOCK_PROGRAMS(config.transfer)))
+            return 0;
+        left -= length, blocks++;
+    }
+    full = &of_commits;
+    return serve(0x21, DFU_DNLOAD, number, 0) == 0 && is_within(DFU_COMMIT_ERASES(config.sector), DFU_COMMIT_PROGRAMS);
+}
+
+/* Two downloads onto a board with a unit, a sector and a transfer size by dice: the second one has an open gate to close. */
+static int both(void) {
+    static const uint32_t units[] = {1, 16, 64, 256}, sectors[] = {0, 256, 512, 1024, 4096, 8192};
+    config.unit = units[roll(4)], config.sector = sectors[roll(6)];
+    config.transfer = (uint16_t)(1 + roll(roll(2) ? MOST : 700));
+    dfu.size = DFU_MEDIUM_SIZE(config.unit, config.sector, 65536);
+    return dfu_device_format(&dfu, body, 1) == 0 && dfu_device_begin(&dfu) == 0 && download(1 + roll(30000)) && download(1 + roll(30000));
+}
+
+int main(int count, char **words) {
+    long all = count > 1 ? atol(words[1]) : 1000;
+    for (long turn = 0; turn < all; turn++)
+        if (!both())
+            return printf("counts: download %ld failed\n", turn), 1;
+    printf("counts: %ld blocks, %ld erases, %ld programs; as many as the most: %ld and %ld of a block, %ld and %ld of an image\n", blocks,
+           all_erases, all_programs, of_blocks.erases, of_blocks.programs, of_commits.erases, of_commits.programs);
+    return all >= 300 && (of_blocks.erases == 0 || of_blocks.programs == 0 || of_commits.erases == 0 || of_commits.programs == 0);
+}
