@@ -1,0 +1,121 @@
+/* SPDX-License-Identifier: MIT OR Apache-2.0 */
+#include "dfu_tinyusb.h"
+#include "dfu_tinyusb_parts.h"
+
+static struct dfu_device *dfu;
+static int32_t refusal;
+static bool is_awaited; /* a data stage of the host, for body */
+static uint8_t body[DFU_TINYUSB_TRANSFER], out[DFU_TINYUSB_TRANSFER < 6 ? 6 : DFU_TINYUSB_TRANSFER];
+
+static int32_t state(void)
+{
+    return dfu == NULL ? DFU_NO_DEVICE : dfu_device_state(dfu);
+}
+
+/* noted: an answer, whose refusal is kept. */
+static int32_t noted(int32_t n)
+{
+    if (n < 0 && n != DFU_STALL)
+        refusal = n;
+    return n;
+}
+
+static void reset(uint8_t rhport)
+{
+    (void)rhport;
+    is_awaited = false;
+    if (counts())
+        (void)noted(dfu_device_reset(dfu));
+}
+
+static uint16_t open_interface(uint8_t rhport, tusb_desc_interface_t const *interface, uint16_t most)
+{
+    (void)rhport;
+    return dfu == NULL ? 0 : open_number(interface, most, dfu->config->interface_number);
+}
+
+/* The host sends a data stage. What is known to be stalled is stalled before it; the rest is handed in when all of it is there. TinyUSB
+ * does not say how much came: of a data stage that ends early the rest reads 0, and nothing of an earlier one. */
+static bool await(uint8_t rhport, tusb_control_request_t const *request, const uint8_t setup[8])
+{
+    if (noted(dfu_device_work(dfu)) < 0)
+        return false;
+    if (request->wLength > dfu->config->transfer || noted(dfu_device_would_stall(dfu, setup)) != 0) {
+        (void)noted(dfu_device_serve(dfu, setup, body, out, sizeof out));
+        return false;
+    }
+    memset(body, 0, request->wLength);
+    is_awaited = tud_control_xfer(rhport, request, body, request->wLength);
+    return is_awaited;
+}
+
+static bool begin(uint8_t rhport, tusb_control_request_t const *request, const uint8_t setup[8])
+{
+    int32_t n;
+    is_awaited = false;
+    if (request->bmRequestType_bit.direction == TUSB_DIR_OUT && request->wLength > 0)
+        return await(rhport, request, setup);
+    n = noted(dfu_device_serve(dfu, setup, body, out, sizeof out));
+    if (n >= 0 && request->bRequest == DFU_DETACH)
+        detach();
+    return n >= 0 && dfu_tinyusb_answer(rhport, request, out, (uint16_t)n);
+}
+
+static bool control(uint8_t rhport, uint8_t stage, tusb_control_request_t const *request)
+{
+    const bool was_awaited = is_awaited;
+    uint8_t setup[8];
+    if (!is_ours(request))
+        return false;
+    memcpy(setup, request, sizeof setup);
+    switch (stage) {
+    case CONTROL_STAGE_SETUP: return begin(rhport, request, setup);
+    case CONTROL_STAGE_DATA:
+        is_awaited = false;
+        if (request->bmRequestType_bit.direction == TUSB_DIR_IN)
+            return true;
+        return was_awaited && noted(dfu_device_serve(dfu, setup, body, out, sizeof out)) >= 0;
+    case CONTROL_STAGE_ACK:
+        ahead_ms = 0;
+        (void)noted(dfu_device_work(dfu));
+        return true;
+    default: return false;
+    }
+}
+
+usbd_class_driver_t const dfu_tinyusb_driver = {
+    .name = "DFU", .init = init, .deinit = deinit, .reset = reset, .open = open_interface, .control_xfer_cb = control};
+
+int32_t dfu_tinyusb_start(struct dfu_device *device)
+{
+    if (device->driver == NULL || dfu_device_state(device) < 0)
+        return DFU_NO_DEVICE;
+    if (device->config->transfer > DFU_TINYUSB_TRANSFER)
+        return DFU_NO_ROOM;
+    dfu = device;
+    refusal = 0;
+    return 0;
+}
+
+/* A device with bitWillDetach that left comes back by a reset that does not count. */
+void dfu_tinyusb_task(uint32_t now_ms)
+{
+    const uint32_t ms = passed(now_ms, state() == DFU_STATE_APP_DETACH);
+    if (ms == 0)
+        return;
+    (void)noted(dfu_device_elapse(dfu, ms));
+    if (state() == DFU_STATE_IDLE) {
+        is_configured = false;
+        leaves = true;
+    }
+}
+
+uint8_t dfu_tinyusb_protocol(void)
+{
+    return state() == DFU_STATE_APP_IDLE || state() == DFU_STATE_APP_DETACH ? 1 : 2;
+}
+
+int32_t dfu_tinyusb_refusal(void)
+{
+    return refusal;
+}

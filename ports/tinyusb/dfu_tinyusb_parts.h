@@ -1,0 +1,110 @@
+/* SPDX-License-Identifier: MIT OR Apache-2.0 */
+/* What dfu_tinyusb.c and dfu_tinyusb_runtime.c share, and nothing else includes: which reset counts, the interface, time in appDETACH. */
+#ifndef DFU_TINYUSB_PARTS_H
+#define DFU_TINYUSB_PARTS_H
+
+#include "dfu_tinyusb_descriptors.h"
+#include "device/dcd.h"
+#include "device/usbd_pvt.h"
+#include <string.h>
+
+#if TUSB_VERSION_NUMBER < 1800
+#error "the class drivers of this folder are for TinyUSB 0.18 or later"
+#endif
+
+/* A device leaves only once its DETACH is acknowledged; if TinyUSB does not say so, after so many milliseconds. */
+enum { ACKNOWLEDGED_MS = 20 };
+
+static uint32_t last_ms, ahead_ms;
+static bool is_timing, is_configured, leaves;
+static volatile bool is_reset;
+
+void dfu_tinyusb_event(uint32_t event)
+{
+    if (event == DCD_EVENT_BUS_RESET || event == DCD_EVENT_UNPLUGGED)
+        is_reset = true;
+}
+
+#ifndef DFU_TINYUSB_OWN_HOOK
+void tud_event_hook_cb(uint8_t rhport, uint32_t event, bool in_isr)
+{
+    (void)rhport;
+    (void)in_isr;
+    dfu_tinyusb_event(event);
+}
+#endif
+
+#ifndef DFU_TINYUSB_OWN_DRIVERS
+usbd_class_driver_t const *usbd_app_driver_get_cb(uint8_t *count)
+{
+    *count = 1;
+    return &dfu_tinyusb_driver;
+}
+#endif
+
+static void init(void)
+{
+    is_reset = false;
+    is_timing = is_configured = leaves = false;
+}
+
+static bool deinit(void)
+{
+    return true;
+}
+
+/* TinyUSB calls reset at each reset of the bus, of which an enumeration has two, when the cable is pulled, and at a SET_CONFIGURATION of
+ * another value, which is none: the hook tells it apart. What counts is the first after a SET_CONFIGURATION. */
+static bool counts(void)
+{
+    const bool was_configured = is_configured;
+    if (!is_reset)
+        return false;
+    is_reset = false;
+    is_configured = false;
+    return was_configured;
+}
+
+/* The interface of this number, with one setting, no endpoint and a functional descriptor: its length, or 0 if it is another one. */
+static uint16_t open_number(tusb_desc_interface_t const *interface, uint16_t most, uint8_t number)
+{
+    const uint8_t *functional = (const uint8_t *)interface + sizeof *interface;
+    if (most < DFU_TINYUSB_INTERFACE_LENGTH || interface->bInterfaceClass != TUSB_CLASS_APPLICATION_SPECIFIC
+        || interface->bInterfaceSubClass != 1 || interface->bInterfaceNumber != number || interface->bAlternateSetting != 0
+        || interface->bNumEndpoints != 0 || functional[0] != 9 || functional[1] != 0x21)
+        return 0;
+    is_configured = true;
+    return DFU_TINYUSB_INTERFACE_LENGTH;
+}
+
+/* A request of the class to the interface is the device's. All others, as SET_INTERFACE, are left to TinyUSB. */
+static bool is_ours(tusb_control_request_t const *request)
+{
+    return request->bmRequestType_bit.type == TUSB_REQ_TYPE_CLASS && request->bmRequestType_bit.recipient == TUSB_REQ_RCPT_INTERFACE;
+}
+
+/* A DETACH was taken: time begins once it is acknowledged. */
+static void detach(void)
+{
+    is_timing = false;
+    ahead_ms = ACKNOWLEDGED_MS;
+}
+
+/* How many milliseconds of appDETACH have passed since the last call. */
+static uint32_t passed(uint32_t now_ms, bool is_detaching)
+{
+    const uint32_t all = is_timing && is_detaching ? now_ms - last_ms : 0, ahead = all < ahead_ms ? all : ahead_ms;
+    is_timing = is_detaching;
+    last_ms = now_ms;
+    ahead_ms -= ahead;
+    return all - ahead;
+}
+
+bool dfu_tinyusb_leaves(void)
+{
+    const bool is_leaving = leaves;
+    leaves = false;
+    return is_leaving;
+}
+
+#endif

@@ -1,0 +1,48 @@
+/* SPDX-License-Identifier: MIT OR Apache-2.0 */
+/**
+ * @file dfu_tinyusb_runtime.h
+ * @brief A class driver of TinyUSB (0.18 or later) over dfu_runtime.h: run-time mode of an application, whose bootloader is another
+ *        program. No library is linked. Compile dfu_tinyusb_runtime.c beside TinyUSB, and not dfu_tinyusb.c.
+ *
+ *     static struct dfu_runtime dfu = {.detach_ms = 1000, .interface_number = 2, .attributes = 15};
+ *     dfu_tinyusb_runtime_start(&dfu)             before tud_init
+ *     for (;;) {
+ *         tud_task();
+ *         dfu_tinyusb_task(milliseconds());
+ *         if (dfu_tinyusb_leaves()) {
+ *             tud_disconnect();
+ *             set the bootloader's flag, and restart after 100 ms or more; it begins with dfu_device_begin
+ *         }
+ *     }
+ *
+ * Its descriptors are those of dfu_tinyusb_descriptors.h, with protocol 1.
+ */
+#ifndef DFU_TINYUSB_RUNTIME_H
+#define DFU_TINYUSB_RUNTIME_H
+
+#include "tusb.h"
+#include "device/usbd_pvt.h"
+#include "dfu_runtime.h"
+
+#ifdef __cplusplus
+extern "C" {
+#endif
+
+/* DFU_TINYUSB_OWN_HOOK and DFU_TINYUSB_OWN_DRIVERS, and what belongs to them, as in dfu_tinyusb.h. */
+extern usbd_class_driver_t const dfu_tinyusb_driver;
+void dfu_tinyusb_event(uint32_t event);
+
+/** @brief Serves this run-time mode. */
+void dfu_tinyusb_runtime_start(struct dfu_runtime *runtime);
+
+/** @brief Time passes: now_ms counts milliseconds, and begins again after 2^32. Call it at least each 10 ms. */
+void dfu_tinyusb_task(uint32_t now_ms);
+
+/** @brief Whether the application is to leave for its bootloader now. */
+bool dfu_tinyusb_leaves(void);
+
+#ifdef __cplusplus
+}
+#endif
+
+#endif
