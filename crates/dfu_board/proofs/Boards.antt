@@ -1,9 +1,8 @@
 -- What is kept of the device that a board stands for is kept on its flash: the laws.
-use Rattle.std.specs.Prelude.{◌≡◌, ◌⊎◌, ℕ, true, false, List, [], Option, Some, None}
+use Rattle.std.specs.Prelude.{◌≡◌, ◌⊎◌, ℕ, Bool, true, false, List, [], Option, Some, None}
 use Rattle.std.proofs.Common.{inl, inr, refl, sym, ap, ◌∙◌, subst}
 use Rattle.std.proofs.lemmas.List.{append-nil}
 use Rattle.dfu_slots.specs.declared.fault.WriteFault.TheVariants.{Failed}
-use Rattle.dfu_wire.specs.declared.states.State.TheVariants.{AppIdle}
 use Rattle.dfu_slots.specs.Image.{Active, HasImage}
 use Rattle.dfu_slots.specs.Seen.{SlotsState, store_on, image_of}
 use Rattle.dfu_device.specs.Stage.{Stage, InManifestSync, InManifest, state_of}
@@ -13,14 +12,14 @@ use Rattle.dfu_device.specs.Taken.{taken_of}
 use Rattle.dfu_device.specs.TakenHistory.{RowTakes}
 use Rattle.dfu_asks.specs.Asks.{store_in}
 use Rattle.dfu_board.specs.Board.{Board, lent_on, medium_on, device_on, state_on, BoardStep}
-use Rattle.dfu_board.specs.Happens.{IsOn, IsRun}
+use Rattle.dfu_board.specs.Happens.{start_stage, IsOn, IsRun}
 use Rattle.dfu_board.specs.Keeps.{taken_by, IsClosed, HasKept, RunKeeps, is_manifesting, RunStays, has_manifested, RunInstalls}
 use Rattle.dfu_board.specs.Refines.{StandsFor, IdleRefines, RunRefines}
 use Rattle.dfu_board.proofs.Cut.{WriteLaws, cut_off}
 use Rattle.dfu_board.proofs.Closing.{Waits, waits_taken}
 use Rattle.dfu_board.proofs.Installs.{over_waits}
 use Rattle.dfu_board.proofs.Due.{fails_lead}
-use Rattle.dfu_board.proofs.Works.{on_idle, none_waits}
+use Rattle.dfu_board.proofs.Powers.{on_idle, start_takes, none_waits}
 use Rattle.dfu_board.proofs.Each.{turn}
 use Rattle.dfu_board.proofs.Runs.{state_stands, KeptAt, kept_step, RanOn, run_on}
 
@@ -60,6 +59,17 @@ module _ (laws : WriteLaws) (only : OneImage) where
 
 -- The laws.
 
+-- No image waits in a board that just got power.
+start_plain : (begins : Bool) → is_manifesting (state_of (start_stage begins)) ≡ false
+start_plain true = refl
+start_plain false = refl
+
+-- An image waits in these states alone.
+waits_manifest : (st : Stage) (t : List ℕ) → Waits st t → is_manifesting (state_of st) ≡ true
+waits_manifest (InManifestSync taken) t m = refl
+waits_manifest (InManifest taken passed) t m = refl
+waits_manifest st t m = absurd m
+
 -- Nothing waits in a state in which no image does.
 none_manifests : (st : Stage) (t : List ℕ) → is_manifesting (state_of st) ≡ false → Waits st t → ⊥
 none_manifests (InManifestSync taken) t off m = absurd (cc)
@@ -69,7 +79,8 @@ none_manifests st t off m = m
 module _ (laws : WriteLaws) (takes : RowTakes) (only : OneImage) where
   begun : (b : Board) → IsOn b → KeptAt (image_of (device_on b).slots) [] [] (device_on b)
   begun b on = record {
-    taken = subst (λ (x : Shown). [] ≡ taken_of (situation x)) (sym on.device) refl;
+    taken = subst (λ (x : Shown). [] ≡ taken_of (situation x)) (sym on.device)
+        (sym (start_takes on.begins (image_of (store_on (medium_on b)))));
     waits = λ t m. absurd (none_waits b t on m);
     whence = inl refl;
   }
@@ -93,9 +104,14 @@ module _ (laws : WriteLaws) (takes : RowTakes) (only : OneImage) where
         tells = r.tells;
         stands = r.stands;
         state = state_stands b' r.due' r.device r.stands;
+        has_image = (imaged laws only b' r.due' r.device r.stands).has;
         image = λ image active. elim ((imaged laws only b' r.due' r.device r.stands).is image active) [
           | inl same ↦ inl same
-          | inr waited ↦ inr (waited.0, sym (waits_taken (image_of r.device.slots) r.device.stage image waited.1))
+          | inr waited ↦ inr (
+            waited.0,
+            waits_manifest r.device.stage image waited.1,
+            sym (waits_taken (image_of r.device.slots) r.device.stage image waited.1),
+          )
         ];
       }
 
@@ -142,14 +158,14 @@ module _ (laws : WriteLaws) (takes : RowTakes) (only : OneImage) where
   -- So from power on.
   pub run_keeps : RunKeeps
   run_keeps b b' steps image on active run =
-      run_stays b b b' [] steps image on refl (ap is_manifesting (appidle b on)) active run
+      run_stays b b b' [] steps image on refl (ap is_manifesting (state b on) ∙ start_plain on.begins) active run
     where
-      appidle : (b : Board) → IsOn b → state_on b ≡ AppIdle
-      appidle b on = state_stands b None (device_on b) (on_idle b on) ∙ ap (λ (x : Shown). state_of x.stage) on.device
+      state : (b : Board) → (on : IsOn b) → state_on b ≡ state_of (start_stage on.begins)
+      state b on = state_stands b None (device_on b) (on_idle b on) ∙ ap (λ (x : Shown). state_of x.stage) on.device
 
   -- A step that leads out of manifestation without a fault has put in place all that was taken.
   pub run_installs : RunInstalls
-  run_installs b mid b' steps last on before manifests run over =
+  run_installs b mid b' steps last on before manifests run other over =
       let r = ran b mid steps on before in
       let x = turn laws takes mid last.after r.due' r.device last.event last.says r.stands run.1 run.2 in
       let same : b' ≡ last.after = run.3 in
@@ -157,7 +173,7 @@ module _ (laws : WriteLaws) (takes : RowTakes) (only : OneImage) where
       sym (ap is_manifesting (state_stands mid r.due' r.device r.stands)) ∙ manifests in
       let ended : has_manifested (state_of x.device.stage) ≡ true =
       sym (ap has_manifested (state_stands last.after x.due' x.device x.stands)) ∙ subst (λ (y : Board). has_manifested (state_on y) ≡ true) same over in
-      let put : image_of x.device.slots ≡ taken_by [] steps = x.puts was ended ∙ sym r.kept.taken in
+      let put : image_of x.device.slots ≡ taken_by [] steps = x.puts other was ended ∙ sym r.kept.taken in
       let i = imaged laws only last.after x.due' x.device x.stands in
       let now : i.has.image ≡ taken_by [] steps = elim (i.is i.has.image i.has.active) [
         | inl here ↦ here ∙ put

@@ -133,7 +133,7 @@ of_call b' due d e cause says tells block closes c = record {
         inr ((x.0, closes x.0 x.1, x.2, x.3), closed.1)
   ];
   image = c.image;
-  puts = c.puts;
+  puts = λ other on over. c.puts on over;
 }
 
 -- `handle`, `elapse` and `usb_reset` as events.

@@ -179,7 +179,7 @@ no_reset_waits (InAppDetach timer passed) t m = m
 no_reset_waits st t m = m
 
 -- The image does not change as a store is opened again.
-same_image : (s : SlotsState) → image_of (store_on s.medium) ≡ image_of s
+pub same_image : (s : SlotsState) → image_of (store_on s.medium) ≡ image_of s
 unfolding image_of
 same_image s = refl
 

@@ -11,7 +11,8 @@ use Rattle.dfu_board.specs.Refines.{IsAtWork, IsIdle, StandsFor}
 use Rattle.dfu_board.proofs.Cut.{WriteLaws}
 use Rattle.dfu_board.proofs.Turns.{none_or_some, Turned, stays}
 use Rattle.dfu_board.proofs.Called.{served, was_reset, of_handle, of_elapse, of_reset}
-use Rattle.dfu_board.proofs.Works.{writes_on, told, restarts, cuts}
+use Rattle.dfu_board.proofs.Works.{writes_on, told}
+use Rattle.dfu_board.proofs.Powers.{restarts, cuts}
 
 module _ (laws : WriteLaws) (takes : RowTakes) where
   same_idle : (b b' : Board) (d : Shown) → IsIdle b d → b' ≡ b → IsIdle b' d
@@ -31,7 +32,7 @@ module _ (laws : WriteLaws) (takes : RowTakes) where
   turn_idle b b' d (Report failed) Nothing k h same =
       stays b' None None d (Report failed) Nothing (refl, refl) (same_idle b b' d k h) refl
   turn_idle b b' d (Report failed) says k h same = absurd (none_or_some h.work b.asking.work k.work h.left.work_is)
-  turn_idle b b' d Restart says k h same = restarts b b' d says k same h.1 h.2
+  turn_idle b b' d (Restart begins) says k h same = restarts b b' d begins says k same h.1 h.2
 
   same_work : (b b' : Board) (cause : Cause) (d : Shown) → IsAtWork b cause d → b' ≡ b → IsAtWork b' cause d
   same_work b b' cause d k same = subst (λ (x : Board). IsAtWork x cause d) (sym same) k
@@ -52,7 +53,7 @@ module _ (laws : WriteLaws) (takes : RowTakes) where
   turn_work b b' cause d (Report failed) Nothing k h same =
       stays b' (Some cause) (Some cause) d (Report failed) Nothing (refl, refl) (same_work b b' cause d k h) refl
   turn_work b b' cause d (Report failed) says k h same = told laws b b' cause d failed says k h
-  turn_work b b' cause d Restart says k h same = cuts laws b b' cause d says k same h.1 h.2
+  turn_work b b' cause d (Restart begins) says k h same = cuts laws b b' cause d begins says k same h.1 h.2
 
   -- Each step makes rows of the device that the board stands for.
   pub turn : (b b' : Board) (due : Option Cause) (d : Shown) (e : Event) (says : Says) → StandsFor b due d → Happens b e says b'

@@ -8,6 +8,7 @@ mod Due
 mod Turns
 mod Called
 mod Works
+mod Powers
 mod Each
 mod Runs
 mod Boards

@@ -1,5 +1,5 @@
 -- What the clauses of a call say is what a step of a board does.
-use Rattle.std.specs.Prelude.{◌≡◌, ℕ, Bool, List, [], length, take, Result, Ok, Err, Option, Some, None, IfOk, IfSome, IfNone, IsSome, OnOk, OnErr}
+use Rattle.std.specs.Prelude.{◌≡◌, ℕ, Bool, false, List, [], length, take, Result, Ok, Err, Option, Some, None, IfOk, IfSome, IfNone, IsSome, OnOk, OnErr}
 use Rattle.std.proofs.Common.{refl, sym, ap, ◌∙◌}
 use Rattle.dfu_slots.specs.Medium.{Torn}
 use Rattle.dfu_slots.specs.Seen.{SlotsState}
@@ -20,7 +20,7 @@ use Rattle.dfu_asks.specs.Calls.{Asks, Called, called_ended, called_asks, Took}
 use Rattle.dfu_asks.specs.Refused.{IsKept, IsServed, IsTaken}
 use Rattle.dfu_asks.specs.Lent.{lent}
 use Rattle.dfu_board.specs.Board.{Board, lent_on, device_on, Answers}
-use Rattle.dfu_board.specs.Happens.{IsServedBy, IsTold, IsOn, IsRefusedOr}
+use Rattle.dfu_board.specs.Happens.{IsServedBy, IsTold, Starts, IsRefusedOr}
 use Rattle.dfu_board.specs.Steps.{board, said}
 
 -- What follows in one case of a refusal follows in each.
@@ -129,10 +129,23 @@ pub on_step : (r : Option Asking) (block held flash : List ℕ) (config : Settin
     → IfSome r (λ a. IsDevice (lent a block held) flash)
     → IfSome r (λ a. (a.work ≡ None) × (a.block_len ≡ 0) × (a.config ≡ config) × (a.unit ≡ unit))
     → IfSome r (λ a. a.sector ≡ sector)
-    → IfSome r (λ a. IsOn (board a block held flash))
-on_step (Some a) block held flash config unit sector device is kept sector_is = record {
-  device = device ∙ (λ i. powered_on (sym kept.2 i) (mapped (grain_of (sym kept.3 i) (sym sector_is i)) flash));
-  is = is;
-  work = kept.0;
-}
+    → IfSome r (λ a. Starts false (board a block held flash))
+on_step (Some a) block held flash config unit sector device is kept sector_is = (
+  record {
+    begins = false;
+    device = device ∙ (λ i. powered_on (sym kept.2 i) (mapped (grain_of (sym kept.3 i) (sym sector_is i)) flash));
+    is = is;
+    work = kept.0;
+  },
+  refl,
+)
 on_step None block held flash config unit sector device is kept sector_is = tt
+
+-- What follows of a value from one fact, or from two, follows if there is a value.
+pub on_some : {A : Type 0} (P Q : A → Type 0) (r : Option A) → ((x : A) → P x → Q x) → IfSome r P → IfSome r Q
+on_some P Q (Some x) follows p = follows x p
+on_some P Q None follows p = tt
+
+pub on_both : {A : Type 0} (P R Q : A → Type 0) (r : Option A) → ((x : A) → P x → R x → Q x) → IfSome r P → IfSome r R → IfSome r Q
+on_both P R Q (Some x) follows p t = follows x p t
+on_both P R Q None follows p t = tt

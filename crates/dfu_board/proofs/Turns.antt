@@ -1,5 +1,5 @@
 -- A step of a board as rows of the device that it stands for.
-use Rattle.std.specs.Prelude.{◌≡◌, ◌⊎◌, ℕ, true, List, [], ◌∷◌, ◌++◌, length, take, drop, Option, Some, None}
+use Rattle.std.specs.Prelude.{◌≡◌, ◌≢◌, ◌⊎◌, ℕ, true, List, [], ◌∷◌, ◌++◌, length, take, drop, Option, Some, None}
 use Rattle.std.proofs.Common.{inl, refl, sym, ap, ◌∙◌, subst}
 use Rattle.std.proofs.lemmas.List.{append-nil, take_at}
 use Rattle.dfu_slots.specs.Seen.{image_of}
@@ -15,7 +15,7 @@ use Rattle.dfu_asks.specs.declared.work.Work.{Work}
 use Rattle.dfu_asks.specs.Lent.{LentAsking}
 use Rattle.dfu_asks.specs.Asks.{device_in, IsDevice}
 use Rattle.dfu_asks.specs.Calls.{HasEnded}
-use Rattle.dfu_board.specs.Board.{Board, lent_on, device_on, Event, Handle, Says, Answers}
+use Rattle.dfu_board.specs.Board.{Board, lent_on, device_on, Event, Handle, Restart, Says, Answers}
 use Rattle.dfu_board.specs.Keeps.{block_in}
 use Rattle.dfu_board.specs.Refines.{TellsCall, Tells, IsIdle, StandsFor}
 use Rattle.dfu_board.proofs.Closing.{Waits}
@@ -61,7 +61,7 @@ pub record Turned (b' : Board) (due : Option Cause) (d : Shown) (e : Event) (say
   pub taken : taken_of (situation device) ≡ held_in (state_of device.stage) (taken_of (situation d) ++ block_in e says)
   pub waits : (t : List ℕ) → Waits device.stage t → Waits d.stage t ⊎ (IsClosingCall e says × (t ≡ taken_of (situation d)))
   pub image : (image_of device.slots ≡ image_of d.slots) ⊎ Waits d.stage (image_of device.slots)
-  pub puts : Manifests d.stage → IsOver device.stage → image_of device.slots ≡ taken_of (situation d)
+  pub puts : e ≢ Restart true → Manifests d.stage → IsOver device.stage → image_of device.slots ≡ taken_of (situation d)
 
 -- A step with no row.
 pub stays : (b' : Board) (due due' : Option Cause) (d : Shown) (e : Event) (says : Says) → Tells due e says [] due' → StandsFor b' due' d
@@ -78,7 +78,7 @@ stays b' due due' d e says tells stands none = record {
       ∙ stage_holds (image_of d.slots) d.stage);
   waits = λ t m. inl m;
   image = inl refl;
-  puts = λ on over. absurd (never_both d.stage on over);
+  puts = λ other on over. absurd (never_both d.stage on over);
 }
 
 -- A row that came to its end, after which a board is idle.

@@ -1,36 +1,28 @@
 -- The steps of a board that works for a row, and of one whose power goes.
-use Rattle.std.specs.Prelude.{◌≡◌, ℕ, ◌+◌, Bool, List, [], ◌∷◌, ◌++◌, length, take, Some, None}
-use Rattle.std.proofs.lemmas.Bool.{false≢true}
-use Rattle.std.proofs.Common.{inl, inr, refl, sym, ap, ◌∙◌, subst}
+use Rattle.std.specs.Prelude.{◌≡◌, ℕ, ◌+◌, Bool, List, [], length, take, Some, None}
+use Rattle.std.proofs.Common.{refl, sym, ap, ◌∙◌, subst}
 use Rattle.std.proofs.lemmas.List.{append-nil}
 use Rattle.dfu_slots.specs.declared.fault.WriteFault.{WriteFault}
 use Rattle.dfu_slots.specs.declared.fault.WriteFault.TheVariants.{Failed, NotVerified}
 use Rattle.dfu_slots.specs.Medium.{Torn}
-use Rattle.dfu_slots.specs.Seen.{SlotsState, store_on}
 use Rattle.dfu_slots.proofs.Torn.{keeps_same, keeps_both}
 use Rattle.dfu_device.specs.declared.answer.Answer.{Answer}
-use Rattle.dfu_device.specs.declared.answer.Answer.TheVariants as answer
-use Rattle.dfu_device.specs.Stage.{InAppIdle, state_of}
+use Rattle.dfu_device.specs.Stage.{state_of}
 use Rattle.dfu_device.specs.Shown.{Shown, situation}
-use Rattle.dfu_device.specs.Rows.{Cause, PowerOn, Row}
-use Rattle.dfu_device.specs.History.{Step as TableRow}
+use Rattle.dfu_device.specs.Rows.{Cause, Row}
 use Rattle.dfu_device.specs.Taken.{taken_of, held_in}
 use Rattle.dfu_asks.specs.declared.reply.Reply.{Reply}
 use Rattle.dfu_asks.specs.declared.work.Work.{Work}
-use Rattle.dfu_asks.specs.Lent.{IsSetUpAs}
-use Rattle.dfu_asks.specs.Mapped.{grain_of, mapped}
 use Rattle.dfu_asks.specs.Steps.{Step}
 use Rattle.dfu_asks.specs.Carried.{IsPiece}
 use Rattle.dfu_asks.specs.Due.{Works, Fails}
 use Rattle.dfu_asks.specs.Asks.{device_of, steps_in}
 use Rattle.dfu_asks.specs.Calls.{HasEnded, Comes, comes_asks, comes_ended, took_well, took_failed, took_lied}
-use Rattle.dfu_board.specs.Board.{Board, lent_on, medium_on, device_on, Report, Restart, Says, Answers}
-use Rattle.dfu_board.specs.Happens.{said_by, IsWritten, IsTold, IsOn}
-use Rattle.dfu_board.specs.Refines.{TellsCall, IsAtWork, IsIdle}
+use Rattle.dfu_board.specs.Board.{Board, lent_on, device_on, Report, Says, Answers}
+use Rattle.dfu_board.specs.Happens.{said_by, IsWritten, IsTold}
+use Rattle.dfu_board.specs.Refines.{TellsCall, IsAtWork}
 use Rattle.dfu_board.proofs.Pieces.{piece_alone}
-use Rattle.dfu_board.proofs.Cut.{WriteLaws, next_of, cut_off}
-use Rattle.dfu_board.proofs.Closing.{Waits, row_leads}
-use Rattle.dfu_board.proofs.Installs.{IsOver}
+use Rattle.dfu_board.proofs.Cut.{WriteLaws, next_of}
 use Rattle.dfu_board.proofs.Due.{DueLeads, works_lead, fails_lead}
 use Rattle.dfu_board.proofs.Turns.{one_work, Turned, stays, idle_there, row_there, said_there, one_row, tells_answer}
 
@@ -83,7 +75,7 @@ module _ (laws : WriteLaws) (b b' : Board) (cause : Cause) (d : Shown) (failed :
             ∙ sym (ap (λ (l : List ℕ). held_in (state_of (device_on b').stage) l) (append-nil (taken_of (situation d))));
         waits = λ t m. absurd (got.1.waits t m);
         image = got.1.image;
-        puts = λ on over. got.1.puts over;
+        puts = λ other on over. got.1.puts over;
       }
 
   comes_to : (r : Reply) → Comes (device_of (lent_on b) k.s) k.len k.s k.was b.flash h.out (lent_on b') h.out' r → says ≡ said_by r h.out'
@@ -126,85 +118,3 @@ module _ (laws : WriteLaws) (b b' : Board) (cause : Cause) (d : Shown) (failed :
         | took_failed x count fails reply_is e ↦ fell Failed x count e (h.says_is ∙ ap (λ (r : Reply). said_by r h.out') reply_is)
         | took_lied x count fine lies reply_is e ↦ fell NotVerified x count e (h.says_is ∙ ap (λ (r : Reply). said_by r h.out') reply_is)
       ]
-
--- The power goes, and comes back.
-
-power_row : (b b' : Board) (w : Shown) → w.config ≡ b.asking.config → w.slots.medium ≡ medium_on b → IsSetUpAs b.asking b'.asking
-    → b'.flash ≡ b.flash → IsOn b' → Row w PowerOn answer.Ack [] (device_on b')
-power_row b b' w config medium same flash on =
-    let again : medium_on b' ≡ w.slots.medium = (λ i. mapped (grain_of (same.unit i) (same.sector i)) (flash i)) ∙ sym medium in
-    let set : b'.asking.config ≡ w.config = same.config ∙ sym config in
-    (refl, refl, on.device ∙ (λ i. record { config = set i; slots = store_on (again i); stage = InAppIdle }))
-
--- A board that got power stands for a device in appIDLE.
-pub on_idle : (b : Board) → IsOn b → IsIdle b (device_on b)
-on_idle b on = record { work = on.work; is = on.is; device = refl }
-
-none_taken : (b : Board) (t : List ℕ) → IsOn b → taken_of (situation (device_on b)) ≡ held_in (state_of (device_on b).stage) t
-none_taken b t on =
-    subst (λ (x : Shown). taken_of (situation x) ≡ held_in (state_of x.stage) t) (sym on.device) refl
-
--- Nothing waits in a board that just got power.
-pub none_waits : (b : Board) (t : List ℕ) → IsOn b → Waits (device_on b).stage t → ⊥
-none_waits b t on m = subst (λ (x : Shown). Waits x.stage t) on.device m
-
--- Nor is manifestation over in it.
-none_over : (b : Board) → IsOn b → IsOver (device_on b).stage → ⊥
-none_over b on over = false≢true (subst (λ (x : Shown). IsOver x.stage) on.device over)
-
--- Of a board with nothing due.
-pub restarts : (b b' : Board) (d : Shown) (says : Says) → IsIdle b d → IsSetUpAs b.asking b'.asking → b'.flash ≡ b.flash → IsOn b'
-    → Turned b' None d Restart says
-restarts b b' d says k same flash on =
-    let row : Row d PowerOn answer.Ack [] (device_on b') =
-    power_row b b' d (ap (λ (x : Shown). x.config) (sym k.device)) (ap (λ (x : Shown). x.slots.medium) (sym k.device)) same flash on in
-    record {
-      rows = one_row d PowerOn answer.Ack [] (device_on b');
-      due' = None;
-      device = device_on b';
-      history = (refl, row, refl);
-      tells = (
-        record {
-          row = record { before = d; cause = PowerOn; answer = answer.Ack; out = []; after = device_on b' };
-          rows_are = refl;
-          cause_is = refl;
-          answer_is = refl;
-          out_is = refl;
-        },
-        refl,
-      );
-      stands = on_idle b' on;
-      taken = none_taken b' (taken_of (situation d) ++ []) on;
-      waits = λ t m. absurd (none_waits b' t on m);
-      image = (row_leads d PowerOn answer.Ack [] (device_on b') row).image;
-      puts = λ manifests over. absurd (none_over b' on over);
-    }
-
--- Of one at work.
-pub cuts : (laws : WriteLaws) (b b' : Board) (cause : Cause) (d : Shown) (says : Says) → IsAtWork b cause d
-    → IsSetUpAs b.asking b'.asking → b'.flash ≡ b.flash → IsOn b' → Turned b' (Some cause) d Restart says
-cuts laws b b' cause d says k same flash on =
-    let c = cut_off laws b cause d k in
-    let power : Row c.after PowerOn answer.Ack [] (device_on b') =
-    power_row b b' c.after c.config (ap (λ (s : SlotsState). s.medium) c.slots) same flash on in
-    let first : TableRow = record { before = d; cause = cause; answer = c.answer; out = c.out; after = c.after } in
-    let second : TableRow = record { before = c.after; cause = PowerOn; answer = answer.Ack; out = []; after = device_on b' } in
-    let due = fails_lead d c.after k.len c.answer c.out Failed c.row in
-    record {
-      rows = first ∷ second ∷ [];
-      due' = None;
-      device = device_on b';
-      history = (refl, k.row.fails Failed c.answer c.out c.after c.row, (refl, power, refl));
-      tells = (record { row = first; power = second; rows_are = refl; cause_is = refl; power_is = refl }, refl);
-      stands = on_idle b' on;
-      taken = none_taken b' (taken_of (situation d) ++ []) on;
-      waits = λ t m. absurd (none_waits b' t on m);
-      image = elim ((row_leads c.after PowerOn answer.Ack [] (device_on b') power).image) [
-        | inl kept ↦ elim (due.image) [
-          | inl old ↦ inl (kept ∙ old)
-          | inr new ↦ inr (subst (λ (t : List ℕ). Waits d.stage t) (sym kept) new)
-        ]
-        | inr waited ↦ absurd (due.waits _ waited)
-      ];
-      puts = λ manifests over. absurd (none_over b' on over);
-    }

@@ -44,8 +44,8 @@ pub data Event : Type 0 where
   Write : Event
   -- The call `took`.
   Report : (failed : Bool) → Event
-  -- The power goes, and comes back: `power_on`.
-  Restart : Event
+  -- The power goes, and comes back: `power_on`. If the device begins for a host, it is put into dfuIDLE then.
+  Restart : (begins : Bool) → Event
 
 -- What is said then: nothing, as by a call that is refused; that writes are due; or an answer with its bytes.
 pub data Says : Type 0 where

@@ -1,8 +1,9 @@
 -- What may come of a step of a board: what the clauses of a call say, and what may become of its flash.
-use Rattle.std.specs.Prelude.{◌≡◌, ℕ, Bool, List, [], ◌∷◌, length, take, Some, None}
+use Rattle.std.specs.Prelude.{◌≡◌, ℕ, Bool, true, false, List, [], ◌∷◌, length, take, Some, None}
 use Rattle.dfu_slots.specs.Medium.{Torn}
 use Rattle.dfu_slots.specs.Seen.{SlotsState}
 use Rattle.dfu_device.specs.declared.answer.Answer.TheVariants as answer
+use Rattle.dfu_device.specs.Stage.{Stage, InAppIdle, InDfuIdle}
 use Rattle.dfu_device.specs.Table.{reset_stage}
 use Rattle.dfu_device.specs.Shown.{powered_on}
 use Rattle.dfu_device.specs.Rows.{Cause, Transfer, Passing, Row}
@@ -70,11 +71,21 @@ pub record IsTold (b : Board) (failed : Bool) (says : Says) (b' : Board) : Type 
       → Took (device_of (lent_on b) s) len s was p.write failed b.flash out (lent_on b') out' reply
   pub says_is : says ≡ said_by reply out'
 
--- It just got power, by the clauses `device`, `is` and `work` of `power_on`.
+-- Where a device stands that gets power: in dfuIDLE if it begins for a host, else in appIDLE.
+abbrev pub start_stage : Bool → Stage
+start_stage true = InDfuIdle
+start_stage false = InAppIdle
+
+-- It just got power, by the clauses `device`, `is` and `work` of `power_on`; and if it begins for a host, it was put into dfuIDLE then.
 pub record IsOn (b : Board) : Type 0 where
-  pub device : device_on b ≡ powered_on b.asking.config (medium_on b)
+  pub begins : Bool
+  pub device : device_on b ≡ record (powered_on b.asking.config (medium_on b)) { stage = start_stage begins }
   pub is : IsDevice (lent_on b) b.flash
   pub work : b.asking.work ≡ None
+
+-- It just got power, and begins for a host or not.
+abbrev pub Starts : Bool → Board → Type 0
+Starts begins b = (on : IsOn b) × (on.begins ≡ begins)
 
 -- Nothing is said and nothing changes, as if a call is refused; or else this.
 abbrev pub IsRefusedOr : Says → Board → Board → Type 0 → Type 0
@@ -88,7 +99,7 @@ Happens b (Elapse ms) says b' = IsRefusedOr says b b' (IsServedBy b (Passing ms)
 Happens b UsbReset says b' = IsRefusedOr says b b' (IsReset b says b')
 Happens b Write says b' = (says ≡ Nothing) × IsWritten b b'
 Happens b (Report failed) says b' = IsRefusedOr says b b' (IsTold b failed says b')
-Happens b Restart says b' = (says ≡ Nothing) × (b'.flash ≡ b.flash) × IsOn b'
+Happens b (Restart begins) says b' = (says ≡ Nothing) × (b'.flash ≡ b.flash) × Starts begins b'
 
 -- These steps come to a board, each beginning where the one before ended, and each leaves it set up as it was.
 abbrev pub IsRun : Board → List BoardStep → Board → Type 0

@@ -1,12 +1,12 @@
 -- Which image a board keeps through any steps.
-use Rattle.std.specs.Prelude.{◌≡◌, ◌⊎◌, ℕ, Bool, true, false, List, [], ◌∷◌, ◌++◌}
+use Rattle.std.specs.Prelude.{◌≡◌, ◌≢◌, ◌⊎◌, ℕ, Bool, true, false, List, [], ◌∷◌, ◌++◌}
 use Rattle.dfu_wire.specs.declared.states.State.{State}
 use Rattle.dfu_wire.specs.declared.states.State.TheVariants.{DfuIdle, ManifestSync, Manifest, ManifestWaitReset}
 use Rattle.dfu_slots.specs.Image.{Active}
 use Rattle.dfu_device.specs.declared.answer.Answer.TheVariants as answer
 use Rattle.dfu_device.specs.Rows.{Transfer}
 use Rattle.dfu_device.specs.Taken.{held_in, is_dnload, acknowledged}
-use Rattle.dfu_board.specs.Board.{Board, medium_on, state_on, Event, Handle, Says, Answers, BoardStep}
+use Rattle.dfu_board.specs.Board.{Board, medium_on, state_on, Event, Handle, Restart, Says, Answers, BoardStep}
 use Rattle.dfu_board.specs.Happens.{IsOn, IsRun}
 
 -- The body of a DNLOAD that was acknowledged; of anything else no bytes.
@@ -64,8 +64,9 @@ has_manifested DfuIdle = true
 has_manifested ManifestWaitReset = true
 has_manifested state = false
 
--- If a step leads from a state in which an image may wait to one of these, all bytes taken are the active image.
+-- If a step leads from a state in which an image may wait to one of these, all bytes taken are the active image; but for power that comes
+-- back to a device that begins in dfuIDLE.
 abbrev pub RunInstalls : Type 0
 RunInstalls = (b mid b' : Board) (steps : List BoardStep) (last : BoardStep) → IsOn b → IsRun b steps mid
-    → is_manifesting (state_on mid) ≡ true → IsRun mid (last ∷ []) b' → has_manifested (state_on b') ≡ true
+    → is_manifesting (state_on mid) ≡ true → IsRun mid (last ∷ []) b' → last.event ≢ Restart true → has_manifested (state_on b') ≡ true
     → Active (medium_on b') (taken_by [] steps)

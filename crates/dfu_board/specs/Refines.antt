@@ -1,7 +1,11 @@
 -- The steps of a board are a history of the device table.
-use Rattle.std.specs.Prelude.{◌≡◌, ◌⊎◌, ℕ, List, [], ◌∷◌, ◌++◌, Option, Some, None}
+use Rattle.std.specs.Prelude.{◌≡◌, ◌⊎◌, ℕ, Bool, true, false, List, [], ◌∷◌, ◌++◌, Option, Some, None}
+use Rattle.dfu_wire.specs.declared.setups.Setup.{Setup}
+use Rattle.dfu_wire.specs.declared.requests.Request.TheVariants as request
+use Rattle.dfu_wire.specs.Setup.{IsSetup}
+use Rattle.dfu_wire.specs.Request.{Asks as AsksFor}
 use Rattle.dfu_slots.specs.Medium.{Torn}
-use Rattle.dfu_slots.specs.Image.{Active}
+use Rattle.dfu_slots.specs.Image.{Active, HasImage}
 use Rattle.dfu_slots.specs.Seen.{SlotsState, image_of}
 use Rattle.dfu_device.specs.declared.answer.Answer.{Answer}
 use Rattle.dfu_device.specs.declared.answer.Answer.TheVariants as answer
@@ -18,6 +22,7 @@ use Rattle.dfu_asks.specs.Asks.{device_of, IsDevice, steps_in}
 use Rattle.dfu_asks.specs.Calls.{Asks}
 use Rattle.dfu_board.specs.Board.{Board, lent_on, medium_on, device_on, state_on, Event, Handle, Elapse, UsbReset, Write, Report, Restart, Says, Nothing, WritesDue, Answers, BoardStep}
 use Rattle.dfu_board.specs.Happens.{IsOn, IsRun}
+use Rattle.dfu_board.specs.Keeps.{is_manifesting}
 
 -- There is one row, of this cause, with this answer.
 pub record IsOne (cause : Cause) (a : Answer) (out : List ℕ) (rows : List TableRow) : Type 0 where
@@ -27,13 +32,37 @@ pub record IsOne (cause : Cause) (a : Answer) (out : List ℕ) (rows : List Tabl
   pub answer_is : row.answer ≡ a
   pub out_is : row.out ≡ out
 
--- There are two rows: one of this cause, whose answer nobody saw, and that of the power that came back.
-pub record IsCut (cause : Cause) (rows : List TableRow) : Type 0 where
-  pub row : TableRow
+-- This cause is a DETACH.
+pub record IsDetach (cause : Cause) : Type 0 where
+  pub setup : List ℕ
+  pub cause_is : cause ≡ Transfer setup []
+  pub read : Setup
+  pub fields : IsSetup read setup
+  pub timeout : ℕ
+  pub asks : AsksFor read (request.Detach timeout)
+
+-- There are three rows: that of the power that came back, that of a DETACH, and that of a reset of the bus.
+pub record IsBegin (rows : List TableRow) : Type 0 where
   pub power : TableRow
-  pub rows_are : rows ≡ row ∷ power ∷ []
-  pub cause_is : row.cause ≡ cause
+  pub detach : TableRow
+  pub reset : TableRow
+  pub rows_are : rows ≡ power ∷ detach ∷ reset ∷ []
   pub power_is : power.cause ≡ PowerOn
+  pub detach_is : IsDetach detach.cause
+  pub reset_is : reset.cause ≡ BusReset
+
+-- The rows of power that comes back, whether the device begins for a host or not.
+abbrev pub IsStart : Bool → List TableRow → Type 0
+IsStart true rows = IsBegin rows
+IsStart false rows = IsOne PowerOn answer.Ack [] rows
+
+-- The first row is of this cause, and nobody saw its answer. Then come those of the power that came back.
+pub record IsCut (cause : Cause) (begins : Bool) (rows : List TableRow) : Type 0 where
+  pub row : TableRow
+  pub rest : List TableRow
+  pub rows_are : rows ≡ row ∷ rest
+  pub cause_is : row.cause ≡ cause
+  pub start : IsStart begins rest
 
 -- The rows of a call for this cause, and what is due after it: none if it is refused; none yet if writes are due, and then its own row
 -- is due; its own row if it answers.
@@ -50,8 +79,8 @@ Tells due UsbReset says rows due' = TellsCall BusReset due says rows due'
 Tells due Write says rows due' = (rows ≡ []) × (due' ≡ due)
 Tells (Some cause) (Report failed) says rows due' = TellsCall cause (Some cause) says rows due'
 Tells None (Report failed) says rows due' = (rows ≡ []) × (due' ≡ None)
-Tells (Some cause) Restart says rows due' = IsCut cause rows × (due' ≡ None)
-Tells None Restart says rows due' = IsOne PowerOn answer.Ack [] rows × (due' ≡ None)
+Tells (Some cause) (Restart begins) says rows due' = IsCut cause begins rows × (due' ≡ None)
+Tells None (Restart begins) says rows due' = IsStart begins rows × (due' ≡ None)
 
 -- The rows of these steps, in their order, and what is due after them.
 abbrev pub TellsAll : Option Cause → List BoardStep → List TableRow → Option Cause → Type 0
@@ -82,8 +111,8 @@ abbrev pub StandsFor : Board → Option Cause → Shown → Type 0
 StandsFor b None d = IsIdle b d
 StandsFor b (Some cause) d = IsAtWork b cause d
 
--- The steps of a board are rows from this device to another, which it stands for now and whose state it is in. The active image of its
--- flash is that device's, or if writes are due it may be the bytes that the device has taken.
+-- The steps of a board are rows from this device to another, which it stands for now and whose state it is in. Its flash has an active
+-- image, which is that device's, or if writes are due in dfuMANIFEST-SYNC or dfuMANIFEST it may be the bytes that the device has taken.
 pub record HasRefined (w : Shown) (steps : List BoardStep) (b : Board) : Type 0 where
   pub rows : List TableRow
   pub due : Option Cause
@@ -92,8 +121,10 @@ pub record HasRefined (w : Shown) (steps : List BoardStep) (b : Board) : Type 0 
   pub tells : TellsAll None steps rows due
   pub stands : StandsFor b due device
   pub state : state_on b ≡ state_of device.stage
+  pub has_image : HasImage (medium_on b)
   pub image : (image : List ℕ) → Active (medium_on b) image
-      → (image ≡ image_of device.slots) ⊎ ((due ≡ None → ⊥) × (image ≡ taken_of (situation device)))
+      → (image ≡ image_of device.slots)
+      ⊎ ((due ≡ None → ⊥) × (is_manifesting (state_of device.stage) ≡ true) × (image ≡ taken_of (situation device)))
 
 -- Whatever steps come to a board on which no writes are due, they are rows of the device that it is.
 abbrev pub IdleRefines : Type 0

@@ -1,6 +1,7 @@
 //! Each call of a device that asks is a step of a board. Each function makes the call of its name and nothing else; its contract says
 //! which step that is, from the call's contract alone.
-ghost use Rattle.std.specs.Prelude.{◌≡◌, ℕ, List, [], length, IfErr, IfSome, IfNone, IsSome};
+ghost use Rattle.std.specs.Prelude.{◌≡◌, ℕ, false, List, [], length, IfErr, IfSome, IfNone, IsSome};
+ghost use Rattle.dfu_slots.specs.Medium.{Torn};
 ghost use Rattle.dfu_slots.specs.Image.{HasImage};
 ghost use Rattle.dfu_slots.specs.Seen.{SlotsState};
 ghost use Rattle.dfu_device.specs.Lent.{answer_room};
@@ -9,8 +10,8 @@ ghost use Rattle.dfu_asks.specs.Calls.{Asks};
 ghost use Rattle.dfu_asks.specs.Refused.{IsRefused, IsNotTaken};
 ghost use Rattle.dfu_asks.specs.Mapped.{grain_of, mapped};
 ghost use Rattle.dfu_asks.specs.Jobs.{asked};
-ghost use Rattle.dfu_board.specs.Board.{Board, BoardStep, Handle, Elapse, UsbReset, Report, medium_on};
-ghost use Rattle.dfu_board.specs.Happens.{IsHanded, IsOn, Happens, IsRun};
+ghost use Rattle.dfu_board.specs.Board.{Board, BoardStep, Handle, Elapse, UsbReset, Write, Report, Restart, Nothing, medium_on};
+ghost use Rattle.dfu_board.specs.Happens.{IsHanded, IsOn, Starts, Happens, IsRun};
 ghost use Rattle.dfu_board.specs.Steps.{board, said, said_of_reset};
 
 use crate::laws::boards_keep_an_image;
@@ -68,7 +69,7 @@ pub fn usb_reset(
     asking.usb_reset(block, held, flash)
 }
 
-/// `Asking::next` hands out the piece in whose range a step may change the flash.
+/// `Asking::next` hands out the piece in whose range a step may change the flash, to any bytes.
 pub fn next(
     asking: &Asking,
     block: &[u8],
@@ -77,6 +78,8 @@ pub fn next(
     out: &mut [u8; 256],
 ) -> Option<Piece>
     ensures piece { IfSome result (λ p. IsHanded (board asking.now block.now held.now flash.now) (asked p out.new)) }
+    ensures written { IfSome result (λ p. (now : List ℕ) → Torn flash.now (asked p out.new).write.at (asked p out.new).write.bytes now →
+        Happens (board asking.now block.now held.now flash.now) Write Nothing (board asking.now block.now held.now now)) }
     ensures goes { IfNone result ((len : ℕ) (s : SlotsState) (was : List ℕ) → ¬ Asks (lent asking.now block.now held.now) len s was flash.now) }
 {
     asking.next(block, held, flash, out)
@@ -99,9 +102,12 @@ pub fn took(
     asking.took(block, held, flash, failed, out)
 }
 
-/// `Asking::power_on` makes a board that just got power, whatever stands in its memories. It does so on the flash that any steps left.
+/// `Asking::power_on` makes a board that just got power and stands in appIDLE, whatever is in its memories. It does so on the flash that
+/// any steps left.
 pub fn power_on(config: Config, unit: Unit, sector: Sector, flash: &[u8]) -> Option<Asking>
-    ensures on { (block held : List ℕ) → IfSome result (λ a. IsOn (board a block held flash.now)) }
+    ensures on { (block held : List ℕ) → IfSome result (λ a. Starts false (board a block held flash.now)) }
+    ensures step { (b : Board) (block held : List ℕ) → b.flash ≡ flash.now →
+        IfSome result (λ a. Happens b (Restart false) Nothing (board a block held flash.now)) }
     ensures set_up { IfSome result (λ a. (a.config ≡ config) × (a.unit ≡ unit) × (a.sector ≡ sector)) }
     ensures none { IfNone result (¬ HasImage (mapped (grain_of unit sector) flash.now)) }
     ensures starts { (b b' : Board) (steps : List BoardStep) → IsOn b → IsRun b steps b' →

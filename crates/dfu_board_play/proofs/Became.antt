@@ -1,22 +1,20 @@
--- What a board becomes as the power goes, as time passes and as the bus is reset.
-use Rattle.std.specs.Prelude.{◌≡◌, ℕ, List, [], ◌∷◌}
+-- What a board becomes as time passes and as the bus is reset.
+use Rattle.std.specs.Prelude.{◌≡◌, ℕ, List}
 use Rattle.std.proofs.Common.{inl, refl, sym, ap, ◌∙◌, subst}
 use Rattle.dfu_slots.specs.Seen.{image_of}
 use Rattle.dfu_device.specs.declared.answer.Answer.{Answer}
-use Rattle.dfu_device.specs.declared.answer.Answer.TheVariants as answer
 use Rattle.dfu_device.specs.Stage.{Profile, Stage, InAppDetach}
 use Rattle.dfu_device.specs.Table.{reset_stage}
-use Rattle.dfu_device.specs.Outcome.{Situation, Outcome, elapsed, powered}
+use Rattle.dfu_device.specs.Outcome.{Situation, Outcome, elapsed}
 use Rattle.dfu_device.specs.Shown.{Shown, profile, situation}
-use Rattle.dfu_device.specs.Rows.{Cause, Passing, BusReset, PowerOn, Elapses}
+use Rattle.dfu_device.specs.Rows.{Passing, BusReset, Elapses}
 use Rattle.dfu_device.specs.Came.{time_came}
 use Rattle.dfu_sim.specs.LinkAgreement.{IsSound}
-use Rattle.dfu_board.specs.Board.{Board, Elapse, UsbReset, Restart, Says, BoardStep}
-use Rattle.dfu_board.specs.Happens.{IsRun}
+use Rattle.dfu_board.specs.Board.{Board, Elapse, UsbReset, Says, BoardStep}
 use Rattle.dfu_board.specs.Refines.{IsIdle, IdleRefines}
-use Rattle.dfu_board_play.specs.Calls.{Serves, Reaches, lost, once, twice, IsBroken, Stops, behind, within, within_second}
-use Rattle.dfu_board_play.proofs.Served.{Broke, served, powers, breaks}
-use Rattle.dfu_board_play.proofs.Fixed.{row_profile, power_row}
+use Rattle.dfu_board_play.specs.Calls.{Serves, Reaches, lost, once, twice}
+use Rattle.dfu_board_play.proofs.Served.{served}
+use Rattle.dfu_board_play.proofs.Fixed.{row_profile}
 use Rattle.dfu_board_play.proofs.Timed.{DeviceWell, well_on, time_device}
 
 -- A board that became this device, whose image and closed bytes are well.
@@ -25,12 +23,6 @@ pub record Became (c : Profile) (past : List (List ℕ)) (s : Situation) (b' : B
   pub idle : IsIdle b' device
   pub profile_is : profile device ≡ c
   pub well : DeviceWell past s (situation device)
-
-powered_well : (past : List (List ℕ)) (s s' : Situation) → s' ≡ powered s → DeviceWell past s s'
-powered_well past s s' e = record {
-  image = inl (ap (λ (x : Situation). x.image) e);
-  sound = subst (λ (x : Situation). IsSound past x.stage) (sym e) tt;
-}
 
 -- A reset of the bus closes no bytes.
 reset_sound : (past : List (List ℕ)) (stage : Stage) → IsSound past (reset_stage stage)
@@ -46,18 +38,6 @@ reset_well past d d' e = record {
 }
 
 module _ (refines : IdleRefines) (c : Profile) (past : List (List ℕ)) where
-  -- Power that comes back on a board with no writes due.
-  pub powers_well : (b b' : Board) (d : Shown) (s : BoardStep) → IsIdle b d → profile d ≡ c → IsRun b (s ∷ []) b' → s.event ≡ Restart
-      → Became c past (situation d) b'
-  powers_well b b' d s k e run event =
-      let x = powers refines b b' d s k run event in
-      record {
-        device = x.device;
-        idle = x.idle;
-        profile_is = row_profile d x.device PowerOn answer.Ack [] x.row ∙ e;
-        well = powered_well past (situation d) (situation x.device) (power_row d x.device answer.Ack [] x.row);
-      }
-
   -- One thing after the other.
   pub then_well : (s : Situation) (b b' : Board) (x : Became c past s b) → Became c past (situation x.device) b' → Became c past s b'
   then_well s b b' x y = record {
@@ -65,19 +45,6 @@ module _ (refines : IdleRefines) (c : Profile) (past : List (List ℕ)) where
     idle = y.idle;
     profile_is = y.profile_is;
     well = well_on past s (situation x.device) (situation y.device) x.well y.well;
-  }
-
-  -- A call that is broken off, whose row does this.
-  pub broken_well : (from d : Shown) (cause : Cause) (b' : Board) (x : Broke d cause b') → profile d ≡ c
-      → DeviceWell past (situation from) (situation x.rows.mid) → Became c past (situation from) b'
-  broken_well from d cause b' x e w = record {
-    device = x.device;
-    idle = x.idle;
-    profile_is = row_profile x.rows.mid x.device PowerOn x.rows.power_answer x.rows.power_out x.rows.power
-        ∙ row_profile d x.rows.mid cause x.rows.answer x.rows.out x.rows.row ∙ e;
-    well = well_on past (situation from) (situation x.rows.mid) (situation x.device) w
-        (powered_well past (situation x.rows.mid) (situation x.device)
-        (power_row x.rows.mid x.device x.rows.power_answer x.rows.power_out x.rows.power));
   }
 
   -- Time that passes.
@@ -101,13 +68,6 @@ module _ (refines : IdleRefines) (c : Profile) (past : List (List ℕ)) where
         well = elapses_well ms d x.device e sound x.row.2;
       }
 
-  -- One within which the power goes.
-  breaks_well : (ms : ℕ) (b b' : Board) (d : Shown) (steps : List BoardStep) → IsIdle b d → profile d ≡ c → IsSound past d.stage
-      → IsRun b steps b' → IsBroken (Elapse ms) steps → Became c past (situation d) b'
-  breaks_well ms b b' d steps k e sound run br =
-      let x = breaks refines b b' d (Elapse ms) (Passing ms) steps refl k run br in
-      broken_well d d (Passing ms) b' x e (elapses_well ms d x.rows.mid e sound x.rows.row.2)
-
   -- One that is lost, or comes once or twice.
   pub reaches_well : (ms : ℕ) (b b' : Board) (d : Shown) (steps : List BoardStep) (says : Says) → IsIdle b d → profile d ≡ c
       → IsSound past d.stage → Reaches (Elapse ms) b steps says b' → Became c past (situation d) b'
@@ -118,17 +78,6 @@ module _ (refines : IdleRefines) (c : Profile) (past : List (List ℕ)) where
       serves more) =
       let x = passes_well ms b mid d first a0 out0 k e sound serves in
       then_well (situation d) mid b' x (passes_well ms mid b' x.device second a out x.idle x.profile_is x.well.sound more)
-
-  -- The power goes with one under way.
-  pub passes_stops : (ms : ℕ) (b b' : Board) (d : Shown) (steps : List BoardStep) → IsIdle b d → profile d ≡ c → IsSound past d.stage
-      → Stops (Elapse ms) b steps b' → Became c past (situation d) b'
-  passes_stops ms b b' d _ k e sound (behind {steps = steps} {says = says} {mid = mid} power reaches run event) =
-      let x = reaches_well ms b mid d steps says k e sound reaches in
-      then_well (situation d) mid b' x (powers_well mid b' x.device power x.idle x.profile_is run event)
-  passes_stops ms b b' d steps k e sound (within run br) = breaks_well ms b b' d steps k e sound run br
-  passes_stops ms b b' d _ k e sound (within_second {first = first} {second = second} {a = a} {out = out} {mid = mid} serves run br) =
-      let x = passes_well ms b mid d first a out k e sound serves in
-      then_well (situation d) mid b' x (breaks_well ms mid b' x.device second x.idle x.profile_is x.well.sound run br)
 
   -- A call of a reset of the bus.
   pub resets_well : (b b' : Board) (d : Shown) (steps : List BoardStep) (a : Answer) (out : List ℕ) → IsIdle b d → profile d ≡ c

@@ -1,13 +1,13 @@
--- What a row leaves as it was: by which profile a device goes, and what power that comes back leaves.
-use Rattle.std.specs.Prelude.{◌≡◌, ℕ, List}
+-- What a row leaves as it was: by which profile a device goes.
+use Rattle.std.specs.Prelude.{◌≡◌, ℕ, List, [], ◌∷◌}
 use Rattle.std.proofs.Common.{ap, ◌∙◌}
-use Rattle.dfu_slots.specs.Seen.{room_restarted, image_restarted}
+use Rattle.dfu_slots.specs.Seen.{room_restarted}
 use Rattle.dfu_device.specs.declared.answer.Answer.{Answer}
-use Rattle.dfu_device.specs.Stage.{InAppIdle}
-use Rattle.dfu_device.specs.Outcome.{powered}
-use Rattle.dfu_device.specs.Shown.{Shown, profile, profile_of, situation}
+use Rattle.dfu_device.specs.Shown.{Shown, profile, profile_of}
 use Rattle.dfu_device.specs.Rows.{Cause, Transfer, Passing, BusReset, PowerOn, Row, Handles, handled_as, setup_plan, asked_length}
 use Rattle.dfu_device.specs.Came.{came, time_came}
+use Rattle.dfu_device.specs.History.{IsHistory}
+use Rattle.dfu_device.specs.History.{Step as TableRow}
 
 handled_profile : (setup body : List ℕ) (d d' : Shown) (a : Answer) (out : List ℕ) → Handles setup body d a out d' → profile d' ≡ profile d
 handled_profile setup body d d' a out (handled_as p q reads asks done) =
@@ -21,7 +21,8 @@ row_profile d d' BusReset a out h = ap profile h.2
 row_profile d d' PowerOn a out h =
     ap profile h.2 ∙ (λ k. profile_of d.config (room_restarted d.slots d.slots.medium.fuse k))
 
--- Power that goes and comes back leaves the image, in appIDLE.
-pub power_row : (d d' : Shown) (a : Answer) (out : List ℕ) → Row d PowerOn a out d' → situation d' ≡ powered (situation d)
-power_row d d' a out h =
-    ap situation h.2 ∙ (λ k. record { image = image_restarted d.slots d.slots.medium.fuse k; stage = InAppIdle })
+-- So does a history.
+pub history_profile : (d d' : Shown) (rows : List TableRow) → IsHistory d rows d' → profile d' ≡ profile d
+history_profile d d' [] h = ap profile h
+history_profile d d' (r ∷ rest) h =
+    history_profile r.after d' rest h.2 ∙ row_profile r.before r.after r.cause r.answer r.out h.1 ∙ ap profile h.0

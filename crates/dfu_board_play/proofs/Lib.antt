@@ -5,5 +5,9 @@ mod Acted
 mod Became
 mod Sent
 mod Played
-mod Ran
+pub mod Ran
 mod Sessions
+mod Parts
+mod Stopped
+mod Within
+mod Throughout

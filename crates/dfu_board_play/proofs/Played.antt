@@ -5,7 +5,7 @@ use Rattle.dfu_slots.specs.Seen.{image_of}
 use Rattle.dfu_device.specs.Stage.{Profile, InAppIdle}
 use Rattle.dfu_device.specs.Outcome.{Situation, Outcome, elapsed}
 use Rattle.dfu_device.specs.Shown.{Shown, profile, situation}
-use Rattle.dfu_device.specs.Rows.{Passing, BusReset}
+use Rattle.dfu_device.specs.Rows.{Cause, Transfer, Passing, BusReset}
 use Rattle.dfu_device.specs.Came.{time_came}
 use Rattle.dfu_host.specs.Phases.{Send, Deed, Nothing as NothingHeard, Waited, WasReset}
 use Rattle.dfu_sim.specs.Session.{Loading, IsOneOf, SaysInPlace}
@@ -20,14 +20,15 @@ use Rattle.dfu_sim.specs.Fact.{SessionFact}
 use Rattle.dfu_sim.specs.Simulation.{Simulation, OnlyOffered}
 use Rattle.dfu_board.specs.Board.{Board, Handle, Elapse, UsbReset, Event, Says, BoardStep}
 use Rattle.dfu_board.specs.Refines.{IsIdle, IdleRefines}
-use Rattle.dfu_board_play.specs.Calls.{Reaches, Stops}
+use Rattle.dfu_board_play.specs.Calls.{Reaches}
 use Rattle.dfu_board_play.specs.Comes.{BoardLink, IsUnderWay, left, Comes, passes, sends, waits, resets, is_reset, restarts}
-use Rattle.dfu_board_play.proofs.Served.{served}
+use Rattle.dfu_board_play.proofs.Served.{IsOf, served}
 use Rattle.dfu_board_play.proofs.Fixed.{row_profile}
 use Rattle.dfu_board_play.proofs.Timed.{DeviceWell, timed}
 use Rattle.dfu_board_play.proofs.Acted.{ActedWell, acted_well, told_well, no_time}
-use Rattle.dfu_board_play.proofs.Became.{Became, then_well, resets_well, reaches_well, passes_stops, elapses_well}
-use Rattle.dfu_board_play.proofs.Sent.{hears_nothing, sent_well, sent_stops}
+use Rattle.dfu_board_play.proofs.Became.{Became, then_well, resets_well, reaches_well, elapses_well}
+use Rattle.dfu_board_play.proofs.Stopped.{stops_by}
+use Rattle.dfu_board_play.proofs.Sent.{hears_nothing, sent_well}
 
 -- No writes are due on a board, it is this device, and what has to hold of it and of the live session holds: its image is the first one or
 -- one of those offered, bytes that were closed are one of these, and so is the payload of the live session, which is the last one.
@@ -81,10 +82,16 @@ took_on c first past last l d d' b' t s idle fixed w = record {
   gives = w.gives;
 }
 
+-- The cause of a call that is under way.
+pub way_cause : (session : Session) (call : Event) → IsUnderWay session call → (cause : Cause) × IsOf call cause
+way_cause session (Elapse ms) way = (Passing ms, refl)
+way_cause (Hosted h) (Handle setup body) way = (Transfer setup body, refl)
+way_cause session call way = elim way [ ]
+
 module _ (refines : IdleRefines) (simulation : Simulation) (only : OnlyOffered) (c : Profile) (sized : 0 < c.transfer)
     (past : List (List ℕ)) where
   -- A call that was under way came to its end.
-  way_well : (session : Session) (call : Event) (b b' : Board) (d : Shown) (steps : List BoardStep) (says : Says) → IsIdle b d
+  pub way_well : (session : Session) (call : Event) (b b' : Board) (d : Shown) (steps : List BoardStep) (says : Says) → IsIdle b d
       → profile d ≡ c → IsSound past d.stage → IsLiveOffer past (live_of session) → SessionFact c (situation d) session
       → IsUnderWay session call → Reaches call b steps says b' → Became c past (situation d) b'
   way_well session (Elapse ms) b b' d steps says k e sound offered f way reaches = reaches_well refines c past ms b b' d steps says k e sound reaches
@@ -93,15 +100,6 @@ module _ (refines : IdleRefines) (simulation : Simulation) (only : OnlyOffered) 
       (hears_nothing (Send q body) says) (λ none. absurd (cc)) in
       record { device = x.device; idle = x.idle; profile_is = x.profile_is; well = x.acted.device }
   way_well session call b b' d steps says k e sound offered f way reaches = elim way [ ]
-
-  -- The power goes with a call under way.
-  stops_well : (session : Session) (call : Event) (b b' : Board) (d : Shown) (steps : List BoardStep) → IsIdle b d → profile d ≡ c
-      → IsSound past d.stage → IsLiveOffer past (live_of session) → SessionFact c (situation d) session → IsUnderWay session call
-      → Stops call b steps b' → Became c past (situation d) b'
-  stops_well session (Elapse ms) b b' d steps k e sound offered f way stops = passes_stops refines c past ms b b' d steps k e sound stops
-  stops_well (Hosted h) (Handle setup body) b b' d steps k e sound offered f (q, is, asked) stops =
-      sent_stops refines simulation only c sized past h q setup body is asked d e sound offered f b b' steps k stops
-  stops_well session call b b' d steps k e sound offered f way stops = elim way [ ]
 
   -- What holds holds again, whatever comes.
   pub went_on : (first : List ℕ) (last : Option (List ℕ)) (l l' : BoardLink) (d : Shown) (steps : List BoardStep) (answer : Answered)
@@ -156,6 +154,9 @@ module _ (refines : IdleRefines) (simulation : Simulation) (only : OnlyOffered) 
       took_on c first past last l d y.device b' (told l.session) s y.idle y.profile_is
       (told_well simulation only c sized past (situation d) (situation y.device) l.session s.offered s.fact y.well)
   went_on first last l _ d steps _ s (restarts {call = call} {b' = b'} way stops) =
-      let x = stops_well l.session call l.board b' d steps s.idle s.profile_is s.sound s.offered s.fact way stops in
+      let cause = way_cause l.session call way in
+      let x = stops_by refines past c l.board b' d call cause.0 steps s.idle s.profile_is s.sound cause.1
+      (λ mid more says reaches. way_well l.session call l.board mid d more says s.idle s.profile_is s.sound s.offered s.fact way reaches)
+      stops in
       took_on c first past last l d x.device b' (told l.session) s x.idle x.profile_is
       (told_well simulation only c sized past (situation d) (situation x.device) l.session s.offered s.fact x.well)

@@ -22,12 +22,11 @@ use Rattle.dfu_sim.specs.Fact.{SessionFact}
 use Rattle.dfu_sim.specs.Simulation.{Simulation, OnlyOffered}
 use Rattle.dfu_board.specs.Board.{Board, Handle, Says, Answers, BoardStep}
 use Rattle.dfu_board.specs.Refines.{IsIdle, IdleRefines}
-use Rattle.dfu_board_play.specs.Calls.{Reaches, lost, once, twice, Stops, behind, within, within_second}
+use Rattle.dfu_board_play.specs.Calls.{Reaches, lost, once, twice}
 use Rattle.dfu_board_play.specs.Comes.{HearsBack}
-use Rattle.dfu_board_play.proofs.Served.{served, breaks}
+use Rattle.dfu_board_play.proofs.Served.{served}
 use Rattle.dfu_board_play.proofs.Fixed.{row_profile}
 use Rattle.dfu_board_play.proofs.Acted.{ActedWell, acted_well}
-use Rattle.dfu_board_play.proofs.Became.{Became, powers_well, then_well, broken_well}
 
 -- Nothing may always be heard.
 pub hears_nothing : (d : Deed) (says : Says) → HearsBack d says NothingHeard
@@ -104,21 +103,3 @@ module _ (refines : IdleRefines) (simulation : Simulation) (only : OnlyOffered) 
             ∙ row_profile d x.device (Transfer setup body) a0 out0 x.row ∙ e;
         acted = twice_well x.device y.device a a0 out out0 heard x.row y.row hears room;
       }
-
-  -- The power goes with it under way.
-  pub sent_stops : (b b' : Board) (steps : List BoardStep) → IsIdle b d → Stops (Handle setup body) b steps b'
-      → Became c past (situation d) b'
-  sent_stops b b' _ k (behind {steps = steps} {says = says} {mid = mid} power reaches run event) =
-      let x = sent_well b mid steps says NothingHeard k reaches (hears_nothing (Send q body) says) (λ none. absurd (cc)) in
-      then_well refines c past (situation d) mid b' (record { device = x.device; idle = x.idle; profile_is = x.profile_is; well = x.acted.device })
-      (powers_well refines c past mid b' x.device power x.idle x.profile_is run event)
-  sent_stops b b' steps k (within run br) =
-      let x = breaks refines b b' d (Handle setup body) (Transfer setup body) steps refl k run br in
-      broken_well refines c past d d (Transfer setup body) b' x e
-      (once_well x.rows.mid x.rows.answer x.rows.out NothingHeard x.rows.row (inl refl) (λ none. absurd (cc))).device
-  sent_stops b b' _ k (within_second {first = first} {second = second} {a = a} {out = out} {mid = mid} serves run br) =
-      let x = served refines b mid d (Handle setup body) (Transfer setup body) first a out refl k serves in
-      let y = breaks refines mid b' x.device (Handle setup body) (Transfer setup body) second refl x.idle run br in
-      let w = (twice_well x.device y.rows.mid y.rows.answer a y.rows.out out NothingHeard x.row y.rows.row (inl refl)
-      (λ none. absurd (cc))).device in
-      broken_well refines c past d x.device (Transfer setup body) b' y (row_profile d x.device (Transfer setup body) a out x.row ∙ e) w

@@ -1,16 +1,14 @@
 -- A call that comes to a board, with its writes, is one row of the device table.
 use Rattle.std.specs.Prelude.{◌≡◌, ℕ, List, [], ◌∷◌, ◌++◌, Option, Some, None}
-use Rattle.std.proofs.Common.{refl, sym, ◌∙◌, subst}
+use Rattle.std.proofs.Common.{sym, ◌∙◌, subst}
 use Rattle.dfu_device.specs.declared.answer.Answer.{Answer}
-use Rattle.dfu_device.specs.declared.answer.Answer.TheVariants as answer
 use Rattle.dfu_device.specs.Shown.{Shown}
-use Rattle.dfu_device.specs.Rows.{Cause, Transfer, Passing, BusReset, PowerOn, Row}
+use Rattle.dfu_device.specs.Rows.{Cause, Transfer, Passing, BusReset, Row}
 use Rattle.dfu_device.specs.History.{IsHistory}
 use Rattle.dfu_device.specs.History.{Step as TableRow}
 use Rattle.dfu_board.specs.Board.{Board, Event, Handle, Elapse, UsbReset, Write, Report, Restart, Says, Nothing, WritesDue, Answers, BoardStep}
-use Rattle.dfu_board.specs.Happens.{IsRun}
-use Rattle.dfu_board.specs.Refines.{IsOne, IsCut, TellsCall, Tells, TellsAll, IsIdle, StandsFor, IdleRefines}
-use Rattle.dfu_board_play.specs.Calls.{CarriesOn, WorksOff, ends, carries_on, IsCall, at_once, with_writes, IsCutOff, power_goes, still_due, IsBroken, broken, Serves}
+use Rattle.dfu_board.specs.Refines.{IsOne, TellsCall, Tells, TellsAll, IsIdle, StandsFor, IdleRefines}
+use Rattle.dfu_board_play.specs.Calls.{CarriesOn, WorksOff, ends, carries_on, IsCall, at_once, with_writes, Serves}
 
 -- The call of this cause.
 abbrev pub IsOf : Event → Cause → Type 0
@@ -19,7 +17,8 @@ IsOf (Elapse ms) cause = cause ≡ Passing ms
 IsOf UsbReset cause = cause ≡ BusReset
 IsOf event cause = ⊥
 
-tells_of : (call : Event) (cause : Cause) (due due' : Option Cause) (says : Says) (rows : List TableRow) → IsOf call cause
+-- Its event tells of its rows.
+pub tells_of : (call : Event) (cause : Cause) (due due' : Option Cause) (says : Says) (rows : List TableRow) → IsOf call cause
     → Tells due call says rows due' → TellsCall cause due says rows due'
 tells_of (Handle setup body) cause due due' says rows is t = subst (λ (x : Cause). TellsCall x due says rows due') (sym is) t
 tells_of (Elapse ms) cause due due' says rows is t = subst (λ (x : Cause). TellsCall x due says rows due') (sym is) t
@@ -32,7 +31,7 @@ refused : (cause due : Cause) (due' : Option Cause) (says : Says) (rows : List T
 refused cause due due' says rows e t = subst (λ (x : Says). TellsCall cause (Some due) x rows due') e t
 
 -- Nor has what carries on the writes.
-carried : (e : Event) (says : Says) (due : Cause) (due' : Option Cause) (rows : List TableRow) → CarriesOn e says
+pub carried : (e : Event) (says : Says) (due : Cause) (due' : Option Cause) (rows : List TableRow) → CarriesOn e says
     → Tells (Some due) e says rows due' → (rows ≡ []) × (due' ≡ Some due)
 carried Write says due due' rows c t = t
 carried (Report failed) (Answers a out) due due' rows c t = elim c [ ]
@@ -41,7 +40,7 @@ carried (Report failed) WritesDue due due' rows c t = t
 carried (Handle setup body) says due due' rows c t = refused (Transfer setup body) due due' says rows c t
 carried (Elapse ms) says due due' rows c t = refused (Passing ms) due due' says rows c t
 carried UsbReset says due due' rows c t = refused BusReset due due' says rows c t
-carried Restart says due due' rows c t = elim c [ ]
+carried (Restart begins) says due due' rows c t = elim c [ ]
 
 -- The rows of a call that is answered: one of its cause, with this answer, and nothing is due.
 answered : (cause : Cause) (due due' end : Option Cause) (says : Says) (a : Answer) (out : List ℕ) (rows first later : List TableRow)
@@ -83,34 +82,6 @@ call_tells call cause a out _ rows due is (with_writes s rest event says w) (fir
     let y = works_off cause a out rest later due w (subst (λ (z : Option Cause). TellsAll z rest later due) x.1 more) in
     (subst (λ (r : List TableRow). IsOne cause a out r) (sym same) y.0, y.1)
 
-cut_off : (cause : Cause) (steps : List BoardStep) (rows : List TableRow) (due : Option Cause) → IsCutOff steps
-    → TellsAll (Some cause) steps rows due → IsCut cause rows × (due ≡ None)
-cut_off cause _ rows due (power_goes s event) (first, later, mid, are, t, more) =
-    let x : IsCut cause first × (mid ≡ None) = subst (λ (y : Event). Tells (Some cause) y s.says first mid) event t in (
-      record {
-        row = x.0.row;
-        power = x.0.power;
-        rows_are = are ∙ (λ i. x.0.rows_are i ++ more.0 i);
-        cause_is = x.0.cause_is;
-        power_is = x.0.power_is;
-      },
-      more.1 ∙ x.1,
-    )
-cut_off cause _ rows due (still_due s rest c w) (first, later, mid, are, t, more) =
-    let x = carried s.event s.says cause mid first c t in
-    let same : rows ≡ later = are ∙ (λ i. x.0 i ++ later) in
-    let y = cut_off cause rest later due w (subst (λ (z : Option Cause). TellsAll z rest later due) x.1 more) in
-    (subst (λ (r : List TableRow). IsCut cause r) (sym same) y.0, y.1)
-
-broken_tells : (call : Event) (cause : Cause) (steps : List BoardStep) (rows : List TableRow) (due : Option Cause) → IsOf call cause
-    → IsBroken call steps → TellsAll None steps rows due → IsCut cause rows × (due ≡ None)
-broken_tells call cause _ rows due is (broken s rest event says w) (first, later, mid, are, t, more) =
-    let told = tells_of call cause None mid s.says first is (subst (λ (x : Event). Tells None x s.says first mid) event t) in
-    let x : (first ≡ []) × (mid ≡ Some cause) = subst (λ (y : Says). TellsCall cause None y first mid) says told in
-    let same : rows ≡ later = are ∙ (λ i. x.0 i ++ later) in
-    let y = cut_off cause rest later due w (subst (λ (z : Option Cause). TellsAll z rest later due) x.1 more) in
-    (subst (λ (r : List TableRow). IsCut cause r) (sym same) y.0, y.1)
-
 -- A history of one row is that row.
 one_row : (d d' : Shown) (cause : Cause) (a : Answer) (out : List ℕ) (rows : List TableRow) → IsOne cause a out rows
     → IsHistory d rows d' → Row d cause a out d'
@@ -123,43 +94,10 @@ one_row d d' cause a out rows one h =
     (subst (λ (z : Answer). Row d one.row.cause z out d') one.answer_is
     (subst (λ (z : List ℕ). Row d one.row.cause one.row.answer z d') one.out_is row))
 
--- A history of a row that is cut off is that row, with some answer, and then the row of power.
-pub record CutRows (d d' : Shown) (cause : Cause) : Type 0 where
-  pub answer : Answer
-  pub out : List ℕ
-  pub mid : Shown
-  pub row : Row d cause answer out mid
-  pub power_answer : Answer
-  pub power_out : List ℕ
-  pub power : Row mid PowerOn power_answer power_out d'
-
-cut_rows : (d d' : Shown) (cause : Cause) (rows : List TableRow) → IsCut cause rows → IsHistory d rows d' → CutRows d d' cause
-cut_rows d d' cause rows cut h =
-    let x : IsHistory d (cut.row ∷ cut.power ∷ []) d' = subst (λ (r : List TableRow). IsHistory d r d') cut.rows_are h in
-    let row = one_row d cut.row.after cause cut.row.answer cut.row.out (cut.row ∷ [])
-    (record { row = cut.row; rows_are = refl; cause_is = cut.cause_is; answer_is = refl; out_is = refl }) (x.0, x.1, refl) in
-    let power = one_row cut.row.after d' PowerOn cut.power.answer cut.power.out (cut.power ∷ [])
-    (record { row = cut.power; rows_are = refl; cause_is = cut.power_is; answer_is = refl; out_is = refl }) x.2 in
-    record {
-      answer = cut.row.answer;
-      out = cut.row.out;
-      mid = cut.row.after;
-      row = row;
-      power_answer = cut.power.answer;
-      power_out = cut.power.out;
-      power = power;
-    }
-
 -- What a call leaves: the row of its cause, and no writes are due.
 pub record Served (d : Shown) (cause : Cause) (a : Answer) (out : List ℕ) (b' : Board) : Type 0 where
   pub device : Shown
   pub row : Row d cause a out device
-  pub idle : IsIdle b' device
-
--- What a call leaves that is broken off.
-pub record Broke (d : Shown) (cause : Cause) (b' : Board) : Type 0 where
-  pub device : Shown
-  pub rows : CutRows d device cause
   pub idle : IsIdle b' device
 
 module _ (refines : IdleRefines) where
@@ -172,37 +110,5 @@ module _ (refines : IdleRefines) where
       record {
         device = r.device;
         row = one_row d r.device cause a out r.rows t.0 r.history;
-        idle = subst (λ (x : Option Cause). StandsFor b' x r.device) t.1 r.stands;
-      }
-
-  -- The power that goes and comes back, while no writes are due, is its own row.
-  pub powers : (b b' : Board) (d : Shown) (s : BoardStep) → IsIdle b d → IsRun b (s ∷ []) b' → s.event ≡ Restart
-      → Served d PowerOn answer.Ack [] b'
-  powers b b' d s k run e =
-      let r = refines b b' d (s ∷ []) k run in
-      let (first, later, mid, are, t, more) = r.tells in
-      let x : IsOne PowerOn answer.Ack [] first × (mid ≡ None) = subst (λ (y : Event). Tells None y s.says first mid) e t in
-      let one : IsOne PowerOn answer.Ack [] r.rows = record {
-        row = x.0.row;
-        rows_are = are ∙ (λ i. x.0.rows_are i ++ more.0 i);
-        cause_is = x.0.cause_is;
-        answer_is = x.0.answer_is;
-        out_is = x.0.out_is;
-      } in
-      record {
-        device = r.device;
-        row = one_row d r.device PowerOn answer.Ack [] r.rows one r.history;
-        idle = subst (λ (z : Option Cause). StandsFor b' z r.device) (more.1 ∙ x.1) r.stands;
-      }
-
-  -- A call within which the power goes is its row, broken off, and then the row of power.
-  pub breaks : (b b' : Board) (d : Shown) (call : Event) (cause : Cause) (steps : List BoardStep) → IsOf call cause → IsIdle b d
-      → IsRun b steps b' → IsBroken call steps → Broke d cause b'
-  breaks b b' d call cause steps is k run br =
-      let r = refines b b' d steps k run in
-      let t = broken_tells call cause steps r.rows r.due is br r.tells in
-      record {
-        device = r.device;
-        rows = cut_rows d r.device cause r.rows t.0 r.history;
         idle = subst (λ (x : Option Cause). StandsFor b' x r.device) t.1 r.stands;
       }

@@ -1,5 +1,5 @@
 -- Sessions with a board: the laws.
-use Rattle.std.specs.Prelude.{◌≡◌, ◌⊎◌, ℕ, ◌<◌, Bool, true, List, [], ◌∷◌, length, Option, Some, None}
+use Rattle.std.specs.Prelude.{◌≡◌, ◌⊎◌, ℕ, ◌<◌, Bool, true, List, [], ◌∷◌, ◌++◌, length, Option, Some, None}
 use Rattle.std.proofs.Common.{inl, inr, refl, sym, ap, ◌∙◌, subst}
 use Rattle.dfu_slots.specs.Image.{Active, HasImage}
 use Rattle.dfu_slots.specs.Seen.{SlotsState, image_of}
@@ -28,9 +28,12 @@ use Rattle.dfu_board.specs.Board.{Board, lent_on, medium_on, device_on, state_on
 use Rattle.dfu_board.specs.Happens.{IsOn}
 use Rattle.dfu_board.specs.Refines.{IsIdle, IdleRefines}
 use Rattle.dfu_board_play.specs.Comes.{BoardLink}
-use Rattle.dfu_board_play.specs.Plays.{opened_on, Plays, starts, offers, uploads, aborts as gives_up, goes_on, PlaysInstall, PlaysGive, PlaysKnow}
+use Rattle.dfu_board_play.specs.Plays.{opened_on, Plays, starts, offers, uploads, aborts as gives_up, goes_on, PlaysInstall, PlaysGive, PlaysKnow, PlaysKnowWithin}
 use Rattle.dfu_board_play.proofs.Acted.{machine, agrees}
 use Rattle.dfu_board_play.proofs.Played.{Stands, went_on}
+use Rattle.dfu_board_play.proofs.Stopped.{start_sound}
+use Rattle.dfu_board_play.proofs.Within.{rest_known}
+use Rattle.dfu_board_play.proofs.Throughout.{comes_known}
 
 -- Sessions that begin.
 
@@ -126,7 +129,7 @@ module _ (refines : IdleRefines) (simulation : Simulation) (only : OnlyOffered) 
       fact = tt;
       live = λ payload x. absurd (cc);
       offered = tt;
-      sound = subst (λ (x : Shown). IsSound [] x.stage) (sym on.device) tt;
+      sound = subst (λ (x : Shown). IsSound [] x.stage) (sym on.device) (start_sound [] on.begins);
       known = inl i;
     };
   }
@@ -213,3 +216,13 @@ module _ (refines : IdleRefines) (simulation : Simulation) (only : OnlyOffered) 
       let x = stands refines simulation only (profile (device_on b)) sized image b steps past last l on refl
       (sym (one (store_in (lent_on b) b.flash) image active)) plays in
       record { now = image_of x.device.slots; active = active_idle l.board x.device x.stands.idle; known = x.stands.known }
+
+  -- It is known at each step of what comes next.
+  pub plays_know_within : OneImage → PlaysKnowWithin
+  plays_know_within one b mid steps front rest past last l l' answer image on sized active plays comes run =
+      let c : Profile = profile (device_on b) in
+      let x = stands refines simulation only c sized image b steps past last l on refl
+      (sym (one (store_in (lent_on b) b.flash) image active)) plays in
+      let y = went_on refines simulation only c sized past image last l l' x.device (front ++ rest) answer x.stands comes in
+      let at = rest_known refines c image past l'.board y.device y.stands.idle (record { sound = y.stands.sound; known = y.stands.known }) in
+      comes_known refines simulation only c sized image past last l l' x.device (front ++ rest) answer x.stands at comes front rest mid refl run

@@ -10,7 +10,7 @@ abbrev pub CarriesOn : Event → Says → Type 0
 CarriesOn Write says = Unit {0}
 CarriesOn (Report failed) (Answers a out) = ⊥
 CarriesOn (Report failed) says = Unit {0}
-CarriesOn Restart says = ⊥
+CarriesOn (Restart begins) says = ⊥
 CarriesOn event says = says ≡ Nothing
 
 -- Writes are due, and these steps come until the last of them answers like this.
@@ -26,7 +26,7 @@ pub data IsCall (call : Event) (a : Answer) (out : List ℕ) : List BoardStep �
 
 -- Writes are due, and these steps come until the power goes.
 pub data IsCutOff : List BoardStep → Type 0 where
-  power_goes : (s : BoardStep) → s.event ≡ Restart → IsCutOff (s ∷ [])
+  power_goes : (s : BoardStep) (begins : Bool) → s.event ≡ Restart begins → IsCutOff (s ∷ [])
   still_due : (s : BoardStep) (rest : List BoardStep) → CarriesOn s.event s.says → IsCutOff rest → IsCutOff (s ∷ rest)
 
 -- These steps are a call that asks for writes, and the power goes before it is answered.
@@ -48,8 +48,8 @@ pub data Reaches (call : Event) (b : Board) : List BoardStep → Says → Board 
 
 -- A call goes to a board over a link, and the power goes: before it is handed in or behind its answers, within it, or within the second one.
 pub data Stops (call : Event) (b : Board) : List BoardStep → Board → Type 0 where
-  behind : {steps : List BoardStep} {says : Says} {mid b' : Board} (power : BoardStep) → Reaches call b steps says mid
-      → IsRun mid (power ∷ []) b' → power.event ≡ Restart → Stops call b (steps ++ power ∷ []) b'
+  behind : {steps : List BoardStep} {says : Says} {mid b' : Board} (power : BoardStep) (begins : Bool) → Reaches call b steps says mid
+      → IsRun mid (power ∷ []) b' → power.event ≡ Restart begins → Stops call b (steps ++ power ∷ []) b'
   within : {steps : List BoardStep} {b' : Board} → IsRun b steps b' → IsBroken call steps → Stops call b steps b'
   within_second : {first second : List BoardStep} {a : Answer} {out : List ℕ} {mid b' : Board} → Serves b call first a out mid
       → IsRun mid second b' → IsBroken call second → Stops call b (first ++ second) b'

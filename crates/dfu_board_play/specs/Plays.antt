@@ -69,6 +69,12 @@ PlaysKnow = (b : Board) (steps : List BoardStep) (past : List (List ℕ)) (last 
     → IsOn b → 0 < b.asking.config.functional.transfer → Active (medium_on b) image → Plays b steps past last l
     → HasKnown image past l.board
 
+-- So it is at each step of what comes next, also between two writes of a call that is under way: after the first of its steps.
+abbrev pub PlaysKnowWithin : Type 0
+PlaysKnowWithin = (b mid : Board) (steps front rest : List BoardStep) (past : List (List ℕ)) (last : Option (List ℕ)) (l l' : BoardLink)
+    (answer : Answered) (image : List ℕ) → IsOn b → 0 < b.asking.config.functional.transfer → Active (medium_on b) image
+    → Plays b steps past last l → Comes l (front ++ rest) answer l' → IsRun l.board front mid → HasKnown image past mid
+
 -- All that comes to the board is a run of it, so what holds of runs holds.
 abbrev pub PlaysRun : Type 0
 PlaysRun = (b : Board) (steps : List BoardStep) (past : List (List ℕ)) (last : Option (List ℕ)) (l : BoardLink)

@@ -1,8 +1,8 @@
 -- Each step of a board in C is one of a board.
-use Rattle.std.specs.Prelude.{◌≡◌, ◌≤◌, ◌==◌, not, ℕ, ℤ, List, [], length, replicate, Some}
+use Rattle.std.specs.Prelude.{◌≡◌, ◌≤◌, ◌==◌, not, ℕ, ℤ, Bool, true, false, List, [], length, replicate, Some}
 use Rattle.std.proofs.Common.{inl, inr, refl, sym, ap, ◌∙◌, subst, arith}
 use Rattle.dfu_device.specs.declared.answer.Answer.TheVariants as answer
-use Rattle.dfu_device.specs.declared.mode.Mode.TheVariants.{AppIdle}
+use Rattle.dfu_device.specs.Parts.{stage_of}
 use Rattle.dfu_device.specs.Setting.{Setting}
 use Rattle.dfu_device.specs.Table.{reset_stage}
 use Rattle.dfu_device.specs.Shown.{Shown, powered_on}
@@ -15,7 +15,7 @@ use Rattle.dfu_asks.specs.Refused.{Fits}
 use Rattle.dfu_asks.specs.Refused.{IsKept as IsWhole}
 use Rattle.dfu_asks.specs.Calls.{Took}
 use Rattle.dfu_board.specs.Board.{Says, Nothing, Answers}
-use Rattle.dfu_board.specs.Happens.{Happens, IsOn, said_by}
+use Rattle.dfu_board.specs.Happens.{start_stage, Starts, Happens, said_by}
 use Rattle.dfu_device_c.specs.declared.ask.DfuAsk.{DfuAsk}
 use Rattle.dfu_device_c.specs.declared.config.DfuConfig.{DfuConfig}
 use Rattle.dfu_device_c.specs.declared.record.DfuRecord.{DfuRecord}
@@ -32,7 +32,7 @@ use Rattle.dfu_asks.specs.declared.reply.Reply.TheVariants as reply
 use Rattle.dfu_asks.specs.Calls.{Called, called_ended}
 use Rattle.dfu_device.specs.Rows.{Handles}
 use Rattle.dfu_device_c.specs.Board.{CoreBoard, CoreEvent, CoreHandle, CoreElapse, CoreReset, CoreTooLong, CoreWrite, CoreTook, CoreRestart}
-use Rattle.dfu_device_c.specs.Happens.{IsCalled, Handled, Elapsed, Reset, TookLong, Told, IsWritten, CoreHappens}
+use Rattle.dfu_device_c.specs.Happens.{IsCalled, Handled, Elapsed, Reset, TookLong, Told, IsWritten, start_mode, CoreHappens}
 use Rattle.dfu_device_c.specs.Steps.{board_of, event_of, IsRefusal, EventSays}
 use Rattle.dfu_device_c.proofs.Same.{no_work, one_device}
 use Rattle.dfu_device_c.proofs.Parts.{reply_says, passed_says, served_step, passed_step, told_step}
@@ -336,28 +336,37 @@ write_turn b a n out' b' sound w =
       told = (w.handed.number_is, refl);
     }
 
+same_start : (begins : Bool) → stage_of (start_mode begins) [] [] ≡ start_stage begins
+same_start true = refl
+same_start false = refl
+
 -- A board in C that got power is a board that did.
-pub powers_on : (b : CoreBoard) (n : ℤ) → (p : Powers b.config AppIdle b.flash n b.kept) → IsSound b p.after × IsOn (board_of b p.after)
-powers_on b n p =
+pub powers_on : (b : CoreBoard) (n : ℤ) (begins : Bool) → (p : Powers b.config (start_mode begins) b.flash n b.kept)
+    → IsSound b p.after × Starts begins (board_of b p.after)
+powers_on b n begins p =
     let none : b.kept.length ≡ 0 = ap (λ (r : DfuRecord). r.length) p.rest in (
       record { config = p.config; kept = p.is; short = omega (arith, none, p.is.block) },
-      record {
-        device = p.shows b.block ∙ (λ i. powered_on (sym p.is.set_up.config_is i) (mapped (record {
-          unit = sym p.is.set_up.unit_is i;
-          sector = sym p.is.set_up.sector_is i;
-        }) b.flash));
-        is = p.device b.block;
-        work = p.work;
-      },
+      (
+        record {
+          begins = begins;
+          device = p.shows b.block ∙ (λ i. record (powered_on (sym p.is.set_up.config_is i) (mapped (record {
+            unit = sym p.is.set_up.unit_is i;
+            sector = sym p.is.set_up.sector_is i;
+          }) b.flash)) { stage = same_start begins i });
+          is = p.device b.block;
+          work = p.work;
+        },
+        refl,
+      ),
     )
 
--- dfu_core_power_on.
-restart_turn : (b : CoreBoard) (a : Asking) (n : ℤ) (out' : List ℕ) (b' : CoreBoard) → IsCalled b b'
-    → Powers b.config AppIdle b.flash n b'.kept → IsTurn b a CoreRestart n out' b'
-restart_turn b a n out' b' called powers =
-    let here = subst (λ (c : DfuConfig). Powers c AppIdle b'.flash n b'.kept) (sym called.config)
-    (subst (λ (f : List ℕ). Powers b.config AppIdle f n b'.kept) (sym called.flash) powers) in
-    let on = powers_on b' n here in
+-- dfu_core_power_on and dfu_core_begin.
+restart_turn : (b : CoreBoard) (a : Asking) (begins : Bool) (n : ℤ) (out' : List ℕ) (b' : CoreBoard) → IsCalled b b'
+    → Powers b.config (start_mode begins) b.flash n b'.kept → IsTurn b a (CoreRestart begins) n out' b'
+restart_turn b a begins n out' b' called powers =
+    let here = subst (λ (c : DfuConfig). Powers c (start_mode begins) b'.flash n b'.kept) (sym called.config)
+    (subst (λ (f : List ℕ). Powers b.config (start_mode begins) f n b'.kept) (sym called.flash) powers) in
+    let on = powers_on b' n begins here in
     record {
       config = called.config;
       after = here.after;
@@ -376,4 +385,4 @@ turn b a CoreReset n out' b' sound is = reset_turn b a n out' b' sound is.0 is.1
 turn b a (CoreTooLong setup body) n out' b' sound is = long_turn b a setup body n out' b' sound is.0 is.1 is.2 is.3 is.4
 turn b a CoreWrite n out' b' sound is = write_turn b a n out' b' sound is
 turn b a (CoreTook failed out) n out' b' sound is = took_turn b a failed out n out' b' sound is.0 is.1 is.2
-turn b a CoreRestart n out' b' sound is = restart_turn b a n out' b' is.0 is.1
+turn b a (CoreRestart begins) n out' b' sound is = restart_turn b a begins n out' b' is.0 is.1

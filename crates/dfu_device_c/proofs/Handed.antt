@@ -1,6 +1,13 @@
 -- The step that a program in C is handed is the one that its device asks for.
-use Rattle.std.proofs.Common.{◌≡◌, ◌⊎◌, ◌==◌, ℕ, Bool, true, false, List, take, replicate, if◌then◌else◌, inl, inr, refl, arith}
+use Rattle.std.proofs.Common.{◌≡◌, ◌⊎◌, ◌==◌, ℕ, ℤ, pos, Bool, true, false, List, take, replicate, if◌then◌else◌, inl, inr, refl, sym, ◌∙◌, arith}
+use Rattle.dfu_asks.specs.declared.asking.Asking.{Asking}
 use Rattle.dfu_asks.specs.Steps.{Step}
+use Rattle.dfu_device_c.specs.declared.config.DfuConfig.{DfuConfig}
+use Rattle.dfu_device_c.specs.declared.record.DfuRecord.{DfuRecord}
+use Rattle.dfu_device_c.specs.declared.refusal.Refusal.{Refusal}
+use Rattle.dfu_device_c.specs.declared.refusal.Refusal.TheVariants as refusal
+use Rattle.dfu_device_c.specs.Numbers.{refusal_number}
+use Rattle.dfu_device_c.specs.Writes.{RefusesPiece, refuses_unfound, refuses_piece}
 
 -- The number of a piece is that of an erase or of a program.
 pub is_kind : (erases : Bool) (k : ℕ) → k ≡ (if erases then 1 else 2) → (k ≡ 1) ⊎ (k ≡ 2)
@@ -28,3 +35,16 @@ pub same_step : (erases : Bool) (k at n : ℕ) (bytes : List ℕ) → k ≡ (if 
     → by_number k at n bytes ≡ by_flag erases at n bytes
 same_step true k at n bytes e = λ i. by_number (e i) at n bytes
 same_step false k at n bytes e = λ i. by_number (e i) at n bytes
+
+refusal_some : (e : Refusal) → refusal_number e ≡ pos 0 → ⊥
+refusal_some refusal.NoConfig is = absurd (cc)
+refusal_some refusal.NoBlock is = absurd (cc)
+refusal_some refusal.Asked is = absurd (cc)
+refusal_some refusal.NoMedium is = absurd (cc)
+refusal_some refusal.NoDevice is = absurd (cc)
+
+-- A call that answers 0 is not refused.
+pub never_refused : (c : DfuConfig) (r : DfuRecord) (block : List ℕ) (Why : Asking → Type 0) (n : ℤ) → RefusesPiece c r block Why n
+    → n ≡ pos 0 → ⊥
+never_refused c r block Why n (refuses_unfound e is cause) zero = refusal_some e (sym is ∙ zero)
+never_refused c r block Why n (refuses_piece a is config room kept why) zero = refusal_some refusal.NoDevice (sym is ∙ zero)

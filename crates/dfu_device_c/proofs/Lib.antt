@@ -12,4 +12,8 @@ pub mod ImagePlaces
 pub mod Same
 pub mod Parts
 pub mod Each
+pub mod Fits
 pub mod Runs
+pub mod Played
+pub mod GoesOn
+pub mod FormatCalls

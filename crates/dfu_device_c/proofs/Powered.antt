@@ -106,8 +106,8 @@ begins c flash r got = record {
 }
 
 -- A device got power if the number is 0.
-pub power_zero : (c : DfuConfig) (flash : List ℕ) (n : ℤ) (r r' : DfuRecord) → n ≡ pos 0
-    → Powers c mode.AppIdle flash n r' ⊎ (RefusesPower c flash n × (r' ≡ r)) → Powers c mode.AppIdle flash (pos 0) r'
-power_zero c flash n r r' zero (inl powers) = subst (λ (x : ℤ). Powers c mode.AppIdle flash x r') zero powers
-power_zero c flash n r r' zero (inr (inl (is, bad), same)) = absurd (cc)
-power_zero c flash n r r' zero (inr (inr (is, config, none), same)) = absurd (cc)
+pub power_zero : (c : DfuConfig) (m : Mode) (flash : List ℕ) (n : ℤ) (r r' : DfuRecord) → n ≡ pos 0
+    → Powers c m flash n r' ⊎ (RefusesPower c flash n × (r' ≡ r)) → Powers c m flash (pos 0) r'
+power_zero c m flash n r r' zero (inl powers) = subst (λ (x : ℤ). Powers c m flash x r') zero powers
+power_zero c m flash n r r' zero (inr (inl (is, bad), same)) = absurd (cc)
+power_zero c m flash n r r' zero (inr (inr (is, config, none), same)) = absurd (cc)

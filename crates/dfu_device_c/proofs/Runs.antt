@@ -1,5 +1,5 @@
 -- Whole runs of a board in C.
-use Rattle.std.specs.Prelude.{◌≡◌, ◌≤◌, ◌<◌, ◌^◌, pos, List, [], ◌∷◌, length}
+use Rattle.std.specs.Prelude.{◌≡◌, ◌≤◌, ◌<◌, ◌^◌, Bool, true, false, pos, List, [], ◌∷◌, length, None}
 use Rattle.std.proofs.Common.{inl, inr, refl, sym, ap, ◌∙◌, subst, arith}
 use Rattle.dfu_wire.specs.declared.states.State.{State}
 use Rattle.dfu_slots.specs.declared.unit.Unit.{Unit as WriteUnit}
@@ -13,18 +13,19 @@ use Rattle.dfu_device.specs.Parts.{stage_of}
 use Rattle.dfu_asks.specs.declared.asking.Asking.{Asking}
 use Rattle.dfu_asks.specs.Mapped.{mapped}
 use Rattle.dfu_asks.specs.Asks.{grain_in}
-use Rattle.dfu_board.specs.Board.{Board, BoardStep, lent_on, medium_on, state_on}
+use Rattle.dfu_board.specs.Board.{Board, Event, Restart, BoardStep, lent_on, medium_on, device_on, state_on}
 use Rattle.dfu_board.specs.Happens.{IsRun}
 use Rattle.dfu_board.specs.Keeps.{RunKeeps, RunStays, RunInstalls, taken_by, is_manifesting, has_manifested}
 use Rattle.dfu_board.specs.Refines.{RunRefines}
 use Rattle.dfu_device_c.specs.declared.config.DfuConfig.{DfuConfig}
 use Rattle.dfu_device_c.specs.Config.{grain_of}
 use Rattle.dfu_device_c.specs.Kept.{IsKept}
-use Rattle.dfu_device_c.specs.Board.{CoreBoard, CoreStep, flash_of, IsIn}
+use Rattle.dfu_device_c.specs.Board.{CoreBoard, CoreEvent, CoreHandle, CoreElapse, CoreReset, CoreTooLong, CoreWrite, CoreTook, CoreRestart, CoreStep, flash_of, IsIn}
 use Rattle.dfu_device_c.specs.Happens.{IsCoreRun}
 use Rattle.dfu_device_c.specs.Steps.{board_of, event_of, IsBoardOf, AreStepsOf}
 use Rattle.dfu_device_c.specs.Runs.{IsRunOf, CoreRefines, CoreKeeps, CoreStays, CoreInstalls, CoreStarts}
 use Rattle.dfu_device_c.proofs.Same.{one_mode, set_up_alike}
+use Rattle.dfu_device_c.proofs.Fits.{all_fit}
 use Rattle.dfu_device_c.proofs.Each.{IsSound, powers_on, turn}
 
 -- From a board in C that is this device, steps lead to one that is another.
@@ -40,7 +41,7 @@ is_board : (b : CoreBoard) (a : Asking) → IsSound b a → IsBoardOf b (board_o
 is_board b a sound = record { kept = sound.kept; is = refl }
 
 -- The flash of a board in C is that of the board.
-same_flash : (b : CoreBoard) (x : Board) → IsBoardOf b x → medium_on x ≡ flash_of b
+pub same_flash : (b : CoreBoard) (x : Board) → IsBoardOf b x → medium_on x ≡ flash_of b
 same_flash b x is = λ i. mapped (record { unit = is.kept.set_up.unit_is i; sector = is.kept.set_up.sector_is i }) (is.is i).flash
 
 -- So is its state.
@@ -99,25 +100,27 @@ run_of b a steps b' sound ran = record {
 -- Runs from power on are runs of a board.
 pub core_refines : RunRefines → CoreRefines
 core_refines refines b b' steps on run =
-    let start = powers_on b (pos 0) on in
-    let ran = run_to b on.after steps b' start.0 run in
+    let start = powers_on b (pos 0) on.begins on.powers in
+    let ran = run_to b on.powers.after steps b' start.0 run in
+    let refined = refines (board_of b on.powers.after) (board_of b' ran.last) ran.run start.1.0 ran.is_run in
     record {
-      runs = run_of b on.after steps b' start.0 ran;
-      on = start.1;
-      refined = refines (board_of b on.after) (board_of b' ran.last) ran.run start.1 ran.is_run;
+      runs = run_of b on.powers.after steps b' start.0 ran;
+      on = start.1.0;
+      refined = refined;
+      fit = all_fit ran.run None refined.due refined.rows (device_on (board_of b on.powers.after)) refined.device refined.tells refined.history;
     }
 
 pub core_keeps : RunKeeps → CoreKeeps
 unfolding run_to
 core_keeps keeps b b' steps image on active run =
-    let start = powers_on b (pos 0) on in
-    let none = run_to b on.after [] b start.0 refl in
-    let ran = run_to b on.after steps b' start.0 run in
-    let first = subst (λ (m : MediumState). Active m image) (sym (same_flash b (board_of b on.after) (is_board b on.after start.0))) active in
-    let kept = keeps (board_of b on.after) (board_of b' ran.last) ran.run image start.1 first ran.is_run in
+    let start = powers_on b (pos 0) on.begins on.powers in
+    let none = run_to b on.powers.after [] b start.0 refl in
+    let ran = run_to b on.powers.after steps b' start.0 run in
+    let first = subst (λ (m : MediumState). Active m image) (sym (same_flash b (board_of b on.powers.after) (is_board b on.powers.after start.0))) active in
+    let kept = keeps (board_of b on.powers.after) (board_of b' ran.last) ran.run image start.1.0 first ran.is_run in
     record {
-      past = run_of b on.after [] b start.0 none;
-      runs = run_of b on.after steps b' start.0 ran;
+      past = run_of b on.powers.after [] b start.0 none;
+      runs = run_of b on.powers.after steps b' start.0 ran;
       kept = kept;
       active = subst (λ (m : MediumState). Active m kept.now)
           (same_flash b' (board_of b' ran.last) (is_board b' ran.last ran.sound)) kept.active;
@@ -125,33 +128,48 @@ core_keeps keeps b b' steps image on active run =
 
 pub core_stays : RunStays → CoreStays
 core_stays stays b mid b' old steps image state on before is other active run =
-    let start = powers_on b (pos 0) on in
-    let past = run_to b on.after old mid start.0 before in
+    let start = powers_on b (pos 0) on.begins on.powers in
+    let past = run_to b on.powers.after old mid start.0 before in
     let ran = run_to mid past.last steps b' past.sound run in
     let here = subst (λ (m : MediumState). Active m image)
     (sym (same_flash mid (board_of mid past.last) (is_board mid past.last past.sound))) active in
-    let kept = stays (board_of b on.after) (board_of mid past.last) (board_of b' ran.last) past.run ran.run image start.1 past.is_run
+    let kept = stays (board_of b on.powers.after) (board_of mid past.last) (board_of b' ran.last) past.run ran.run image start.1.0 past.is_run
     (ap (λ (s : State). is_manifesting s) (same_state mid past.last state past.sound is) ∙ other) here ran.is_run in
     record {
-      past = run_of b on.after old mid start.0 past;
+      past = run_of b on.powers.after old mid start.0 past;
       runs = run_of mid past.last steps b' past.sound ran;
       kept = kept;
       active = subst (λ (m : MediumState). Active m kept.now)
           (same_flash b' (board_of b' ran.last) (is_board b' ran.last ran.sound)) kept.active;
     }
 
+-- Only dfu_core_begin is the event that begins.
+core_begins : (c : DfuConfig) (e : CoreEvent) → event_of c e ≡ Restart true → e ≡ CoreRestart true
+core_begins c (CoreRestart begins) same = ap CoreRestart (ap begins_of same)
+  where
+    begins_of : Event → Bool
+    begins_of (Restart begins) = begins
+    begins_of e = false
+core_begins c (CoreHandle setup body out) same = absurd (cc)
+core_begins c (CoreElapse ms) same = absurd (cc)
+core_begins c CoreReset same = absurd (cc)
+core_begins c (CoreTooLong setup body) same = absurd (cc)
+core_begins c CoreWrite same = absurd (cc)
+core_begins c (CoreTook failed out) same = absurd (cc)
+
 pub core_installs : RunInstalls → CoreInstalls
 unfolding run_to
-core_installs installs b mid b' steps last state state' on before is waits run is' over =
-    let start = powers_on b (pos 0) on in
-    let past = run_to b on.after steps mid start.0 before in
+core_installs installs b mid b' steps last state state' on before is waits run other is' over =
+    let start = powers_on b (pos 0) on.begins on.powers in
+    let past = run_to b on.powers.after steps mid start.0 before in
     let ran = run_to mid past.last (last ∷ []) b' past.sound run in
     record {
-      runs = run_of b on.after steps mid start.0 past;
+      runs = run_of b on.powers.after steps mid start.0 past;
       active = subst (λ (m : MediumState). Active m (taken_by [] past.run))
           (same_flash b' (board_of b' ran.last) (is_board b' ran.last ran.sound))
-          (installs (board_of b on.after) (board_of mid past.last) (board_of b' ran.last) past.run _ start.1 past.is_run
+          (installs (board_of b on.powers.after) (board_of mid past.last) (board_of b' ran.last) past.run _ start.1.0 past.is_run
           (ap (λ (s : State). is_manifesting s) (same_state mid past.last state past.sound is) ∙ waits) ran.is_run
+          (λ e. other (core_begins mid.config last.event e))
           (ap (λ (s : State). has_manifested s) (same_state b' ran.last state' ran.sound is') ∙ over));
     }
 
@@ -162,21 +180,21 @@ unit_most unit.U64 = omega arith
 unit_most unit.U256 = omega arith
 
 -- Two slots have less than 2^32 bytes.
-sized_small : (m : MediumState) → IsSized m → length m.bytes < 2 ^ 32
+pub sized_small : (m : MediumState) → IsSized m → length m.bytes < 2 ^ 32
 sized_small m sized = omega (arith, sized.even, sized.bound, sized.whole.bound, unit_most m.grain.unit)
 
 -- Power that comes back is not refused.
 pub core_starts : CoreKeeps → CoreStarts
 core_starts keeps b b' steps on run n refused =
-    let start = (powers_on b (pos 0) on).1.is.store.has_image in
-    let grain : grain_in (lent_on (board_of b on.after)) ≡ grain_of b.config =
-    λ i. record { unit = on.is.set_up.unit_is i; sector = on.is.set_up.sector_is i } in
+    let start = (powers_on b (pos 0) on.begins on.powers).1.0.is.store.has_image in
+    let grain : grain_in (lent_on (board_of b on.powers.after)) ≡ grain_of b.config =
+    λ i. record { unit = on.powers.is.set_up.unit_is i; sector = on.powers.is.set_up.sector_is i } in
     let first : Active (flash_of b) start.image =
     subst (λ (g : Grain). Active (mapped g b.flash) start.image) grain start.active in
     let kept = keeps b b' steps start.image on first run in
     let active = subst (λ (c : DfuConfig). Active (mapped (grain_of c) b'.flash) kept.kept.now) kept.runs.config kept.active in
     elim refused [
-      | inl config ↦ config.1 on.config
+      | inl config ↦ config.1 on.powers.config
       | inr medium ↦ elim (medium.2) [
         | inl none ↦ none (record { image = kept.kept.now; active = active })
         | inr long ↦ omega (arith, long, sized_small (mapped (grain_of b.config) b'.flash) active.sized)

@@ -124,7 +124,8 @@ one_work r (Some w) (Some v) h k = λ i. Some (record {
 pub no_work : (r : DfuRecord) (x : Option Work) → HasWork r x → r.work ≡ 0 → x ≡ None
 no_work r x h is = one_work r x None h is
 
-one_sector : (s t : Sector) → s.size ≡ t.size → s ≡ t
+-- Sectors of one size are the same.
+pub one_sector : (s t : Sector) → s.size ≡ t.size → s ≡ t
 one_sector s t is = λ i. record {
   size = is i;
   pages = to_path_p (λ k. is k % 256 ≡ 0) (ℕ_set (t.size % 256) 0 (coe 0 1 (k. is k % 256 ≡ 0) s.pages) t.pages) i;

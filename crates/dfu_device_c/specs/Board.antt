@@ -1,5 +1,5 @@
 -- A board as a program in C has it, all as bytes and numbers.
-use Rattle.std.specs.Prelude.{◌≡◌, ℕ, ℤ, List, []}
+use Rattle.std.specs.Prelude.{◌≡◌, ℕ, ℤ, Bool, List, []}
 use Rattle.dfu_wire.specs.declared.states.State.{State}
 use Rattle.dfu_slots.specs.Medium.{MediumState}
 use Rattle.dfu_device.specs.declared.mode.Mode.{Mode}
@@ -40,8 +40,8 @@ pub data CoreEvent : Type 0 where
   CoreWrite : CoreEvent
   -- The call dfu_core_took.
   CoreTook : (failed : ℕ) (out : List ℕ) → CoreEvent
-  -- The power goes, and comes back: dfu_core_power_on, which answers 0.
-  CoreRestart : CoreEvent
+  -- The power goes, and comes back: dfu_core_power_on, or dfu_core_begin if the device begins for a host. It answers 0.
+  CoreRestart : (begins : Bool) → CoreEvent
 
 -- A step of a board in C: an event, the number that the call answers, and the bytes of its buffer then.
 pub record CoreStep : Type 0 where

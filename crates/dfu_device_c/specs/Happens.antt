@@ -1,7 +1,8 @@
 -- What may come of a step of a board in C: what the clauses of a call say, and what may become of its flash.
-use Rattle.std.specs.Prelude.{◌≡◌, ◌⊎◌, ◌==◌, ◌≤◌, not, ℕ, ℤ, pos, List, [], ◌∷◌, length, None}
+use Rattle.std.specs.Prelude.{◌≡◌, ◌⊎◌, ◌==◌, ◌≤◌, not, ℕ, ℤ, Bool, true, false, pos, List, [], ◌∷◌, length, None}
 use Rattle.dfu_slots.specs.Medium.{Torn}
-use Rattle.dfu_device.specs.declared.mode.Mode.TheVariants.{AppIdle}
+use Rattle.dfu_device.specs.declared.mode.Mode.{Mode}
+use Rattle.dfu_device.specs.declared.mode.Mode.TheVariants.{AppIdle, DfuIdle}
 use Rattle.dfu_device.specs.declared.answer.Answer.TheVariants as answer
 use Rattle.dfu_device.specs.Rows.{Handles, Elapses}
 use Rattle.dfu_device.specs.Table.{reset_stage}
@@ -78,6 +79,11 @@ pub record IsWritten (b : CoreBoard) (n : ℤ) (b' : CoreBoard) : Type 0 where
   pub kept : b'.kept ≡ b.kept
   pub block : b'.block ≡ b.block
 
+-- The mode of a device that gets power: dfuIDLE if it begins for a host, else appIDLE.
+abbrev pub start_mode : Bool → Mode
+start_mode true = DfuIdle
+start_mode false = AppIdle
+
 -- What comes of an event. If the power goes, the flash stays as it stands, and the memory of the block may hold anything.
 abbrev pub CoreHappens : CoreBoard → CoreEvent → ℤ → List ℕ → CoreBoard → Type 0
 CoreHappens b (CoreHandle setup body out) n out' b' = IsCalled b b' × Handled b setup body out n out' b'
@@ -87,13 +93,14 @@ CoreHappens b (CoreTooLong setup body) n out' b' = IsCalled b b' × (b'.block �
     × IsBodyOf (addressed b.config.interface setup) body × TookLong b setup n b'
 CoreHappens b CoreWrite n out' b' = IsWritten b n b'
 CoreHappens b (CoreTook failed out) n out' b' = IsCalled b b' × (b'.block ≡ b.block) × Told b failed out n out' b'
-CoreHappens b CoreRestart n out' b' = IsCalled b b' × Powers b.config AppIdle b.flash n b'.kept
+CoreHappens b (CoreRestart begins) n out' b' = IsCalled b b' × Powers b.config (start_mode begins) b.flash n b'.kept
 
 -- These steps come to a board in C, each beginning where the one before ended.
 abbrev pub IsCoreRun : CoreBoard → List CoreStep → CoreBoard → Type 0
 IsCoreRun b [] b' = b' ≡ b
 IsCoreRun b (s ∷ rest) b' = (s.before ≡ b) × CoreHappens b s.event s.number s.out s.after × IsCoreRun s.after rest b'
 
--- It just got power: dfu_core_power_on made its record of this flash.
-abbrev pub IsCoreOn : CoreBoard → Type 0
-IsCoreOn b = Powers b.config AppIdle b.flash (pos 0) b.kept
+-- It just got power: dfu_core_power_on made its record of this flash, or dfu_core_begin if it begins for a host.
+pub record IsCoreOn (b : CoreBoard) : Type 0 where
+  pub begins : Bool
+  pub powers : Powers b.config (start_mode begins) b.flash (pos 0) b.kept

@@ -18,4 +18,7 @@ pub mod Idle
 pub mod Board
 pub mod Happens
 pub mod Steps
+pub mod Fits
 pub mod Runs
+pub mod Plays
+pub mod FormatCalls

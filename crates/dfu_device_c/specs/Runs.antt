@@ -1,5 +1,5 @@
 -- The runs of a board in C are runs of a board, so it keeps an image too.
-use Rattle.std.specs.Prelude.{◌≡◌, ℕ, ℤ, true, false, List, [], ◌∷◌}
+use Rattle.std.specs.Prelude.{◌≡◌, ◌≢◌, ℕ, ℤ, true, false, List, [], ◌∷◌}
 use Rattle.dfu_wire.specs.declared.states.State.{State}
 use Rattle.dfu_slots.specs.Image.{Active}
 use Rattle.dfu_board.specs.Board.{Board, BoardStep, device_on}
@@ -7,9 +7,10 @@ use Rattle.dfu_board.specs.Happens.{IsOn, IsRun}
 use Rattle.dfu_board.specs.Keeps.{HasKept, taken_by, is_manifesting, has_manifested}
 use Rattle.dfu_board.specs.Refines.{HasRefined}
 use Rattle.dfu_device_c.specs.Power.{RefusesPower}
-use Rattle.dfu_device_c.specs.Board.{CoreBoard, CoreStep, flash_of, IsIn}
+use Rattle.dfu_device_c.specs.Board.{CoreBoard, CoreRestart, CoreStep, flash_of, IsIn}
 use Rattle.dfu_device_c.specs.Happens.{IsCoreOn, IsCoreRun}
 use Rattle.dfu_device_c.specs.Steps.{IsBoardOf, AreStepsOf}
+use Rattle.dfu_device_c.specs.Fits.{AreFit}
 
 -- From one board in C to another, steps are this run of the boards that the two are.
 pub record IsRunOf (b b' : CoreBoard) (steps : List CoreStep) : Type 0 where
@@ -22,11 +23,13 @@ pub record IsRunOf (b b' : CoreBoard) (steps : List CoreStep) : Type 0 where
   pub is_run : IsRun first run last
   pub are : AreStepsOf steps run
 
--- They are a run of a board that just got power, and rows of the device table.
+-- They are a run of a board that just got power, and rows of the device table. So if dfu_core_handle answers 0, that is an
+-- answer without bytes to GETSTATUS, GETSTATE or UPLOAD, and an acknowledgement of any other request.
 pub record HasCoreRefined (b b' : CoreBoard) (steps : List CoreStep) : Type 0 where
   pub runs : IsRunOf b b' steps
   pub on : IsOn runs.first
   pub refined : HasRefined (device_on runs.first) runs.run runs.last
+  pub fit : AreFit runs.run
 
 -- So it is whatever steps come to a board in C that just got power.
 abbrev pub CoreRefines : Type 0
@@ -56,10 +59,11 @@ pub record HasInstalled (b mid b' : CoreBoard) (steps : List CoreStep) : Type 0 
   pub runs : IsRunOf b mid steps
   pub active : Active (flash_of b') (taken_by [] runs.run)
 
--- So it is if a step leads from a state in which an image may wait to one in which manifestation is over, and no fault is told.
+-- So it is if a step leads from a state in which an image may wait to one in which manifestation is over, and no fault is told; but for
+-- power that comes back with dfu_core_begin.
 abbrev pub CoreInstalls : Type 0
 CoreInstalls = (b mid b' : CoreBoard) (steps : List CoreStep) (last : CoreStep) (state state' : State) → IsCoreOn b
-    → IsCoreRun b steps mid → IsIn mid state → is_manifesting state ≡ true → IsCoreRun mid (last ∷ []) b'
+    → IsCoreRun b steps mid → IsIn mid state → is_manifesting state ≡ true → IsCoreRun mid (last ∷ []) b' → last.event ≢ CoreRestart true
     → IsIn b' state' → has_manifested state' ≡ true → HasInstalled b mid b' steps
 
 -- Whatever steps came, dfu_core_power_on is not refused then, with the configuration of before.

@@ -26,7 +26,7 @@ event_of c CoreReset = UsbReset
 event_of c (CoreTooLong setup body) = Handle (addressed c.interface setup) body
 event_of c CoreWrite = Write
 event_of c (CoreTook failed out) = Report (not (failed == 0))
-event_of c CoreRestart = Restart
+event_of c (CoreRestart begins) = Restart begins
 
 -- A call with this number was refused.
 abbrev pub IsRefusal : ℤ → Type 0

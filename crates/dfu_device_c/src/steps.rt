@@ -1,18 +1,23 @@
 //! Each call is a step of a board in C. Each function makes the call of its name and nothing else; its contract says which step that is,
 //! from the call's contract alone.
-ghost use Rattle.std.specs.Prelude.{◌≡◌, ◌≤◌, ℕ, List, [], length, pos};
-ghost use Rattle.dfu_device_c.specs.Board.{CoreHandle, CoreElapse, CoreReset, CoreTooLong, CoreTook, board};
+ghost use Rattle.std.specs.Prelude.{◌≡◌, ◌⊎◌, ◌≤◌, true, false, ℕ, List, [], length, pos};
+ghost use Rattle.dfu_device_c.specs.Board.{CoreHandle, CoreElapse, CoreReset, CoreTooLong, CoreWrite, CoreTook, CoreRestart, board};
 ghost use Rattle.dfu_device_c.specs.Happens.{CoreHappens, IsCoreOn};
+ghost use Rattle.dfu_slots.specs.Medium.{Torn};
+ghost use Rattle.dfu_device_c.specs.Writes.{step_of};
 ghost use Rattle.dfu_device_c.specs.Config.{transfer_of};
 ghost use Rattle.dfu_device_c.specs.Addressed.{addressed};
 ghost use Rattle.dfu_device_c.specs.Verdict.{IsBodyOf};
+ghost use Rattle.dfu_device.specs.declared.mode.Mode.TheVariants.{AppIdle, DfuIdle};
+ghost use Rattle.dfu_device_c.specs.Power.{Powers, RefusesPower};
 
+use crate::ask::DfuAsk;
 use crate::config::DfuConfig;
 use crate::exports::{dfu_core_elapse, dfu_core_handle, dfu_core_usb_reset};
 use crate::long::dfu_core_too_long;
-use crate::power::dfu_core_power_on;
+use crate::power::{dfu_core_begin, dfu_core_power_on};
 use crate::record::DfuRecord;
-use crate::writes::dfu_core_took;
+use crate::writes::{dfu_core_next, dfu_core_took};
 
 /// `dfu_core_handle` is a step of a board in C.
 pub fn handle(
@@ -52,6 +57,21 @@ pub fn usb_reset(config: &DfuConfig, device: &mut DfuRecord, block: &mut [u8], f
     dfu_core_usb_reset(config, device, block, flash)
 }
 
+/// `dfu_core_next` hands out the write in whose range a step may change the flash, to any bytes.
+pub fn next(
+    config: &DfuConfig,
+    device: &DfuRecord,
+    block: &[u8],
+    flash: &[u8],
+    ask: &mut DfuAsk,
+) -> i32
+    ensures step { result ≡ pos 0 → (now : List ℕ) → Torn flash.now (step_of ask.new).write.at (step_of ask.new).write.bytes now →
+        CoreHappens (board config.now device.now block.now flash.now) CoreWrite result []
+        (board config.now device.now block.now now) }
+{
+    dfu_core_next(config, device, block, flash, ask)
+}
+
 /// `dfu_core_took` is a step of a board in C.
 pub fn took(
     config: &DfuConfig,
@@ -76,9 +96,25 @@ pub fn too_long(config: &DfuConfig, device: &mut DfuRecord, setup: &[u8; 8]) -> 
     dfu_core_too_long(config, device, setup)
 }
 
-/// `dfu_core_power_on` makes a board in C that just got power, whatever stands in the memory of its block.
+/// `dfu_core_power_on` makes a board in C that just got power, whatever stands in the memory of its block, exactly if the configuration is
+/// allowed and the flash has an active image.
 pub fn power_on(config: &DfuConfig, device: &mut DfuRecord, flash: &[u8]) -> i32
+    ensures outcome { Powers config.now AppIdle flash.now result device.new
+        ⊎ (RefusesPower config.now flash.now result × (device.new ≡ device.old)) }
+    ensures step { result ≡ pos 0 → (kept : DfuRecord) (before block : List ℕ) →
+        CoreHappens (board config.now kept before flash.now) (CoreRestart false) result [] (board config.now device.new block flash.now) }
     ensures on { result ≡ pos 0 → (block : List ℕ) → IsCoreOn (board config.now device.new block flash.now) }
 {
     dfu_core_power_on(config, device, flash)
+}
+
+/// `dfu_core_begin` makes one that begins in dfuIDLE, exactly if `dfu_core_power_on` would make one.
+pub fn begin(config: &DfuConfig, device: &mut DfuRecord, flash: &[u8]) -> i32
+    ensures outcome { Powers config.now DfuIdle flash.now result device.new
+        ⊎ (RefusesPower config.now flash.now result × (device.new ≡ device.old)) }
+    ensures step { result ≡ pos 0 → (kept : DfuRecord) (before block : List ℕ) →
+        CoreHappens (board config.now kept before flash.now) (CoreRestart true) result [] (board config.now device.new block flash.now) }
+    ensures on { result ≡ pos 0 → (block : List ℕ) → IsCoreOn (board config.now device.new block flash.now) }
+{
+    dfu_core_begin(config, device, flash)
 }

@@ -1,0 +1,56 @@
+-- The image is known at each step of all that may come.
+use Rattle.std.specs.Prelude.{ℕ, ◌<◌, List, Option}
+use Rattle.std.proofs.Common.{refl, sym, subst}
+use Rattle.dfu_device.specs.Stage.{Profile}
+use Rattle.dfu_device.specs.Shown.{Shown, situation}
+use Rattle.dfu_device.specs.Rows.{Transfer, Passing, BusReset}
+use Rattle.dfu_sim.specs.Play.{Answered}
+use Rattle.dfu_sim.specs.Bench.{Session}
+use Rattle.dfu_sim.specs.Simulation.{Simulation, OnlyOffered}
+use Rattle.dfu_board.specs.Board.{Board, Handle, Elapse, UsbReset, Event, Says, BoardStep}
+use Rattle.dfu_board.specs.Refines.{IdleRefines}
+use Rattle.dfu_board_play.specs.Calls.{Reaches}
+use Rattle.dfu_board_play.specs.Comes.{BoardLink, IsUnderWay, Comes, passes, sends, waits, resets, is_reset, restarts}
+use Rattle.dfu_board_play.specs.Plays.{HasKnown}
+use Rattle.dfu_board_play.proofs.Became.{Became}
+use Rattle.dfu_board_play.proofs.Played.{Stands, way_cause, way_well}
+use Rattle.dfu_board_play.proofs.Ran.{reaches_run}
+use Rattle.dfu_board_play.proofs.Within.{KnownOf, Through, became_known, through_append, call_known, none_known, reaches_known, stops_known}
+
+module _ (refines : IdleRefines) (simulation : Simulation) (only : OnlyOffered) (c : Profile) (sized : 0 < c.transfer)
+    (first : List ℕ) (past : List (List ℕ)) (last : Option (List ℕ)) where
+  -- A call under way on a board of which all this holds leads to one whose image and closed bytes are well.
+  leads_on : (l : BoardLink) (d : Shown) (call : Event) → Stands c first past last l d → IsUnderWay l.session call
+      → (mid : Board) (more : List BoardStep) (says : Says) → Reaches call l.board more says mid → Became c past (situation d) mid
+  leads_on l d call s way mid more says reaches =
+      way_well refines simulation only c sized past l.session call l.board mid d more says s.idle s.profile_is s.sound s.offered s.fact way
+      reaches
+
+  -- The image is known after each of the steps that come next, if it is at their end.
+  pub comes_known : (l l' : BoardLink) (d : Shown) (steps : List BoardStep) (answer : Answered) → Stands c first past last l d
+      → HasKnown first past l'.board → Comes l steps answer l' → Through refines c first past l.board steps
+  comes_known l _ d steps _ s at (passes {ms = ms} {a = a} {out = out} {b' = b'} serves) =
+      call_known refines c first past l.board b' d (Elapse ms) (Passing ms) steps a out s.idle
+      (record { sound = s.sound; known = s.known }) refl serves at
+  comes_known l _ d steps _ s at (sends {h = h} {q = q} {setup = setup} {body = body} {says = says} {b' = b'} live is asked reaches hears
+      room) =
+      let way = subst (λ (x : Session). IsUnderWay x (Handle setup body)) (sym live) (q, is, asked) in
+      reaches_known refines c first past l.board b' d (Handle setup body) (Transfer setup body) steps says s.idle
+      (record { sound = s.sound; known = s.known }) refl (leads_on l d (Handle setup body) s way) reaches
+  comes_known l _ d _ _ s at (waits live is) = none_known refines c first past l.board at
+  comes_known l _ d steps _ s at (resets {a = a} {out = out} {b' = b'} live is serves) =
+      call_known refines c first past l.board b' d UsbReset BusReset steps a out s.idle
+      (record { sound = s.sound; known = s.known }) refl serves at
+  comes_known l _ d _ _ s at (is_reset {call = call} {steps = steps} {more = more} {says = says} {a = a} {out = out} {mid = mid} {b' = b'} way
+      reaches serves) =
+      let cause = way_cause l.session call way in
+      let known : KnownOf first past d = record { sound = s.sound; known = s.known } in
+      let x = leads_on l d call s way mid steps says reaches in
+      through_append refines c first past l.board mid steps more
+      (reaches_known refines c first past l.board mid d call cause.0 steps says s.idle known cause.1 (leads_on l d call s way) reaches)
+      (reaches_run call l.board mid steps says reaches)
+      (call_known refines c first past mid b' x.device UsbReset BusReset more a out x.idle (became_known refines c first past d mid known x) refl serves at)
+  comes_known l _ d steps _ s at (restarts {call = call} {b' = b'} way stops) =
+      let cause = way_cause l.session call way in
+      stops_known refines c first past l.board b' d call cause.0 steps s.idle (record { sound = s.sound; known = s.known }) cause.1
+      (leads_on l d call s way) stops at

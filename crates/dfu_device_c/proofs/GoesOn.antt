@@ -1,0 +1,91 @@
+-- Sessions with a board in C go on as those of a board.
+use Rattle.std.specs.Prelude.{◌≡◌, List, [], ◌∷◌, ◌++◌, pos}
+use Rattle.std.proofs.Common.{refl, sym, ap, ◌∙◌, subst}
+use Rattle.dfu_device.specs.Setting.{Setting}
+use Rattle.dfu_host.specs.Phases.{ToFetch}
+use Rattle.dfu_host.specs.Host.{started, aborted}
+use Rattle.dfu_sim.specs.Opening.{goal_of}
+use Rattle.dfu_sim.specs.Bench.{Nobody, Hosted}
+use Rattle.dfu_board.specs.Board.{BoardStep}
+use Rattle.dfu_board_play.specs.Plays.{opened_on, starts as begins, offers as offers_on, uploads as uploads_on, aborts as gives_up, goes_on as comes_next}
+use Rattle.dfu_device_c.specs.Board.{CoreBoard, CoreStep}
+use Rattle.dfu_device_c.specs.Happens.{IsCoreRun}
+use Rattle.dfu_device_c.specs.Steps.{board_of, IsBoardOf, AreStepsOf}
+use Rattle.dfu_device_c.specs.Plays.{CorePlaysGoOn}
+use Rattle.dfu_device_c.proofs.Each.{powers_on}
+use Rattle.dfu_device_c.proofs.Played.{comes_on}
+
+run_append : (b mid b' : CoreBoard) (xs ys : List CoreStep) → IsCoreRun b xs mid → IsCoreRun mid ys b' → IsCoreRun b (xs ++ ys) b'
+run_append b mid b' [] ys run more = subst (λ (x : CoreBoard). IsCoreRun x ys b') run more
+run_append b mid b' (x ∷ xs) ys run more = (run.0, run.1, run_append x.after mid b' xs ys run.2 more)
+
+are_append : (xs ys : List CoreStep) (ts us : List BoardStep) → AreStepsOf xs ts → AreStepsOf ys us → AreStepsOf (xs ++ ys) (ts ++ us)
+are_append [] ys [] us are more = more
+are_append (x ∷ xs) ys (t ∷ ts) us are more = (are.0, are_append xs ys ts us are.1 more)
+are_append [] ys (t ∷ ts) us are more = absurd are
+are_append (x ∷ xs) ys [] us are more = absurd are
+
+-- Sessions go on.
+pub core_goes_on : CorePlaysGoOn
+core_goes_on = record {
+  starts = λ b on.
+      let start = powers_on b (pos 0) on.begins on.powers in
+      let x = board_of b on.powers.after in
+      let is : IsBoardOf b x = record { kept = start.0.kept; is = refl } in
+      record {
+        run = refl;
+        first = x;
+        is_first = is;
+        calls = [];
+        are = tt;
+        link = record { board = x; session = Nobody };
+        is_link = record { board = is; session = refl };
+        plays = begins;
+      };
+  offers = λ b steps past last l aim payload limits p none some. record {
+    run = p.run;
+    first = p.first;
+    is_first = p.is_first;
+    calls = p.calls;
+    are = p.are;
+    link = opened_on p.link.board (goal_of aim payload) limits;
+    is_link = record {
+      board = p.is_link.board;
+      session = ap (λ (s : Setting). Hosted (started s.functional (goal_of aim payload) limits)) p.is_link.board.kept.set_up.config_is;
+    };
+    plays = offers_on aim payload limits p.plays (p.is_link.session ∙ none) some;
+  };
+  uploads = λ b steps past last l limits p none. record {
+    run = p.run;
+    first = p.first;
+    is_first = p.is_first;
+    calls = p.calls;
+    are = p.are;
+    link = opened_on p.link.board ToFetch limits;
+    is_link = record {
+      board = p.is_link.board;
+      session = ap (λ (s : Setting). Hosted (started s.functional ToFetch limits)) p.is_link.board.kept.set_up.config_is;
+    };
+    plays = uploads_on limits p.plays (p.is_link.session ∙ none);
+  };
+  aborts = λ b steps past last l h p live. record {
+    run = p.run;
+    first = p.first;
+    is_first = p.is_first;
+    calls = p.calls;
+    are = p.are;
+    link = record { board = p.link.board; session = Hosted (aborted h) };
+    is_link = record { board = p.is_link.board; session = refl };
+    plays = gives_up p.plays (p.is_link.session ∙ live);
+  };
+  goes_on = λ b steps more past last l l' answer p c. record {
+    run = run_append b l.board l'.board steps more p.run c.run;
+    first = p.first;
+    is_first = p.is_first;
+    calls = p.calls ++ c.calls;
+    are = are_append steps more p.calls c.calls p.are c.are;
+    link = c.after;
+    is_link = c.is_after;
+    plays = comes_next p.plays (comes_on b steps more past last l l' answer p c);
+  };
+}
