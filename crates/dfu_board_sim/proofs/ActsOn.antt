@@ -1,0 +1,53 @@
+-- What the code does as an action of a host is that action.
+use Rattle.std.specs.Prelude.{◌≡◌, ℕ, max, Bool, true, false, if◌then◌else◌, List}
+use Rattle.std.proofs.Common.{subst, Bor}
+use Rattle.dfu_host.specs.declared.action.Action.TheVariants as action
+use Rattle.dfu_host.specs.declared.report.Report.{Report}
+use Rattle.dfu_host.specs.Phases.{Task, Phase, Enter, Over, OverUploaded, Deed, Send, Wait, Reset, Restarted}
+use Rattle.dfu_host.specs.Table.{deed}
+use Rattle.dfu_host.specs.Host.{HostState, IsOn, after}
+use Rattle.dfu_host.specs.Wire.{Spells}
+use Rattle.dfu_sim.specs.Happening.{Fate}
+use Rattle.dfu_board.specs.Board.{Board, Handle, Elapse}
+use Rattle.dfu_board_sim.specs.Served.{IsCut}
+use Rattle.dfu_board_sim.specs.Acts.{HasSent, HasWaited, HasReset, Acts}
+
+-- A host that is not done asks for something.
+pub not_done : (task : Task) (phase : Phase) (report : Report) → IsOn phase → Spells (deed task phase) (action.Done report) → ⊥
+not_done task Enter report on spells = by_way task.will_detach spells
+  where
+    by_way : (b : Bool) → Spells (if b then Wait (max 1 task.detach_ms) else Reset) (action.Done report) → ⊥
+    by_way true spells = spells
+    by_way false spells = spells
+not_done task (Over r) report on spells = on
+not_done task (OverUploaded kept) report on spells = on
+not_done task phase report on spells = spells
+
+module _ (fate : Fate) (h : HostState) (b b' : Board) (h' : HostState) where
+  pub acts_send : (d : Deed) (setup : List ℕ) (given : Bor (List ℕ)) → Spells d (action.Send setup given)
+      → HasSent fate h setup given.now b b' h' → Acts false fate h d b b' h'
+  acts_send (Send q body) setup given e s = (setup, e.0, subst (λ (x : List ℕ). HasSent fate h setup x b b' h') e.1 s)
+  acts_send d setup given e s = elim e [ ]
+
+  pub acts_wait : (d : Deed) (given : ℕ) → Spells d (action.Wait given) → HasWaited fate h given b b' h' → Acts false fate h d b b' h'
+  acts_wait (Wait ms) given e s = subst (λ (n : ℕ). HasWaited fate h n b b' h') e s
+  acts_wait d given e s = elim e [ ]
+
+  pub acts_reset : (d : Deed) → Spells d action.Reset → HasReset fate h b b' h' → Acts false fate h d b b' h'
+  acts_reset Reset e s = s
+  acts_reset d e s = elim e [ ]
+
+  pub cuts_send : (d : Deed) (setup : List ℕ) (given : Bor (List ℕ)) → Spells d (action.Send setup given)
+      → IsCut (Handle setup given.now) b b' → h' ≡ after h Restarted → Acts true fate h d b b' h'
+  cuts_send (Send q body) setup given e s told =
+      ((setup, e.0, subst (λ (x : List ℕ). IsCut (Handle setup x) b b') e.1 s), told)
+  cuts_send d setup given e s told = elim e [ ]
+
+  pub cuts_wait : (d : Deed) (given : ℕ) → Spells d (action.Wait given) → IsCut (Elapse given) b b' → h' ≡ after h Restarted
+      → Acts true fate h d b b' h'
+  cuts_wait (Wait ms) given e s told = (subst (λ (n : ℕ). IsCut (Elapse n) b b') e s, told)
+  cuts_wait d given e s told = elim e [ ]
+
+  pub cuts_reset : (d : Deed) → Spells d action.Reset → IsCut (Elapse 0) b b' → h' ≡ after h Restarted → Acts true fate h d b b' h'
+  cuts_reset Reset e s told = (s, told)
+  cuts_reset d e s told = elim e [ ]

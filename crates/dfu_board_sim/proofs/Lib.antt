@@ -1,0 +1,7 @@
+mod Keeping
+mod Standing
+mod Resting
+mod Working
+mod ActsOn
+mod Coming
+mod Playing

@@ -1,0 +1,49 @@
+use Rattle.std.proofs.Common.{refl, take, arith, []}
+use Rattle.dfu_device.specs.Rows.{Passing}
+use Rattle.dfu_board.specs.Board.{Elapse}
+use Rattle.dfu_board.specs.Steps.{board}
+use Rattle.dfu_board_sim.specs.Standing.{board_of}
+use Rattle.dfu_board_sim.proofs.Resting.{room_on, served_rests, served_due}
+use Rattle.dfu_board_sim.proofs.Standing.{never_refused}
+use Rattle.dfu_board_sim.proofs.Working.{called_works, called_once}
+use Rattle.dfu_board_sim.proofs.calls.elapse.Goals as goal
+
+pub unreachable-requires : goal.unreachable-requires
+unreachable-requires c =
+    never_refused (board_of c.args.chip.now) c.in-Err.field-0 0 0 c.requires.rest
+    (omega arith) (rw c.deref.ensures.value at c.in-Err.ensures.refused)
+
+pub work_off-requires-clause-due : goal.work_off-requires-clause-due
+work_off-requires-clause-due c =
+    let chip = c.args.chip.now in
+    let b = board_of chip in
+    let mid = board c.elapse.new.asking c.elapse.new.block c.elapse.new.held chip.flash.items in
+    served_due b mid (Passing c.args.ms) refl
+    (room_on b mid c.requires.holds.room c.in-Ok-Asks.ensures.same c.elapse.auto.block) c.requires.rest
+    (rw (c.in-Ok-Asks.field-0-is, c.deref.ensures.value) at c.in-Ok-Asks.ensures.step)
+
+pub returns-in-Ok-Answered-clause-called : goal.returns-in-Ok-Answered-clause-called
+returns-in-Ok-Answered-clause-called c =
+    let chip = c.args.chip.now in
+    let b = board_of chip in
+    let b' = board c.elapse.new.asking c.elapse.new.block c.elapse.new.held chip.flash.items in
+    let step = rw (c.in-Ok-Answered.field-0-is, c.deref.ensures.value) at c.in-Ok-Answered.ensures.step in
+    let given = take c.in-Ok-Answered.count [] in
+    let once = called_once b b' (Elapse c.args.ms) c.in-Ok-Answered.ensures.same c.in-Ok-Answered.answer given step in (
+      [],
+      (
+        once.0,
+        once.1,
+        served_rests b b' (Passing c.args.ms) refl
+            (room_on b b' c.requires.holds.room c.in-Ok-Answered.ensures.same c.elapse.auto.block) c.in-Ok-Answered.answer given c.requires.rest step,
+      ),
+    )
+
+pub returns-in-Ok-Asks-clause-called : goal.returns-in-Ok-Asks-clause-called
+returns-in-Ok-Asks-clause-called c =
+    let chip = c.args.chip.now in
+    let mid = board c.elapse.new.asking c.elapse.new.block c.elapse.new.held chip.flash.items in (
+      c.work_off.new.out,
+      called_works (board_of chip) mid (Elapse c.args.ms) c.in-Ok-Asks.ensures.same (board_of c.work_off.new.chip)
+          c.work_off.new.out c.work_off.result (rw (c.in-Ok-Asks.field-0-is, c.deref.ensures.value) at c.in-Ok-Asks.ensures.step) c.work_off.ensures.worked,
+    )

@@ -1,0 +1,21 @@
+use Rattle.std.proofs.Common.{◌∙◌, refl, sym}
+use Rattle.dfu_sim.specs.declared.fault.LinkFault.TheVariants.{BadOffer}
+use Rattle.dfu_sim.specs.Happening.{Uploads}
+use Rattle.dfu_board_sim.specs.Standing.{board_of}
+use Rattle.dfu_board_sim.proofs.Coming.{busy_comes, idle_refused, upload_comes}
+use Rattle.dfu_board_sim.proofs.play.upload.Goals as goal
+
+pub returns-then-is_some-clause-come : goal.returns-then-is_some-clause-come
+returns-then-is_some-clause-come c =
+    busy_comes (board_of c.args.chip.now) c.args.gave.now (Uploads c.args.limits) c.args.host.now (λ k. tt)
+    (sym c.is_some.ensures ∙ c.if-is_some.true)
+
+pub returns-in-Ok-clause-come : goal.returns-in-Ok-clause-come
+returns-in-Ok-clause-come c =
+    upload_comes (board_of c.args.chip.now) c.args.gave.now c.args.limits c.args.host.now c.in-Ok.begun
+    (sym c.is_some.ensures ∙ c.if-is_some.false) c.in-Ok.ensures.ok.0 c.in-Ok.ensures.ok.1
+
+pub returns-in-Err-clause-come : goal.returns-in-Err-clause-come
+returns-in-Err-clause-come c =
+    idle_refused (board_of c.args.chip.now) c.args.gave.now (Uploads c.args.limits) (BadOffer c.in-Err.fault)
+    c.args.host.now (sym c.is_some.ensures ∙ c.if-is_some.false) (refl, c.in-Err.ensures.err)

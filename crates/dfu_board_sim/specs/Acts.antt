@@ -1,0 +1,61 @@
+-- One action of a host on a board, by its fate.
+use Rattle.std.specs.Prelude.{◌≡◌, ℕ, Bool, true, false, IsTrue, List}
+use Rattle.dfu_host.specs.Phases.{Deed, Send, Wait, Reset, Done, Heard, NoRoom, Nothing as NothingHeard, Waited, WasReset, Restarted}
+use Rattle.dfu_host.specs.Table.{deed}
+use Rattle.dfu_host.specs.Host.{HostState, after, wants_memory}
+use Rattle.dfu_host.specs.Wire.{IsAsked}
+use Rattle.dfu_sim.specs.Bytes.{HearsAnswer}
+use Rattle.dfu_sim.specs.Happening.{Fate}
+use Rattle.dfu_board.specs.Board.{Board, Handle, Elapse, UsbReset, Says, Answers}
+use Rattle.dfu_board_sim.specs.Fates.{handling_of, comes_back, is_cut, waits_for}
+use Rattle.dfu_board_sim.specs.Served.{HasServed, IsHandled, Slips, IsCut}
+
+-- What a host hears of what a board says: the answer if it comes back, else nothing.
+abbrev pub HearsOf : (back : Bool) → Deed → Says → Heard → Type 0
+HearsOf true d (Answers a out) heard = HearsAnswer d a out heard
+HearsOf back d says heard = heard ≡ NothingHeard
+
+-- A host took what it heard of that. It finds no memory only if its phase wants some.
+pub record HasHeard (h : HostState) (back : Bool) (says : Says) (h' : HostState) : Type 0 where
+  pub heard : Heard
+  pub hears : HearsOf back (deed h.task h.phase) says heard
+  pub room : heard ≡ NoRoom → IsTrue (wants_memory h.phase)
+  pub same : h' ≡ after h heard
+
+-- A request of this fate, in which the power does not go.
+pub record HasSent (fate : Fate) (h : HostState) (setup body : List ℕ) (b b' : Board) (h' : HostState) : Type 0 where
+  pub says : Says
+  pub mid : Board
+  pub handled : IsHandled (handling_of fate) (Handle setup body) b says mid
+  pub heard : HasHeard h (comes_back fate) says h'
+  pub slips : Slips (handling_of fate) mid b'
+
+-- A wait of this fate, in which the power does not go.
+pub record HasWaited (fate : Fate) (h : HostState) (ms : ℕ) (b b' : Board) (h' : HostState) : Type 0 where
+  pub says : Says
+  pub passes : HasServed b (Elapse (waits_for (handling_of fate) ms)) says b'
+  pub same : h' ≡ after h Waited
+
+-- A reset of the bus of this fate, in which the power does not go.
+pub record HasReset (fate : Fate) (h : HostState) (b b' : Board) (h' : HostState) : Type 0 where
+  pub says : Says
+  pub mid : Board
+  pub resets : HasServed b UsbReset says mid
+  pub slips : Slips (handling_of fate) mid b'
+  pub same : h' ≡ after h WasReset
+
+-- The next action of a host, by its fate. If the power goes in a reset of the bus, nothing is left of the reset.
+abbrev pub Acts : (cut : Bool) → Fate → HostState → Deed → Board → Board → HostState → Type 0
+Acts true fate h (Send q body) b b' h' =
+    ((setup : List ℕ) × IsAsked q setup × IsCut (Handle setup body) b b') × (h' ≡ after h Restarted)
+Acts true fate h (Wait ms) b b' h' = IsCut (Elapse ms) b b' × (h' ≡ after h Restarted)
+Acts true fate h Reset b b' h' = IsCut (Elapse 0) b b' × (h' ≡ after h Restarted)
+Acts true fate h (Done report) b b' h' = ⊥
+Acts false fate h (Send q body) b b' h' = (setup : List ℕ) × IsAsked q setup × HasSent fate h setup body b b' h'
+Acts false fate h (Wait ms) b b' h' = HasWaited fate h ms b b' h'
+Acts false fate h Reset b b' h' = HasReset fate h b b' h'
+Acts false fate h (Done report) b b' h' = ⊥
+
+-- The same of any action, as the host asked for it.
+abbrev pub HasActed : Fate → HostState → Board → Board → HostState → Type 0
+HasActed fate h b b' h' = Acts (is_cut fate) fate h (deed h.task h.phase) b b' h'

@@ -1,0 +1,36 @@
+-- What each fate comes to.
+use Rattle.std.specs.Prelude.{ℕ, Bool, true, false}
+use Rattle.dfu_sim.specs.Happening.{Fate, Pass, LostOut, LostBack, Twice, TwiceLostBack, Slip, CutIn, Fail, Lie}
+use Rattle.dfu_board_sim.specs.declared.fates.Handling.{Handling}
+use Rattle.dfu_board_sim.specs.declared.fates.Handling.TheVariants.{Unseen, Once, Again, Late}
+
+-- What the board makes of a request of this fate.
+abbrev pub handling_of : Fate → Handling
+handling_of Pass = Once
+handling_of LostOut = Unseen
+handling_of LostBack = Once
+handling_of Twice = Again
+handling_of TwiceLostBack = Again
+handling_of (Slip ms) = Late ms
+handling_of CutIn = Once
+handling_of Fail = Once
+handling_of Lie = Once
+
+-- Whether the host hears the answer to a request of this fate, if there is one.
+abbrev pub comes_back : Fate → Bool
+comes_back LostOut = false
+comes_back LostBack = false
+comes_back TwiceLostBack = false
+comes_back fate = true
+
+-- Whether the power goes in an action of this fate.
+abbrev pub is_cut : Fate → Bool
+is_cut CutIn = true
+is_cut fate = false
+
+-- The time that passes in a wait: another if one slips in.
+abbrev pub waits_for : Handling → ℕ → ℕ
+waits_for Unseen ms = ms
+waits_for Once ms = ms
+waits_for Again ms = ms
+waits_for (Late other) ms = other

@@ -1,0 +1,96 @@
+-- What comes of a call of a board with the writes that it asks for.
+use Rattle.std.specs.Prelude.{◌≡◌, ◌≢◌, ◌⊎◌, ℕ, ◌+◌, ◌≤◌, Bool, List, [], ◌∷◌, length, take, Option, Some, None}
+use Rattle.dfu_wire.specs.declared.states.State.TheVariants.{AppIdle}
+use Rattle.dfu_device.specs.declared.answer.Answer.{Answer}
+use Rattle.dfu_asks.specs.declared.reply.Reply.{Reply}
+use Rattle.dfu_asks.specs.declared.reply.Reply.TheVariants as reply
+use Rattle.dfu_asks.specs.declared.work.Work.{Work}
+use Rattle.dfu_asks.specs.Lent.{IsSetUpAs}
+use Rattle.dfu_asks.specs.Steps.{Step}
+use Rattle.dfu_board.specs.Board.{Board, state_on, Event, Elapse, Report, Says, Nothing, WritesDue, Answers, BoardStep}
+use Rattle.dfu_board.specs.Happens.{Happens, IsRun, said_by}
+use Rattle.dfu_board_play.specs.Calls.{CarriesOn, WorksOff, Serves, Stops}
+use Rattle.dfu_board_sim.specs.declared.came.Came.{Came}
+use Rattle.dfu_board_sim.specs.declared.came.Came.TheVariants.{Answered, NoAnswer}
+use Rattle.dfu_board_sim.specs.declared.fates.Handling.{Handling}
+use Rattle.dfu_board_sim.specs.declared.fates.Handling.TheVariants.{Unseen, Once, Again, Late}
+use Rattle.dfu_board_sim.specs.Standing.{IsAtRest, IsDue, IsTried}
+
+-- How many bytes of the writes that are due are carried out.
+abbrev pub done_in : Option Work → ℕ
+done_in None = 0
+done_in (Some w) = w.done
+
+-- In each of these steps the writes stay due.
+abbrev pub AreDue : List BoardStep → Type 0
+AreDue [] = Unit {0}
+AreDue (s ∷ rest) = CarriesOn s.event s.says × AreDue rest
+
+-- The next piece was tried, as a step in which the writes stay due. It has a byte.
+pub record HasTried (b b' : Board) : Type 0 where
+  pub piece : Step
+  pub some : 1 ≤ length piece.write.bytes
+  pub tried : IsTried piece b'
+  pub step : BoardStep
+  pub run : IsRun b (step ∷ []) b'
+  pub stays : CarriesOn step.event step.says
+  pub done : done_in b'.asking.work ≡ done_in b.asking.work
+
+-- The program told how a piece went: the writes stay due, further on, or the board has answered.
+abbrev pub IsNext : Board → Step → Reply → Board → Type 0
+IsNext b p reply.Asks b' = IsDue b' × (done_in b'.asking.work ≡ done_in b.asking.work + length p.write.bytes)
+IsNext b p (reply.Answered x count) b' = IsAtRest b'
+
+-- The program tells how this piece went, as a step of a board.
+pub record IsTakenAs (b : Board) (failed : Bool) (p : Step) (out : List ℕ) (r : Reply) (b' : Board) : Type 0 where
+  pub step : Happens b (Report failed) (said_by r out) b'
+  pub same : IsSetUpAs b.asking b'.asking
+  pub next : IsNext b p r b'
+
+-- The writes that were due: they are carried out, and the board has answered; or the power is to go now.
+abbrev pub HasWorked : Board → (out : List ℕ) → Came → Board → Type 0
+HasWorked b out (Answered a count) b' =
+    (steps : List BoardStep) × IsRun b steps b' × WorksOff a (take count out) steps × IsAtRest b'
+HasWorked b out NoAnswer b' = (steps : List BoardStep) × IsRun b steps b' × AreDue steps
+
+-- A call came to a board: it has answered; or the power is to go now, within the writes that it asked for.
+abbrev pub HasCalled : Board → Event → (out : List ℕ) → Came → Board → Type 0
+HasCalled b call out (Answered a count) b' = (steps : List BoardStep) × Serves b call steps a (take count out) b' × IsAtRest b'
+HasCalled b call out NoAnswer b' = (first : BoardStep) × (rest : List BoardStep) × (first.event ≡ call) × (first.says ≡ WritesDue)
+    × AreDue rest × IsRun b (first ∷ rest) b'
+
+-- A call comes to a board, which says this.
+pub record HasServed (b : Board) (call : Event) (says : Says) (b' : Board) : Type 0 where
+  pub steps : List BoardStep
+  pub answer : Answer
+  pub out : List ℕ
+  pub serves : Serves b call steps answer out b'
+  pub says_is : says ≡ Answers answer out
+
+-- The power goes with this call under way, and comes back.
+pub record IsCut (call : Event) (b b' : Board) : Type 0 where
+  pub steps : List BoardStep
+  pub stops : Stops call b steps b'
+
+-- What comes back of a call, with these bytes in the buffer.
+abbrev pub says_of : Came → (out : List ℕ) → Says
+says_of (Answered a count) out = Answers a (take count out)
+says_of NoAnswer out = Nothing
+
+-- A request is handled so at a board, which says this at last.
+abbrev pub IsHandled : Handling → Event → Board → Says → Board → Type 0
+IsHandled Unseen call b says b' = (says ≡ Nothing) × (b' ≡ b)
+IsHandled Once call b says b' = HasServed b call says b'
+IsHandled Again call b says b' = (x : Says) × (mid : Board) × HasServed b call x mid × HasServed mid call says b'
+IsHandled (Late ms) call b says b' = HasServed b call says b'
+
+-- So many milliseconds slip in. In appIDLE no time counts, and nothing is called; in any other state they pass.
+abbrev pub TimeSlips : ℕ → Board → Board → Type 0
+TimeSlips ms b b' = ((state_on b ≡ AppIdle) × (b' ≡ b)) ⊎ ((state_on b ≢ AppIdle) × (says : Says) × HasServed b (Elapse ms) says b')
+
+-- The time that slips in behind it passes, or none.
+abbrev pub Slips : Handling → Board → Board → Type 0
+Slips Unseen b b' = b' ≡ b
+Slips Once b b' = b' ≡ b
+Slips Again b b' = b' ≡ b
+Slips (Late ms) b b' = TimeSlips ms b b'

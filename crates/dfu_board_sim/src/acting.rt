@@ -1,0 +1,123 @@
+//! One action of a host, by its fate.
+
+ghost use Rattle.std.specs.Prelude.{◌≡◌, false, true};
+ghost use Rattle.dfu_host.specs.Host.{IsOn, after};
+ghost use Rattle.dfu_host.specs.Phases.{Restarted};
+ghost use Rattle.dfu_board.specs.Board.{Handle, Elapse};
+ghost use Rattle.dfu_sim.specs.Happening.{fate_of};
+ghost use Rattle.dfu_board_sim.specs.Fates.{is_cut, waits_for};
+ghost use Rattle.dfu_board_sim.specs.Standing.{board_of, Stands};
+ghost use Rattle.dfu_board_sim.specs.Served.{IsCut};
+ghost use Rattle.dfu_board_sim.specs.Acts.{HasSent, HasWaited, HasReset, HasActed};
+
+use crate::calls::usb_reset;
+use crate::chip::Chip;
+use crate::cuts::{cut_idle, cut_request, cut_wait, pass, reach, slip};
+use crate::fates::{Handling, comes_back, handling_of, is_cut};
+use crate::harm::Harm;
+use crate::hosting::{tell, tell_reset, tell_restart, tell_wait};
+use dfu_host::{Action, Host};
+use dfu_sim::Fate;
+
+/// A request of a fate in which the power doesn't go.
+fn send(chip: &mut Chip, host: &mut Host<'_>, fate: Fate<'_>, setup: &[u8; 8], body: &[u8])
+    requires stands { Stands chip.old }
+    requires whole { is_cut (fate_of fate) ≡ false }
+    ensures sent { HasSent (fate_of fate.entry) host.old setup.now body.now (board_of chip.old) (board_of chip.new) host.new }
+    ensures stands { Stands chip.new }
+{
+    let mut harm = Harm::of(fate, chip.asking.held_len > 0);
+    let mut out = [0; 4096];
+    let came = reach(chip, &mut harm, handling_of(fate), setup, body, &mut out);
+    tell(host, came, comes_back(fate), &out);
+    slip(chip, handling_of(fate));
+}
+
+/// The time that passes in a wait: another if one slips in.
+fn time_of(handling: Handling, ms: u32) -> u32
+    ensures { result ≡ waits_for handling ms }
+{
+    match handling {
+        Handling::Unseen | Handling::Once | Handling::Again => ms,
+        Handling::Late(other) => other,
+    }
+}
+
+/// A wait of a fate in which the power doesn't go.
+fn wait(chip: &mut Chip, host: &mut Host<'_>, fate: Fate<'_>, ms: u32)
+    requires stands { Stands chip.old }
+    requires whole { is_cut (fate_of fate) ≡ false }
+    ensures waited { HasWaited (fate_of fate.entry) host.old ms (board_of chip.old) (board_of chip.new) host.new }
+    ensures stands { Stands chip.new }
+{
+    let mut harm = Harm::of(fate, chip.asking.held_len > 0);
+    pass(chip, &mut harm, time_of(handling_of(fate), ms));
+    tell_wait(host);
+}
+
+/// A reset of the bus of a fate in which the power doesn't go.
+fn reset_bus(chip: &mut Chip, host: &mut Host<'_>, fate: Fate<'_>)
+    requires stands { Stands chip.old }
+    ensures reset { HasReset (fate_of fate.entry) host.old (board_of chip.old) (board_of chip.new) host.new }
+    ensures stands { Stands chip.new }
+{
+    usb_reset(chip);
+    tell_reset(host);
+    slip(chip, handling_of(fate));
+}
+
+/// The next action of a host that is not done, if the power doesn't go in it.
+fn act_whole(chip: &mut Chip, host: &mut Host<'_>, fate: Fate<'_>)
+    requires stands { Stands chip.old }
+    requires on { IsOn host.old.phase }
+    requires whole { is_cut (fate_of fate) ≡ false }
+    ensures acted { HasActed (fate_of fate.entry) host.old (board_of chip.old) (board_of chip.new) host.new }
+    ensures stands { Stands chip.new }
+{
+    match host.next() {
+        Action::Send { setup, body } => send(chip, host, fate, &setup, body),
+        Action::Wait(ms) => wait(chip, host, fate, ms),
+        Action::Reset => reset_bus(chip, host, fate),
+        Action::Done(_) => unreachable!(),
+    }
+}
+
+/// The next action of a host that is not done, if the power goes in it. Nothing is left of a reset of the bus then.
+fn act_cut(chip: &mut Chip, host: &mut Host<'_>, fate: Fate<'_>)
+    requires stands { Stands chip.old }
+    requires on { IsOn host.old.phase }
+    requires cut { is_cut (fate_of fate) ≡ true }
+    ensures acted { HasActed (fate_of fate.entry) host.old (board_of chip.old) (board_of chip.new) host.new }
+    ensures stands { Stands chip.new }
+{
+    let mut harm = Harm::of(fate, chip.asking.held_len > 0);
+    match host.next() {
+        Action::Send { setup, body } => {
+            cut_request(chip, &mut harm, &setup, body);
+            tell_restart(host);
+        }
+        Action::Wait(ms) => {
+            cut_wait(chip, &mut harm, ms);
+            tell_restart(host);
+        }
+        Action::Reset => {
+            cut_idle(chip);
+            tell_restart(host);
+        }
+        Action::Done(_) => unreachable!(),
+    }
+}
+
+/// The next action of a host that is not done, by its fate.
+pub(crate) fn act(chip: &mut Chip, host: &mut Host<'_>, fate: Fate<'_>)
+    requires stands { Stands chip.old }
+    requires on { IsOn host.old.phase }
+    ensures acted { HasActed (fate_of fate.entry) host.old (board_of chip.old) (board_of chip.new) host.new }
+    ensures stands { Stands chip.new }
+{
+    if is_cut(fate) {
+        act_cut(chip, host, fate);
+    } else {
+        act_whole(chip, host, fate);
+    }
+}

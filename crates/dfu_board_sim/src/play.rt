@@ -1,0 +1,144 @@
+//! What each event makes of a board and a host.
+
+ghost use Rattle.std.specs.Prelude.{◌≡◌};
+ghost use Rattle.dfu_sim.specs.Happening.{Offers, Uploads, Aborts, Goes, fate_of, harm_in, happening};
+ghost use Rattle.dfu_sim.specs.Standing.{IsOnIn, session_of};
+ghost use Rattle.dfu_board_sim.specs.Standing.{board_of};
+ghost use Rattle.dfu_board_sim.specs.Link.{link_on, HasCome, HoldsOn};
+
+use crate::acting::act;
+use crate::calls::usb_reset;
+use crate::chip::Chip;
+use crate::cuts::pass;
+use crate::harm::Harm;
+use crate::hosting::{end, restart};
+use crate::offering::{begin, fetch};
+use crate::power::power_cycle;
+use dfu_host::{Host, Limits, Report};
+use dfu_sim::{Aim, Event, Fate, LinkFault};
+use std::alloc::Global;
+
+/// A file is offered.
+fn offer<'f>(
+    chip: &Chip,
+    host: &mut Option<Host<'f>>,
+    gave: &Option<Host<'f>>,
+    aim: Aim,
+    file: &'f [u8],
+    limits: Limits,
+) -> Result<Option<Report>, LinkFault>
+    requires { HoldsOn chip.now host.old }
+    ensures come { HasCome (link_on (board_of chip.now) host.old gave.now) (Offers aim file.now limits)
+        (link_on (board_of chip.now) host.new gave.now) result }
+    ensures on { IsOnIn (session_of host.new) }
+{
+    if host.is_some() {
+        return Err(LinkFault::HostBusy);
+    }
+    match begin(chip, aim, file, limits) {
+        Ok(begun) => {
+            *host = Some(begun);
+            Ok(None)
+        }
+        Err(fault) => Err(LinkFault::BadOffer(fault)),
+    }
+}
+
+/// An upload is to begin.
+fn upload<'f>(
+    alloc: Global,
+    chip: &Chip,
+    host: &mut Option<Host<'f>>,
+    gave: &Option<Host<'f>>,
+    limits: Limits,
+) -> Result<Option<Report>, LinkFault>
+    requires { HoldsOn chip.now host.old }
+    ensures come { HasCome (link_on (board_of chip.now) host.old gave.now) (Uploads limits)
+        (link_on (board_of chip.now) host.new gave.now) result }
+    ensures on { IsOnIn (session_of host.new) }
+{
+    if host.is_some() {
+        return Err(LinkFault::HostBusy);
+    }
+    match fetch(alloc, chip, limits) {
+        Ok(begun) => {
+            *host = Some(begun);
+            Ok(None)
+        }
+        Err(fault) => Err(LinkFault::BadOffer(fault)),
+    }
+}
+
+/// The session is given up.
+fn abort<'f>(
+    chip: &Chip,
+    host: &mut Option<Host<'f>>,
+    gave: &Option<Host<'f>>,
+) -> Result<Option<Report>, LinkFault>
+    requires { HoldsOn chip.now host.old }
+    ensures come { HasCome (link_on (board_of chip.now) host.old gave.now) Aborts (link_on (board_of chip.now) host.new gave.now) result }
+    ensures on { IsOnIn (session_of host.new) }
+{
+    match host {
+        None => Err(LinkFault::NoHost),
+        Some(live) => {
+            live.abort();
+            Ok(None)
+        }
+    }
+}
+
+/// The host takes its next action.
+fn go<'f>(
+    chip: &mut Chip,
+    host: &mut Option<Host<'f>>,
+    gave: &mut Option<Host<'f>>,
+    fate: Fate<'_>,
+) -> Result<Option<Report>, LinkFault>
+    requires { HoldsOn chip.old host.old }
+    ensures come { HasCome (link_on (board_of chip.old) host.old gave.old) (Goes (fate_of fate.entry) (harm_in fate.entry))
+        (link_on (board_of chip.new) host.new gave.new) result }
+    ensures holds { HoldsOn chip.new host.new }
+{
+    match host {
+        None => return Err(LinkFault::NoHost),
+        Some(live) => act(chip, live, fate),
+    }
+    Ok(end(host, gave))
+}
+
+/// An event comes. A refused one changes nothing.
+pub(crate) fn come<'f>(
+    alloc: Global,
+    chip: &mut Chip,
+    host: &mut Option<Host<'f>>,
+    gave: &mut Option<Host<'f>>,
+    event: Event<'f, '_>,
+) -> Result<Option<Report>, LinkFault>
+    requires { HoldsOn chip.old host.old }
+    ensures come { HasCome (link_on (board_of chip.old) host.old gave.old) (happening event.entry)
+        (link_on (board_of chip.new) host.new gave.new) result }
+    ensures holds { HoldsOn chip.new host.new }
+{
+    match event {
+        Event::Offer { file, limits } => offer(chip, host, gave, Aim::Install, file, limits),
+        Event::OfferVerified { file, limits } => {
+            offer(chip, host, gave, Aim::Verify, file, limits)
+        }
+        Event::Upload { limits } => upload(alloc, chip, host, gave, limits),
+        Event::Abort => abort(chip, host, gave),
+        Event::Go(fate) => go(chip, host, gave, fate),
+        Event::Time(ms) => {
+            pass(chip, &mut Harm::none(), ms);
+            Ok(None)
+        }
+        Event::Reset => {
+            usb_reset(chip);
+            Ok(restart(host, gave))
+        }
+        Event::Cut => {
+            power_cycle(chip);
+            Ok(restart(host, gave))
+        }
+    }
+}

@@ -1,0 +1,22 @@
+//! A device that writes its medium itself and a board, each with a host on a link: the same random events come to both.
+
+mod dice;
+mod pair;
+
+use dice::Dice;
+use pair::plays_the_same;
+use std::test::Fail;
+
+/// How many lists of events come.
+const LISTS: u32 = 2000;
+
+#[test]
+fn a_board_answers_what_a_device_answers(rt: HostRuntime) -> Result<(), Fail> {
+    for number in 0..LISTS {
+        let mut dice = Dice {
+            state: u64::from(number),
+        };
+        plays_the_same(&rt, rt.alloc(), &mut dice)?;
+    }
+    Ok(())
+}
