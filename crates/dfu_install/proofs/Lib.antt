@@ -1,0 +1,13 @@
+pub mod Allowing
+pub mod Beside
+pub mod Erasing
+pub mod Few
+pub mod Filling
+pub mod Fresh
+pub mod Holding
+pub mod Looking
+pub mod Members
+pub mod Nexts
+pub mod Programming
+pub mod Starts
+pub mod Tidy

@@ -1,0 +1,7 @@
+pub mod Allowed
+pub mod Area
+pub mod Courses
+pub mod Next
+pub mod Operations
+pub mod Took
+pub mod Working

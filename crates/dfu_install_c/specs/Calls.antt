@@ -1,0 +1,29 @@
+-- What the numbers of a program in C stand for.
+use Rattle.std.specs.Prelude.{ℕ, ℤ, negsuc, ◌==◌, if◌then◌else◌, Option, Some, None}
+use Rattle.dfu_install.specs.declared.due.Due.{Due}
+use Rattle.dfu_install.specs.declared.due.Due.TheVariants.{Erase, Program, Start}
+use Rattle.dfu_install.specs.declared.due.Refusal.{Refusal}
+use Rattle.dfu_install.specs.declared.due.Refusal.TheVariants.{WrongSize, NoImage, TooLarge}
+
+-- The place that a number stands for: DFU_NOWHERE for none.
+abbrev pub last_of : ℕ → Option ℕ
+last_of number = if number == 4294967295 then None else Some number
+
+-- The number of a place.
+abbrev pub number_of : Option ℕ → ℕ
+number_of None = 4294967295
+number_of (Some at) = at
+
+-- The operation that a kind and a place stand for; of another kind none, as the start.
+abbrev pub due_of : ℕ → ℕ → Due
+due_of kind at = if kind == 1 then Erase at else if kind == 2 then Program at else Start
+
+-- DFU_ASKS.
+abbrev pub ASKS : ℤ
+ASKS = negsuc 10
+
+-- The number of a refusal: DFU_WRONG_SIZE, DFU_NO_IMAGE, DFU_TOO_LARGE.
+abbrev pub refusal_number : Refusal → ℤ
+refusal_number WrongSize = negsuc 5
+refusal_number NoImage = negsuc 14
+refusal_number TooLarge = negsuc 6

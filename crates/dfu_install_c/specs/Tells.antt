@@ -1,0 +1,16 @@
+-- How a program in C is told what is due.
+use Rattle.std.specs.Prelude.{◌≡◌, ℕ, ℤ, pos, List}
+use Rattle.dfu_install.specs.declared.due.Due.{Due}
+use Rattle.dfu_install.specs.declared.due.Due.TheVariants.{Refuse, Erase, Program, Start}
+use Rattle.dfu_install.specs.Area.{piece_of}
+use Rattle.dfu_install_c.specs.declared.ask.DfuAsk.{DfuAsk}
+use Rattle.dfu_install_c.specs.Calls.{ASKS, refusal_number}
+
+-- An operation is told by DFU_ASKS, and stands in what is asked for; the start by 0, and a refusal by its number, and nothing changes.
+abbrev pub Tells : List ℕ → ℕ → Due → ℤ → DfuAsk → DfuAsk → Type 0
+Tells image sector (Refuse refusal) result before after = (result ≡ refusal_number refusal) × (after ≡ before)
+Tells image sector Start result before after = (result ≡ pos 0) × (after ≡ before)
+Tells image sector (Erase at) result before after =
+    (result ≡ ASKS) × (after.kind ≡ 1) × (after.at ≡ at) × (after.length ≡ sector) × (after.bytes ≡ before.bytes)
+Tells image sector (Program at) result before after =
+    (result ≡ ASKS) × (after.kind ≡ 2) × (after.at ≡ at) × (after.length ≡ 256) × (after.bytes ≡ piece_of image at)

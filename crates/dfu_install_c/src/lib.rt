@@ -1,0 +1,7 @@
+//! The run area for programs in C, as a static library: `include/dfu_install_core.h` has its calls.
+#![tactic(auto)]
+
+mod area;
+mod ask;
+mod calls;
+mod numbers;
