@@ -1,0 +1,4 @@
+pub mod Marks
+pub mod Trial
+pub mod Calls
+pub mod Laws

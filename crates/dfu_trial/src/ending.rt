@@ -1,0 +1,25 @@
+//! How a trial ends.
+ghost use Rattle.std.specs.Prelude.{◌≡◌, IfSome};
+ghost use Rattle.dfu_trial.specs.Marks.{AreTries};
+ghost use Rattle.dfu_trial.specs.Calls.{IsStanding, IsTaken, end_of};
+
+use crate::{Operation, Standing};
+use dfu_slots::Medium;
+
+impl Standing {
+    /// Tells how a trial ends: the gate of its slot is closed. None if nothing is on trial. It reads nothing.
+    ///
+    /// A download ends the trial before its store is opened and `begin` is called: until then the store's spare is the slot of the
+    /// confirmed image, which `begin` would give up.
+    pub fn end<M: Medium>(self, _medium: &M, tries: u32) -> Option<Operation>
+        requires tries { AreTries (M.state _medium.now).grain tries }
+        requires stands { IsStanding (M.state _medium.now) tries self }
+        ensures value { result ≡ end_of self }
+        ensures taken { IfSome result (λ operation. IsTaken (M.state _medium.now) operation) }
+    {
+        match self {
+            Standing::Settled(_) => None,
+            Standing::OnTrial(trial) => Some(Operation::Close(trial.slot)),
+        }
+    }
+}

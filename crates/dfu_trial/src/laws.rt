@@ -1,0 +1,35 @@
+//! Laws of a trial. Each is the contract of a function with an empty body, which is proved and not to be called for what it does.
+ghost use Rattle.std.specs.Prelude.{◌⊎◌, ℕ};
+ghost use Rattle.dfu_slots.specs.Medium.{MediumState};
+ghost use Rattle.dfu_slots.specs.Image.{HasImage};
+ghost use Rattle.dfu_trial.specs.Marks.{AreTries};
+ghost use Rattle.dfu_trial.specs.Calls.{IsStanding, sets, start_of, runs_in};
+ghost use Rattle.dfu_trial.specs.Laws.{Carried, CarriedIf, GoesOn, IsConfirmed, IsBack, Starts};
+ghost use Rattle.dfu_trial.specs.declared.standing.Trial.{Trial};
+ghost use Rattle.dfu_trial.specs.declared.standing.Standing.{Standing};
+ghost use Rattle.dfu_trial.specs.declared.standing.Standing.TheVariants.{OnTrial};
+ghost use Rattle.dfu_trial.specs.declared.operation.Operation.TheVariants.{Close};
+
+/// A start, whatever becomes of what it asks for: if nothing is on trial the active image runs. On trial, with a start left, the image on
+/// trial runs and one start more is recorded at least, or the confirmed image runs and the trial is as it was. Without one the confirmed
+/// image runs, and is back, or the trial is as it was. Some image is active afterwards.
+pub fn a_start_runs_one_of_two()
+    ensures starts { (m now : MediumState) (tries : ℕ) (s : Standing) → AreTries m.grain tries → IsStanding m tries s →
+        CarriedIf m (start_of m.grain tries s).operation now →
+        Starts m tries s now (runs_in now (start_of m.grain tries s) (start_of m.grain tries s).operation) }
+    ensures image { (m now : MediumState) (tries : ℕ) (s : Standing) (ran : ℕ) → AreTries m.grain tries → IsStanding m tries s →
+        Starts m tries s now ran → HasImage now }
+{}
+
+/// A confirmation of the image on trial, whatever becomes of the mark: it is the active one and confirmed, or the trial is as it was.
+pub fn a_confirmation_holds_or_the_trial_goes_on()
+    ensures { (m now : MediumState) (tries : ℕ) (t : Trial) → AreTries m.grain tries → IsStanding m tries (OnTrial t) →
+        Carried m (sets m.grain t.slot 0) now → IsConfirmed m t now ⊎ GoesOn m tries t now }
+{}
+
+/// The end of a trial, asked for or since no start was left, whatever becomes of the erase: the confirmed image is back, or the trial is as
+/// it was.
+pub fn a_trial_ends_or_goes_on()
+    ensures { (m now : MediumState) (tries : ℕ) (t : Trial) → AreTries m.grain tries → IsStanding m tries (OnTrial t) →
+        Carried m (Close t.slot) now → GoesOn m tries t now ⊎ IsBack m t now }
+{}

@@ -1,0 +1,186 @@
+//! Trials on a simulated medium in units of 16 and sectors of 256, with 256 bytes of data in a slot: the slots begin at 0 and 768, their
+//! data at 512 and 1,280, and their marks at 272 and 1,040.
+ghost use Rattle.std.specs.Prelude.{◌≡◌, OnOk};
+ghost use Rattle.dfu_slots.specs.Medium.{MediumState};
+ghost use Rattle.dfu_trial.specs.Marks.{AreTries};
+
+use dfu_slots::{Faulty, Medium, PutFault, SimMedium, Slots, Unit};
+use dfu_trial::{
+    Confirmation, Operation, Settled, Standing, Starting, Trial, TriesFault, boot, check_tries,
+    look,
+};
+use std::alloc::Global;
+use std::process::Abort;
+use std::test::Fail;
+
+const FIRST: u32 = 0;
+
+const SECOND: u32 = 768;
+
+// Formatted with the one byte 00h.
+fn formatted(alloc: Global) -> Result<SimMedium, Fail> {
+    match Slots::format(SimMedium::with_sectors(alloc, 1536, Unit::U16, 256)?, &[0]) {
+        Ok(slots) => Ok(slots.into_medium()),
+        Err((fault, _medium)) => Err(fault)?,
+    }
+}
+
+// FFh four times is installed.
+fn installed(medium: SimMedium) -> Result<SimMedium, Fail> {
+    let mut slots = match Slots::open(medium) {
+        Ok(slots) => slots,
+        Err((fault, _medium)) => return Err(fault)?,
+    };
+    slots.begin()?;
+    slots.put(0, &[0xff; 4])?;
+    slots.commit(4)?;
+    Ok(slots.into_medium())
+}
+
+// How it stands, with two tries.
+fn standing(medium: &SimMedium) -> Result<Standing, Fail> {
+    check_tries(medium, 2)?;
+    Ok(look(medium, 2)?)
+}
+
+// What a start does, with two tries.
+fn started(medium: &SimMedium) -> Result<Starting, Fail> {
+    check_tries(medium, 2)?;
+    Ok(look(medium, 2)?.start(medium, 2))
+}
+
+// Which slot runs, with two tries.
+fn booted(medium: &mut SimMedium) -> Result<u32, Fail> {
+    check_tries(medium, 2)?;
+    Ok(boot(medium, 2)?)
+}
+
+// The image that begins there is confirmed, and what it was told before.
+fn confirmed(medium: &mut SimMedium, at: u32) -> Result<Confirmation, Fail> {
+    check_tries(medium, 2)?;
+    let confirmation = look(medium, 2)?.confirm(medium, 2, at);
+    if let Confirmation::By(operation) = confirmation {
+        operation.carry_out(medium)?;
+    }
+    Ok(confirmation)
+}
+
+// A trial ends, and what was asked for.
+fn ended(medium: &mut SimMedium) -> Result<Option<Operation>, Fail> {
+    check_tries(medium, 2)?;
+    let operation = look(medium, 2)?.end(medium, 2);
+    if let Some(operation) = operation {
+        operation.carry_out(medium)?;
+    }
+    Ok(operation)
+}
+
+fn on_trial(starts: u32) -> Standing {
+    Standing::OnTrial(Trial {
+        slot: SECOND,
+        base: FIRST,
+        starts,
+    })
+}
+
+fn settled(slot: u32, is_confirmed: bool) -> Standing {
+    Standing::Settled(Settled { slot, is_confirmed })
+}
+
+// A new image over a confirmed one.
+fn tried(alloc: Global) -> Result<SimMedium, Fail> {
+    let mut medium = formatted(alloc)?;
+    confirmed(&mut medium, 512)?;
+    installed(medium)
+}
+
+#[test]
+fn the_first_confirmation_is_a_mark_at_272(rt: HostRuntime) -> Result<(), Fail> {
+    let mut medium = formatted(rt.alloc())?;
+    assert_eq!(&rt; standing(&medium)?, settled(FIRST, false));
+    assert_eq!(&rt;
+        confirmed(&mut medium, 512)?,
+        Confirmation::By(Operation::Mark(272, 16))
+    );
+    assert_eq!(&rt; standing(&medium)?, settled(FIRST, true));
+    assert_eq!(&rt; confirmed(&mut medium, 512)?, Confirmation::Confirmed);
+    assert_eq!(&rt; confirmed(&mut medium, 1280)?, Confirmation::Elsewhere);
+    Ok(())
+}
+
+#[test]
+fn nothing_is_on_trial_before_a_confirmation(rt: HostRuntime) -> Result<(), Fail> {
+    let mut medium = installed(formatted(rt.alloc())?)?;
+    assert_eq!(&rt; standing(&medium)?, settled(SECOND, false));
+    assert_eq!(&rt; booted(&mut medium)?, SECOND);
+    assert_eq!(&rt; ended(&mut medium)?, None);
+    Ok(())
+}
+
+#[test]
+fn two_starts_and_the_old_image_is_back(rt: HostRuntime) -> Result<(), Fail> {
+    let mut medium = tried(rt.alloc())?;
+    assert_eq!(&rt; standing(&medium)?, on_trial(0));
+    assert_eq!(&rt;
+        started(&medium)?.operation,
+        Some(Operation::Mark(1056, 16))
+    );
+    assert_eq!(&rt; booted(&mut medium)?, SECOND);
+    assert_eq!(&rt; standing(&medium)?, on_trial(1));
+    assert_eq!(&rt; booted(&mut medium)?, SECOND);
+    assert_eq!(&rt; standing(&medium)?, on_trial(2));
+    assert_eq!(&rt; booted(&mut medium)?, FIRST);
+    assert_eq!(&rt; standing(&medium)?, settled(FIRST, true));
+    assert_eq!(&rt; booted(&mut medium)?, FIRST);
+    Ok(())
+}
+
+#[test]
+fn a_mark_that_lies_is_no_start(rt: HostRuntime) -> Result<(), Fail> {
+    let mut medium = tried(rt.alloc())?;
+    medium.arm_lie(0, &[]);
+    assert_eq!(&rt; booted(&mut medium)?, FIRST);
+    assert_eq!(&rt; standing(&medium)?, on_trial(0));
+    medium.arm(0, &[0x00], false);
+    assert_eq!(&rt; booted(&mut medium)?, SECOND);
+    assert_eq!(&rt; standing(&medium)?, on_trial(1));
+    Ok(())
+}
+
+#[test]
+fn the_old_image_confirms_nothing(rt: HostRuntime) -> Result<(), Fail> {
+    let mut medium = tried(rt.alloc())?;
+    assert_eq!(&rt; booted(&mut medium)?, SECOND);
+    assert_eq!(&rt; confirmed(&mut medium, 512)?, Confirmation::Confirmed);
+    assert_eq!(&rt; standing(&medium)?, on_trial(1));
+    assert_eq!(&rt;
+        confirmed(&mut medium, 1280)?,
+        Confirmation::By(Operation::Mark(1040, 16))
+    );
+    assert_eq!(&rt; standing(&medium)?, settled(SECOND, true));
+    Ok(())
+}
+
+#[test]
+fn a_download_ends_the_trial_first(rt: HostRuntime) -> Result<(), Fail> {
+    let mut medium = tried(rt.alloc())?;
+    assert_eq!(&rt; booted(&mut medium)?, SECOND);
+    assert_eq!(&rt; ended(&mut medium)?, Some(Operation::Close(768)));
+    assert_eq!(&rt; standing(&medium)?, settled(FIRST, true));
+    let medium = installed(medium)?;
+    assert_eq!(&rt; standing(&medium)?, on_trial(0));
+    Ok(())
+}
+
+#[test]
+fn tries_are_refused_by_name(rt: HostRuntime) -> Result<(), Fail> {
+    let medium = SimMedium::with_sectors(rt.alloc(), 1536, Unit::U16, 256)?;
+    assert_eq!(&rt; check_tries(&medium, 0), Err(TriesFault::TooFew));
+    assert_eq!(&rt; check_tries(&medium, 1), Err(TriesFault::TooFew));
+    assert_eq!(&rt; check_tries(&medium, 2), Ok(()));
+    assert_eq!(&rt; check_tries(&medium, 14), Ok(()));
+    assert_eq!(&rt; check_tries(&medium, 15), Err(TriesFault::TooMany));
+    let flat = SimMedium::with_unit(rt.alloc(), 1536, Unit::U16)?;
+    assert_eq!(&rt; check_tries(&flat, 2), Err(TriesFault::NoSectors));
+    Ok(())
+}
