@@ -1,0 +1,39 @@
+-- Numbers of four bytes among others.
+use Rattle.std.proofs.Common.{◌≡◌, ℕ, zero, suc, ◌+◌, ◌^◌, ◌<◌, ◌≤◌, List, [], ◌∷◌, ◌++◌, length, take, drop, refl, sym, ap, ◌∙◌, arith, length-take, length-drop}
+use Rattle.std.specs.Int.{w32, from_le_bytes}
+use Rattle.std.proofs.lemmas.List.{take-append-drop, drop-drop, get_or-drop}
+use Rattle.std.proofs.lemmas.Nat.{from_le_bytes-to_le_bytes_4, le_bytes_4}
+use Rattle.dfu_suffix.specs.Laws.{AreBytes}
+use Rattle.dfuse_file.specs.Reading.{number_at}
+use Rattle.dfuse_file.specs.Grammar.{four}
+
+-- A list of bytes without its first ones is one of bytes.
+pub AreBytes-drop : (n : ℕ) (xs : List ℕ) → AreBytes xs → AreBytes (drop n xs)
+AreBytes-drop n xs f k = omega (arith, f (n + k), get_or-drop n xs k 0)
+
+-- The first of some bytes are bytes.
+pub AreBytes-take : (n : ℕ) (xs : List ℕ) → AreBytes xs → AreBytes (take n xs)
+AreBytes-take zero xs f k = omega arith
+AreBytes-take (suc n) [] f k = f k
+AreBytes-take (suc n) (x ∷ xs) f zero = f zero
+AreBytes-take (suc n) (x ∷ xs) f (suc k) = AreBytes-take n xs (λ i. f (suc i)) k
+
+-- From a place on there are the four bytes of the number there, and what is behind them.
+pub cut : (place next : ℕ) (b : List ℕ) → AreBytes b → next ≡ place + 4 → next ≤ length b → drop place b ≡ four (number_at place b) ++ drop next b
+cut place next b f e h =
+    let xs = drop place b in
+    let bytes = AreBytes-take 4 xs (AreBytes-drop place b f) in
+    let long : length (take 4 xs) ≡ 4 = length-take 4 xs ∙ omega (arith, length-drop place b) in
+    let here : four (number_at place b) ≡ take 4 xs = le_bytes_4 (take 4 xs) (number_at place b) long bytes refl in
+    let behind : drop 4 xs ≡ drop next b = drop-drop 4 place b ∙ ap (λ (k : ℕ). drop k b) (sym e) in
+    sym (ap (λ (z : List ℕ). z ++ drop next b) here ∙ (ap (λ (z : List ℕ). take 4 xs ++ z) (sym behind) ∙ take-append-drop 4 xs))
+
+-- Such a number fits.
+pub number_fits : (place : ℕ) (b : List ℕ) → AreBytes b → number_at place b < 2 ^ 32
+number_fits place b f =
+    let g = AreBytes-take 4 (drop place b) (AreBytes-drop place b f) in
+    omega (arith, g 0, g 1, g 2, g 3)
+
+-- The four bytes of a number make it.
+pub number_is : (n place : ℕ) (b rest : List ℕ) → n < 2 ^ 32 → drop place b ≡ four n ++ rest → number_at place b ≡ n
+number_is n place b rest h e = ap (λ (t : List ℕ). from_le_bytes w32 (take 4 t)) e ∙ from_le_bytes-to_le_bytes_4 n h

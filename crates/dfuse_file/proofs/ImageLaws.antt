@@ -1,0 +1,209 @@
+-- Lists of elements, as an image is made of them.
+use Rattle.std.proofs.Common.{◌≡◌, ◌≢◌, ℕ, suc, ◌+◌, ◌<◌, ◌≤◌, ◌&&◌, ◌||◌, Bool, true, false, not, cond, eqb, ltb, leb, List, [], ◌∷◌, ◌++◌, length, take, map, set, get_or, Some, None, inl, inr, refl, sym, ap, ◌∙◌, subst, arith, length-append}
+use Rattle.std.proofs.lemmas.Bool.{eq-eqb}
+use Rattle.std.proofs.lemmas.Bool.Decides.{nat_tests, eqb_tells}
+use Rattle.std.proofs.lemmas.List.{append_assoc, append-nil, map-append, take_more_set, take_at}
+use Rattle.std.specs.List.Sorted.{IsNonDecreasingBy, IsPermutation}
+use Rattle.dfu_images.specs.Elements.{Piece}
+use Rattle.dfuse_host.specs.Refusing.{ascends_from}
+use Rattle.dfuse_host.specs.declared.element.Element.{Element}
+use Rattle.dfuse_file.specs.Found.{piece_of}
+use Rattle.dfuse_file.specs.Reading.{Target}
+use Rattle.dfuse_file.specs.declared.image.ImageFault.TheVariants.{NoSuchSetting, TooManyElements}
+use Rattle.dfuse_file.specs.Images.{all_for, one_setting, has_setting, elements_for, image_fault}
+use Rattle.dfuse_file.proofs.Steps.{not_less}
+
+-- An element behind those that are there.
+pub one_behind : (room : List Element) (count : ℕ) (e : Element) (p : Piece) → count < length room → piece_of e ≡ p →
+    map piece_of (take (count + 1) (set room count e)) ≡ map piece_of (take count room) ++ p ∷ []
+one_behind room count e p h is =
+    ap (map piece_of) (take_more_set room count e h)
+    ∙ (map-append piece_of (take count room) (e ∷ []) ∙ ap (λ (q : Piece). map piece_of (take count room) ++ q ∷ []) is)
+
+-- Elements before others, one of which moves over.
+pub moved : (room : List Element) (count : ℕ) (e : Element) (old new : List Piece) → count < length room → old ≡ piece_of e ∷ new →
+    map piece_of (take (count + 1) (set room count e)) ++ new ≡ map piece_of (take count room) ++ old
+moved room count e old new h is =
+    ap (λ (z : List Piece). z ++ new) (one_behind room count e (piece_of e) h refl)
+    ∙ (append_assoc (map piece_of (take count room)) (piece_of e ∷ []) new ∙ ap (λ (z : List Piece). map piece_of (take count room) ++ z) (sym is))
+
+-- ---- sorting
+
+both_yes : (a b : Bool) → a ≡ true → b ≡ true → (a && b) ≡ true
+both_yes true b h e = e
+both_yes false b h e = h
+
+not_more : (a b : ℕ) → a ≤ b → leb a b ≡ true
+not_more a b h = grind (arith, nat_tests)
+
+-- Elements whose addresses do not fall ascend.
+pub ascends : (start : ℕ) (es : List Element) → IsNonDecreasingBy (λ (e : Element). e.address) es →
+    ((d : Element) → 0 < length es → start ≤ (get_or es 0 d).address) → ascends_from start es ≡ true
+ascends start [] f h = refl
+ascends start (e ∷ es) f h =
+    both_yes (leb start e.address) (ascends_from e.address es) (not_more start e.address (h e (omega arith)))
+    (ascends e.address es (λ i j d p q. f (suc i) (suc j) d (omega (arith, p)) (omega (arith, q))) (λ d p. f 0 1 d (omega arith) (omega (arith, p))))
+
+-- What is done to the front of elements, the others stay.
+pub front_same : (room front back later front' : List Element) (n : ℕ) → room ≡ front ++ back → later ≡ front' ++ back → length front ≡ n →
+    length front' ≡ length front → IsPermutation front front' → IsPermutation (take n room) (take n later)
+front_same room front back later front' n old new long same moves =
+    subst (λ (xs : List Element). IsPermutation xs (take n later)) (sym (ap (take n) old ∙ take_at front back n long))
+    (subst (λ (xs : List Element). IsPermutation front xs) (sym (ap (take n) new ∙ take_at front' back n (same ∙ long))) moves)
+
+-- So the front ascends.
+pub front_sorted : (front' back later : List Element) (n : ℕ) → later ≡ front' ++ back → length front' ≡ n → ascends_from 0 front' ≡ true →
+    ascends_from 0 (take n later) ≡ true
+front_sorted front' back later n new long h = ap (ascends_from 0) (ap (take n) new ∙ take_at front' back n long) ∙ h
+
+-- ---- settings
+
+no_equal : (a b : ℕ) → a ≢ b → eqb a b ≡ false
+no_equal a b h = elim (eqb_tells a b) [ inl p ↦ absurd (h p.1) | inr p ↦ p.0 ]
+
+for_both : (s : ℕ) (t : Target) (ts : List Target) → all_for s (t ∷ ts) ≡ ((eqb t.setting s) && all_for s ts)
+unfolding all_for
+for_both s t ts = refl
+
+-- A target of this setting leaves it open whether all are.
+pub same_for : (s : ℕ) (t : Target) (ts old : List Target) → old ≡ t ∷ ts → t.setting ≡ s → all_for s old ≡ all_for s ts
+same_for s t ts old is h = ap (all_for s) is ∙ (for_both s t ts ∙ ap (λ (b : Bool). b && all_for s ts) (eq-eqb t.setting s h))
+
+-- One of another setting decides it.
+pub other_for : (s : ℕ) (t : Target) (ts old : List Target) → old ≡ t ∷ ts → t.setting ≢ s → all_for s old ≡ false
+other_for s t ts old is h = ap (all_for s) is ∙ (for_both s t ts ∙ ap (λ (b : Bool). b && all_for s ts) (no_equal t.setting s h))
+
+-- None is of another setting, if there are none.
+pub none_for : (s : ℕ) → all_for s [] ≡ true
+unfolding all_for
+none_for s = refl
+
+-- All targets are for the setting of the first, or not all.
+pub one_if : (t : Target) (ts all : List Target) (s : ℕ) → all ≡ t ∷ ts → t.setting ≡ s → all_for s ts ≡ true → one_setting all ≡ Some s
+one_if t ts all s is h e =
+    ap one_setting is ∙ (ap (λ (k : ℕ). cond (all_for k ts) (Some k) None) h ∙ ap (λ (b : Bool). cond b (Some s) None) e)
+
+-- If one of the others is of another setting, there is no one setting.
+pub none_if : (t : Target) (ts all : List Target) (s : ℕ) → all ≡ t ∷ ts → t.setting ≡ s → all_for s ts ≡ false → one_setting all ≡ None
+none_if t ts all s is h e =
+    ap one_setting is ∙ (ap (λ (k : ℕ). cond (all_for k ts) (Some k) None) h ∙ ap (λ (b : Bool). cond b (Some s) None) e)
+
+-- A target of a setting, and one of another.
+has_both : (s : ℕ) (t : Target) (ts : List Target) → has_setting s (t ∷ ts) ≡ ((eqb t.setting s) || has_setting s ts)
+unfolding has_setting
+has_both s t ts = refl
+
+for_cons : (s : ℕ) (t : Target) (ts : List Target) → elements_for s (t ∷ ts) ≡ cond (eqb t.setting s) (t.elements ++ elements_for s ts) (elements_for s ts)
+unfolding elements_for
+for_cons s t ts = refl
+
+-- A target of this setting is there.
+pub has_this : (s : ℕ) (t : Target) (ts old : List Target) → old ≡ t ∷ ts → t.setting ≡ s → has_setting s old ≡ true
+has_this s t ts old is h = ap (has_setting s) is ∙ (has_both s t ts ∙ ap (λ (b : Bool). b || has_setting s ts) (eq-eqb t.setting s h))
+
+-- One of another setting leaves that open.
+pub has_other : (s : ℕ) (t : Target) (ts old : List Target) → old ≡ t ∷ ts → t.setting ≢ s → has_setting s old ≡ has_setting s ts
+has_other s t ts old is h = ap (has_setting s) is ∙ (has_both s t ts ∙ ap (λ (b : Bool). b || has_setting s ts) (no_equal t.setting s h))
+
+-- The elements of a target of this setting stand before those of the others.
+pub elements_this : (s : ℕ) (t : Target) (ts old : List Target) → old ≡ t ∷ ts → t.setting ≡ s → elements_for s old ≡ t.elements ++ elements_for s ts
+elements_this s t ts old is h = ap (elements_for s) is ∙ (for_cons s t ts
+    ∙ ap (λ (b : Bool). cond b (t.elements ++ elements_for s ts) (elements_for s ts)) (eq-eqb t.setting s h))
+
+-- Those of another setting are left out.
+pub elements_other : (s : ℕ) (t : Target) (ts old : List Target) → old ≡ t ∷ ts → t.setting ≢ s → elements_for s old ≡ elements_for s ts
+elements_other s t ts old is h = ap (elements_for s) is ∙ (for_cons s t ts
+    ∙ ap (λ (b : Bool). cond b (t.elements ++ elements_for s ts) (elements_for s ts)) (no_equal t.setting s h))
+
+-- Without targets there is none of this setting.
+pub has_none : (s : ℕ) → has_setting s [] ≡ false
+unfolding has_setting
+has_none s = refl
+
+-- Without targets there are no elements.
+pub elements_none : (s : ℕ) → elements_for s [] ≡ []
+unfolding elements_for
+elements_none s = refl
+
+-- ---- why there is no image
+
+less : (a b : ℕ) → a < b → ltb a b ≡ true
+less a b h = grind (arith, nat_tests)
+
+-- No target is of this setting.
+pub no_such : (room s : ℕ) (all : List Target) → has_setting s all ≡ false → image_fault room s all ≡ Some NoSuchSetting
+unfolding image_fault
+no_such room s all h = ap (λ (b : Bool). cond (not b) (Some NoSuchSetting) (cond (ltb room (length (elements_for s all))) (Some TooManyElements) None)) h
+
+-- There is no room for the elements.
+pub too_many : (room s : ℕ) (all : List Target) → has_setting s all ≡ true → room < length (elements_for s all) → image_fault room s all ≡ Some TooManyElements
+unfolding image_fault
+too_many room s all h more =
+    ap (λ (b : Bool). cond (not b) (Some NoSuchSetting) (cond (ltb room (length (elements_for s all))) (Some TooManyElements) None)) h
+    ∙ ap (λ (b : Bool). cond b (Some TooManyElements) None) (less room (length (elements_for s all)) more)
+
+-- There is one, and room for its elements.
+pub no_image_fault : (room s : ℕ) (all : List Target) → has_setting s all ≡ true → length (elements_for s all) ≤ room → image_fault room s all ≡ None
+unfolding image_fault
+no_image_fault room s all h few =
+    ap (λ (b : Bool). cond (not b) (Some NoSuchSetting) (cond (ltb room (length (elements_for s all))) (Some TooManyElements) None)) h
+    ∙ ap (λ (b : Bool). cond b (Some TooManyElements) None) (not_less room (length (elements_for s all)) few)
+
+-- ---- one target further
+
+-- So far these targets were looked at.
+pub record Looked (s : ℕ) (room : List Element) (count : ℕ) (has : Bool) (left all : List Target) : Type 0 where
+  pub number : count + length (elements_for s left) ≡ length (elements_for s all)
+  pub listed : map piece_of (take count room) ++ elements_for s left ≡ elements_for s all
+  pub has_it : (has || has_setting s left) ≡ has_setting s all
+
+-- A target of another setting.
+pub past_other : (s : ℕ) (room : List Element) (count : ℕ) (has : Bool) (left all ts : List Target) (t : Target) → Looked s room count has left all →
+    left ≡ t ∷ ts → t.setting ≢ s → Looked s room count has ts all
+past_other s room count has left all ts t h is other =
+    let es = elements_other s t ts left is other in
+    record {
+      number = ap (λ (xs : List Piece). count + length xs) (sym es) ∙ h.number;
+      listed = ap (λ (xs : List Piece). map piece_of (take count room) ++ xs) (sym es) ∙ h.listed;
+      has_it = ap (λ (b : Bool). has || b) (sym (has_other s t ts left is other)) ∙ h.has_it;
+    }
+
+or_nothing : (a b : Bool) → b ≡ false → (a || b) ≡ a
+or_nothing true b h = refl
+or_nothing false b h = h
+
+or_true : (a b : Bool) → a ≡ true → (b || a) ≡ true
+or_true a true h = refl
+or_true a false h = h
+
+-- A target of the setting, whose elements were put behind.
+pub past_this : (s : ℕ) (room next : List Element) (count n : ℕ) (has : Bool) (left all ts : List Target) (t : Target) → Looked s room count has left all →
+    left ≡ t ∷ ts → t.setting ≡ s → n ≡ count + length t.elements → map piece_of (take n next) ≡ map piece_of (take count room) ++ t.elements →
+    Looked s next n true ts all
+past_this s room next count n has left all ts t h is this number listed =
+    let es = elements_this s t ts left is this in
+    record {
+      number = omega (arith, number, ap length es, length-append t.elements (elements_for s ts), h.number);
+      listed = ap (λ (xs : List Piece). xs ++ elements_for s ts) listed
+          ∙ (append_assoc (map piece_of (take count room)) t.elements (elements_for s ts)
+          ∙ (ap (λ (xs : List Piece). map piece_of (take count room) ++ xs) (sym es) ∙ h.listed));
+      has_it = sym (or_true (has_setting s left) has (has_this s t ts left is this)) ∙ h.has_it;
+    }
+
+-- A target of the setting, whose elements are too many.
+pub too_many_here : (s room_size : ℕ) (room : List Element) (count : ℕ) (has : Bool) (left all ts : List Target) (t : Target) → Looked s room count has left all →
+    left ≡ t ∷ ts → t.setting ≡ s → room_size < count + length t.elements → image_fault room_size s all ≡ Some TooManyElements
+too_many_here s room_size room count has left all ts t h is this more =
+    let es = elements_this s t ts left is this in
+    too_many room_size s all (sym h.has_it ∙ or_true (has_setting s left) has (has_this s t ts left is this))
+    (omega (arith, more, ap length es, length-append t.elements (elements_for s ts), h.number))
+
+-- All were looked at.
+pub at_end : (s : ℕ) (room : List Element) (count : ℕ) (has : Bool) (left all : List Target) → Looked s room count has left all → left ≡ [] →
+    (count ≡ length (elements_for s all)) × (map piece_of (take count room) ≡ elements_for s all) × (has ≡ has_setting s all)
+at_end s room count has left all h none =
+    let es = ap (elements_for s) none ∙ elements_none s in (
+      omega (arith, h.number, ap length es),
+      sym (append-nil (map piece_of (take count room))) ∙ (ap (λ (xs : List Piece). map piece_of (take count room) ++ xs) (sym es) ∙ h.listed),
+      sym (or_nothing has (has_setting s left) (ap (has_setting s) none ∙ has_none s)) ∙ h.has_it,
+    )

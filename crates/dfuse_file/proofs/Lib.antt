@@ -1,0 +1,10 @@
+pub mod Steps
+pub mod Fields
+pub mod ElementLaws
+pub mod TargetLaws
+pub mod SuffixLaws
+pub mod SuffixReads
+pub mod FileLaws
+pub mod WalkLaws
+pub mod RawLaws
+pub mod ImageLaws

@@ -1,0 +1,54 @@
+-- Steps of reading, one after the other.
+use Rattle.std.proofs.Common.{◌≡◌, ◌≢◌, ℕ, zero, suc, ◌-◌, ◌≤◌, ◌&&◌, Bool, true, false, cond, eqb, ltb, Result, Ok, Err, IfOk, inl, inr, refl, arith}
+use Rattle.std.proofs.lemmas.Bool.Decides.{nat_tests, eqb_tells}
+use Rattle.dfuse_file.specs.declared.fault.FileFault.{FileFault}
+use Rattle.dfuse_file.specs.Reading.{◌>>=◌}
+
+-- What comes of a first step that comes of both.
+pub bound : {A B : Type 0} (r : Result A FileFault) (k : A → Result B FileFault) (x : B) → (r >>= k) ≡ Ok x →
+    (y : A) × (r ≡ Ok y) × (k y ≡ Ok x)
+bound (Ok y) k x h = (y, refl, h)
+bound (Err fault) k x h = cc
+
+-- A condition that doesn't hold is passed over.
+pub passed : {A : Type 0} (t : Bool) (fault : FileFault) (r : Result A FileFault) (x : A) → cond t (Err fault) r ≡ Ok x →
+    (t ≡ false) × (r ≡ Ok x)
+passed true fault r x h = (cc, cc)
+passed false fault r x h = (refl, h)
+
+-- The same, the other way round.
+pub skip : {A : Type 0} (t : Bool) (fault : FileFault) (r s : Result A FileFault) → t ≡ false → r ≡ s → cond t (Err fault) r ≡ s
+skip true fault r s h e = cc
+skip false fault r s h e = e
+
+-- What two answers without a fault have is the same.
+pub same_ok : {A : Type 0} (x y : A) → ◌≡◌ {A = Result A FileFault} (Ok x) (Ok y) → x ≡ y
+same_ok x y h = cc
+
+-- What holds for each value that an answer may be holds for the one that it is.
+pub if_ok : {T E : Type 0} (r : Result T E) (P : T → Type 0) → ((x : T) → r ≡ Ok x → P x) → IfOk r P
+if_ok (Ok x) P f = f x refl
+if_ok (Err e) P f = tt
+
+-- A test says no if the one number is no less than the other.
+pub not_less : (a b : ℕ) → b ≤ a → ltb a b ≡ false
+not_less a b h = grind (arith, nat_tests)
+
+-- A test says no if a number is one at least.
+pub not_zero : (a : ℕ) → 1 ≤ a → eqb a 0 ≡ false
+not_zero a h = elim (eqb_tells a 0) [ inl p ↦ absurd (omega (arith, p.1)) | inr p ↦ p.0 ]
+
+-- A number is one at least if the test for 0 says no.
+pub zero_not : (a : ℕ) → eqb a 0 ≡ false → 1 ≤ a
+zero_not zero h = cc
+zero_not (suc n) h = omega arith
+
+-- Both hold if both together do.
+pub and_true : (a b : Bool) → (a && b) ≡ true → (a ≡ true) × (b ≡ true)
+and_true true b h = (refl, h)
+and_true false b h = (h, cc)
+
+-- A number that isn't 0 is one more than another.
+pub positive : (n : ℕ) → n ≢ 0 → n ≡ suc (n - 1)
+positive zero h = absurd (h refl)
+positive (suc n) h = omega arith

@@ -1,0 +1,213 @@
+-- What reading targets has to do with the grammar.
+use Rattle.std.proofs.Common.{◌≡◌, ℕ, zero, suc, ◌^◌, ◌<◌, ◌≤◌, ◌&&◌, true, not, eqb, ltb, List, [], ◌∷◌, ◌++◌, length, take, drop, get_or, Result, Ok, refl, sym, ap, ◌∙◌, subst, arith, length-append, length-take, length-drop}
+use Rattle.std.proofs.lemmas.Bool.{eqb-true, ltb-false, not-false}
+use Rattle.std.proofs.lemmas.List.{take-append-drop, take_at, drop_at, drop-drop}
+use Rattle.std.proofs.Math.Seq.{drop-cons}
+use Rattle.dfu_suffix.specs.Laws.{AreBytes}
+use Rattle.dfu_images.specs.Elements.{Piece}
+use Rattle.dfuse_file.specs.declared.fault.FileFault.{FileFault}
+use Rattle.dfuse_file.specs.declared.fault.FileFault.TheVariants.{NoTarget, BadTargetSize}
+use Rattle.dfuse_file.specs.Reading.{Target, Heading, ◌>>=◌, number_at, elements_at, is_target, heading_at, target_of, before_targets, targets_at}
+use Rattle.dfuse_file.specs.Grammar.{four, spelled_elements, ElementsFit, target_letters, spelled_targets, TargetsFit}
+use Rattle.dfuse_file.proofs.Steps.{bound, passed, skip, same_ok, not_less, and_true}
+use Rattle.dfuse_file.proofs.Fields.{AreBytes-drop, AreBytes-take, cut, number_fits, number_is}
+use Rattle.dfuse_file.proofs.ElementLaws.{elements_found, elements_read}
+
+-- A target is spelled so, with what stands behind it.
+abbrev spelled_heading : Heading → List ℕ
+spelled_heading h =
+    target_letters ++ (h.setting ∷ (four h.named ++ (h.name ++ (four (length h.content) ++ (four h.count ++ (h.content ++ h.rest))))))
+
+-- The bytes begin with a target.
+record Heads (b : List ℕ) (h : Heading) : Type 0 where
+  pub spelled : b ≡ spelled_heading h
+  pub setting_fits : h.setting < 256
+  pub named_fits : h.named < 2 ^ 32
+  pub name_fits : length h.name ≡ 255
+  pub size_fits : length h.content < 2 ^ 32
+  pub count_fits : h.count < 2 ^ 32
+  pub content_bytes : AreBytes h.content
+  pub rest_bytes : AreBytes h.rest
+
+-- Letters that are told one by one are those of Target.
+letters_are : (b : List ℕ) → 6 ≤ length b → is_target b ≡ true → b ≡ target_letters ++ drop 6 b
+letters_are b long h =
+    let s0 = and_true (eqb (get_or b 0 0) 84) (eqb (get_or b 1 0) 97 && (eqb (get_or b 2 0) 114 && (eqb (get_or b 3 0) 103
+    && (eqb (get_or b 4 0) 101 && eqb (get_or b 5 0) 116)))) h in
+    let s1 = and_true (eqb (get_or b 1 0) 97) (eqb (get_or b 2 0) 114 && (eqb (get_or b 3 0) 103 && (eqb (get_or b 4 0) 101
+    && eqb (get_or b 5 0) 116))) s0.1 in
+    let s2 = and_true (eqb (get_or b 2 0) 114) (eqb (get_or b 3 0) 103 && (eqb (get_or b 4 0) 101 && eqb (get_or b 5 0) 116)) s1.1 in
+    let s3 = and_true (eqb (get_or b 3 0) 103) (eqb (get_or b 4 0) 101 && eqb (get_or b 5 0) 116) s2.1 in
+    let s4 = and_true (eqb (get_or b 4 0) 101) (eqb (get_or b 5 0) 116) s3.1 in
+    let e0 = eqb-true (get_or b 0 0) 84 s0.0 in
+    let e1 = eqb-true (get_or b 1 0) 97 s1.0 in
+    let e2 = eqb-true (get_or b 2 0) 114 s2.0 in
+    let e3 = eqb-true (get_or b 3 0) 103 s3.0 in
+    let e4 = eqb-true (get_or b 4 0) 101 s4.0 in
+    let e5 = eqb-true (get_or b 5 0) 116 s4.1 in
+    let c0 : b ≡ get_or b 0 0 ∷ drop 1 b = drop-cons b 0 0 (omega (arith, long)) in
+    let c1 : drop 1 b ≡ get_or b 1 0 ∷ drop 2 b = drop-cons b 1 0 (omega (arith, long)) in
+    let c2 : drop 2 b ≡ get_or b 2 0 ∷ drop 3 b = drop-cons b 2 0 (omega (arith, long)) in
+    let c3 : drop 3 b ≡ get_or b 3 0 ∷ drop 4 b = drop-cons b 3 0 (omega (arith, long)) in
+    let c4 : drop 4 b ≡ get_or b 4 0 ∷ drop 5 b = drop-cons b 4 0 (omega (arith, long)) in
+    let c5 : drop 5 b ≡ get_or b 5 0 ∷ drop 6 b = drop-cons b 5 0 (omega (arith, long)) in
+    cc
+
+-- What is taken off stood there.
+heading_found : (b : List ℕ) (h : Heading) → AreBytes b → heading_at b ≡ Ok h → Heads b h
+unfolding heading_at
+heading_found b h f e =
+    let n = number_at 266 b in
+    let p0 = passed (ltb (length b) 274) NoTarget _ h e in
+    let p1 = passed (not (is_target b)) NoTarget _ h p0.1 in
+    let p2 = passed (ltb (length (drop 274 b)) n) BadTargetSize _ h p1.1 in
+    let long : 274 ≤ length b = ltb-false (length b) 274 p0.0 in
+    let room : n ≤ length (drop 274 b) = ltb-false (length (drop 274 b)) n p2.0 in
+    let content = take n (drop 274 b) in
+    let rest = drop n (drop 274 b) in
+    let name = take 255 (drop 11 b) in
+    let has : length content ≡ n = length-take n (drop 274 b) ∙ omega (arith, room) in
+    let d274 : drop 274 b ≡ content ++ rest = sym (take-append-drop n (drop 274 b)) in
+    let d270 : drop 270 b ≡ four (number_at 270 b) ++ drop 274 b = cut 270 274 b f refl long in
+    let d266 : drop 266 b ≡ four (length content) ++ drop 270 b =
+    cut 266 270 b f refl (omega (arith, long)) ∙ ap (λ (k : ℕ). four k ++ drop 270 b) (sym has) in
+    let d11 : drop 11 b ≡ name ++ drop 266 b =
+    sym (take-append-drop 255 (drop 11 b)) ∙ ap (λ (z : List ℕ). name ++ z) (drop-drop 255 11 b) in
+    let d7 : drop 7 b ≡ four (number_at 7 b) ++ drop 11 b = cut 7 11 b f refl (omega (arith, long)) in
+    let d6 : drop 6 b ≡ get_or b 6 0 ∷ drop 7 b = drop-cons b 6 0 (omega (arith, long)) in
+    let d0 : b ≡ target_letters ++ drop 6 b = letters_are b (omega (arith, long)) (not-false (is_target b) p1.0) in
+    let w270 = d270 ∙ ap (λ (z : List ℕ). four (number_at 270 b) ++ z) d274 in
+    let w266 = d266 ∙ ap (λ (z : List ℕ). four (length content) ++ z) w270 in
+    let w11 = d11 ∙ ap (λ (z : List ℕ). name ++ z) w266 in
+    let w7 = d7 ∙ ap (λ (z : List ℕ). four (number_at 7 b) ++ z) w11 in
+    let w6 = d6 ∙ ap (λ (z : List ℕ). get_or b 6 0 ∷ z) w7 in
+    subst (λ (t : Heading). Heads b t) (same_ok _ h p2.1) (record {
+      spelled = d0 ∙ ap (λ (z : List ℕ). target_letters ++ z) w6;
+      setting_fits = f 6;
+      named_fits = number_fits 7 b f;
+      name_fits = length-take 255 (drop 11 b) ∙ omega (arith, long, length-drop 11 b);
+      size_fits = omega (arith, has, number_fits 266 b f);
+      count_fits = number_fits 270 b f;
+      content_bytes = AreBytes-take n (drop 274 b) (AreBytes-drop 274 b f);
+      rest_bytes = AreBytes-drop n (drop 274 b) (AreBytes-drop 274 b f);
+    })
+
+heading_same : (a a' n n' k k' : ℕ) (m m' e e' r r' : List ℕ) → a ≡ a' → n ≡ n' → m ≡ m' → k ≡ k' → e ≡ e' → r ≡ r' →
+    ◌≡◌ {A = Heading} (record { setting = a; named = n; name = m; count = k; content = e; rest = r })
+    (record { setting = a'; named = n'; name = m'; count = k'; content = e'; rest = r' })
+heading_same a a' n n' k k' m m' e e' r r' h0 h1 h2 h3 h4 h5 = cc
+
+-- A target whose parts fit is taken off.
+record HeadingFits (h : Heading) : Type 0 where
+  pub named_fits : h.named < 2 ^ 32
+  pub name_fits : length h.name ≡ 255
+  pub size_fits : length h.content < 2 ^ 32
+  pub count_fits : h.count < 2 ^ 32
+
+heading_read : (h : Heading) → HeadingFits h → heading_at (spelled_heading h) ≡ Ok h
+unfolding heading_at
+heading_read h fits =
+    let b = spelled_heading h in
+    let n = length h.content in
+    let end = h.content ++ h.rest in
+    let counted = four h.count ++ end in
+    let sized = four n ++ counted in
+    let d7 : drop 7 b ≡ four h.named ++ (h.name ++ sized) = refl in
+    let d11 : drop 11 b ≡ h.name ++ sized = refl in
+    let d266 : drop 266 b ≡ sized = sym (drop-drop 255 11 b) ∙ drop_at h.name sized 255 fits.name_fits in
+    let d270 : drop 270 b ≡ counted = sym (drop-drop 4 266 b) ∙ ap (drop 4) d266 in
+    let d274 : drop 274 b ≡ end = sym (drop-drop 4 270 b) ∙ ap (drop 4) d270 in
+    let named : number_at 7 b ≡ h.named = number_is h.named 7 b (h.name ++ sized) fits.named_fits d7 in
+    let size : number_at 266 b ≡ n = number_is n 266 b counted fits.size_fits d266 in
+    let count : number_at 270 b ≡ h.count = number_is h.count 270 b end fits.count_fits d270 in
+    let name : take 255 (drop 11 b) ≡ h.name = take_at h.name sized 255 fits.name_fits in
+    let content : take (number_at 266 b) (drop 274 b) ≡ h.content = ap (take (number_at 266 b)) d274
+    ∙ take_at h.content h.rest (number_at 266 b) (sym size) in
+    let rest : drop (number_at 266 b) (drop 274 b) ≡ h.rest = ap (drop (number_at 266 b)) d274
+    ∙ drop_at h.content h.rest (number_at 266 b) (sym size) in
+    skip (ltb (length b) 274) NoTarget _ _ (not_less (length b) 274 (omega (arith, length-append h.name sized, fits.name_fits)))
+    (skip (not (is_target b)) NoTarget _ _ refl
+    (skip (ltb (length (drop 274 b)) (number_at 266 b)) BadTargetSize _ _
+    (not_less (length (drop 274 b)) (number_at 266 b) (omega (arith, ap length d274, length-append h.content h.rest, size)))
+    (ap Ok (heading_same _ _ _ _ _ _ _ _ _ _ _ _ refl named name count content rest))))
+
+-- The bytes are these targets, so many, and nothing else.
+pub record AreTargets (count : ℕ) (b : List ℕ) (ts : List Target) : Type 0 where
+  pub spelled : b ≡ spelled_targets ts
+  pub number : length ts ≡ count
+  pub fit : TargetsFit ts
+
+no_targets : (ts : List Target) → ◌≡◌ {A = Result (List Target) FileFault} (Ok []) (Ok ts) → AreTargets 0 [] ts
+unfolding spelled_targets TargetsFit
+no_targets ts h = subst (λ (z : List Target). AreTargets 0 [] z) (same_ok [] ts h) (record { spelled = refl; number = refl; fit = tt })
+
+-- A target with its elements is spelled as its heading is.
+one_spelled : (h : Heading) (es : List Piece) (ts : List Target) → h.content ≡ spelled_elements es → length es ≡ h.count → h.rest ≡ spelled_targets ts →
+    spelled_heading h ≡ spelled_targets (target_of h es ∷ ts)
+unfolding spelled_targets
+one_spelled h es ts content count rest = cc
+
+one_more : (n : ℕ) (b : List ℕ) (h : Heading) (es : List Piece) (ts : List Target) → Heads b h → h.content ≡ spelled_elements es →
+    length es ≡ h.count → ElementsFit es → AreTargets n h.rest ts → AreTargets (suc n) b (target_of h es ∷ ts)
+unfolding TargetsFit
+one_more n b h es ts heads content count fit r = record {
+  spelled = heads.spelled ∙ one_spelled h es ts content count r.spelled;
+  number = omega (arith, r.number);
+  fit = (
+    record {
+      setting_fits = heads.setting_fits;
+      named_fits = heads.named_fits;
+      name_fits = heads.name_fits;
+      size_fits = subst (λ (z : List ℕ). length z < 2 ^ 32) content heads.size_fits;
+      count_fits = omega (arith, heads.count_fits, count);
+      elements_fit = fit;
+    },
+    r.fit,
+  );
+}
+
+-- What was read stood there.
+pub targets_found : (count : ℕ) (b : List ℕ) (ts : List Target) → AreBytes b → targets_at count b ≡ Ok ts → AreTargets count b ts
+unfolding targets_at
+targets_found zero [] ts f h = no_targets ts h
+targets_found zero (x ∷ b) ts f h = cc
+targets_found (suc n) b ts f e =
+    let p = bound (heading_at b) _ ts e in
+    let h = p.0 in
+    let heads = heading_found b h f p.1 in
+    let q = bound (elements_at h.count h.content) _ ts p.2 in
+    let elements = elements_found h.count h.content q.0 heads.content_bytes q.1 in
+    let r = bound (targets_at n h.rest) _ ts q.2 in
+    let more = targets_found n h.rest r.0 heads.rest_bytes r.1 in
+    subst (λ (z : List Target). AreTargets (suc n) b z) (same_ok _ ts r.2)
+    (one_more n b h q.0 r.0 heads elements.spelled elements.number elements.fit more)
+
+-- The heading of a target with others behind it.
+abbrev heading_of : Target → List ℕ → Heading
+heading_of t rest = record {
+  setting = t.setting;
+  named = t.named;
+  name = t.name;
+  count = length t.elements;
+  content = spelled_elements t.elements;
+  rest = rest;
+}
+
+-- Targets are read.
+pub targets_read : (ts : List Target) → TargetsFit ts → targets_at (length ts) (spelled_targets ts) ≡ Ok ts
+unfolding targets_at spelled_targets TargetsFit
+targets_read [] h = refl
+targets_read (t ∷ ts) h =
+    let k = heading_of t (spelled_targets ts) in
+    let fits = h.0 in
+    let heading = heading_read k (record {
+      named_fits = fits.named_fits;
+      name_fits = fits.name_fits;
+      size_fits = fits.size_fits;
+      count_fits = fits.count_fits;
+    }) in
+    ap (λ (r : Result Heading FileFault). r >>= λ h. elements_at h.count h.content >>= λ es. before_targets (target_of h es) (targets_at (length ts) h.rest))
+    heading
+    ∙ (ap (λ (r : Result (List Piece) FileFault). r >>= λ es. before_targets (target_of k es) (targets_at (length ts) (spelled_targets ts)))
+    (elements_read t.elements fits.elements_fit)
+    ∙ ap (before_targets t) (targets_read ts h.1))

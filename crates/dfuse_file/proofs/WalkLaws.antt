@@ -1,0 +1,189 @@
+-- Elements and targets, taken off one by one.
+use Rattle.std.proofs.Common.{◌≡◌, ℕ, zero, suc, true, false, eqb, List, [], ◌∷◌, length, Result, Ok, Err, refl, sym, ap, ◌∙◌, subst, arith}
+use Rattle.std.proofs.lemmas.Bool.{eqb-true}
+use Rattle.dfu_images.specs.Elements.{Piece}
+use Rattle.dfuse_file.specs.declared.fault.FileFault.{FileFault}
+use Rattle.dfuse_file.specs.declared.fault.FileFault.TheVariants.{BadTargetSize, Trailing}
+use Rattle.dfuse_file.specs.Reading.{Split, Target, Heading, ◌>>=◌, element_at, before_elements, elements_at, heading_at, target_of, before_targets, targets_at}
+use Rattle.dfuse_file.specs.Found.{found, checked}
+use Rattle.dfuse_file.proofs.Steps.{bound, same_ok}
+
+-- A list without a length is empty.
+pub empty : {A : Type 0} (xs : List A) → eqb (length xs) 0 ≡ true → xs ≡ []
+empty [] h = refl
+empty (x ∷ xs) h = absurd (omega (arith, eqb-true (length (x ∷ xs)) 0 h))
+
+-- ---- whether there was a fault
+
+checked_before : (e : Piece) (r : Result (List Piece) FileFault) → checked (before_elements e r) ≡ checked r
+checked_before e (Ok es) = refl
+checked_before e (Err fault) = refl
+
+-- An element further, the question is the same.
+pub element_further : (n : ℕ) (b : List ℕ) (s : Split) → element_at b ≡ Ok s → checked (elements_at (suc n) b) ≡ checked (elements_at n s.rest)
+unfolding elements_at
+element_further n b s h =
+    ap (λ (r : Result Split FileFault). checked (r >>= λ s. before_elements s.element (elements_at n s.rest))) h
+    ∙ checked_before s.element (elements_at n s.rest)
+
+-- The fault of the first element is that of all.
+pub element_fault : (n : ℕ) (b : List ℕ) (fault : FileFault) → element_at b ≡ Err fault → checked (elements_at (suc n) b) ≡ Err fault
+unfolding elements_at
+element_fault n b fault h = ap (λ (r : Result Split FileFault). checked (r >>= λ s. before_elements s.element (elements_at n s.rest))) h
+
+-- No elements are no bytes.
+pub elements_done : (b : List ℕ) → eqb (length b) 0 ≡ true → checked (elements_at 0 b) ≡ Ok tt
+unfolding elements_at
+elements_done [] h = refl
+elements_done (x ∷ b) h = absurd (omega (arith, eqb-true (length (x ∷ b)) 0 h))
+
+-- More bytes are a fault.
+pub elements_left : (b : List ℕ) → eqb (length b) 0 ≡ false → checked (elements_at 0 b) ≡ Err BadTargetSize
+unfolding elements_at
+elements_left [] h = cc
+elements_left (x ∷ b) h = refl
+
+checked_before_target : (t : Target) (r : Result (List Target) FileFault) → checked (before_targets t r) ≡ checked r
+checked_before_target t (Ok ts) = refl
+checked_before_target t (Err fault) = refl
+
+checked_behind : (h : Heading) (n : ℕ) (r : Result (List Piece) FileFault) (m : Result (List Target) FileFault) → checked r ≡ Ok tt →
+    checked (r >>= λ es. before_targets (target_of h es) m) ≡ checked m
+checked_behind h n (Ok es) m e = checked_before_target (target_of h es) m
+checked_behind h n (Err fault) m e = cc
+
+checked_fault : (h : Heading) (r : Result (List Piece) FileFault) (m : Result (List Target) FileFault) (fault : FileFault) → checked r ≡ Err fault →
+    checked (r >>= λ es. before_targets (target_of h es) m) ≡ Err fault
+checked_fault h (Ok es) m fault e = cc
+checked_fault h (Err other) m fault e = cc
+
+-- A target further, the question is the same.
+pub target_further : (n : ℕ) (b : List ℕ) (h : Heading) → heading_at b ≡ Ok h → checked (elements_at h.count h.content) ≡ Ok tt →
+    checked (targets_at (suc n) b) ≡ checked (targets_at n h.rest)
+unfolding targets_at
+target_further n b h e c =
+    ap (λ (r : Result Heading FileFault). checked (r >>= λ h. elements_at h.count h.content >>= λ es. before_targets (target_of h es) (targets_at n h.rest))) e
+    ∙ checked_behind h n (elements_at h.count h.content) (targets_at n h.rest) c
+
+-- The fault of the first heading is that of all.
+pub heading_fault : (n : ℕ) (b : List ℕ) (fault : FileFault) → heading_at b ≡ Err fault → checked (targets_at (suc n) b) ≡ Err fault
+unfolding targets_at
+heading_fault n b fault e =
+    ap (λ (r : Result Heading FileFault). checked (r >>= λ h. elements_at h.count h.content >>= λ es. before_targets (target_of h es) (targets_at n h.rest))) e
+
+-- So is that of the first elements.
+pub target_fault : (n : ℕ) (b : List ℕ) (h : Heading) (fault : FileFault) → heading_at b ≡ Ok h → checked (elements_at h.count h.content) ≡ Err fault →
+    checked (targets_at (suc n) b) ≡ Err fault
+unfolding targets_at
+target_fault n b h fault e c =
+    ap (λ (r : Result Heading FileFault). checked (r >>= λ h. elements_at h.count h.content >>= λ es. before_targets (target_of h es) (targets_at n h.rest))) e
+    ∙ checked_fault h (elements_at h.count h.content) (targets_at n h.rest) fault c
+
+-- No targets are no bytes.
+pub targets_done : (b : List ℕ) → eqb (length b) 0 ≡ true → checked (targets_at 0 b) ≡ Ok tt
+unfolding targets_at
+targets_done [] h = refl
+targets_done (x ∷ b) h = absurd (omega (arith, eqb-true (length (x ∷ b)) 0 h))
+
+-- More bytes are a fault.
+pub targets_left : (b : List ℕ) → eqb (length b) 0 ≡ false → checked (targets_at 0 b) ≡ Err Trailing
+unfolding targets_at
+targets_left [] h = cc
+targets_left (x ∷ b) h = refl
+
+-- ---- what was found
+
+-- Without a fault all was found.
+pub all_found : {A : Type 0} (r : Result (List A) FileFault) → checked r ≡ Ok tt → r ≡ Ok (found r)
+all_found (Ok xs) h = refl
+all_found (Err fault) h = cc
+
+-- None is left of none.
+pub none_left : (b : List ℕ) → found (elements_at 0 b) ≡ []
+unfolding elements_at
+none_left [] = refl
+none_left (x ∷ b) = refl
+
+-- What was found of elements is the first, and what is found of the others.
+pub record TakenOff {A : Type 0} (all more : Result (List A) FileFault) (first : A) : Type 0 where
+  pub rest : more ≡ Ok (found more)
+  pub is : found all ≡ first ∷ found more
+
+taken_off : (e : Piece) (r : Result (List Piece) FileFault) (xs : List Piece) → before_elements e r ≡ Ok xs → TakenOff (before_elements e r) r e
+taken_off e (Ok es) xs h = record { rest = refl; is = refl }
+taken_off e (Err fault) xs h = cc
+
+-- An element is taken off others.
+pub element_taken : (n : ℕ) (b : List ℕ) (s : Split) (xs : List Piece) → element_at b ≡ Ok s → elements_at (suc n) b ≡ Ok xs →
+    TakenOff (elements_at (suc n) b) (elements_at n s.rest) s.element
+unfolding elements_at
+element_taken n b s xs h e =
+    let is = ap (λ (r : Result Split FileFault). r >>= λ s. before_elements s.element (elements_at n s.rest)) h in
+    subst (λ (r : Result (List Piece) FileFault). TakenOff r (elements_at n s.rest) s.element) (sym is)
+    (taken_off s.element (elements_at n s.rest) xs (sym is ∙ e))
+
+-- So there is a first one.
+pub element_there : (n : ℕ) (b : List ℕ) (fault : FileFault) (xs : List Piece) → element_at b ≡ Err fault → elements_at (suc n) b ≡ Ok xs → ⊥
+unfolding elements_at
+element_there n b fault xs h e =
+    let p = bound (element_at b) _ xs e in
+    let one = p.1 in
+    cc
+
+-- Of no target none is left.
+pub no_target_left : (b : List ℕ) → found (targets_at 0 b) ≡ []
+unfolding targets_at
+no_target_left [] = refl
+no_target_left (x ∷ b) = refl
+
+-- The elements of a target that was taken off, and the others.
+pub record TargetTaken (all more : Result (List Target) FileFault) (elements : Result (List Piece) FileFault) (h : Heading) : Type 0 where
+  pub its : elements ≡ Ok (found elements)
+  pub rest : more ≡ Ok (found more)
+  pub is : found all ≡ target_of h (found elements) ∷ found more
+
+target_off : (h : Heading) (r : Result (List Piece) FileFault) (m : Result (List Target) FileFault) (xs : List Target) →
+    (r >>= λ es. before_targets (target_of h es) m) ≡ Ok xs → TargetTaken (r >>= λ es. before_targets (target_of h es) m) m r h
+target_off h (Ok es) (Ok ts) xs e = record { its = refl; rest = refl; is = refl }
+target_off h (Ok es) (Err fault) xs e = cc
+target_off h (Err fault) m xs e = cc
+
+-- A target is taken off others.
+pub target_taken : (n : ℕ) (b : List ℕ) (h : Heading) (xs : List Target) → heading_at b ≡ Ok h → targets_at (suc n) b ≡ Ok xs →
+    TargetTaken (targets_at (suc n) b) (targets_at n h.rest) (elements_at h.count h.content) h
+unfolding targets_at
+target_taken n b h xs h0 e =
+    let is = ap (λ (r : Result Heading FileFault). r >>= λ h. elements_at h.count h.content >>= λ es. before_targets (target_of h es) (targets_at n h.rest)) h0 in
+    subst (λ (r : Result (List Target) FileFault). TargetTaken r (targets_at n h.rest) (elements_at h.count h.content) h) (sym is)
+    (target_off h (elements_at h.count h.content) (targets_at n h.rest) xs (sym is ∙ e))
+
+-- So there is a first target.
+pub target_there : (n : ℕ) (b : List ℕ) (fault : FileFault) (xs : List Target) → heading_at b ≡ Err fault → targets_at (suc n) b ≡ Ok xs → ⊥
+unfolding targets_at
+target_there n b fault xs h e =
+    let p = bound (heading_at b) _ xs e in
+    let one = p.1 in
+    cc
+
+-- So many were found as were told.
+pub elements_number : (n : ℕ) (b : List ℕ) (xs : List Piece) → elements_at n b ≡ Ok xs → length xs ≡ n
+unfolding elements_at
+elements_number zero [] xs h = ap length (sym (same_ok [] xs h))
+elements_number zero (x ∷ b) xs h = cc
+elements_number (suc n) b xs h =
+    let p = bound (element_at b) _ xs h in
+    let q = bound (elements_at n p.0.rest) _ xs p.2 in
+    let more = elements_number n p.0.rest q.0 q.1 in
+    ap length (sym (same_ok _ xs q.2)) ∙ omega (arith, more)
+
+-- As many targets were found as were told.
+pub targets_number : (n : ℕ) (b : List ℕ) (xs : List Target) → targets_at n b ≡ Ok xs → length xs ≡ n
+unfolding targets_at
+targets_number zero [] xs h = ap length (sym (same_ok [] xs h))
+targets_number zero (x ∷ b) xs h = cc
+targets_number (suc n) b xs h =
+    let p = bound (heading_at b) _ xs h in
+    let q = bound (elements_at p.0.count p.0.content) _ xs p.2 in
+    let r = bound (targets_at n p.0.rest) _ xs q.2 in
+    let more = targets_number n p.0.rest r.0 r.1 in
+    ap length (sym (same_ok _ xs r.2)) ∙ omega (arith, more)

@@ -1,0 +1,7 @@
+use Rattle.std.proofs.Common.{◌≡◌, ◌-◌}
+use Rattle.dfuse_file.specs.Reading.{elements_at}
+use Rattle.dfuse_file.specs.Found.{checked}
+use Rattle.dfuse_file.proofs.elements.check_elements.Given as goal
+
+abbrev pub invariant-loop : goal.invariant-loop
+invariant-loop l = checked (elements_at l.count l.bytes) ≡ checked (elements_at (l.count - l.counter) l.rest)

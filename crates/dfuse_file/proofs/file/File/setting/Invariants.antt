@@ -1,0 +1,9 @@
+use Rattle.std.proofs.Common.{◌≡◌, length}
+use Rattle.dfuse_file.specs.Images.{all_for}
+use Rattle.dfuse_file.proofs.file.File.setting.Given as goal
+
+abbrev pub invariant-loop-target : goal.invariant-loop-target
+invariant-loop-target l = all_for l.first l.targets ≡ all_for l.first l.initial.targets
+
+abbrev pub decreases-loop-target : goal.decreases-loop-target
+decreases-loop-target l = length l.targets

@@ -1,0 +1,13 @@
+use Rattle.std.proofs.Common.{◌≡◌, ◌-◌, ◌≤◌, length, map, take}
+use Rattle.dfuse_file.specs.Found.{piece_of}
+use Rattle.dfuse_file.proofs.listing.list.Given as goal
+
+abbrev pub invariant-loop-count : goal.invariant-loop-count
+invariant-loop-count l = record {
+  within : l.count ≤ length l.pieces;
+  size : length l.room ≡ length l.initial.room;
+  listed : map piece_of (take l.count l.room) ≡ take l.count l.pieces;
+}
+
+abbrev pub decreases-loop-count : goal.decreases-loop-count
+decreases-loop-count l = length l.pieces - l.count

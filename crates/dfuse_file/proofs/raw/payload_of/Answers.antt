@@ -1,0 +1,28 @@
+use Rattle.std.proofs.Common.{Some, None, sym, ◌∙◌}
+use Rattle.std.specs.Prelude.{find}
+use Rattle.dfu_suffix.specs.Grammar.{has_fault, fault_order}
+use Rattle.dfuse_file.proofs.SuffixLaws.{no_fault}
+use Rattle.dfuse_file.proofs.SuffixReads.{paid}
+use Rattle.dfuse_file.proofs.RawLaws.{by_fault, by_none}
+use Rattle.dfuse_file.proofs.raw.payload_of.Goals as goal
+
+pub returns-in-Ok : goal.returns-in-Ok
+returns-in-Ok c =
+    let b = c.args.bytes.now in
+    let o = find (has_fault b) fault_order in
+    let none = no_fault c.read.result o _ c.in-Ok.is c.read.ensures.fault in
+    let file = c.in-Ok.ensures.found in
+    let is = file.1 in
+    by_none o b _ none (paid _ _ b _ _ is.spelled ∙ sym c.payload.ensures)
+
+pub returns-in-Some : goal.returns-in-Some
+returns-in-Some c =
+    let b = c.args.bytes.now in
+    let first = (c.read.ensures.fault c.in-Err.fault).0 c.in-Err.is in
+    by_fault (find (has_fault b) fault_order) c.in-Err.fault (Some c.in-Some.refused) b first (sym c.refusal.ensures ∙ c.in-Some.is)
+
+pub returns-in-None : goal.returns-in-None
+returns-in-None c =
+    let b = c.args.bytes.now in
+    let first = (c.read.ensures.fault c.in-Err.fault).0 c.in-Err.is in
+    by_fault (find (has_fault b) fault_order) c.in-Err.fault None b first (sym c.refusal.ensures ∙ c.in-None.is)

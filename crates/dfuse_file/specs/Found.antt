@@ -1,0 +1,19 @@
+-- What of a reading is handed out.
+use Rattle.std.specs.Prelude.{List, [], Result, Ok, Err}
+use Rattle.dfu_images.specs.Elements.{Piece}
+use Rattle.dfuse_host.specs.declared.element.Element.{Element}
+use Rattle.dfuse_file.specs.declared.fault.FileFault.{FileFault}
+
+-- What was found, or nothing.
+abbrev pub found : {A : Type 0} → Result (List A) FileFault → List A
+found (Ok xs) = xs
+found (Err fault) = []
+
+-- Whether there was a fault, and which.
+abbrev pub checked : {A : Type 0} → Result A FileFault → Result Unit FileFault
+checked (Ok x) = Ok tt
+checked (Err fault) = Err fault
+
+-- An element of a session, by its address and its bytes.
+abbrev pub piece_of : Element → Piece
+piece_of e = record { address = e.address; bytes = e.bytes.now }

@@ -1,0 +1,84 @@
+-- The grammar of a DfuSe file (UM0391), built from the front.
+use Rattle.std.specs.Prelude.{◌≡◌, ◌⊎◌, ℕ, ◌+◌, ◌<◌, ◌≤◌, ◌^◌, List, [], ◌∷◌, ◌++◌, length, Err}
+use Rattle.std.specs.Int.{w32, to_le_bytes}
+use Rattle.dfu_images.specs.Elements.{Piece}
+use Rattle.dfu_suffix.specs.Register.{register}
+use Rattle.dfu_suffix.specs.Grammar.{before_crc}
+use Rattle.dfuse_file.specs.declared.fault.FileFault.{FileFault}
+use Rattle.dfuse_file.specs.Reading.{Target, Content, file_at}
+
+-- Four bytes that have this number, the low one first.
+abbrev pub four : ℕ → List ℕ
+four n = to_le_bytes w32 n
+
+-- Elements stand one behind the other, each as its address, the number of its bytes, and these.
+unfoldable pub spelled_elements : List Piece → List ℕ
+spelled_elements [] = []
+spelled_elements (e ∷ es) = four e.address ++ (four (length e.bytes) ++ (e.bytes ++ spelled_elements es))
+
+-- An element has a byte, and ends by the last address of 32 bits.
+pub record ElementFits (e : Piece) : Type 0 where
+  pub some : 1 ≤ length e.bytes
+  pub size_fits : length e.bytes < 2 ^ 32
+  pub within : e.address + length e.bytes ≤ 2 ^ 32
+
+-- Each of these elements does.
+unfoldable pub ElementsFit : List Piece → Type 0
+ElementsFit [] = Unit {0}
+ElementsFit (e ∷ es) = ElementFits e × ElementsFit es
+
+-- The letters Target.
+abbrev pub target_letters : List ℕ
+target_letters = 84 ∷ 97 ∷ 114 ∷ 103 ∷ 101 ∷ 116 ∷ []
+
+-- Targets stand one behind the other, each as the letters, the setting, the name, the size of its elements, their number, and these.
+unfoldable pub spelled_targets : List Target → List ℕ
+spelled_targets [] = []
+spelled_targets (t ∷ ts) =
+    target_letters ++ (t.setting ∷ (four t.named ++ (t.name ++ (four (length (spelled_elements t.elements)) ++ (four (length t.elements)
+    ++ (spelled_elements t.elements ++ spelled_targets ts))))))
+
+-- The parts of a target fit their bytes.
+pub record TargetFits (t : Target) : Type 0 where
+  pub setting_fits : t.setting < 256
+  pub named_fits : t.named < 2 ^ 32
+  pub name_fits : length t.name ≡ 255
+  pub size_fits : length (spelled_elements t.elements) < 2 ^ 32
+  pub count_fits : length t.elements < 2 ^ 32
+  pub elements_fit : ElementsFit t.elements
+
+-- The parts of each of these targets do.
+unfoldable pub TargetsFit : List Target → Type 0
+TargetsFit [] = Unit {0}
+TargetsFit (t ∷ ts) = TargetFits t × TargetsFit ts
+
+-- The letters DfuSe, and the version.
+abbrev pub opening : List ℕ
+opening = 68 ∷ 102 ∷ 117 ∷ 83 ∷ 101 ∷ 1 ∷ []
+
+-- These are the bytes before the suffix of a file, which has so many bytes with it: the opening, the size without the suffix or with it, and
+-- one to 255 targets.
+pub record IsBody (targets : List Target) (whole : ℕ) (bytes : List ℕ) : Type 0 where
+  pub size : ℕ
+  pub spelled : bytes ≡ opening ++ (four size ++ (length targets ∷ spelled_targets targets))
+  pub size_is : (size ≡ length bytes) ⊎ (size ≡ whole)
+  pub size_fits : size < 2 ^ 32
+  pub some : 1 ≤ length targets
+  pub few : length targets < 256
+  pub fit : TargetsFit targets
+
+-- The bytes are a DfuSe file: a body, and a suffix with bcdDFU 011Ah (USB DFU 1.1, appendix B).
+pub record IsDfuSe (f : Content) (bytes : List ℕ) : Type 0 where
+  pub payload : List ℕ
+  pub extra : List ℕ
+  pub spelled : bytes ≡ before_crc payload f.ids 0x011A extra ++ four (register (before_crc payload f.ids 0x011A extra))
+  pub extra_fits : length extra ≤ 239
+  pub device_fits : f.ids.device < 2 ^ 16
+  pub product_fits : f.ids.product < 2 ^ 16
+  pub vendor_fits : f.ids.vendor < 2 ^ 16
+  pub small : length bytes ≤ 16777216
+  pub body : IsBody f.targets (length bytes) payload
+
+-- This is the first fault of bytes that are no DfuSe file.
+abbrev pub First : FileFault → List ℕ → Type 0
+First fault bytes = file_at bytes ≡ Err fault

@@ -1,0 +1,55 @@
+-- The elements of an image, as a session takes them.
+use Rattle.std.specs.Prelude.{◌≡◌, ℕ, ◌+◌, ◌<◌, ◌≤◌, ◌==◌, ◌&&◌, ◌||◌, not, nat_lt, Bool, true, false, if◌then◌else◌, List, [], ◌∷◌, ◌++◌, length, take, map, Option, Some, None}
+use Rattle.std.specs.List.Sorted.{IsPermutation}
+use Rattle.dfu_images.specs.Elements.{Piece}
+use Rattle.dfuse_host.specs.declared.element.Element.{Element}
+use Rattle.dfuse_host.specs.Refusing.{ascends_from}
+use Rattle.dfuse_file.specs.declared.targets.Target as made
+use Rattle.dfuse_file.specs.declared.image.ImageFault.{ImageFault}
+use Rattle.dfuse_file.specs.declared.image.ImageFault.TheVariants.{NoSuchSetting, TooManyElements}
+use Rattle.dfuse_file.specs.Reading.{Target}
+use Rattle.dfuse_file.specs.Found.{piece_of}
+
+-- A target that is handed out.
+abbrev pub told : made.Target → Target
+told t = record { setting = t.setting; named = t.named; name = t.name.now; elements = t.elements }
+
+-- Each target is for this setting.
+unfoldable pub all_for : (setting : ℕ) → List Target → Bool
+all_for setting [] = true
+all_for setting (t ∷ ts) = (t.setting == setting) && all_for setting ts
+
+-- The setting that all targets are for.
+abbrev pub one_setting : List Target → Option ℕ
+one_setting [] = None
+one_setting (t ∷ ts) = if all_for t.setting ts then Some t.setting else None
+
+-- A target is for this setting.
+unfoldable pub has_setting : (setting : ℕ) → List Target → Bool
+has_setting setting [] = false
+has_setting setting (t ∷ ts) = (t.setting == setting) || has_setting setting ts
+
+-- The elements of all targets of a setting, in the order of the file.
+unfoldable pub elements_for : (setting : ℕ) → List Target → List Piece
+elements_for setting [] = []
+elements_for setting (t ∷ ts) = if t.setting == setting then t.elements ++ elements_for setting ts else elements_for setting ts
+
+-- Why there is no image of a setting in so many places.
+unfoldable pub image_fault : (room : ℕ) → (setting : ℕ) → List Target → Option ImageFault
+image_fault room setting targets =
+    if not (has_setting setting targets) then Some NoSuchSetting
+    else if nat_lt room (length (elements_for setting targets)) then Some TooManyElements
+    else None
+
+-- The first places have these elements, by their addresses.
+pub record IsImage (wanted : List Piece) (count : ℕ) (room : List Element) : Type 0 where
+  pub number : count ≡ length wanted
+  pub within : count ≤ length room
+  pub same : IsPermutation wanted (map piece_of (take count room))
+  pub sorted : ascends_from 0 (take count room) ≡ true
+
+-- Behind the first places of what was there come these elements, and so many are there then; or there is no room for them.
+abbrev pub ListsBehind : (from : ℕ) → List Piece → (old : List Element) → Option ℕ → (new : List Element) → Type 0
+ListsBehind from wanted old (Some count) new =
+    (count ≡ from + length wanted) × (count ≤ length new) × (map piece_of (take count new) ≡ map piece_of (take from old) ++ wanted)
+ListsBehind from wanted old None new = length old < from + length wanted

@@ -1,0 +1,48 @@
+-- A file without addresses, as one element.
+use Rattle.std.specs.Prelude.{ℕ, ◌+◌, ◌-◌, ◌^◌, ◌==◌, ◌&&◌, nat_lt, nat_le, Bool, if◌then◌else◌, List, length, take, slice_index, find, Option, Some, None, Result, Ok, Err}
+use Rattle.dfu_images.specs.Elements.{Piece}
+use Rattle.dfu_suffix.specs.Grammar.{tail_of, has_fault, fault_order}
+use Rattle.dfu_suffix.specs.declared.fault.SuffixFault.{SuffixFault}
+use Rattle.dfu_suffix.specs.declared.fault.SuffixFault.TheVariants as suffix
+use Rattle.dfuse_file.specs.declared.raw.RawFault.{RawFault}
+use Rattle.dfuse_file.specs.declared.raw.RawFault.TheVariants.{TooLarge, BadLength, BadCrc, HasAddresses, Empty, AddressPastTheEnd}
+use Rattle.dfuse_file.specs.Reading.{is_prefixed}
+
+-- Why a file with this fault of dfu_suffix isn't taken, if it isn't.
+abbrev pub refusal : SuffixFault → Option RawFault
+refusal suffix.TooLarge = Some TooLarge
+refusal suffix.BadLength = Some BadLength
+refusal suffix.BadCrc = Some BadCrc
+refusal suffix.DfuSe = Some HasAddresses
+refusal other = None
+
+-- All of a file, unless it is refused.
+abbrev pub whole_or : List ℕ → Option RawFault → Result (List ℕ) RawFault
+whole_or bytes None = Ok bytes
+whole_or bytes (Some fault) = Err fault
+
+-- What stands before a suffix, by the first fault of dfu_suffix. A file that is too short for one, or isn't signed, has none.
+unfoldable pub payload_by : Option SuffixFault → List ℕ → Result (List ℕ) RawFault
+payload_by None bytes = Ok (take (length bytes - slice_index (tail_of bytes) 11) bytes)
+payload_by (Some fault) bytes = whole_or bytes (refusal fault)
+
+-- A file begins with the letters DfuSe.
+abbrev pub has_prefix : List ℕ → Bool
+has_prefix bytes = nat_le 5 (length bytes) && is_prefixed bytes
+
+-- Bytes at an address, if they don't begin as a DfuSe file.
+unfoldable pub placed_at : (address : ℕ) → List ℕ → Result Piece RawFault
+placed_at address bytes =
+    if has_prefix bytes then Err HasAddresses
+    else if length bytes == 0 then Err Empty
+    else if nat_lt (2 ^ 32) (address + length bytes) then Err AddressPastTheEnd
+    else Ok (record { address = address; bytes = bytes })
+
+-- What was said, at an address.
+abbrev pub raw_by : (address : ℕ) → Result (List ℕ) RawFault → Result Piece RawFault
+raw_by address (Err fault) = Err fault
+raw_by address (Ok bytes) = placed_at address bytes
+
+-- A file at an address, or its first fault.
+abbrev pub raw_at : (address : ℕ) → List ℕ → Result Piece RawFault
+raw_at address bytes = raw_by address (payload_by (find (has_fault bytes) fault_order) bytes)

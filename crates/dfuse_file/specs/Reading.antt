@@ -1,0 +1,181 @@
+-- How a DfuSe file (UM0391) is read from the front, piece by piece, with the fault of each piece.
+use Rattle.std.specs.Prelude.{ℕ, zero, suc, ◌+◌, ◌-◌, ◌^◌, ◌==◌, ◌&&◌, ◌||◌, not, nat_lt, Bool, true, false, if◌then◌else◌, List, [], ◌∷◌, length, take, drop, slice_index, find, Option, Some, None, Result, Ok, Err}
+use Rattle.std.specs.Int.{w32, from_le_bytes}
+use Rattle.byteorder.specs.Endian.{little_number}
+use Rattle.dfu_wire.specs.declared.ids.Ids.{Ids}
+use Rattle.dfu_images.specs.Elements.{Piece}
+use Rattle.dfu_suffix.specs.Grammar.{tail_of, has_fault, fault_order}
+use Rattle.dfu_suffix.specs.declared.fault.SuffixFault.{SuffixFault}
+use Rattle.dfu_suffix.specs.declared.fault.SuffixFault.TheVariants as suffix
+use Rattle.dfuse_file.specs.declared.fault.FileFault.{FileFault}
+use Rattle.dfuse_file.specs.declared.fault.FileFault.TheVariants.{TooLarge, TooShort, NoSignature, BadLength, NotDfuSe, BadCrc, NoPrefix, BadVersion, BadImageSize, NoTargets, NoTarget, BadTargetSize, ElementPastTheTarget, EmptyElement, AddressPastTheEnd, Trailing}
+
+-- One step of reading after another: the first fault is that of all.
+infixl 10 ◌>>=◌
+abbrev pub ◌>>=◌ : {A B : Type 0} → Result A FileFault → (A → Result B FileFault) → Result B FileFault
+(Err fault) >>= f = Err fault
+(Ok x) >>= f = f x
+
+-- The number in the four bytes from a place on, the low one first.
+abbrev pub number_at : (place : ℕ) → List ℕ → ℕ
+number_at place bytes = from_le_bytes w32 (take 4 (drop place bytes))
+
+-- ---- an element
+
+-- An element, and the bytes behind it.
+pub record Split : Type 0 where
+  pub element : Piece
+  pub rest : List ℕ
+
+-- An element at the front: its address, its size, and so many bytes.
+unfoldable pub element_at : List ℕ → Result Split FileFault
+element_at bytes =
+    if nat_lt (length bytes) 8 then Err ElementPastTheTarget
+    else if nat_lt (length (drop 8 bytes)) (number_at 4 bytes) then Err ElementPastTheTarget
+    else if number_at 4 bytes == 0 then Err EmptyElement
+    else if nat_lt (2 ^ 32) (number_at 0 bytes + number_at 4 bytes) then Err AddressPastTheEnd
+    else Ok (record {
+      element = record { address = number_at 0 bytes; bytes = take (number_at 4 bytes) (drop 8 bytes) };
+      rest = drop (number_at 4 bytes) (drop 8 bytes);
+    })
+
+-- An element before others.
+abbrev pub before_elements : Piece → Result (List Piece) FileFault → Result (List Piece) FileFault
+before_elements element more = more >>= λ elements. Ok (element ∷ elements)
+
+-- So many elements, and nothing behind them.
+unfoldable pub elements_at : (count : ℕ) → List ℕ → Result (List Piece) FileFault
+elements_at zero [] = Ok []
+elements_at zero (b ∷ bytes) = Err BadTargetSize
+elements_at (suc n) bytes = element_at bytes >>= λ s. before_elements s.element (elements_at n s.rest)
+
+-- ---- a target
+
+-- A target: the alternate setting, whether it has a name, the name's 255 bytes, and elements.
+pub record Target : Type 0 where
+  pub setting : ℕ
+  pub named : ℕ
+  pub name : List ℕ
+  pub elements : List Piece
+
+-- The letters Target, at the front.
+abbrev pub is_target : List ℕ → Bool
+is_target b = (slice_index b 0 == 84) && ((slice_index b 1 == 97) && ((slice_index b 2 == 114) && ((slice_index b 3 == 103)
+    && ((slice_index b 4 == 101) && (slice_index b 5 == 116)))))
+
+-- What a target says before its elements, the bytes of these, and the bytes behind it.
+pub record Heading : Type 0 where
+  pub setting : ℕ
+  pub named : ℕ
+  pub name : List ℕ
+  pub count : ℕ
+  pub content : List ℕ
+  pub rest : List ℕ
+
+-- The 274 bytes at the front of a target: the letters, the setting, the name, the size of its elements, and their number.
+unfoldable pub heading_at : List ℕ → Result Heading FileFault
+heading_at bytes =
+    if nat_lt (length bytes) 274 then Err NoTarget
+    else if not (is_target bytes) then Err NoTarget
+    else if nat_lt (length (drop 274 bytes)) (number_at 266 bytes) then Err BadTargetSize
+    else Ok (record {
+      setting = slice_index bytes 6;
+      named = number_at 7 bytes;
+      name = take 255 (drop 11 bytes);
+      count = number_at 270 bytes;
+      content = take (number_at 266 bytes) (drop 274 bytes);
+      rest = drop (number_at 266 bytes) (drop 274 bytes);
+    })
+
+-- A target with these elements.
+abbrev pub target_of : Heading → List Piece → Target
+target_of h elements = record { setting = h.setting; named = h.named; name = h.name; elements = elements }
+
+-- A target before others.
+abbrev pub before_targets : Target → Result (List Target) FileFault → Result (List Target) FileFault
+before_targets target more = more >>= λ targets. Ok (target ∷ targets)
+
+-- So many targets, each with its elements, and nothing behind them.
+unfoldable pub targets_at : (count : ℕ) → List ℕ → Result (List Target) FileFault
+targets_at zero [] = Ok []
+targets_at zero (b ∷ bytes) = Err Trailing
+targets_at (suc n) bytes =
+    heading_at bytes
+    >>= λ h. elements_at h.count h.content
+    >>= λ elements. before_targets (target_of h elements) (targets_at n h.rest)
+
+-- ---- the prefix
+
+-- The letters DfuSe, at the front.
+abbrev pub is_prefixed : List ℕ → Bool
+is_prefixed b = (slice_index b 0 == 68) && ((slice_index b 1 == 102) && ((slice_index b 2 == 117) && ((slice_index b 3 == 83)
+    && (slice_index b 4 == 101))))
+
+-- The targets of the bytes before the suffix: behind the letters, the version, the size and the number of targets. ST's tools give the size
+-- without the suffix, and dfu-util's with it.
+unfoldable pub body_at : (whole : ℕ) → List ℕ → Result (List Target) FileFault
+body_at whole bytes =
+    if nat_lt (length bytes) 11 then Err NoPrefix
+    else if not (is_prefixed bytes) then Err NoPrefix
+    else if not (slice_index bytes 5 == 1) then Err BadVersion
+    else if not ((number_at 6 bytes == length bytes) || (number_at 6 bytes == whole)) then Err BadImageSize
+    else if slice_index bytes 10 == 0 then Err NoTargets
+    else targets_at (slice_index bytes 10) (drop 11 bytes)
+
+-- ---- the suffix
+
+-- The bytes before the suffix, and the identifiers in it.
+pub record Suffixed : Type 0 where
+  pub payload : List ℕ
+  pub ids : Ids
+
+-- What the last 16 bytes say of bytes that have no fault.
+abbrev pub suffixed_by : List ℕ → Suffixed
+suffixed_by bytes = record {
+  payload = take (length bytes - slice_index (tail_of bytes) 11) bytes;
+  ids = record {
+    device = little_number 2 (drop 0 (tail_of bytes));
+    product = little_number 2 (drop 2 (tail_of bytes));
+    vendor = little_number 2 (drop 4 (tail_of bytes));
+  };
+}
+
+-- The fault of dfu_suffix that a DfuSe file has.
+abbrev pub is_dfuse : SuffixFault → Bool
+is_dfuse suffix.DfuSe = true
+is_dfuse other = false
+
+-- Why a file with another fault is no DfuSe file; if its CRC is wrong, it is of another version.
+abbrev pub refusal : SuffixFault → FileFault
+refusal suffix.TooLarge = TooLarge
+refusal suffix.TooShort = TooShort
+refusal suffix.NoSignature = NoSignature
+refusal suffix.BadLength = BadLength
+refusal other = NotDfuSe
+
+-- A suffix with bcdDFU 011Ah, whose CRC is looked at.
+abbrev pub signed_by : List ℕ → Result Suffixed FileFault
+signed_by bytes = if has_fault bytes suffix.BadCrc then Err BadCrc else Ok (suffixed_by bytes)
+
+-- The suffix, by the first fault of dfu_suffix.
+unfoldable pub suffix_by : Option SuffixFault → List ℕ → Result Suffixed FileFault
+suffix_by None bytes = Err NotDfuSe
+suffix_by (Some fault) bytes = if is_dfuse fault then signed_by bytes else Err (refusal fault)
+
+abbrev pub suffix_at : List ℕ → Result Suffixed FileFault
+suffix_at bytes = suffix_by (find (has_fault bytes) fault_order) bytes
+
+-- ---- the file
+
+-- A file: the device that it is for, and targets.
+pub record Content : Type 0 where
+  pub ids : Ids
+  pub targets : List Target
+
+-- A file of these targets.
+abbrev pub of_targets : Ids → Result (List Target) FileFault → Result Content FileFault
+of_targets ids targets = targets >>= λ ts. Ok (record { ids = ids; targets = ts })
+
+-- A file, or its first fault.
+unfoldable pub file_at : List ℕ → Result Content FileFault
+file_at bytes = suffix_at bytes >>= λ s. of_targets s.ids (body_at (length bytes) s.payload)

@@ -1,0 +1,130 @@
+//! Elements, one behind the other.
+
+ghost use Rattle.std.specs.Prelude.{◌≡◌, [], ◌∷◌, length, MatchOption, Ok};
+ghost use Rattle.dfuse_file.specs.Reading.{element_at, elements_at};
+ghost use Rattle.dfuse_file.specs.Found.{piece_of, checked};
+
+use crate::fault::FileFault;
+use crate::numbers::number_at;
+use dfuse_host::Element;
+use std::marker::Model;
+
+/// An element, and the bytes behind it.
+#[derive(Drop)]
+struct Split<'f> {
+    element: Element<'f>,
+    rest: &'f [u8],
+}
+
+impl<'f> Model for Split<'f> {
+    ghost use Rattle.dfuse_file.specs.Reading as reading;
+    ghost use Rattle.dfuse_file.specs.Found.{piece_of};
+
+    ghost Value = { reading.Split };
+
+    ghost view = { λ s. record { element = piece_of s.element; rest = s.rest.now } };
+}
+
+/// Takes an element off the front.
+#[tactic(auto, using(std::proofs::lemmas::Bool::Decides::nat_tests), unfolding(crate::specs::Reading::element_at))]
+fn take_element(bytes: &[u8]) -> Result<Split<'_>, FileFault>
+    ensures { result ≡ element_at bytes.now }
+{
+    if bytes.len() < 8 {
+        return Err(FileFault::ElementPastTheTarget);
+    }
+    let address = number_at(0, bytes);
+    let size = number_at(4, bytes);
+    let (_, behind) = bytes.split_at(8);
+    if behind.len() < size as usize {
+        return Err(FileFault::ElementPastTheTarget);
+    }
+    if size == 0 {
+        return Err(FileFault::EmptyElement);
+    }
+    if address as u64 + size as u64 > 0x1_0000_0000 {
+        return Err(FileFault::AddressPastTheEnd);
+    }
+    let (content, rest) = behind.split_at(size as usize);
+    Ok(Split {
+        element: Element {
+            address,
+            bytes: content,
+        },
+        rest,
+    })
+}
+
+/// Checks that the bytes are so many elements, and nothing else.
+pub(crate) fn check_elements(count: u32, bytes: &[u8]) -> Result<(), FileFault>
+    ensures { result ≡ checked (elements_at count bytes.now) }
+{
+    let mut rest = bytes;
+    for _ in 0..count {
+        match take_element(rest) {
+            Ok(split) => rest = split.rest,
+            Err(fault) => return Err(fault),
+        }
+    }
+    if rest.is_empty() {
+        Ok(())
+    } else {
+        Err(FileFault::BadTargetSize)
+    }
+}
+
+/// The elements of a target, in the order of the file.
+#[derive(Drop)]
+pub struct Elements<'f> {
+    left: u32,
+    rest: &'f [u8],
+}
+
+impl<'f> Model for Elements<'f> {
+    ghost use Rattle.std.specs.Prelude.{◌≡◌, List, Ok};
+    ghost use Rattle.dfu_images.specs.Elements.{Piece};
+    ghost use Rattle.dfuse_file.specs.Reading.{elements_at};
+    ghost use Rattle.dfuse_file.specs.Found.{found};
+
+    ghost Value = { List Piece };
+
+    ghost view = { λ e. found (elements_at e.left e.rest.now) };
+
+    ghost invariant = { λ e. elements_at e.left e.rest.now ≡ Ok (found (elements_at e.left e.rest.now)) };
+}
+
+impl<'f> Elements<'f> {
+    ghost use Rattle.dfuse_file.specs.Found.{found};
+
+    /// The elements that were checked.
+    pub(crate) fn new(left: u32, rest: &'f [u8]) -> Elements<'f>
+        requires { elements_at left rest.now ≡ Ok (found (elements_at left rest.now)) }
+        ensures { result ≡ found (elements_at left rest.now) }
+    {
+        Elements { left, rest }
+    }
+
+    /// How many there are.
+    pub fn len(&self) -> u32
+        ensures { result ≡ length self.now }
+    {
+        self.left
+    }
+
+    /// Takes the first element off. Without one it changes nothing.
+    pub fn next_element(&mut self) -> Option<Element<'f>>
+        ensures { MatchOption result ((self.old ≡ []) × (self.new ≡ [])) (λ e. self.old ≡ piece_of e ∷ self.new) }
+    {
+        if self.left == 0 {
+            return None;
+        }
+        match take_element(self.rest) {
+            Ok(split) => {
+                self.left -= 1;
+                self.rest = split.rest;
+                Some(split.element)
+            }
+            Err(_) => None,
+        }
+    }
+}

@@ -1,0 +1,129 @@
+//! A DfuSe file.
+
+ghost use Rattle.std.specs.Prelude.{◌≡◌, ◌↔◌, length, Ok, Err, IfOk};
+ghost use Rattle.dfuse_file.specs.declared.fault.FileFault.{FileFault};
+ghost use Rattle.dfuse_file.specs.Reading.{Content, body_at, of_targets, file_at};
+ghost use Rattle.dfuse_file.specs.Grammar.{IsDfuSe, First};
+ghost use Rattle.dfuse_file.specs.Images.{one_setting};
+
+use crate::fault::FileFault;
+use crate::marks::is_prefixed;
+use crate::numbers::number_at;
+use crate::suffix::read_suffix;
+use crate::targets::{Targets, check_targets};
+use dfu_wire::Ids;
+use std::marker::Model;
+
+/// A DfuSe file: the device that it is for, and one to 255 targets, as slices of the bytes that were read. Only `read` makes one.
+#[derive(Drop)]
+pub struct File<'f> {
+    ids: Ids,
+    count: u8,
+    targets: &'f [u8],
+}
+
+impl<'f> Model for File<'f> {
+    ghost use Rattle.std.specs.Prelude.{◌≡◌, Ok};
+    ghost use Rattle.dfuse_file.specs.Reading.{Content, targets_at};
+    ghost use Rattle.dfuse_file.specs.Found.{found};
+
+    ghost Value = { Content };
+
+    ghost view = { λ f. record { ids = f.ids; targets = found (targets_at f.count f.targets.now) } };
+
+    ghost invariant = { λ f. targets_at f.count f.targets.now ≡ Ok (found (targets_at f.count f.targets.now)) };
+}
+
+/// The file with this body, and these identifiers in its suffix.
+#[tactic(auto, using(std::proofs::lemmas::Bool::Decides::nat_tests), unfolding(crate::specs::Reading::body_at))]
+fn read_body(ids: Ids, whole: usize, bytes: &[u8]) -> Result<File<'_>, FileFault>
+    ensures { result ≡ of_targets ids (body_at whole bytes.now) }
+{
+    if bytes.len() < 11 {
+        return Err(FileFault::NoPrefix);
+    }
+    if !is_prefixed(bytes) {
+        return Err(FileFault::NoPrefix);
+    }
+    if bytes[5] != 1 {
+        return Err(FileFault::BadVersion);
+    }
+    let size = number_at(6, bytes) as usize;
+    if size != bytes.len() && size != whole {
+        return Err(FileFault::BadImageSize);
+    }
+    let count = bytes[10];
+    if count == 0 {
+        return Err(FileFault::NoTargets);
+    }
+    let (_, targets) = bytes.split_at(11);
+    match check_targets(count, targets) {
+        Ok(()) => Ok(File {
+            ids,
+            count,
+            targets,
+        }),
+        Err(fault) => Err(fault),
+    }
+}
+
+/// What the bytes say, or their first fault.
+#[tactic(auto, unfolding(crate::specs::Reading::file_at))]
+fn read_file(bytes: &[u8]) -> Result<File<'_>, FileFault>
+    ensures { result ≡ file_at bytes.now }
+{
+    match read_suffix(bytes) {
+        Ok(suffixed) => read_body(suffixed.ids, bytes.len(), suffixed.payload),
+        Err(fault) => Err(fault),
+    }
+}
+
+/// Reads a DfuSe file. The size in its prefix may count the suffix, as dfu-util's tools have it, or not, as ST's. A file with a wrong
+/// dwCRC is refused as such, whatever else it has.
+///
+/// # Errors
+///
+/// The first fault, in the order of [`FileFault`].
+pub fn read(bytes: &[u8]) -> Result<File<'_>, FileFault>
+    // What is read is a file of the grammar.
+    ensures found { IfOk result (λ f. IsDfuSe f bytes.now) }
+    // Each file of the grammar is read.
+    ensures only { (f : Content) → IsDfuSe f bytes.now → result ≡ Ok f }
+    // All else has a first fault, which is the answer.
+    ensures fault { (fault : FileFault) → (result ≡ Err fault) ↔ First fault bytes.now }
+{
+    read_file(bytes)
+}
+
+impl<'f> File<'f> {
+    /// The device that the file is for.
+    pub fn ids(&self) -> Ids
+        ensures { result ≡ self.now.ids }
+    {
+        self.ids
+    }
+
+    /// The targets, in the order of the file.
+    pub fn targets(&self) -> Targets<'f>
+        ensures { result ≡ self.now.targets }
+    {
+        Targets::new(self.count, self.targets)
+    }
+
+    /// The alternate setting that all targets are for, if it is the same.
+    pub fn setting(&self) -> Option<u8>
+        ensures { result ≡ one_setting self.now.targets }
+    {
+        let mut targets = self.targets();
+        let first = match targets.next_target() {
+            Some(target) => target.setting,
+            None => return None,
+        };
+        while let Some(target) = targets.next_target() {
+            if target.setting != first {
+                return None;
+            }
+        }
+        Some(first)
+    }
+}

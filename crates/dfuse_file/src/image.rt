@@ -1,0 +1,74 @@
+//! The elements of a file for an alternate setting.
+
+ghost use Rattle.std.specs.Prelude.{◌≡◌, ◌≤◌, length, take, true, IfOk, MatchResult, None, Some};
+ghost use Rattle.std.specs.List.Sorted.{IsPermutation};
+ghost use Rattle.dfuse_host.specs.Refusing.{ascends_from};
+ghost use Rattle.dfuse_file.specs.Images.{elements_for, image_fault, IsImage};
+
+use crate::file::File;
+use crate::listing::put;
+use dfuse_host::Element;
+use thiserror::Error;
+
+/// Why a file has no image for a setting: the first of these that holds.
+#[derive(Clone, Copy, Debug, PartialEq, Eq, Error)]
+pub enum ImageFault {
+    /// No target is for this alternate setting.
+    #[error("the file has nothing for this alternate setting")]
+    NoSuchSetting,
+    /// There are more elements than there is room for.
+    #[error("the file has too many elements")]
+    TooManyElements,
+}
+
+/// Sorts elements by their addresses.
+fn sort_all(elements: &mut [Element<'_>])
+    ensures size { length elements.new ≡ length elements.old }
+    ensures same { IsPermutation elements.old elements.new }
+    ensures sorted { ascends_from 0 elements.new ≡ true }
+{
+    elements.sort_unstable_by_key(|element| element.address);
+}
+
+/// Sorts the first `count` elements by their addresses.
+fn sort(count: usize, room: &mut [Element<'_>])
+    requires { count ≤ length room.old }
+    ensures size { length room.new ≡ length room.old }
+    ensures same { IsPermutation (take count room.old) (take count room.new) }
+    ensures sorted { ascends_from 0 (take count room.new) ≡ true }
+{
+    sort_all(&mut room[..count]);
+}
+
+impl<'f> File<'f> {
+    /// Puts the elements of all targets of an alternate setting into the front of `room`, by their addresses: how many they are. Whether
+    /// they overlap is not looked at: a session refuses that.
+    ///
+    /// # Errors
+    ///
+    /// NoSuchSetting, or TooManyElements if `room` has fewer places.
+    pub fn image(&self, setting: u8, room: &mut [Element<'f>]) -> Result<usize, ImageFault>
+        ensures size { length room.new ≡ length room.old }
+        ensures image { IfOk result (λ n. IsImage (elements_for setting self.now.targets) n room.new) }
+        ensures fault { MatchResult result (λ n. image_fault (length room.old) setting self.now.targets ≡ None)
+            (λ fault. image_fault (length room.old) setting self.now.targets ≡ Some fault) }
+    {
+        let mut count: usize = 0;
+        let mut has_target = false;
+        let mut targets = self.targets();
+        while let Some(target) = targets.next_target() {
+            if target.setting == setting {
+                has_target = true;
+                match put(target.elements, count, room) {
+                    Some(n) => count = n,
+                    None => return Err(ImageFault::TooManyElements),
+                }
+            }
+        }
+        if !has_target {
+            return Err(ImageFault::NoSuchSetting);
+        }
+        sort(count, room);
+        Ok(count)
+    }
+}

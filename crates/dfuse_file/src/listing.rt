@@ -1,0 +1,52 @@
+//! Elements of a session, from those of files.
+
+ghost use Rattle.std.specs.Prelude.{◌≡◌, ◌+◌, ◌<◌, ◌≤◌, ◌++◌, length, take, map, MatchOption};
+ghost use Rattle.dfuse_file.specs.Found.{piece_of};
+ghost use Rattle.dfuse_file.specs.Images.{ListsBehind};
+
+use crate::elements::Elements;
+use dfu_images as images;
+use dfuse_host::Element;
+
+/// Puts elements into `room` behind the first `from`: how many are there then, or None if they don't fit.
+pub(crate) fn put<'f>(
+    elements: Elements<'f>,
+    from: usize,
+    room: &mut [Element<'f>],
+) -> Option<usize>
+    requires { from ≤ length room.old }
+    ensures size { length room.new ≡ length room.old }
+    ensures listed { ListsBehind from elements.entry room.old result room.new }
+{
+    let mut left = elements;
+    let mut count = from;
+    while let Some(element) = left.next_element() {
+        if count == room.len() {
+            return None;
+        }
+        room[count] = element;
+        count += 1;
+    }
+    Some(count)
+}
+
+/// Puts elements that a reader of `dfu_images` gave into the front of `room`, in their order: how many they are, or None if they don't fit.
+/// Elements of one file are by their addresses, as a session wants them.
+pub fn list<'p>(pieces: &'p [images::Element], room: &mut [Element<'p>]) -> Option<usize>
+    ensures size { length room.new ≡ length room.old }
+    ensures listed { ListsBehind 0 pieces.now room.old result room.new }
+{
+    if pieces.len() > room.len() {
+        return None;
+    }
+    let mut count: usize = 0;
+    while count < pieces.len() {
+        let piece = &pieces[count];
+        room[count] = Element {
+            address: piece.address(),
+            bytes: piece.bytes(),
+        };
+        count += 1;
+    }
+    Some(count)
+}

@@ -1,0 +1,25 @@
+//! The letters by which the parts of a file are known.
+
+ghost use Rattle.std.specs.Prelude.{◌≡◌, ◌≤◌, length};
+ghost use Rattle.dfuse_file.specs.Reading.{is_target, is_prefixed};
+
+/// Whether the first six bytes are the letters Target.
+pub(crate) fn is_target(bytes: &[u8]) -> bool
+    requires { 6 ≤ length bytes.now }
+    ensures { result ≡ is_target bytes.now }
+{
+    bytes[0] == b'T'
+        && bytes[1] == b'a'
+        && bytes[2] == b'r'
+        && bytes[3] == b'g'
+        && bytes[4] == b'e'
+        && bytes[5] == b't'
+}
+
+/// Whether the first five bytes are the letters DfuSe.
+pub(crate) fn is_prefixed(bytes: &[u8]) -> bool
+    requires { 5 ≤ length bytes.now }
+    ensures { result ≡ is_prefixed bytes.now }
+{
+    bytes[0] == b'D' && bytes[1] == b'f' && bytes[2] == b'u' && bytes[3] == b'S' && bytes[4] == b'e'
+}

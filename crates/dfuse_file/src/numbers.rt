@@ -1,0 +1,14 @@
+//! Numbers in bytes.
+
+ghost use Rattle.std.specs.Prelude.{◌≡◌, ◌+◌, ◌≤◌, ◌<◌, ◌^◌, length};
+ghost use Rattle.dfuse_file.specs.Reading.{number_at};
+
+/// The number in the four bytes from a place on, the low one first.
+pub(crate) fn number_at(place: usize, bytes: &[u8]) -> u32
+    requires { place + 4 ≤ length bytes.now }
+    ensures { result ≡ number_at place bytes.now }
+{
+    let (_, behind) = bytes.split_at(place);
+    let (field, _) = behind.split_at(4);
+    u32::from_le_bytes([field[0], field[1], field[2], field[3]])
+}

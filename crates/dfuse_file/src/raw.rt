@@ -1,0 +1,101 @@
+//! A file without addresses, as one element.
+
+ghost use Rattle.std.specs.Prelude.{◌≡◌, MatchResult, Ok, Err, find};
+ghost use Rattle.dfu_suffix.specs.Grammar.{has_fault, fault_order};
+ghost use Rattle.dfuse_file.specs.Found.{piece_of};
+ghost use Rattle.dfuse_file.specs.Raw.{refusal, payload_by, has_prefix, placed_at, raw_at};
+
+use crate::marks::is_prefixed;
+use dfu_suffix::SuffixFault;
+use dfuse_host::Element;
+use thiserror::Error;
+
+/// Why a file can't be written to an address: the first of these that holds.
+#[derive(Clone, Copy, Debug, PartialEq, Eq, Error)]
+pub enum RawFault {
+    /// The file has over 16,777,216 bytes.
+    #[error("the file has over 16777216 bytes")]
+    TooLarge,
+    /// It has a signature, and bLength is under 16 or over the file's length.
+    #[error("the suffix's length is under 16 or over the file's")]
+    BadLength,
+    /// It has a signature and isn't a DfuSe file, and dwCRC isn't the register over the bytes before it.
+    #[error("the file's CRC differs from the one in its suffix")]
+    BadCrc,
+    /// bcdDFU is 011Ah, or the file begins with the letters DfuSe.
+    #[error("the file is a DfuSe file, which has addresses of its own")]
+    HasAddresses,
+    /// There are no bytes before the suffix, if there is one.
+    #[error("the file is empty")]
+    Empty,
+    /// The last byte would have an address behind FFFFFFFFh.
+    #[error("the file ends behind the last address")]
+    AddressPastTheEnd,
+}
+
+/// Why a file with this fault isn't taken, if it isn't.
+fn refusal(fault: SuffixFault) -> Option<RawFault>
+    ensures { result ≡ refusal fault }
+{
+    match fault {
+        SuffixFault::TooLarge => Some(RawFault::TooLarge),
+        SuffixFault::BadLength => Some(RawFault::BadLength),
+        SuffixFault::BadCrc => Some(RawFault::BadCrc),
+        SuffixFault::DfuSe => Some(RawFault::HasAddresses),
+        _ => None,
+    }
+}
+
+/// What stands before a suffix; a file without one has nothing else.
+fn payload_of(bytes: &[u8]) -> Result<&[u8], RawFault>
+    ensures { MatchResult result (λ payload. payload_by (find (has_fault bytes.now) fault_order) bytes.now ≡ Ok payload.now)
+        (λ fault. payload_by (find (has_fault bytes.now) fault_order) bytes.now ≡ Err fault) }
+{
+    match dfu_suffix::read(bytes) {
+        Ok(file) => Ok(file.payload()),
+        Err(fault) => match refusal(fault) {
+            Some(refused) => Err(refused),
+            None => Ok(bytes),
+        },
+    }
+}
+
+/// Whether a file begins with the letters DfuSe.
+#[tactic(auto, using(std::proofs::lemmas::Bool::Decides::nat_tests))]
+fn has_prefix(bytes: &[u8]) -> bool
+    ensures { result ≡ has_prefix bytes.now }
+{
+    bytes.len() >= 5 && is_prefixed(bytes)
+}
+
+/// Bytes at an address.
+#[tactic(auto, using(std::proofs::lemmas::Bool::Decides::nat_tests), unfolding(crate::specs::Raw::placed_at))]
+fn placed_at(address: u32, bytes: &[u8]) -> Result<Element<'_>, RawFault>
+    ensures { MatchResult result (λ e. placed_at address bytes.now ≡ Ok (piece_of e)) (λ fault. placed_at address bytes.now ≡ Err fault) }
+{
+    if has_prefix(bytes) {
+        return Err(RawFault::HasAddresses);
+    }
+    if bytes.len() == 0 {
+        return Err(RawFault::Empty);
+    }
+    if address as u64 + bytes.len() as u64 > 0x1_0000_0000 {
+        return Err(RawFault::AddressPastTheEnd);
+    }
+    Ok(Element { address, bytes })
+}
+
+/// Reads a file without addresses, which is to stand at this one. Its suffix (USB DFU 1.1, appendix B), if it has one, is left out. A file
+/// with a damaged suffix, or that begins as a DfuSe file, is refused: it would be written whole.
+///
+/// # Errors
+///
+/// The first fault, in the order of [`RawFault`].
+pub fn read_raw(bytes: &[u8], address: u32) -> Result<Element<'_>, RawFault>
+    ensures { MatchResult result (λ e. raw_at address bytes.now ≡ Ok (piece_of e)) (λ fault. raw_at address bytes.now ≡ Err fault) }
+{
+    match payload_of(bytes) {
+        Ok(payload) => placed_at(address, payload),
+        Err(fault) => Err(fault),
+    }
+}

@@ -1,0 +1,126 @@
+//! The suffix of a file, with bcdDFU 011Ah.
+
+ghost use Rattle.std.specs.Prelude.{◌≡◌, ◌+◌, ◌≤◌, length, drop};
+ghost use Rattle.dfu_suffix.specs.Grammar.{tail_of, has_fault};
+ghost use Rattle.dfu_suffix.specs.declared.fault.SuffixFault.TheVariants as suffix;
+ghost use Rattle.byteorder.specs.Endian.{little_number};
+ghost use Rattle.dfuse_file.specs.Reading.{suffix_at, suffixed_by, is_dfuse, signed_by, refusal};
+
+use crate::fault::FileFault;
+use byteorder::{ByteOrder, LittleEndian};
+use dfu_suffix::{Crc, SuffixFault};
+use dfu_wire::Ids;
+use std::marker::Model;
+
+/// The bytes before the suffix, and the identifiers in it.
+#[derive(Drop)]
+pub(crate) struct Suffixed<'f> {
+    pub payload: &'f [u8],
+    pub ids: Ids,
+}
+
+impl<'f> Model for Suffixed<'f> {
+    ghost use Rattle.dfuse_file.specs.Reading as reading;
+
+    ghost Value = { reading.Suffixed };
+
+    ghost view = { λ s. record { payload = s.payload.now; ids = s.ids } };
+}
+
+/// The last 16 bytes.
+fn tail(bytes: &[u8]) -> &[u8]
+    requires { 16 ≤ length bytes.now }
+    ensures value { result.now ≡ tail_of bytes.now }
+    ensures len { length result.now ≡ 16 }
+{
+    let (_, tail) = bytes.split_at(bytes.len() - 16);
+    tail
+}
+
+/// The number in two of the last 16 bytes.
+fn field(place: usize, tail: &[u8]) -> u16
+    requires { place + 2 ≤ length tail.now }
+    ensures { result ≡ little_number 2 (drop place tail.now) }
+{
+    let (_, field) = tail.split_at(place);
+    LittleEndian::read_u16(field)
+}
+
+/// Whether dwCRC isn't the register over the bytes before it.
+fn has_bad_crc(bytes: &[u8]) -> bool
+    requires { 16 ≤ length bytes.now }
+    ensures { result ≡ has_fault bytes.now suffix.BadCrc }
+{
+    let (before, _) = bytes.split_at(bytes.len() - 4);
+    let (_, crc) = tail(bytes).split_at(12);
+    let mut over = Crc::new();
+    over.update_long(before);
+    LittleEndian::read_u32(crc) != over.value()
+}
+
+/// What the last 16 bytes say.
+fn suffixed_by(bytes: &[u8]) -> Suffixed<'_>
+    requires long { 16 ≤ length bytes.now }
+    ensures { result ≡ suffixed_by bytes.now }
+{
+    let tail = tail(bytes);
+    let (payload, _) = bytes.split_at(bytes.len().saturating_sub(tail[11] as usize));
+    Suffixed {
+        payload,
+        ids: Ids {
+            device: field(0, tail),
+            product: field(2, tail),
+            vendor: field(4, tail),
+        },
+    }
+}
+
+/// Whether this is the fault that a DfuSe file has.
+fn is_dfuse(fault: SuffixFault) -> bool
+    ensures { result ≡ is_dfuse fault }
+{
+    match fault {
+        SuffixFault::DfuSe => true,
+        _ => false,
+    }
+}
+
+/// Why a file with another fault is no DfuSe file.
+fn refusal(fault: SuffixFault) -> FileFault
+    ensures { result ≡ refusal fault }
+{
+    match fault {
+        SuffixFault::TooLarge => FileFault::TooLarge,
+        SuffixFault::TooShort => FileFault::TooShort,
+        SuffixFault::NoSignature => FileFault::NoSignature,
+        SuffixFault::BadLength => FileFault::BadLength,
+        _ => FileFault::NotDfuSe,
+    }
+}
+
+/// What stands before a suffix with bcdDFU 011Ah.
+fn read_signed(bytes: &[u8]) -> Result<Suffixed<'_>, FileFault>
+    requires { 16 ≤ length bytes.now }
+    ensures { result ≡ signed_by bytes.now }
+{
+    if has_bad_crc(bytes) {
+        Err(FileFault::BadCrc)
+    } else {
+        Ok(suffixed_by(bytes))
+    }
+}
+
+/// Reads the suffix.
+pub(crate) fn read_suffix(bytes: &[u8]) -> Result<Suffixed<'_>, FileFault>
+    ensures { result ≡ suffix_at bytes.now }
+{
+    let fault = match dfu_suffix::read(bytes) {
+        Ok(_) => return Err(FileFault::NotDfuSe),
+        Err(fault) => fault,
+    };
+    if is_dfuse(fault) {
+        read_signed(bytes)
+    } else {
+        Err(refusal(fault))
+    }
+}

@@ -1,0 +1,106 @@
+//! Targets, one behind the other.
+
+ghost use Rattle.std.specs.Prelude.{◌≡◌, [], ◌∷◌, length, MatchOption};
+ghost use Rattle.dfuse_file.specs.Reading.{targets_at};
+ghost use Rattle.dfuse_file.specs.Found.{checked};
+ghost use Rattle.dfuse_file.specs.Images.{told};
+
+use crate::elements::{Elements, check_elements};
+use crate::fault::FileFault;
+use crate::headings::take_heading;
+use std::marker::Model;
+
+/// What is to stand in the memory of an alternate setting.
+#[derive(Drop)]
+pub struct Target<'f> {
+    /// The alternate setting.
+    pub setting: u8,
+    /// Whether the target has a name: not if this is 0.
+    pub named: u32,
+    /// The 255 bytes for its name, which ends at the first 0.
+    pub name: &'f [u8],
+    /// Its elements.
+    pub elements: Elements<'f>,
+}
+
+/// Checks that the bytes are so many targets, each with as many elements as it says, and nothing else.
+pub(crate) fn check_targets(count: u8, bytes: &[u8]) -> Result<(), FileFault>
+    ensures { result ≡ checked (targets_at count bytes.now) }
+{
+    let mut rest = bytes;
+    for _ in 0..count {
+        match take_heading(rest) {
+            Err(fault) => return Err(fault),
+            Ok(heading) => match check_elements(heading.count, heading.content) {
+                Err(fault) => return Err(fault),
+                Ok(()) => rest = heading.rest,
+            },
+        }
+    }
+    if rest.is_empty() {
+        Ok(())
+    } else {
+        Err(FileFault::Trailing)
+    }
+}
+
+/// The targets of a file, in its order.
+#[derive(Drop)]
+pub struct Targets<'f> {
+    left: u8,
+    rest: &'f [u8],
+}
+
+impl<'f> Model for Targets<'f> {
+    ghost use Rattle.std.specs.Prelude.{◌≡◌, List, Ok};
+    ghost use Rattle.dfuse_file.specs.Reading as reading;
+    ghost use Rattle.dfuse_file.specs.Found.{found};
+
+    ghost Value = { List reading.Target };
+
+    ghost view = { λ t. found (reading.targets_at t.left t.rest.now) };
+
+    ghost invariant = { λ t. reading.targets_at t.left t.rest.now ≡ Ok (found (reading.targets_at t.left t.rest.now)) };
+}
+
+impl<'f> Targets<'f> {
+    ghost use Rattle.std.specs.Prelude.{Ok};
+    ghost use Rattle.dfuse_file.specs.Found.{found};
+
+    /// The targets that were checked.
+    pub(crate) fn new(left: u8, rest: &'f [u8]) -> Targets<'f>
+        requires { targets_at left rest.now ≡ Ok (found (targets_at left rest.now)) }
+        ensures { result ≡ found (targets_at left rest.now) }
+    {
+        Targets { left, rest }
+    }
+
+    /// How many there are.
+    pub fn len(&self) -> u8
+        ensures { result ≡ length self.now }
+    {
+        self.left
+    }
+
+    /// Takes the first target off. Without one it changes nothing.
+    pub fn next_target(&mut self) -> Option<Target<'f>>
+        ensures { MatchOption result ((self.old ≡ []) × (self.new ≡ [])) (λ t. self.old ≡ told t ∷ self.new) }
+    {
+        if self.left == 0 {
+            return None;
+        }
+        match take_heading(self.rest) {
+            Err(_) => None,
+            Ok(heading) => {
+                self.left -= 1;
+                self.rest = heading.rest;
+                Some(Target {
+                    setting: heading.setting,
+                    named: heading.named,
+                    name: heading.name,
+                    elements: Elements::new(heading.count, heading.content),
+                })
+            }
+        }
+    }
+}
