@@ -1,2 +1,4 @@
 pub mod Bodies
 pub mod Beginnings
+pub mod Maps
+pub mod DfuseSessions

@@ -9,3 +9,4 @@ pub mod Told
 pub mod Actions
 pub mod Calls
 pub mod Beginning
+pub mod dfuse

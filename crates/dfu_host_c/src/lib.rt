@@ -1,5 +1,5 @@
 //! The host of USB device firmware upgrade (USB DFU 1.1) for programs in C: a static library without
-//! memory of its own, whose calls `include/dfu_host.h` describes.
+//! memory of its own, whose calls `include/dfu_host.h` describes; and the host of DfuSe, `include/dfuse_host.h`.
 //!
 //! The state of a session is a record of the caller's. Each call makes the session of it, does one
 //! step, and writes the record again.
@@ -7,6 +7,7 @@
 
 mod action;
 mod beginning;
+mod dfuse;
 mod file;
 mod goals;
 mod holding;

@@ -8,7 +8,7 @@ use dfu_host::Report;
 use dfu_wire::Code;
 
 /// The status code of a number; none over 15.
-fn code_at(number: u32) -> Option<Code>
+pub(crate) fn code_at(number: u32) -> Option<Code>
     ensures { result ≡ code_at number }
 {
     match number {
@@ -77,7 +77,7 @@ pub(crate) fn report_numbers(report: Report) -> (u32, u32)
 }
 
 /// The number of a status code.
-fn code_number(code: Code) -> u32
+pub(crate) fn code_number(code: Code) -> u32
     ensures code { code_at result ≡ Some code }
     ensures byte { result ≡ code_byte code }
 {

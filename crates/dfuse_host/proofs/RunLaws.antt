@@ -35,7 +35,8 @@ plan_restart : (s : Session) (w : Work) (p : Place) (at : Step) → (restarted_i
 plan_restart s work.Leave p at = plan_leaving s p at
 plan_restart s w p at = plan_restarted s (resumed s.plan w p at) s.restarts
 
-plan_told : (s : Session) (w : Work) (p : Place) (at : Step) (h : Heard) → (told s w p at h).plan ≡ s.plan
+-- A session that goes on keeps its plan, whatever it hears.
+pub plan_told : (s : Session) (w : Work) (p : Place) (at : Step) (h : Heard) → (told s w p at h).plan ≡ s.plan
 plan_told s w p at heard.Restarted = plan_restart s w p at
 plan_told s w p at h = refl
 

@@ -1,7 +1,8 @@
 //! A part of an image.
 
-/// Bytes, and the address at which they are to stand.
+/// Bytes, and the address at which they are to stand. A program in C lends its image as a list of them.
 #[derive(Clone, Copy)]
+#[repr(C)]
 pub struct Element<'f> {
     pub address: u32,
     pub bytes: &'f [u8],

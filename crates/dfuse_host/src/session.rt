@@ -173,6 +173,7 @@ impl<'f> Session<'f> {
     /// have 0; then nothing changes any more.
     pub fn take(&mut self, seen: Seen<'_>)
         ensures row { SessionRow self.old seen.entry self.new }
+        ensures plan { self.new.plan ≡ self.old.plan }
         ensures budget { takes_left self.new ≤ takes_left self.old - 1 }
         ensures over { IsOver self.old.phase → self.new ≡ self.old }
     {

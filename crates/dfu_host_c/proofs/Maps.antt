@@ -1,0 +1,30 @@
+-- What is read of a string, and of its ranges.
+use Rattle.std.proofs.Common.{◌≡◌, ◌≤◌, ℕ, ◌∙◌, Option, Some, None, IfSome, MatchOption, List, length, Result, Ok, Err, sym, ap, subst}
+use Rattle.std.specs.Prelude.{◌<◌, slice_index_or}
+use Rattle.std.specs.Borrow.{Bor}
+use Rattle.std.specs.List.{HoldsAt, slice_get}
+use Rattle.std.specs.Slice.{IsItemAt}
+use Rattle.std.proofs.lemmas.Option.{slice_get-get_or, slice_get_past}
+use Rattle.dfuse_memory.specs.Reading.{Content}
+use Rattle.dfuse_memory.specs.declared.fault.MapFault.{MapFault}
+use Rattle.dfuse_memory.specs.declared.pages.Pages.{Pages}
+
+-- A string that has a fault is no map.
+pub no_map : (result : Result Content MapFault) (fault : MapFault) (m : Content) → result ≡ Err fault → result ≡ Ok m → ⊥
+no_map result fault m is only = let never : Err fault ≡ Ok m = sym is ∙ only in absurd cc
+
+-- A range that was found is that of its number.
+pub found_at : (xs ys : List Pages) (i : ℕ) (r : Option (Bor Pages)) (p : Bor Pages) → xs ≡ ys → IsItemAt xs i r → r ≡ Some p →
+    slice_get ys i ≡ Some p.now
+found_at xs ys i r p same at is =
+    let value : p.now ≡ slice_index_or xs i p.now = subst (λ (o : Option (Bor Pages)). IfSome o (λ x. x.now ≡ slice_index_or xs i x.now)) is at.1 in
+    let within : i < length xs =
+    (subst (λ (o : Option (Bor Pages)). MatchOption o (length xs ≤ i) (λ x. (i < length xs) × HoldsAt (λ y. x.now ≡ y) xs i)) is at.3).0 in
+    subst (λ (zs : List Pages). slice_get zs i ≡ Some p.now) same (slice_get-get_or xs i p.now within ∙ ap Some (sym value))
+
+-- Where none was found there is none of that number.
+pub none_at : (xs ys : List Pages) (i : ℕ) (r : Option (Bor Pages)) → xs ≡ ys → IsItemAt xs i r → r ≡ None → slice_get ys i ≡ None
+none_at xs ys i r same at is =
+    let past : length xs ≤ i =
+    subst (λ (o : Option (Bor Pages)). MatchOption o (length xs ≤ i) (λ x. (i < length xs) × HoldsAt (λ y. x.now ≡ y) xs i)) is at.3 in
+    subst (λ (zs : List Pages). slice_get zs i ≡ None) same (slice_get_past xs i past)

@@ -1,0 +1,50 @@
+-- A memory map, as records for C.
+use Rattle.std.specs.Prelude.{◌≡◌, ℕ, ℤ, ◌+◌, ◌*◌, List, length, Some, None}
+use Rattle.std.specs.List.{slice_get}
+use Rattle.dfuse_memory.specs.Reading.{Content}
+use Rattle.dfuse_memory.specs.Grammar.{IsMap, First}
+use Rattle.dfuse_memory.specs.declared.fault.MapFault.{MapFault}
+use Rattle.dfuse_memory.specs.declared.pages.Access.{Access}
+use Rattle.dfuse_memory.specs.declared.pages.Pages.{Pages}
+use Rattle.dfu_host_c.specs.dfuse.Refusals.{map_refusal}
+use Rattle.dfu_host_c.specs.dfuse.Sessions.{bit}
+use Rattle.dfu_host_c.specs.declared.dfuse.map.DfuseMap.{DfuseMap}
+use Rattle.dfu_host_c.specs.declared.dfuse.map.DfuseRange.{DfuseRange}
+
+-- What a map has, as numbers: how long its name is, and how many ranges there are.
+abbrev pub map_record : Content → DfuseMap
+map_record m = record { name = length m.name; ranges = length m.ranges }
+
+-- What may be done with pages as a number: bit 0 to read, bit 1 to erase, bit 2 to write them.
+abbrev pub access_number : Access → ℕ
+access_number a = bit a.is_readable + 2 * bit a.is_erasable + 4 * bit a.is_writable
+
+-- A range as numbers.
+abbrev pub range_record : Pages → DfuseRange
+range_record p = record { start = p.start; size = p.size; count = p.count; access = access_number p.access }
+
+-- The string is no map, and this is the number of its first fault.
+pub record IsNoMap (text : List ℕ) (result : ℤ) : Type 0 where
+  pub fault : MapFault
+  pub first : First fault text
+  pub number_is : result ≡ map_refusal fault
+
+-- The string is a map, and the record says what it has.
+pub record HasMap (text : List ℕ) (r : DfuseMap) : Type 0 where
+  pub map : Content
+  pub is_map : IsMap map text
+  pub says : r ≡ map_record map
+
+-- The string is a map, and the record says its range of this number.
+pub record HasRange (text : List ℕ) (number : ℕ) (r : DfuseRange) : Type 0 where
+  pub map : Content
+  pub pages : Pages
+  pub is_map : IsMap map text
+  pub found : slice_get map.ranges number ≡ Some pages
+  pub says : r ≡ range_record pages
+
+-- The string is a map, and has no range of this number.
+pub record HasNoRange (text : List ℕ) (number : ℕ) : Type 0 where
+  pub map : Content
+  pub is_map : IsMap map text
+  pub none : slice_get map.ranges number ≡ None

@@ -1,0 +1,102 @@
+-- What the record of a DfuSe session stands for.
+use Rattle.std.specs.Prelude.{◌≡◌, ℕ, Bool, true, false, ◌==◌, not, if◌then◌else◌, List, Option, Some, None, option_map}
+use Rattle.std.specs.Borrow.{Bor}
+use Rattle.dfuse_memory.specs.Reading.{Content}
+use Rattle.dfuse_memory.specs.Grammar.{IsMap}
+use Rattle.dfuse_host.specs.declared.element.Element.{Element}
+use Rattle.dfuse_host.specs.declared.phase.Phase.{Phase}
+use Rattle.dfuse_host.specs.declared.limits.Limits.{Limits}
+use Rattle.dfuse_host.specs.declared.plan.Plan.{Plan}
+use Rattle.dfuse_host.specs.declared.session.Session.{Session}
+use Rattle.dfu_host_c.specs.Sessions.{version}
+use Rattle.dfu_host_c.specs.dfuse.PhaseNumbers.{numbers_in, phase_at}
+use Rattle.dfu_host_c.specs.declared.dfuse.phases.Numbers.{Numbers}
+use Rattle.dfu_host_c.specs.declared.dfuse.plan.DfusePlan.{DfusePlan}
+use Rattle.dfu_host_c.specs.declared.dfuse.session.DfuseSession.{DfuseSession}
+
+-- The numbers of a record's phase.
+abbrev pub numbers_of : DfuseSession → Numbers
+numbers_of r = record {
+  work = r.work;
+  at = r.at;
+  end = r.end;
+  place = r.place;
+  pointer = r.pointer;
+  step = r.step;
+  more = r.more;
+  report = r.report;
+}
+
+-- The phase of a record of this version; none if it is none.
+abbrev pub phase_in : DfuseSession → Option Phase
+phase_in r = if r.version == version then phase_at (numbers_of r) else None
+
+-- The plan of a record, over a map and an image.
+abbrev pub plan_in : DfuseSession → (map : Bor Content) → (image : Bor (List Element)) → Plan
+plan_in r map image = record {
+  map = map;
+  image = image;
+  transfer = r.transfer;
+  front = r.front;
+  leaves = not (r.leaves == 0);
+  start = r.start;
+}
+
+-- The session of a record in this phase.
+abbrev pub session_with : DfuseSession → (map : Bor Content) → (image : Bor (List Element)) → Phase → Session
+session_with r map image phase = record {
+  plan = plan_in r map image;
+  phase = phase;
+  actions = r.actions;
+  restarts = r.restarts;
+}
+
+-- The session of a record, over a map and an image; none if it has no phase, or is of another version.
+abbrev pub session_in : DfuseSession → (map : Bor Content) → (image : Bor (List Element)) → Option Session
+session_in r map image = option_map (session_with r map image) (phase_in r)
+
+-- A bit as a number.
+abbrev pub bit : Bool → ℕ
+bit true = 1
+bit false = 0
+
+-- The record that the library writes of a session.
+abbrev pub record_of : Session → DfuseSession
+record_of s = record {
+  version = version;
+  work = (numbers_in s.phase).work;
+  at = (numbers_in s.phase).at;
+  end = (numbers_in s.phase).end;
+  pointer = (numbers_in s.phase).pointer;
+  place = (numbers_in s.phase).place;
+  step = (numbers_in s.phase).step;
+  more = (numbers_in s.phase).more;
+  report = (numbers_in s.phase).report;
+  start = s.plan.start;
+  actions = s.actions;
+  restarts = s.restarts;
+  transfer = s.plan.transfer;
+  front = s.plan.front;
+  leaves = bit s.plan.leaves;
+}
+
+-- The record is that of this session, over the map of this string and over this image.
+pub record IsHeld (r : DfuseSession) (text : List ℕ) (image : Bor (List Element)) (s : Session) : Type 0 where
+  pub map : Bor Content
+  pub is_map : IsMap map.now text
+  pub says : session_in r map image ≡ Some s
+
+-- The plan of a record for C, over a map and an image.
+abbrev pub plan_of : DfusePlan → (map : Bor Content) → (image : Bor (List Element)) → Plan
+plan_of r map image = record {
+  map = map;
+  image = image;
+  transfer = r.transfer;
+  front = r.front;
+  leaves = not (r.leaves == 0);
+  start = r.start;
+}
+
+-- The limits of a record for C.
+abbrev pub limits_of : DfusePlan → Limits
+limits_of r = record { actions = r.actions; restarts = r.restarts }

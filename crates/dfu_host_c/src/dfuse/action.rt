@@ -1,0 +1,109 @@
+//! What is to be done next, as a record for C.
+
+ghost use Rattle.std.specs.Prelude.{◌≡◌, ◌⊎◌, ℕ, List, pos};
+ghost use Rattle.dfuse_host.specs.Deeds.{Deed, Send};
+ghost use Rattle.dfuse_host.specs.Wire.{IsAsked, Spells};
+ghost use Rattle.dfu_wire.specs.declared.requests.Request.{Request};
+ghost use Rattle.dfu_host_c.specs.dfuse.Actions.{HasNoRoom, IsOther, Tells};
+ghost use Rattle.dfu_host_c.specs.dfuse.Calls.{IsNext, NoRoomFor, NoSession};
+ghost use Rattle.dfu_host_c.specs.dfuse.Refusals.{no_room};
+ghost use Rattle.dfu_host_c.specs.Refusals.{no_session};
+
+use crate::dfuse::holding::{map_of, session_of};
+use crate::dfuse::refusals::NO_ROOM;
+use crate::dfuse::reports::report_numbers;
+use crate::dfuse::session::DfuseSession;
+use crate::refusals::NO_SESSION;
+use dfuse_host::{Action, Element};
+
+/// `struct dfuse_action`: what is to be done next. The header says what each number means.
+#[repr(C)]
+#[derive(Drop)]
+pub struct DfuseAction {
+    /// How many bytes the body has, which are at the front of the buffer.
+    pub length: u64,
+    /// 0 to send, 1 to wait, 3 if the session is over.
+    pub what: u32,
+    /// The milliseconds of a wait, or the number of a report.
+    pub value: u32,
+    /// What a report has: how the device left, or a code.
+    pub more: u32,
+    /// The setup that is sent.
+    pub setup: [u8; 8],
+}
+
+/// Writes what is sent, with its body.
+fn send(setup: [u8; 8], sent: &[u8], body: &mut [u8], action: &mut DfuseAction) -> i32
+    ensures outcome { (request : Request) → IsAsked request setup
+        → ((result ≡ pos 0) × Tells (Send request sent.now) action.new body.old body.new)
+        ⊎ ((result ≡ no_room) × HasNoRoom (Send request sent.now) body.old × (action.new ≡ action.old) × (body.new ≡ body.old)) }
+{
+    if sent.len() > body.len() {
+        return NO_ROOM;
+    }
+    body[..sent.len()].copy_from_slice(sent);
+    *action = DfuseAction {
+        length: sent.len() as u64,
+        what: 0,
+        value: 0,
+        more: 0,
+        setup,
+    };
+    0
+}
+
+/// What is done without a request.
+fn other(what: u32, value: u32, more: u32) -> DfuseAction
+    ensures { (bytes : List ℕ) → IsOther what value more result bytes bytes }
+{
+    DfuseAction {
+        length: 0,
+        what,
+        value,
+        more,
+        setup: [0; 8],
+    }
+}
+
+/// Writes an action, with its body.
+fn tell(given: Action<'_>, body: &mut [u8], action: &mut DfuseAction) -> i32
+    ensures outcome { (deed : Deed) → Spells deed given.entry
+        → ((result ≡ pos 0) × Tells deed action.new body.old body.new)
+        ⊎ ((result ≡ no_room) × HasNoRoom deed body.old × (action.new ≡ action.old) × (body.new ≡ body.old)) }
+{
+    match given {
+        Action::Send { setup, body: sent } => send(setup, sent, body, action),
+        Action::Command { setup, body: sent } => send(setup, &sent, body, action),
+        Action::Wait(ms) => {
+            *action = other(1, ms, 0);
+            0
+        }
+        Action::Done(report) => {
+            let (value, more) = report_numbers(report);
+            *action = other(3, value, more);
+            0
+        }
+    }
+}
+
+/// What a session wants done next: 0, `DFU_NO_SESSION` or `DFUSE_NO_ROOM`.
+#[unsafe(no_mangle)]
+pub extern "C" fn dfuse_next(
+    session: &DfuseSession,
+    map: &[u8],
+    image: &[Element<'_>],
+    body: &mut [u8],
+    action: &mut DfuseAction,
+) -> i32
+    ensures outcome { ((result ≡ pos 0) × IsNext session.now map.now image.entry action.new body.old body.new)
+        ⊎ ((result ≡ no_room) × NoRoomFor session.now map.now image.entry body.old × (action.new ≡ action.old) × (body.new ≡ body.old))
+        ⊎ ((result ≡ no_session) × NoSession session.now map.now × (action.new ≡ action.old) × (body.new ≡ body.old)) }
+{
+    let Some(map) = map_of(map) else {
+        return NO_SESSION;
+    };
+    let Some(host) = session_of(session, &map, image) else {
+        return NO_SESSION;
+    };
+    tell(host.next(), body, action)
+}

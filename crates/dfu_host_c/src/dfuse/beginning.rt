@@ -1,0 +1,49 @@
+//! The call that begins a session.
+
+ghost use Rattle.std.specs.Prelude.{◌≡◌, ◌⊎◌, pos};
+ghost use Rattle.dfu_host_c.specs.dfuse.Calls.{Begins, IsRefused};
+ghost use Rattle.dfu_host_c.specs.dfuse.Maps.{IsNoMap};
+
+use crate::dfuse::holding::record_of;
+use crate::dfuse::plan::DfusePlan;
+use crate::dfuse::refusals;
+use crate::dfuse::session::DfuseSession;
+use dfuse_host::{Element, Limits, Plan, Session};
+use dfuse_memory::Map;
+
+/// Begins a session that writes an image and reads it back: 0, or why the string is no map, or why the plan is refused.
+#[unsafe(no_mangle)]
+pub extern "C" fn dfuse_begin(
+    session: &mut DfuseSession,
+    map: &[u8],
+    image: &[Element<'_>],
+    plan: &DfusePlan,
+) -> i32
+    ensures outcome { ((result ≡ pos 0) × Begins map.now image.entry plan.now session.new)
+        ⊎ (IsNoMap map.now result × (session.new ≡ session.old))
+        ⊎ (IsRefused map.now image.entry plan.now result × (session.new ≡ session.old)) }
+{
+    let map = match Map::read(map) {
+        Ok(map) => map,
+        Err(fault) => return refusals::of_map(fault),
+    };
+    let wanted = Plan {
+        map: &map,
+        image,
+        transfer: plan.transfer,
+        front: plan.front,
+        leaves: plan.leaves != 0,
+        start: plan.start,
+    };
+    let limits = Limits {
+        actions: plan.actions,
+        restarts: plan.restarts,
+    };
+    match Session::begin(wanted, limits) {
+        Ok(host) => {
+            *session = record_of(&host);
+            0
+        }
+        Err(fault) => refusals::of_plan(fault),
+    }
+}

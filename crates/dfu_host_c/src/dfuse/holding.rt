@@ -1,0 +1,102 @@
+//! The session of a record, and the record of a session.
+
+ghost use Rattle.std.specs.Prelude.{◌≡◌, IfSome, None, Some};
+ghost use Rattle.dfuse_memory.specs.Grammar.{IsMap};
+ghost use Rattle.dfuse_memory.specs.Reading.{Content};
+ghost use Rattle.dfu_host_c.specs.dfuse.Sessions.{numbers_of, phase_in, record_of, session_in};
+
+use crate::dfuse::phases::{Numbers, numbers_of, phase_at};
+use crate::dfuse::session::DfuseSession;
+use crate::version::VERSION;
+use dfuse_host::{Element, Phase, Plan, Session};
+use dfuse_memory::Map;
+
+/// The numbers of a record's phase.
+fn numbers_in(given: &DfuseSession) -> Numbers
+    ensures { result ≡ numbers_of given.now }
+{
+    Numbers {
+        work: given.work,
+        at: given.at,
+        end: given.end,
+        place: given.place,
+        pointer: given.pointer,
+        step: given.step,
+        more: given.more,
+        report: given.report,
+    }
+}
+
+/// The phase of a record of this version; none if it is none.
+fn phase_in(given: &DfuseSession) -> Option<Phase>
+    ensures { result ≡ phase_in given.now }
+{
+    if given.version != VERSION {
+        return None;
+    }
+    phase_at(numbers_in(given))
+}
+
+/// The map of a string; none if it is no map.
+pub(crate) fn map_of(text: &[u8]) -> Option<Map<'_>>
+    ensures some { IfSome result (λ m. IsMap m text.now) }
+    ensures none { result ≡ None → (m : Content) → IsMap m text.now → ⊥ }
+{
+    match Map::read(text) {
+        Ok(map) => Some(map),
+        Err(_) => None,
+    }
+}
+
+/// The session of a record over a map and an image; none if it is none's, as one of another version.
+pub(crate) fn session_of<'f>(
+    given: &DfuseSession,
+    map: &'f Map<'f>,
+    image: &'f [Element<'f>],
+) -> Option<Session<'f>>
+    ensures value { result ≡ session_in given.now map.entry image.entry }
+    ensures none { result ≡ None → phase_in given.now ≡ None }
+{
+    let Some(phase) = phase_in(given) else {
+        return None;
+    };
+    let plan = Plan {
+        map,
+        image,
+        transfer: given.transfer,
+        front: given.front,
+        leaves: given.leaves != 0,
+        start: given.start,
+    };
+    Some(Session {
+        plan,
+        phase,
+        actions: given.actions,
+        restarts: given.restarts,
+    })
+}
+
+/// The record of a session.
+pub(crate) fn record_of(session: &Session<'_>) -> DfuseSession
+    ensures value { result ≡ record_of session.now }
+    ensures says { session_in result session.now.plan.map session.now.plan.image ≡ Some session.now }
+{
+    let numbers = numbers_of(session.phase);
+    DfuseSession {
+        version: VERSION,
+        work: numbers.work,
+        at: numbers.at,
+        end: numbers.end,
+        pointer: numbers.pointer,
+        place: numbers.place,
+        step: numbers.step,
+        more: numbers.more,
+        report: numbers.report,
+        start: session.plan.start,
+        actions: session.actions,
+        restarts: session.restarts,
+        transfer: session.plan.transfer,
+        front: session.plan.front,
+        leaves: u16::from(session.plan.leaves),
+    }
+}

@@ -1,0 +1,97 @@
+//! Memory maps, as records for C.
+
+ghost use Rattle.std.specs.Prelude.{◌≡◌, ◌⊎◌, pos};
+ghost use Rattle.dfu_host_c.specs.dfuse.Maps.{access_number, map_record, range_record, HasMap, HasRange, HasNoRange, IsNoMap};
+ghost use Rattle.dfu_host_c.specs.dfuse.Refusals.{no_range};
+
+use crate::dfuse::refusals::{self, NO_RANGE};
+use dfuse_memory::{Access, Map, Pages};
+
+/// `struct dfuse_map`: what a map has. The header says what each number means.
+#[repr(C)]
+#[derive(Drop)]
+pub struct DfuseMap {
+    /// How many bytes the name has, which stand behind the `@`.
+    pub name: u64,
+    /// How many ranges there are, 1 to 32.
+    pub ranges: u64,
+}
+
+/// `struct dfuse_range`: pages of one size. The header says what each number means.
+#[repr(C)]
+#[derive(Drop)]
+pub struct DfuseRange {
+    /// The address of the first byte.
+    pub start: u64,
+    /// How many bytes each page has.
+    pub size: u64,
+    /// How many pages there are.
+    pub count: u32,
+    /// What may be done with each: bit 0 to read, bit 1 to erase, bit 2 to write it.
+    pub access: u32,
+}
+
+/// The record of a map.
+fn map_record(map: &Map<'_>) -> DfuseMap
+    ensures { result ≡ map_record map.now }
+{
+    DfuseMap {
+        name: map.name().len() as u64,
+        ranges: map.ranges().len() as u64,
+    }
+}
+
+/// What may be done with pages, as a number.
+fn access_number(access: Access) -> u32
+    ensures { result ≡ access_number access }
+{
+    u32::from(access.is_readable)
+        + 2 * u32::from(access.is_erasable)
+        + 4 * u32::from(access.is_writable)
+}
+
+/// The record of a range.
+fn range_record(pages: &Pages) -> DfuseRange
+    ensures { result ≡ range_record pages.now }
+{
+    DfuseRange {
+        start: u64::from(pages.start),
+        size: pages.size,
+        count: pages.count,
+        access: access_number(pages.access),
+    }
+}
+
+/// Reads the string of an alternate setting: 0, or its first fault.
+#[unsafe(no_mangle)]
+pub extern "C" fn dfuse_read_map(text: &[u8], out: &mut DfuseMap) -> i32
+    ensures outcome { ((result ≡ pos 0) × HasMap text.now out.new) ⊎ (IsNoMap text.now result × (out.new ≡ out.old)) }
+{
+    match Map::read(text) {
+        Ok(map) => {
+            *out = map_record(&map);
+            0
+        }
+        Err(fault) => refusals::of_map(fault),
+    }
+}
+
+/// Reads one range of a map: 0, or the string's first fault, or that there is no such range.
+#[unsafe(no_mangle)]
+pub extern "C" fn dfuse_read_range(text: &[u8], number: u32, out: &mut DfuseRange) -> i32
+    ensures outcome { ((result ≡ pos 0) × HasRange text.now number out.new)
+        ⊎ ((result ≡ no_range) × HasNoRange text.now number × (out.new ≡ out.old))
+        ⊎ (IsNoMap text.now result × (out.new ≡ out.old)) }
+{
+    let map = match Map::read(text) {
+        Ok(map) => map,
+        Err(fault) => return refusals::of_map(fault),
+    };
+    match map.ranges().get(number as usize) {
+        Some(pages) => {
+            *out = range_record(pages);
+            0
+        }
+        None => NO_RANGE,
+    }
+}

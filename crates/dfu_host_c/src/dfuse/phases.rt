@@ -1,0 +1,195 @@
+//! Phases as numbers, both ways.
+
+ghost use Rattle.std.specs.Prelude.{◌≡◌, ◌≢◌, Some};
+ghost use Rattle.dfuse_host.specs.declared.phase.Phase.TheVariants.{On};
+ghost use Rattle.dfu_host_c.specs.dfuse.PhaseNumbers.{numbers_in, phase_at, place_at, place_number, pointer_in, step_at, step_number, ms_in, work_at, work_number, at_in, end_in};
+
+use crate::dfuse::reports::{report_at, report_numbers};
+use dfuse_host::{Phase, Place, Standing, Step, Work};
+
+/// A phase as numbers.
+#[derive(Clone, Copy)]
+pub(crate) struct Numbers {
+    pub(crate) work: u32,
+    pub(crate) at: u64,
+    pub(crate) end: u64,
+    pub(crate) place: u32,
+    pub(crate) pointer: u64,
+    pub(crate) step: u32,
+    pub(crate) more: u32,
+    pub(crate) report: u32,
+}
+
+/// The work of these numbers; none if there is none.
+fn work_at(number: u32, at: u64, end: u64) -> Option<Work>
+    ensures { result ≡ work_at number at end }
+{
+    match number {
+        0 => Some(Work::Erase { at }),
+        1 => Some(Work::EraseAgain { page: at, end }),
+        2 => Some(Work::Write { at, end }),
+        3 => Some(Work::Compare { at }),
+        4 => Some(Work::WriteFront { at }),
+        5 => Some(Work::CompareFront { at }),
+        6 => Some(Work::Leave),
+        _ => None,
+    }
+}
+
+/// What is known of the pointer, by its number and address; none if there is none.
+fn place_at(number: u32, pointer: u64) -> Option<Place>
+    ensures { result ≡ place_at number pointer }
+{
+    match number {
+        0 => Some(Place::Lost),
+        1 => Some(Place::At(pointer)),
+        2 => Some(Place::Reading(pointer)),
+        _ => None,
+    }
+}
+
+/// The step of a number, with its time; none if there is none.
+fn step_at(number: u32, ms: u32) -> Option<Step>
+    ensures { result ≡ step_at number ms }
+{
+    match number {
+        0 => Some(Step::Abort),
+        1 => Some(Step::AskState),
+        2 => Some(Step::AskStatus),
+        3 => Some(Step::ClearWait(ms)),
+        4 => Some(Step::ClearStatus),
+        5 => Some(Step::Send),
+        6 => Some(Step::Probe),
+        7 => Some(Step::Poll(ms)),
+        8 => Some(Step::PollWait(ms)),
+        9 => Some(Step::BeginReading),
+        10 => Some(Step::EndReading),
+        11 => Some(Step::Read),
+        12 => Some(Step::Close),
+        13 => Some(Step::CloseProbe),
+        14 => Some(Step::ClosePoll),
+        _ => None,
+    }
+}
+
+/// The phase of these numbers; none if there is none.
+pub(crate) fn phase_at(n: Numbers) -> Option<Phase>
+    ensures { result ≡ phase_at n }
+{
+    if n.work == 7 {
+        return match report_at(n.report, n.more) {
+            Some(report) => Some(Phase::Over(report)),
+            None => None,
+        };
+    }
+    let Some(work) = work_at(n.work, n.at, n.end) else {
+        return None;
+    };
+    let Some(place) = place_at(n.place, n.pointer) else {
+        return None;
+    };
+    let Some(step) = step_at(n.step, n.more) else {
+        return None;
+    };
+    Some(Phase::On(Standing { work, place, step }))
+}
+
+/// The number of a work, with the address at which it stands, and the one up to which it goes.
+fn work_numbers(work: Work) -> (u32, u64, u64)
+    ensures work { work_at result.0 result.1 result.2 ≡ Some work }
+    ensures on { result.0 ≢ 7 }
+    ensures number { result.0 ≡ work_number work }
+    ensures at { result.1 ≡ at_in work }
+    ensures end { result.2 ≡ end_in work }
+{
+    match work {
+        Work::Erase { at } => (0, at, 0),
+        Work::EraseAgain { page, end } => (1, page, end),
+        Work::Write { at, end } => (2, at, end),
+        Work::Compare { at } => (3, at, 0),
+        Work::WriteFront { at } => (4, at, 0),
+        Work::CompareFront { at } => (5, at, 0),
+        Work::Leave => (6, 0, 0),
+    }
+}
+
+/// The number of what is known of the pointer, and its address.
+fn place_numbers(place: Place) -> (u32, u64)
+    ensures place { place_at result.0 result.1 ≡ Some place }
+    ensures number { result.0 ≡ place_number place }
+    ensures pointer { result.1 ≡ pointer_in place }
+{
+    match place {
+        Place::Lost => (0, 0),
+        Place::At(pointer) => (1, pointer),
+        Place::Reading(pointer) => (2, pointer),
+    }
+}
+
+/// The number of a step, and its time.
+fn step_numbers(step: Step) -> (u32, u32)
+    ensures step { step_at result.0 result.1 ≡ Some step }
+    ensures number { result.0 ≡ step_number step }
+    ensures ms { result.1 ≡ ms_in step }
+{
+    match step {
+        Step::Abort => (0, 0),
+        Step::AskState => (1, 0),
+        Step::AskStatus => (2, 0),
+        Step::ClearWait(ms) => (3, ms),
+        Step::ClearStatus => (4, 0),
+        Step::Send => (5, 0),
+        Step::Probe => (6, 0),
+        Step::Poll(ms) => (7, ms),
+        Step::PollWait(ms) => (8, ms),
+        Step::BeginReading => (9, 0),
+        Step::EndReading => (10, 0),
+        Step::Read => (11, 0),
+        Step::Close => (12, 0),
+        Step::CloseProbe => (13, 0),
+        Step::ClosePoll => (14, 0),
+    }
+}
+
+/// The numbers of a phase.
+pub(crate) fn numbers_of(phase: Phase) -> Numbers
+    ensures phase { phase_at result ≡ Some phase }
+    ensures numbers { result ≡ numbers_in phase }
+{
+    match phase {
+        Phase::On(standing) => numbers_on(standing),
+        Phase::Over(report) => {
+            let (report, more) = report_numbers(report);
+            Numbers {
+                work: 7,
+                at: 0,
+                end: 0,
+                place: 0,
+                pointer: 0,
+                step: 0,
+                more,
+                report,
+            }
+        }
+    }
+}
+
+/// The numbers of a session that goes on.
+fn numbers_on(standing: Standing) -> Numbers
+    ensures phase { phase_at result ≡ Some (On standing) }
+    ensures numbers { result ≡ numbers_in (On standing) }
+{
+    let (work, at, end) = work_numbers(standing.work);
+    let (place, pointer) = place_numbers(standing.place);
+    let (step, more) = step_numbers(standing.step);
+    Numbers {
+        work,
+        at,
+        end,
+        place,
+        pointer,
+        step,
+        more,
+        report: 0,
+    }
+}

@@ -1,0 +1,21 @@
+//! What is seen, by its number.
+
+ghost use Rattle.std.specs.Prelude.{◌≡◌};
+ghost use Rattle.dfu_host_c.specs.dfuse.Told.{seen_at};
+
+use dfuse_host::Seen;
+
+/// What is seen by its number, of which 1 has these bytes; none if there is none. The numbers are those of DFU 1.1.
+pub(crate) fn seen_at<'s>(number: u32, bytes: &'s [u8]) -> Option<Seen<'s>>
+    ensures { result ≡ seen_at number bytes.entry }
+{
+    match number {
+        0 => Some(Seen::Ack),
+        1 => Some(Seen::Bytes(bytes)),
+        2 => Some(Seen::Stall),
+        3 => Some(Seen::Nothing),
+        4 => Some(Seen::Waited),
+        6 => Some(Seen::Restarted),
+        _ => None,
+    }
+}
