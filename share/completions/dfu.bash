@@ -10,11 +10,12 @@ _dfu() {
     if [ "$COMP_CWORD" -eq "$at" ]; then
         case $word in
         -*) COMPREPLY=($(compgen -W "$options -V --version" -- "$word")) ;;
-        *) COMPREPLY=($(compgen -W 'check add show run judge help' -- "$word")) ;;
+        *) COMPREPLY=($(compgen -W 'check add extract set show run judge help' -- "$word")) ;;
         esac
         return
     fi
-    [ "$command" != add ] || options='--vid --pid --did --explain -h --help'
+    [ "$command" != add ] || options='--vid --pid --did --format --fill --explain -h --help'
+    [ "$command" != set ] || options='--vid --pid --did --explain -h --help'
     [ "$command" != run ] || options='--trace --file --explain -h --help'
     [ "$command" != judge ] || options='--interface --device --explain -h --help'
     at=$((at + 1))
@@ -22,7 +23,7 @@ _dfu() {
     # for a word.
     while [ "$at" -lt "$COMP_CWORD" ]; do
         case ${COMP_WORDS[at]} in
-        --vid | --pid | --did | --interface | --device | --file)
+        --vid | --pid | --did | --format | --fill | --interface | --device | --file)
             option=${COMP_WORDS[at]}
             at=$((at + 1))
             [ "${COMP_WORDS[at]}" != = ] || [ "$at" -eq "$COMP_CWORD" ] || at=$((at + 1))
@@ -34,13 +35,14 @@ _dfu() {
         at=$((at + 1))
     done
     [ "$is_value" != --file ] || compopt -o default
+    [ "$is_value" != --format ] || COMPREPLY=($(compgen -W 'raw auto ihex srec uf2 elf' -- "${word#=}"))
     [ -z "$is_value" ] || return
     case $command:$place:$word in
     help:*:-*) ;;
     *:-?* | *:-) COMPREPLY=($(compgen -W "$options" -- "$word")) ;;
-    check:0:* | run:0:* | judge:0:* | add:[01]:*) compopt -o default ;;
+    check:*:* | run:0:* | judge:*:* | add:[01]:* | extract:[01]:* | set:0:*) compopt -o default ;;
     show:0:*) COMPREPLY=($(compgen -W 'functional status state setup configuration' -- "$word")) ;;
-    help:0:*) COMPREPLY=($(compgen -W 'check add show run judge help' -- "$word")) ;;
+    help:0:*) COMPREPLY=($(compgen -W 'check add extract set show run judge help' -- "$word")) ;;
     esac
 }
 complete -F _dfu dfu

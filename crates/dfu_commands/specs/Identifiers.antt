@@ -1,5 +1,6 @@
--- The identifiers that the options of `dfu add` give.
-use Rattle.std.specs.Prelude.{ℕ, List, Option, Some, None, codes, if◌then◌else◌, is_some}
+-- The identifiers that the options of `dfu add` and `dfu set` give.
+use Rattle.std.specs.Prelude.{ℕ, List, Option, Some, None, codes, if◌then◌else◌, is_some, option_and_then}
+use Rattle.dfu_files.specs.declared.changing.Change.{Change}
 use Rattle.dfu_wire.specs.declared.ids.Ids.{Ids}
 use Rattle.dfu_wire.specs.Identifier.{identifier_in}
 
@@ -17,3 +18,11 @@ abbrev pub wrong_option : (vendor product device : List ℕ) → Option (List �
 wrong_option vendor product device =
     if is_some (identifier_in vendor) then (if is_some (identifier_in product) then (if is_some (identifier_in device) then None
     else Some (codes "--did ", device)) else Some (codes "--pid ", product)) else Some (codes "--vid ", vendor)
+
+-- The identifiers that change: each option that is given, with its number.
+abbrev pub change_said : (vendor product device : Option (List ℕ)) → Change
+change_said vendor product device = record {
+  vendor = option_and_then identifier_in vendor;
+  product = option_and_then identifier_in product;
+  device = option_and_then identifier_in device;
+}

@@ -2,7 +2,6 @@
 
 use crate::field::number_of;
 use dfu_capture::{Address, CaptureFault};
-use dfu_suffix::{GatherFault, SuffixFault};
 use std::io::{self, Read};
 
 /// The most bytes of a capture.
@@ -95,14 +94,5 @@ pub(crate) fn capture_why(fault: CaptureFault) -> Option<&'static str> {
             "more than one device gets requests of DFU; name one with --device BUS.DEVICE",
         ),
         CaptureFault::NoMemory => None,
-    }
-}
-
-/// The fault of a capture that wasn't read whole.
-pub(crate) fn gather_fault(fault: GatherFault) -> SuffixFault {
-    match fault {
-        GatherFault::TooLarge => SuffixFault::TooLarge,
-        GatherFault::NoMemory => SuffixFault::NoMemory,
-        GatherFault::Read => SuffixFault::Read,
     }
 }

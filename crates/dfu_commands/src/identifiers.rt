@@ -1,8 +1,11 @@
-//! The identifiers that the options of `dfu add` give.
+//! The identifiers that the options of `dfu add` and `dfu set` give.
 
-ghost use Rattle.std.specs.Prelude.{◌≡◌, option_map};
-ghost use Rattle.dfu_commands.specs.Identifiers.{ids_said, wrong_option};
+ghost use Rattle.std.specs.Prelude.{◌≡◌, option_and_then, option_map};
+ghost use Rattle.std.specs.String.{string_bytes};
+ghost use Rattle.dfu_wire.specs.Identifier.{identifier_in};
+ghost use Rattle.dfu_commands.specs.Identifiers.{change_said, ids_said, wrong_option};
 
+use dfu_files::Change;
 use dfu_wire::{Ids, identifier};
 
 /// The texts of the three options.
@@ -45,4 +48,30 @@ pub(crate) fn wrong_option<'t>(texts: &IdTexts<'t>) -> Option<(&'static str, &'t
         return Some(("--did ", texts.device));
     }
     None
+}
+
+/// The number of an option, where it is given and is four hexadecimal digits.
+fn number_in(text: &Option<String>) -> Option<u16>
+    ensures { result ≡ option_and_then identifier_in (option_map string_bytes text.now) }
+{
+    match text {
+        Some(text) => identifier(text.as_bytes()),
+        None => None,
+    }
+}
+
+/// The identifiers that change, where each text is four hexadecimal digits.
+pub(crate) fn change_said(
+    vendor: &Option<String>,
+    product: &Option<String>,
+    device: &Option<String>,
+) -> Change
+    ensures { result ≡ change_said (option_map string_bytes vendor.now) (option_map string_bytes product.now)
+        (option_map string_bytes device.now) }
+{
+    Change {
+        vendor: number_in(vendor),
+        product: number_in(product),
+        device: number_in(device),
+    }
 }

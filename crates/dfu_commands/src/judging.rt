@@ -1,14 +1,17 @@
 //! `dfu judge`: the verdict on a log or a capture of a file or of standard input.
 
-use crate::captures::{Headed, MAX_CAPTURE, capture_line, capture_why, gather_fault};
+use crate::captures::{Headed, MAX_CAPTURE, capture_line, capture_why};
+use crate::eventful::Eventful;
 use crate::field::number_of;
+use crate::line_ends::LineEnds;
+use crate::prefixing::Prefixed;
 use crate::watching::Watched;
 use dfu_capture::{Address, is_capture, log_of};
-use dfu_files::{error_reason, file_reason, open};
+use dfu_files::{error_reason, file_reason, gather_fault, open};
 use dfu_judge::LineFault;
 use dfu_judge_text::{LogFault, judge_with_fault};
 use dfu_suffix::{SuffixFault, gather};
-use dfu_text::{Answer, Exit, fault_text, write_out};
+use dfu_text::{Answer, Exit, fault_text, name_before, write_out};
 use std::alloc::Global;
 use std::io::{self, Read};
 use std::rt::Files;
@@ -54,15 +57,23 @@ fn stop_reason<S>(
             Some(error) => error_reason(alloc, name, error),
             None => None,
         },
-        _ => None,
+        LogFault::TooLarge => file_reason(
+            alloc,
+            name,
+            "it has over 1,099,511,627,775 bytes; cut it",
+        ),
+        LogFault::NoMemory => file_reason(alloc, name, "there is no memory for it"),
+        LogFault::Write => None,
     }
 }
 
 /// What is to be judged of what a reader gives: the number of the interface, and of a capture the address.
 #[derive(Clone, Copy)]
-pub(crate) struct Judged<'w> {
+struct Judged<'w> {
     /// The name of the file.
     pub name: &'w str,
+    /// What stands before each line.
+    pub before: &'w str,
     /// The number of the interface.
     pub interface: u8,
     /// The address, where one is named.
@@ -77,12 +88,16 @@ fn judge_text_of<R: Print + AllocGlobal, S: Read + Drop>(
 ) -> Answer {
     let alloc = rt.alloc();
     let mut watched = Watched::new(alloc, log, false);
-    let (exit, fault) = judge_with_fault(
-        alloc,
-        judged.interface,
-        &mut watched,
-        &mut io::writer(rt),
-    );
+    let mut out = Eventful::new(Prefixed::new(judged.before, io::writer(rt)));
+    let (exit, fault) = judge_with_fault(alloc, judged.interface, &mut watched, &mut out);
+    if out.is_without() {
+        let why =
+            "no request of DFU at the interface is in it; record a session, or see --interface";
+        return Answer {
+            exit: write_out(out.behind(), b"refused NoEvents\n", Exit::Refused),
+            reason: file_reason(alloc, judged.name, why),
+        };
+    }
     let reason = match fault {
         Some(fault) => stop_reason(alloc, judged.name, fault, &watched),
         None => None,
@@ -98,7 +113,11 @@ fn judge_bytes<R: Print + AllocGlobal>(rt: &R, judged: Judged<'_>, capture: &[u8
         Err(fault) => {
             let line = capture_line(fault).as_bytes();
             Answer {
-                exit: write_out(&mut io::writer(rt), line, Exit::Refused),
+                exit: write_out(
+                    &mut Prefixed::new(judged.before, io::writer(rt)),
+                    line,
+                    Exit::Refused,
+                ),
                 reason: match capture_why(fault) {
                     Some(why) => file_reason(alloc, judged.name, why),
                     None => None,
@@ -119,7 +138,10 @@ fn judge_capture<R: Print + AllocGlobal, S: Read + Drop>(
     match gather(alloc, &mut watched, MAX_CAPTURE) {
         Ok(bytes) => judge_bytes(rt, judged, &bytes),
         Err(fault) => Answer {
-            exit: fault_text(gather_fault(fault), &mut io::writer(rt)),
+            exit: fault_text(
+                gather_fault(fault),
+                &mut Prefixed::new(judged.before, io::writer(rt)),
+            ),
             reason: match &watched.error {
                 Some(error) => error_reason(alloc, judged.name, error),
                 None => None,
@@ -131,16 +153,16 @@ fn judge_capture<R: Print + AllocGlobal, S: Read + Drop>(
 /// A file or standard input that can't be read.
 fn unread<R: Print + AllocGlobal>(rt: &R, judged: Judged<'_>, error: &io::Error) -> Answer {
     Answer {
-        exit: fault_text(SuffixFault::Read, &mut io::writer(rt)),
+        exit: fault_text(
+            SuffixFault::Read,
+            &mut Prefixed::new(judged.before, io::writer(rt)),
+        ),
         reason: error_reason(rt.alloc(), judged.name, error),
     }
 }
 
 /// Judges a log or a capture, or that of standard input where the name is `-`, with the reason where it is judged no further.
-pub(crate) fn judge_file<R: Files + Input + Print + AllocGlobal>(
-    rt: &R,
-    judged: Judged<'_>,
-) -> Answer {
+fn judge_file<R: Files + Input + Print + AllocGlobal>(rt: &R, judged: Judged<'_>) -> Answer {
     let given = match open(rt, judged.name) {
         Ok(given) => given,
         Err(error) => return unread(rt, judged, &error),
@@ -150,9 +172,62 @@ pub(crate) fn judge_file<R: Files + Input + Print + AllocGlobal>(
             if is_capture(given.head()) {
                 judge_capture(rt, judged, given)
             } else {
-                judge_text_of(rt, judged, given)
+                judge_text_of(rt, judged, LineEnds::new(given))
             }
         }
         Err(error) => unread(rt, judged, &error),
     }
+}
+
+/// Judges one of several files, with its name before each line.
+fn judge_named<R: Files + Input + Print + AllocGlobal>(
+    rt: &R,
+    name: &str,
+    interface: u8,
+    only: Option<Address>,
+) -> Answer {
+    match name_before(rt.alloc(), name) {
+        Ok(before) => judge_file(
+            rt,
+            Judged {
+                name,
+                before: &before,
+                interface,
+                only,
+            },
+        ),
+        Err(_) => Answer {
+            exit: fault_text(SuffixFault::NoMemory, &mut io::writer(rt)),
+            reason: None,
+        },
+    }
+}
+
+/// Judges logs and captures, or those of standard input where a name is `-`, each with the reason where it is judged no further. Of more
+/// than one file each line begins with its name. The end is the worst one.
+pub(crate) fn judge_files<R: Files + Input + Print + AllocGlobal>(
+    rt: &R,
+    names: &[String],
+    interface: u8,
+    only: Option<Address>,
+) -> Answer {
+    if let [name] = names {
+        return judge_file(
+            rt,
+            Judged {
+                name,
+                before: "",
+                interface,
+                only,
+            },
+        );
+    }
+    let mut all = Answer {
+        exit: Exit::Done,
+        reason: None,
+    };
+    for name in names {
+        all = all.and(rt.alloc(), judge_named(rt, name, interface, only));
+    }
+    all
 }

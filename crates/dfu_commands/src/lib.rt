@@ -6,18 +6,25 @@
 
 mod buffering;
 mod captures;
+mod changing;
+mod eventful;
 mod field;
 mod form;
+mod hexing;
 mod identifiers;
 mod judging;
 mod line;
+mod line_ends;
 mod numbering;
 mod offered;
 mod performing;
+mod prefixing;
+mod remembering;
 mod running;
 mod scripts;
 mod setup;
 mod sharing;
+mod shown;
 mod watching;
 mod words;
 

@@ -1,8 +1,7 @@
 //! The file that a script offers by the word FILE.
 
-use crate::captures::gather_fault;
 use crate::watching::Watched;
-use dfu_files::{error_reason, open};
+use dfu_files::{error_reason, gather_fault, open};
 use dfu_suffix::{SuffixFault, gather};
 use dfu_text::{Answer, fault_text};
 use std::io;

@@ -1,49 +1,37 @@
 //! What the words of a command line ask for is done.
 
 use crate::captures::device_in;
-use crate::identifiers::{IdTexts, ids_said};
-use crate::judging::{Judged, interface_in, judge_file};
+use crate::changing::{perform_add, perform_extract, perform_set};
+use crate::hexing::bare;
+use crate::identifiers::IdTexts;
+use crate::judging::{interface_in, judge_files};
 use crate::offered::read_file;
+use crate::remembering::Remembering;
 use crate::scripts::run_script;
-use crate::words::{bad_device, bad_file, bad_identifier, bad_interface, bad_kind, bad_out};
-use dfu_files::{Owned, add_file, check_file};
+use crate::shown::show_reason;
+use crate::words::{bad_device, bad_file, bad_interface, bad_kind, refused};
+use dfu_files::{Owned, check_files};
 use dfu_suffix::SuffixFault;
-use dfu_text::{Answer, Exit, bad_words, fault_text, show_text};
+use dfu_text::{Answer, Exit, fault_text, show_text};
 use dfu_words::{Asked, Job, JobFault, asked};
 use std::io::{self, IsTerminal};
 use std::rt::Files;
 
-/// Refuses words, for this reason.
-fn refused<R: Print>(rt: &R, reason: Option<String>) -> Answer {
-    Answer {
-        exit: bad_words(&mut io::writer(rt)),
-        reason,
-    }
-}
-
-/// Adds a suffix, where the words can be used.
-fn perform_add<R: Files + Input + Print + AllocGlobal>(
-    rt: &R,
-    file: &str,
-    to: &str,
-    texts: &IdTexts<'_>,
-) -> Answer
-where
-    R::File: Owned,
-{
-    let Some(ids) = ids_said(texts) else {
-        return refused(rt, bad_identifier(rt.alloc(), texts));
+fn perform_show<R: Print + AllocGlobal>(rt: &R, kind: &str, words: &[String]) -> Answer {
+    let alloc = rt.alloc();
+    let Ok(digits) = bare(alloc, words) else {
+        return Answer {
+            exit: no_memory(rt),
+            reason: None,
+        };
     };
-    if to == "-" {
-        return refused(rt, bad_out(rt.alloc()));
-    }
-    add_file(rt, file, to, ids)
-}
-
-fn perform_show<R: Print + AllocGlobal>(rt: &R, kind: &str, hex: &str) -> Answer {
-    let exit = show_text(rt.alloc(), kind, hex, &mut io::writer(rt));
+    // A text stays one where signs of ASCII go.
+    let hex = std::str::from_utf8(&digits).unwrap_or("?");
+    let mut out = Remembering::new(io::writer(rt));
+    let exit = show_text(alloc, kind, hex, &mut out);
     let reason = match exit {
-        Exit::BadWords => bad_kind(rt.alloc(), kind),
+        Exit::BadWords => bad_kind(alloc, kind),
+        Exit::Refused => show_reason(alloc, kind, out.front()),
         _ => None,
     };
     Answer { exit, reason }
@@ -52,7 +40,7 @@ fn perform_show<R: Print + AllocGlobal>(rt: &R, kind: &str, hex: &str) -> Answer
 /// Judges a log or a capture, where the words can be used.
 fn perform_judge<R: Files + Input + Print + AllocGlobal>(
     rt: &R,
-    name: &str,
+    names: &[String],
     interface: &str,
     device: &str,
 ) -> Answer {
@@ -62,12 +50,7 @@ fn perform_judge<R: Files + Input + Print + AllocGlobal>(
     let Some(only) = device_in(device) else {
         return refused(rt, bad_device(rt.alloc(), device));
     };
-    let judged = Judged {
-        name,
-        interface: number,
-        only,
-    };
-    judge_file(rt, judged)
+    judge_files(rt, names, number, only)
 }
 
 /// Runs a script, where the words can be used: the script and its file can't both be standard input.
@@ -101,21 +84,34 @@ where
     R::Reader: IsTerminal,
 {
     match job {
-        Job::Check { file } => check_file(rt, file, explain),
+        Job::Check { files } => check_files(rt, files, explain),
         Job::Add {
             file,
             to,
             vid,
             pid,
             did,
-        } => {
-            let texts = IdTexts {
+            format,
+            fill,
+        } => perform_add(
+            rt,
+            file,
+            to,
+            &IdTexts {
                 vendor: vid,
                 product: pid,
                 device: did,
-            };
-            perform_add(rt, file, to, &texts)
-        }
+            },
+            format,
+            fill,
+        ),
+        Job::Extract { file, to } => perform_extract(rt, file, to, explain),
+        Job::Change {
+            file,
+            vid,
+            pid,
+            did,
+        } => perform_set(rt, file, vid, pid, did, explain),
         Job::Show { kind, hex } => perform_show(rt, kind, hex),
         Job::Run {
             script,
@@ -123,10 +119,10 @@ where
             file,
         } => perform_run(rt, script, *trace, file, explain),
         Job::Judge {
-            file,
+            files,
             interface,
             device,
-        } => perform_judge(rt, file, interface, device),
+        } => perform_judge(rt, files, interface, device),
     }
 }
 

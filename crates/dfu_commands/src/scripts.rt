@@ -49,7 +49,31 @@ fn stop_reason<S>(
             Some(error) => error_reason(alloc, name, error),
             None => None,
         },
-        _ => None,
+        ScriptFault::LateConfig(number) => line_reason(
+            alloc,
+            name,
+            number,
+            "it sets up the device, and stands behind a line that does something; move it up",
+        ),
+        ScriptFault::Expected(number) => line_reason(
+            alloc,
+            name,
+            number,
+            "the last line that was printed isn't the one that it expects; correct either",
+        ),
+        ScriptFault::NonePrinted(number) => line_reason(
+            alloc,
+            name,
+            number,
+            "nothing was printed since the one before that expects a line; take one of them out",
+        ),
+        ScriptFault::TooLarge => file_reason(
+            alloc,
+            name,
+            "it has over 16,777,216 bytes; shorten it",
+        ),
+        ScriptFault::NoMemory => file_reason(alloc, name, "there is no memory for it"),
+        ScriptFault::Write => None,
     }
 }
 

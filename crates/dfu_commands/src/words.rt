@@ -4,11 +4,20 @@ ghost use Rattle.std.specs.Prelude.{◌≡◌, IfOk, IfSome, None, codes, is_som
 ghost use Rattle.std.specs.String.{string_bytes};
 ghost use Rattle.dfu_text.specs.ReasonLines.{reason_line};
 ghost use Rattle.dfu_commands.specs.Identifiers.{ids_said};
-ghost use Rattle.dfu_commands.specs.WordReasons.{device_why, file_why, interface_why, kind_why, out_why};
+ghost use Rattle.dfu_commands.specs.WordReasons.{device_why, file_why, fill_why, format_why, interface_why, kind_why, lone_fill_why, no_change_why, out_why};
 
 use crate::identifiers::{IdTexts, wrong_option};
-use dfu_text::reason_line;
+use dfu_text::{Answer, bad_words, reason_line};
 use std::alloc::{AllocError, Global};
+use std::io;
+
+/// Refuses words, for this reason.
+pub(crate) fn refused<R: Print>(rt: &R, reason: Option<String>) -> Answer {
+    Answer {
+        exit: bad_words(&mut io::writer(rt)),
+        reason,
+    }
+}
 
 /// The line, where there was memory for it.
 fn made(line: Result<String, AllocError>) -> Option<String>
@@ -42,13 +51,49 @@ pub(crate) fn bad_kind(alloc: Global, kind: &str) -> Option<String>
     made(reason_line(alloc, "KIND ", kind, why))
 }
 
-/// Why OUT can't be standard output.
+/// Why OUT, or FILE, as the label says, can't be `-`.
 #[tactic(auto, unfolding(crate::specs::WordReasons::out_why))]
-pub(crate) fn bad_out(alloc: Global) -> Option<String>
-    ensures { IfSome result (λ t. string_bytes t ≡ reason_line (codes "OUT ") (codes "-") out_why) }
+pub(crate) fn bad_place(alloc: Global, label: &str) -> Option<String>
+    ensures { IfSome result (λ t. string_bytes t ≡ reason_line label.now (codes "-") out_why) }
 {
     let why = "it has to be a file, as ./- for one with this name";
-    made(reason_line(alloc, "OUT ", "-", why))
+    made(reason_line(alloc, label, "-", why))
+}
+
+/// Why a format is none.
+#[tactic(auto, unfolding(crate::specs::WordReasons::format_why))]
+pub(crate) fn bad_format(alloc: Global, format: &str) -> Option<String>
+    ensures { IfSome result (λ t. string_bytes t ≡ reason_line (codes "--format ") format.now format_why) }
+{
+    let why = "it has to be raw, auto, ihex, srec, uf2 or elf";
+    made(reason_line(alloc, "--format ", format, why))
+}
+
+/// Why a byte for gaps is none.
+#[tactic(auto, unfolding(crate::specs::WordReasons::fill_why))]
+pub(crate) fn bad_fill(alloc: Global, fill: &str) -> Option<String>
+    ensures { IfSome result (λ t. string_bytes t ≡ reason_line (codes "--fill ") fill.now fill_why) }
+{
+    let why = "it has to be two hexadecimal digits, as ff";
+    made(reason_line(alloc, "--fill ", fill, why))
+}
+
+/// Why a raw image has no byte for gaps.
+#[tactic(auto, unfolding(crate::specs::WordReasons::lone_fill_why))]
+pub(crate) fn lone_fill(alloc: Global, fill: &str) -> Option<String>
+    ensures { IfSome result (λ t. string_bytes t ≡ reason_line (codes "--fill ") fill.now lone_fill_why) }
+{
+    let why = "a raw image has no gaps; it goes with --format";
+    made(reason_line(alloc, "--fill ", fill, why))
+}
+
+/// Why no identifier of a file changes.
+#[tactic(auto, unfolding(crate::specs::WordReasons::no_change_why))]
+pub(crate) fn no_change(alloc: Global, file: &str) -> Option<String>
+    ensures { IfSome result (λ t. string_bytes t ≡ reason_line (codes "FILE ") file.now no_change_why) }
+{
+    let why = "nothing is to change: give --vid, --pid or --did";
+    made(reason_line(alloc, "FILE ", file, why))
 }
 
 /// Why a script and its file can't both be standard input.

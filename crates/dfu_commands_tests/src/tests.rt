@@ -5,6 +5,7 @@ mod adding;
 mod commands;
 mod host;
 mod machine;
+mod making;
 mod opened;
 mod readers;
 mod reasons;

@@ -49,7 +49,32 @@ fn made_reason(alloc: Global, name: &str, why: Result<String, AllocError>) -> Op
     }
 }
 
-/// Why what a reader gave is refused, or that it failed; none where the fault's name says it.
+/// What is wrong with what a reader gave, in words, and what to do.
+fn fault_why(fault: SuffixFault) -> Option<&'static str> {
+    match fault {
+        SuffixFault::TooShort => {
+            Some("it has under 16 bytes, and so no suffix; dfu add gives a raw image one")
+        }
+        SuffixFault::NoSignature => {
+            Some("it has no suffix, which has the letters UFD; dfu add gives a raw image one")
+        }
+        SuffixFault::DfuSe => Some(
+            "it is of another format, DfuSe; use a tool for that, as dfu-util",
+        ),
+        SuffixFault::AlreadySuffixed => {
+            Some("it has a suffix already: use it as it is, or dfu set changes its identifiers")
+        }
+        SuffixFault::TooLarge => {
+            Some(
+                "it has over 16,777,216 bytes, with a suffix that is added; is it a firmware file?",
+            )
+        }
+        SuffixFault::NoMemory => Some("there is no memory for it"),
+        _ => None,
+    }
+}
+
+/// Why what a reader gave is refused, or that it failed.
 pub(crate) fn given_reason<R>(
     alloc: Global,
     name: &str,
@@ -68,6 +93,9 @@ pub(crate) fn given_reason<R>(
             Some(error) => error_reason(alloc, name, error),
             None => None,
         },
-        _ => None,
+        _ => match fault_why(fault) {
+            Some(why) => file_reason(alloc, name, why),
+            None => None,
+        },
     }
 }

@@ -4,6 +4,9 @@ ghost use Rattle.std.specs.Prelude.{◌≤◌, length, IfOk};
 
 use crate::owner::Owned;
 use crate::part::{Part, begin, put, remove};
+use crate::reasons::error_reason;
+use dfu_suffix::{SuffixFault, write_whole};
+use dfu_text::{Answer, Exit, fault_text, write_out};
 use std::io::{self, ErrorKind, Write};
 use std::rt::Files;
 
@@ -54,12 +57,29 @@ impl<R: Files + AllocGlobal> Replacement<'_, R>
 where
     R::File: Owned,
 {
-    fn put(&mut self, buf: &[u8]) -> io::Result<usize>
-        ensures { IfOk result (λ n. n ≤ length buf.now) }
-    {
+    /// Makes the part, unless it is there.
+    fn make(&mut self) -> io::Result<()> {
         if self.part.is_none() {
             self.part = Some(begin(self.rt, self.out)?);
         }
+        Ok(())
+    }
+
+    /// Makes the part, also where nothing is to be written.
+    fn is_made(&mut self) -> bool {
+        match self.make() {
+            Ok(()) => true,
+            Err(error) => {
+                self.error = Some(error);
+                false
+            }
+        }
+    }
+
+    fn put(&mut self, buf: &[u8]) -> io::Result<usize>
+        ensures { IfOk result (λ n. n ≤ length buf.now) }
+    {
+        self.make()?;
         match &mut self.part {
             Some(part) => part.file.write(buf),
             None => Ok(0),
@@ -84,5 +104,50 @@ where
 
     fn flush(&mut self) -> io::Result<()> {
         Ok(())
+    }
+}
+
+/// Puts what was made in OUT's place, and writes the line for it.
+pub(crate) fn finish<R: Files + Print + AllocGlobal>(
+    rt: &R,
+    to: &str,
+    made: Replacement<'_, R>,
+    line: &[u8],
+) -> Answer {
+    let mut out = io::writer(rt);
+    match made.finish() {
+        Ok(()) => Answer {
+            exit: write_out(&mut out, line, Exit::Done),
+            reason: None,
+        },
+        Err(error) => Answer {
+            exit: fault_text(SuffixFault::Write, &mut out),
+            reason: error_reason(rt.alloc(), to, &error),
+        },
+    }
+}
+
+/// Makes OUT of this text, and writes the line for it.
+pub(crate) fn replace<R: Files + Print + AllocGlobal>(
+    rt: &R,
+    to: &str,
+    text: &[u8],
+    line: &[u8],
+) -> Answer
+where
+    R::File: Owned,
+{
+    let mut made = Replacement::new(rt, to);
+    if made.is_made() && write_whole(&mut made, text).is_ok() {
+        return finish(rt, to, made, line);
+    }
+    let reason = match &made.error {
+        Some(error) => error_reason(rt.alloc(), to, error),
+        None => None,
+    };
+    made.abandon();
+    Answer {
+        exit: fault_text(SuffixFault::Write, &mut io::writer(rt)),
+        reason,
     }
 }

@@ -6,6 +6,7 @@ pub mod Formats
 pub mod IntelHex
 pub mod Laying
 pub mod Lines
+pub mod Making
 pub mod Numbers
 pub mod Reading
 pub mod SRecord

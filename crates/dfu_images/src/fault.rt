@@ -72,6 +72,6 @@ pub enum ImageFault {
     #[error("at {0}: the image has over 1,024 parts")]
     TooManyElements(usize),
     /// Two records have a byte at this address; it is the lowest such address.
-    #[error("two records have a byte at address {0:08X}")]
+    #[error("two records have a byte at address {0:08x}")]
     Overlaps(u32),
 }

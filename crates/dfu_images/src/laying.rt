@@ -16,7 +16,7 @@ pub enum LayFault {
     #[error("an allocation was refused")]
     NoMemory,
     /// Nothing has these addresses, from the first up to before the second, and there is nothing to fill them with.
-    #[error("nothing is at {0:08X} to before {1:08X}, and no filling is given")]
+    #[error("nothing is at {0:08x} to before {1:08x}, and no filling is given")]
     Gap(u64, u32),
     /// With what fills the gaps there are over 16,777,216 bytes.
     #[error("from the lowest to the highest address there are over 16,777,216 bytes")]

@@ -13,8 +13,13 @@ use dfu_wire::Ids;
 use std::alloc::{AllocError, Global};
 use std::io::{Read, Write};
 
+/// The line for a file that was made: `wrote N`, with the number of its bytes.
+///
+/// # Errors
+///
+/// There is no memory for it.
 #[tactic(auto, unfolding(crate::specs::AddText::wrote_line))]
-fn wrote_line(alloc: Global, count: u32) -> Result<String, AllocError>
+pub fn wrote_line(alloc: Global, count: u32) -> Result<String, AllocError>
     ensures { IfOk result (λ t. string_bytes t ≡ wrote_line count) }
 {
     let mut line = String::from_str(alloc, "wrote")?;

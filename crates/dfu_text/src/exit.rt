@@ -1,6 +1,6 @@
 //! How a command ended.
 
-ghost use Rattle.std.specs.Prelude.{◌≡◌};
+ghost use Rattle.std.specs.Prelude.{◌≡◌, max};
 ghost use Rattle.dfu_text.specs.Exits.{status_of};
 
 /// How a command ended, which is the exit status of the program.
@@ -26,6 +26,17 @@ impl Exit {
             Exit::Refused => 1,
             Exit::BadWords => 2,
             Exit::Fault => 3,
+        }
+    }
+
+    /// The worse one of two ends: that of the higher status.
+    pub fn worse(self, other: Exit) -> Exit
+        ensures { status_of result ≡ max (status_of self) (status_of other) }
+    {
+        if self.status() < other.status() {
+            other
+        } else {
+            self
         }
     }
 }

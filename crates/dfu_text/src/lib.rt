@@ -16,12 +16,12 @@ mod reasons;
 mod show_lines;
 mod showing;
 
-pub use adding::{add_text, add_with_fault};
+pub use adding::{add_text, add_with_fault, wrote_line};
 pub use answer::Answer;
 pub use checking::{check_text, check_with_fault};
 pub use exit::Exit;
 pub use faults::{bad_words, fault_text};
 pub use numbers::{field, made_field, push};
 pub use output::write_out;
-pub use reasons::reason_line;
+pub use reasons::{name_before, reason_line};
 pub use showing::show_text;

@@ -2,7 +2,7 @@
 
 ghost use Rattle.std.specs.Prelude.{◌≡◌, IfOk};
 ghost use Rattle.std.specs.String.{string_bytes};
-ghost use Rattle.dfu_text.specs.ReasonLines.{reason_line};
+ghost use Rattle.dfu_text.specs.ReasonLines.{name_before, reason_line};
 
 mod shown;
 
@@ -20,5 +20,19 @@ pub fn reason_line(alloc: Global, label: &str, name: &str, why: &str) -> Result<
     field(&mut line, label, &name)?;
     field(&mut line, ": ", why)?;
     push(&mut line, "\n")?;
+    Ok(line)
+}
+
+/// What stands before a line of one of several files: its name as a terminal may show it, at most 4,096 characters of it, and a colon.
+///
+/// # Errors
+///
+/// There is no memory for it.
+#[tactic(auto, unfolding(crate::specs::ReasonLines::name_before))]
+pub fn name_before(alloc: Global, name: &str) -> Result<String, AllocError>
+    ensures { IfOk result (λ t. string_bytes t ≡ name_before name.now) }
+{
+    let mut line = shown(alloc, name)?;
+    push(&mut line, ": ")?;
     Ok(line)
 }

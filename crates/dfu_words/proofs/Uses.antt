@@ -39,6 +39,7 @@ found_passes p q (y ∷ ys) x all is = go (p y) (q y) refl refl all is (found_pa
 
 abbrev sets_as : ArgAction → ℕ → List Text → Bool
 sets_as Set least missing = nat_lt 0 least
+sets_as Append least missing = nat_lt 0 least
 sets_as SetTrue least missing = not (is_empty missing)
 sets_as Help least missing = true
 sets_as Version least missing = true
@@ -77,7 +78,8 @@ used_full again a values rows ok e f = go (action_of a) ok
         (flag_value a values ok) (without_full a.id rows f)
     go Help ok = f
     go Version ok = f
-    go Append ok = absurd (true≢false (sym ok))
+    go Append ok = valued_full a.id (reading_by a) CommandLine (values_or_missing a values) rows
+        (given_value a values _ (most_values a) ok range) f
     go SetFalse ok = absurd (true≢false (sym ok))
     go Count ok = absurd (true≢false (sym ok))
     go HelpShort ok = absurd (true≢false (sym ok))

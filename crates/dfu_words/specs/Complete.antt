@@ -9,9 +9,11 @@ abbrev pub arguments_of : Text → List Text
 arguments_of name =
     if bytes_eq name (codes "check") then codes "file" ∷ []
     else (if bytes_eq name (codes "add") then codes "file" ∷ codes "to" ∷ codes "vid" ∷ codes "pid" ∷ codes "did" ∷ []
+    else (if bytes_eq name (codes "extract") then codes "file" ∷ codes "to" ∷ []
+    else (if bytes_eq name (codes "set") then codes "file" ∷ []
     else (if bytes_eq name (codes "show") then codes "kind" ∷ codes "hex" ∷ []
     else (if bytes_eq name (codes "run") then codes "script" ∷ []
-    else (if bytes_eq name (codes "judge") then codes "file" ∷ codes "interface" ∷ codes "device" ∷ [] else []))))
+    else (if bytes_eq name (codes "judge") then codes "file" ∷ codes "interface" ∷ codes "device" ∷ [] else []))))))
 
 -- Each of these arguments has a text.
 abbrev pub HasTexts : List Text → List Row → Type 0

@@ -4,7 +4,7 @@
 ghost use Rattle.std.specs.Prelude.{◌≡◌, IfOk, false, true};
 ghost use Rattle.clap.specs.Words.{App, Rule, app_of, new_app, rule_of, with_rule, with_subcommand};
 ghost use Rattle.clap.specs.declared.builder.Command.TheViews.{out-Command};
-ghost use Rattle.dfu_words.specs.CommandLine.{needed, optional, option, unset, flag, explained, check_app, add_app, show_app, run_app, judge_app, bare_app, top_app, dfu_app};
+ghost use Rattle.dfu_words.specs.CommandLine.{needed, repeated, optional, option, unset, flag, explained, check_app, add_app, extract_app, set_app, show_app, run_app, judge_app, bare_app, top_app, dfu_app};
 
 use crate::help;
 use clap::{Arg, ArgAction, Command};
@@ -23,7 +23,20 @@ fn needed<'a>(alloc: Global, id: &'a str, name: &'a str, help: &'a str) -> Arg<'
         .help(help)
 }
 
-/// A positional argument that has a default.
+/// A positional argument that has to be there, once or more often.
+#[inline(never)]
+fn repeated<'a>(alloc: Global, id: &'a str, name: &'a str, help: &'a str) -> Arg<'a>
+    ensures rule { rule_of result ≡ repeated id.entry.now }
+    ensures local { result.global ≡ false }
+{
+    Arg::new(alloc, id)
+        .required(true)
+        .action(ArgAction::Append)
+        .value_name(name)
+        .help(help)
+}
+
+/// A positional argument that has a default, and may be there more often than once.
 #[inline(never)]
 fn optional<'a>(
     alloc: Global,
@@ -36,7 +49,7 @@ fn optional<'a>(
     ensures local { result.global ≡ false }
 {
     Arg::new(alloc, id)
-        .action(ArgAction::Set)
+        .action(ArgAction::Append)
         .value_name(name)
         .default_value(default)
         .help(help)
@@ -136,7 +149,10 @@ fn check_command<'a>(alloc: Global) -> Result<Command<'a>, AllocError>
     ensures local { IfOk result (λ c. (out-Command c).has_globals ≡ false) }
 {
     let command = described(alloc, "check", help::CHECK, help::CHECK_EXAMPLE);
-    let command = with(Ok(command), needed(alloc, "file", "FILE", help::CHECK_FILE));
+    let command = with(
+        Ok(command),
+        repeated(alloc, "file", "FILE", help::CHECK_FILE),
+    );
     explained(alloc, command)
 }
 
@@ -150,6 +166,30 @@ fn add_command<'a>(alloc: Global) -> Result<Command<'a>, AllocError>
     let command = with(command, option(alloc, "vid", "ffff", help::ADD_VID));
     let command = with(command, option(alloc, "pid", "ffff", help::ADD_PID));
     let command = with(command, option(alloc, "did", "ffff", help::ADD_DID));
+    let command = with(command, unset(alloc, "format", help::ADD_FORMAT));
+    let command = with(command, unset(alloc, "fill", help::ADD_FILL));
+    explained(alloc, command)
+}
+
+fn extract_command<'a>(alloc: Global) -> Result<Command<'a>, AllocError>
+    ensures app { IfOk result (λ c. app_of c ≡ extract_app) }
+    ensures local { IfOk result (λ c. (out-Command c).has_globals ≡ false) }
+{
+    let command = described(alloc, "extract", help::EXTRACT, help::EXTRACT_EXAMPLE);
+    let command = with(Ok(command), needed(alloc, "file", "FILE", help::CHECK_FILE));
+    let command = with(command, needed(alloc, "to", "OUT", help::ADD_OUT));
+    explained(alloc, command)
+}
+
+fn set_command<'a>(alloc: Global) -> Result<Command<'a>, AllocError>
+    ensures app { IfOk result (λ c. app_of c ≡ set_app) }
+    ensures local { IfOk result (λ c. (out-Command c).has_globals ≡ false) }
+{
+    let command = described(alloc, "set", help::SET, help::SET_EXAMPLE);
+    let command = with(Ok(command), needed(alloc, "file", "FILE", help::SET_FILE));
+    let command = with(command, unset(alloc, "vid", help::ADD_VID));
+    let command = with(command, unset(alloc, "pid", help::ADD_PID));
+    let command = with(command, unset(alloc, "did", help::ADD_DID));
     explained(alloc, command)
 }
 
@@ -159,7 +199,7 @@ fn show_command<'a>(alloc: Global) -> Result<Command<'a>, AllocError>
 {
     let command = described(alloc, "show", help::SHOW, help::SHOW_EXAMPLE);
     let command = with(Ok(command), needed(alloc, "kind", "KIND", help::SHOW_KIND));
-    let command = with(command, needed(alloc, "hex", "HEX", help::SHOW_HEX));
+    let command = with(command, repeated(alloc, "hex", "HEX", help::SHOW_HEX));
     explained(alloc, command)
 }
 
@@ -219,6 +259,8 @@ pub(crate) fn dfu_command<'a>(alloc: Global) -> Result<Command<'a>, AllocError>
 {
     let command = with_sub(top_command(alloc), check_command(alloc));
     let command = with_sub(command, add_command(alloc));
+    let command = with_sub(command, extract_command(alloc));
+    let command = with_sub(command, set_command(alloc));
     let command = with_sub(command, show_command(alloc));
     let command = with_sub(command, run_command(alloc));
     with_sub(command, judge_command(alloc))

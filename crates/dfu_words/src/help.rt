@@ -38,9 +38,30 @@ pub(crate) const ADD_PID: &str = "Product: four hexadecimal digits, as 0001; fff
 
 pub(crate) const ADD_DID: &str = "Device release: four hexadecimal digits, as 0100";
 
+pub(crate) const ADD_FORMAT: &str =
+    "Format of FILE; raw without it, or auto, ihex, srec, uf2 or elf";
+
+pub(crate) const ADD_FILL: &str = "Byte for the gaps of an image; two hexadecimal digits, as ff";
+
 pub(crate) const ADD_EXAMPLE: &str = "\
+Examples:
+  dfu add firmware.bin firmware.dfu --vid 1209 --pid 0001 --did 0100
+  dfu add firmware.hex firmware.dfu --format auto --fill ff";
+
+pub(crate) const EXTRACT: &str =
+    "Write the payload of a DFU file, without its suffix, to a new file";
+
+pub(crate) const EXTRACT_EXAMPLE: &str = "\
 Example:
-  dfu add firmware.bin firmware.dfu --vid 1209 --pid 0001 --did 0100";
+  dfu extract firmware.dfu firmware.bin";
+
+pub(crate) const SET: &str = "Change the identifiers of a DFU file in place";
+
+pub(crate) const SET_FILE: &str = "The file; it can't be -";
+
+pub(crate) const SET_EXAMPLE: &str = "\
+Example:
+  dfu set firmware.dfu --vid 1209 --pid 0001";
 
 pub(crate) const SHOW: &str = "Print the fields of bytes that go over the wire";
 

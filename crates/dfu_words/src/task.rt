@@ -3,10 +3,10 @@
 /// What is to be done, with the texts of the words or their defaults.
 #[derive(Debug, Drop)]
 pub enum Job {
-    /// Check a file, or standard input where `file` is `-`.
+    /// Check each file, or standard input where it is `-`.
     Check {
-        /// FILE.
-        file: String,
+        /// Each FILE, one at least.
+        files: Vec<String>,
     },
     /// Write a file and a suffix for it.
     Add {
@@ -20,13 +20,35 @@ pub enum Job {
         pid: String,
         /// bcdDevice, four hexadecimal digits.
         did: String,
+        /// The format of FILE; none without `--format`.
+        format: Option<String>,
+        /// The byte for gaps, two hexadecimal digits; none without `--fill`.
+        fill: Option<String>,
+    },
+    /// Write the payload of a file.
+    Extract {
+        /// FILE.
+        file: String,
+        /// OUT.
+        to: String,
+    },
+    /// Change the identifiers of a file; those without an option stay.
+    Change {
+        /// FILE.
+        file: String,
+        /// idVendor, four hexadecimal digits.
+        vid: Option<String>,
+        /// idProduct, four hexadecimal digits.
+        pid: Option<String>,
+        /// bcdDevice, four hexadecimal digits.
+        did: Option<String>,
     },
     /// Show the fields of bytes.
     Show {
         /// KIND: `functional`, `status`, `state`, `setup` or `configuration`.
         kind: String,
-        /// HEX: the bytes, two hexadecimal digits each.
-        hex: String,
+        /// Each HEX, one at least: the bytes, two hexadecimal digits each.
+        hex: Vec<String>,
     },
     /// Run a script, or that of standard input where `script` is `-`.
     Run {
@@ -37,10 +59,10 @@ pub enum Job {
         /// The file that FILE stands for, or standard input where it is `-`; none without `--file`.
         file: Option<String>,
     },
-    /// Judge a log or a capture, or that of standard input where `file` is `-`.
+    /// Judge each log or capture, or that of standard input where it is `-`.
     Judge {
-        /// FILE.
-        file: String,
+        /// Each FILE, one at least.
+        files: Vec<String>,
         /// The number of the DFU interface, in decimal digits.
         interface: String,
         /// BUS.DEVICE, or `only`.

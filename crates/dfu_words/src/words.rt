@@ -3,7 +3,7 @@
 ghost use Rattle.std.specs.Prelude.{◌≡◌, IfErr, IfOk, IfSome, Some, codes, is_some, map, true};
 ghost use Rattle.std.specs.Option.{option_map};
 ghost use Rattle.std.specs.String.{string_bytes};
-ghost use Rattle.clap.specs.Words.{HasKind, Kinds, first_of, found_of, has_subcommand, matches_of, rows_of, subcommand_of, subcommand_rows_of};
+ghost use Rattle.clap.specs.Words.{HasKind, Kinds, all_of, first_of, found_of, has_subcommand, matches_of, rows_of, subcommand_of, subcommand_rows_of};
 ghost use Rattle.dfu_words.specs.CommandLine.{asks_why, dfu_app, is_on, rows_in, States};
 ghost use Rattle.dfu_words.specs.Complete.{HasTexts, IsComplete, arguments_of};
 ghost use Rattle.dfu_words.specs.Refusals.{EndsBy, Tells, word_faults};
@@ -15,7 +15,7 @@ use clap::error::ErrorKind;
 use std::alloc::Global;
 
 /// The text of an argument.
-// Nine calls have it: once in the program is enough.
+// Many calls have it: once in the program is enough.
 #[inline(never)]
 fn text_of(alloc: Global, found: &ArgMatches<'_>, id: &str) -> Result<String, JobFault>
     requires there { is_some (first_of id.now (rows_of (found_of found.now))) ≡ true }
@@ -29,6 +29,28 @@ fn text_of(alloc: Global, found: &ArgMatches<'_>, id: &str) -> Result<String, Jo
         Ok(text) => Ok(text),
         Err(_) => Err(JobFault::NoMemory),
     }
+}
+
+/// The texts of an argument, of which there is one at least.
+#[inline(never)]
+fn texts_of(alloc: Global, found: &ArgMatches<'_>, id: &str) -> Result<Vec<String>, JobFault>
+    requires there { is_some (first_of id.now (rows_of (found_of found.now))) ≡ true }
+    ensures memory { IfErr result (λ f. f ≡ JobFault.NoMemory) }
+    ensures texts { IfOk result (λ t. all_of id.now (rows_of (found_of found.now)) ≡ Some (map string_bytes t.items)) }
+{
+    let Some(values) = found.get_strs(id) else {
+        unreachable!()
+    };
+    let mut texts: Vec<String> = Vec::new(alloc);
+    for value in values {
+        let Ok(text) = String::from_str(alloc, value) else {
+            return Err(JobFault::NoMemory);
+        };
+        if texts.push(text).is_err() {
+            return Err(JobFault::NoMemory);
+        }
+    }
+    Ok(texts)
 }
 
 /// The text of an option, where it was given.
@@ -88,8 +110,8 @@ fn check_job(alloc: Global, found: &ArgMatches<'_>) -> Result<Job, JobFault>
     ensures job { IfOk result (λ j. States (Some (codes "check", rows_of (found_of found.now))) j) }
     ensures memory { IfErr result (λ f. f ≡ JobFault.NoMemory) }
 {
-    let file = text_of(alloc, found, "file")?;
-    Ok(Job::Check { file })
+    let files = texts_of(alloc, found, "file")?;
+    Ok(Job::Check { files })
 }
 
 fn add_job(alloc: Global, found: &ArgMatches<'_>) -> Result<Job, JobFault>
@@ -102,9 +124,40 @@ fn add_job(alloc: Global, found: &ArgMatches<'_>) -> Result<Job, JobFault>
     let vid = text_of(alloc, found, "vid")?;
     let pid = text_of(alloc, found, "pid")?;
     let did = text_of(alloc, found, "did")?;
+    let format = text_if(alloc, found, "format")?;
+    let fill = text_if(alloc, found, "fill")?;
     Ok(Job::Add {
         file,
         to,
+        vid,
+        pid,
+        did,
+        format,
+        fill,
+    })
+}
+
+fn extract_job(alloc: Global, found: &ArgMatches<'_>) -> Result<Job, JobFault>
+    requires texts { HasTexts (arguments_of (codes "extract")) (rows_of (found_of found.now)) }
+    ensures job { IfOk result (λ j. States (Some (codes "extract", rows_of (found_of found.now))) j) }
+    ensures memory { IfErr result (λ f. f ≡ JobFault.NoMemory) }
+{
+    let file = text_of(alloc, found, "file")?;
+    let out = text_of(alloc, found, "to")?;
+    Ok(Job::Extract { file, to: out })
+}
+
+fn set_job(alloc: Global, found: &ArgMatches<'_>) -> Result<Job, JobFault>
+    requires texts { HasTexts (arguments_of (codes "set")) (rows_of (found_of found.now)) }
+    ensures job { IfOk result (λ j. States (Some (codes "set", rows_of (found_of found.now))) j) }
+    ensures memory { IfErr result (λ f. f ≡ JobFault.NoMemory) }
+{
+    let file = text_of(alloc, found, "file")?;
+    let vid = text_if(alloc, found, "vid")?;
+    let pid = text_if(alloc, found, "pid")?;
+    let did = text_if(alloc, found, "did")?;
+    Ok(Job::Change {
+        file,
         vid,
         pid,
         did,
@@ -117,7 +170,7 @@ fn show_job(alloc: Global, found: &ArgMatches<'_>) -> Result<Job, JobFault>
     ensures memory { IfErr result (λ f. f ≡ JobFault.NoMemory) }
 {
     let kind = text_of(alloc, found, "kind")?;
-    let hex = text_of(alloc, found, "hex")?;
+    let hex = texts_of(alloc, found, "hex")?;
     Ok(Job::Show { kind, hex })
 }
 
@@ -141,11 +194,11 @@ fn judge_job(alloc: Global, found: &ArgMatches<'_>) -> Result<Job, JobFault>
     ensures job { IfOk result (λ j. States (Some (codes "judge", rows_of (found_of found.now))) j) }
     ensures memory { IfErr result (λ f. f ≡ JobFault.NoMemory) }
 {
-    let file = text_of(alloc, found, "file")?;
+    let files = texts_of(alloc, found, "file")?;
     let interface = text_of(alloc, found, "interface")?;
     let device = text_of(alloc, found, "device")?;
     Ok(Job::Judge {
-        file,
+        files,
         interface,
         device,
     })
@@ -159,6 +212,8 @@ fn named_job(alloc: Global, name: &str, found: &ArgMatches<'_>) -> Result<Job, J
     match name {
         "check" => check_job(alloc, found),
         "add" => add_job(alloc, found),
+        "extract" => extract_job(alloc, found),
+        "set" => set_job(alloc, found),
         "show" => show_job(alloc, found),
         "run" => run_job(alloc, found),
         "judge" => judge_job(alloc, found),

@@ -22,6 +22,28 @@ fn joined(alloc: Global, texts: &[&str]) -> Result<String, AllocError> {
     Ok(line)
 }
 
+/// Texts of one argument in words, behind the command.
+fn list_told(alloc: Global, command: &str, texts: &[String]) -> Result<String, AllocError> {
+    let mut line = joined(alloc, &[command])?;
+    for text in texts {
+        line.push_str(text)?;
+        line.push_str(";")?;
+    }
+    Ok(line)
+}
+
+/// Options that may be left out in words.
+fn push_options(line: &mut String, options: &[&Option<String>]) -> Result<(), AllocError> {
+    for option in options {
+        line.push_str(match option {
+            Some(text) => text,
+            None => "none",
+        })?;
+        line.push_str(";")?;
+    }
+    Ok(())
+}
+
 /// A run of a script in words.
 fn run_told(
     alloc: Global,
@@ -40,28 +62,61 @@ fn run_told(
     Ok(line)
 }
 
-/// A job in words.
-fn told(alloc: Global, job: Job) -> Result<String, AllocError> {
+/// A job that makes a file in words.
+fn made_told(alloc: Global, job: Job) -> Result<String, AllocError> {
     match job {
-        Job::Check { file } => joined(alloc, &["check", &file]),
         Job::Add {
             file,
             to,
             vid,
             pid,
             did,
-        } => joined(alloc, &["add", &file, &to, &vid, &pid, &did]),
-        Job::Show { kind, hex } => joined(alloc, &["show", &kind, &hex]),
+            format,
+            fill,
+        } => {
+            let mut line = joined(alloc, &["add", &file, &to, &vid, &pid, &did])?;
+            push_options(&mut line, &[&format, &fill])?;
+            Ok(line)
+        }
+        Job::Extract { file, to } => joined(alloc, &["extract", &file, &to]),
+        Job::Change {
+            file,
+            vid,
+            pid,
+            did,
+        } => {
+            let mut line = joined(alloc, &["set", &file])?;
+            push_options(&mut line, &[&vid, &pid, &did])?;
+            Ok(line)
+        }
+        _ => joined(alloc, &["none"]),
+    }
+}
+
+/// A job in words.
+fn told(alloc: Global, job: Job) -> Result<String, AllocError> {
+    match job {
+        Job::Check { files } => list_told(alloc, "check", &files),
+        Job::Show { kind, hex } => {
+            let mut line = joined(alloc, &["show", &kind])?;
+            line.push_str(&list_told(alloc, "hex", &hex)?)?;
+            Ok(line)
+        }
         Job::Run {
             script,
             trace,
             file,
         } => run_told(alloc, &script, trace, &file),
         Job::Judge {
-            file,
+            files,
             interface,
             device,
-        } => joined(alloc, &["judge", &file, &interface, &device]),
+        } => {
+            let mut line = list_told(alloc, "judge", &files)?;
+            line.push_str(&joined(alloc, &[&interface, &device])?)?;
+            Ok(line)
+        }
+        job => made_told(alloc, job),
     }
 }
 
@@ -86,11 +141,32 @@ fn outcome(alloc: Global, line: &str) -> Result<String, AllocError> {
 }
 
 /// Words, and the job that they are.
-static JOBS: [(&str, &str); 28] = [
-    ("dfu add a b --pid 0001", "add;a;b;ffff;0001;ffff;"),
-    ("dfu add a b --did 1 --vid=2", "add;a;b;2;ffff;1;"),
+static JOBS: [(&str, &str); 44] = [
+    (
+        "dfu add a b --pid 0001",
+        "add;a;b;ffff;0001;ffff;none;none;",
+    ),
+    ("dfu add a b --did 1 --vid=2", "add;a;b;2;ffff;1;none;none;"),
+    (
+        "dfu add a b --fill ff --format=auto",
+        "add;a;b;ffff;ffff;ffff;auto;ff;",
+    ),
+    ("dfu add a b --format", "words 2"),
+    ("dfu add a b --fill 0 --fill 1", "words 2"),
     ("dfu check -", "check;-;"),
-    ("dfu show status 00", "show;status;00;"),
+    ("dfu check a b c", "check;a;b;c;"),
+    ("dfu check a --explain b", "check;a;b;"),
+    ("dfu check a --fill ff", "words 2"),
+    ("dfu extract a b", "extract;a;b;"),
+    ("dfu extract a", "words 2"),
+    ("dfu extract a b c", "words 2"),
+    ("dfu set a --vid 1", "set;a;1;none;none;"),
+    ("dfu set --did=1 a --pid 2", "set;a;none;2;1;"),
+    ("dfu set a", "set;a;none;none;none;"),
+    ("dfu set a b", "words 2"),
+    ("dfu show status 00", "show;status;hex;00;"),
+    ("dfu show status 00 05", "show;status;hex;00;05;"),
+    ("dfu show status", "words 2"),
     ("dfu run -", "run;-;"),
     ("dfu run --trace a", "run;a;traced;"),
     ("dfu run a --file b", "run;a;b;"),
@@ -100,7 +176,8 @@ static JOBS: [(&str, &str); 28] = [
     ("dfu judge", "judge;-;0;only;"),
     ("dfu judge a --interface 2", "judge;a;2;only;"),
     ("dfu judge --device=1.7 a", "judge;a;0;1.7;"),
-    ("dfu judge a b", "words 2"),
+    ("dfu judge a b", "judge;a;b;0;only;"),
+    ("dfu judge a b --device 1.2 c", "judge;a;b;c;0;1.2;"),
     ("dfu", "words 2"),
     ("dfu check", "words 2"),
     ("dfu add a", "words 2"),

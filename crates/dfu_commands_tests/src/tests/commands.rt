@@ -6,10 +6,26 @@ use std::test::Fail;
 
 /// Words, what is printed, the calls that are made, and the end.
 #[rattlefmt::skip]
-static READ: [(&str, &str, &str, u8); 20] = [
+static READ: [(&str, &str, &str, u8); 36] = [
     ("dfu check a", "ok payload 4 suffix 16 device ffff product ffff vendor ffff dfu 0100 crc 0c51c871\n", "open a;", 0),
     ("dfu check -", "refused TooShort\n", "", 1),
     ("dfu check c", "fault Read\n", "open c;", 3),
+    ("dfu check a -", "a: ok payload 4 suffix 16 device ffff product ffff vendor ffff dfu 0100 crc 0c51c871\n-: refused TooShort\n", "open a;", 1),
+    ("dfu check c - a", "c: fault Read\n-: refused TooShort\na: ok payload 4 suffix 16 device ffff product ffff vendor ffff dfu 0100 crc 0c51c871\n", "open c;open a;", 3),
+    ("dfu extract - b", "refused TooShort\n", "", 1),
+    ("dfu extract c b", "fault Read\n", "open c;", 3),
+    ("dfu extract a -", "bad words\n", "", 2),
+    ("dfu set a", "bad words\n", "", 2),
+    ("dfu set - --vid 1209", "bad words\n", "", 2),
+    ("dfu set a --vid 12", "bad words\n", "", 2),
+    ("dfu set c --vid 1209", "fault Read\n", "open c;", 3),
+    ("dfu add - b --format bin", "bad words\n", "", 2),
+    ("dfu add - b --fill ff", "bad words\n", "", 2),
+    ("dfu add - b --fill ff --format raw", "bad words\n", "", 2),
+    ("dfu add - b --fill f --format auto", "bad words\n", "", 2),
+    ("dfu add - b --format uf2", "refused BadSize\n", "", 1),
+    ("dfu add - b --format ihex", "refused NoMark 1\n", "", 1),
+    ("dfu judge - a", "-: refused BadLine 1\na: refused BadLine 1\n", "open a;", 1),
     ("dfu run a", "refused BadLine 1\n", "open a;", 1),
     ("dfu run -", "state appIDLE status OK image 00\nimage 00\n", "", 0),
     ("dfu run c", "fault Read\n", "open c;", 3),

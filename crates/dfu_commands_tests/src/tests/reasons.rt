@@ -45,7 +45,7 @@ static SAID: [(&str, &str, (u8, &str, &str)); 15] = [
     ("dfu add a b", "sync", (3, "fault Write\n", "dfu: b: permission denied\n")),
     ("dfu add a b", "rename", (3, "fault Write\n", "dfu: b: permission denied\n")),
     ("dfu add a b", "", (0, "wrote 25\n", "")),
-    ("dfu check a", "", (1, "refused TooShort\n", "")),
+    ("dfu check a", "", (1, "refused TooShort\n", "dfu: a: it has under 16 bytes, and so no suffix; dfu add gives a raw image one\n")),
     ("dfu run -", "", (1, "state appIDLE status OK image 00\nrefused BadLine 2\n", BAD_LINE)),
     ("dfu judge -", "", (1, "refused BadLine 1\n", BAD_SETUP)),
     ("dfu judge - --interface 256", "", (2, "bad words\n", "dfu: --interface 256: it has to be a number from 0 to 255\n")),

@@ -7,4 +7,6 @@ returns-clause-app c =
     let e3 = c.with-command-3.ensures.app _ _ e2 c.option.ensures.rule in
     let e4 = c.with-command-4.ensures.app _ _ e3 c.option-2.ensures.rule in
     let e5 = c.with-command-5.ensures.app _ _ e4 c.option-3.ensures.rule in
-    c.explained.ensures.app _ e5
+    let e6 = c.with-command-6.ensures.app _ _ e5 c.unset.ensures.rule in
+    let e7 = c.with-command-7.ensures.app _ _ e6 c.unset-2.ensures.rule in
+    c.explained.ensures.app _ e7

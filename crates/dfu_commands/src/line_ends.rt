@@ -1,0 +1,125 @@
+//! Logs whose lines end as those of Windows do.
+
+ghost use Rattle.std.specs.Prelude.{◌≤◌, length, IfOk};
+
+use std::io::{self, Read};
+
+/// How many bytes are read at a time.
+const PIECE: usize = 4096;
+
+/// A reader in which a line feed stands for a carriage return and a line feed. Another carriage return stays.
+#[derive(Drop)]
+pub(crate) struct LineEnds<R> {
+    reader: R,
+    piece: [u8; PIECE],
+    from: usize,
+    to: usize,
+    // A carriage return was read, and nothing behind it.
+    is_returned: bool,
+    is_ended: bool,
+}
+
+impl<R> LineEnds<R> {
+    /// A reader of which nothing was read.
+    pub(crate) fn new(reader: R) -> LineEnds<R> {
+        LineEnds {
+            reader,
+            piece: [0; PIECE],
+            from: 0,
+            to: 0,
+            is_returned: false,
+            is_ended: false,
+        }
+    }
+
+    /// The next byte at hand, if any, which stays there.
+    fn ahead(&self) -> Option<u8> {
+        if self.from < self.to {
+            self.piece.get(self.from).copied()
+        } else {
+            None
+        }
+    }
+
+    /// The next byte to give, if it is known.
+    fn next(&mut self) -> Option<u8> {
+        let ahead = self.ahead();
+        if self.is_returned {
+            return match ahead {
+                Some(b'\n') => {
+                    self.is_returned = false;
+                    self.from = self.from.saturating_add(1);
+                    Some(b'\n')
+                }
+                Some(_) => {
+                    self.is_returned = false;
+                    Some(b'\r')
+                }
+                None if self.is_ended => {
+                    self.is_returned = false;
+                    Some(b'\r')
+                }
+                None => None,
+            };
+        }
+        let byte = ahead?;
+        self.from = self.from.saturating_add(1);
+        if byte == b'\r' {
+            self.is_returned = true;
+            return self.next_behind();
+        }
+        Some(byte)
+    }
+
+    /// The byte to give where a carriage return was read.
+    fn next_behind(&mut self) -> Option<u8> {
+        match self.ahead() {
+            Some(b'\n') => {
+                self.is_returned = false;
+                self.from = self.from.saturating_add(1);
+                Some(b'\n')
+            }
+            Some(_) => {
+                self.is_returned = false;
+                Some(b'\r')
+            }
+            None => None,
+        }
+    }
+}
+
+impl<R: Read> LineEnds<R> {
+    /// Has bytes at hand, unless the reader has none left.
+    fn fill(&mut self) -> io::Result<()> {
+        if self.from < self.to || self.is_ended {
+            return Ok(());
+        }
+        self.from = 0;
+        self.to = 0;
+        let count = self.reader.read(&mut self.piece)?;
+        self.to = count;
+        self.is_ended = count == 0;
+        Ok(())
+    }
+}
+
+impl<R: Read> Read for LineEnds<R> {
+    fn read(&mut self, buf: &mut [u8]) -> io::Result<usize> {
+        let mut count = 0usize;
+        // A carriage return at the end of what was read needs one reading more.
+        for _turn in 0..3 {
+            if count > 0 {
+                break;
+            }
+            self.fill()?;
+            for slot in buf.iter_mut() {
+                match self.next() {
+                    Some(byte) => *slot = byte,
+                    None => break,
+                }
+                count = count.saturating_add(1);
+            }
+        }
+        Ok(count.min(buf.len()))
+    }
+}

@@ -1,0 +1,37 @@
+//! The answers where a file can't be read, or is refused.
+
+use crate::noting::Noting;
+use crate::reasons::{error_reason, given_reason};
+use dfu_suffix::{GatherFault, SuffixFault};
+use dfu_text::{Answer, fault_text};
+use std::io;
+
+/// The answer where a file can't be opened for reading.
+pub(crate) fn unread<R: Print + AllocGlobal>(rt: &R, file: &str, error: &io::Error) -> Answer {
+    Answer {
+        exit: fault_text(SuffixFault::Read, &mut io::writer(rt)),
+        reason: error_reason(rt.alloc(), file, error),
+    }
+}
+
+/// The answer where what was read of a file is refused.
+pub(crate) fn refused<R: Print + AllocGlobal, S>(
+    rt: &R,
+    file: &str,
+    fault: SuffixFault,
+    noting: &Noting<S>,
+) -> Answer {
+    Answer {
+        exit: fault_text(fault, &mut io::writer(rt)),
+        reason: given_reason(rt.alloc(), file, fault, noting),
+    }
+}
+
+/// The fault of a file that wasn't read whole.
+pub fn gather_fault(fault: GatherFault) -> SuffixFault {
+    match fault {
+        GatherFault::TooLarge => SuffixFault::TooLarge,
+        GatherFault::NoMemory => SuffixFault::NoMemory,
+        GatherFault::Read => SuffixFault::Read,
+    }
+}

@@ -1,0 +1,13 @@
+//! The lines that `dfu add` prints for files that builds produce, and the words for their formats.
+#![tactic(auto)]
+
+mod asked;
+mod faults;
+mod lines;
+mod numbers;
+mod reasons;
+
+pub use asked::{Taken, fill_in, format_in};
+pub use faults::refused_line;
+pub use lines::{format_name, image_line};
+pub use reasons::{looks_like, why};

@@ -1,0 +1,77 @@
+//! One piece of a file, whatever its format is.
+
+ghost use Rattle.std.specs.Prelude.{IfOk, length, ◌≤◌};
+ghost use Rattle.dfu_images.specs.Elements.{AreApart, Lists};
+ghost use Rattle.dfu_images.specs.Making.{Makes, elements_in};
+
+use crate::element::Element;
+use crate::fault::ImageFault;
+use crate::format::Format;
+use crate::laying::{LayFault, lay, lowest};
+use crate::{elf, ihex, srec, uf2};
+use std::alloc::Global;
+use thiserror::Error;
+
+/// The bytes from the lowest address of a file to its highest one.
+#[derive(Debug, Drop)]
+pub struct Image {
+    /// The address of the first byte.
+    pub address: u32,
+    /// The bytes, of which there are 1 to 16,777,216.
+    pub bytes: Vec<u8>,
+}
+
+/// Why a file makes no image.
+#[derive(Clone, Copy, Debug, PartialEq, Eq, Error)]
+pub enum FileFault {
+    /// It can't be read.
+    #[error("{0}")]
+    Unread(ImageFault),
+    /// It has no byte for any address.
+    #[error("it has no bytes for an image")]
+    NoData,
+    /// Its elements make no piece.
+    #[error("{0}")]
+    Unlaid(LayFault),
+}
+
+/// The elements of a file of a format.
+fn elements_in(alloc: Global, format: Format, file: &[u8]) -> Result<Vec<Element>, ImageFault>
+    ensures value { Lists result (elements_in format file.now) }
+    ensures apart { IfOk result (λ v. AreApart 0 v.items) }
+{
+    match format {
+        Format::IntelHex => ihex::read(alloc, file),
+        Format::SRecord => srec::read(alloc, file),
+        Format::Uf2 => uf2::read(alloc, file),
+        Format::Elf => elf::read(alloc, file),
+    }
+}
+
+/// The image that a file of a format has, with gaps filled by a byte, if one is given.
+///
+/// # Errors
+///
+/// Unread with the first fault of the file; NoData if it has no bytes; Unlaid with why its elements make no piece.
+pub fn image_of(
+    alloc: Global,
+    format: Format,
+    fill: Option<u8>,
+    file: &[u8],
+) -> Result<Image, FileFault>
+    ensures value { Makes fill (elements_in format file.now) result }
+    ensures few { IfOk result (λ i. length i.bytes.items ≤ 16777216) }
+{
+    let elements = match elements_in(alloc, format, file) {
+        Ok(elements) => elements,
+        Err(fault) => return Err(FileFault::Unread(fault)),
+    };
+    if elements.is_empty() {
+        return Err(FileFault::NoData);
+    }
+    let address = lowest(&elements);
+    match lay(alloc, &elements, fill) {
+        Ok(bytes) => Ok(Image { address, bytes }),
+        Err(fault) => Err(FileFault::Unlaid(fault)),
+    }
+}

@@ -1,0 +1,46 @@
+//! The image of a file, whatever its format is.
+
+use dfu_images::{FileFault, Format, ImageFault, LayFault, image_of};
+use std::test::Fail;
+
+/// Two bytes at 08000000h, and one at 08000003h.
+const GAPPED: &'static str = ":020000040800F2\n:020000000102FB\n:0100030003F9\n:00000001FF";
+
+#[test]
+fn images(rt: HostRuntime) -> Result<(), Fail> {
+    let image = image_of(rt.alloc(), Format::IntelHex, Some(0xa5), GAPPED.as_bytes())?;
+    assert_eq!(rt; image.address, 0x0800_0000);
+    assert_eq!(rt; image.bytes.as_slice(), [1, 2, 0xa5, 3].as_slice());
+    let image = image_of(rt.alloc(), Format::SRecord, None, b"S1060010AABBCC B8").err();
+    assert_eq!(rt; image, Some(FileFault::Unread(ImageFault::BadDigit(1))));
+    Ok(())
+}
+
+/// A format, a file, and why it makes no image.
+static FAULTS: [(Format, &'static str, FileFault); 6] = [
+    (
+        Format::IntelHex,
+        GAPPED,
+        FileFault::Unlaid(LayFault::Gap(0x0800_0002, 0x0800_0003)),
+    ),
+    (Format::IntelHex, ":00000001FF", FileFault::NoData),
+    (Format::IntelHex, "", FileFault::Unread(ImageFault::NoEnd)),
+    (
+        Format::SRecord,
+        GAPPED,
+        FileFault::Unread(ImageFault::NoMark(1)),
+    ),
+    (Format::Uf2, GAPPED, FileFault::Unread(ImageFault::BadSize)),
+    (Format::Elf, GAPPED, FileFault::Unread(ImageFault::NotElf)),
+];
+
+#[test]
+fn faults(rt: HostRuntime) -> Result<(), Fail> {
+    for (format, file, fault) in &FAULTS {
+        let answer = image_of(rt.alloc(), *format, None, file.as_bytes());
+        assert_eq!(rt; answer.err(), Some(*fault));
+    }
+    let text = format!(in rt.alloc(); "{}", FileFault::Unread(ImageFault::NoMark(1)))?;
+    assert_eq!(rt; text.as_str(), "line 1: no record begins so");
+    Ok(())
+}

@@ -1,0 +1,15 @@
+-- The texts of an argument that may be there more often than once.
+use Rattle.std.proofs.Common.{◌≡◌, refl, List, Option, None, Some}
+use Rattle.std.specs.List.{find}
+use Rattle.std.specs.Prelude.{slice_get}
+use Rattle.std.specs.Option.{option_and_then, option_map}
+use Rattle.std.specs.Str.{bytes_eq}
+use Rattle.clap.specs.Words.{Row, Text, all_of, first_of}
+
+-- An argument with no row has no first text.
+pub none_first : (id : Text) (rows : List Row) → all_of id rows ≡ None → first_of id rows ≡ None
+none_first id rows none = go (find (λ r. bytes_eq r.id id) rows) none
+  where
+    go : (o : Option Row) → option_map (λ (r : Row). r.values) o ≡ None → option_and_then (λ (r : Row). slice_get r.values 0) o ≡ None
+    go None none = refl
+    go (Some r) none = cc
