@@ -4,7 +4,7 @@
 #   make check        the tests that need gcc, make and a shell; make check-all: each test whose commands are there
 #   make install      to PREFIX (/usr/local), or below DESTDIR; with UDEVDIR=/etc/udev/rules.d the rule for devices with DFU too
 #   make uninstall    takes away what make install puts there, and nothing else
-#   make libraries    the two libraries alone: make libraries CC=arm-none-eabi-gcc CFLAGS='-mcpu=cortex-m4 -mthumb' BUILD=build-m4
+#   make libraries    the libraries alone: make libraries CC=arm-none-eabi-gcc CFLAGS='-mcpu=cortex-m4 -mthumb' BUILD=build-m4
 #   make page         the page for browsers, in build/page
 #   make archive      the sources as build/fustrelan-VERSION.tar.gz
 #   make clean        takes away what make built
@@ -39,7 +39,7 @@ endif
 .SUFFIXES:
 .PHONY: all libraries page check check-all install uninstall archive clean FORCE
 
-libraries = $(BUILD)/libdfu_device.a $(BUILD)/libdfu_host.a
+libraries = $(BUILD)/libdfu_device.a $(BUILD)/libdfu_host.a $(BUILD)/libdfu_install.a
 programs = $(if $(has_code),$(BUILD)/dfu) $(if $(has_libusb),$(BUILD)/dfu-flash) $(if $(has_functionfs),$(BUILD)/dfu-gadget)
 
 all: libraries $$(programs)
@@ -95,7 +95,7 @@ endef
 of_dfu = $(objects)/dist/dfu.o $(objects)/dist/os.o
 of_flash = $(patsubst %.c,$(objects)/%.o,$(wildcard flash/*.c))
 of_gadget = $(patsubst %.c,$(objects)/%.o,$(wildcard gadget/*.c) flash/text.c flash/fresh.c)
-of_libraries = $(objects)/dist/dfu_device.o $(objects)/dist/dfu_host.o
+of_libraries = $(objects)/dist/dfu_device.o $(objects)/dist/dfu_host.o $(objects)/dist/dfu_install.o
 
 $(BUILD)/dfu: $(of_dfu) $(anew)
 	$(call program)

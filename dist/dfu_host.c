@@ -1,11 +1,11 @@
 /* SPDX-License-Identifier: MIT OR Apache-2.0
  *
- * The body of dfu_host.h: the host of USB DFU 1.1.
+ * The body of dfuse_host.h: the hosts of DfuSe, and of USB DFU 1.1 (dfu_host.h).
  *
  * Made by dist/make/library of the proved crate. Nobody edits it: change the crate, and make it anew by dist/generate. Compile it as C11
  * beside its header. Memory is arrays of bytes here, laid out as on a 64-bit processor with the low byte first: a size is a uint64_t,
  * and a pointer takes 8 bytes. */
-#include "dfu_host.h"
+#include "dfuse_host.h"
 
 #include <stddef.h>
 #include <stdint.h>
@@ -76,9 +76,57 @@ _Static_assert(offsetof(struct dfu_action, code) == 24, "another layout");
 _Static_assert(offsetof(struct dfu_action, setup) == 28, "another layout");
 _Static_assert(sizeof(struct dfu_action) == 40, "another layout");
 _Static_assert(_Alignof(struct dfu_action) == 8, "another layout");
+_Static_assert(offsetof(struct dfuse_map, name) == 0, "another layout");
+_Static_assert(offsetof(struct dfuse_map, ranges) == 8, "another layout");
+_Static_assert(sizeof(struct dfuse_map) == 16, "another layout");
+_Static_assert(_Alignof(struct dfuse_map) == 8, "another layout");
+_Static_assert(offsetof(struct dfuse_range, start) == 0, "another layout");
+_Static_assert(offsetof(struct dfuse_range, size) == 8, "another layout");
+_Static_assert(offsetof(struct dfuse_range, count) == 16, "another layout");
+_Static_assert(offsetof(struct dfuse_range, access) == 20, "another layout");
+_Static_assert(sizeof(struct dfuse_range) == 24, "another layout");
+_Static_assert(_Alignof(struct dfuse_range) == 8, "another layout");
+_Static_assert(offsetof(struct dfuse_element, address) == 0, "another layout");
+_Static_assert(offsetof(struct dfuse_element, bytes) == 8, "another layout");
+_Static_assert(offsetof(struct dfuse_element, length) == 16, "another layout");
+_Static_assert(sizeof(struct dfuse_element) == 24, "another layout");
+_Static_assert(_Alignof(struct dfuse_element) == 8, "another layout");
+_Static_assert(offsetof(struct dfuse_plan, start) == 0, "another layout");
+_Static_assert(offsetof(struct dfuse_plan, actions) == 4, "another layout");
+_Static_assert(offsetof(struct dfuse_plan, restarts) == 8, "another layout");
+_Static_assert(offsetof(struct dfuse_plan, transfer) == 10, "another layout");
+_Static_assert(offsetof(struct dfuse_plan, front) == 12, "another layout");
+_Static_assert(offsetof(struct dfuse_plan, leaves) == 14, "another layout");
+_Static_assert(sizeof(struct dfuse_plan) == 16, "another layout");
+_Static_assert(_Alignof(struct dfuse_plan) == 4, "another layout");
+_Static_assert(offsetof(struct dfuse_session, version) == 0, "another layout");
+_Static_assert(offsetof(struct dfuse_session, work) == 4, "another layout");
+_Static_assert(offsetof(struct dfuse_session, at) == 8, "another layout");
+_Static_assert(offsetof(struct dfuse_session, end) == 16, "another layout");
+_Static_assert(offsetof(struct dfuse_session, pointer) == 24, "another layout");
+_Static_assert(offsetof(struct dfuse_session, place) == 32, "another layout");
+_Static_assert(offsetof(struct dfuse_session, step) == 36, "another layout");
+_Static_assert(offsetof(struct dfuse_session, more) == 40, "another layout");
+_Static_assert(offsetof(struct dfuse_session, report) == 44, "another layout");
+_Static_assert(offsetof(struct dfuse_session, start) == 48, "another layout");
+_Static_assert(offsetof(struct dfuse_session, actions) == 52, "another layout");
+_Static_assert(offsetof(struct dfuse_session, restarts) == 56, "another layout");
+_Static_assert(offsetof(struct dfuse_session, transfer) == 58, "another layout");
+_Static_assert(offsetof(struct dfuse_session, front) == 60, "another layout");
+_Static_assert(offsetof(struct dfuse_session, leaves) == 62, "another layout");
+_Static_assert(sizeof(struct dfuse_session) == 64, "another layout");
+_Static_assert(_Alignof(struct dfuse_session) == 8, "another layout");
+_Static_assert(offsetof(struct dfuse_action, length) == 0, "another layout");
+_Static_assert(offsetof(struct dfuse_action, what) == 8, "another layout");
+_Static_assert(offsetof(struct dfuse_action, value) == 12, "another layout");
+_Static_assert(offsetof(struct dfuse_action, more) == 16, "another layout");
+_Static_assert(offsetof(struct dfuse_action, setup) == 20, "another layout");
+_Static_assert(sizeof(struct dfuse_action) == 32, "another layout");
+_Static_assert(_Alignof(struct dfuse_action) == 8, "another layout");
 
 struct i32_i32 { uint32_t a; uint32_t b; };
 struct i64_i1 { uint64_t a; uint8_t b; };
+struct i8_i64 { uint8_t a; uint64_t b; };
 struct ptr_i64 { unsigned char *a; uint64_t b; };
 
 static inline uint16_t load16(const unsigned char *p) { uint16_t x = 0; memcpy(&x, ALIGNED(p, 2), 2); return x; }
@@ -96,8 +144,10 @@ static inline void store32a2(unsigned char *p, uint32_t x) { memcpy(ALIGNED(p, 2
 static inline void store64(unsigned char *p, uint64_t x) { memcpy(ALIGNED(p, 8), &x, 8); }
 static inline void store64a4(unsigned char *p, uint64_t x) { memcpy(ALIGNED(p, 4), &x, 8); }
 static inline void store64u(unsigned char *p, uint64_t x) { memcpy(p, &x, 8); }
+static inline uint64_t uadd_sat64(uint64_t x, uint64_t y) { return (uint64_t)(x + y) < x ? (uint64_t)-1 : (uint64_t)(x + y); }
 static inline uint16_t umax16(uint16_t x, uint16_t y) { return x < y ? y : x; }
 static inline uint32_t umax32(uint32_t x, uint32_t y) { return x < y ? y : x; }
+static inline uint64_t umax64(uint64_t x, uint64_t y) { return x < y ? y : x; }
 static inline uint64_t umin64(uint64_t x, uint64_t y) { return x < y ? x : y; }
 static inline uint32_t usub_sat32(uint32_t x, uint32_t y) { return x < y ? 0 : (uint32_t)(x - y); }
 static inline uint64_t usub_sat64(uint64_t x, uint64_t y) { return x < y ? 0 : (uint64_t)(x - y); }
@@ -126,6 +176,10 @@ static _Alignas(8) const uint64_t switch_table_dfu_host_name_1[11] = {
     9, 0x15, 0x1d, 0x25, 0x2d, 0x3c, 0x45, 0x55, 0x5f, 0x68, 0x72
 };
 
+static void dfuse_memory_map_Map_read(unsigned char *a0, unsigned char *a1, uint64_t a2);
+static void dfuse_memory_place_take_address(unsigned char *a0, unsigned char *a1, uint64_t a2);
+static void dfuse_memory_digits_take_number(unsigned char *a0, uint64_t a1, uint64_t a2, unsigned char *a3, uint64_t a4);
+static uint64_t dfuse_memory_digits_digit_value(uint8_t a0);
 static void dfu_host_c_file_file_in(unsigned char *a0, unsigned char *a1, uint64_t a2);
 static void core_slice_edits_slice_T_copy_from_slice_i8_core_clone_U8Clone(unsigned char *a0, unsigned char *a2, uint64_t a3);
 static void dfu_host_c_reports_report_at(unsigned char *a0, uint64_t a1, uint32_t a2);
@@ -135,20 +189,504 @@ static struct i32_i32 dfu_host_c_reports_report_numbers(uint8_t a0, uint8_t a1);
 static struct ptr_i64 dfu_host_task_Task_block(unsigned char *a0, uint64_t a1);
 static void dfu_host_asking_download(unsigned char *a0, uint64_t a1, unsigned char *a2, uint64_t a3);
 static void dfu_host_asking_send(unsigned char *a0, unsigned char *a1, unsigned char *a2, uint64_t a3);
+static void dfu_wire_requests_Request_setup(unsigned char *a0, unsigned char *a1);
+static void dfu_wire_setups_Setup_encode(unsigned char *a0, unsigned char *a1);
 static void dfu_wire_bytes_two_bytes(unsigned char *a0, uint16_t a1);
 static void dfu_host_c_beginning_read_both(unsigned char *a0, unsigned char *a1, uint64_t a2, unsigned char *a3, uint64_t a4);
 static void dfu_wire_functionals_Functional_decode(unsigned char *a0, unsigned char *a1, uint64_t a2);
 static void dfu_host_refusing_payload_for(unsigned char *a0, unsigned char *a1, unsigned char *a2, unsigned char *a3);
 static void dfu_host_c_beginning_start(unsigned char *a0, unsigned char *a1);
 static void dfu_host_session_Session_told(unsigned char *a0, unsigned char *a1, uint8_t a2);
+static void dfu_wire_statuses_Status_decode(unsigned char *a0, unsigned char *a1, uint64_t a2);
 static uint8_t core_slice_scan_any_in_ends(unsigned char *a0, uint64_t a1, uint64_t a2);
 static uint64_t core_slice_scan_skip_groups(unsigned char *a0, uint64_t a1, uint64_t a2, uint64_t a3);
+static uint8_t core_slice_scan_any_by_one(unsigned char *a0, uint64_t a1);
 static uint8_t core_slice_scan_any_in_run(unsigned char *a0, uint64_t a1, uint64_t a2);
 static uint8_t core_cmp_slices_groups_equal_i8_core_cmp_numbers_U8PartialEq(unsigned char *a0, uint64_t a1, unsigned char *a2, uint64_t a3);
 static void dfu_host_progress_Progress_restarted(unsigned char *a0, unsigned char *a1);
 static void dfu_host_progress_Progress_spent(unsigned char *a0, unsigned char *a1, unsigned char *a2, uint16_t a3);
 static void dfu_host_task_Task_listed(unsigned char *a0, unsigned char *a1, unsigned char *a2);
 static void dfu_host_task_Task_troubled(unsigned char *a0, unsigned char *a1, unsigned char *a2);
+static void dfu_host_c_dfuse_holding_map_of(unsigned char *a0, unsigned char *a1, uint64_t a2);
+static void dfu_host_c_dfuse_holding_session_of(unsigned char *a0, unsigned char *a1, unsigned char *a2, unsigned char *a3, uint64_t a4);
+static void dfuse_host_asking_ask(unsigned char *a0, unsigned char *a1);
+static void dfuse_host_asking_setup_of(unsigned char *a0, unsigned char *a1);
+static struct i8_i64 dfuse_host_plan_Plan_command_of(unsigned char *a0, unsigned char *a1, uint8_t a2, uint64_t a3);
+static uint64_t dfuse_host_plan_Plan_page_start(unsigned char *a0, uint64_t a1);
+static void dfuse_host_plan_Plan_page_of(unsigned char *a0, unsigned char *a1, uint64_t a2);
+static void dfuse_memory_lookups_range_at(unsigned char *a0, uint64_t a1, unsigned char *a2, uint64_t a3);
+static void dfuse_host_asking_address_command(unsigned char *a0, uint8_t a1, uint64_t a2);
+static uint64_t dfuse_host_plan_Plan_end_of_work(unsigned char *a0, unsigned char *a1);
+static uint64_t dfuse_host_image_image_end(unsigned char *a0, uint64_t a1);
+static uint64_t dfuse_host_plan_Plan_front_end(unsigned char *a0);
+static uint64_t dfuse_host_plan_Plan_element_end(unsigned char *a0, uint64_t a1);
+static void dfuse_host_image_element_at(unsigned char *a0, uint64_t a1, unsigned char *a2, uint64_t a3);
+static uint64_t dfuse_host_plan_Plan_page_end(unsigned char *a0, uint64_t a1);
+static uint64_t dfuse_host_plan_Plan_write_end(unsigned char *a0, uint64_t a1, uint64_t a2);
+static struct ptr_i64 dfuse_host_plan_Plan_bytes_in(unsigned char *a0, uint64_t a1, uint64_t a2);
+static struct ptr_i64 dfuse_host_plan_Plan_read_bytes(unsigned char *a0, unsigned char *a1);
+static uint64_t dfuse_host_plan_Plan_read_end(unsigned char *a0, uint64_t a1, uint64_t a2);
+static void dfuse_host_asking_download(unsigned char *a0, unsigned char *a1, uint64_t a2);
+static uint32_t dfu_host_c_dfuse_action_send(unsigned char *a0, unsigned char *a1, uint64_t a2, unsigned char *a3, uint64_t a4, unsigned char *a5);
+static struct i32_i32 dfu_host_c_dfuse_reports_report_numbers(uint8_t a0, uint8_t a1);
+static uint8_t dfuse_host_plan_Plan_grants(unsigned char *a0, unsigned char *a1);
+static void dfu_host_c_dfuse_holding_record_of(unsigned char *a0, unsigned char *a1);
+static void dfuse_host_session_Session_restarted_once(unsigned char *a0, unsigned char *a1, unsigned char *a2);
+static void dfuse_host_plan_Plan_unsure(unsigned char *a0, unsigned char *a1, unsigned char *a2, uint8_t a3);
+static void dfuse_host_plan_Plan_settle(unsigned char *a0, unsigned char *a1, unsigned char *a2, uint8_t a3, uint64_t a4);
+static void dfuse_host_plan_Plan_to_erase(unsigned char *a0, unsigned char *a1, uint8_t a2, uint64_t a3, uint64_t a4);
+static struct i8_i64 dfuse_host_plan_Plan_byte_in(unsigned char *a0, uint64_t a1, uint64_t a2);
+static void dfuse_host_plan_Plan_to_write(unsigned char *a0, unsigned char *a1, uint8_t a2, uint64_t a3, uint64_t a4, uint64_t a5);
+static void dfuse_host_plan_Plan_to_compare(unsigned char *a0, unsigned char *a1, uint8_t a2, uint64_t a3, uint64_t a4);
+static uint8_t dfuse_host_plan_Plan_comparing(unsigned char *a0, uint64_t a1, uint8_t a2, uint64_t a3);
+static void dfuse_host_plan_Plan_to_write_front(unsigned char *a0, unsigned char *a1, uint8_t a2, uint64_t a3, uint64_t a4);
+static void dfuse_host_plan_Plan_to_compare_front(unsigned char *a0, unsigned char *a1, uint8_t a2, uint64_t a3, uint64_t a4);
+static void dfuse_host_plan_Plan_unsure_of(unsigned char *a0, unsigned char *a1, unsigned char *a2, uint8_t a3, uint64_t a4);
+static void dfuse_host_session_Session_spent(unsigned char *a0, unsigned char *a1, unsigned char *a2, uint16_t a3);
+
+/* dfuse_memory::map::Map::read */
+static void dfuse_memory_map_Map_read(unsigned char *a0, unsigned char *a1, uint64_t a2) {
+    _Alignas(2) unsigned char r17_11[782];
+    _Alignas(8) unsigned char r3[776];
+    _Alignas(2) unsigned char r0_20_8[776];
+    _Alignas(8) unsigned char r9[776];
+    _Alignas(8) unsigned char r0_20[776];
+    _Alignas(8) unsigned char r1[768];
+    unsigned char *const r12 = r1;
+    unsigned char *const r4 = r1;
+    unsigned char *const r5 = r1;
+    _Alignas(8) unsigned char r14[32];
+    uint64_t r19, wide_950, r23, r3_0, r3_0_2, r4_0, r7_0_0_copyload, r7_3_0_copyload, r7_4_0_copyload, r2_0, r3_2, r5_0_0;
+    uint64_t r5_4_0, r4_0_2, r21, r3_4_0_copyload, r17, r3_4_0_copyload_2, r1_0, r19_3, r5_6_4_0_ph138, r5_6_1_0_ph137, r17_2, r21_2;
+    uint64_t r19_4, r8_17_0_0, r8_17_5_0, r8_13_0, r4_2, indvars_iv_in, r4_0_3, indvars_iv, r51, r19_5, r3_0_3, r9_2;
+    uint64_t r11_2, r3_0_lcssa, r0_131_0, r0_19_0;
+    unsigned char *r16, *r4_0_0_in, *r11_3_0_r3_sroa_idx, *r20, *r3_3_0_r27_sroa_idx, *r3_4_0_r27_sroa_idx, *r16_2, *r3_3_0_r23_sroa_idx, *r3_4_0_r23_sroa_idx, *r43, *r5_3_0_r43_sroa_idx, *r5_3_3_0_r5_3_0_r43_sroa_idx_sroa_idx;
+    unsigned char *r29_2, *r27_2, *r58139, *r16_4, *r17_11_8_r60_sroa_idx, *r26, *r16_5, *r10, *r14_2, *r23_2;
+    uint8_t r25_3, r25_4, r8_6_0, r17_6_0, r0_0_0, r0_7_0;
+    memset(r0_20_8, 0, 776);
+    if (a2 == 0) goto arm_2;
+    uint8_t r25 = *a1;
+    if (r25 != 64) goto arm_2;
+    r19 = a2 + 0xffffffffffffffffULL;
+    r16 = a1 + 1;
+    wide_950 = (uint64_t)(uintptr_t)r16;
+    r4_0_0_in = r16;
+    r23 = r19;
+    r3_0 = 0;
+loop_2:
+    if (r23 == 0) goto arm_2;
+    uint8_t r2 = *r4_0_0_in;
+    if (r2 == 47) {
+        r3_0_2 = 0;
+        r4_0 = 0;
+        goto loop_3;
+    }
+    r4_0_0_in = r4_0_0_in + 1;
+    r23 = r23 + 0xffffffffffffffffULL;
+    r3_0 = r3_0 + 1;
+    goto loop_2;
+loop_3:
+    if (r4_0 == r3_0) goto arm_1;
+    uint64_t r27 = r4_0 + 1;
+    uint8_t r29 = r16[(size_t)r4_0];
+    r3_0_2 = (uint64_t)((r29 == 32) ? r3_0_2 : r27);
+    r4_0 = r27;
+    goto loop_3;
+arm_1:;
+    uint64_t r47 = r3_0 + 1;
+    dfuse_memory_place_take_address(r14, r16 + (size_t)r47, r19 - r47);
+    uint8_t r45 = *r14;
+    if (r45 == 0) goto arm_5;
+    goto arm_6;
+arm_2:
+    memset(r0_20, 0, 776);
+    r0_0_0 = 1;
+    r0_7_0 = 0;
+    r0_131_0 = 0;
+    r0_19_0 = 0;
+    goto dfuse_memory_map_read_map_exit;
+arm_5:
+    r7_0_0_copyload = load64(r14 + 8);
+    r7_3_0_copyload = load64(r14 + 16);
+    r7_4_0_copyload = load64(r14 + 24);
+    memset(r1, 0, 768);
+    r2_0 = 0;
+loop_2_2:
+    if (r2_0 == 32) goto arrayvec_array_vec_ArrayVec_T_CAP_new_exit;
+    memset(r1 + (size_t)(r2_0 * 24), 0, 24);
+    r2_0 = r2_0 + 1;
+    goto loop_2_2;
+arrayvec_array_vec_ArrayVec_T_CAP_new_exit:
+    memcpy(r3, r1, 768);
+    r11_3_0_r3_sroa_idx = r3 + 768;
+    r20 = r5 + 8;
+    r3_3_0_r27_sroa_idx = r5 + 16;
+    r3_4_0_r27_sroa_idx = r5 + 24;
+    r16_2 = r4 + 8;
+    r3_3_0_r23_sroa_idx = r4 + 16;
+    r3_4_0_r23_sroa_idx = r4 + 24;
+    r43 = r12 + 8;
+    r5_3_0_r43_sroa_idx = r12 + 16;
+    r5_3_3_0_r5_3_0_r43_sroa_idx_sroa_idx = r12 + 24;
+    r3_2 = 0;
+    r5_0_0 = r7_3_0_copyload;
+    r5_4_0 = r7_4_0_copyload;
+    r4_0_2 = r7_0_0_copyload;
+loop_2_3:
+    dfuse_memory_digits_take_number(r5, 10, 5, (unsigned char *)(uintptr_t)r5_0_0, r5_4_0);
+    uint8_t r19_2 = *r5;
+    if (r19_2 != 1) goto arm_2_2;
+    r21 = load64(r20);
+    if (r21 == 0) goto arm_2_2;
+    uint64_t r3_3_0_copyload = load64(r3_3_0_r27_sroa_idx);
+    r3_4_0_copyload = load64(r3_4_0_r27_sroa_idx);
+    r29_2 = (unsigned char *)(uintptr_t)r3_3_0_copyload;
+    if (r3_4_0_copyload == 0) goto arm_2_2;
+    uint8_t r25_2 = *r29_2;
+    if (r25_2 != 42) goto arm_2_2;
+    dfuse_memory_digits_take_number(r4, 10, 5, r29_2 + 1, r3_4_0_copyload + 0xffffffffffffffffULL);
+    uint8_t r15 = *r4;
+    if (r15 != 1) goto arm_6_2;
+    r17 = load64(r16_2);
+    if (r17 == 0) goto arm_6_2;
+    uint64_t r3_3_0_copyload_2 = load64(r3_3_0_r23_sroa_idx);
+    r3_4_0_copyload_2 = load64(r3_4_0_r23_sroa_idx);
+    r27_2 = (unsigned char *)(uintptr_t)r3_3_0_copyload_2;
+    if (r3_4_0_copyload_2 != 0) goto arm_3;
+    r17_6_0 = 4;
+    goto arm_9;
+arm_3:
+    r25_3 = *r27_2;
+    switch (r25_3) {
+    case 75:
+        r1_0 = 1024;
+        goto arm_5_2;
+    case 77: goto arm_2_3;
+    case 32: goto arm_3_2;
+    case 66: goto arm_3_2;
+    default: goto arm_5_thread131;
+    }
+arm_5_thread131:
+    r25_4 = r25_3;
+    r58139 = r27_2;
+    r5_6_4_0_ph138 = r3_4_0_copyload_2;
+    r5_6_1_0_ph137 = r17;
+    goto arm_3_3;
+arm_2_3:
+    r1_0 = 0x100000U;
+    goto arm_5_2;
+arm_3_2:
+    r1_0 = 1;
+    goto arm_5_2;
+arm_2_2:
+    r17_6_0 = 2;
+    goto arm_9;
+arm_5_2:
+    r19_3 = r3_4_0_copyload_2 + 0xffffffffffffffffULL;
+    if (r19_3 == 0) {
+        r17_6_0 = 4;
+        goto arm_9;
+    }
+    unsigned char *r16_3 = r27_2 + 1;
+    uint8_t r25_pre = *r16_3;
+    r25_4 = r25_pre;
+    r58139 = r16_3;
+    r5_6_4_0_ph138 = r19_3;
+    r5_6_1_0_ph137 = r1_0 * r17;
+arm_3_3:
+    if ((uint8_t)(r25_4 + 159) < 7) goto arm_8;
+    r17_6_0 = 4;
+    goto arm_9;
+arm_6_2:
+    r17_6_0 = 3;
+    goto arm_9;
+arm_8:
+    if (((r5_6_1_0_ph137 * r21) + r4_0_2) > 0x100000000ULL) {
+        r17_6_0 = 5;
+        goto arm_9;
+    }
+    if (r3_2 == 32) {
+        r17_6_0 = 6;
+        goto arm_9;
+    }
+    unsigned char *r13 = r3 + (size_t)(r3_2 * 24);
+    store32(r13, (uint32_t)r4_0_2);
+    store32(r13 + 4, 0);
+    store64(r13 + 8, r5_6_1_0_ph137);
+    store32(r13 + 16, (uint32_t)r21);
+    r13[20] = r25_4 & 1;
+    r13[21] = (uint8_t)(r25_4 >> 1) & 1;
+    r13[22] = (uint8_t)(r25_4 >> 2) & 1;
+    r13[23] = 0;
+    r17_2 = r3_2 + 1;
+    store64(r11_3_0_r3_sroa_idx, r17_2);
+    r21_2 = (r5_6_1_0_ph137 * (r21 & 0xffffffffU)) + (r4_0_2 & 0xffffffffU);
+    if (r5_6_4_0_ph138 == 1) goto arm_8_2;
+    uint8_t r25_5 = r58139[1];
+    r16_4 = r58139 + 2;
+    r19_4 = r5_6_4_0_ph138 + 0xfffffffffffffffeULL;
+    switch (r25_5) {
+    case 44: goto arm_5_3;
+    case 47: goto arm_6_3;
+    default:
+        r8_6_0 = 7;
+        goto arm_11;
+    }
+arm_5_3:
+    r8_17_0_0 = (uint64_t)(uintptr_t)r16_4;
+    r8_17_5_0 = r19_4;
+    r8_13_0 = r21_2;
+    goto arm_14;
+arm_6_3:
+    dfuse_memory_place_take_address(r12, r16_4, r19_4);
+    uint8_t r42 = *r12;
+    if (r42 != 0) goto arm_10;
+    uint64_t r5_0_0_copyload = load64(r43);
+    uint64_t r5_3_0_0_copyload = load64(r5_3_0_r43_sroa_idx);
+    uint64_t r5_3_3_0_copyload = load64(r5_3_3_0_r5_3_0_r43_sroa_idx_sroa_idx);
+    r8_17_0_0 = r5_3_0_0_copyload;
+    r8_17_5_0 = r5_3_3_0_copyload;
+    r8_13_0 = r5_0_0_copyload;
+    goto arm_14;
+arm_10:;
+    uint8_t r6_0_0_copyload = r12[1];
+    r8_6_0 = r6_0_0_copyload;
+    goto arm_11;
+arm_14:
+    r3_2 = r17_2;
+    r5_0_0 = r8_17_0_0;
+    r5_4_0 = r8_17_5_0;
+    r4_0_2 = r8_13_0;
+    goto loop_2_3;
+arm_11:
+    r17_6_0 = r8_6_0;
+    goto arm_9;
+arm_6:;
+    uint8_t r8_0_0_copyload = r14[1];
+    memset(r0_20, 0, 776);
+    r0_0_0 = 1;
+    r0_7_0 = r8_0_0_copyload;
+    r0_131_0 = 0;
+    r0_19_0 = 0;
+    goto dfuse_memory_map_read_map_exit;
+arm_8_2:
+    r17_11_8_r60_sroa_idx = r17_11 + 6;
+    memcpy(r17_11_8_r60_sroa_idx, r3, 776);
+    memcpy(r9, r17_11_8_r60_sroa_idx, 776);
+    r4_2 = load64(r9 + 768);
+    indvars_iv_in = r4_2;
+    r4_0_3 = 0;
+loop_3_3:
+    indvars_iv = indvars_iv_in + 0xffffffffffffffffULL;
+    if (r4_0_3 == r4_2) goto join_13;
+    r26 = r9 + (size_t)(r4_0_3 * 24);
+    r51 = r4_0_3 + 1;
+    r16_5 = r9 + (size_t)(r51 * 24);
+    r19_5 = r4_2 - r51;
+    r10 = r26 + 16;
+    r14_2 = r26 + 8;
+    r3_0_3 = 0;
+loop_3_2:
+    if (r3_0_3 == r19_5) {
+        r3_0_lcssa = indvars_iv;
+        goto dfuse_memory_apart_is_apart_from_exit;
+    }
+    r23_2 = r16_5 + (size_t)(r3_0_3 * 24);
+    uint32_t r7 = load32(r26);
+    r9_2 = (uint64_t)r7;
+    uint32_t r11 = load32(r10);
+    uint64_t r15_2 = load64(r14_2);
+    uint32_t r9_3 = load32(r23_2);
+    r11_2 = (uint64_t)r9_3;
+    if (((r15_2 * (uint64_t)r11) + r9_2) <= r11_2) goto after_7;
+    uint32_t r11_3 = load32(r23_2 + 16);
+    uint64_t r15_3 = load64(r23_2 + 8);
+    if (((r15_3 * (uint64_t)r11_3) + r11_2) > r9_2) {
+        r3_0_lcssa = r3_0_3;
+        goto dfuse_memory_apart_is_apart_from_exit;
+    }
+after_7:
+    r3_0_3 = r3_0_3 + 1;
+    goto loop_3_2;
+dfuse_memory_apart_is_apart_from_exit:
+    if (r3_0_lcssa < r19_5) goto then_11;
+    indvars_iv_in = indvars_iv;
+    r4_0_3 = r51;
+    goto loop_3_3;
+arm_9:
+    memcpy(r0_20, r0_20_8, 776);
+    r0_0_0 = 1;
+    r0_7_0 = r17_6_0;
+    r0_131_0 = 0;
+    r0_19_0 = 0;
+    goto dfuse_memory_map_read_map_exit;
+then_11:
+    memcpy(r0_20, r0_20_8, 776);
+    r0_0_0 = 1;
+    r0_7_0 = 8;
+    r0_131_0 = 0;
+    r0_19_0 = 0;
+    goto dfuse_memory_map_read_map_exit;
+join_13:
+    memcpy(r0_20, r17_11_8_r60_sroa_idx, 776);
+    r0_0_0 = 0;
+    r0_7_0 = 0;
+    r0_131_0 = wide_950;
+    r0_19_0 = r3_0_2;
+dfuse_memory_map_read_map_exit:
+    *a0 = r0_0_0;
+    a0[1] = r0_7_0;
+    store64(a0 + 8, r0_131_0);
+    store64(a0 + 16, r0_19_0);
+    memcpy(a0 + 24, r0_20, 776);
+    return;
+}
+
+/* dfuse_memory::place::take_address */
+static void dfuse_memory_place_take_address(unsigned char *a0, unsigned char *a1, uint64_t a2) {
+    _Alignas(8) unsigned char r5[32];
+    unsigned char *r6_0_0, *r28;
+    uint64_t r6_4_0, r3_0_0_copyload, r3_4_0_copyload, r7_9_0_0, r7_9_3_0, r7_72_0;
+    uint8_t r7_4_0;
+    if (a2 == 0) {
+        r6_0_0 = a1;
+        r6_4_0 = 0;
+        goto dfuse_memory_place_behind_prefix_exit;
+    }
+    uint8_t r25 = *a1;
+    if (r25 != 48) {
+        r6_0_0 = a1;
+        r6_4_0 = a2;
+        goto dfuse_memory_place_behind_prefix_exit;
+    }
+    if (a2 == 1) {
+        r6_0_0 = a1;
+        r6_4_0 = 1;
+        goto dfuse_memory_place_behind_prefix_exit;
+    }
+    uint8_t r25_2 = a1[1];
+    switch (r25_2) {
+    case 88: goto arm_15;
+    case 120: goto arm_15;
+    default:
+        r6_0_0 = a1;
+        r6_4_0 = a2;
+        goto dfuse_memory_place_behind_prefix_exit;
+    }
+arm_15:
+    r6_0_0 = a1 + 2;
+    r6_4_0 = a2 + 0xfffffffffffffffeULL;
+dfuse_memory_place_behind_prefix_exit:
+    dfuse_memory_digits_take_number(r5, 16, 8, r6_0_0, r6_4_0);
+    uint8_t r25_3 = *r5;
+    if (r25_3 != 1) {
+        r7_9_0_0 = 0;
+        r7_9_3_0 = 0;
+        r7_4_0 = 1;
+        r7_72_0 = 0;
+        goto join_4;
+    }
+    r3_0_0_copyload = load64(r5 + 8);
+    uint64_t r3_3_0_copyload = load64(r5 + 16);
+    r3_4_0_copyload = load64(r5 + 24);
+    r28 = (unsigned char *)(uintptr_t)r3_3_0_copyload;
+    if (r3_4_0_copyload == 0) {
+        r7_9_0_0 = 0;
+        r7_9_3_0 = 0;
+        r7_4_0 = 1;
+        r7_72_0 = 0;
+        goto join_4;
+    }
+    uint8_t r25_4 = *r28;
+    if (r25_4 != 47) {
+        r7_9_0_0 = 0;
+        r7_9_3_0 = 0;
+        r7_4_0 = 1;
+        r7_72_0 = 0;
+        goto join_4;
+    }
+    r7_9_0_0 = (uint64_t)(uintptr_t)(r28 + 1);
+    r7_9_3_0 = r3_4_0_copyload + 0xffffffffffffffffULL;
+    r7_4_0 = 0;
+    r7_72_0 = r3_0_0_copyload;
+join_4:
+    *a0 = r7_4_0;
+    a0[1] = r7_4_0;
+    store64(a0 + 8, r7_72_0);
+    store64(a0 + 16, r7_9_0_0);
+    store64(a0 + 24, r7_9_3_0);
+    return;
+}
+
+/* dfuse_memory::digits::take_number */
+static void dfuse_memory_digits_take_number(unsigned char *a0, uint64_t a1, uint64_t a2, unsigned char *a3, uint64_t a4) {
+    uint64_t r4_0, r3_0_lcssa, r4_0_2, r3_0;
+    r4_0 = 0;
+loop_3:
+    if (r4_0 == a4) {
+        r3_0_lcssa = a4;
+        goto dfuse_memory_digits_digits_in_exit;
+    }
+    uint8_t r25 = a3[(size_t)r4_0];
+    uint64_t r27 = dfuse_memory_digits_digit_value(r25);
+    if (a1 <= r27) {
+        r3_0_lcssa = r4_0;
+        goto dfuse_memory_digits_digits_in_exit;
+    }
+    r4_0 = r4_0 + 1;
+    goto loop_3;
+dfuse_memory_digits_digits_in_exit:
+    if ((r3_0_lcssa + 0xffffffffffffffffULL) < a2) {
+        r4_0_2 = 0;
+        r3_0 = 0;
+        goto loop_3_2;
+    }
+    goto join_5;
+join_5:
+    memset(a0, 0, 32);
+    return;
+loop_3_2:
+    if (r4_0_2 == r3_0_lcssa) goto dfuse_memory_digits_said_exit;
+    uint8_t r27_2 = a3[(size_t)r4_0_2];
+    uint64_t r29 = dfuse_memory_digits_digit_value(r27_2);
+    r4_0_2 = r4_0_2 + 1;
+    r3_0 = r29 + (r3_0 * a1);
+    goto loop_3_2;
+dfuse_memory_digits_said_exit:
+    store64(a0, 1);
+    store64(a0 + 8, r3_0);
+    store64(a0 + 16, (uint64_t)(uintptr_t)(a3 + (size_t)r3_0_lcssa));
+    store64(a0 + 24, a4 - r3_0_lcssa);
+    return;
+}
+
+/* dfuse_memory::digits::digit_value */
+static uint64_t dfuse_memory_digits_digit_value(uint8_t a0) {
+    uint64_t r1_0;
+    if (a0 < 48) {
+        r1_0 = 16;
+        goto after_1;
+    }
+    if (a0 >= 58) goto join_8;
+    r1_0 = (uint64_t)(uint8_t)(a0 + 208);
+    goto after_1;
+join_8:
+    if (a0 < 65) {
+        r1_0 = 16;
+        goto after_1;
+    }
+    if (a0 >= 71) goto join_14;
+    r1_0 = (uint64_t)a0 + 0xffffffffffffffc9ULL;
+    goto after_1;
+join_14:
+    if ((uint8_t)(a0 + 159) >= 6) {
+        r1_0 = 16;
+        goto after_1;
+    }
+    r1_0 = (uint64_t)a0 + 0xffffffffffffffa9ULL;
+after_1:
+    return r1_0;
+}
 
 /* dfu_host_c::file::file_in */
 static void dfu_host_c_file_file_in(unsigned char *a0, unsigned char *a1, uint64_t a2) {
@@ -407,7 +945,7 @@ join_13:
 static void dfu_host_c_holding_session_of(unsigned char *a0, unsigned char *a1, unsigned char *a2, uint64_t a3) {
     _Alignas(4) unsigned char r31[3];
     _Alignas(4) unsigned char r36_2[3];
-    uint64_t wide_5081, r3_12_0_0, r3_12_6_0, r3_7_0_0, r38, r6_132_0, r6_132_0_2;
+    uint64_t wide_9009, r3_12_0_0, r3_12_6_0, r3_7_0_0, r38, r6_132_0, r6_132_0_2;
     uint8_t v0;
     uint32_t r40, r6_158_0, r6_106_0, r6_106_0_2, r6_158_0_2, r79;
     uint8_t r6_28_0, r6_54_0, r6_28_0_2, r6_0_0_0, r6_28_0_3, r6_54_0_2, r70, r75;
@@ -420,10 +958,10 @@ then_1:
     return;
 join_3:;
     uint32_t r20 = load32(a1 + 4);
-    wide_5081 = (uint64_t)(uintptr_t)a2;
+    wide_9009 = (uint64_t)(uintptr_t)a2;
     switch (r20) {
     case 1:
-        r3_12_0_0 = wide_5081;
+        r3_12_0_0 = wide_9009;
         r3_12_6_0 = a3;
         v0 = 0;
         r3_7_0_0 = 0;
@@ -440,13 +978,13 @@ arm_2:
     r3_7_0_0 = 1;
     goto arm_1;
 arm_3:
-    r3_12_0_0 = wide_5081;
+    r3_12_0_0 = wide_9009;
     r3_12_6_0 = a3;
     v0 = 0;
     r3_7_0_0 = 2;
     goto arm_1;
 arm_4:
-    r3_12_0_0 = wide_5081;
+    r3_12_0_0 = wide_9009;
     r3_12_6_0 = a3;
     v0 = 0;
     r3_7_0_0 = 3;
@@ -1063,16 +1601,36 @@ static void dfu_host_asking_download(unsigned char *a0, uint64_t a1, unsigned ch
 
 /* dfu_host::asking::send */
 static void dfu_host_asking_send(unsigned char *a0, unsigned char *a1, unsigned char *a2, uint64_t a3) {
-    _Alignas(4) unsigned char r12[2];
-    _Alignas(4) unsigned char r18[2];
-    _Alignas(4) unsigned char r24[2];
-    uint8_t r2;
-    uint16_t v0, v1, r13_16_0, r13_23_0;
-    uint64_t r13_0_0;
-    r2 = *a1;
-    v0 = load16(a1 + 2);
-    v1 = load16(a1 + 4);
-    switch (r2) {
+    _Alignas(4) unsigned char r12[10];
+    _Alignas(8) unsigned char r11[8];
+    _Alignas(8) unsigned char r15[8];
+    _Alignas(4) unsigned char r10[6];
+    uint8_t r2 = *a1;
+    uint16_t v0 = load16(a1 + 2);
+    uint16_t v1 = load16(a1 + 4);
+    store16(r10, r2);
+    store16(r10 + 2, v0);
+    store16(r10 + 4, v1);
+    dfu_wire_requests_Request_setup(r12, r10);
+    uint8_t r24 = *r12;
+    if (r24 != 1) trap();
+    uint64_t v3 = load64a2(r12 + 2);
+    store64(r11, v3);
+    dfu_wire_setups_Setup_encode(r15, r11);
+    uint64_t r14_3_1_copyload = load64(r15);
+    *a0 = 0;
+    store64u(a0 + 1, r14_3_1_copyload);
+    store64(a0 + 16, (uint64_t)(uintptr_t)a2);
+    store64(a0 + 24, a3);
+    return;
+}
+
+/* dfu_wire::requests::Request::setup */
+static void dfu_wire_requests_Request_setup(unsigned char *a0, unsigned char *a1) {
+    uint8_t r15, r13_0_0;
+    uint16_t r13_16_0, r13_23_0;
+    r15 = *a1;
+    switch (r15) {
     case 0: goto arm_1;
     case 1: goto arm_2;
     case 2: goto arm_3;
@@ -1081,48 +1639,86 @@ static void dfu_host_asking_send(unsigned char *a0, unsigned char *a1, unsigned 
         r13_0_0 = 33;
         r13_16_0 = 0;
         r13_23_0 = 0;
-        goto arm_1_2;
-    case 5: goto arm_4;
+        goto join_10;
+    case 5: goto arm_6;
     case 6:
         r13_0_0 = 33;
         r13_16_0 = 0;
         r13_23_0 = 0;
-        goto arm_1_2;
-    case 7: trap();
-    case 8: trap();
+        goto join_10;
+    case 7: goto arm_8;
+    case 8: goto arm_8;
     default: never();
     }
-arm_1:
+arm_1:;
+    uint16_t r17 = load16(a1 + 2);
     r13_0_0 = 33;
-    r13_16_0 = v0;
+    r13_16_0 = r17;
     r13_23_0 = 0;
-    goto arm_1_2;
-arm_2:
+    goto join_10;
+arm_2:;
+    uint16_t r23 = load16(a1 + 2);
+    uint16_t r25 = load16(a1 + 4);
     r13_0_0 = 33;
-    r13_16_0 = v0;
-    r13_23_0 = v1;
-    goto arm_1_2;
-arm_3:
+    r13_16_0 = r23;
+    r13_23_0 = r25;
+    goto join_10;
+arm_3:;
+    uint16_t r32 = load16(a1 + 2);
+    uint16_t r34 = load16(a1 + 4);
     r13_0_0 = 161;
-    r13_16_0 = v0;
-    r13_23_0 = v1;
-    goto arm_1_2;
-arm_4:
+    r13_16_0 = r32;
+    r13_23_0 = r34;
+    goto join_10;
+arm_4:;
+    uint16_t r41 = load16(a1 + 2);
     r13_0_0 = 161;
     r13_16_0 = 0;
-    r13_23_0 = v0;
-    goto arm_1_2;
-arm_1_2:
-    dfu_wire_bytes_two_bytes(r12, r13_16_0);
-    uint16_t v2 = load16(r12);
-    dfu_wire_bytes_two_bytes(r18, 0);
-    uint16_t v3 = load16(r18);
-    dfu_wire_bytes_two_bytes(r24, r13_23_0);
-    uint16_t v4 = load16(r24);
-    *a0 = 0;
-    store64u(a0 + 1, ((uint64_t)v4 << 48) | (((uint64_t)v3 << 32) | (((uint64_t)v2 << 16) | (r13_0_0 | ((uint64_t)r2 << 8)))));
-    store64(a0 + 16, (uint64_t)(uintptr_t)a2);
-    store64(a0 + 24, a3);
+    r13_23_0 = r41;
+    goto join_10;
+arm_6:;
+    uint16_t r50 = load16(a1 + 2);
+    r13_0_0 = 161;
+    r13_16_0 = 0;
+    r13_23_0 = r50;
+    goto join_10;
+arm_8:
+    memset(a0, 0, 10);
+    return;
+join_10:
+    store16(a0, 1);
+    a0[2] = r13_0_0;
+    a0[3] = r15;
+    store16(a0 + 4, r13_16_0);
+    store16(a0 + 6, 0);
+    store16(a0 + 8, r13_23_0);
+    return;
+}
+
+/* dfu_wire::setups::Setup::encode */
+static void dfu_wire_setups_Setup_encode(unsigned char *a0, unsigned char *a1) {
+    _Alignas(4) unsigned char r12[2];
+    _Alignas(4) unsigned char r18[2];
+    _Alignas(4) unsigned char r24[2];
+    uint8_t r30 = *a1;
+    uint8_t r32 = a1[1];
+    uint16_t r34 = load16(a1 + 2);
+    uint16_t r36 = load16(a1 + 4);
+    uint16_t r38 = load16(a1 + 6);
+    dfu_wire_bytes_two_bytes(r12, r34);
+    uint16_t v0 = load16(r12);
+    dfu_wire_bytes_two_bytes(r18, r36);
+    uint16_t v1 = load16(r18);
+    dfu_wire_bytes_two_bytes(r24, r38);
+    uint16_t v2 = load16(r24);
+    *a0 = r30;
+    a0[1] = r32;
+    a0[2] = (uint8_t)v0;
+    a0[3] = (uint8_t)(uint16_t)(v0 >> 8);
+    a0[4] = (uint8_t)v1;
+    a0[5] = (uint8_t)(uint16_t)(v1 >> 8);
+    a0[6] = (uint8_t)v2;
+    a0[7] = (uint8_t)(uint16_t)(v2 >> 8);
     return;
 }
 
@@ -1306,9 +1902,10 @@ static void dfu_host_c_beginning_start(unsigned char *a0, unsigned char *a1) {
 
 /* dfu_host::session::Session::told */
 static void dfu_host_session_Session_told(unsigned char *a0, unsigned char *a1, uint8_t a2) {
-    _Alignas(8) unsigned char r17_3[32];
-    unsigned char *const r0 = r17_3;
-    unsigned char *const r5 = r17_3;
+    _Alignas(8) unsigned char r17_2[32];
+    unsigned char *const r0 = r17_2;
+    unsigned char *const r5 = r17_2;
+    unsigned char *const r4 = r17_2;
     _Alignas(8) unsigned char r1_3[32];
     unsigned char *const r7_7 = r1_3;
     unsigned char *const r5_4 = r1_3;
@@ -1321,22 +1918,21 @@ static void dfu_host_session_Session_told(unsigned char *a0, unsigned char *a1, 
     _Alignas(8) unsigned char r10_2[24];
     unsigned char *const r2 = r10_2;
     _Alignas(4) unsigned char r6_3[12];
-    unsigned char *const r9_2 = r6_3;
+    unsigned char *const r9_3 = r6_3;
     unsigned char *const r11 = r6_3;
     unsigned char *const r10_4 = r6_3;
     unsigned char *const r6_2 = r6_3;
     unsigned char *const r6 = r6_3;
-    uint64_t r0_3_0_0_copyload, r0_3_3_0_copyload, r1_0, common_ret_op_2, r18_14_0, r1_6_0_copyload, r1_8_0_copyload, v17, v22, r2_4_0, v32, v40;
-    uint64_t v46, v54, r15, r19, r28_82_0;
-    unsigned char *r12, *r21, *r14, *v13, *v29, *v37, *v44, *v52;
-    uint16_t v0, r1_4_0_copyload, r1_9_0_copyload, v12, r8, r26, r40;
-    uint8_t r54, r78, r18_0_0, r18_10_0, r10, r13_3, r1_3_0_copyload, r1_7_0_0_extract_trunc, off0353, off8355, v19, v20;
-    uint8_t off0348, off8350, v24, v25, off0343, off8345, v34, v35, r12_32_12_extract_trunc290, off0335, off8337, v42;
-    uint8_t v43, off0330, off8332, v48, v49, off0, off8, v56, v57, r28_0_0, r28_25_0, r28_48_0_0;
-    uint8_t r28_48_24_0;
+    uint64_t r0_3_0_0_copyload, r0_3_3_0_copyload, r18_14_0, r1_6_0_copyload, r1_8_0_copyload, v13, v18, r2_4_0, v28, v37, v43, v51;
+    uint64_t r15, r19, r28_82_0;
+    unsigned char *r12, *r21, *r14, *v9, *v25, *v33, *v41, *v49;
+    uint16_t v0, r1_4_0_copyload, r1_9_0_copyload, v8, r8, r26, r40;
     uint8_t common_ret_op, r3_0_off0;
-    uint32_t r18_121_0, r1_5_0_copyload, r1_7_0_copyload, v16, v18, v21, v23, v31, v33, r12_32_8_extract_trunc287, v39, v41;
-    uint32_t v45, v47, v53, v55, r28_67_0, r28_95_0;
+    uint8_t r18_0_0, r18_10_0, r10, r13_2, r1_3_0_copyload, r1_7_0_0_extract_trunc, off0353, off8355, v15, v16, off0348, off8350;
+    uint8_t v20, v21, off0343, off8345, v30, v31, r12_32_12_extract_trunc290, off0335, off8337, v39, v40, off0330;
+    uint8_t off8332, v45, v46, off0, off8, v53, v54, r28_0_0, r28_25_0, r28_48_0_0, r28_48_24_0;
+    uint32_t r18_121_0, r1_5_0_copyload, r1_7_0_copyload, v12, v14, v17, v19, v27, v29, r12_32_8_extract_trunc287, v36, v38;
+    uint32_t v42, v44, v50, v52, r28_67_0, r28_95_0;
     uint8_t r1 = *a1;
     r0_3_0_0_copyload = load64(a1 + 8);
     r0_3_3_0_copyload = load64(a1 + 16);
@@ -1470,36 +2066,15 @@ arm_2:;
     default: never();
     }
 arm_1:
-    if (r0_3_3_0_copyload != 6) {
-        r18_0_0 = 7;
-        r18_10_0 = 0;
-        r18_121_0 = 0;
-        r18_14_0 = 0;
-        goto dfu_host_task_Task_hear_exit;
-    }
-    r54 = *r21;
-    if (r54 >= 16) {
-        r18_0_0 = 7;
-        r18_10_0 = 0;
-        r18_121_0 = 0;
-        r18_14_0 = 0;
-        goto dfu_host_task_Task_hear_exit;
-    }
-    r78 = r21[4];
-    if (r78 >= 11) {
-        r18_0_0 = 7;
-        r18_10_0 = 0;
-        r18_121_0 = 0;
-        r18_14_0 = 0;
-        goto dfu_host_task_Task_hear_exit;
-    }
-    uint8_t r13 = r21[1];
-    uint8_t r17 = r21[2];
-    uint8_t r21_2 = r21[3];
-    r18_0_0 = 1;
+    dfu_wire_statuses_Status_decode(r4, r21, r0_3_3_0_copyload);
+    uint8_t r9 = *r4;
+    uint8_t v2 = r9 == 0;
+    uint32_t r5_5_3_2_copyload = load32(r4 + 4);
+    uint64_t r5_5_5_2_copyload = load64a4(r4 + 8);
+    r18_0_0 = (uint8_t)(v2 ? 1 : 7);
     r18_10_0 = 0;
-    r18_121_0 = (uint32_t)r54;
-    r18_14_0 = ((((uint64_t)r78 << 32) | (uint64_t)r13) | ((uint64_t)r17 << 8)) | ((uint64_t)r21_2 << 16);
+    r18_121_0 = (uint32_t)(v2 ? r5_5_3_2_copyload : 0);
+    r18_14_0 = (uint64_t)(v2 ? r5_5_5_2_copyload : 0);
     goto dfu_host_task_Task_hear_exit;
 arm_2_2:
     if (r0_3_3_0_copyload != 1) {
@@ -1510,17 +2085,17 @@ arm_2_2:
         goto dfu_host_task_Task_hear_exit;
     }
     uint8_t r27 = *r21;
-    uint8_t v7 = r27 < 11;
-    r18_0_0 = (uint8_t)(v7 ? 2 : 7);
-    r18_10_0 = (uint8_t)(v7 ? r27 : 0);
+    uint8_t v3 = r27 < 11;
+    r18_0_0 = (uint8_t)(v3 ? 2 : 7);
+    r18_10_0 = (uint8_t)(v3 ? r27 : 0);
     r18_121_0 = 0;
     r18_14_0 = 0;
     goto dfu_host_task_Task_hear_exit;
 arm_3_2:
     if (!(a2 & (r0_3_3_0_copyload != 0))) goto join_4;
     uint16_t r7 = load16(a0 + 24);
-    uint64_t r9 = (uint64_t)r7;
-    if ((r0_3_3_0_copyload < r9) | ((v0 != 0xfffeU) & (r0_3_3_0_copyload == r9))) {
+    uint64_t r9_2 = (uint64_t)r7;
+    if ((r0_3_3_0_copyload < r9_2) | ((v0 != 0xfffeU) & (r0_3_3_0_copyload == r9_2))) {
         r18_0_0 = 5;
         r18_10_0 = 0;
         r18_121_0 = 0;
@@ -1534,9 +2109,9 @@ join_4:
     r18_14_0 = r0_3_3_0_copyload;
     goto dfu_host_task_Task_hear_exit;
 arm_4_2:;
-    struct ptr_i64 r13_2 = dfu_host_task_Task_block(a0, (uint64_t)v0);
-    r14 = r13_2.a;
-    if (r0_3_3_0_copyload != r13_2.b) {
+    struct ptr_i64 r13 = dfu_host_task_Task_block(a0, (uint64_t)v0);
+    r14 = r13.a;
+    if (r0_3_3_0_copyload != r13.b) {
         common_ret_op = 0;
         goto dfu_host_task_Task_compare_exit;
     }
@@ -1545,22 +2120,8 @@ arm_4_2:;
     store64(r5 + 16, (uint64_t)(uintptr_t)r14);
     store64(r5 + 24, r0_3_3_0_copyload);
     if (r0_3_3_0_copyload >= 4) goto join_9;
-    r1_0 = 0;
-loop_2:
-    if (r1_0 == r0_3_3_0_copyload) {
-        common_ret_op_2 = r0_3_3_0_copyload;
-        goto core_slice_scan_any_by_one_exit;
-    }
-    uint8_t r3 = r21[(size_t)r1_0];
-    uint8_t r4 = r14[(size_t)r1_0];
-    if (r3 != r4) {
-        common_ret_op_2 = r1_0;
-        goto core_slice_scan_any_by_one_exit;
-    }
-    r1_0 = r1_0 + 1;
-    goto loop_2;
-core_slice_scan_any_by_one_exit:
-    common_ret_op = common_ret_op_2 >= r0_3_3_0_copyload;
+    uint8_t r60 = core_slice_scan_any_by_one(r5, r0_3_3_0_copyload);
+    common_ret_op = !r60;
     goto dfu_host_task_Task_compare_exit;
 join_9:;
     uint8_t r70 = core_slice_scan_any_in_run(r5, 0, 4);
@@ -1640,8 +2201,8 @@ arm_5_2:
 arm_6_2:
     memcpy(r1_3, r12, 32);
     store64(r2 + 16, 0);
-    uint8_t v9 = *r1_3;
-    switch (v9) {
+    uint8_t v5 = *r1_3;
+    switch (v5) {
     case 14: goto dfu_host_task_Task_after_last_exitthread_pre_split;
     case 15: goto dfu_host_task_Task_after_last_exitthread_pre_split;
     case 16: goto dfu_host_task_Task_after_last_exitthread_pre_split;
@@ -1672,7 +2233,7 @@ arm_6_2:
 dfu_host_task_Task_is_behind_close_exit:;
     uint8_t r2_2 = *a0;
     if (!(r2_2 & 1)) {
-        r13_3 = r2_2;
+        r13_2 = r2_2;
         goto dfu_host_task_Task_after_last_exit;
     }
 then_1:
@@ -1681,13 +2242,13 @@ then_1:
     goto dfu_host_progress_Progress_left_exit;
 dfu_host_task_Task_after_last_exitthread_pre_split:;
     uint8_t r13_pr = *a0;
-    r13_3 = r13_pr;
+    r13_2 = r13_pr;
 dfu_host_task_Task_after_last_exit:;
-    uint8_t v10 = r13_3 != 2;
-    *r2 = (uint8_t)(v10 ? 23 : 0);
-    r2[1] = v10;
+    uint8_t v6 = r13_2 != 2;
+    *r2 = (uint8_t)(v6 ? 23 : 0);
+    r2[1] = v6;
     memset(r2 + 2, 0, 18);
-    if (r13_3 != 2) goto dfu_host_task_Task_go_on_exit;
+    if (r13_2 != 2) goto dfu_host_task_Task_go_on_exit;
     store64(a0, 3);
 dfu_host_task_Task_go_on_exit:;
     uint16_t r36 = load16(r1_3 + 28);
@@ -1703,9 +2264,9 @@ arm_7_2:
     r1_7_0_copyload = load32(r1_2 + 16);
     r1_8_0_copyload = load64a4(r1_2 + 20);
     r1_9_0_copyload = load16(r1_2 + 28);
-    v12 = load16(r1_2 + 30);
-    v13 = r10_2 + 16;
-    store64(v13, 0);
+    v8 = load16(r1_2 + 30);
+    v9 = r10_2 + 16;
+    store64(v9, 0);
     switch (r10) {
     case 20: goto arm_3_3;
     case 0: goto arm_1_2;
@@ -1763,12 +2324,12 @@ arm_3_3:
         r28_95_0 = 0;
         goto dfu_host_task_Task_row_exit;
     }
-    uint8_t r13_4 = *a0;
-    uint8_t v15 = r13_4 == 2;
+    uint8_t r13_3 = *a0;
+    uint8_t v11 = r13_3 == 2;
     r3_0_off0 = 1;
-    r28_0_0 = (uint8_t)(v15 ? 0 : 23);
-    r28_25_0 = (uint8_t)(v15 ? 0 : r1_3_0_copyload);
-    r28_48_0_0 = (uint8_t)(v15 ? 0 : r1_7_0_0_extract_trunc);
+    r28_0_0 = (uint8_t)(v11 ? 0 : 23);
+    r28_25_0 = (uint8_t)(v11 ? 0 : r1_3_0_copyload);
+    r28_48_0_0 = (uint8_t)(v11 ? 0 : r1_7_0_0_extract_trunc);
     r28_48_24_0 = 0;
     r28_67_0 = 0;
     r28_82_0 = 0;
@@ -1778,13 +2339,13 @@ arm_1_2:
     switch (r18_0_0) {
     case 1: goto arm_1_3;
     case 6:
-        v16 = 0;
-        v17 = 0;
-        v18 = 0;
+        v12 = 0;
+        v13 = 0;
+        v14 = 0;
         off0353 = 0;
         off8355 = 0;
-        v19 = 0;
-        v20 = 1;
+        v15 = 0;
+        v16 = 1;
         goto dfu_host_task_Task_after_find_exit;
     case 0: goto arm_3_5;
     case 2: goto arm_3_5;
@@ -1806,44 +2367,44 @@ arm_1_3:
     uint32_t pre3 = load32(r7_3 + 4);
     uint64_t pre4 = load64(r7_3 + 8);
     uint32_t pre5 = load32(r7_3 + 16);
-    v16 = pre5;
-    v17 = pre4;
-    v18 = pre3;
+    v12 = pre5;
+    v13 = pre4;
+    v14 = pre3;
     off0353 = (uint8_t)pre2;
     off8355 = (uint8_t)(uint16_t)(pre2 >> 8);
-    v19 = pre1;
-    v20 = pre;
+    v15 = pre1;
+    v16 = pre;
     goto dfu_host_task_Task_after_find_exit;
 arm_3_5:
-    v16 = 0;
-    v17 = 0;
-    v18 = 0;
+    v12 = 0;
+    v13 = 0;
+    v14 = 0;
     off0353 = 0;
     off8355 = 0;
-    v19 = 0;
-    v20 = 0;
+    v15 = 0;
+    v16 = 0;
     goto dfu_host_task_Task_after_find_exit;
 dfu_host_task_Task_after_find_exit:
     r3_0_off0 = 0;
-    r28_0_0 = v20;
-    r28_25_0 = v19;
+    r28_0_0 = v16;
+    r28_25_0 = v15;
     r28_48_0_0 = off0353;
     r28_48_24_0 = off8355;
-    r28_67_0 = v18;
-    r28_82_0 = v17;
-    r28_95_0 = v16;
+    r28_67_0 = v14;
+    r28_82_0 = v13;
+    r28_95_0 = v12;
     goto dfu_host_task_Task_row_exit;
 arm_2_3:
     switch (r18_0_0) {
     case 1: goto arm_1_4;
     case 6:
-        v21 = 0;
-        v22 = 0;
-        v23 = 0;
+        v17 = 0;
+        v18 = 0;
+        v19 = 0;
         off0348 = 0;
         off8350 = 0;
-        v24 = 0;
-        v25 = 7;
+        v20 = 0;
+        v21 = 7;
         goto dfu_host_task_Task_after_find_again_exit;
     case 0: goto arm_3_6;
     case 2: goto arm_3_6;
@@ -1865,32 +2426,32 @@ arm_1_4:
     uint32_t pre3_2 = load32(r7_4 + 4);
     uint64_t pre4_2 = load64(r7_4 + 8);
     uint32_t pre5_2 = load32(r7_4 + 16);
-    v21 = pre5_2;
-    v22 = pre4_2;
-    v23 = pre3_2;
+    v17 = pre5_2;
+    v18 = pre4_2;
+    v19 = pre3_2;
     off0348 = (uint8_t)pre2_2;
     off8350 = (uint8_t)(uint16_t)(pre2_2 >> 8);
-    v24 = pre1_2;
-    v25 = pre_2;
+    v20 = pre1_2;
+    v21 = pre_2;
     goto dfu_host_task_Task_after_find_again_exit;
 arm_3_6:
-    v21 = 0;
-    v22 = 0;
-    v23 = 0;
+    v17 = 0;
+    v18 = 0;
+    v19 = 0;
     off0348 = 0;
     off8350 = 0;
-    v24 = 0;
-    v25 = 1;
+    v20 = 0;
+    v21 = 1;
     goto dfu_host_task_Task_after_find_again_exit;
 dfu_host_task_Task_after_find_again_exit:
     r3_0_off0 = 0;
-    r28_0_0 = v25;
-    r28_25_0 = v24;
+    r28_0_0 = v21;
+    r28_25_0 = v20;
     r28_48_0_0 = off0348;
     r28_48_24_0 = off8350;
-    r28_67_0 = v23;
-    r28_82_0 = v22;
-    r28_95_0 = v21;
+    r28_67_0 = v19;
+    r28_82_0 = v18;
+    r28_95_0 = v17;
     goto dfu_host_task_Task_row_exit;
 arm_3_4:
     r3_0_off0 = 0;
@@ -1954,13 +2515,13 @@ after_2:
     r28_95_0 = 0;
     goto dfu_host_task_Task_row_exit;
 arm_6_3:;
-    uint8_t v27 = r18_0_0 == 8;
+    uint8_t v23 = r18_0_0 == 8;
     r3_0_off0 = 0;
-    r28_0_0 = (uint8_t)(v27 ? 0 : 6);
+    r28_0_0 = (uint8_t)(v23 ? 0 : 6);
     r28_25_0 = 0;
     r28_48_0_0 = 0;
     r28_48_24_0 = 0;
-    r28_67_0 = (uint32_t)(v27 ? 0 : r1_5_0_copyload);
+    r28_67_0 = (uint32_t)(v23 ? 0 : r1_5_0_copyload);
     r28_82_0 = 0;
     r28_95_0 = 0;
     goto dfu_host_task_Task_row_exit;
@@ -2187,26 +2748,26 @@ arm_10:
     }
 arm_1_5:;
     uint32_t r12_32_8_extract_trunc = (uint32_t)r18_14_0;
-    v29 = r5_2 + 16;
-    store64(v29, 0);
+    v25 = r5_2 + 16;
+    store64(v25, 0);
     switch ((uint8_t)(r18_14_0 >> 32)) {
     case 3:
-        v31 = r12_32_8_extract_trunc;
-        v32 = r1_6_0_copyload;
-        v33 = 0;
+        v27 = r12_32_8_extract_trunc;
+        v28 = r1_6_0_copyload;
+        v29 = 0;
         off0343 = 0;
         off8345 = 0;
-        v34 = 0;
-        v35 = 11;
+        v30 = 0;
+        v31 = 11;
         goto dfu_host_task_Task_polled_exit;
     case 4:
-        v31 = r12_32_8_extract_trunc;
-        v32 = r1_6_0_copyload;
-        v33 = 0;
+        v27 = r12_32_8_extract_trunc;
+        v28 = r1_6_0_copyload;
+        v29 = 0;
         off0343 = 0;
         off8345 = 0;
-        v34 = 0;
-        v35 = 11;
+        v30 = 0;
+        v31 = 11;
         goto dfu_host_task_Task_polled_exit;
     case 5: goto arm_2_5;
     case 0: goto arm_3_11;
@@ -2231,13 +2792,13 @@ arm_2_5:
 dfu_host_task_Task_is_last_exit:;
     uint64_t r10_3 = (uint64_t)r8;
     uint8_t r24_not = (r2_4_0 - (r1_6_0_copyload * r10_3)) > r10_3;
-    v31 = 0;
-    v32 = (uint64_t)(r24_not ? (r1_6_0_copyload + 1) : 0);
-    v33 = 0;
+    v27 = 0;
+    v28 = (uint64_t)(r24_not ? (r1_6_0_copyload + 1) : 0);
+    v29 = 0;
     off0343 = 0;
     off8345 = 0;
-    v34 = 0;
-    v35 = (uint8_t)(r24_not ? 8 : 12);
+    v30 = 0;
+    v31 = (uint8_t)(r24_not ? 8 : 12);
     goto dfu_host_task_Task_polled_exit;
 arm_3_11:
     store32(r10_4, r18_121_0);
@@ -2248,24 +2809,24 @@ arm_3_11:
     uint16_t pre8 = load16(r5_2 + 2);
     uint32_t pre9 = load32(r5_2 + 4);
     uint64_t pre10 = load64(r5_2 + 8);
-    uint32_t pre11 = load32(v29);
-    v31 = pre11;
-    v32 = pre10;
-    v33 = pre9;
+    uint32_t pre11 = load32(v25);
+    v27 = pre11;
+    v28 = pre10;
+    v29 = pre9;
     off0343 = (uint8_t)pre8;
     off8345 = (uint8_t)(uint16_t)(pre8 >> 8);
-    v34 = pre7;
-    v35 = pre_3;
+    v30 = pre7;
+    v31 = pre_3;
     goto dfu_host_task_Task_polled_exit;
 dfu_host_task_Task_polled_exit:
     r3_0_off0 = 0;
-    r28_0_0 = v35;
-    r28_25_0 = v34;
+    r28_0_0 = v31;
+    r28_25_0 = v30;
     r28_48_0_0 = off0343;
     r28_48_24_0 = off8345;
-    r28_67_0 = v33;
-    r28_82_0 = v32;
-    r28_95_0 = v31;
+    r28_67_0 = v29;
+    r28_82_0 = v28;
+    r28_95_0 = v27;
     goto dfu_host_task_Task_row_exit;
 arm_3_10:
     r3_0_off0 = 0;
@@ -2278,15 +2839,15 @@ arm_3_10:
     r28_95_0 = 0;
     goto dfu_host_task_Task_row_exit;
 arm_11:;
-    uint8_t v36 = r18_0_0 == 8;
+    uint8_t v32 = r18_0_0 == 8;
     r3_0_off0 = 0;
-    r28_0_0 = (uint8_t)(v36 ? 10 : 11);
+    r28_0_0 = (uint8_t)(v32 ? 10 : 11);
     r28_25_0 = 0;
     r28_48_0_0 = 0;
     r28_48_24_0 = 0;
     r28_67_0 = 0;
     r28_82_0 = r1_6_0_copyload;
-    r28_95_0 = (uint32_t)(v36 ? 0 : r1_7_0_copyload);
+    r28_95_0 = (uint32_t)(v32 ? 0 : r1_7_0_copyload);
     goto dfu_host_task_Task_row_exit;
 arm_12:
     switch (r18_0_0) {
@@ -2489,26 +3050,26 @@ arm_14:
 arm_1_6:;
     uint8_t r5_3 = a0[26];
     if (!(r5_3 & 1)) goto else_2;
-    v37 = r7_6 + 16;
-    store64(v37, 0);
+    v33 = r7_6 + 16;
+    store64(v33, 0);
     switch (r12_32_12_extract_trunc290) {
     case 6:
         off0335 = 0;
         off8337 = 0;
+        v36 = 0;
+        v37 = 0;
+        v38 = r12_32_8_extract_trunc287;
         v39 = 0;
-        v40 = 0;
-        v41 = r12_32_8_extract_trunc287;
-        v42 = 0;
-        v43 = 15;
+        v40 = 15;
         goto dfu_host_task_Task_confirmed_exit;
     case 7:
         off0335 = 0;
         off8337 = 0;
+        v36 = 0;
+        v37 = 0;
+        v38 = r12_32_8_extract_trunc287;
         v39 = 0;
-        v40 = 0;
-        v41 = r12_32_8_extract_trunc287;
-        v42 = 0;
-        v43 = 15;
+        v40 = 15;
         goto dfu_host_task_Task_confirmed_exit;
     case 2: goto arm_4_5;
     case 0: goto after_2_4;
@@ -2522,14 +3083,14 @@ arm_1_6:;
     default: never();
     }
 arm_4_5:
-    if (r18_121_0 == 0) {
+    if ((r18_121_0 & 255) == 0) {
         off0335 = 0;
         off8337 = 0;
+        v36 = 0;
+        v37 = 0;
+        v38 = 0;
         v39 = 0;
-        v40 = 0;
-        v41 = 0;
-        v42 = 0;
-        v43 = 20;
+        v40 = 20;
         goto dfu_host_task_Task_confirmed_exit;
     }
 after_2_4:
@@ -2540,47 +3101,47 @@ after_2_4:
     uint8_t pre10_2 = r7_6[1];
     uint32_t pre11_2 = load32(r7_6 + 4);
     uint64_t pre12 = load64(r7_6 + 8);
-    uint32_t pre13 = load32(v37);
+    uint32_t pre13 = load32(v33);
     uint16_t pre_5 = load16(r7_6 + 2);
     off0335 = (uint8_t)pre_5;
     off8337 = (uint8_t)(uint16_t)(pre_5 >> 8);
-    v39 = pre13;
-    v40 = pre12;
-    v41 = pre11_2;
-    v42 = pre10_2;
-    v43 = pre_4;
+    v36 = pre13;
+    v37 = pre12;
+    v38 = pre11_2;
+    v39 = pre10_2;
+    v40 = pre_4;
     goto dfu_host_task_Task_confirmed_exit;
 dfu_host_task_Task_confirmed_exit:
     r3_0_off0 = 0;
-    r28_0_0 = v43;
-    r28_25_0 = v42;
+    r28_0_0 = v40;
+    r28_25_0 = v39;
     r28_48_0_0 = off0335;
     r28_48_24_0 = off8337;
-    r28_67_0 = v41;
-    r28_82_0 = v40;
-    r28_95_0 = v39;
+    r28_67_0 = v38;
+    r28_82_0 = v37;
+    r28_95_0 = v36;
     goto dfu_host_task_Task_row_exit;
 else_2:
-    v44 = r5_4 + 16;
-    store64(v44, 0);
+    v41 = r5_4 + 16;
+    store64(v41, 0);
     switch (r12_32_12_extract_trunc290) {
     case 6:
         off0330 = 0;
         off8332 = 0;
+        v42 = 0;
+        v43 = 0;
+        v44 = r12_32_8_extract_trunc287;
         v45 = 0;
-        v46 = 0;
-        v47 = r12_32_8_extract_trunc287;
-        v48 = 0;
-        v49 = 16;
+        v46 = 16;
         goto dfu_host_task_Task_unconfirmed_exit;
     case 7:
         off0330 = 0;
         off8332 = 0;
+        v42 = 0;
+        v43 = 0;
+        v44 = r12_32_8_extract_trunc287;
         v45 = 0;
-        v46 = 0;
-        v47 = r12_32_8_extract_trunc287;
-        v48 = 0;
-        v49 = 16;
+        v46 = 16;
         goto dfu_host_task_Task_unconfirmed_exit;
     case 2: goto arm_2_7;
     case 8: goto arm_2_7;
@@ -2596,39 +3157,39 @@ else_2:
 arm_2_7:
     off0330 = 0;
     off8332 = 0;
-    v45 = 0;
-    v46 = 0;
-    v47 = 0;
-    v48 = 1;
-    v49 = 20;
+    v42 = 0;
+    v43 = 0;
+    v44 = 0;
+    v45 = 1;
+    v46 = 20;
     goto dfu_host_task_Task_unconfirmed_exit;
 arm_3_15:
-    store32(r9_2, r18_121_0);
-    store64a4(r9_2 + 4, r18_14_0);
-    dfu_host_task_Task_troubled(r5_4, a0, r9_2);
+    store32(r9_3, r18_121_0);
+    store64a4(r9_3 + 4, r18_14_0);
+    dfu_host_task_Task_troubled(r5_4, a0, r9_3);
     uint8_t pre_6 = *r5_4;
     uint8_t pre7_2 = r5_4[1];
     uint32_t pre8_2 = load32(r5_4 + 4);
     uint64_t pre9_2 = load64(r5_4 + 8);
-    uint32_t pre10_3 = load32(v44);
+    uint32_t pre10_3 = load32(v41);
     uint16_t pre_7 = load16(r5_4 + 2);
     off0330 = (uint8_t)pre_7;
     off8332 = (uint8_t)(uint16_t)(pre_7 >> 8);
-    v45 = pre10_3;
-    v46 = pre9_2;
-    v47 = pre8_2;
-    v48 = pre7_2;
-    v49 = pre_6;
+    v42 = pre10_3;
+    v43 = pre9_2;
+    v44 = pre8_2;
+    v45 = pre7_2;
+    v46 = pre_6;
     goto dfu_host_task_Task_unconfirmed_exit;
 dfu_host_task_Task_unconfirmed_exit:
     r3_0_off0 = 0;
-    r28_0_0 = v49;
-    r28_25_0 = v48;
+    r28_0_0 = v46;
+    r28_25_0 = v45;
     r28_48_0_0 = off0330;
     r28_48_24_0 = off8332;
-    r28_67_0 = v47;
-    r28_82_0 = v46;
-    r28_95_0 = v45;
+    r28_67_0 = v44;
+    r28_82_0 = v43;
+    r28_95_0 = v42;
     goto dfu_host_task_Task_row_exit;
 arm_3_14:
     r3_0_off0 = 0;
@@ -2641,40 +3202,40 @@ arm_3_14:
     r28_95_0 = 0;
     goto dfu_host_task_Task_row_exit;
 arm_15:;
-    uint8_t v50 = r18_0_0 == 8;
+    uint8_t v47 = r18_0_0 == 8;
     r3_0_off0 = 0;
-    r28_0_0 = (uint8_t)(v50 ? 14 : 15);
+    r28_0_0 = (uint8_t)(v47 ? 14 : 15);
     r28_25_0 = 0;
     r28_48_0_0 = 0;
     r28_48_24_0 = 0;
-    r28_67_0 = (uint32_t)(v50 ? 0 : r1_5_0_copyload);
+    r28_67_0 = (uint32_t)(v47 ? 0 : r1_5_0_copyload);
     r28_82_0 = 0;
     r28_95_0 = 0;
     goto dfu_host_task_Task_row_exit;
 arm_16:;
-    uint8_t v51 = r18_0_0 == 8;
+    uint8_t v48 = r18_0_0 == 8;
     r3_0_off0 = 0;
-    r28_0_0 = (uint8_t)(v51 ? 20 : 16);
-    r28_25_0 = v51;
+    r28_0_0 = (uint8_t)(v48 ? 20 : 16);
+    r28_25_0 = v48;
     r28_48_0_0 = 0;
     r28_48_24_0 = 0;
-    r28_67_0 = (uint32_t)(v51 ? 0 : r1_5_0_copyload);
+    r28_67_0 = (uint32_t)(v48 ? 0 : r1_5_0_copyload);
     r28_82_0 = 0;
     r28_95_0 = 0;
     goto dfu_host_task_Task_row_exit;
 arm_17:
-    v52 = r7_7 + 16;
-    store64(v52, 0);
+    v49 = r7_7 + 16;
+    store64(v49, 0);
     switch (r18_0_0) {
     case 1: goto arm_1_7;
     case 6:
-        v53 = 0;
-        v54 = 0;
-        v55 = 0;
+        v50 = 0;
+        v51 = 0;
+        v52 = 0;
         off0 = 0;
         off8 = 0;
-        v56 = 0;
-        v57 = 1;
+        v53 = 0;
+        v54 = 1;
         goto dfu_host_task_Task_after_trouble_exit;
     case 0: goto arm_3_16;
     case 2: goto arm_3_16;
@@ -2695,33 +3256,33 @@ arm_1_7:
     uint16_t pre2_3 = load16(r7_7 + 2);
     uint32_t pre3_3 = load32(r7_7 + 4);
     uint64_t pre4_3 = load64(r7_7 + 8);
-    uint32_t pre5_3 = load32(v52);
-    v53 = pre5_3;
-    v54 = pre4_3;
-    v55 = pre3_3;
+    uint32_t pre5_3 = load32(v49);
+    v50 = pre5_3;
+    v51 = pre4_3;
+    v52 = pre3_3;
     off0 = (uint8_t)pre2_3;
     off8 = (uint8_t)(uint16_t)(pre2_3 >> 8);
-    v56 = pre1_3;
-    v57 = pre_8;
+    v53 = pre1_3;
+    v54 = pre_8;
     goto dfu_host_task_Task_after_trouble_exit;
 arm_3_16:
-    v53 = 0;
-    v54 = 0;
-    v55 = 0;
+    v50 = 0;
+    v51 = 0;
+    v52 = 0;
     off0 = 0;
     off8 = 0;
-    v56 = 0;
-    v57 = 17;
+    v53 = 0;
+    v54 = 17;
     goto dfu_host_task_Task_after_trouble_exit;
 dfu_host_task_Task_after_trouble_exit:
     r3_0_off0 = 0;
-    r28_0_0 = v57;
-    r28_25_0 = v56;
+    r28_0_0 = v54;
+    r28_25_0 = v53;
     r28_48_0_0 = off0;
     r28_48_24_0 = off8;
-    r28_67_0 = v55;
-    r28_82_0 = v54;
-    r28_95_0 = v53;
+    r28_67_0 = v52;
+    r28_82_0 = v51;
+    r28_95_0 = v50;
     goto dfu_host_task_Task_row_exit;
 arm_18:
     switch (r18_0_0) {
@@ -2747,8 +3308,8 @@ arm_18:
     default: never();
     }
 arm_1_8:;
-    uint16_t r13_5 = load16(a0 + 24);
-    r15 = (uint64_t)r13_5;
+    uint16_t r13_4 = load16(a0 + 24);
+    r15 = (uint64_t)r13_4;
     if (r18_14_0 < r15) {
         r3_0_off0 = 0;
         r28_0_0 = 21;
@@ -2814,8 +3375,8 @@ arm_19:
         r28_95_0 = 0;
         goto dfu_host_task_Task_row_exit;
     }
-    uint16_t r17_2 = load16(a0 + 24);
-    r19 = (uint64_t)r17_2;
+    uint16_t r17 = load16(a0 + 24);
+    r19 = (uint64_t)r17;
     if (r18_14_0 > r19) {
         r3_0_off0 = 0;
         r28_0_0 = 0;
@@ -2896,25 +3457,70 @@ dfu_host_task_Task_row_exit:
     store16(r10_2 + 2, (uint16_t)((uint32_t)r28_48_24_0 << 8) | r28_48_0_0);
     store32(r10_2 + 4, r28_67_0);
     store64(r10_2 + 8, r28_82_0);
-    store32(v13, r28_95_0);
+    store32(v9, r28_95_0);
     if (!r3_0_off0) goto dfu_host_progress_Progress_by_row_exit;
     uint8_t r10_5 = *a0;
     if (r10_5 != 2) goto dfu_host_progress_Progress_by_row_exit;
     store64(a0, 3);
 dfu_host_progress_Progress_by_row_exit:
-    *r17_3 = r10;
-    r17_3[1] = r1_3_0_copyload;
-    store16(r17_3 + 2, r1_4_0_copyload);
-    store32(r17_3 + 4, r1_5_0_copyload);
-    store64(r17_3 + 8, r1_6_0_copyload);
-    store32(r17_3 + 16, r1_7_0_copyload);
-    store64a4(r17_3 + 20, r1_8_0_copyload);
-    store16(r17_3 + 28, r1_9_0_copyload);
-    store16(r17_3 + 30, v12);
-    dfu_host_progress_Progress_spent(r7_2, r17_3, r10_2, r1_9_0_copyload);
+    *r17_2 = r10;
+    r17_2[1] = r1_3_0_copyload;
+    store16(r17_2 + 2, r1_4_0_copyload);
+    store32(r17_2 + 4, r1_5_0_copyload);
+    store64(r17_2 + 8, r1_6_0_copyload);
+    store32(r17_2 + 16, r1_7_0_copyload);
+    store64a4(r17_2 + 20, r1_8_0_copyload);
+    store16(r17_2 + 28, r1_9_0_copyload);
+    store16(r17_2 + 30, v8);
+    dfu_host_progress_Progress_spent(r7_2, r17_2, r10_2, r1_9_0_copyload);
     goto dfu_host_progress_Progress_after_exit;
 dfu_host_progress_Progress_after_exit:
     memcpy(r12, r7_2, 32);
+    return;
+}
+
+/* dfu_wire::statuses::Status::decode */
+static void dfu_wire_statuses_Status_decode(unsigned char *a0, unsigned char *a1, uint64_t a2) {
+    uint8_t r54, r78;
+    if (a2 < 6) goto then_1;
+    goto join_3;
+then_1:
+    *a0 = 1;
+    a0[1] = 0;
+    memset(a0 + 4, 0, 12);
+    return;
+join_3:
+    if (a2 == 6) goto join_6;
+    *a0 = 1;
+    a0[1] = 1;
+    memset(a0 + 4, 0, 12);
+    return;
+join_6:
+    r54 = *a1;
+    if (r54 >= 16) goto arm_8;
+    r78 = a1[4];
+    if (r78 < 11) goto arm_11;
+    goto arm_12;
+arm_8:
+    *a0 = 1;
+    a0[1] = 5;
+    memset(a0 + 4, 0, 12);
+    return;
+arm_11:;
+    uint8_t r13 = a1[1];
+    uint8_t r17 = a1[2];
+    uint8_t r21 = a1[3];
+    *a0 = 0;
+    a0[1] = 0;
+    store32(a0 + 4, (uint32_t)r54);
+    store32(a0 + 8, (((uint32_t)r17 << 8) | (uint32_t)r13) | ((uint32_t)r21 << 16));
+    a0[12] = r78;
+    memset(a0 + 13, 0, 3);
+    return;
+arm_12:
+    *a0 = 1;
+    a0[1] = 4;
+    memset(a0 + 4, 0, 12);
     return;
 }
 
@@ -2937,6 +3543,31 @@ loop_2:
     goto loop_2;
 after_1:
     return r1_0;
+}
+
+/* core::slice::scan::any_by_one::<#953750c03e87c3e2> */
+static uint8_t core_slice_scan_any_by_one(unsigned char *a0, uint64_t a1) {
+    unsigned char *r12;
+    uint64_t r1_0, common_ret_op;
+    r12 = a0 + 16;
+    r1_0 = 0;
+loop_2:
+    if (r1_0 == a1) {
+        common_ret_op = a1;
+        goto core_slice_scan_first_by_one_exit;
+    }
+    uint64_t r3_0_0_copyload = load64(a0);
+    uint64_t r4_0_0_copyload = load64(r12);
+    uint8_t r3 = *((unsigned char *)(uintptr_t)r3_0_0_copyload + (size_t)r1_0);
+    uint8_t r4 = *((unsigned char *)(uintptr_t)r4_0_0_copyload + (size_t)r1_0);
+    if (r3 != r4) {
+        common_ret_op = r1_0;
+        goto core_slice_scan_first_by_one_exit;
+    }
+    r1_0 = r1_0 + 1;
+    goto loop_2;
+core_slice_scan_first_by_one_exit:
+    return common_ret_op < a1;
 }
 
 /* core::slice::scan::any_in_run::<#953750c03e87c3e2> */
@@ -3219,9 +3850,1930 @@ join_4:
     return;
 }
 
+/* dfu_host_c::dfuse::holding::map_of */
+static void dfu_host_c_dfuse_holding_map_of(unsigned char *a0, unsigned char *a1, uint64_t a2) {
+    _Alignas(8) unsigned char r4[800];
+    _Alignas(8) unsigned char r5_4[792];
+    uint64_t r5_0_0_0;
+    memset(r5_4, 0, 792);
+    dfuse_memory_map_Map_read(r4, a1, a2);
+    uint8_t r10 = *r4;
+    if (r10 != 0) {
+        r5_0_0_0 = 0;
+        goto join_4;
+    }
+    memcpy(r5_4, r4 + 8, 792);
+    r5_0_0_0 = 1;
+join_4:
+    store64(a0, r5_0_0_0);
+    memcpy(a0 + 8, r5_4, 792);
+    return;
+}
+
+/* dfu_host_c::dfuse::holding::session_of */
+static void dfu_host_c_dfuse_holding_session_of(unsigned char *a0, unsigned char *a1, unsigned char *a2, unsigned char *a3, uint64_t a4) {
+    uint64_t r12, r14, r18, r1_10_0_0, r1_18_0, r1_26_0, r1_6_0_0, r1_10_0, r0_30_0, r0_29_0, r0_28_0, r0_27_0;
+    uint64_t r0_204_0;
+    uint32_t r16, r20, r22, r0_32_0, r0_31_0;
+    uint8_t r0_16_0, r0_12_0, r0_8_0;
+    uint32_t r4 = load32(a1);
+    if (r4 != 300) goto arm_2;
+    uint32_t r10 = load32(a1 + 4);
+    r12 = load64(a1 + 8);
+    r14 = load64(a1 + 16);
+    r16 = load32(a1 + 32);
+    r18 = load64(a1 + 24);
+    r20 = load32(a1 + 36);
+    r22 = load32(a1 + 40);
+    switch (r10) {
+    case 7: goto then_1;
+    case 0:
+        r1_10_0_0 = 0;
+        r1_18_0 = r12;
+        r1_26_0 = 0;
+        goto arm_8;
+    case 1: goto arm_2_2;
+    case 2: goto arm_3;
+    case 3: goto arm_4;
+    case 4: goto arm_5;
+    case 5: goto arm_6;
+    case 6: goto arm_7;
+    default: goto arm_2;
+    }
+then_1:;
+    uint32_t r24 = load32(a1 + 44);
+    switch (r24) {
+    case 1: goto dfu_host_c_dfuse_reports_report_at_exit;
+    case 2:
+        r0_32_0 = 0;
+        r0_31_0 = 0;
+        r0_30_0 = 0;
+        r0_29_0 = 0;
+        r0_28_0 = 0;
+        r0_27_0 = 0;
+        r0_204_0 = 0;
+        r0_16_0 = 0;
+        r0_12_0 = 1;
+        r0_8_0 = 1;
+        goto arm_1;
+    case 3: goto arm_3_2;
+    case 4: goto arm_4_2;
+    case 5: goto arm_5_2;
+    case 6: goto arm_6_2;
+    case 7: goto arm_7_2;
+    default: goto arm_2;
+    }
+arm_3_2:
+    if (r22 < 16) {
+        r0_32_0 = 0;
+        r0_31_0 = 0;
+        r0_30_0 = 0;
+        r0_29_0 = 0;
+        r0_28_0 = 0;
+        r0_27_0 = 0;
+        r0_204_0 = 0;
+        r0_16_0 = (uint8_t)r22;
+        r0_12_0 = 2;
+        r0_8_0 = 1;
+        goto arm_1;
+    }
+    goto arm_2;
+arm_4_2:
+    r0_32_0 = 0;
+    r0_31_0 = 0;
+    r0_30_0 = 0;
+    r0_29_0 = 0;
+    r0_28_0 = 0;
+    r0_27_0 = 0;
+    r0_204_0 = 0;
+    r0_16_0 = 0;
+    r0_12_0 = 3;
+    r0_8_0 = 1;
+    goto arm_1;
+arm_5_2:
+    r0_32_0 = 0;
+    r0_31_0 = 0;
+    r0_30_0 = 0;
+    r0_29_0 = 0;
+    r0_28_0 = 0;
+    r0_27_0 = 0;
+    r0_204_0 = 0;
+    r0_16_0 = 0;
+    r0_12_0 = 4;
+    r0_8_0 = 1;
+    goto arm_1;
+arm_6_2:
+    r0_32_0 = 0;
+    r0_31_0 = 0;
+    r0_30_0 = 0;
+    r0_29_0 = 0;
+    r0_28_0 = 0;
+    r0_27_0 = 0;
+    r0_204_0 = 0;
+    r0_16_0 = 0;
+    r0_12_0 = 5;
+    r0_8_0 = 1;
+    goto arm_1;
+arm_7_2:
+    r0_32_0 = 0;
+    r0_31_0 = 0;
+    r0_30_0 = 0;
+    r0_29_0 = 0;
+    r0_28_0 = 0;
+    r0_27_0 = 0;
+    r0_204_0 = 0;
+    r0_16_0 = 0;
+    r0_12_0 = 6;
+    r0_8_0 = 1;
+    goto arm_1;
+dfu_host_c_dfuse_reports_report_at_exit:
+    if (r22 < 3) {
+        r0_32_0 = 0;
+        r0_31_0 = 0;
+        r0_30_0 = 0;
+        r0_29_0 = 0;
+        r0_28_0 = 0;
+        r0_27_0 = 0;
+        r0_204_0 = 0;
+        r0_16_0 = (uint8_t)r22;
+        r0_12_0 = 0;
+        r0_8_0 = 1;
+        goto arm_1;
+    }
+    goto arm_2;
+arm_2_2:
+    r1_10_0_0 = 1;
+    r1_18_0 = r12;
+    r1_26_0 = r14;
+    goto arm_8;
+arm_3:
+    r1_10_0_0 = 2;
+    r1_18_0 = r12;
+    r1_26_0 = r14;
+    goto arm_8;
+arm_4:
+    r1_10_0_0 = 3;
+    r1_18_0 = r12;
+    r1_26_0 = 0;
+    goto arm_8;
+arm_5:
+    r1_10_0_0 = 4;
+    r1_18_0 = r12;
+    r1_26_0 = 0;
+    goto arm_8;
+arm_6:
+    r1_10_0_0 = 5;
+    r1_18_0 = r12;
+    r1_26_0 = 0;
+    goto arm_8;
+arm_7:
+    r1_10_0_0 = 6;
+    r1_18_0 = 0;
+    r1_26_0 = 0;
+arm_8:
+    switch (r16) {
+    case 0:
+        r1_6_0_0 = 0;
+        r1_10_0 = 0;
+        goto arm_11;
+    case 1: goto arm_2_3;
+    case 2: goto arm_3_3;
+    default: goto arm_2;
+    }
+arm_2_3:
+    r1_6_0_0 = 1;
+    r1_10_0 = r18;
+    goto arm_11;
+arm_3_3:
+    r1_6_0_0 = 2;
+    r1_10_0 = r18;
+arm_11:
+    switch (r20) {
+    case 0:
+        r0_32_0 = 0;
+        r0_31_0 = r20;
+        r0_30_0 = r1_10_0;
+        r0_29_0 = r1_6_0_0;
+        r0_28_0 = r1_26_0;
+        r0_27_0 = r1_18_0;
+        r0_204_0 = r1_10_0_0;
+        r0_16_0 = 0;
+        r0_12_0 = 0;
+        r0_8_0 = 0;
+        goto arm_1;
+    case 1:
+        r0_32_0 = 0;
+        r0_31_0 = r20;
+        r0_30_0 = r1_10_0;
+        r0_29_0 = r1_6_0_0;
+        r0_28_0 = r1_26_0;
+        r0_27_0 = r1_18_0;
+        r0_204_0 = r1_10_0_0;
+        r0_16_0 = 0;
+        r0_12_0 = 0;
+        r0_8_0 = 0;
+        goto arm_1;
+    case 2:
+        r0_32_0 = 0;
+        r0_31_0 = r20;
+        r0_30_0 = r1_10_0;
+        r0_29_0 = r1_6_0_0;
+        r0_28_0 = r1_26_0;
+        r0_27_0 = r1_18_0;
+        r0_204_0 = r1_10_0_0;
+        r0_16_0 = 0;
+        r0_12_0 = 0;
+        r0_8_0 = 0;
+        goto arm_1;
+    case 3: goto arm_4_3;
+    case 4:
+        r0_32_0 = 0;
+        r0_31_0 = r20;
+        r0_30_0 = r1_10_0;
+        r0_29_0 = r1_6_0_0;
+        r0_28_0 = r1_26_0;
+        r0_27_0 = r1_18_0;
+        r0_204_0 = r1_10_0_0;
+        r0_16_0 = 0;
+        r0_12_0 = 0;
+        r0_8_0 = 0;
+        goto arm_1;
+    case 5:
+        r0_32_0 = 0;
+        r0_31_0 = r20;
+        r0_30_0 = r1_10_0;
+        r0_29_0 = r1_6_0_0;
+        r0_28_0 = r1_26_0;
+        r0_27_0 = r1_18_0;
+        r0_204_0 = r1_10_0_0;
+        r0_16_0 = 0;
+        r0_12_0 = 0;
+        r0_8_0 = 0;
+        goto arm_1;
+    case 6:
+        r0_32_0 = 0;
+        r0_31_0 = r20;
+        r0_30_0 = r1_10_0;
+        r0_29_0 = r1_6_0_0;
+        r0_28_0 = r1_26_0;
+        r0_27_0 = r1_18_0;
+        r0_204_0 = r1_10_0_0;
+        r0_16_0 = 0;
+        r0_12_0 = 0;
+        r0_8_0 = 0;
+        goto arm_1;
+    case 7: goto arm_4_3;
+    case 8: goto arm_4_3;
+    case 9:
+        r0_32_0 = 0;
+        r0_31_0 = r20;
+        r0_30_0 = r1_10_0;
+        r0_29_0 = r1_6_0_0;
+        r0_28_0 = r1_26_0;
+        r0_27_0 = r1_18_0;
+        r0_204_0 = r1_10_0_0;
+        r0_16_0 = 0;
+        r0_12_0 = 0;
+        r0_8_0 = 0;
+        goto arm_1;
+    case 10:
+        r0_32_0 = 0;
+        r0_31_0 = r20;
+        r0_30_0 = r1_10_0;
+        r0_29_0 = r1_6_0_0;
+        r0_28_0 = r1_26_0;
+        r0_27_0 = r1_18_0;
+        r0_204_0 = r1_10_0_0;
+        r0_16_0 = 0;
+        r0_12_0 = 0;
+        r0_8_0 = 0;
+        goto arm_1;
+    case 11:
+        r0_32_0 = 0;
+        r0_31_0 = r20;
+        r0_30_0 = r1_10_0;
+        r0_29_0 = r1_6_0_0;
+        r0_28_0 = r1_26_0;
+        r0_27_0 = r1_18_0;
+        r0_204_0 = r1_10_0_0;
+        r0_16_0 = 0;
+        r0_12_0 = 0;
+        r0_8_0 = 0;
+        goto arm_1;
+    case 12:
+        r0_32_0 = 0;
+        r0_31_0 = r20;
+        r0_30_0 = r1_10_0;
+        r0_29_0 = r1_6_0_0;
+        r0_28_0 = r1_26_0;
+        r0_27_0 = r1_18_0;
+        r0_204_0 = r1_10_0_0;
+        r0_16_0 = 0;
+        r0_12_0 = 0;
+        r0_8_0 = 0;
+        goto arm_1;
+    case 13:
+        r0_32_0 = 0;
+        r0_31_0 = r20;
+        r0_30_0 = r1_10_0;
+        r0_29_0 = r1_6_0_0;
+        r0_28_0 = r1_26_0;
+        r0_27_0 = r1_18_0;
+        r0_204_0 = r1_10_0_0;
+        r0_16_0 = 0;
+        r0_12_0 = 0;
+        r0_8_0 = 0;
+        goto arm_1;
+    case 14:
+        r0_32_0 = 0;
+        r0_31_0 = r20;
+        r0_30_0 = r1_10_0;
+        r0_29_0 = r1_6_0_0;
+        r0_28_0 = r1_26_0;
+        r0_27_0 = r1_18_0;
+        r0_204_0 = r1_10_0_0;
+        r0_16_0 = 0;
+        r0_12_0 = 0;
+        r0_8_0 = 0;
+        goto arm_1;
+    default: goto arm_2;
+    }
+arm_4_3:
+    r0_32_0 = r22;
+    r0_31_0 = r20;
+    r0_30_0 = r1_10_0;
+    r0_29_0 = r1_6_0_0;
+    r0_28_0 = r1_26_0;
+    r0_27_0 = r1_18_0;
+    r0_204_0 = r1_10_0_0;
+    r0_16_0 = 0;
+    r0_12_0 = 0;
+    r0_8_0 = 0;
+arm_1:;
+    uint16_t r26 = load16(a1 + 58);
+    uint16_t r28 = load16(a1 + 60);
+    uint16_t r30 = load16(a1 + 62);
+    uint32_t r35 = load32(a1 + 48);
+    uint32_t r48 = load32(a1 + 52);
+    uint16_t r50 = load16(a1 + 56);
+    store64(a0, 1);
+    store64(a0 + 8, (uint64_t)(uintptr_t)a2);
+    store64(a0 + 16, (uint64_t)(uintptr_t)a3);
+    store64(a0 + 24, a4);
+    store16(a0 + 32, r26);
+    store16(a0 + 34, r28);
+    a0[36] = r30 != 0;
+    memset(a0 + 37, 0, 3);
+    store32(a0 + 40, r35);
+    store32(a0 + 44, 0);
+    a0[48] = r0_8_0;
+    a0[49] = r0_12_0;
+    a0[50] = r0_16_0;
+    memset(a0 + 51, 0, 5);
+    store64(a0 + 56, r0_204_0);
+    store64(a0 + 64, r0_27_0);
+    store64(a0 + 72, r0_28_0);
+    store64(a0 + 80, r0_29_0);
+    store64(a0 + 88, r0_30_0);
+    store32(a0 + 96, r0_31_0);
+    store32(a0 + 100, r0_32_0);
+    store32(a0 + 104, r48);
+    store16(a0 + 108, r50);
+    store16(a0 + 110, 0);
+    return;
+arm_2:
+    memset(a0, 0, 112);
+    return;
+}
+
+/* dfuse_host::asking::ask */
+static void dfuse_host_asking_ask(unsigned char *a0, unsigned char *a1) {
+    _Alignas(8) unsigned char r8[8];
+    _Alignas(4) unsigned char r1[6];
+    uint8_t r2 = *a1;
+    store16(r1, r2);
+    uint16_t v0 = load16(a1 + 2);
+    store16(r1 + 2, v0);
+    uint16_t v1 = load16(a1 + 4);
+    store16(r1 + 4, v1);
+    store64(r8, 0);
+    dfuse_host_asking_setup_of(r8, r1);
+    uint64_t r0_3_1_copyload = load64(r8);
+    *a0 = 0;
+    store64u(a0 + 1, r0_3_1_copyload);
+    memset(a0 + 9, 0, 5);
+    store64(a0 + 16, (uint64_t)(uintptr_t)static_2);
+    store64(a0 + 24, 0);
+    return;
+}
+
+/* dfuse_host::asking::setup_of */
+static void dfuse_host_asking_setup_of(unsigned char *a0, unsigned char *a1) {
+    _Alignas(4) unsigned char r10[10];
+    _Alignas(8) unsigned char r9[8];
+    _Alignas(8) unsigned char r12[8];
+    _Alignas(4) unsigned char r8[6];
+    uint8_t r2 = *a1;
+    uint16_t v0 = load16(a1 + 2);
+    uint16_t v1 = load16(a1 + 4);
+    store16(r8, r2);
+    store16(r8 + 2, v0);
+    store16(r8 + 4, v1);
+    dfu_wire_requests_Request_setup(r10, r8);
+    uint8_t r21 = *r10;
+    if (r21 != 1) trap();
+    uint64_t v3 = load64a2(r10 + 2);
+    store64(r9, v3);
+    dfu_wire_setups_Setup_encode(r12, r9);
+    uint64_t r0_0_0_copyload = load64(r12);
+    store64(a0, r0_0_0_copyload);
+    return;
+}
+
+/* dfuse_host::plan::Plan::command_of */
+static struct i8_i64 dfuse_host_plan_Plan_command_of(unsigned char *a0, unsigned char *a1, uint8_t a2, uint64_t a3) {
+    uint64_t r1_3_8_copyload, r23_pn;
+    struct i8_i64 pn;
+    uint8_t r2 = *a1;
+    r1_3_8_copyload = load64(a1 + 8);
+    switch (r2) {
+    case 0: goto arm_4;
+    case 1:
+        pn = (struct i8_i64){ 1, 0 };
+        r23_pn = r1_3_8_copyload;
+        goto after_1;
+    case 2: goto after_2;
+    case 4: goto after_2;
+    case 3: goto after_3;
+    case 5: goto after_3;
+    case 6: goto arm_10;
+    default: never();
+    }
+arm_4:;
+    uint64_t r23 = dfuse_host_plan_Plan_page_start(a0, r1_3_8_copyload);
+    pn = (struct i8_i64){ 1, 0 };
+    r23_pn = r23;
+    goto after_1;
+arm_10:;
+    uint32_t r39 = load32(a0 + 32);
+    pn = (struct i8_i64){ 0, 0 };
+    r23_pn = (uint64_t)r39;
+    goto after_1;
+after_3:
+    pn = (struct i8_i64){ 0, 0 };
+    r23_pn = r1_3_8_copyload;
+    goto after_1;
+after_2:;
+    struct i8_i64 r21_half = (struct i8_i64){ 0, 0 };
+    r21_half.a = (uint8_t)(((a2 == 1) ? (a3 == r1_3_8_copyload) : 0) ? 2 : 0);
+    pn = r21_half;
+    r23_pn = r1_3_8_copyload;
+after_1:;
+    struct i8_i64 r59_merged = pn;
+    r59_merged.b = r23_pn;
+    return r59_merged;
+}
+
+/* dfuse_host::plan::Plan::page_start */
+static uint64_t dfuse_host_plan_Plan_page_start(unsigned char *a0, uint64_t a1) {
+    _Alignas(8) unsigned char r2[32];
+    dfuse_host_plan_Plan_page_of(r2, a0, a1);
+    uint8_t r4 = *r2;
+    uint32_t r1_0_0_copyload = load32(r2 + 8);
+    return (uint64_t)((r4 == 0) ? a1 : (uint64_t)r1_0_0_copyload);
+}
+
+/* dfuse_host::plan::Plan::page_of */
+static void dfuse_host_plan_Plan_page_of(unsigned char *a0, unsigned char *a1, uint64_t a2) {
+    _Alignas(8) unsigned char r4_2[32];
+    _Alignas(8) unsigned char r5_4_5[3];
+    uint8_t r11;
+    uint64_t r3_31_0_copyload, r5_4_4_0;
+    uint32_t r5_4_0_0;
+    if (a2 > 0xffffffffU) goto then_1;
+    goto join_3;
+then_1:
+    memset(a0, 0, 32);
+    return;
+join_3:;
+    uint64_t r12_wide = load64(a1);
+    unsigned char *r12 = (unsigned char *)(uintptr_t)r12_wide;
+    uint64_t r4 = load64(r12 + 784);
+    dfuse_memory_lookups_range_at(r4_2, a2, r12 + 16, r4);
+    r11 = *r4_2;
+    if (r11 != 1) {
+        r5_4_0_0 = 0;
+        r5_4_4_0 = 0;
+        goto dfuse_memory_map_Map_page_at_exit;
+    }
+    r3_31_0_copyload = load64(r4_2 + 16);
+    if (r3_31_0_copyload != 0) goto dfuse_memory_lookups_page_in_exit;
+    trap();
+dfuse_memory_lookups_page_in_exit:;
+    uint32_t r3_0_0_copyload = load32(r4_2 + 8);
+    uint64_t r13 = a2 - (uint64_t)r3_0_0_copyload;
+    memcpy(r5_4_5, r4_2 + 28, 3);
+    r5_4_0_0 = r3_0_0_copyload + (uint32_t)(r13 - (r13 % r3_31_0_copyload));
+    r5_4_4_0 = r3_31_0_copyload;
+dfuse_memory_map_Map_page_at_exit:
+    store64(a0, (uint64_t)r11);
+    store32(a0 + 8, r5_4_0_0);
+    store32(a0 + 12, 0);
+    store64(a0 + 16, r5_4_4_0);
+    memcpy(a0 + 24, r5_4_5, 3);
+    return;
+}
+
+/* dfuse_memory::lookups::range_at */
+static void dfuse_memory_lookups_range_at(unsigned char *a0, uint64_t a1, unsigned char *a2, uint64_t a3) {
+    _Alignas(8) unsigned char r0_5[24];
+    uint64_t r3_0, r7;
+    unsigned char *r23;
+    r3_0 = 0;
+loop_3:
+    if (r3_0 == a3) goto after_1;
+    r23 = a2 + (size_t)(r3_0 * 24);
+    uint32_t r5 = load32(r23);
+    r7 = (uint64_t)r5;
+    if (a1 < r7) goto after_7;
+    uint32_t r11 = load32(r23 + 16);
+    uint64_t r15 = load64(r23 + 8);
+    if (a1 < ((r15 * (uint64_t)r11) + r7)) goto then_8;
+    goto after_7;
+then_8:
+    memcpy(r0_5, r23, 24);
+    store64(a0, 1);
+    memcpy(a0 + 8, r0_5, 24);
+    return;
+after_7:
+    r3_0 = r3_0 + 1;
+    goto loop_3;
+after_1:
+    memset(a0, 0, 32);
+    return;
+}
+
+/* dfuse_host::asking::address_command */
+static void dfuse_host_asking_address_command(unsigned char *a0, uint8_t a1, uint64_t a2) {
+    _Alignas(8) unsigned char r17[8];
+    _Alignas(4) unsigned char r18[6];
+    store64(r17, 0);
+    store16(r18, 1);
+    store16(r18 + 2, 0);
+    store16(r18 + 4, 5);
+    dfuse_host_asking_setup_of(r17, r18);
+    uint64_t r0_3_1_copyload = load64(r17);
+    *a0 = 1;
+    store64u(a0 + 1, r0_3_1_copyload);
+    a0[9] = a1;
+    store32a2(a0 + 10, (uint32_t)a2);
+    memset(a0 + 16, 0, 16);
+    return;
+}
+
+/* dfuse_host::plan::Plan::end_of_work */
+static uint64_t dfuse_host_plan_Plan_end_of_work(unsigned char *a0, unsigned char *a1) {
+    uint64_t r9_0;
+    uint8_t r2 = *a1;
+    switch (r2) {
+    case 1: goto after_2;
+    case 2: goto after_2;
+    case 0: goto arm_5;
+    case 3: goto arm_5;
+    case 4: goto arm_6;
+    case 5: goto arm_6;
+    case 6:
+        r9_0 = 0;
+        goto after_1;
+    default: never();
+    }
+arm_5:;
+    uint64_t r10_0_0_copyload = load64(a0 + 8);
+    uint64_t r10_3_0_copyload = load64(a0 + 16);
+    uint64_t r20 = dfuse_host_image_image_end((unsigned char *)(uintptr_t)r10_0_0_copyload, r10_3_0_copyload);
+    r9_0 = r20;
+    goto after_1;
+arm_6:;
+    uint64_t r21 = dfuse_host_plan_Plan_front_end(a0);
+    r9_0 = r21;
+    goto after_1;
+after_2:;
+    uint64_t r1_4_16_copyload = load64(a1 + 16);
+    r9_0 = r1_4_16_copyload;
+after_1:
+    return r9_0;
+}
+
+/* dfuse_host::image::image_end */
+static uint64_t dfuse_host_image_image_end(unsigned char *a0, uint64_t a1) {
+    uint64_t r4_0, r3_0;
+    r4_0 = 0;
+    r3_0 = 0;
+loop_3:
+    if (r4_0 == a1) goto after_1;
+    unsigned char *r23 = a0 + (size_t)(r4_0 * 24);
+    uint32_t r5 = load32(r23);
+    uint64_t r10 = load64(r23 + 16);
+    r4_0 = r4_0 + 1;
+    r3_0 = umax64(r3_0, r10 + (uint64_t)r5);
+    goto loop_3;
+after_1:
+    return r3_0;
+}
+
+/* dfuse_host::plan::Plan::front_end */
+static uint64_t dfuse_host_plan_Plan_front_end(unsigned char *a0) {
+    uint64_t common_ret_op;
+    uint64_t r2_3_0_copyload = load64(a0 + 16);
+    if (r2_3_0_copyload == 0) {
+        common_ret_op = 0;
+        goto dfuse_host_image_image_start_exit;
+    }
+    uint64_t r2_0_0_copyload = load64(a0 + 8);
+    uint32_t r18 = load32((unsigned char *)(uintptr_t)r2_0_0_copyload);
+    common_ret_op = (uint64_t)r18;
+dfuse_host_image_image_start_exit:;
+    uint16_t r15 = load16(a0 + 26);
+    uint64_t r22 = dfuse_host_plan_Plan_element_end(a0, common_ret_op);
+    uint64_t r24 = dfuse_host_plan_Plan_page_end(a0, common_ret_op);
+    return umin64(umin64(r24, r22), common_ret_op + (uint64_t)r15);
+}
+
+/* dfuse_host::plan::Plan::element_end */
+static uint64_t dfuse_host_plan_Plan_element_end(unsigned char *a0, uint64_t a1) {
+    _Alignas(8) unsigned char r2[32];
+    uint64_t r3_0_0_copyload = load64(a0 + 8);
+    uint64_t r3_3_0_copyload = load64(a0 + 16);
+    dfuse_host_image_element_at(r2, a1, (unsigned char *)(uintptr_t)r3_0_0_copyload, r3_3_0_copyload);
+    uint8_t r10 = *r2;
+    uint32_t r1_0_0_copyload = load32(r2 + 8);
+    uint64_t r1_31_0_copyload = load64(r2 + 24);
+    return (uint64_t)((r10 == 0) ? a1 : (r1_31_0_copyload + (uint64_t)r1_0_0_copyload));
+}
+
+/* dfuse_host::image::element_at */
+static void dfuse_host_image_element_at(unsigned char *a0, uint64_t a1, unsigned char *a2, uint64_t a3) {
+    _Alignas(8) unsigned char r0_5[24];
+    uint64_t r3_0, r7;
+    unsigned char *r23;
+    r3_0 = 0;
+loop_3:
+    if (r3_0 == a3) goto after_1;
+    r23 = a2 + (size_t)(r3_0 * 24);
+    uint32_t r5 = load32(r23);
+    r7 = (uint64_t)r5;
+    if (a1 < r7) goto after_7;
+    uint64_t r10 = load64(r23 + 16);
+    if (a1 < (r10 + r7)) goto then_8;
+    goto after_7;
+then_8:
+    memcpy(r0_5, r23, 24);
+    store64(a0, 1);
+    memcpy(a0 + 8, r0_5, 24);
+    return;
+after_7:
+    r3_0 = r3_0 + 1;
+    goto loop_3;
+after_1:
+    memset(a0, 0, 32);
+    return;
+}
+
+/* dfuse_host::plan::Plan::page_end */
+static uint64_t dfuse_host_plan_Plan_page_end(unsigned char *a0, uint64_t a1) {
+    _Alignas(8) unsigned char r2[32];
+    dfuse_host_plan_Plan_page_of(r2, a0, a1);
+    uint8_t r5 = *r2;
+    uint32_t r1_0_0_copyload = load32(r2 + 8);
+    uint64_t r1_31_0_copyload = load64(r2 + 16);
+    return (uint64_t)((r5 == 0) ? a1 : (r1_31_0_copyload + (uint64_t)r1_0_0_copyload));
+}
+
+/* dfuse_host::plan::Plan::write_end */
+static uint64_t dfuse_host_plan_Plan_write_end(unsigned char *a0, uint64_t a1, uint64_t a2) {
+    uint16_t r4 = load16(a0 + 24);
+    uint64_t r10 = dfuse_host_plan_Plan_element_end(a0, a1);
+    uint64_t r11 = dfuse_host_plan_Plan_page_end(a0, a1);
+    return umin64(umin64(a2, umin64(r11, r10)), uadd_sat64((uint64_t)umax16(r4, 1), a1));
+}
+
+/* dfuse_host::plan::Plan::bytes_in */
+static struct ptr_i64 dfuse_host_plan_Plan_bytes_in(unsigned char *a0, uint64_t a1, uint64_t a2) {
+    _Alignas(8) unsigned char r4[32];
+    uint64_t r0_4_0;
+    unsigned char *r0_0_0;
+    uint64_t r5_0_0_copyload = load64(a0 + 8);
+    uint64_t r5_3_0_copyload = load64(a0 + 16);
+    dfuse_host_image_element_at(r4, a1, (unsigned char *)(uintptr_t)r5_0_0_copyload, r5_3_0_copyload);
+    uint8_t r21 = *r4;
+    if (r21 != 1) {
+        r0_4_0 = 0;
+        r0_0_0 = PLACE(static_2);
+        goto return_5;
+    }
+    uint32_t r1_0_0_copyload = load32(r4 + 8);
+    uint64_t r1_34_0_copyload = load64(r4 + 16);
+    uint64_t r1_4_0_copyload = load64(r4 + 24);
+    uint64_t r31 = a1 - (uint64_t)r1_0_0_copyload;
+    r0_4_0 = umin64(usub_sat64(a2, a1), r1_4_0_copyload - r31);
+    r0_0_0 = (unsigned char *)(uintptr_t)r1_34_0_copyload + (size_t)r31;
+return_5:;
+    struct ptr_i64 r49_half = (struct ptr_i64){ 0, 0 };
+    r49_half.a = r0_0_0;
+    struct ptr_i64 r49 = r49_half;
+    r49.b = r0_4_0;
+    return r49;
+}
+
+/* dfuse_host::plan::Plan::read_bytes */
+static struct ptr_i64 dfuse_host_plan_Plan_read_bytes(unsigned char *a0, unsigned char *a1) {
+    _Alignas(8) unsigned char r1[24];
+    uint8_t r2 = *a1;
+    store64(r1, (uint64_t)r2);
+    uint64_t v0 = load64(a1 + 8);
+    store64(r1 + 8, v0);
+    uint64_t v1 = load64(a1 + 16);
+    store64(r1 + 16, v1);
+    uint64_t spec_select = (uint64_t)((r2 == 6) ? 0 : v0);
+    uint64_t r12 = dfuse_host_plan_Plan_end_of_work(a0, r1);
+    uint64_t r15 = dfuse_host_plan_Plan_read_end(a0, spec_select, r12);
+    struct ptr_i64 r18 = dfuse_host_plan_Plan_bytes_in(a0, spec_select, r15);
+    return r18;
+}
+
+/* dfuse_host::plan::Plan::read_end */
+static uint64_t dfuse_host_plan_Plan_read_end(unsigned char *a0, uint64_t a1, uint64_t a2) {
+    uint16_t r4 = load16(a0 + 24);
+    uint64_t r8 = dfuse_host_plan_Plan_element_end(a0, a1);
+    return umin64(umin64(a2, r8), uadd_sat64((uint64_t)umax16(r4, 1), a1));
+}
+
+/* dfuse_host::asking::download */
+static void dfuse_host_asking_download(unsigned char *a0, unsigned char *a1, uint64_t a2) {
+    _Alignas(8) unsigned char r5[8];
+    _Alignas(4) unsigned char r6[6];
+    store64(r5, 0);
+    store16(r6, 1);
+    store16(r6 + 2, 2);
+    store16(r6 + 4, (uint16_t)a2);
+    dfuse_host_asking_setup_of(r5, r6);
+    uint64_t r0_3_1_copyload = load64(r5);
+    *a0 = 0;
+    store64u(a0 + 1, r0_3_1_copyload);
+    memset(a0 + 9, 0, 5);
+    store64(a0 + 16, (uint64_t)(uintptr_t)a1);
+    store64(a0 + 24, a2);
+    return;
+}
+
+/* dfu_host_c::dfuse::action::send */
+static uint32_t dfu_host_c_dfuse_action_send(unsigned char *a0, unsigned char *a1, uint64_t a2, unsigned char *a3, uint64_t a4, unsigned char *a5) {
+    uint32_t common_ret_op;
+    if (a4 >= a2) goto join_3;
+    common_ret_op = 0xffffffd5U;
+common_ret:
+    return common_ret_op;
+join_3:;
+    uint64_t r1_0_0_copyload = load64(a0);
+    core_slice_edits_slice_T_copy_from_slice_i8_core_clone_U8Clone(a3, a1, a2);
+    store64(a5, a2);
+    store32(a5 + 8, 0);
+    store32(a5 + 12, 0);
+    store32(a5 + 16, 0);
+    store64a4(a5 + 20, r1_0_0_copyload);
+    store32(a5 + 28, 0);
+    common_ret_op = 0;
+    goto common_ret;
+}
+
+/* dfu_host_c::dfuse::reports::report_numbers */
+static struct i32_i32 dfu_host_c_dfuse_reports_report_numbers(uint8_t a0, uint8_t a1) {
+    uint32_t r5_0_0;
+    uint8_t r5_9_0_shrunk;
+    switch (a0) {
+    case 0: goto arm_1;
+    case 1:
+        r5_0_0 = 2;
+        r5_9_0_shrunk = 0;
+        goto join_9;
+    case 2: goto arm_3;
+    case 3: goto arm_4;
+    case 4: goto arm_5;
+    case 5: goto arm_6;
+    case 6: goto arm_7;
+    default: never();
+    }
+arm_1:
+    r5_0_0 = 1;
+    r5_9_0_shrunk = a1;
+    goto join_9;
+arm_3:
+    r5_0_0 = 3;
+    r5_9_0_shrunk = a1;
+    goto join_9;
+arm_4:
+    r5_0_0 = 4;
+    r5_9_0_shrunk = 0;
+    goto join_9;
+arm_5:
+    r5_0_0 = 5;
+    r5_9_0_shrunk = 0;
+    goto join_9;
+arm_6:
+    r5_0_0 = 6;
+    r5_9_0_shrunk = 0;
+    goto join_9;
+arm_7:
+    r5_0_0 = 7;
+    r5_9_0_shrunk = 0;
+join_9:;
+    struct i32_i32 r24_half = (struct i32_i32){ 0, 0 };
+    r24_half.a = r5_0_0;
+    struct i32_i32 r24 = r24_half;
+    r24.b = (uint32_t)r5_9_0_shrunk;
+    return r24;
+}
+
+/* dfuse_host::plan::Plan::grants */
+static uint8_t dfuse_host_plan_Plan_grants(unsigned char *a0, unsigned char *a1) {
+    _Alignas(8) unsigned char r7[32];
+    uint64_t r2_3_0_copyload, r3_0, r14, r4, r4_0, r5_36_0_copyload;
+    unsigned char *r26, *r21, *r5_36_0_r21_sroa_idx, *r5_4_0_r21_sroa_idx, *r5_5_0_r21_sroa_idx, *r5_6_0_r21_sroa_idx, *r5_7_0_r21_sroa_idx, *r5;
+    uint8_t r15, r31, r50, or_cond_old, r3_04;
+    uint32_t r5_0_0_copyload, r5_4_0_copyload;
+    uint8_t r5_7_0_copyload;
+    uint8_t r1_0_0_copyload = *a1;
+    uint8_t r1_3_0_copyload = a1[1];
+    uint8_t r1_4_0_copyload = a1[2];
+    uint64_t r2_0_0_copyload = load64(a0 + 8);
+    r2_3_0_copyload = load64(a0 + 16);
+    r26 = (unsigned char *)(uintptr_t)r2_0_0_copyload;
+    r21 = r7 + 8;
+    r5_36_0_r21_sroa_idx = r7 + 16;
+    r5_4_0_r21_sroa_idx = r7 + 24;
+    r5_5_0_r21_sroa_idx = r7 + 28;
+    r5_6_0_r21_sroa_idx = r7 + 29;
+    r5_7_0_r21_sroa_idx = r7 + 30;
+    r15 = !(r1_0_0_copyload & 1);
+    r31 = !(r1_3_0_copyload & 1);
+    r50 = !(r1_4_0_copyload & 1);
+    r3_0 = 0;
+loop_2_2:
+    if (r3_0 == r2_3_0_copyload) {
+        r3_04 = 1;
+        goto common_ret;
+    }
+    unsigned char *r28 = r26 + (size_t)(r3_0 * 24);
+    uint64_t r30_wide = load64(a0);
+    unsigned char *r30 = (unsigned char *)(uintptr_t)r30_wide;
+    uint32_t r32 = load32(r28);
+    uint64_t r34 = (uint64_t)r32;
+    uint64_t r10 = load64(r28 + 16);
+    r14 = r10 + r34;
+    r5 = r30 + 16;
+    r4 = load64(r30 + 784);
+    r4_0 = r34;
+loop_2:
+    if (r4_0 >= r14) goto after_6;
+    dfuse_memory_lookups_range_at(r7, r4_0, r5, r4);
+    uint8_t r20 = *r7;
+    if (r20 != 1) goto dfuse_memory_map_Map_grants_exit_thread;
+    r5_0_0_copyload = load32(r21);
+    r5_36_0_copyload = load64(r5_36_0_r21_sroa_idx);
+    r5_4_0_copyload = load32(r5_4_0_r21_sroa_idx);
+    uint8_t r5_5_0_copyload = *r5_5_0_r21_sroa_idx;
+    uint8_t r5_6_0_copyload = *r5_6_0_r21_sroa_idx;
+    r5_7_0_copyload = *r5_7_0_r21_sroa_idx;
+    or_cond_old = (r5_6_0_copyload & 1) ? 1 : r31;
+    if (r5_5_0_copyload & 1) goto then_4;
+    if ((r15 ? or_cond_old : 0) ? ((r5_7_0_copyload & 1) ? 1 : r50) : 0) goto then_12;
+    goto dfuse_memory_map_Map_grants_exit_thread;
+then_4:
+    if (!(or_cond_old ? ((r5_7_0_copyload & 1) ? 1 : r50) : 0)) goto dfuse_memory_map_Map_grants_exit_thread;
+then_12:
+    r4_0 = (r5_36_0_copyload * (uint64_t)r5_4_0_copyload) + (uint64_t)r5_0_0_copyload;
+    goto loop_2;
+dfuse_memory_map_Map_grants_exit_thread:
+    r3_04 = r3_0 >= r2_3_0_copyload;
+common_ret:
+    return r3_04;
+after_6:
+    r3_0 = r3_0 + 1;
+    goto loop_2_2;
+}
+
+/* dfu_host_c::dfuse::holding::record_of */
+static void dfu_host_c_dfuse_holding_record_of(unsigned char *a0, unsigned char *a1) {
+    uint64_t r2_92_8_copyload, r2_10_8_copyload, r2_123_8_copyload, r16_91_0, r16_16_0, r6_51_0, r12_5_0, r12_7_0, r12_12_0;
+    uint8_t r2_11_8_copyload, r2_13_8_copyload;
+    uint32_t r2_144_8_copyload, r16_0_0, r6_0_0, r12_0_0, r12_9_0, r12_14_0, r12_16_0, r12_18_0;
+    uint8_t v0 = a1[40];
+    r2_92_8_copyload = load64(a1 + 56);
+    r2_10_8_copyload = load64(a1 + 64);
+    r2_11_8_copyload = a1[72];
+    r2_123_8_copyload = load64(a1 + 80);
+    r2_13_8_copyload = a1[88];
+    r2_144_8_copyload = load32(a1 + 92);
+    if (v0 != 0) goto arm_2;
+    uint8_t r2_71_8_copyload = a1[48];
+    switch (r2_71_8_copyload) {
+    case 0:
+        r16_0_0 = 0;
+        r16_91_0 = r2_92_8_copyload;
+        r16_16_0 = 0;
+        goto dfu_host_c_dfuse_phases_work_numbers_exit;
+    case 1: goto arm_2_2;
+    case 2: goto arm_3;
+    case 3: goto arm_4;
+    case 4: goto arm_5;
+    case 5: goto arm_6;
+    case 6: goto arm_7;
+    default: never();
+    }
+arm_2_2:
+    r16_0_0 = 1;
+    r16_91_0 = r2_92_8_copyload;
+    r16_16_0 = r2_10_8_copyload;
+    goto dfu_host_c_dfuse_phases_work_numbers_exit;
+arm_3:
+    r16_0_0 = 2;
+    r16_91_0 = r2_92_8_copyload;
+    r16_16_0 = r2_10_8_copyload;
+    goto dfu_host_c_dfuse_phases_work_numbers_exit;
+arm_4:
+    r16_0_0 = 3;
+    r16_91_0 = r2_92_8_copyload;
+    r16_16_0 = 0;
+    goto dfu_host_c_dfuse_phases_work_numbers_exit;
+arm_5:
+    r16_0_0 = 4;
+    r16_91_0 = r2_92_8_copyload;
+    r16_16_0 = 0;
+    goto dfu_host_c_dfuse_phases_work_numbers_exit;
+arm_6:
+    r16_0_0 = 5;
+    r16_91_0 = r2_92_8_copyload;
+    r16_16_0 = 0;
+    goto dfu_host_c_dfuse_phases_work_numbers_exit;
+arm_7:
+    r16_0_0 = 6;
+    r16_91_0 = 0;
+    r16_16_0 = 0;
+    goto dfu_host_c_dfuse_phases_work_numbers_exit;
+dfu_host_c_dfuse_phases_work_numbers_exit:
+    switch (r2_11_8_copyload) {
+    case 0:
+        r6_0_0 = 0;
+        r6_51_0 = 0;
+        goto dfu_host_c_dfuse_phases_place_numbers_exit;
+    case 1: goto arm_2_3;
+    case 2: goto arm_3_2;
+    default: never();
+    }
+arm_2_3:
+    r6_0_0 = 1;
+    r6_51_0 = r2_123_8_copyload;
+    goto dfu_host_c_dfuse_phases_place_numbers_exit;
+arm_3_2:
+    r6_0_0 = 2;
+    r6_51_0 = r2_123_8_copyload;
+    goto dfu_host_c_dfuse_phases_place_numbers_exit;
+dfu_host_c_dfuse_phases_place_numbers_exit:
+    switch (r2_13_8_copyload) {
+    case 0:
+        r12_0_0 = r16_0_0;
+        r12_5_0 = r16_91_0;
+        r12_7_0 = r16_16_0;
+        r12_9_0 = r6_0_0;
+        r12_12_0 = r6_51_0;
+        r12_14_0 = 0;
+        r12_16_0 = 0;
+        r12_18_0 = 0;
+        goto dfu_host_c_dfuse_phases_numbers_of_exit;
+    case 1: goto arm_2_4;
+    case 2: goto arm_3_3;
+    case 3: goto arm_4_2;
+    case 4: goto arm_5_2;
+    case 5: goto arm_6_2;
+    case 6: goto arm_7_2;
+    case 7: goto arm_8;
+    case 8: goto arm_9;
+    case 9: goto arm_10;
+    case 10: goto arm_11;
+    case 11: goto arm_12;
+    case 12: goto arm_13;
+    case 13: goto arm_14;
+    case 14: goto arm_15;
+    default: never();
+    }
+arm_2_4:
+    r12_0_0 = r16_0_0;
+    r12_5_0 = r16_91_0;
+    r12_7_0 = r16_16_0;
+    r12_9_0 = r6_0_0;
+    r12_12_0 = r6_51_0;
+    r12_14_0 = 1;
+    r12_16_0 = 0;
+    r12_18_0 = 0;
+    goto dfu_host_c_dfuse_phases_numbers_of_exit;
+arm_3_3:
+    r12_0_0 = r16_0_0;
+    r12_5_0 = r16_91_0;
+    r12_7_0 = r16_16_0;
+    r12_9_0 = r6_0_0;
+    r12_12_0 = r6_51_0;
+    r12_14_0 = 2;
+    r12_16_0 = 0;
+    r12_18_0 = 0;
+    goto dfu_host_c_dfuse_phases_numbers_of_exit;
+arm_4_2:
+    r12_0_0 = r16_0_0;
+    r12_5_0 = r16_91_0;
+    r12_7_0 = r16_16_0;
+    r12_9_0 = r6_0_0;
+    r12_12_0 = r6_51_0;
+    r12_14_0 = 3;
+    r12_16_0 = r2_144_8_copyload;
+    r12_18_0 = 0;
+    goto dfu_host_c_dfuse_phases_numbers_of_exit;
+arm_5_2:
+    r12_0_0 = r16_0_0;
+    r12_5_0 = r16_91_0;
+    r12_7_0 = r16_16_0;
+    r12_9_0 = r6_0_0;
+    r12_12_0 = r6_51_0;
+    r12_14_0 = 4;
+    r12_16_0 = 0;
+    r12_18_0 = 0;
+    goto dfu_host_c_dfuse_phases_numbers_of_exit;
+arm_6_2:
+    r12_0_0 = r16_0_0;
+    r12_5_0 = r16_91_0;
+    r12_7_0 = r16_16_0;
+    r12_9_0 = r6_0_0;
+    r12_12_0 = r6_51_0;
+    r12_14_0 = 5;
+    r12_16_0 = 0;
+    r12_18_0 = 0;
+    goto dfu_host_c_dfuse_phases_numbers_of_exit;
+arm_7_2:
+    r12_0_0 = r16_0_0;
+    r12_5_0 = r16_91_0;
+    r12_7_0 = r16_16_0;
+    r12_9_0 = r6_0_0;
+    r12_12_0 = r6_51_0;
+    r12_14_0 = 6;
+    r12_16_0 = 0;
+    r12_18_0 = 0;
+    goto dfu_host_c_dfuse_phases_numbers_of_exit;
+arm_8:
+    r12_0_0 = r16_0_0;
+    r12_5_0 = r16_91_0;
+    r12_7_0 = r16_16_0;
+    r12_9_0 = r6_0_0;
+    r12_12_0 = r6_51_0;
+    r12_14_0 = 7;
+    r12_16_0 = r2_144_8_copyload;
+    r12_18_0 = 0;
+    goto dfu_host_c_dfuse_phases_numbers_of_exit;
+arm_9:
+    r12_0_0 = r16_0_0;
+    r12_5_0 = r16_91_0;
+    r12_7_0 = r16_16_0;
+    r12_9_0 = r6_0_0;
+    r12_12_0 = r6_51_0;
+    r12_14_0 = 8;
+    r12_16_0 = r2_144_8_copyload;
+    r12_18_0 = 0;
+    goto dfu_host_c_dfuse_phases_numbers_of_exit;
+arm_10:
+    r12_0_0 = r16_0_0;
+    r12_5_0 = r16_91_0;
+    r12_7_0 = r16_16_0;
+    r12_9_0 = r6_0_0;
+    r12_12_0 = r6_51_0;
+    r12_14_0 = 9;
+    r12_16_0 = 0;
+    r12_18_0 = 0;
+    goto dfu_host_c_dfuse_phases_numbers_of_exit;
+arm_11:
+    r12_0_0 = r16_0_0;
+    r12_5_0 = r16_91_0;
+    r12_7_0 = r16_16_0;
+    r12_9_0 = r6_0_0;
+    r12_12_0 = r6_51_0;
+    r12_14_0 = 10;
+    r12_16_0 = 0;
+    r12_18_0 = 0;
+    goto dfu_host_c_dfuse_phases_numbers_of_exit;
+arm_12:
+    r12_0_0 = r16_0_0;
+    r12_5_0 = r16_91_0;
+    r12_7_0 = r16_16_0;
+    r12_9_0 = r6_0_0;
+    r12_12_0 = r6_51_0;
+    r12_14_0 = 11;
+    r12_16_0 = 0;
+    r12_18_0 = 0;
+    goto dfu_host_c_dfuse_phases_numbers_of_exit;
+arm_13:
+    r12_0_0 = r16_0_0;
+    r12_5_0 = r16_91_0;
+    r12_7_0 = r16_16_0;
+    r12_9_0 = r6_0_0;
+    r12_12_0 = r6_51_0;
+    r12_14_0 = 12;
+    r12_16_0 = 0;
+    r12_18_0 = 0;
+    goto dfu_host_c_dfuse_phases_numbers_of_exit;
+arm_14:
+    r12_0_0 = r16_0_0;
+    r12_5_0 = r16_91_0;
+    r12_7_0 = r16_16_0;
+    r12_9_0 = r6_0_0;
+    r12_12_0 = r6_51_0;
+    r12_14_0 = 13;
+    r12_16_0 = 0;
+    r12_18_0 = 0;
+    goto dfu_host_c_dfuse_phases_numbers_of_exit;
+arm_15:
+    r12_0_0 = r16_0_0;
+    r12_5_0 = r16_91_0;
+    r12_7_0 = r16_16_0;
+    r12_9_0 = r6_0_0;
+    r12_12_0 = r6_51_0;
+    r12_14_0 = 14;
+    r12_16_0 = 0;
+    r12_18_0 = 0;
+    goto dfu_host_c_dfuse_phases_numbers_of_exit;
+arm_2:;
+    uint8_t v2 = a1[42];
+    uint8_t v3 = a1[41];
+    struct i32_i32 r22 = dfu_host_c_dfuse_reports_report_numbers(v3, v2);
+    r12_0_0 = 7;
+    r12_5_0 = 0;
+    r12_7_0 = 0;
+    r12_9_0 = 0;
+    r12_12_0 = 0;
+    r12_14_0 = 0;
+    r12_16_0 = r22.b;
+    r12_18_0 = r22.a;
+dfu_host_c_dfuse_phases_numbers_of_exit:;
+    uint32_t r18 = load32(a1 + 32);
+    uint32_t r20 = load32(a1 + 96);
+    uint16_t r22_2 = load16(a1 + 100);
+    uint16_t r24 = load16(a1 + 24);
+    uint16_t r26 = load16(a1 + 26);
+    uint8_t r28 = a1[28];
+    store32(a0, 300);
+    store32(a0 + 4, r12_0_0);
+    store64(a0 + 8, r12_5_0);
+    store64(a0 + 16, r12_7_0);
+    store64(a0 + 24, r12_12_0);
+    store32(a0 + 32, r12_9_0);
+    store32(a0 + 36, r12_14_0);
+    store32(a0 + 40, r12_16_0);
+    store32(a0 + 44, r12_18_0);
+    store32(a0 + 48, r18);
+    store32(a0 + 52, r20);
+    store16(a0 + 56, r22_2);
+    store16(a0 + 58, r24);
+    store16(a0 + 60, r26);
+    store16(a0 + 62, r28);
+    return;
+}
+
+/* dfuse_host::session::Session::restarted_once */
+static void dfuse_host_session_Session_restarted_once(unsigned char *a0, unsigned char *a1, unsigned char *a2) {
+    _Alignas(8) unsigned char r3[104];
+    _Alignas(8) unsigned char r0[104];
+    _Alignas(8) unsigned char r6[104];
+    _Alignas(8) unsigned char r10[104];
+    _Alignas(8) unsigned char r1_0[100];
+    _Alignas(8) unsigned char r4[56];
+    _Alignas(8) unsigned char r3_2[56];
+    _Alignas(8) unsigned char r8[56];
+    _Alignas(8) unsigned char r6_2[24];
+    _Alignas(8) unsigned char r9[24];
+    uint16_t r1_5_0_copyload, v0;
+    uint8_t r2_0_0_copyload, r2_5_0_copyload, r2_7_0_copyload, v1, v2, v3;
+    uint64_t r2_38_0_copyload, r2_4_0_copyload, r2_69_0_copyload, r15;
+    memcpy(r1_0, a1, 100);
+    r1_5_0_copyload = load16(a1 + 100);
+    v0 = load16(a1 + 102);
+    r2_0_0_copyload = *a2;
+    r2_38_0_copyload = load64(a2 + 8);
+    r2_4_0_copyload = load64(a2 + 16);
+    r2_5_0_copyload = a2[24];
+    r2_69_0_copyload = load64(a2 + 32);
+    r2_7_0_copyload = a2[40];
+    memset(r8, 0, 56);
+    if (r1_5_0_copyload == 0) goto then_1;
+    goto join_3;
+then_1:
+    memcpy(r6, a1, 100);
+    store16(r6 + 100, 0);
+    store16(r6 + 102, v0);
+    *r8 = 1;
+    r8[1] = 5;
+    dfuse_host_session_Session_spent(r0, r6, r8, 0);
+    memcpy(a0, r0, 104);
+    return;
+join_3:
+    memcpy(r3, a1, 100);
+    store16(r3 + 100, r1_5_0_copyload);
+    store16(r3 + 102, v0);
+    r15 = (uint64_t)r2_0_0_copyload;
+    if ((uint8_t)(r2_7_0_copyload + 249) >= 2) goto arm_2;
+    store64(r6_2, r15);
+    store64(r6_2 + 8, r2_38_0_copyload);
+    store64(r6_2 + 16, r2_4_0_copyload);
+    store64(r9, r15);
+    store64(r9 + 8, r2_38_0_copyload);
+    store64(r9 + 16, r2_4_0_copyload);
+    struct i8_i64 r35 = dfuse_host_plan_Plan_command_of(r3, r9, r2_5_0_copyload, r2_69_0_copyload);
+    dfuse_host_plan_Plan_unsure(r4, r3, r6_2, r35.a);
+    uint8_t pre = *r4;
+    uint8_t pre10 = r4[1];
+    uint8_t pre11 = r4[2];
+    v1 = pre11;
+    v2 = pre10;
+    v3 = pre;
+    goto dfuse_host_session_Session_resumed_exit;
+arm_2:
+    store64(r4 + 8, r15);
+    store64(r4 + 16, r2_38_0_copyload);
+    store64(r4 + 24, r2_4_0_copyload);
+    memset(r4 + 32, 0, 24);
+    v1 = 0;
+    v2 = 0;
+    v3 = 0;
+dfuse_host_session_Session_resumed_exit:
+    *r3_2 = v3;
+    r3_2[1] = v2;
+    r3_2[2] = v1;
+    memcpy(r3_2 + 8, r4 + 8, 48);
+    memcpy(r10, r1_0, 100);
+    store16(r10 + 100, r1_5_0_copyload);
+    store16(r10 + 102, v0);
+    dfuse_host_session_Session_spent(r0, r10, r3_2, (uint16_t)(r1_5_0_copyload + 0xffffU));
+    memcpy(a0, r0, 104);
+    return;
+}
+
+/* dfuse_host::plan::Plan::unsure */
+static void dfuse_host_plan_Plan_unsure(unsigned char *a0, unsigned char *a1, unsigned char *a2, uint8_t a3) {
+    _Alignas(8) unsigned char r11_17[24];
+    uint8_t r2, r11_0_0_0, r11_1014_0_in;
+    uint64_t v0, v1, r11_5_0, r11_9_0, r11_13_0, r11_15_0;
+    r2 = *a2;
+    v0 = load64(a2 + 8);
+    v1 = load64(a2 + 16);
+    if (a3 == 2) goto arm_2;
+    memset(r11_17, 0, 24);
+    r11_1014_0_in = r2;
+    r11_13_0 = v0;
+    r11_15_0 = v1;
+    goto join_4;
+arm_2:
+    switch (r2) {
+    case 2: goto arm_1;
+    case 4: goto arm_2_2;
+    case 0:
+        r11_0_0_0 = r2;
+        r11_5_0 = v0;
+        r11_9_0 = v1;
+        goto dfuse_host_plan_Plan_again_exit;
+    case 1:
+        r11_0_0_0 = r2;
+        r11_5_0 = v0;
+        r11_9_0 = v1;
+        goto dfuse_host_plan_Plan_again_exit;
+    case 3:
+        r11_0_0_0 = r2;
+        r11_5_0 = v0;
+        r11_9_0 = v1;
+        goto dfuse_host_plan_Plan_again_exit;
+    case 5:
+        r11_0_0_0 = r2;
+        r11_5_0 = v0;
+        r11_9_0 = v1;
+        goto dfuse_host_plan_Plan_again_exit;
+    case 6:
+        r11_0_0_0 = r2;
+        r11_5_0 = v0;
+        r11_9_0 = v1;
+        goto dfuse_host_plan_Plan_again_exit;
+    default: never();
+    }
+arm_1:;
+    uint64_t r24 = dfuse_host_plan_Plan_page_start(a1, v0);
+    r11_0_0_0 = 1;
+    r11_5_0 = r24;
+    r11_9_0 = v1;
+    goto dfuse_host_plan_Plan_again_exit;
+arm_2_2:;
+    uint64_t r32 = dfuse_host_plan_Plan_page_start(a1, v0);
+    uint64_t r34 = dfuse_host_plan_Plan_page_end(a1, v0);
+    uint64_t r17_0_0_copyload = load64(a1 + 8);
+    uint64_t r17_3_0_copyload = load64(a1 + 16);
+    uint64_t r39 = dfuse_host_image_image_end((unsigned char *)(uintptr_t)r17_0_0_copyload, r17_3_0_copyload);
+    r11_0_0_0 = 1;
+    r11_5_0 = r32;
+    r11_9_0 = umin64(r39, r34);
+    goto dfuse_host_plan_Plan_again_exit;
+dfuse_host_plan_Plan_again_exit:
+    memset(r11_17, 0, 24);
+    r11_1014_0_in = r11_0_0_0;
+    r11_13_0 = r11_5_0;
+    r11_15_0 = r11_9_0;
+join_4:
+    *a0 = 0;
+    a0[1] = 0;
+    a0[2] = 0;
+    store64(a0 + 8, (uint64_t)r11_1014_0_in);
+    store64(a0 + 16, r11_13_0);
+    store64(a0 + 24, r11_15_0);
+    memcpy(a0 + 32, r11_17, 24);
+    return;
+}
+
+/* dfuse_host::plan::Plan::settle */
+static void dfuse_host_plan_Plan_settle(unsigned char *a0, unsigned char *a1, unsigned char *a2, uint8_t a3, uint64_t a4) {
+    _Alignas(8) unsigned char r19[56];
+    uint64_t r1_3_8_copyload, r1_10_16_copyload, r5_1640_0, r5_26_0, r5_29_0;
+    uint8_t r5_0_0;
+    uint32_t r5_32_0;
+    uint8_t r2 = *a2;
+    r1_3_8_copyload = load64(a2 + 8);
+    r1_10_16_copyload = load64(a2 + 16);
+    memset(r19, 0, 56);
+    switch (r2) {
+    case 0: goto arm_1;
+    case 1: goto arm_2;
+    case 2: goto arm_3;
+    case 3: goto arm_4;
+    case 4: goto arm_5;
+    case 5: goto arm_6;
+    case 6: goto arm_7;
+    default: never();
+    }
+arm_1:
+    dfuse_host_plan_Plan_to_erase(r19, a1, a3, a4, r1_3_8_copyload);
+    goto join_9;
+arm_2:
+    store64(r19 + 8, 1);
+    store64(r19 + 16, r1_3_8_copyload);
+    store64(r19 + 24, r1_10_16_copyload);
+    store64(r19 + 32, (uint64_t)a3);
+    store64(r19 + 40, a4);
+    store32(r19 + 48, (uint32_t)((a3 == 2) ? 10 : 5));
+    goto join_9;
+arm_3:
+    dfuse_host_plan_Plan_to_write(r19, a1, a3, a4, r1_3_8_copyload, r1_10_16_copyload);
+    goto join_9;
+arm_4:
+    dfuse_host_plan_Plan_to_compare(r19, a1, a3, a4, r1_3_8_copyload);
+    goto join_9;
+arm_5:
+    dfuse_host_plan_Plan_to_write_front(r19, a1, a3, a4, r1_3_8_copyload);
+    goto join_9;
+arm_6:
+    dfuse_host_plan_Plan_to_compare_front(r19, a1, a3, a4, r1_3_8_copyload);
+    goto join_9;
+arm_7:
+    if (a3 == 2) {
+        r5_0_0 = 0;
+        r5_1640_0 = 6;
+        r5_26_0 = 2;
+        r5_29_0 = a4;
+        r5_32_0 = 10;
+        goto dfuse_host_plan_Plan_to_leave_exit;
+    }
+    uint8_t r21 = a1[28];
+    if (!(r21 & 1)) {
+        r5_0_0 = 1;
+        r5_1640_0 = 0;
+        r5_26_0 = 0;
+        r5_29_0 = 0;
+        r5_32_0 = 0;
+        goto dfuse_host_plan_Plan_to_leave_exit;
+    }
+    if (a3 == 0) goto after_10;
+    uint32_t r38 = load32(a1 + 32);
+    if (a4 == (uint64_t)r38) {
+        r5_0_0 = 0;
+        r5_1640_0 = 6;
+        r5_26_0 = 1;
+        r5_29_0 = a4;
+        r5_32_0 = 12;
+        goto dfuse_host_plan_Plan_to_leave_exit;
+    }
+after_10:
+    r5_0_0 = 0;
+    r5_1640_0 = 6;
+    r5_26_0 = (uint64_t)a3;
+    r5_29_0 = a4;
+    r5_32_0 = 5;
+dfuse_host_plan_Plan_to_leave_exit:
+    *r19 = r5_0_0;
+    store64(r19 + 8, r5_1640_0);
+    memset(r19 + 16, 0, 16);
+    store64(r19 + 32, r5_26_0);
+    store64(r19 + 40, r5_29_0);
+    store32(r19 + 48, r5_32_0);
+join_9:;
+    uint8_t v3 = *r19;
+    uint8_t v4 = r19[1];
+    uint8_t v5 = r19[2];
+    *a0 = v3;
+    a0[1] = v4;
+    a0[2] = v5;
+    memcpy(a0 + 8, r19 + 8, 48);
+    return;
+}
+
+/* dfuse_host::plan::Plan::to_erase */
+static void dfuse_host_plan_Plan_to_erase(unsigned char *a0, unsigned char *a1, uint8_t a2, uint64_t a3, uint64_t a4) {
+    _Alignas(8) unsigned char r8[56];
+    unsigned char *r14, *r7_3_0_r14_sroa_idx;
+    struct i8_i64 r20;
+    uint8_t v2, v3, v4;
+    memset(r8, 0, 56);
+    r14 = a1 + 8;
+    uint64_t r7_0_0_copyload = load64(r14);
+    r7_3_0_r14_sroa_idx = a1 + 16;
+    uint64_t r7_3_0_copyload = load64(r7_3_0_r14_sroa_idx);
+    uint64_t r18 = dfuse_host_image_image_end((unsigned char *)(uintptr_t)r7_0_0_copyload, r7_3_0_copyload);
+    r20 = dfuse_host_plan_Plan_byte_in(a1, a4, r18);
+    if (r20.a != 0) goto arm_2;
+    uint64_t r26 = dfuse_host_plan_Plan_front_end(a1);
+    uint64_t r11_0_0_copyload = load64(r14);
+    uint64_t r11_3_0_copyload = load64(r7_3_0_r14_sroa_idx);
+    uint64_t r31 = dfuse_host_image_image_end((unsigned char *)(uintptr_t)r11_0_0_copyload, r11_3_0_copyload);
+    dfuse_host_plan_Plan_to_write(r8, a1, a2, a3, r26, r31);
+    uint8_t pre = *r8;
+    uint8_t pre6 = r8[1];
+    uint8_t pre7 = r8[2];
+    v2 = pre7;
+    v3 = pre6;
+    v4 = pre;
+    goto join_4;
+arm_2:
+    store64(r8 + 16, r20.b);
+    store64(r8 + 32, (uint64_t)a2);
+    store64(r8 + 40, a3);
+    store32(r8 + 48, (uint32_t)((a2 == 2) ? 10 : 5));
+    v2 = 0;
+    v3 = 0;
+    v4 = 0;
+join_4:
+    *a0 = v4;
+    a0[1] = v3;
+    a0[2] = v2;
+    memcpy(a0 + 8, r8 + 8, 48);
+    return;
+}
+
+/* dfuse_host::plan::Plan::byte_in */
+static struct i8_i64 dfuse_host_plan_Plan_byte_in(unsigned char *a0, uint64_t a1, uint64_t a2) {
+    uint64_t r3_3_0_copyload, r3_0, r7_2, r0_4_0;
+    unsigned char *r7;
+    uint8_t exitcond_not_not_not_not_not_not_not_not_not_not_not;
+    uint64_t r3_0_0_copyload = load64(a0 + 8);
+    r3_3_0_copyload = load64(a0 + 16);
+    r7 = (unsigned char *)(uintptr_t)r3_0_0_copyload;
+    r3_0 = 0;
+loop_3:
+    exitcond_not_not_not_not_not_not_not_not_not_not_not = r3_0 != r3_3_0_copyload;
+    if (!exitcond_not_not_not_not_not_not_not_not_not_not_not) {
+        r0_4_0 = 0;
+        goto dfuse_host_image_next_byte_exit;
+    }
+    unsigned char *r26 = r7 + (size_t)(r3_0 * 24);
+    uint32_t r5 = load32(r26);
+    r7_2 = (uint64_t)r5;
+    uint64_t r10 = load64(r26 + 16);
+    if (a1 >= (r10 + r7_2)) {
+        r3_0 = r3_0 + 1;
+        goto loop_3;
+    }
+    r0_4_0 = umax64(r7_2, a1);
+dfuse_host_image_next_byte_exit:;
+    uint8_t or_cond = exitcond_not_not_not_not_not_not_not_not_not_not_not & (r0_4_0 < a2);
+    struct i8_i64 r29_half = (struct i8_i64){ 0, 0 };
+    r29_half.a = or_cond;
+    struct i8_i64 r29 = r29_half;
+    r29.b = (uint64_t)(or_cond ? r0_4_0 : 0);
+    return r29;
+}
+
+/* dfuse_host::plan::Plan::to_write */
+static void dfuse_host_plan_Plan_to_write(unsigned char *a0, unsigned char *a1, uint8_t a2, uint64_t a3, uint64_t a4, uint64_t a5) {
+    _Alignas(8) unsigned char r6[56];
+    struct i8_i64 r10;
+    uint8_t v2, v3, v4;
+    memset(r6, 0, 56);
+    r10 = dfuse_host_plan_Plan_byte_in(a1, a4, a5);
+    if (r10.a != 0) goto arm_2;
+    uint64_t r16 = dfuse_host_plan_Plan_front_end(a1);
+    dfuse_host_plan_Plan_to_compare(r6, a1, a2, a3, r16);
+    uint8_t pre = *r6;
+    uint8_t pre6 = r6[1];
+    uint8_t pre7 = r6[2];
+    v2 = pre7;
+    v3 = pre6;
+    v4 = pre;
+    goto join_4;
+arm_2:
+    store64(r6 + 8, 2);
+    store64(r6 + 16, r10.b);
+    store64(r6 + 24, a5);
+    store64(r6 + 32, (uint64_t)a2);
+    store64(r6 + 40, a3);
+    store32(r6 + 48, (uint32_t)((a2 == 2) ? 10 : 5));
+    v2 = 0;
+    v3 = 0;
+    v4 = 0;
+join_4:
+    *a0 = v4;
+    a0[1] = v3;
+    a0[2] = v2;
+    memcpy(a0 + 8, r6 + 8, 48);
+    return;
+}
+
+/* dfuse_host::plan::Plan::to_compare */
+static void dfuse_host_plan_Plan_to_compare(unsigned char *a0, unsigned char *a1, uint8_t a2, uint64_t a3, uint64_t a4) {
+    _Alignas(8) unsigned char r8[56];
+    uint64_t r7_3_0_copyload, common_ret_op;
+    unsigned char *r14;
+    struct i8_i64 r19;
+    uint8_t v1, v2, v3;
+    uint64_t r7_0_0_copyload = load64(a1 + 8);
+    r7_3_0_copyload = load64(a1 + 16);
+    r14 = (unsigned char *)(uintptr_t)r7_0_0_copyload;
+    uint64_t r17 = dfuse_host_image_image_end(r14, r7_3_0_copyload);
+    r19 = dfuse_host_plan_Plan_byte_in(a1, a4, r17);
+    if (r19.a != 0) goto arm_2;
+    if (r7_3_0_copyload == 0) {
+        common_ret_op = 0;
+        goto dfuse_host_image_image_start_exit;
+    }
+    uint32_t r18 = load32(r14);
+    common_ret_op = (uint64_t)r18;
+dfuse_host_image_image_start_exit:
+    dfuse_host_plan_Plan_to_write_front(r8, a1, a2, a3, common_ret_op);
+    uint8_t pre = *r8;
+    uint8_t pre7 = r8[1];
+    uint8_t pre8 = r8[2];
+    v1 = pre8;
+    v2 = pre7;
+    v3 = pre;
+    goto join_4;
+arm_2:;
+    uint64_t r21 = r19.b;
+    uint8_t r42 = dfuse_host_plan_Plan_comparing(a1, r21, a2, a3);
+    store64(r8 + 8, 3);
+    store64(r8 + 16, r21);
+    store64(r8 + 24, 0);
+    store64(r8 + 32, (uint64_t)a2);
+    store64(r8 + 40, a3);
+    store32(r8 + 48, (uint32_t)r42);
+    store32(r8 + 52, 0);
+    v1 = 0;
+    v2 = 0;
+    v3 = 0;
+join_4:
+    *a0 = v3;
+    a0[1] = v2;
+    a0[2] = v1;
+    memcpy(a0 + 8, r8 + 8, 48);
+    return;
+}
+
+/* dfuse_host::plan::Plan::comparing */
+static uint8_t dfuse_host_plan_Plan_comparing(unsigned char *a0, uint64_t a1, uint8_t a2, uint64_t a3) {
+    _Alignas(8) unsigned char r9[32];
+    uint64_t a3_fr;
+    uint8_t r6_0_0_0;
+    a3_fr = a3;
+    switch (a2) {
+    case 0:
+        r6_0_0_0 = 5;
+        goto join_5;
+    case 1: goto arm_2;
+    case 2: goto arm_3;
+    default: never();
+    }
+arm_2:
+    r6_0_0_0 = (uint8_t)((a3_fr == a1) ? 9 : 5);
+    goto join_5;
+arm_3:
+    if (a1 < a3_fr) goto dfuse_host_plan_Plan_can_read_exit_thread;
+    uint64_t r21 = a1 - a3_fr;
+    uint16_t r4 = load16(a0 + 24);
+    uint64_t a0_a1 = (uint64_t)umax16(r4, 1);
+    uint64_t r35 = r21 / a0_a1;
+    if (!((r35 > 0xfffdU) | (r21 != (r35 * a0_a1)))) goto dfuse_host_plan_Plan_can_read_exit;
+dfuse_host_plan_Plan_can_read_exit_thread:
+    r6_0_0_0 = 10;
+    goto join_5;
+dfuse_host_plan_Plan_can_read_exit:;
+    uint64_t r10_0_0_copyload = load64(a0 + 8);
+    uint64_t r10_3_0_copyload = load64(a0 + 16);
+    dfuse_host_image_element_at(r9, a1, (unsigned char *)(uintptr_t)r10_0_0_copyload, r10_3_0_copyload);
+    uint8_t r51 = *r9;
+    uint32_t r3_0_0_copyload = load32(r9 + 8);
+    r6_0_0_0 = (uint8_t)(((r51 != 0) & (a3_fr >= (uint64_t)r3_0_0_copyload)) ? 11 : 10);
+join_5:
+    return r6_0_0_0;
+}
+
+/* dfuse_host::plan::Plan::to_write_front */
+static void dfuse_host_plan_Plan_to_write_front(unsigned char *a0, unsigned char *a1, uint8_t a2, uint64_t a3, uint64_t a4) {
+    _Alignas(8) unsigned char r7[56];
+    struct i8_i64 r14;
+    uint64_t common_ret_op;
+    uint8_t v2, v3, v4;
+    uint64_t r12 = dfuse_host_plan_Plan_front_end(a1);
+    r14 = dfuse_host_plan_Plan_byte_in(a1, a4, r12);
+    if (r14.a != 0) goto arm_2;
+    uint64_t r9_3_0_copyload = load64(a1 + 16);
+    if (r9_3_0_copyload == 0) {
+        common_ret_op = 0;
+        goto dfuse_host_image_image_start_exit;
+    }
+    uint64_t r9_0_0_copyload = load64(a1 + 8);
+    uint32_t r18 = load32((unsigned char *)(uintptr_t)r9_0_0_copyload);
+    common_ret_op = (uint64_t)r18;
+dfuse_host_image_image_start_exit:
+    dfuse_host_plan_Plan_to_compare_front(r7, a1, a2, a3, common_ret_op);
+    uint8_t pre = *r7;
+    uint8_t pre7 = r7[1];
+    uint8_t pre8 = r7[2];
+    v2 = pre8;
+    v3 = pre7;
+    v4 = pre;
+    goto join_4;
+arm_2:
+    store64(r7 + 8, 4);
+    store64(r7 + 16, r14.b);
+    store64(r7 + 24, 0);
+    store64(r7 + 32, (uint64_t)a2);
+    store64(r7 + 40, a3);
+    store32(r7 + 48, (uint32_t)((a2 == 2) ? 10 : 5));
+    store32(r7 + 52, 0);
+    v2 = 0;
+    v3 = 0;
+    v4 = 0;
+join_4:
+    *a0 = v4;
+    a0[1] = v3;
+    a0[2] = v2;
+    memcpy(a0 + 8, r7 + 8, 48);
+    return;
+}
+
+/* dfuse_host::plan::Plan::to_compare_front */
+static void dfuse_host_plan_Plan_to_compare_front(unsigned char *a0, unsigned char *a1, uint8_t a2, uint64_t a3, uint64_t a4) {
+    struct i8_i64 r12;
+    uint8_t r7_0_0, r7_16_0_shrunk;
+    uint64_t r7_106_0, r7_13_0, r7_18_0;
+    uint32_t r7_20_0;
+    uint64_t r10 = dfuse_host_plan_Plan_front_end(a1);
+    r12 = dfuse_host_plan_Plan_byte_in(a1, a4, r10);
+    if (r12.a != 0) goto arm_2;
+    if (a2 == 2) {
+        r7_0_0 = 0;
+        r7_106_0 = 6;
+        r7_13_0 = 0;
+        r7_16_0_shrunk = 2;
+        r7_18_0 = a3;
+        r7_20_0 = 10;
+        goto join_4;
+    }
+    uint8_t r21 = a1[28];
+    if (!(r21 & 1)) {
+        r7_0_0 = 1;
+        r7_106_0 = 0;
+        r7_13_0 = 0;
+        r7_16_0_shrunk = 0;
+        r7_18_0 = 0;
+        r7_20_0 = 0;
+        goto join_4;
+    }
+    if (a2 == 0) goto after_10;
+    uint32_t r38 = load32(a1 + 32);
+    if (a3 == (uint64_t)r38) {
+        r7_0_0 = 0;
+        r7_106_0 = 6;
+        r7_13_0 = 0;
+        r7_16_0_shrunk = 1;
+        r7_18_0 = a3;
+        r7_20_0 = 12;
+        goto join_4;
+    }
+after_10:
+    r7_0_0 = 0;
+    r7_106_0 = 6;
+    r7_13_0 = 0;
+    r7_16_0_shrunk = a2;
+    r7_18_0 = a3;
+    r7_20_0 = 5;
+    goto join_4;
+arm_2:;
+    uint64_t r14 = r12.b;
+    uint8_t r29 = dfuse_host_plan_Plan_comparing(a1, r14, a2, a3);
+    r7_0_0 = 0;
+    r7_106_0 = 5;
+    r7_13_0 = r14;
+    r7_16_0_shrunk = a2;
+    r7_18_0 = a3;
+    r7_20_0 = (uint32_t)r29;
+join_4:
+    *a0 = r7_0_0;
+    a0[1] = 0;
+    a0[2] = 0;
+    store64(a0 + 8, r7_106_0);
+    store64(a0 + 16, r7_13_0);
+    store64(a0 + 24, 0);
+    store64(a0 + 32, (uint64_t)r7_16_0_shrunk);
+    store64(a0 + 40, r7_18_0);
+    store32(a0 + 48, r7_20_0);
+    store32(a0 + 52, 0);
+    return;
+}
+
+/* dfuse_host::plan::Plan::unsure_of */
+static void dfuse_host_plan_Plan_unsure_of(unsigned char *a0, unsigned char *a1, unsigned char *a2, uint8_t a3, uint64_t a4) {
+    _Alignas(8) unsigned char r0[56];
+    _Alignas(8) unsigned char r1[24];
+    uint8_t r2 = *a2;
+    store64(r1, (uint64_t)r2);
+    uint64_t v0 = load64(a2 + 8);
+    store64(r1 + 8, v0);
+    uint64_t v1 = load64(a2 + 16);
+    store64(r1 + 16, v1);
+    struct i8_i64 r15 = dfuse_host_plan_Plan_command_of(a1, r1, a3, a4);
+    dfuse_host_plan_Plan_unsure(r0, a1, r1, r15.a);
+    uint8_t v2 = *r0;
+    *a0 = v2;
+    uint8_t v3 = r0[1];
+    a0[1] = v3;
+    uint8_t v4 = r0[2];
+    a0[2] = v4;
+    memcpy(a0 + 8, r0 + 8, 48);
+    return;
+}
+
+/* dfuse_host::session::Session::spent */
+static void dfuse_host_session_Session_spent(unsigned char *a0, unsigned char *a1, unsigned char *a2, uint16_t a3) {
+    _Alignas(8) unsigned char r9_21[16];
+    _Alignas(4) unsigned char r9_17_0[7];
+    _Alignas(4) unsigned char r9_25[3];
+    uint32_t r1_3_0_copyload, r2_18_8_copyload, r9_27_0;
+    uint8_t v1, v2, r2_73_8_copyload, r2_15_8_copyload, r9_0_0, r9_5_0, r9_9_0, r9_1328_0, r9_23_0;
+    unsigned char *r2_9_8_r8_sroa_idx, *r2_13_8_r8_sroa_idx, *r2_16_8_r8_sroa_idx;
+    uint64_t r2_11_8_copyload, r2_12_8_copyload, r9_17_5_0, r9_19_0;
+    r1_3_0_copyload = load32(a1 + 96);
+    uint8_t v0 = *a2;
+    v1 = a2[1];
+    v2 = a2[2];
+    r2_73_8_copyload = a2[8];
+    r2_9_8_r8_sroa_idx = a2 + 9;
+    r2_11_8_copyload = load64(a2 + 16);
+    r2_12_8_copyload = load64(a2 + 24);
+    r2_13_8_r8_sroa_idx = a2 + 32;
+    r2_15_8_copyload = a2[48];
+    r2_16_8_r8_sroa_idx = a2 + 49;
+    r2_18_8_copyload = load32(a2 + 52);
+    if (v0 != 1) goto arm_2;
+    memcpy(r9_17_0, r2_9_8_r8_sroa_idx, 7);
+    memcpy(r9_21, r2_13_8_r8_sroa_idx, 16);
+    memcpy(r9_25, r2_16_8_r8_sroa_idx, 3);
+    r9_17_5_0 = r2_11_8_copyload;
+    r9_0_0 = 1;
+    r9_5_0 = v1;
+    r9_9_0 = v2;
+    r9_1328_0 = r2_73_8_copyload;
+    r9_19_0 = r2_12_8_copyload;
+    r9_23_0 = r2_15_8_copyload;
+    r9_27_0 = r2_18_8_copyload;
+    goto dfuse_host_session_budgeted_exit;
+arm_2:
+    if (r1_3_0_copyload >= 2) goto join_8;
+    uint8_t v4 = r2_73_8_copyload == 6;
+    memset(r9_21, 0, 16);
+    r9_17_5_0 = 0;
+    r9_0_0 = 1;
+    r9_5_0 = (uint8_t)(v4 ? 0 : 4);
+    r9_9_0 = (uint8_t)((v4 & ((uint8_t)(r2_15_8_copyload + 244) < 3)) ? 2 : 0);
+    r9_1328_0 = 0;
+    r9_19_0 = 0;
+    r9_23_0 = 0;
+    r9_27_0 = 0;
+    goto dfuse_host_session_budgeted_exit;
+join_8:
+    memcpy(r9_17_0, r2_9_8_r8_sroa_idx, 7);
+    memcpy(r9_21, r2_13_8_r8_sroa_idx, 16);
+    memcpy(r9_25, r2_16_8_r8_sroa_idx, 3);
+    r9_17_5_0 = r2_11_8_copyload;
+    r9_0_0 = 0;
+    r9_5_0 = v1;
+    r9_9_0 = v2;
+    r9_1328_0 = r2_73_8_copyload;
+    r9_19_0 = r2_12_8_copyload;
+    r9_23_0 = r2_15_8_copyload;
+    r9_27_0 = r2_18_8_copyload;
+dfuse_host_session_budgeted_exit:
+    memmove(a0, a1, 40);
+    a0[40] = r9_0_0;
+    a0[41] = r9_5_0;
+    a0[42] = r9_9_0;
+    memset(a0 + 43, 0, 5);
+    a0[48] = r9_1328_0;
+    memcpy(a0 + 49, r9_17_0, 7);
+    store64(a0 + 56, r9_17_5_0);
+    store64(a0 + 64, r9_19_0);
+    memcpy(a0 + 72, r9_21, 16);
+    a0[88] = r9_23_0;
+    memcpy(a0 + 89, r9_25, 3);
+    store32(a0 + 92, r9_27_0);
+    store32(a0 + 96, usub_sat32(r1_3_0_copyload, 1));
+    store16(a0 + 100, a3);
+    store16(a0 + 102, 0);
+    return;
+}
+
 /* dfu_host_version */
 int32_t dfu_host_version(void) {
     return signed32(300);
+}
+
+/* dfuse_read_map */
+int32_t dfuse_read_map(const uint8_t *text, size_t length, struct dfuse_map *out) {
+    unsigned char *a0 = (unsigned char *)(uintptr_t)text;
+    uint64_t a1 = length;
+    unsigned char *a2 = (unsigned char *)(uintptr_t)out;
+    _Alignas(8) unsigned char r5[800];
+    uint32_t r6_0;
+    memset(r5, 0, 800);
+    dfuse_memory_map_Map_read(r5, (unsigned char *)((uintptr_t)a0 + (uintptr_t)(uint64_t)((a0 == NULL) ? 4096 : 0)), a1);
+    uint8_t r12 = *r5;
+    if (r12 != 0) goto arm_2;
+    uint64_t r3_2_0_copyload = load64(r5 + 16);
+    uint64_t r3_31_0_copyload = load64(r5 + 792);
+    store64(a2, r3_2_0_copyload);
+    store64(a2 + 8, r3_31_0_copyload);
+    r6_0 = 0;
+    goto dfu_host_c_dfuse_map_dfuse_read_map_exit;
+arm_2:;
+    uint8_t r4_0_0_copyload = r5[1];
+    r6_0 = (uint32_t)0xffffffcdU - (uint32_t)r4_0_0_copyload;
+dfu_host_c_dfuse_map_dfuse_read_map_exit:
+    return signed32(r6_0);
+}
+
+/* dfuse_read_range */
+int32_t dfuse_read_range(const uint8_t *text, size_t length, uint32_t number, struct dfuse_range *out) {
+    unsigned char *a0 = (unsigned char *)(uintptr_t)text;
+    uint64_t a1 = length;
+    uint32_t a2 = number;
+    unsigned char *a3 = (unsigned char *)(uintptr_t)out;
+    _Alignas(8) unsigned char r7[800];
+    _Alignas(8) unsigned char r3[792];
+    uint64_t r29;
+    uint32_t common_ret_op;
+    memset(r7, 0, 800);
+    dfuse_memory_map_Map_read(r7, (unsigned char *)((uintptr_t)a0 + (uintptr_t)(uint64_t)((a0 == NULL) ? 4096 : 0)), a1);
+    uint8_t r18 = *r7;
+    if (r18 != 0) goto arm_2;
+    memcpy(r3, r7 + 8, 792);
+    uint64_t r4 = load64(r3 + 784);
+    r29 = (uint64_t)a2;
+    if (r4 > r29) goto arm_5;
+    common_ret_op = 0xffffffd4U;
+    goto dfu_host_c_dfuse_map_dfuse_read_range_exit;
+arm_2:;
+    uint8_t r5_0_0_copyload = r7[1];
+    common_ret_op = (uint32_t)0xffffffcdU - (uint32_t)r5_0_0_copyload;
+    goto dfu_host_c_dfuse_map_dfuse_read_range_exit;
+arm_5:;
+    unsigned char *r19 = (r3 + 16) + (size_t)(r29 * 24);
+    uint32_t r7_2 = load32(r19);
+    uint64_t r11 = load64(r19 + 8);
+    uint32_t r13 = load32(r19 + 16);
+    uint8_t r6_0_0_copyload = r19[20];
+    uint8_t r6_3_0_copyload = r19[21];
+    uint8_t r6_4_0_copyload = r19[22];
+    store64(a3, (uint64_t)r7_2);
+    store64(a3 + 8, r11);
+    store32(a3 + 16, r13);
+    store32(a3 + 20, (uint32_t)((((uint8_t)((uint32_t)r6_3_0_copyload << 1) & 2) | (r6_0_0_copyload & 1)) | ((uint8_t)((uint32_t)r6_4_0_copyload << 2) & 4)));
+    common_ret_op = 0;
+dfu_host_c_dfuse_map_dfuse_read_range_exit:
+    return signed32(common_ret_op);
 }
 
 /* dfu_host_file */
@@ -3876,5 +6428,2031 @@ dfu_host_c_steps_step_exit:
     memcpy(a0, r0, 48);
     common_ret_op = 0;
 dfu_host_c_steps_dfu_host_take_exit:
+    return signed32(common_ret_op);
+}
+
+/* dfuse_next */
+int32_t dfuse_next(const struct dfuse_session *session, const uint8_t *map, size_t map_length, const struct dfuse_element *image, size_t elements, uint8_t *body, size_t room, struct dfuse_action *action) {
+    unsigned char *a0 = (unsigned char *)(uintptr_t)session;
+    unsigned char *a1 = (unsigned char *)(uintptr_t)map;
+    uint64_t a2 = map_length;
+    unsigned char *a3 = (unsigned char *)(uintptr_t)image;
+    uint64_t a4 = elements;
+    unsigned char *a5 = (unsigned char *)(uintptr_t)body;
+    uint64_t a6 = room;
+    unsigned char *a7 = (unsigned char *)(uintptr_t)action;
+    _Alignas(8) unsigned char r9[800];
+    _Alignas(8) unsigned char r7[792];
+    _Alignas(8) unsigned char r10[112];
+    _Alignas(8) unsigned char r0[32];
+    unsigned char *const r14 = r0;
+    unsigned char *const r10_2 = r0;
+    _Alignas(8) unsigned char r15[32];
+    unsigned char *const r12 = r15;
+    _Alignas(8) unsigned char r1_3[24];
+    unsigned char *const r1_2 = r1_3;
+    unsigned char *const r13 = r1_3;
+    _Alignas(8) unsigned char r1[24];
+    _Alignas(4) unsigned char r16_2[6];
+    _Alignas(4) unsigned char r16[6];
+    _Alignas(4) unsigned char r17_2[6];
+    _Alignas(4) unsigned char r18[6];
+    _Alignas(4) unsigned char r19[6];
+    _Alignas(4) unsigned char r12_9[5];
+    unsigned char *r22, *r28;
+    uint16_t r8_3_0_copyload;
+    uint8_t r8_72_0_copyload, r8_10_0_copyload, r10_4_4_0, r10_4_0_0;
+    uint64_t r8_83_0_copyload, r8_9_0_copyload, r8_114_0_copyload, r17, r36, r10_10_3_2_copyload_pre, r10_10_5_2_copyload_pre, v19, v21;
+    uint32_t r8_135_0_copyload, r18_0, common_ret_op;
+    r22 = (unsigned char *)((uintptr_t)a5 + (uintptr_t)(uint64_t)((a5 == NULL) ? 4096 : 0));
+    dfu_host_c_dfuse_holding_map_of(r9, (unsigned char *)((uintptr_t)a1 + (uintptr_t)(uint64_t)((a1 == NULL) ? 4096 : 0)), a2);
+    uint8_t r20 = *r9;
+    if (r20 != 1) {
+        common_ret_op = 0xffffffd7U;
+        goto dfu_host_c_dfuse_action_dfuse_next_exit;
+    }
+    memcpy(r7, r9 + 8, 792);
+    dfu_host_c_dfuse_holding_session_of(r10, a0, r7, (unsigned char *)((uintptr_t)a3 + (uintptr_t)(uint64_t)((a3 == NULL) ? 4096 : 0)), a4);
+    uint8_t r27 = *r10;
+    if (r27 != 1) {
+        common_ret_op = 0xffffffd7U;
+        goto dfu_host_c_dfuse_action_dfuse_next_exit;
+    }
+    r28 = r10 + 8;
+    r8_3_0_copyload = load16(r10 + 32);
+    uint8_t r8_41_0_copyload = r10[48];
+    r8_72_0_copyload = r10[56];
+    r8_83_0_copyload = load64(r10 + 64);
+    r8_9_0_copyload = load64(r10 + 72);
+    r8_10_0_copyload = r10[80];
+    r8_114_0_copyload = load64(r10 + 88);
+    r8_135_0_copyload = load32(r10 + 100);
+    if (r8_41_0_copyload == 0) goto arm_1;
+    uint8_t r8_6_0_copyload = r10[50];
+    uint8_t r8_5_0_copyload = r10[49];
+    r10_4_4_0 = r8_6_0_copyload;
+    r10_4_0_0 = r8_5_0_copyload;
+    goto arm_4;
+arm_1:;
+    uint8_t r8_12_0_copyload = r10[96];
+    r17 = (uint64_t)r8_72_0_copyload;
+    store64(r1, r17);
+    store64(r1 + 8, r8_83_0_copyload);
+    store64(r1 + 16, r8_9_0_copyload);
+    memset(r15, 0, 32);
+    store32a2(r16 + 2, 0);
+    store16(r17_2 + 4, 0);
+    store16(r18 + 4, 0);
+    store32a2(r19 + 2, 0);
+    switch (r8_12_0_copyload) {
+    case 0: goto arm_3;
+    case 9: goto arm_3;
+    case 10: goto arm_3;
+    case 1: goto arm_4_2;
+    case 6: goto arm_4_2;
+    case 13: goto arm_4_2;
+    case 2: goto arm_5;
+    case 7: goto arm_5;
+    case 14: goto arm_5;
+    case 3: goto dfuse_host_session_Session_next_exit_thread;
+    case 8: goto dfuse_host_session_Session_next_exit_thread;
+    case 4: goto arm_8;
+    case 5: goto arm_9;
+    case 11: goto arm_10;
+    case 12: goto arm_11;
+    default: never();
+    }
+arm_3:
+    store16(r16, 6);
+    dfuse_host_asking_ask(r15, r16);
+    goto dfuse_host_session_Session_next_exit;
+arm_4_2:
+    store16(r17_2, 5);
+    store16(r17_2 + 2, 1);
+    dfuse_host_asking_ask(r15, r17_2);
+    goto dfuse_host_session_Session_next_exit;
+arm_5:
+    store16(r18, 3);
+    store16(r18 + 2, 6);
+    dfuse_host_asking_ask(r15, r18);
+    goto dfuse_host_session_Session_next_exit;
+arm_8:
+    store16(r19, 4);
+    dfuse_host_asking_ask(r15, r19);
+    goto dfuse_host_session_Session_next_exit;
+arm_9:;
+    struct i8_i64 r34 = dfuse_host_plan_Plan_command_of(r28, r1, r8_10_0_copyload, r8_114_0_copyload);
+    r36 = r34.b;
+    store64(r1_2, r17);
+    store64(r1_2 + 8, r8_83_0_copyload);
+    store64(r1_2 + 16, r8_9_0_copyload);
+    memset(r14, 0, 32);
+    switch (r34.a) {
+    case 0: goto arm_1_2;
+    case 1: goto arm_2;
+    case 2: goto arm_3_2;
+    default: never();
+    }
+arm_1_2:
+    dfuse_host_asking_address_command(r14, 33, r36);
+    goto dfuse_host_plan_Plan_sends_exit;
+arm_2:
+    dfuse_host_asking_address_command(r14, 65, r36);
+    goto dfuse_host_plan_Plan_sends_exit;
+arm_3_2:;
+    uint64_t r27_2 = dfuse_host_plan_Plan_end_of_work(r28, r1_2);
+    uint64_t r30 = dfuse_host_plan_Plan_write_end(r28, r36, r27_2);
+    struct ptr_i64 r33 = dfuse_host_plan_Plan_bytes_in(r28, r36, r30);
+    dfuse_host_asking_download(r14, r33.a, r33.b);
+    goto dfuse_host_plan_Plan_sends_exit;
+dfuse_host_plan_Plan_sends_exit:;
+    uint8_t v7 = *r14;
+    uint64_t v8 = load64u(r14 + 1);
+    *r15 = v7;
+    store64u(r15 + 1, v8);
+    memcpy(r15 + 9, r14 + 9, 5);
+    memcpy(r15 + 16, r14 + 16, 16);
+    goto dfuse_host_session_Session_next_exit;
+arm_10:
+    store64(r1_3, r17);
+    store64(r1_3 + 8, r8_83_0_copyload);
+    store64(r1_3 + 16, r8_9_0_copyload);
+    memset(r0 + 8, 0, 24);
+    struct ptr_i64 r23 = dfuse_host_plan_Plan_read_bytes(r28, r1_3);
+    store16(r16_2, 2);
+    store16(r16_2 + 2, (uint16_t)((uint16_t)(((uint64_t)((r8_10_0_copyload == 2) ? (uint64_t)((r8_72_0_copyload == 6) ? 0 : usub_sat64(r8_83_0_copyload, r8_114_0_copyload)) : 0) / (uint64_t)umax16(r8_3_0_copyload, 1)) % 0xfffeU) + 2));
+    store16(r16_2 + 4, (uint16_t)r23.b);
+    dfuse_host_asking_ask(r0, r16_2);
+    uint8_t v16 = *r0;
+    *r15 = v16;
+    uint64_t v17 = load64u(r0 + 1);
+    store64u(r15 + 1, v17);
+    memcpy(r15 + 9, r0 + 9, 5);
+    memcpy(r15 + 16, r0 + 16, 16);
+    goto dfuse_host_session_Session_next_exit;
+arm_11:
+    dfuse_host_asking_download(r15, PLACE(static_2), 0);
+    goto dfuse_host_session_Session_next_exit;
+dfuse_host_session_Session_next_exit_thread:
+    store32(r15 + 4, r8_135_0_copyload);
+    uint64_t v18 = load64u(r15 + 1);
+    v21 = v18;
+    goto arm_3_3;
+dfuse_host_session_Session_next_exit:;
+    uint8_t pr = *r15;
+    r10_10_3_2_copyload_pre = load64(r15 + 16);
+    r10_10_5_2_copyload_pre = load64(r15 + 24);
+    v19 = load64u(r15 + 1);
+    memcpy(r12_9, r15 + 9, 5);
+    switch (pr) {
+    case 0: goto arm_1_3;
+    case 1: goto arm_2_2;
+    case 2:
+        v21 = v19;
+        goto arm_3_3;
+    case 3:
+        r10_4_4_0 = (uint8_t)(v19 >> 8);
+        r10_4_0_0 = (uint8_t)v19;
+        goto arm_4;
+    default: never();
+    }
+arm_1_3:
+    store64(r10_2, v19);
+    uint32_t r45 = dfu_host_c_dfuse_action_send(r10_2, (unsigned char *)(uintptr_t)r10_10_3_2_copyload_pre, r10_10_5_2_copyload_pre, r22, a6, a7);
+    r18_0 = r45;
+    goto dfu_host_c_dfuse_action_tell_exit;
+arm_2_2:
+    store64(r12, v19);
+    memcpy(r13, r12_9, 5);
+    uint32_t r62 = dfu_host_c_dfuse_action_send(r12, r13, 5, r22, a6, a7);
+    r18_0 = r62;
+    goto dfu_host_c_dfuse_action_tell_exit;
+arm_3_3:
+    store64(a7, 0);
+    store32(a7 + 8, 1);
+    store32(a7 + 12, (uint32_t)(v21 >> 24));
+    memset(a7 + 16, 0, 16);
+    r18_0 = 0;
+    goto dfu_host_c_dfuse_action_tell_exit;
+arm_4:;
+    struct i32_i32 r72 = dfu_host_c_dfuse_reports_report_numbers(r10_4_0_0, r10_4_4_0);
+    store64(a7, 0);
+    store32(a7 + 8, 3);
+    store32(a7 + 12, r72.a);
+    store32(a7 + 16, r72.b);
+    store64a4(a7 + 20, 0);
+    store32(a7 + 28, 0);
+    r18_0 = 0;
+    goto dfu_host_c_dfuse_action_tell_exit;
+dfu_host_c_dfuse_action_tell_exit:
+    common_ret_op = r18_0;
+dfu_host_c_dfuse_action_dfuse_next_exit:
+    return signed32(common_ret_op);
+}
+
+/* dfuse_begin */
+int32_t dfuse_begin(struct dfuse_session *session, const uint8_t *map, size_t map_length, const struct dfuse_element *image, size_t elements, const struct dfuse_plan *plan) {
+    unsigned char *a0 = (unsigned char *)(uintptr_t)session;
+    unsigned char *a1 = (unsigned char *)(uintptr_t)map;
+    uint64_t a2 = map_length;
+    unsigned char *a3 = (unsigned char *)(uintptr_t)image;
+    uint64_t a4 = elements;
+    unsigned char *a5 = (unsigned char *)(uintptr_t)plan;
+    _Alignas(8) unsigned char r12[800];
+    _Alignas(8) unsigned char r5[792];
+    _Alignas(8) unsigned char r10[104];
+    _Alignas(8) unsigned char r23[64];
+    _Alignas(2) unsigned char r8_6_0[46];
+    _Alignas(2) unsigned char r20_5[46];
+    _Alignas(8) unsigned char r4[40];
+    _Alignas(8) unsigned char r8_6_10[24];
+    _Alignas(4) unsigned char r8_6_6[5];
+    _Alignas(4) unsigned char r20_10[5];
+    _Alignas(4) unsigned char r11[3];
+    unsigned char *r13, *r25, *r0_3_0_a0_sroa_idx, *r0_4_0_a0_sroa_idx, *r20_5_8_r52_sroa_idx;
+    uint32_t r57, r3_0_2, r0_11_0_neg, r8_4_0_neg, r8_8_0, common_ret_op;
+    uint16_t r59, r8_9_0;
+    uint64_t r3_0, r4_0, r4_0_2, r3_0_3, r30, r8_6_8_0;
+    uint8_t v1;
+    r13 = (unsigned char *)((uintptr_t)a3 + (uintptr_t)(uint64_t)((a3 == NULL) ? 4096 : 0));
+    memset(r10, 0, 104);
+    memset(r12, 0, 800);
+    memset(r20_5, 0, 46);
+    memset(r20_10, 0, 5);
+    memset(r23, 0, 64);
+    dfuse_memory_map_Map_read(r12, (unsigned char *)((uintptr_t)a1 + (uintptr_t)(uint64_t)((a1 == NULL) ? 4096 : 0)), a2);
+    uint8_t r28 = *r12;
+    if (r28 != 0) goto arm_2;
+    memcpy(r5, r12 + 8, 792);
+    uint16_t r35 = load16(a5 + 10);
+    uint16_t r37 = load16(a5 + 12);
+    uint16_t r39 = load16(a5 + 14);
+    uint32_t r43 = load32(a5);
+    r57 = load32(a5 + 4);
+    r59 = load16(a5 + 8);
+    memset(r8_6_0, 0, 46);
+    memset(r8_6_6, 0, 5);
+    memset(r8_6_10, 0, 24);
+    store64(r4, (uint64_t)(uintptr_t)r5);
+    store64(r4 + 8, (uint64_t)(uintptr_t)r13);
+    store64(r4 + 16, a4);
+    store16(r4 + 24, r35);
+    store16(r4 + 26, r37);
+    r4[28] = r39 != 0;
+    memset(r4 + 29, 0, 3);
+    store32(r4 + 32, r43);
+    store32(r4 + 36, 0);
+    if (r35 == 0) {
+        r0_11_0_neg = 0xffffffc3U;
+        goto dfuse_host_plan_Plan_check_exit_thread;
+    }
+    if (a4 == 0) {
+        r0_11_0_neg = 0xffffffc2U;
+        goto dfuse_host_plan_Plan_check_exit_thread;
+    }
+    r3_0 = 0;
+loop_3_2:
+    if (r3_0 == a4) {
+        r4_0 = 0;
+        r3_0_2 = 0;
+        goto loop_3;
+    }
+    uint64_t r28_2 = load64((r13 + (size_t)(r3_0 * 24)) + 16);
+    if (r28_2 == 0) {
+        r0_11_0_neg = 0xffffffc2U;
+        goto dfuse_host_plan_Plan_check_exit_thread;
+    }
+    r3_0 = r3_0 + 1;
+    goto loop_3_2;
+loop_3:
+    if (r4_0 == a4) {
+        r4_0_2 = 0;
+        r3_0_3 = 0;
+        goto loop_3_3;
+    }
+    uint32_t r27 = load32(r13 + (size_t)(r4_0 * 24));
+    if (r27 < r3_0_2) {
+        r0_11_0_neg = 0xffffffc1U;
+        goto dfuse_host_plan_Plan_check_exit_thread;
+    }
+    r4_0 = r4_0 + 1;
+    r3_0_2 = r27;
+    goto loop_3;
+loop_3_3:
+    if (r4_0_2 == a4) goto join_13;
+    r25 = r13 + (size_t)(r4_0_2 * 24);
+    uint32_t r28_3 = load32(r25);
+    r30 = (uint64_t)r28_3;
+    if (r3_0_3 > r30) {
+        r0_11_0_neg = 0xffffffc0U;
+        goto dfuse_host_plan_Plan_check_exit_thread;
+    }
+    uint64_t r10_2 = load64(r25 + 16);
+    r4_0_2 = r4_0_2 + 1;
+    r3_0_3 = r10_2 + r30;
+    goto loop_3_3;
+join_13:
+    *r11 = 0;
+    r0_3_0_a0_sroa_idx = r11 + 1;
+    *r0_3_0_a0_sroa_idx = 0;
+    r0_4_0_a0_sroa_idx = r11 + 2;
+    *r0_4_0_a0_sroa_idx = 0;
+    uint8_t r64 = dfuse_host_plan_Plan_grants(r4, r11);
+    if (!r64) {
+        r0_11_0_neg = 0xffffffbfU;
+        goto dfuse_host_plan_Plan_check_exit_thread;
+    }
+    *r11 = 0;
+    *r0_3_0_a0_sroa_idx = 0;
+    *r0_4_0_a0_sroa_idx = 1;
+    uint8_t r74 = dfuse_host_plan_Plan_grants(r4, r11);
+    if (!r74) {
+        r0_11_0_neg = 0xffffffbeU;
+        goto dfuse_host_plan_Plan_check_exit_thread;
+    }
+    *r11 = 0;
+    *r0_3_0_a0_sroa_idx = 1;
+    *r0_4_0_a0_sroa_idx = 0;
+    uint8_t r84 = dfuse_host_plan_Plan_grants(r4, r11);
+    if (r84) goto dfuse_host_plan_Plan_check_exit;
+    r0_11_0_neg = 0xffffffbdU;
+dfuse_host_plan_Plan_check_exit_thread:
+    v1 = 0;
+    r8_6_8_0 = 0;
+    r8_4_0_neg = r0_11_0_neg;
+    r8_8_0 = 0;
+    r8_9_0 = 0;
+    goto dfuse_host_session_Session_begin_exit;
+dfuse_host_plan_Plan_check_exit:
+    *r11 = 1;
+    *r0_3_0_a0_sroa_idx = 0;
+    *r0_4_0_a0_sroa_idx = 0;
+    uint8_t r94 = dfuse_host_plan_Plan_grants(r4, r11);
+    if (!r94) {
+        v1 = 0;
+        r8_6_8_0 = 0;
+        r8_4_0_neg = 0xffffffbcU;
+        r8_8_0 = 0;
+        r8_9_0 = 0;
+        goto dfuse_host_session_Session_begin_exit;
+    }
+    uint32_t r18 = load32(r13);
+    memcpy(r8_6_0 + 6, r4, 40);
+    memset(r8_6_6, 0, 5);
+    memset(r8_6_10, 0, 24);
+    v1 = 1;
+    r8_6_8_0 = (uint64_t)r18;
+    r8_4_0_neg = 0xffffffc3U;
+    r8_8_0 = umax32(r57, 1);
+    r8_9_0 = r59;
+dfuse_host_session_Session_begin_exit:
+    r20_5_8_r52_sroa_idx = r20_5 + 6;
+    memcpy(r20_5_8_r52_sroa_idx, r8_6_0 + 6, 40);
+    memcpy(r20_10, r8_6_6, 5);
+    if (v1) goto arm_5;
+    common_ret_op = r8_4_0_neg;
+    goto dfu_host_c_dfuse_beginning_dfuse_begin_exit;
+arm_2:;
+    uint8_t r7_0_0_copyload = r12[1];
+    common_ret_op = (uint32_t)0xffffffcdU - (uint32_t)r7_0_0_copyload;
+    goto dfu_host_c_dfuse_beginning_dfuse_begin_exit;
+arm_5:
+    memcpy(r10, r20_5_8_r52_sroa_idx, 40);
+    r10[40] = 0;
+    r10[41] = 0;
+    r10[42] = 0;
+    memcpy(r10 + 43, r20_10, 5);
+    store64(r10 + 48, 0);
+    store64(r10 + 56, r8_6_8_0);
+    store64(r10 + 64, 0);
+    memcpy(r10 + 72, r8_6_10, 24);
+    store32(r10 + 96, r8_8_0);
+    store16(r10 + 100, r8_9_0);
+    store16(r10 + 102, 0);
+    dfu_host_c_dfuse_holding_record_of(r23, r10);
+    memcpy(a0, r23, 64);
+    common_ret_op = 0;
+dfu_host_c_dfuse_beginning_dfuse_begin_exit:
+    return signed32(common_ret_op);
+}
+
+/* dfuse_take */
+int32_t dfuse_take(struct dfuse_session *session, const uint8_t *map, size_t map_length, const struct dfuse_element *image, size_t elements, uint32_t seen, const uint8_t *bytes, size_t count) {
+    unsigned char *a0 = (unsigned char *)(uintptr_t)session;
+    unsigned char *a1 = (unsigned char *)(uintptr_t)map;
+    uint64_t a2 = map_length;
+    unsigned char *a3 = (unsigned char *)(uintptr_t)image;
+    uint64_t a4 = elements;
+    uint32_t a5 = seen;
+    unsigned char *a6 = (unsigned char *)(uintptr_t)bytes;
+    uint64_t a7 = count;
+    _Alignas(8) unsigned char r10[800];
+    _Alignas(8) unsigned char r7[792];
+    _Alignas(8) unsigned char r11[112];
+    _Alignas(8) unsigned char r3[104];
+    unsigned char *const r5 = r3;
+    unsigned char *const r4 = r3;
+    _Alignas(8) unsigned char r4_2[104];
+    unsigned char *const r11_5 = r4_2;
+    unsigned char *const r12_5 = r4_2;
+    unsigned char *const r10_4 = r4_2;
+    unsigned char *const r10_3 = r4_2;
+    unsigned char *const r12_3 = r4_2;
+    unsigned char *const r9_3 = r4_2;
+    unsigned char *const r1 = r4_2;
+    _Alignas(8) unsigned char r9_2[104];
+    unsigned char *const r11_4 = r9_2;
+    unsigned char *const r14_2 = r9_2;
+    unsigned char *const r1_10 = r9_2;
+    unsigned char *const r1_7 = r9_2;
+    unsigned char *const r1_4 = r9_2;
+    unsigned char *const r1_2 = r9_2;
+    _Alignas(8) unsigned char r5_2[104];
+    unsigned char *const r11_3 = r5_2;
+    unsigned char *const r12_4 = r5_2;
+    _Alignas(8) unsigned char r10_2[104];
+    _Alignas(8) unsigned char r12[104];
+    _Alignas(8) unsigned char r11_2[104];
+    _Alignas(8) unsigned char r8[104];
+    _Alignas(8) unsigned char r17[64];
+    _Alignas(8) unsigned char r12_2[56];
+    unsigned char *const r7_2 = r12_2;
+    unsigned char *const r1_6 = r12_2;
+    _Alignas(8) unsigned char r13[56];
+    _Alignas(8) unsigned char r2_2[48];
+    unsigned char *const r13_2 = r2_2;
+    unsigned char *const r1_5 = r2_2;
+    _Alignas(8) unsigned char r2[48];
+    unsigned char *const r1_9 = r2;
+    _Alignas(8) unsigned char r1_8[24];
+    _Alignas(8) unsigned char r1_3[24];
+    unsigned char *r22, *r31, *v3, *v4, *v5, *r23, *r23_2;
+    uint64_t r3_16_0_0, r3_16_8_0, r5_6_0_copyload, r5_8_0_copyload, r5_13_0_copyload, r18, r9_21_6_0_copyload, r9_21_0_0_copyload, r9_19_8_copyload20, r9_17_8_copyload19, r9_1317_8_copyload18, r33;
+    uint64_t r17_98_8_copyload272, r17_87_8_copyload266, r17_76_8_copyload262, r17_65_8_copyload258, r17_49252_8_copyload254, r17_98_8_copyload273, r17_87_8_copyload267, r17_76_8_copyload263, r17_65_8_copyload259, r17_49252_8_copyload255, r14_3, r11_5_0;
+    uint64_t r11_9_0, r17_98_8_copyload274, r17_87_8_copyload268, r17_76_8_copyload264, r17_65_8_copyload260, r17_49252_8_copyload256, r12_26_0, r12_13_0, r12_15_0, r12_19_0, r17_49252_0, r17_65_0;
+    uint64_t r17_76_0, r17_87_0, r17_98_0;
+    uint8_t r3_9_0_0, r5_0_0_copyload, r5_10_0_copyload, r5_14_0_copyload, r5_5_3_0, r5_5_7_0, r5_0_0, r13_10_3_0, r13_10_9_0, r13_0_0, r13_6_0, r17_10_3_0;
+    uint8_t r17_10_7_0, r17_0_0, r17_8_0, v10, v11, v12, v16, v17, v18, v19, v20, v21;
+    uint8_t v30, v31, v32, v33, v34, v35, v36, v37, v38, v41, v42, v43;
+    uint8_t v45, v46, v47, v48, v49, v50, r12_23_0_in, r12_0_0, r12_108_0_in, r12_17_0_in, r17_0_0_2, r17_17_0;
+    uint8_t r17_33_0;
+    uint32_t r5_18_0_copyload, r5_5_6_0, r13_10_8_0, r17_10_6_0, r9_25_8_copyload22, r9_23_8_copyload21, r17_114_8_copyload282, r17_104_8_copyload278, r17_114_8_copyload283, r17_104_8_copyload279, r17_114_8_copyload284, r17_104_8_copyload280;
+    uint32_t r12_29_0, r12_21_0, r17_104_0, r17_114_0, common_ret_op;
+    uint8_t common_ret_op_2;
+    uint16_t r8_3_0_copyload, r8_5_0_copyload;
+    r22 = (unsigned char *)((uintptr_t)a6 + (uintptr_t)(uint64_t)((a6 == NULL) ? 4096 : 0));
+    memset(r17, 0, 64);
+    dfu_host_c_dfuse_holding_map_of(r10, (unsigned char *)((uintptr_t)a1 + (uintptr_t)(uint64_t)((a1 == NULL) ? 4096 : 0)), a2);
+    uint8_t r22_2 = *r10;
+    if (r22_2 != 1) {
+        common_ret_op = 0xffffffd7U;
+        goto dfu_host_c_dfuse_steps_dfuse_take_exit;
+    }
+    memcpy(r7, r10 + 8, 792);
+    dfu_host_c_dfuse_holding_session_of(r11, a0, r7, (unsigned char *)((uintptr_t)a3 + (uintptr_t)(uint64_t)((a3 == NULL) ? 4096 : 0)), a4);
+    uint8_t r30 = *r11;
+    if (r30 != 1) {
+        common_ret_op = 0xffffffd7U;
+        goto dfu_host_c_dfuse_steps_dfuse_take_exit;
+    }
+    r31 = r11 + 8;
+    memcpy(r8, r31, 104);
+    switch (a5) {
+    case 0:
+        r3_16_0_0 = 0;
+        r3_16_8_0 = 0;
+        r3_9_0_0 = 0;
+        goto arm_8;
+    case 1: goto arm_2;
+    case 2: goto arm_3;
+    case 3: goto arm_4;
+    case 4: goto arm_5;
+    case 6: goto arm_6;
+    default:
+        common_ret_op = 0xffffffd6U;
+        goto dfu_host_c_dfuse_steps_dfuse_take_exit;
+    }
+arm_2:
+    r3_16_0_0 = (uint64_t)(uintptr_t)r22;
+    r3_16_8_0 = a7;
+    r3_9_0_0 = 1;
+    goto arm_8;
+arm_3:
+    r3_16_0_0 = 0;
+    r3_16_8_0 = 0;
+    r3_9_0_0 = 2;
+    goto arm_8;
+arm_4:
+    r3_16_0_0 = 0;
+    r3_16_8_0 = 0;
+    r3_9_0_0 = 3;
+    goto arm_8;
+arm_5:
+    r3_16_0_0 = 0;
+    r3_16_8_0 = 0;
+    r3_9_0_0 = 4;
+    goto arm_8;
+arm_6:
+    r3_16_0_0 = 0;
+    r3_16_8_0 = 0;
+    r3_9_0_0 = 5;
+arm_8:
+    memset(r11_2, 0, 104);
+    uint8_t r14 = r8[40];
+    if (r14 != 0) goto dfuse_host_session_Session_take_exit;
+    r5_0_0_copyload = r8[48];
+    v3 = r11 + 57;
+    r5_6_0_copyload = load64(r8 + 56);
+    r5_8_0_copyload = load64(r8 + 64);
+    r5_10_0_copyload = r8[72];
+    v4 = r11 + 81;
+    r5_13_0_copyload = load64(r8 + 80);
+    r5_14_0_copyload = r8[88];
+    v5 = r11 + 97;
+    r5_18_0_copyload = load32(r8 + 92);
+    r18 = (uint64_t)r5_0_0_copyload;
+    switch (r3_9_0_0) {
+    case 0:
+        r17_10_3_0 = r3_9_0_0;
+        r17_10_6_0 = 0;
+        r17_10_7_0 = r3_9_0_0;
+        r17_0_0 = r3_9_0_0;
+        r17_8_0 = r3_9_0_0;
+        goto dfuse_host_plan_Plan_hear_exit;
+    case 1: goto arm_2_2;
+    case 2: goto arm_3_2;
+    case 3: goto arm_4_2;
+    case 4: goto arm_5_2;
+    case 5: goto arm_6_2;
+    default: never();
+    }
+arm_2_2:
+    r23 = (unsigned char *)(uintptr_t)r3_16_0_0;
+    store64(r1, r18);
+    store64(r1 + 8, r5_6_0_copyload);
+    store64(r1 + 16, r5_8_0_copyload);
+    switch (r5_14_0_copyload) {
+    case 1: goto arm_1;
+    case 6: goto arm_1;
+    case 13: goto arm_1;
+    case 2: goto arm_2_3;
+    case 7: goto arm_2_3;
+    case 14: goto arm_2_3;
+    case 11: goto arm_3_3;
+    case 0:
+        r13_10_3_0 = 0;
+        r13_10_8_0 = 0;
+        r13_10_9_0 = 0;
+        r13_0_0 = 5;
+        r13_6_0 = 0;
+        goto dfuse_host_plan_Plan_answered_exit;
+    case 3:
+        r13_10_3_0 = 0;
+        r13_10_8_0 = 0;
+        r13_10_9_0 = 0;
+        r13_0_0 = 5;
+        r13_6_0 = 0;
+        goto dfuse_host_plan_Plan_answered_exit;
+    case 4:
+        r13_10_3_0 = 0;
+        r13_10_8_0 = 0;
+        r13_10_9_0 = 0;
+        r13_0_0 = 5;
+        r13_6_0 = 0;
+        goto dfuse_host_plan_Plan_answered_exit;
+    case 5:
+        r13_10_3_0 = 0;
+        r13_10_8_0 = 0;
+        r13_10_9_0 = 0;
+        r13_0_0 = 5;
+        r13_6_0 = 0;
+        goto dfuse_host_plan_Plan_answered_exit;
+    case 8:
+        r13_10_3_0 = 0;
+        r13_10_8_0 = 0;
+        r13_10_9_0 = 0;
+        r13_0_0 = 5;
+        r13_6_0 = 0;
+        goto dfuse_host_plan_Plan_answered_exit;
+    case 9:
+        r13_10_3_0 = 0;
+        r13_10_8_0 = 0;
+        r13_10_9_0 = 0;
+        r13_0_0 = 5;
+        r13_6_0 = 0;
+        goto dfuse_host_plan_Plan_answered_exit;
+    case 10:
+        r13_10_3_0 = 0;
+        r13_10_8_0 = 0;
+        r13_10_9_0 = 0;
+        r13_0_0 = 5;
+        r13_6_0 = 0;
+        goto dfuse_host_plan_Plan_answered_exit;
+    case 12:
+        r13_10_3_0 = 0;
+        r13_10_8_0 = 0;
+        r13_10_9_0 = 0;
+        r13_0_0 = 5;
+        r13_6_0 = 0;
+        goto dfuse_host_plan_Plan_answered_exit;
+    default: never();
+    }
+arm_1:
+    if (r3_16_8_0 != 1) {
+        r13_10_3_0 = 0;
+        r13_10_8_0 = 0;
+        r13_10_9_0 = 0;
+        r13_0_0 = 5;
+        r13_6_0 = 0;
+        goto dfuse_host_plan_Plan_answered_exit;
+    }
+    uint8_t r27 = *r23;
+    uint8_t v6 = r27 < 11;
+    r13_10_3_0 = 0;
+    r13_10_8_0 = 0;
+    r13_10_9_0 = 0;
+    r13_0_0 = (uint8_t)(v6 ? 2 : 5);
+    r13_6_0 = (uint8_t)(v6 ? r27 : 0);
+    goto dfuse_host_plan_Plan_answered_exit;
+arm_2_3:
+    memset(r4, 0, 16);
+    dfu_wire_statuses_Status_decode(r4, r23, r3_16_8_0);
+    uint8_t r9 = *r4;
+    if (r9 != 0) {
+        r5_5_3_0 = 0;
+        r5_5_6_0 = 0;
+        r5_5_7_0 = 0;
+        r5_0_0 = 5;
+        goto dfuse_host_heard_status_in_exit;
+    }
+    uint8_t r5_5_3_2_copyload = r4[4];
+    uint32_t r5_5_6_2_copyload = load32(r4 + 8);
+    uint8_t r5_5_7_2_copyload = r4[12];
+    r5_5_3_0 = r5_5_3_2_copyload;
+    r5_5_6_0 = r5_5_6_2_copyload;
+    r5_5_7_0 = r5_5_7_2_copyload;
+    r5_0_0 = 1;
+dfuse_host_heard_status_in_exit:
+    r13_10_3_0 = r5_5_3_0;
+    r13_10_8_0 = r5_5_6_0;
+    r13_10_9_0 = r5_5_7_0;
+    r13_0_0 = r5_0_0;
+    r13_6_0 = 0;
+    goto dfuse_host_plan_Plan_answered_exit;
+arm_3_3:;
+    struct ptr_i64 r22_3 = dfuse_host_plan_Plan_read_bytes(r31, r1);
+    r23_2 = r22_3.a;
+    if (r3_16_8_0 != r22_3.b) {
+        r13_10_3_0 = 0;
+        r13_10_8_0 = 0;
+        r13_10_9_0 = 0;
+        r13_0_0 = 5;
+        r13_6_0 = 0;
+        goto dfuse_host_plan_Plan_answered_exit;
+    }
+    store64(r5, r3_16_0_0);
+    store64(r5 + 8, r3_16_8_0);
+    store64(r5 + 16, (uint64_t)(uintptr_t)r23_2);
+    store64(r5 + 24, r3_16_8_0);
+    if (r3_16_8_0 >= 4) goto join_9;
+    uint8_t r60 = core_slice_scan_any_by_one(r5, r3_16_8_0);
+    common_ret_op_2 = !r60;
+    goto core_cmp_slices_slices_equal_i8_core_cmp_numbers_U8PartialEq_exit;
+join_9:;
+    uint8_t r70 = core_slice_scan_any_in_run(r5, 0, 4);
+    if (r70) {
+        common_ret_op_2 = 0;
+        goto core_cmp_slices_slices_equal_i8_core_cmp_numbers_U8PartialEq_exit;
+    }
+    uint8_t r83 = core_cmp_slices_groups_equal_i8_core_cmp_numbers_U8PartialEq(r23, r3_16_8_0, r23_2, r3_16_8_0);
+    common_ret_op_2 = r83;
+core_cmp_slices_slices_equal_i8_core_cmp_numbers_U8PartialEq_exit:
+    r13_10_3_0 = 0;
+    r13_10_8_0 = 0;
+    r13_10_9_0 = 0;
+    r13_0_0 = 3;
+    r13_6_0 = common_ret_op_2;
+    goto dfuse_host_plan_Plan_answered_exit;
+dfuse_host_plan_Plan_answered_exit:
+    r17_10_3_0 = r13_10_3_0;
+    r17_10_6_0 = r13_10_8_0;
+    r17_10_7_0 = r13_10_9_0;
+    r17_0_0 = r13_0_0;
+    r17_8_0 = r13_6_0;
+    goto dfuse_host_plan_Plan_hear_exit;
+arm_3_2:
+    r17_10_3_0 = 0;
+    r17_10_6_0 = 0;
+    r17_10_7_0 = 0;
+    r17_0_0 = 4;
+    r17_8_0 = 0;
+    goto dfuse_host_plan_Plan_hear_exit;
+arm_4_2:
+    r17_10_3_0 = 0;
+    r17_10_6_0 = 0;
+    r17_10_7_0 = 0;
+    r17_0_0 = 5;
+    r17_8_0 = 0;
+    goto dfuse_host_plan_Plan_hear_exit;
+arm_5_2:
+    r17_10_3_0 = 0;
+    r17_10_6_0 = 0;
+    r17_10_7_0 = 0;
+    r17_0_0 = 6;
+    r17_8_0 = 0;
+    goto dfuse_host_plan_Plan_hear_exit;
+arm_6_2:
+    r17_10_3_0 = 0;
+    r17_10_6_0 = 0;
+    r17_10_7_0 = 0;
+    r17_0_0 = 7;
+    r17_8_0 = 0;
+    goto dfuse_host_plan_Plan_hear_exit;
+dfuse_host_plan_Plan_hear_exit:
+    memset(r10_2, 0, 104);
+    memset(r13, 0, 56);
+    r8_3_0_copyload = load16(r11 + 108);
+    r8_5_0_copyload = load16(r11 + 110);
+    if (r17_0_0 != 7) goto arm_2_4;
+    *r2 = r5_0_0_copyload;
+    memcpy(r2 + 1, v3, 7);
+    store64(r2 + 8, r5_6_0_copyload);
+    store64(r2 + 16, r5_8_0_copyload);
+    r2[24] = r5_10_0_copyload;
+    memcpy(r2 + 25, v4, 7);
+    store64(r2 + 32, r5_13_0_copyload);
+    r2[40] = r5_14_0_copyload;
+    memcpy(r2 + 41, v5, 3);
+    store32(r2 + 44, r5_18_0_copyload);
+    if (r5_0_0_copyload != 6) goto arm_2_5;
+    *r2_2 = 6;
+    memcpy(r2_2 + 1, v3, 7);
+    store64(r2_2 + 8, r5_6_0_copyload);
+    store64(r2_2 + 16, r5_8_0_copyload);
+    r2_2[24] = r5_10_0_copyload;
+    memcpy(r2_2 + 25, v4, 7);
+    store64(r2_2 + 32, r5_13_0_copyload);
+    r2_2[40] = r5_14_0_copyload;
+    memcpy(r2_2 + 41, v5, 3);
+    store32(r2_2 + 44, r5_18_0_copyload);
+    memset(r3, 0, 104);
+    memset(r7_2, 0, 56);
+    if ((uint8_t)(r5_14_0_copyload + 244) >= 3) goto arm_2_6;
+    memcpy(r4_2, r31, 100);
+    store16(r4_2 + 100, r8_3_0_copyload);
+    store16(r4_2 + 102, r8_5_0_copyload);
+    *r7_2 = 1;
+    r7_2[2] = 2;
+    dfuse_host_session_Session_spent(r3, r4_2, r7_2, r8_3_0_copyload);
+    goto dfuse_host_session_Session_restarted_leaving_exit;
+arm_2_6:
+    memcpy(r9_2, r31, 100);
+    store16(r9_2 + 100, r8_3_0_copyload);
+    store16(r9_2 + 102, r8_5_0_copyload);
+    dfuse_host_session_Session_restarted_once(r3, r9_2, r2_2);
+dfuse_host_session_Session_restarted_leaving_exit:
+    goto dfuse_host_session_Session_restarted_exit;
+arm_2_5:
+    memcpy(r5_2, r31, 100);
+    store16(r5_2 + 100, r8_3_0_copyload);
+    store16(r5_2 + 102, r8_5_0_copyload);
+    dfuse_host_session_Session_restarted_once(r3, r5_2, r2);
+dfuse_host_session_Session_restarted_exit:
+    memcpy(r10_2, r3, 104);
+    goto dfuse_host_session_Session_after_exit;
+arm_2_4:
+    memcpy(r12, r31, 104);
+    switch (r5_14_0_copyload) {
+    case 0: goto arm_1_2;
+    case 1: goto arm_2_7;
+    case 2: goto arm_3_4;
+    case 3: goto arm_4_3;
+    case 4:
+        r17_0_0_2 = 0;
+        r17_17_0 = 0;
+        r17_33_0 = 0;
+        r17_49252_0 = r18;
+        r17_65_0 = r5_6_0_copyload;
+        r17_76_0 = r5_8_0_copyload;
+        r17_87_0 = 0;
+        r17_98_0 = 0;
+        r17_104_0 = 0;
+        r17_114_0 = 0;
+        goto dfuse_host_plan_Plan_row_exit;
+    case 5: goto arm_6_3;
+    case 6: goto arm_7;
+    case 7: goto arm_8_2;
+    case 8: goto arm_9;
+    case 9: goto arm_10;
+    case 10: goto arm_11;
+    case 11: goto arm_12;
+    case 12: goto arm_13;
+    case 13: goto arm_14;
+    case 14: goto arm_15;
+    default: never();
+    }
+arm_1_2:
+    switch (r17_0_0) {
+    case 0: goto after_2;
+    case 4: goto after_2;
+    case 1:
+        r17_0_0_2 = 0;
+        r17_17_0 = 0;
+        r17_33_0 = 0;
+        r17_49252_0 = r18;
+        r17_65_0 = r5_6_0_copyload;
+        r17_76_0 = r5_8_0_copyload;
+        r17_87_0 = 0;
+        r17_98_0 = 0;
+        r17_104_0 = 0;
+        r17_114_0 = 0;
+        goto dfuse_host_plan_Plan_row_exit;
+    case 2:
+        r17_0_0_2 = 0;
+        r17_17_0 = 0;
+        r17_33_0 = 0;
+        r17_49252_0 = r18;
+        r17_65_0 = r5_6_0_copyload;
+        r17_76_0 = r5_8_0_copyload;
+        r17_87_0 = 0;
+        r17_98_0 = 0;
+        r17_104_0 = 0;
+        r17_114_0 = 0;
+        goto dfuse_host_plan_Plan_row_exit;
+    case 3:
+        r17_0_0_2 = 0;
+        r17_17_0 = 0;
+        r17_33_0 = 0;
+        r17_49252_0 = r18;
+        r17_65_0 = r5_6_0_copyload;
+        r17_76_0 = r5_8_0_copyload;
+        r17_87_0 = 0;
+        r17_98_0 = 0;
+        r17_104_0 = 0;
+        r17_114_0 = 0;
+        goto dfuse_host_plan_Plan_row_exit;
+    case 5:
+        r17_0_0_2 = 0;
+        r17_17_0 = 0;
+        r17_33_0 = 0;
+        r17_49252_0 = r18;
+        r17_65_0 = r5_6_0_copyload;
+        r17_76_0 = r5_8_0_copyload;
+        r17_87_0 = 0;
+        r17_98_0 = 0;
+        r17_104_0 = 0;
+        r17_114_0 = 0;
+        goto dfuse_host_plan_Plan_row_exit;
+    case 6:
+        r17_0_0_2 = 0;
+        r17_17_0 = 0;
+        r17_33_0 = 0;
+        r17_49252_0 = r18;
+        r17_65_0 = r5_6_0_copyload;
+        r17_76_0 = r5_8_0_copyload;
+        r17_87_0 = 0;
+        r17_98_0 = 0;
+        r17_104_0 = 0;
+        r17_114_0 = 0;
+        goto dfuse_host_plan_Plan_row_exit;
+    default: never();
+    }
+after_2:
+    r17_0_0_2 = 0;
+    r17_17_0 = 0;
+    r17_33_0 = 0;
+    r17_49252_0 = r18;
+    r17_65_0 = r5_6_0_copyload;
+    r17_76_0 = r5_8_0_copyload;
+    r17_87_0 = 0;
+    r17_98_0 = 0;
+    r17_104_0 = 1;
+    r17_114_0 = 0;
+    goto dfuse_host_plan_Plan_row_exit;
+arm_2_7:
+    switch (r17_0_0) {
+    case 2: goto arm_1_3;
+    case 4:
+        r17_0_0_2 = 0;
+        r17_17_0 = 0;
+        r17_33_0 = 0;
+        r17_49252_0 = r18;
+        r17_65_0 = r5_6_0_copyload;
+        r17_76_0 = r5_8_0_copyload;
+        r17_87_0 = 0;
+        r17_98_0 = 0;
+        r17_104_0 = 2;
+        r17_114_0 = 0;
+        goto dfuse_host_plan_Plan_row_exit;
+    case 0: goto arm_3_5;
+    case 1: goto arm_3_5;
+    case 3: goto arm_3_5;
+    case 5: goto arm_3_5;
+    case 6: goto arm_3_5;
+    default: never();
+    }
+arm_1_3:
+    store64(r1_2, r18);
+    store64(r1_2 + 8, r5_6_0_copyload);
+    store64(r1_2 + 16, r5_8_0_copyload);
+    memset(r9_3, 0, 56);
+    switch (r17_8_0) {
+    case 0:
+        r9_21_6_0_copyload = 0;
+        r9_21_0_0_copyload = 0;
+        r9_25_8_copyload22 = 0;
+        r9_23_8_copyload21 = 0;
+        r9_19_8_copyload20 = 0;
+        r9_17_8_copyload19 = 0;
+        r9_1317_8_copyload18 = 0;
+        v10 = 0;
+        v11 = 6;
+        v12 = 1;
+        goto dfuse_host_plan_Plan_state_found_exit;
+    case 1:
+        r9_21_6_0_copyload = 0;
+        r9_21_0_0_copyload = 0;
+        r9_25_8_copyload22 = 0;
+        r9_23_8_copyload21 = 0;
+        r9_19_8_copyload20 = 0;
+        r9_17_8_copyload19 = 0;
+        r9_1317_8_copyload18 = 0;
+        v10 = 0;
+        v11 = 6;
+        v12 = 1;
+        goto dfuse_host_plan_Plan_state_found_exit;
+    case 2: goto arm_2_8;
+    case 3: goto arm_3_6;
+    case 5: goto arm_3_6;
+    case 6: goto arm_3_6;
+    case 9: goto arm_3_6;
+    case 4: goto arm_4_4;
+    case 7: goto arm_4_4;
+    case 8: goto arm_4_4;
+    case 10: goto arm_4_4;
+    default: never();
+    }
+arm_2_8:
+    dfuse_host_plan_Plan_settle(r9_3, r31, r1_2, 0, 0);
+    uint8_t pre = *r9_3;
+    uint8_t pre8 = r9_3[1];
+    uint8_t pre9 = r9_3[2];
+    uint64_t r9_1317_8_copyload18_pre = load64(r9_3 + 8);
+    uint64_t r9_17_8_copyload19_pre = load64(r9_3 + 16);
+    uint64_t r9_19_8_copyload20_pre = load64(r9_3 + 24);
+    uint32_t r9_23_8_copyload21_pre = load32(r9_3 + 48);
+    uint32_t r9_25_8_copyload22_pre = load32(r9_3 + 52);
+    uint64_t r9_21_0_0_copyload_pre = load64(r9_3 + 32);
+    uint64_t r9_21_6_0_copyload_pre = load64(r9_3 + 40);
+    r9_21_6_0_copyload = r9_21_6_0_copyload_pre;
+    r9_21_0_0_copyload = r9_21_0_0_copyload_pre;
+    r9_25_8_copyload22 = r9_25_8_copyload22_pre;
+    r9_23_8_copyload21 = r9_23_8_copyload21_pre;
+    r9_19_8_copyload20 = r9_19_8_copyload20_pre;
+    r9_17_8_copyload19 = r9_17_8_copyload19_pre;
+    r9_1317_8_copyload18 = r9_1317_8_copyload18_pre;
+    v10 = pre9;
+    v11 = pre8;
+    v12 = pre;
+    goto dfuse_host_plan_Plan_state_found_exit;
+arm_3_6:
+    r9_21_6_0_copyload = 0;
+    r9_21_0_0_copyload = 0;
+    r9_25_8_copyload22 = 0;
+    r9_23_8_copyload21 = 0;
+    r9_19_8_copyload20 = r5_8_0_copyload;
+    r9_17_8_copyload19 = r5_6_0_copyload;
+    r9_1317_8_copyload18 = r18;
+    v10 = 0;
+    v11 = 0;
+    v12 = 0;
+    goto dfuse_host_plan_Plan_state_found_exit;
+arm_4_4:
+    r9_21_6_0_copyload = 0;
+    r9_21_0_0_copyload = 0;
+    r9_25_8_copyload22 = 0;
+    r9_23_8_copyload21 = 2;
+    r9_19_8_copyload20 = r5_8_0_copyload;
+    r9_17_8_copyload19 = r5_6_0_copyload;
+    r9_1317_8_copyload18 = r18;
+    v10 = 0;
+    v11 = 0;
+    v12 = 0;
+    goto dfuse_host_plan_Plan_state_found_exit;
+dfuse_host_plan_Plan_state_found_exit:
+    r17_0_0_2 = v12;
+    r17_17_0 = v11;
+    r17_33_0 = v10;
+    r17_49252_0 = r9_1317_8_copyload18;
+    r17_65_0 = r9_17_8_copyload19;
+    r17_76_0 = r9_19_8_copyload20;
+    r17_87_0 = r9_21_0_0_copyload;
+    r17_98_0 = r9_21_6_0_copyload;
+    r17_104_0 = r9_23_8_copyload21;
+    r17_114_0 = r9_25_8_copyload22;
+    goto dfuse_host_plan_Plan_row_exit;
+arm_3_5:
+    r17_0_0_2 = 0;
+    r17_17_0 = 0;
+    r17_33_0 = 0;
+    r17_49252_0 = r18;
+    r17_65_0 = r5_6_0_copyload;
+    r17_76_0 = r5_8_0_copyload;
+    r17_87_0 = 0;
+    r17_98_0 = 0;
+    r17_104_0 = 1;
+    r17_114_0 = 0;
+    goto dfuse_host_plan_Plan_row_exit;
+arm_3_4:
+    switch (r17_0_0) {
+    case 1: goto arm_1_4;
+    case 4:
+        r17_0_0_2 = 0;
+        r17_17_0 = 0;
+        r17_33_0 = 0;
+        r17_49252_0 = r18;
+        r17_65_0 = r5_6_0_copyload;
+        r17_76_0 = r5_8_0_copyload;
+        r17_87_0 = 0;
+        r17_98_0 = 0;
+        r17_104_0 = 3;
+        r17_114_0 = 100;
+        goto dfuse_host_plan_Plan_row_exit;
+    case 0: goto arm_3_7;
+    case 2: goto arm_3_7;
+    case 3: goto arm_3_7;
+    case 5: goto arm_3_7;
+    case 6: goto arm_3_7;
+    default: never();
+    }
+arm_1_4:
+    switch (r17_10_7_0) {
+    case 0:
+        r17_0_0_2 = 1;
+        r17_17_0 = 6;
+        r17_33_0 = 0;
+        r17_49252_0 = 0;
+        r17_65_0 = 0;
+        r17_76_0 = 0;
+        r17_87_0 = 0;
+        r17_98_0 = 0;
+        r17_104_0 = 0;
+        r17_114_0 = 0;
+        goto dfuse_host_plan_Plan_row_exit;
+    case 1:
+        r17_0_0_2 = 1;
+        r17_17_0 = 6;
+        r17_33_0 = 0;
+        r17_49252_0 = 0;
+        r17_65_0 = 0;
+        r17_76_0 = 0;
+        r17_87_0 = 0;
+        r17_98_0 = 0;
+        r17_104_0 = 0;
+        r17_114_0 = 0;
+        goto dfuse_host_plan_Plan_row_exit;
+    case 2: goto arm_2_9;
+    case 5: goto arm_3_8;
+    case 9: goto arm_3_8;
+    case 10: goto arm_4_5;
+    case 3: goto arm_5_3;
+    case 4: goto arm_5_3;
+    case 6: goto arm_5_3;
+    case 7: goto arm_5_3;
+    case 8: goto arm_5_3;
+    default: never();
+    }
+arm_2_9:
+    r17_0_0_2 = 0;
+    r17_17_0 = 0;
+    r17_33_0 = 0;
+    r17_49252_0 = r18;
+    r17_65_0 = r5_6_0_copyload;
+    r17_76_0 = r5_8_0_copyload;
+    r17_87_0 = 0;
+    r17_98_0 = 0;
+    r17_104_0 = 1;
+    r17_114_0 = 0;
+    goto dfuse_host_plan_Plan_row_exit;
+arm_3_8:
+    r17_0_0_2 = 0;
+    r17_17_0 = 0;
+    r17_33_0 = 0;
+    r17_49252_0 = r18;
+    r17_65_0 = r5_6_0_copyload;
+    r17_76_0 = r5_8_0_copyload;
+    r17_87_0 = 0;
+    r17_98_0 = 0;
+    r17_104_0 = 0;
+    r17_114_0 = 0;
+    goto dfuse_host_plan_Plan_row_exit;
+arm_4_5:
+    switch (r5_0_0_copyload) {
+    case 0:
+        r17_0_0_2 = r5_0_0_copyload;
+        r17_17_0 = r5_0_0_copyload;
+        r17_33_0 = r5_0_0_copyload;
+        r17_49252_0 = 0;
+        r17_65_0 = r5_6_0_copyload;
+        r17_76_0 = r5_8_0_copyload;
+        r17_87_0 = 0;
+        r17_98_0 = 0;
+        r17_104_0 = 4;
+        r17_114_0 = 0;
+        goto dfuse_host_plan_Plan_row_exit;
+    case 3: goto arm_4_6;
+    case 5: goto arm_4_6;
+    case 1: goto arm_5_4;
+    case 2: goto arm_5_4;
+    case 4: goto arm_5_4;
+    case 6: goto arm_5_4;
+    default: never();
+    }
+arm_4_6:
+    switch (r17_10_3_0) {
+    case 11:
+        r17_0_0_2 = 1;
+        r17_17_0 = 3;
+        r17_33_0 = 0;
+        r17_49252_0 = 0;
+        r17_65_0 = 0;
+        r17_76_0 = 0;
+        r17_87_0 = 0;
+        r17_98_0 = 0;
+        r17_104_0 = 0;
+        r17_114_0 = 0;
+        goto dfuse_host_plan_Plan_row_exit;
+    case 15: goto arm_1_5;
+    default: goto dfuse_host_clearing_ends_comparing_exit;
+    }
+arm_1_5:
+    r17_0_0_2 = 0;
+    r17_17_0 = 0;
+    r17_33_0 = 0;
+    r17_49252_0 = r18;
+    r17_65_0 = r5_6_0_copyload;
+    r17_76_0 = r5_8_0_copyload;
+    r17_87_0 = 0;
+    r17_98_0 = 0;
+    r17_104_0 = 4;
+    r17_114_0 = 0;
+    goto dfuse_host_plan_Plan_row_exit;
+dfuse_host_clearing_ends_comparing_exit:
+    r17_0_0_2 = 1;
+    r17_17_0 = 2;
+    r17_33_0 = r17_10_3_0;
+    r17_49252_0 = 0;
+    r17_65_0 = 0;
+    r17_76_0 = 0;
+    r17_87_0 = 0;
+    r17_98_0 = 0;
+    r17_104_0 = 0;
+    r17_114_0 = 0;
+    goto dfuse_host_plan_Plan_row_exit;
+arm_5_4:
+    if (r17_10_3_0 == 11) {
+        r17_0_0_2 = 1;
+        r17_17_0 = 3;
+        r17_33_0 = 0;
+        r17_49252_0 = 0;
+        r17_65_0 = 0;
+        r17_76_0 = 0;
+        r17_87_0 = 0;
+        r17_98_0 = 0;
+        r17_104_0 = 0;
+        r17_114_0 = 0;
+        goto dfuse_host_plan_Plan_row_exit;
+    }
+    r17_0_0_2 = 0;
+    r17_17_0 = 0;
+    r17_33_0 = 0;
+    r17_49252_0 = r18;
+    r17_65_0 = r5_6_0_copyload;
+    r17_76_0 = r5_8_0_copyload;
+    r17_87_0 = 0;
+    r17_98_0 = 0;
+    r17_104_0 = 4;
+    r17_114_0 = 0;
+    goto dfuse_host_plan_Plan_row_exit;
+arm_5_3:
+    r17_0_0_2 = 0;
+    r17_17_0 = 0;
+    r17_33_0 = 0;
+    r17_49252_0 = r18;
+    r17_65_0 = r5_6_0_copyload;
+    r17_76_0 = r5_8_0_copyload;
+    r17_87_0 = 0;
+    r17_98_0 = 0;
+    r17_104_0 = 3;
+    r17_114_0 = r17_10_6_0;
+    goto dfuse_host_plan_Plan_row_exit;
+arm_3_7:
+    r17_0_0_2 = 0;
+    r17_17_0 = 0;
+    r17_33_0 = 0;
+    r17_49252_0 = r18;
+    r17_65_0 = r5_6_0_copyload;
+    r17_76_0 = r5_8_0_copyload;
+    r17_87_0 = 0;
+    r17_98_0 = 0;
+    r17_104_0 = 2;
+    r17_114_0 = 0;
+    goto dfuse_host_plan_Plan_row_exit;
+arm_4_3:;
+    uint8_t v14 = r17_0_0 == 6;
+    r17_0_0_2 = 0;
+    r17_17_0 = 0;
+    r17_33_0 = 0;
+    r17_49252_0 = r18;
+    r17_65_0 = r5_6_0_copyload;
+    r17_76_0 = r5_8_0_copyload;
+    r17_87_0 = 0;
+    r17_98_0 = 0;
+    r17_104_0 = (uint32_t)(v14 ? 1 : 3);
+    r17_114_0 = (uint32_t)(v14 ? 0 : r5_18_0_copyload);
+    goto dfuse_host_plan_Plan_row_exit;
+arm_6_3:
+    r17_0_0_2 = 0;
+    r17_17_0 = 0;
+    r17_33_0 = 0;
+    r17_49252_0 = r18;
+    r17_65_0 = r5_6_0_copyload;
+    r17_76_0 = r5_8_0_copyload;
+    r17_87_0 = (uint64_t)r5_10_0_copyload;
+    r17_98_0 = r5_13_0_copyload;
+    r17_104_0 = (uint32_t)((r17_0_0 == 0) ? 7 : 6);
+    r17_114_0 = 0;
+    goto dfuse_host_plan_Plan_row_exit;
+arm_7:
+    store64(r1_3, r18);
+    store64(r1_3 + 8, r5_6_0_copyload);
+    store64(r1_3 + 16, r5_8_0_copyload);
+    memset(r12_2, 0, 56);
+    switch (r17_0_0) {
+    case 2: goto arm_1_6;
+    case 4: goto arm_2_10;
+    case 0: goto arm_3_9;
+    case 1: goto arm_3_9;
+    case 3: goto arm_3_9;
+    case 5: goto arm_3_9;
+    case 6: goto arm_3_9;
+    default: never();
+    }
+arm_1_6:
+    store64(r1_4, r18);
+    store64(r1_4 + 8, r5_6_0_copyload);
+    store64(r1_4 + 16, r5_8_0_copyload);
+    memset(r12_3, 0, 56);
+    switch (r17_8_0) {
+    case 3: goto arm_1_7;
+    case 2: goto arm_2_11;
+    case 5: goto arm_2_11;
+    case 10: goto arm_3_10;
+    case 0: goto arm_4_7;
+    case 1: goto arm_4_7;
+    case 4: goto arm_4_7;
+    case 6: goto arm_4_7;
+    case 7: goto arm_4_7;
+    case 8: goto arm_4_7;
+    case 9: goto arm_4_7;
+    default: never();
+    }
+arm_1_7:
+    store64(r12_3 + 8, r18);
+    store64(r12_3 + 16, r5_6_0_copyload);
+    store64(r12_3 + 24, r5_8_0_copyload);
+    store64(r12_3 + 32, (uint64_t)r5_10_0_copyload);
+    store64(r12_3 + 40, r5_13_0_copyload);
+    store32(r12_3 + 48, 7);
+    v16 = 0;
+    v17 = 0;
+    v18 = 0;
+    goto dfuse_host_plan_Plan_probed_exit;
+arm_2_11:
+    store64(r12_3 + 8, r18);
+    store64(r12_3 + 16, r5_6_0_copyload);
+    store64(r12_3 + 24, r5_8_0_copyload);
+    store64(r12_3 + 32, (uint64_t)r5_10_0_copyload);
+    store64(r12_3 + 40, r5_13_0_copyload);
+    store32(r12_3 + 48, 5);
+    v16 = 0;
+    v17 = 0;
+    v18 = 0;
+    goto dfuse_host_plan_Plan_probed_exit;
+arm_3_10:
+    store64(r12_3 + 8, r18);
+    store64(r12_3 + 16, r5_6_0_copyload);
+    store64(r12_3 + 24, r5_8_0_copyload);
+    memset(r12_3 + 32, 0, 24);
+    v16 = 0;
+    v17 = 0;
+    v18 = 0;
+    goto dfuse_host_plan_Plan_probed_exit;
+arm_4_7:
+    dfuse_host_plan_Plan_unsure_of(r12_3, r31, r1_4, r5_10_0_copyload, r5_13_0_copyload);
+    uint8_t pre_2 = *r12_3;
+    uint8_t pre26 = r12_3[1];
+    uint8_t pre27 = r12_3[2];
+    v16 = pre27;
+    v17 = pre26;
+    v18 = pre_2;
+    goto dfuse_host_plan_Plan_probed_exit;
+dfuse_host_plan_Plan_probed_exit:
+    memcpy(r12_2 + 8, r12_3 + 8, 48);
+    v19 = v16;
+    v20 = v17;
+    v21 = v18;
+    goto dfuse_host_plan_Plan_on_probe_exit;
+arm_2_10:
+    dfuse_host_plan_Plan_unsure_of(r12_2, r31, r1_3, r5_10_0_copyload, r5_13_0_copyload);
+    uint8_t pre_3 = *r12_2;
+    uint8_t pre10 = r12_2[1];
+    uint8_t pre11 = r12_2[2];
+    v19 = pre11;
+    v20 = pre10;
+    v21 = pre_3;
+    goto dfuse_host_plan_Plan_on_probe_exit;
+arm_3_9:
+    store64(r12_2 + 8, r18);
+    store64(r12_2 + 16, r5_6_0_copyload);
+    store64(r12_2 + 24, r5_8_0_copyload);
+    store64(r12_2 + 32, (uint64_t)r5_10_0_copyload);
+    store64(r12_2 + 40, r5_13_0_copyload);
+    store32(r12_2 + 48, 6);
+    v19 = 0;
+    v20 = 0;
+    v21 = 0;
+dfuse_host_plan_Plan_on_probe_exit:;
+    uint64_t r17_49252_8_copyload253 = load64(r12_2 + 8);
+    uint64_t r17_65_8_copyload257 = load64(r12_2 + 16);
+    uint64_t r17_76_8_copyload261 = load64(r12_2 + 24);
+    uint64_t r17_87_8_copyload265 = load64(r12_2 + 32);
+    uint64_t r17_98_8_copyload271 = load64(r12_2 + 40);
+    uint32_t r17_104_8_copyload277 = load32(r12_2 + 48);
+    uint32_t r17_114_8_copyload281 = load32(r12_2 + 52);
+    r17_0_0_2 = v21;
+    r17_17_0 = v20;
+    r17_33_0 = v19;
+    r17_49252_0 = r17_49252_8_copyload253;
+    r17_65_0 = r17_65_8_copyload257;
+    r17_76_0 = r17_76_8_copyload261;
+    r17_87_0 = r17_87_8_copyload265;
+    r17_98_0 = r17_98_8_copyload271;
+    r17_104_0 = r17_104_8_copyload277;
+    r17_114_0 = r17_114_8_copyload281;
+    goto dfuse_host_plan_Plan_row_exit;
+arm_8_2:
+    switch (r17_0_0) {
+    case 1: goto arm_1_8;
+    case 4: goto arm_2_12;
+    case 0: goto arm_3_11;
+    case 2: goto arm_3_11;
+    case 3: goto arm_3_11;
+    case 5: goto arm_3_11;
+    case 6: goto arm_3_11;
+    default: never();
+    }
+arm_1_8:
+    store64(r1_5, r18);
+    store64(r1_5 + 8, r5_6_0_copyload);
+    store64(r1_5 + 16, r5_8_0_copyload);
+    memset(r12_4, 0, 56);
+    switch (r17_10_7_0) {
+    case 3: goto arm_1_9;
+    case 4: goto arm_1_9;
+    case 5: goto arm_2_13;
+    case 10: goto arm_3_12;
+    case 0: goto arm_4_8;
+    case 1: goto arm_4_8;
+    case 2: goto arm_4_8;
+    case 6: goto arm_4_8;
+    case 7: goto arm_4_8;
+    case 8: goto arm_4_8;
+    case 9: goto arm_4_8;
+    default: never();
+    }
+arm_1_9:
+    store64(r12_4 + 8, r18);
+    store64(r12_4 + 16, r5_6_0_copyload);
+    store64(r12_4 + 24, r5_8_0_copyload);
+    store64(r12_4 + 32, (uint64_t)r5_10_0_copyload);
+    store64(r12_4 + 40, r5_13_0_copyload);
+    store32(r12_4 + 48, 8);
+    store32(r12_4 + 52, r17_10_6_0);
+    v36 = 0;
+    v37 = 0;
+    v38 = 0;
+    goto dfuse_host_plan_Plan_polled_exit;
+arm_2_13:;
+    struct i8_i64 r31_2 = dfuse_host_plan_Plan_command_of(r31, r1_5, r5_10_0_copyload, r5_13_0_copyload);
+    r33 = r31_2.b;
+    store64(r1_6, r18);
+    store64(r1_6 + 8, r5_6_0_copyload);
+    store64(r1_6 + 16, r5_8_0_copyload);
+    memset(r14_2, 0, 56);
+    switch (r31_2.a) {
+    case 0: goto arm_1_10;
+    case 1: goto arm_2_14;
+    case 2: goto arm_3_13;
+    default: never();
+    }
+arm_1_10:
+    dfuse_host_plan_Plan_settle(r14_2, r31, r1_6, 1, r33);
+    uint8_t pre_4 = *r14_2;
+    uint8_t pre15 = r14_2[1];
+    uint8_t pre16 = r14_2[2];
+    v30 = pre16;
+    v31 = pre15;
+    v32 = pre_4;
+    goto dfuse_host_plan_Plan_done_exit;
+arm_2_14:
+    memset(r10_3, 0, 56);
+    if (r5_0_0_copyload != 1) goto arm_2_15;
+    uint64_t r21 = dfuse_host_plan_Plan_front_end(r31);
+    dfuse_host_plan_Plan_to_write(r10_3, r31, 0, 0, umax64(r21, r5_6_0_copyload), r5_8_0_copyload);
+    goto dfuse_host_plan_Plan_erased_exit;
+arm_2_15:;
+    uint64_t r30_2 = dfuse_host_plan_Plan_page_end(r31, r33);
+    dfuse_host_plan_Plan_to_erase(r10_3, r31, 0, 0, r30_2);
+dfuse_host_plan_Plan_erased_exit:;
+    uint8_t v23 = *r10_3;
+    uint8_t v24 = r10_3[1];
+    uint8_t v25 = r10_3[2];
+    memcpy(r14_2 + 8, r10_3 + 8, 48);
+    v30 = v25;
+    v31 = v24;
+    v32 = v23;
+    goto dfuse_host_plan_Plan_done_exit;
+arm_3_13:
+    memset(r10_4, 0, 56);
+    if (r5_0_0_copyload != 2) goto arm_2_16;
+    uint64_t r23_3 = dfuse_host_plan_Plan_write_end(r31, r33, r5_8_0_copyload);
+    dfuse_host_plan_Plan_to_write(r10_4, r31, 0, 0, umax64(r23_3, r5_6_0_copyload), r5_8_0_copyload);
+    goto dfuse_host_plan_Plan_written_exit;
+arm_2_16:;
+    uint64_t r32 = dfuse_host_plan_Plan_front_end(r31);
+    uint64_t r34 = dfuse_host_plan_Plan_write_end(r31, r33, r32);
+    dfuse_host_plan_Plan_to_write_front(r10_4, r31, 0, 0, r34);
+dfuse_host_plan_Plan_written_exit:;
+    uint8_t v27 = *r10_4;
+    uint8_t v28 = r10_4[1];
+    uint8_t v29 = r10_4[2];
+    memcpy(r14_2 + 8, r10_4 + 8, 48);
+    v30 = v29;
+    v31 = v28;
+    v32 = v27;
+dfuse_host_plan_Plan_done_exit:
+    memcpy(r12_4 + 8, r14_2 + 8, 48);
+    v36 = v30;
+    v37 = v31;
+    v38 = v32;
+    goto dfuse_host_plan_Plan_polled_exit;
+arm_3_12:
+    store64(r1_7, r18);
+    store64(r1_7 + 8, r5_6_0_copyload);
+    store64(r1_7 + 16, r5_8_0_copyload);
+    memset(r12_5, 0, 56);
+    switch (r17_10_3_0) {
+    case 15: goto arm_1_11;
+    case 11:
+        v33 = 0;
+        v34 = 3;
+        v35 = 1;
+        goto dfuse_host_plan_Plan_refused_exit;
+    case 0: goto arm_3_14;
+    case 1: goto arm_3_14;
+    case 2: goto arm_3_14;
+    case 3: goto arm_3_14;
+    case 4: goto arm_3_14;
+    case 5: goto arm_3_14;
+    case 6: goto arm_3_14;
+    case 7: goto arm_3_14;
+    case 8: goto arm_3_14;
+    case 9: goto arm_3_14;
+    case 10: goto arm_3_14;
+    case 12: goto arm_3_14;
+    case 13: goto arm_3_14;
+    case 14: goto arm_3_14;
+    default: never();
+    }
+arm_1_11:
+    dfuse_host_plan_Plan_unsure_of(r12_5, r31, r1_7, r5_10_0_copyload, r5_13_0_copyload);
+    uint8_t pre_5 = *r12_5;
+    uint8_t pre4 = r12_5[1];
+    uint8_t pre5 = r12_5[2];
+    v33 = pre5;
+    v34 = pre4;
+    v35 = pre_5;
+    goto dfuse_host_plan_Plan_refused_exit;
+arm_3_14:
+    v33 = r17_10_3_0;
+    v34 = 2;
+    v35 = 1;
+    goto dfuse_host_plan_Plan_refused_exit;
+dfuse_host_plan_Plan_refused_exit:
+    memcpy(r12_4 + 8, r12_5 + 8, 48);
+    v36 = v33;
+    v37 = v34;
+    v38 = v35;
+    goto dfuse_host_plan_Plan_polled_exit;
+arm_4_8:
+    dfuse_host_plan_Plan_unsure_of(r12_4, r31, r1_5, r5_10_0_copyload, r5_13_0_copyload);
+    uint8_t pre_6 = *r12_4;
+    uint8_t pre30 = r12_4[1];
+    uint8_t pre31 = r12_4[2];
+    v36 = pre31;
+    v37 = pre30;
+    v38 = pre_6;
+    goto dfuse_host_plan_Plan_polled_exit;
+dfuse_host_plan_Plan_polled_exit:;
+    uint64_t r12_1327_8_copyload28 = load64(r12_4 + 8);
+    uint64_t r12_17_8_copyload29 = load64(r12_4 + 16);
+    uint64_t r12_19_8_copyload30 = load64(r12_4 + 24);
+    uint64_t r12_21_8_copyload31 = load64(r12_4 + 32);
+    uint64_t r12_23_8_copyload32 = load64(r12_4 + 40);
+    uint32_t r12_25_8_copyload33 = load32(r12_4 + 48);
+    uint32_t r12_27_8_copyload34 = load32(r12_4 + 52);
+    r17_0_0_2 = v38;
+    r17_17_0 = v37;
+    r17_33_0 = v36;
+    r17_49252_0 = r12_1327_8_copyload28;
+    r17_65_0 = r12_17_8_copyload29;
+    r17_76_0 = r12_19_8_copyload30;
+    r17_87_0 = r12_21_8_copyload31;
+    r17_98_0 = r12_23_8_copyload32;
+    r17_104_0 = r12_25_8_copyload33;
+    r17_114_0 = r12_27_8_copyload34;
+    goto dfuse_host_plan_Plan_row_exit;
+arm_2_12:
+    r17_0_0_2 = 0;
+    r17_17_0 = 0;
+    r17_33_0 = 0;
+    r17_49252_0 = r18;
+    r17_65_0 = r5_6_0_copyload;
+    r17_76_0 = r5_8_0_copyload;
+    r17_87_0 = (uint64_t)r5_10_0_copyload;
+    r17_98_0 = r5_13_0_copyload;
+    r17_104_0 = 8;
+    r17_114_0 = (uint32_t)((r5_18_0_copyload == 0) ? 100 : r5_18_0_copyload);
+    goto dfuse_host_plan_Plan_row_exit;
+arm_3_11:
+    r17_0_0_2 = 0;
+    r17_17_0 = 0;
+    r17_33_0 = 0;
+    r17_49252_0 = r18;
+    r17_65_0 = r5_6_0_copyload;
+    r17_76_0 = r5_8_0_copyload;
+    r17_87_0 = (uint64_t)r5_10_0_copyload;
+    r17_98_0 = r5_13_0_copyload;
+    r17_104_0 = 7;
+    r17_114_0 = r5_18_0_copyload;
+    goto dfuse_host_plan_Plan_row_exit;
+arm_9:
+    r17_0_0_2 = 0;
+    r17_17_0 = 0;
+    r17_33_0 = 0;
+    r17_49252_0 = r18;
+    r17_65_0 = r5_6_0_copyload;
+    r17_76_0 = r5_8_0_copyload;
+    r17_87_0 = (uint64_t)r5_10_0_copyload;
+    r17_98_0 = r5_13_0_copyload;
+    r17_104_0 = (uint32_t)((r17_0_0 == 6) ? 7 : 8);
+    r17_114_0 = r5_18_0_copyload;
+    goto dfuse_host_plan_Plan_row_exit;
+arm_10:
+    store64(r1_8, r18);
+    store64(r1_8 + 8, r5_6_0_copyload);
+    store64(r1_8 + 16, r5_8_0_copyload);
+    memset(r11_3, 0, 56);
+    switch (r17_0_0) {
+    case 0: goto arm_1_12;
+    case 4:
+        r17_114_8_copyload282 = 0;
+        r17_104_8_copyload278 = 0;
+        r17_98_8_copyload272 = 0;
+        r17_87_8_copyload266 = 0;
+        r17_76_8_copyload262 = r5_8_0_copyload;
+        r17_65_8_copyload258 = r5_6_0_copyload;
+        r17_49252_8_copyload254 = r18;
+        v41 = 0;
+        v42 = 0;
+        v43 = 0;
+        goto dfuse_host_plan_Plan_on_begin_reading_exit;
+    case 1: goto arm_3_15;
+    case 2: goto arm_3_15;
+    case 3: goto arm_3_15;
+    case 5: goto arm_3_15;
+    case 6: goto arm_3_15;
+    default: never();
+    }
+arm_1_12:
+    dfuse_host_plan_Plan_settle(r11_3, r31, r1_8, (uint8_t)((r5_10_0_copyload == 1) ? 2 : r5_10_0_copyload), r5_13_0_copyload);
+    uint8_t pre_7 = *r11_3;
+    uint8_t pre8_2 = r11_3[1];
+    uint8_t pre9_2 = r11_3[2];
+    uint64_t r17_49252_8_copyload254_pre = load64(r11_3 + 8);
+    uint64_t r17_65_8_copyload258_pre = load64(r11_3 + 16);
+    uint64_t r17_76_8_copyload262_pre = load64(r11_3 + 24);
+    uint64_t r17_87_8_copyload266_pre = load64(r11_3 + 32);
+    uint64_t r17_98_8_copyload272_pre = load64(r11_3 + 40);
+    uint32_t r17_104_8_copyload278_pre = load32(r11_3 + 48);
+    uint32_t r17_114_8_copyload282_pre = load32(r11_3 + 52);
+    r17_114_8_copyload282 = r17_114_8_copyload282_pre;
+    r17_104_8_copyload278 = r17_104_8_copyload278_pre;
+    r17_98_8_copyload272 = r17_98_8_copyload272_pre;
+    r17_87_8_copyload266 = r17_87_8_copyload266_pre;
+    r17_76_8_copyload262 = r17_76_8_copyload262_pre;
+    r17_65_8_copyload258 = r17_65_8_copyload258_pre;
+    r17_49252_8_copyload254 = r17_49252_8_copyload254_pre;
+    v41 = pre9_2;
+    v42 = pre8_2;
+    v43 = pre_7;
+    goto dfuse_host_plan_Plan_on_begin_reading_exit;
+arm_3_15:
+    r17_114_8_copyload282 = 0;
+    r17_104_8_copyload278 = 9;
+    r17_98_8_copyload272 = r5_13_0_copyload;
+    r17_87_8_copyload266 = (uint64_t)r5_10_0_copyload;
+    r17_76_8_copyload262 = r5_8_0_copyload;
+    r17_65_8_copyload258 = r5_6_0_copyload;
+    r17_49252_8_copyload254 = r18;
+    v41 = 0;
+    v42 = 0;
+    v43 = 0;
+dfuse_host_plan_Plan_on_begin_reading_exit:
+    r17_0_0_2 = v43;
+    r17_17_0 = v42;
+    r17_33_0 = v41;
+    r17_49252_0 = r17_49252_8_copyload254;
+    r17_65_0 = r17_65_8_copyload258;
+    r17_76_0 = r17_76_8_copyload262;
+    r17_87_0 = r17_87_8_copyload266;
+    r17_98_0 = r17_98_8_copyload272;
+    r17_104_0 = r17_104_8_copyload278;
+    r17_114_0 = r17_114_8_copyload282;
+    goto dfuse_host_plan_Plan_row_exit;
+arm_11:
+    store64(r1_9, r18);
+    store64(r1_9 + 8, r5_6_0_copyload);
+    store64(r1_9 + 16, r5_8_0_copyload);
+    memset(r11_4, 0, 56);
+    switch (r17_0_0) {
+    case 0: goto arm_1_13;
+    case 4:
+        r17_114_8_copyload283 = 0;
+        r17_104_8_copyload279 = 0;
+        r17_98_8_copyload273 = 0;
+        r17_87_8_copyload267 = 0;
+        r17_76_8_copyload263 = r5_8_0_copyload;
+        r17_65_8_copyload259 = r5_6_0_copyload;
+        r17_49252_8_copyload255 = r18;
+        v45 = 0;
+        v46 = 0;
+        v47 = 0;
+        goto dfuse_host_plan_Plan_on_end_reading_exit;
+    case 1: goto arm_3_16;
+    case 2: goto arm_3_16;
+    case 3: goto arm_3_16;
+    case 5: goto arm_3_16;
+    case 6: goto arm_3_16;
+    default: never();
+    }
+arm_1_13:
+    dfuse_host_plan_Plan_settle(r11_4, r31, r1_9, (uint8_t)((r5_10_0_copyload == 2) ? 1 : r5_10_0_copyload), r5_13_0_copyload);
+    uint8_t pre_8 = *r11_4;
+    uint8_t pre8_3 = r11_4[1];
+    uint8_t pre9_3 = r11_4[2];
+    uint64_t r17_49252_8_copyload255_pre = load64(r11_4 + 8);
+    uint64_t r17_65_8_copyload259_pre = load64(r11_4 + 16);
+    uint64_t r17_76_8_copyload263_pre = load64(r11_4 + 24);
+    uint64_t r17_87_8_copyload267_pre = load64(r11_4 + 32);
+    uint64_t r17_98_8_copyload273_pre = load64(r11_4 + 40);
+    uint32_t r17_104_8_copyload279_pre = load32(r11_4 + 48);
+    uint32_t r17_114_8_copyload283_pre = load32(r11_4 + 52);
+    r17_114_8_copyload283 = r17_114_8_copyload283_pre;
+    r17_104_8_copyload279 = r17_104_8_copyload279_pre;
+    r17_98_8_copyload273 = r17_98_8_copyload273_pre;
+    r17_87_8_copyload267 = r17_87_8_copyload267_pre;
+    r17_76_8_copyload263 = r17_76_8_copyload263_pre;
+    r17_65_8_copyload259 = r17_65_8_copyload259_pre;
+    r17_49252_8_copyload255 = r17_49252_8_copyload255_pre;
+    v45 = pre9_3;
+    v46 = pre8_3;
+    v47 = pre_8;
+    goto dfuse_host_plan_Plan_on_end_reading_exit;
+arm_3_16:
+    r17_114_8_copyload283 = 0;
+    r17_104_8_copyload279 = 10;
+    r17_98_8_copyload273 = r5_13_0_copyload;
+    r17_87_8_copyload267 = (uint64_t)r5_10_0_copyload;
+    r17_76_8_copyload263 = r5_8_0_copyload;
+    r17_65_8_copyload259 = r5_6_0_copyload;
+    r17_49252_8_copyload255 = r18;
+    v45 = 0;
+    v46 = 0;
+    v47 = 0;
+dfuse_host_plan_Plan_on_end_reading_exit:
+    r17_0_0_2 = v47;
+    r17_17_0 = v46;
+    r17_33_0 = v45;
+    r17_49252_0 = r17_49252_8_copyload255;
+    r17_65_0 = r17_65_8_copyload259;
+    r17_76_0 = r17_76_8_copyload263;
+    r17_87_0 = r17_87_8_copyload267;
+    r17_98_0 = r17_98_8_copyload273;
+    r17_104_0 = r17_104_8_copyload279;
+    r17_114_0 = r17_114_8_copyload283;
+    goto dfuse_host_plan_Plan_row_exit;
+arm_12:
+    memset(r11_5, 0, 56);
+    switch (r17_0_0) {
+    case 3: goto arm_1_14;
+    case 4:
+        r17_114_8_copyload284 = 0;
+        r17_104_8_copyload280 = 0;
+        r17_98_8_copyload274 = 0;
+        r17_87_8_copyload268 = 0;
+        r17_76_8_copyload264 = r5_8_0_copyload;
+        r17_65_8_copyload260 = r5_6_0_copyload;
+        r17_49252_8_copyload256 = r18;
+        v48 = 0;
+        v49 = 0;
+        v50 = 0;
+        goto dfuse_host_plan_Plan_on_read_exit;
+    case 0: goto arm_3_17;
+    case 1: goto arm_3_17;
+    case 2: goto arm_3_17;
+    case 5: goto arm_3_17;
+    case 6: goto arm_3_17;
+    default: never();
+    }
+arm_1_14:
+    if (!(r17_8_0 & 1)) {
+        r17_114_8_copyload284 = 0;
+        r17_104_8_copyload280 = 0;
+        r17_98_8_copyload274 = 0;
+        r17_87_8_copyload268 = 0;
+        r17_76_8_copyload264 = 0;
+        r17_65_8_copyload260 = 0;
+        r17_49252_8_copyload256 = 0;
+        v48 = 0;
+        v49 = 1;
+        v50 = 1;
+        goto dfuse_host_plan_Plan_on_read_exit;
+    }
+    store64(r1_10, r18);
+    store64(r1_10 + 8, r5_6_0_copyload);
+    store64(r1_10 + 16, r5_8_0_copyload);
+    r14_3 = dfuse_host_plan_Plan_end_of_work(r31, r1_10);
+    switch (r5_0_0_copyload) {
+    case 3: goto arm_1_15;
+    case 5: goto arm_2_17;
+    case 0:
+        r11_5_0 = r5_6_0_copyload;
+        r11_9_0 = r5_8_0_copyload;
+        goto dfuse_host_plan_Plan_read_on_exit;
+    case 1:
+        r11_5_0 = r5_6_0_copyload;
+        r11_9_0 = r5_8_0_copyload;
+        goto dfuse_host_plan_Plan_read_on_exit;
+    case 2:
+        r11_5_0 = r5_6_0_copyload;
+        r11_9_0 = r5_8_0_copyload;
+        goto dfuse_host_plan_Plan_read_on_exit;
+    case 4:
+        r11_5_0 = r5_6_0_copyload;
+        r11_9_0 = r5_8_0_copyload;
+        goto dfuse_host_plan_Plan_read_on_exit;
+    case 6:
+        r11_5_0 = r5_6_0_copyload;
+        r11_9_0 = r5_8_0_copyload;
+        goto dfuse_host_plan_Plan_read_on_exit;
+    default: never();
+    }
+arm_1_15:;
+    uint64_t r20 = dfuse_host_plan_Plan_read_end(r31, r5_6_0_copyload, r14_3);
+    r11_5_0 = r20;
+    r11_9_0 = 0;
+    goto dfuse_host_plan_Plan_read_on_exit;
+arm_2_17:;
+    uint64_t r27_2 = dfuse_host_plan_Plan_read_end(r31, r5_6_0_copyload, r14_3);
+    r11_5_0 = r27_2;
+    r11_9_0 = 0;
+    goto dfuse_host_plan_Plan_read_on_exit;
+dfuse_host_plan_Plan_read_on_exit:
+    store64(r13_2, r18);
+    store64(r13_2 + 8, r11_5_0);
+    store64(r13_2 + 16, r11_9_0);
+    dfuse_host_plan_Plan_settle(r11_5, r31, r13_2, r5_10_0_copyload, r5_13_0_copyload);
+    uint8_t pre_9 = *r11_5;
+    uint8_t pre20 = r11_5[1];
+    uint8_t pre21 = r11_5[2];
+    uint64_t r17_49252_8_copyload256_pre = load64(r11_5 + 8);
+    uint64_t r17_65_8_copyload260_pre = load64(r11_5 + 16);
+    uint64_t r17_76_8_copyload264_pre = load64(r11_5 + 24);
+    uint64_t r17_87_8_copyload268_pre = load64(r11_5 + 32);
+    uint64_t r17_98_8_copyload274_pre = load64(r11_5 + 40);
+    uint32_t r17_104_8_copyload280_pre = load32(r11_5 + 48);
+    uint32_t r17_114_8_copyload284_pre = load32(r11_5 + 52);
+    r17_114_8_copyload284 = r17_114_8_copyload284_pre;
+    r17_104_8_copyload280 = r17_104_8_copyload280_pre;
+    r17_98_8_copyload274 = r17_98_8_copyload274_pre;
+    r17_87_8_copyload268 = r17_87_8_copyload268_pre;
+    r17_76_8_copyload264 = r17_76_8_copyload264_pre;
+    r17_65_8_copyload260 = r17_65_8_copyload260_pre;
+    r17_49252_8_copyload256 = r17_49252_8_copyload256_pre;
+    v48 = pre21;
+    v49 = pre20;
+    v50 = pre_9;
+    goto dfuse_host_plan_Plan_on_read_exit;
+arm_3_17:
+    r17_114_8_copyload284 = 0;
+    r17_104_8_copyload280 = 11;
+    r17_98_8_copyload274 = r5_13_0_copyload;
+    r17_87_8_copyload268 = (uint64_t)r5_10_0_copyload;
+    r17_76_8_copyload264 = r5_8_0_copyload;
+    r17_65_8_copyload260 = r5_6_0_copyload;
+    r17_49252_8_copyload256 = r18;
+    v48 = 0;
+    v49 = 0;
+    v50 = 0;
+dfuse_host_plan_Plan_on_read_exit:
+    r17_0_0_2 = v50;
+    r17_17_0 = v49;
+    r17_33_0 = v48;
+    r17_49252_0 = r17_49252_8_copyload256;
+    r17_65_0 = r17_65_8_copyload260;
+    r17_76_0 = r17_76_8_copyload264;
+    r17_87_0 = r17_87_8_copyload268;
+    r17_98_0 = r17_98_8_copyload274;
+    r17_104_0 = r17_104_8_copyload280;
+    r17_114_0 = r17_114_8_copyload284;
+    goto dfuse_host_plan_Plan_row_exit;
+arm_13:
+    r17_0_0_2 = 0;
+    r17_17_0 = 0;
+    r17_33_0 = 0;
+    r17_49252_0 = r18;
+    r17_65_0 = r5_6_0_copyload;
+    r17_76_0 = r5_8_0_copyload;
+    r17_87_0 = (uint64_t)r5_10_0_copyload;
+    r17_98_0 = r5_13_0_copyload;
+    r17_104_0 = (uint32_t)((r17_0_0 == 0) ? 14 : 13);
+    r17_114_0 = 0;
+    goto dfuse_host_plan_Plan_row_exit;
+arm_14:
+    switch (r17_0_0) {
+    case 2: goto arm_1_16;
+    case 4:
+        r12_23_0_in = r5_10_0_copyload;
+        r12_26_0 = r5_13_0_copyload;
+        r12_29_0 = 14;
+        goto dfuse_host_closing_on_close_probe_exit;
+    case 0: goto arm_3_18;
+    case 1: goto arm_3_18;
+    case 3: goto arm_3_18;
+    case 5: goto arm_3_18;
+    case 6: goto arm_3_18;
+    default: never();
+    }
+arm_1_16:
+    switch (r17_8_0) {
+    case 2: goto arm_1_17;
+    case 5: goto arm_1_17;
+    case 10:
+        r12_23_0_in = 0;
+        r12_26_0 = 0;
+        r12_29_0 = 0;
+        goto dfuse_host_closing_on_close_probe_exit;
+    case 0: goto arm_3_19;
+    case 1: goto arm_3_19;
+    case 3: goto arm_3_19;
+    case 4: goto arm_3_19;
+    case 6: goto arm_3_19;
+    case 7: goto arm_3_19;
+    case 8: goto arm_3_19;
+    case 9: goto arm_3_19;
+    default: never();
+    }
+arm_1_17:
+    r12_23_0_in = r5_10_0_copyload;
+    r12_26_0 = r5_13_0_copyload;
+    r12_29_0 = 12;
+    goto dfuse_host_closing_on_close_probe_exit;
+arm_3_19:
+    r12_23_0_in = r5_10_0_copyload;
+    r12_26_0 = r5_13_0_copyload;
+    r12_29_0 = 14;
+    goto dfuse_host_closing_on_close_probe_exit;
+arm_3_18:
+    r12_23_0_in = r5_10_0_copyload;
+    r12_26_0 = r5_13_0_copyload;
+    r12_29_0 = 13;
+dfuse_host_closing_on_close_probe_exit:
+    r17_0_0_2 = 0;
+    r17_17_0 = 0;
+    r17_33_0 = 0;
+    r17_49252_0 = r18;
+    r17_65_0 = r5_6_0_copyload;
+    r17_76_0 = r5_8_0_copyload;
+    r17_87_0 = (uint64_t)r12_23_0_in;
+    r17_98_0 = r12_26_0;
+    r17_104_0 = r12_29_0;
+    r17_114_0 = 0;
+    goto dfuse_host_plan_Plan_row_exit;
+arm_15:
+    if (r17_0_0 != 1) {
+        r12_0_0 = 0;
+        r12_108_0_in = r5_0_0_copyload;
+        r12_13_0 = r5_6_0_copyload;
+        r12_15_0 = r5_8_0_copyload;
+        r12_17_0_in = r5_10_0_copyload;
+        r12_19_0 = r5_13_0_copyload;
+        r12_21_0 = 14;
+        goto dfuse_host_closing_on_close_poll_exit;
+    }
+    switch (r17_10_7_0) {
+    case 2: goto arm_3_20;
+    case 5: goto arm_3_20;
+    case 10:
+        r12_0_0 = 0;
+        r12_108_0_in = r5_0_0_copyload;
+        r12_13_0 = r5_6_0_copyload;
+        r12_15_0 = r5_8_0_copyload;
+        r12_17_0_in = 0;
+        r12_19_0 = 0;
+        r12_21_0 = 0;
+        goto dfuse_host_closing_on_close_poll_exit;
+    case 7: goto arm_5_5;
+    case 8: goto arm_5_5;
+    case 0: goto after_2_2;
+    case 1: goto after_2_2;
+    case 3: goto after_2_2;
+    case 4: goto after_2_2;
+    case 6: goto after_2_2;
+    case 9: goto after_2_2;
+    default: never();
+    }
+arm_3_20:
+    r12_0_0 = 0;
+    r12_108_0_in = r5_0_0_copyload;
+    r12_13_0 = r5_6_0_copyload;
+    r12_15_0 = r5_8_0_copyload;
+    r12_17_0_in = r5_10_0_copyload;
+    r12_19_0 = r5_13_0_copyload;
+    r12_21_0 = 12;
+    goto dfuse_host_closing_on_close_poll_exit;
+arm_5_5:
+    if (r17_10_3_0 == 0) {
+        r12_0_0 = 1;
+        r12_108_0_in = 0;
+        r12_13_0 = 0;
+        r12_15_0 = 0;
+        r12_17_0_in = 0;
+        r12_19_0 = 0;
+        r12_21_0 = 0;
+        goto dfuse_host_closing_on_close_poll_exit;
+    }
+after_2_2:
+    r12_0_0 = 0;
+    r12_108_0_in = r5_0_0_copyload;
+    r12_13_0 = r5_6_0_copyload;
+    r12_15_0 = r5_8_0_copyload;
+    r12_17_0_in = r5_10_0_copyload;
+    r12_19_0 = r5_13_0_copyload;
+    r12_21_0 = 14;
+    goto dfuse_host_closing_on_close_poll_exit;
+dfuse_host_closing_on_close_poll_exit:
+    r17_0_0_2 = r12_0_0;
+    r17_17_0 = 0;
+    r17_33_0 = r12_0_0;
+    r17_49252_0 = (uint64_t)r12_108_0_in;
+    r17_65_0 = r12_13_0;
+    r17_76_0 = r12_15_0;
+    r17_87_0 = (uint64_t)r12_17_0_in;
+    r17_98_0 = r12_19_0;
+    r17_104_0 = r12_21_0;
+    r17_114_0 = 0;
+    goto dfuse_host_plan_Plan_row_exit;
+dfuse_host_plan_Plan_row_exit:
+    *r13 = r17_0_0_2;
+    r13[1] = r17_17_0;
+    r13[2] = r17_33_0;
+    store64(r13 + 8, r17_49252_0);
+    store64(r13 + 16, r17_65_0);
+    store64(r13 + 24, r17_76_0);
+    store64(r13 + 32, r17_87_0);
+    store64(r13 + 40, r17_98_0);
+    store32(r13 + 48, r17_104_0);
+    store32(r13 + 52, r17_114_0);
+    dfuse_host_session_Session_spent(r10_2, r12, r13, r8_3_0_copyload);
+dfuse_host_session_Session_after_exit:
+    memcpy(r11_2, r10_2, 104);
+    memcpy(r8, r11_2, 104);
+dfuse_host_session_Session_take_exit:
+    dfu_host_c_dfuse_holding_record_of(r17, r8);
+    memcpy(a0, r17, 64);
+    common_ret_op = 0;
+dfu_host_c_dfuse_steps_dfuse_take_exit:
     return signed32(common_ret_op);
 }

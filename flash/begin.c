@@ -40,12 +40,6 @@ static void take_limits(struct session *session, const uint8_t descriptor[9])
     session->actions = actions > UINT32_MAX ? UINT32_MAX : (uint32_t)actions;
 }
 
-/* A device of DfuSe would take the blocks for commands. */
-static bool is_dfuse(const struct found *is)
-{
-    return is->descriptor_size == FUNCTIONAL_BYTES && two_bytes(is->descriptor + AT_VERSION) == VERSION_DFUSE;
-}
-
 /* A download is verified where that is asked for and the device can upload. */
 static enum goal goal_of(const struct session *session)
 {
@@ -100,8 +94,11 @@ int32_t session_begin(struct session *session)
     session->goal = goal_of(session);
     session->odd = 0;
     session_meets(session);
+    /* A device of DfuSe would take the blocks for commands. */
     if (is_dfuse(is))
-        return REFUSED_DFUSE;
+        return dfuse_begin_session(session);
+    if (session->dfuse.has_address)
+        return REFUSED_NOT_DFUSE;
     memcpy(session->known, is->descriptor, sizeof session->known);
     memcpy(descriptor, is->descriptor, sizeof descriptor);
     session->known_size = is->descriptor_size;

@@ -16,7 +16,6 @@ static const struct {
     {'c', "-c of dfu-util isn't here: a device is used in the configuration that it is in"},
     {'E', "-E of dfu-util is --wait=SECONDS here: a device that left is asked for until it is back, 10 seconds or longer"},
     {'v', "-v of dfu-util is --verbose here, once"},
-    {'s', "-s of dfu-util is for DfuSe devices, which speak another protocol than dfu-flash"},
 };
 
 /* A number as C writes it, which dfu-util reads: with a 0 in front it is octal or hexadecimal. */

@@ -50,12 +50,29 @@ bool may_be(const struct wanted *wanted, const struct found *found)
     return is_named && (wanted->path == NULL || strcmp(wanted->path, found->path) == 0);
 }
 
+bool is_dfuse(const struct found *found)
+{
+    return found->descriptor_size == FUNCTIONAL_BYTES && two_bytes(found->descriptor + AT_VERSION) == VERSION_DFUSE;
+}
+
+/* Whether it is the name of the memory map that a setting has: what stands between @ and the first /, without spaces behind it. */
+static bool is_map_name(const char *name, const char *setting)
+{
+    size_t length = strlen(name), end;
+    if (setting[0] != '@' || strchr(setting, '/') == NULL || length == 0)
+        return false;
+    for (end = strcspn(setting, "/"); end > 1 && setting[end - 1] == ' '; end--)
+        ;
+    return end == length + 1 && memcmp(setting + 1, name, length) == 0;
+}
+
 bool is_placed(const struct place *place, const struct found *found)
 {
     bool is_interface = place->interface < 0 || place->interface == found->interface;
     bool is_alternate = place->alternate < 0 || place->alternate == found->alternate;
     /* As with a serial number: a name that may not be read may be the one. */
-    bool is_name = place->name == NULL || found->access != 0 || strcmp(place->name, found->name) == 0;
+    bool is_name = place->name == NULL || found->access != 0 || strcmp(place->name, found->name) == 0
+        || is_map_name(place->name, found->name);
     return !found->is_upgrade || (is_interface && is_alternate && is_name);
 }
 

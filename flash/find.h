@@ -47,7 +47,11 @@ struct wanted {
     uint16_t dfu_vendor, dfu_product;
 };
 
-/* Whether a setting is what is asked for: in run-time mode each does. */
+/* Whether its functional descriptor is that of DfuSe (bcdDFUVersion 011Ah). */
+bool is_dfuse(const struct found *found);
+
+/* Whether a setting is what is asked for: in run-time mode each does. A setting whose name is a memory map may be asked for by the
+   map's name, as `Internal Flash`. */
 bool is_placed(const struct place *place, const struct found *found);
 
 /* Whether it may be what is wanted, by what is known before it is opened: its identifiers and its path. */

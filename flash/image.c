@@ -4,6 +4,7 @@
 #include "image.h"
 #include "files.h"
 #include "say.h"
+#include "session.h"
 #include "standard.h"
 
 #include <dfu_host.h>
@@ -50,7 +51,7 @@ static bool is_raw(const struct words *words, int32_t refusal)
 {
     if (refusal != DFU_FILE_NO_SIGNATURE && refusal != DFU_FILE_TOO_SHORT)
         return false;
-    if (words->has_ids && words->vendor != ANY_ID && words->product != ANY_ID)
+    if (words->has_address || (words->has_ids && words->vendor != ANY_ID && words->product != ANY_ID))
         return true;
     fputs("dfu-flash: an image without a suffix is taken with --device VID:PID, both not ffff\n", stderr);
     return false;
@@ -74,11 +75,16 @@ int32_t image_read(struct image *image, const struct words *words)
     if (!file_read(words->file, &image->bytes, &image->length))
         return IMAGE_UNREAD;
     refusal = look(image);
+    if (refusal == DFU_FILE_DFUSE && words->has_address)
+        return REFUSED_OWN_ADDRESS;
     if (refusal == 0 || !is_raw(words, refusal))
         return refusal;
-    if (!words->quiet)
+    if (!words->quiet && words->has_address)
+        fprintf(stderr, "dfu-flash: there is no suffix: all %zu bytes are written, from %08lx on\n", image->length,
+                (unsigned long)words->address);
+    else if (!words->quiet)
         fprintf(stderr, "dfu-flash: there is no suffix: all %zu bytes are sent, to %04x:%04x\n", image->length, words->vendor,
                 words->product);
-    add_suffix(image, words->vendor, words->product);
+    add_suffix(image, words->has_ids ? words->vendor : ANY_ID, words->has_ids ? words->product : ANY_ID);
     return look(image);
 }

@@ -21,4 +21,5 @@ int32_t image_read(struct image *image, const struct words *words);
 
 #define IMAGE_UNREAD (-100)
 
+
 #endif

@@ -49,3 +49,10 @@ void json_setting(const struct found *found)
     if (found->name[0] != '\0')
         json_text("name", found->name);
 }
+
+void json_address(uint32_t address)
+{
+    char digits[9];
+    snprintf(digits, sizeof digits, "%08" PRIx32, address);
+    json_text("address", digits);
+}

@@ -16,4 +16,7 @@ void json_truth(const char *name, bool is);
 /* The fields of a setting: interface, alternate setting and name. */
 void json_setting(const struct found *found);
 
+/* The address that a session with DfuSe begins at. */
+void json_address(uint32_t address);
+
 #endif

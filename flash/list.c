@@ -44,6 +44,8 @@ static void print_record(const struct found *found)
     json_setting(found);
     json_text("mode", found->is_upgrade ? "DFU" : "run-time");
     print_descriptor(found);
+    if (is_dfuse(found) && found->is_upgrade)
+        dfuse_print_json(found);
     json_text("access", access_name(found->access));
     puts("}");
 }
@@ -59,8 +61,11 @@ int list_devices(libusb_context *usb, const struct wanted *wanted, bool is_json)
     for (int at = 0; at < count; at++)
         if (is_json)
             print_record(&list[at]);
-        else
+        else {
             say_found(stdout, &list[at]);
+            if (is_dfuse(&list[at]) && list[at].is_upgrade)
+                dfuse_print_map(&list[at]);
+        }
     found_drop(list, count);
     if (count == 0)
         say_missing(usb, wanted);
@@ -74,7 +79,9 @@ static void print_plan_record(const struct session *session)
 {
     record_begin(session, STATUS_DONE, "dry-run",
                  session->odd != 0 ? "bring it to DFU mode, and look there how large blocks are" : "nothing was sent");
-    if (session->goal != GOAL_UPLOAD)
+    if (session->dfuse.is)
+        json_address(session->dfuse.address);
+    if (session->goal != GOAL_UPLOAD || session->dfuse.is)
         json_number("bytes", session->payload_length);
     if (session->odd == 0) {
         json_number("transfer", session->host.transfer);
@@ -95,8 +102,10 @@ void list_plan(const struct session *session, bool is_json)
         fputs("dry-run: bring it to DFU mode, and look there how large blocks are: ", stdout);
     else {
         printf("dry-run: %s", goals[session->goal]);
-        if (session->goal != GOAL_UPLOAD)
+        if (session->goal != GOAL_UPLOAD || session->dfuse.is)
             printf(" %zu bytes", session->payload_length);
+        if (session->dfuse.is)
+            printf(" at %08lx", (unsigned long)session->dfuse.address);
         printf(" in blocks of %u, within %lu actions and %u restarts: ", session->host.transfer, (unsigned long)session->actions,
                session->restarts);
     }

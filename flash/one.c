@@ -82,6 +82,10 @@ static void ask(const struct words *words)
     session.actions = words->actions;
     session.restarts = words->restarts;
     session.transfer = words->transfer;
+    session.dfuse.has_address = words->has_address;
+    session.dfuse.stays = words->stays;
+    session.dfuse.address = words->address;
+    session.dfuse.length = words->length;
     session.wire.trace.is_on = words->verbose || words->log != NULL;
     session.wire.device = &device;
 }
@@ -194,6 +198,9 @@ struct wanted wanted_of(const struct words *words)
                             .path = words->path, .serial = words->serial,
                             .place = {words->interface, words->alternate, words->setting},
                             .has_dfu_ids = words->has_dfu_ids, .dfu_vendor = words->dfu_vendor, .dfu_product = words->dfu_product};
+    /* A device of DfuSe has a setting for each of its memories: the first is that of programs. */
+    if (words->has_address && words->alternate < 0 && words->setting == NULL)
+        wanted.place.alternate = 0;
     return wanted;
 }
 

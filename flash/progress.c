@@ -17,7 +17,7 @@
 #define BAR_MOST 30     /* characters of a bar, */
 #define ROW_BAR_MOST 10 /* and of one that stands behind other words */
 
-static const char *const names[] = {"", "downloading", "comparing", "uploading"};
+static const char *const names[] = {"", "downloading", "comparing", "uploading", "erasing"};
 
 enum progress_style progress_style(bool is_quiet, bool is_lines)
 {

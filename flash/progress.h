@@ -6,7 +6,7 @@
 #include <stdbool.h>
 #include <stdint.h>
 
-enum progress_part { PROGRESS_NONE, PROGRESS_SENDING, PROGRESS_COMPARING, PROGRESS_FETCHING };
+enum progress_part { PROGRESS_NONE, PROGRESS_SENDING, PROGRESS_COMPARING, PROGRESS_FETCHING, PROGRESS_ERASING };
 
 /* How it is shown: not at all; by lines on standard error; by a bar there, which is a terminal; or, for a program that shows many
    sessions, by lines on standard output that begin with a tab and have a bar in them. */

@@ -89,6 +89,8 @@ static void print_record(const struct session *session, const struct verdict *ve
     if (verdict->code != 0)
         json_text("meaning", code_words(verdict->code));
     print_device(session);
+    if (session->dfuse.is)
+        json_address(session->dfuse.address);
     json_number("bytes", session->goal == GOAL_UPLOAD ? session->host.kept : session->payload_length);
     if (session->made != NULL)
         json_text("file", session->made);

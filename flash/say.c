@@ -44,6 +44,8 @@ void say_found(FILE *out, const struct found *found)
     if (found->name[0] != '\0')
         say_text(out, " \"", found->name, "\"");
     fputs(found->is_upgrade ? " DFU mode" : " run-time mode", out);
+    if (is_dfuse(found))
+        fputs(", DfuSe", out);
     say_descriptor(out, found);
     fprintf(out, "%s\n", access_words(found->access));
 }

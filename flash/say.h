@@ -34,6 +34,15 @@ struct verdict {
     uint8_t code;      /* of `refused`: the device's bStatus, else 0 */
 };
 
+/* What an end means: the status, and in words. */
+struct meaning {
+    int status;
+    const char *words;
+};
+
+/* Takes the status and the words, but for what a device may have, if no block was sent. */
+void verdict_words(struct verdict *verdict, const struct session *session, const struct meaning *meaning);
+
 struct verdict verdict_of(const struct session *session);
 
 #endif

@@ -137,8 +137,9 @@ static void trace_session(const struct session *session)
         is.descriptor_size = sizeof is.descriptor;
     }
     if (session->refusal == 0)
-        trace_begin(&session->wire.trace, goal_name(session->goal), &is, session->host.transfer, session->host.actions,
-                    session->host.restarts);
+        trace_begin(&session->wire.trace, goal_name(session->goal), &is, session->host.transfer,
+                    session->dfuse.is ? session->actions : session->host.actions,
+                    session->dfuse.is ? session->restarts : session->host.restarts);
 }
 
 /* In DFU mode a device may have another functional descriptor than in run-time mode: then the session that brought it there, which
@@ -211,6 +212,10 @@ void session_run(struct session *session)
 {
     struct dfu_action action;
     trace_session(session);
+    if (session->dfuse.is) {
+        (session->is_upload ? dfuse_read : dfuse_run)(session);
+        return;
+    }
     do {
         memset(&action, 0, sizeof action);
         if (stop(session) != 0 || dfu_host_next(&session->host, session->file, session->payload_length, &action) != 0) {

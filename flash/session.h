@@ -4,6 +4,7 @@
 #define DFU_FLASH_SESSION_H
 
 #include "answer.h"
+#include "dfuse.h"
 #include "progress.h"
 #include "stalls.h"
 
@@ -21,6 +22,7 @@ enum end {
     END_MANY,   /* it came back with more than one setting */
     END_OTHER,  /* what came back is another device, or has another functional descriptor */
     END_REFUSED, /* it came to DFU mode, and the host refused to begin with it there */
+    END_ABORTED, /* a signal came; DfuSe alone, whose host isn't told */
     END_TIMED_OUT, /* the time of --timeout is spent, and the host gave up */
     END_BROKEN, /* the host's library refused its own record */
     END_STALLED /* it stays in run-time mode, and stalls what it is asked there */
@@ -53,6 +55,7 @@ struct session {
     struct stalls stalls;
     struct wire wire;
     struct progress progress;
+    struct dfuse dfuse;           /* of a device that speaks DfuSe */
     uint64_t taken, restarted;    /* actions done, and restarts reported */
     int64_t began_ms;
     enum end end;
@@ -60,14 +63,20 @@ struct session {
     int32_t refusal;              /* why not, where it is END_REFUSED */
 };
 
-/* The program's own refusals, beside the host's: the device speaks DfuSe; the file is for any device, and would go to all. */
-#define REFUSED_DFUSE (-101)
+/* The program's own refusals, beside the host's: the file is for any device, and would go to all; of DfuSe: the device speaks it, and
+   nobody said at which address; it is in run-time mode; an address was given, and the device has none; or the file has its own; or
+   the device's blocks are larger than Linux carries. */
 #define REFUSED_ANY (-102)
+#define REFUSED_NO_ADDRESS (-103)
+#define REFUSED_RUN_TIME (-104)
+#define REFUSED_NOT_DFUSE (-105)
+#define REFUSED_OWN_ADDRESS (-106)
+#define REFUSED_LARGE_BLOCKS (-107)
 
 /* What it is for, in a word. */
 const char *goal_name(enum goal goal);
 
-/* Begins the session of the device that was found. 0, REFUSED_DFUSE, or the host's refusal. Nothing is sent. */
+/* Begins the session of the device that was found. 0, or a refusal: the host's, or one of these. Nothing is sent. */
 int32_t session_begin(struct session *session);
 
 /* Whether what the device is now is what it was when it was found first in that mode. */

@@ -137,3 +137,66 @@ bool value_transfer(const char *text, struct words *words)
     words->transfer = (uint16_t)bytes;
     return is;
 }
+
+/* A hexadecimal number behind 0x, up to 32 bits, at the front of `text`; what stands behind it is in `rest`. */
+static bool is_hexadecimal(const char *text, uint32_t *number, const char **rest)
+{
+    size_t digits;
+    if (text[0] != '0' || (text[1] != 'x' && text[1] != 'X'))
+        return false;
+    digits = strspn(text + 2, DIGITS "abcdefABCDEF");
+    if (digits < 1 || digits > 8)
+        return false;
+    *number = (uint32_t)strtoul(text + 2, NULL, 16);
+    *rest = text + 2 + digits;
+    return true;
+}
+
+bool value_address(const char *text, struct words *words)
+{
+    const char *rest;
+    words->has_address = is_hexadecimal(text, &words->address, &rest) && *rest == '\0';
+    return words->has_address || words_refuse("--address takes an address as 0x08000000", text);
+}
+
+/* A count of bytes, decimal or hexadecimal, at the front of `text`. */
+static bool is_length(const char *text, uint32_t *length, const char **rest)
+{
+    char digits[11] = {0};
+    size_t count = strspn(text, DIGITS);
+    unsigned long number;
+    if (is_hexadecimal(text, length, rest))
+        return *length > 0;
+    if (count < 1 || count > 10)
+        return false;
+    memcpy(digits, text, count);
+    if (!is_number(digits, UINT32_MAX, &number) || number == 0)
+        return false;
+    *length = (uint32_t)number;
+    *rest = text + count;
+    return true;
+}
+
+bool value_length(const char *text, struct words *words)
+{
+    const char *rest;
+    return (is_length(text, &words->length, &rest) && *rest == '\0')
+        || words_refuse("--length takes bytes, from 1 to 4294967295, or as 0x1000", text);
+}
+
+/* dfu-util stays in DFU mode unless `leave` is said. Of its words that destroy more than an image none is taken. */
+bool value_dfuse(const char *text, struct words *words)
+{
+    const char *rest;
+    if (!is_hexadecimal(text, &words->address, &rest))
+        return words_refuse("-s takes an address as 0x08000000, which may have :leave or a length behind it", text);
+    words->has_address = words->stays = true;
+    while (*rest == ':') {
+        if (strncmp(rest, ":leave", 6) == 0) {
+            words->stays = false;
+            rest += 6;
+        } else if (!is_length(rest + 1, &words->length, &rest))
+            return words_refuse("-s takes :leave or a length behind the address; nothing else of dfu-util's is here", text);
+    }
+    return *rest == '\0' || words_refuse("-s takes :leave or a length behind the address", text);
+}

@@ -14,6 +14,11 @@ bool value_interface(const char *text, struct words *words);
 bool value_setting(const char *text, struct words *words);
 bool value_timeout(const char *text, struct words *words);
 bool value_transfer(const char *text, struct words *words);
+bool value_address(const char *text, struct words *words);
+bool value_length(const char *text, struct words *words);
+
+/* What -s of dfu-util says: an address, and behind colons how many bytes, or `leave`. */
+bool value_dfuse(const char *text, struct words *words);
 
 /* --verbose, or --verbose=FILE: NULL where there is none. */
 bool value_verbose(const char *text, struct words *words);

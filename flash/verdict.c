@@ -7,11 +7,6 @@
 #include <stdio.h>
 #include <string.h>
 
-struct meaning {
-    int status;
-    const char *words;
-};
-
 /* By the number of the report, from 1 on. */
 static const struct meaning reports[] = {
     [DFU_INSTALLED] = {STATUS_DONE, "the device took the whole image, told that it is in place, and was reset"},
@@ -36,6 +31,8 @@ static const struct {
     [END_SILENT] = {"silent", {STATUS_GONE, "the device answers no more; it may have the old image, the new one or neither"}},
     [END_MANY] = {"many", {STATUS_SEVERAL, "the device came back with more than one setting: choose by --interface or --alt"}},
     [END_OTHER] = {"other", {STATUS_OTHER, "another device came back; the one of before may have the old image, the new one or neither"}},
+    [END_ABORTED] = {"aborted", {STATUS_ABORTED,
+        "given up by Ctrl-C or a signal; the device may have the old image, the new one or neither"}},
     [END_TIMED_OUT] = {"timed-out", {STATUS_GIVEN_UP, "the time is spent; the device may have the old image, the new one or neither"}},
     [END_BROKEN] = {"broken", {STATUS_BROKEN, "the host refused its own record, which is a mistake of this program"}},
     [END_STALLED] = {"stalled",
@@ -51,7 +48,7 @@ static const struct meaning uncompared[] = {
 };
 
 /* What a device may have is said only where a block was sent. */
-static void take_words(struct verdict *verdict, const struct session *session, const struct meaning *meaning)
+void verdict_words(struct verdict *verdict, const struct session *session, const struct meaning *meaning)
 {
     static const char harm[] = " may have the old image, the new one or neither";
     size_t length = strlen(meaning->words), front = length - (sizeof harm - 1);
@@ -69,7 +66,7 @@ static void take_end(struct verdict *verdict, const struct session *session)
     enum end end = session->end == END_REPORT ? END_BROKEN : session->end;
     bool is_uncompared = session->goal == GOAL_VERIFIED && session->is_whole && (end == END_GONE || end == END_STALLED);
     snprintf(verdict->name, sizeof verdict->name, "%s", ends[end].name);
-    take_words(verdict, session, is_uncompared ? &uncompared[end] : &ends[end].meaning);
+    verdict_words(verdict, session, is_uncompared ? &uncompared[end] : &ends[end].meaning);
 }
 
 struct verdict verdict_of(const struct session *session)
@@ -78,13 +75,17 @@ struct verdict verdict_of(const struct session *session)
     uint32_t report = session->done.value;
     int32_t length;
     memset(&verdict, 0, sizeof verdict);
+    if (session->dfuse.is && session->end == END_REPORT) {
+        dfuse_verdict(session, &verdict);
+        return verdict;
+    }
     if (session->end != END_REPORT || report < DFU_INSTALLED || report > DFU_DIFFERENT) {
         take_end(&verdict, session);
         return verdict;
     }
     length = dfu_host_name(report, (uint8_t *)verdict.name, sizeof verdict.name - 1);
     verdict.name[length > 0 ? length : 0] = '\0';
-    take_words(&verdict, session, &reports[report]);
+    verdict_words(&verdict, session, &reports[report]);
     verdict.code = report == DFU_REFUSED ? (uint8_t)session->done.code : 0;
     return verdict;
 }

@@ -11,7 +11,7 @@
 
 enum option_code {
     DEVICE = 256, PATH, SERIAL, INTERFACE, ALTERNATE, NO_VERIFY, UPLOAD, FORCE, DETACH, WAIT, TIMEOUT, LIMITS, TRANSFER_SIZE, DRY_RUN,
-    QUIET, VERBOSE, JSON, LIST, ALL, LOG, HELP, VERSION
+    QUIET, VERBOSE, JSON, LIST, ALL, LOG, ADDRESS, LENGTH, NO_LEAVE, HELP, VERSION
 };
 
 static const struct option options[] = {
@@ -25,6 +25,8 @@ static const struct option options[] = {
     {"dry-run", no_argument, NULL, DRY_RUN},       {"quiet", no_argument, NULL, QUIET},
     {"verbose", optional_argument, NULL, VERBOSE}, {"json", no_argument, NULL, JSON},
     {"all", no_argument, NULL, ALL},               {"log", required_argument, NULL, LOG},
+    {"address", required_argument, NULL, ADDRESS}, {"length", required_argument, NULL, LENGTH},
+    {"no-leave", no_argument, NULL, NO_LEAVE},
     {"list", no_argument, NULL, LIST},             {"help", no_argument, NULL, HELP},
     {"version", no_argument, NULL, VERSION},       {NULL, 0, NULL, 0},
 };
@@ -93,6 +95,10 @@ static bool take_option(struct words *words, int code, int count, char **texts)
     case JSON: words->json = true; return true;
     case ALL: words->all = true; return true;
     case LOG: words->folder = optarg; return *optarg != '\0' || words_refuse("--log takes the name of a folder", "");
+    case ADDRESS: return value_address(optarg, words);
+    case LENGTH: return value_length(optarg, words);
+    case NO_LEAVE: words->stays = true; return true;
+    case 's': return value_dfuse(optarg, words);
     case 'l': case LIST: return is_job(words, JOB_LIST);
     case 'R': return true; /* each session ends with a reset */
     case 'h': case HELP: words->job = JOB_HELP; return true;
@@ -113,6 +119,24 @@ static bool is_fit_for_all(const struct words *words)
     return (!words->verbose && words->log == NULL) || words_refuse("--all makes logs by --log FOLDER, and not by --verbose", "");
 }
 
+/* Whether what is for DfuSe goes with the rest. */
+static bool is_fit_for_dfuse(const struct words *words)
+{
+    bool is_upload = words->job == JOB_UPLOAD, is_download = words->job == JOB_DOWNLOAD;
+    if (words->has_address && ((!is_upload && !is_download) || words->all))
+        return words_refuse("--address goes with a FILE or with --upload, for one device", "");
+    if (words->has_address && !words->verify)
+        return words_refuse("--no-verify doesn't go with --address: what is written there is read back", "");
+    if (words->has_address && words->transfer != 0)
+        return words_refuse("--transfer-size doesn't go with --address: a DfuSe device counts in blocks of its own size", "");
+    if (words->length != 0 && (!is_upload || !words->has_address))
+        return words_refuse("--length goes with --upload and --address", "");
+    if (is_upload && words->has_address && words->length == 0)
+        return words_refuse("--upload with --address takes --length", "");
+    /* -s of an upload says to stay too. */
+    return !words->stays || words->has_address || words_refuse("--no-leave goes with --address", "");
+}
+
 /* Whether the options go with what is to be done. */
 static bool is_fit(const struct words *words)
 {
@@ -126,7 +150,7 @@ static bool is_fit(const struct words *words)
         return words_refuse("--list goes with what chooses devices, and with --json, alone", "");
     if (words->job == JOB_DETACH && has_session)
         return words_refuse("--detach goes with no --limits, --dry-run or --transfer-size", "");
-    return is_fit_for_all(words);
+    return is_fit_for_dfuse(words) && is_fit_for_all(words);
 }
 
 /* Whether the words go together. */

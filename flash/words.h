@@ -29,6 +29,9 @@ struct words {
     uint32_t timeout;                /* seconds of --timeout, 0 where it wasn't given */
     bool wait;                       /* --wait was given, */
     uint32_t patience;               /* and for so many seconds; 0 is for ever */
+    bool has_address;                /* --address was given: DfuSe */
+    uint32_t address, length;        /* and --length, 0 where it wasn't */
+    bool stays;                      /* --no-leave was given */
     bool all;                        /* --all was given, */
     const char *folder;              /* and --log; or NULL */
     const struct bay *bay;           /* of one of several devices: where it is; else NULL */

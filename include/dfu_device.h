@@ -6,16 +6,16 @@
  * The flash is mapped into memory for reading, and written by a driver of two functions. Two slots hold an image each: a download goes
  * to the spare one, and becomes active in one step at its end. So whenever power is lost, the old image or the whole new one is active.
  *
- *     static uint8_t block[1024], body[1024], out[1024];   // of wTransferSize bytes each: THREE BUFFERS, no two may overlap
+ *     static uint8_t block[1024], data[1024];   // of wTransferSize bytes each, apart: TWO BUFFERS
  *     static struct dfu_device dfu = {.config = &config, .flash = flash, .size = size, .block = block, .most = sizeof block,
  *                                     .driver = &driver};
  *
  *     power:                dfu_device_power_on(&dfu), or dfu_device_begin(&dfu) to begin in dfuIDLE, as for a button or a flag.
  *                           DFU_NO_MEDIUM: a new board. dfu_device_format(&dfu, image, length), and again
  *     a request of this class (bmRequestType 21h or A1h; other requests are the program's own):
- *                           if the host sends, receive the whole data stage into body
- *                           n = dfu_device_serve(&dfu, setup, body, out, sizeof out)
- *                           n >= 0: answer with n bytes of out, or acknowledge if the host sent. Else stall endpoint 0
+ *                           if the host sends, receive the whole data stage into data
+ *                           n = dfu_device_serve(&dfu, setup, data, data, sizeof data)
+ *                           n >= 0: answer with n bytes of data, or acknowledge if the host sent. Else stall endpoint 0
  *     its answer is out:    dfu_device_work(&dfu)
  *     the bus is reset:     dfu_device_reset(&dfu), once per enumeration
  *     time, in appDETACH alone:  dfu_device_elapse(&dfu, milliseconds). If that leads to dfuIDLE (bitWillDetach), leave the bus and
@@ -48,7 +48,8 @@
  *
  * What the program owes, always:
  * - No pointer is NULL, also if its length is 0, but driver. Each points to as much as its length or its type says. Nothing that is
- *   handed in begins at address 0 or overlaps anything else that is.
+ *   handed in begins at address 0 or overlaps anything else that is, but for body and out, which may be the same memory: if the host
+ *   sends, out is left as it is, and else no body is read.
  * - One call at a time for a device, and DFU_STACK bytes of stack. Two devices share nothing: a call for one may interrupt one for
  *   the other. An interrupt that may come within a call makes none for the same device.
  * and so that the device goes on from where it was:
@@ -69,8 +70,8 @@
  * first operation of a download. No other call reads one. So an image that fades under its standing header while the device runs is
  * found at the next power-on.
  *
- * Memory: sizeof(struct dfu_device), 352 bytes with pointers of 32 bits, and the three buffers: 544 bytes in all for blocks of 64,
- * 3,424 for 1,024, and 12,640 for 4,096.
+ * Memory: sizeof(struct dfu_device), 352 bytes with pointers of 32 bits, and the two buffers: 480 bytes in all for blocks of 64,
+ * 2,400 for 1,024, and 8,544 for 4,096.
  */
 #ifndef DFU_DEVICE_H
 #define DFU_DEVICE_H
@@ -100,7 +101,8 @@ extern "C" {
  *     128 KiB, erased by 2,048, programmed by  64: DFU_MEDIUM_SIZE( 64, 2048,  61440): images of up to  60 KiB
  *     256 KiB, erased by 4,096, programmed by 256: DFU_MEDIUM_SIZE(256, 4096, 122880): images of up to 120 KiB
  *
- *  A microcontroller's own flash has so much less as its bootloader takes. An image runs at either slot: link it for both places. */
+ *  A microcontroller's own flash has so much less as its bootloader takes. An image runs at either slot: link it for both places,
+ *  or bring it to one place by dfu_install.h. */
 #define DFU_MEDIUM_SIZE(unit, sector, capacity) (2 * (2 * DFU_GATE(unit, sector) + (capacity)))
 
 /** @brief Erases that a block costs at most: the gate's, and each sector's that begins in it. */

@@ -4,7 +4,7 @@
 # The program; each library with the name of its header, its C being NAME.c of a crate NAME_c; and the libraries that the page takes, as
 # modules of WebAssembly.
 program=dfu_cmd
-libraries='dfu_device_c:dfu_core dfu_host_c:dfu_host'
+libraries='dfu_device_c:dfu_core dfu_host_c:dfuse_host dfu_install_c:dfu_install_core'
 of_page='dfu_device_c dfu_host_c'
 wanted=$program
 for it in $libraries; do

@@ -12,9 +12,9 @@ static const struct dfu_config config = {
     .busy_ms = 5, .manifest_ms = 0, .least = 1, .unit = 1, .sector = 0,
 };
 
-/* What lasts through a loss of power, and what need not: three buffers, and the device. */
+/* What lasts through a loss of power, and what need not: two buffers, and the device. */
 static uint8_t flash[DFU_MEDIUM_SIZE(1, 0, 1024)];
-static uint8_t block[64], body[64], out[64];
+static uint8_t block[64], data[64];
 static const struct dfu_driver driver = DFU_MEMORY_DRIVER(flash);
 static struct dfu_device dfu = {.config = &config, .flash = flash, .size = sizeof flash, .block = block, .most = sizeof block,
                                 .driver = &driver};
@@ -34,9 +34,9 @@ static void work(void) {
         show("work", refused);
 }
 
-/* A control transfer, as a USB stack hands it in: the whole data stage is in body; the answer goes out; then comes the work. */
+/* A control transfer, as a USB stack hands it in: the whole data stage is in data; the answer goes out; then comes the work. */
 static void transfer(const char *what, const uint8_t setup[8]) {
-    show(what, dfu_device_serve(&dfu, setup, body, out, sizeof out));
+    show(what, dfu_device_serve(&dfu, setup, data, data, sizeof data));
     work();
 }
 
@@ -47,7 +47,7 @@ static void detach(void) {
 
 static void download(uint8_t number, const char *bytes, uint8_t length) {
     const uint8_t setup[8] = {0x21, DFU_DNLOAD, number, 0, 0, 0, length, 0};
-    memcpy(body, bytes, length);
+    memcpy(data, bytes, length);
     transfer("DNLOAD", setup);
 }
 

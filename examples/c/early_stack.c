@@ -14,8 +14,8 @@ static const struct dfu_config config = {
 static uint8_t flash[DFU_MEDIUM_SIZE(1, 0, 1024)];
 static const struct dfu_driver driver = DFU_MEMORY_DRIVER(flash);
 
-/* The block, the one buffer of endpoint 0, and the answer's own. */
-static uint8_t block[64], endpoint[64], out[64];
+/* The block, and the one buffer of endpoint 0. */
+static uint8_t block[64], endpoint[64];
 static struct dfu_device dfu = {.config = &config, .flash = flash, .size = sizeof flash, .block = block, .most = sizeof block,
                                 .driver = &driver};
 
@@ -31,12 +31,12 @@ static void download(uint8_t number, const char *bytes, uint8_t length) {
     if (will_stall == 0)
         memcpy(endpoint, bytes, length);
     printf("%s\n", will_stall == 0 ? "the data stage is taken" : "the setup is stalled");
-    show("DNLOAD", dfu_device_serve(&dfu, setup, endpoint, out, sizeof out));
+    show("DNLOAD", dfu_device_serve(&dfu, setup, endpoint, endpoint, sizeof endpoint));
 }
 
 static void ask(const char *what, uint8_t kind, uint8_t request, uint8_t length) {
     const uint8_t setup[8] = {kind, request, 0, 0, 2, 0, length, 0};
-    show(what, dfu_device_serve(&dfu, setup, endpoint, out, sizeof out));
+    show(what, dfu_device_serve(&dfu, setup, endpoint, endpoint, sizeof endpoint));
 }
 
 /* What runs: the application at its place, if there is one. */

@@ -43,7 +43,7 @@ static int program(void *own, uint32_t at, const uint8_t *from, uint32_t length)
 }
 
 /* What need not last through a loss of power. */
-static uint8_t block[BLOCK], body[BLOCK], out[BLOCK], image[IMAGE];
+static uint8_t block[BLOCK], data[BLOCK], image[IMAGE];
 static const struct dfu_driver driver = {part, erase, program};
 static struct dfu_device dfu = {.config = &config, .flash = part, .size = sizeof part, .block = block, .most = sizeof block,
                                 .driver = &driver};
@@ -63,10 +63,10 @@ static void work(void) {
         show("work", refused);
 }
 
-/* A control transfer, as a USB stack hands it in: the whole data stage is in body; the answer goes out; then comes the work. */
+/* A control transfer, as a USB stack hands it in: the whole data stage is in data; the answer goes out; then comes the work. */
 static void transfer(const char *what, uint8_t kind, uint8_t request, uint16_t value, uint16_t length) {
     const uint8_t setup[8] = {kind, request, (uint8_t)value, (uint8_t)(value >> 8), 0, 0, (uint8_t)length, (uint8_t)(length >> 8)};
-    show(what, dfu_device_serve(&dfu, setup, body, out, sizeof out));
+    show(what, dfu_device_serve(&dfu, setup, data, data, sizeof data));
     work();
 }
 
@@ -80,7 +80,7 @@ static void download(void) {
     uint16_t number = 0;
     for (size_t at = 0; at < sizeof image; at += BLOCK) {
         size_t length = sizeof image - at < BLOCK ? sizeof image - at : BLOCK;
-        memcpy(body, image + at, length);
+        memcpy(data, image + at, length);
         transfer("DNLOAD", 0x21, DFU_DNLOAD, number++, (uint16_t)length);
         poll();
     }

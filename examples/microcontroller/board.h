@@ -9,10 +9,12 @@
 #define PAGE 1024u
 #define TRANSFER 256 /* wTransferSize */
 
-/* The flash behind the bootloader is the device's medium: two slots, each with a page for its gate, one for its header, and the rest
- * for the image. */
+/* The flash after the bootloader is the device's medium: two slots, each with a page for its gate, one for its header, and the rest for
+ * the image. After it comes the run area, to which images are linked, and the last two pages are the application's own. */
+#define CAPACITY (78 * PAGE)
 #define MEDIUM 0x4000u
-#define MEDIUM_SIZE (FLASH_SIZE - MEDIUM)
+#define MEDIUM_SIZE DFU_MEDIUM_SIZE(16, PAGE, CAPACITY)
+#define RUN (MEDIUM + MEDIUM_SIZE)
 
 /* The memory behind the bootloader's is the image's. */
 #define IMAGE_MEMORY 0x20001000u

@@ -153,7 +153,12 @@ class Trial:
             if is_cut:
                 machine = Machine(self.flash, flasher.line, self.folder)
                 machine.run()
-                first = self.image_of(flasher.expect("device: image "), (self.active, new))
+                said = flasher.expect("device: image ")
+                # (the bootloader has brought the run area to it by now)
+                machine.stop()
+                self.flash = machine.read(0, FLASH)
+                machine.run()
+                first = self.image_of(said, (self.active, new))
                 line = flasher.expect("report")
                 if line == "report verified":
                     flasher.expect_ticks(new)

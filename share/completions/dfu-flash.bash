@@ -33,12 +33,12 @@ _dfu_flash() {
         compopt -o default
         return
         ;;
-    --path | --serial | --interface | --alt | --timeout | --limits | --transfer-size | -p | -S | -i | -a | -t) return ;;
+    --path | --serial | --interface | --alt | --timeout | --limits | --transfer-size | --address | --length | -p | -S | -i | -a | -t | -s) return ;;
     esac
     case $word in
     -*)
         COMPREPLY=($(compgen -W '--device --path --serial --interface --alt --no-verify --upload --force --detach
-            --wait --timeout --limits --transfer-size --dry-run --quiet --verbose --json --all --log --list -h --help -V --version' -- "$word"))
+            --wait --timeout --limits --transfer-size --address --length --no-leave --dry-run --quiet --verbose --json --all --log --list -h --help -V --version' -- "$word"))
         ;;
     *) compopt -o default ;;
     esac

@@ -117,8 +117,10 @@ digest_here() {
 }
 # as_here NAME WORD..: it prints what the same program prints on x86-64.
 as_here() {
-    ("$work/here/$@") > "$work/here/printed"
-    prints "$work/here/printed" "$@"
+    mine=$1
+    shift
+    ("$work/here/$mine" "$@") > "$work/here/printed"
+    prints "$work/here/printed" "$mine" "$@"
 }
 
 # What each target runs in a minute: rows, losses of power between calls, sessions, garbled calls, the examples; and its sizes.

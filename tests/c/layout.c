@@ -2,6 +2,8 @@
  * library that agree on the version agree on these. So a change here takes a new version, and a new version takes a look at these. */
 #include "dfu_device.h"
 #include "dfu_host.h"
+#include "dfuse_host.h"
+#include "dfu_install.h"
 #include "dfu_runtime.h"
 
 #if DFU_VERSION != 300
@@ -74,6 +76,16 @@ AT(dfu_driver, own, 0);
 AT(dfu_driver, erase, sizeof(void *));
 AT(dfu_driver, program, 2 * sizeof(void *));
 
+SIZE(dfu_run_area, 8);
+AT(dfu_run_area, sector, 0);
+AT(dfu_run_area, last, 4);
+
+SIZE(dfu_install, 3 * sizeof(void *) + 8);
+AT(dfu_install, run, 0);
+AT(dfu_install, size, sizeof(void *));
+AT(dfu_install, area, 2 * sizeof(void *));
+AT(dfu_install, driver, 2 * sizeof(void *) + 8);
+
 SIZE(dfu_runtime, 12);
 AT(dfu_runtime, detach_ms, 0);
 AT(dfu_runtime, interface_number, 2);
@@ -116,3 +128,55 @@ AT(dfu_action, from, 8);
 AT(dfu_action, length, 16);
 AT(dfu_action, code, 24);
 AT(dfu_action, setup, 28);
+
+SIZE(dfuse_map, 16);
+AT(dfuse_map, name, 0);
+AT(dfuse_map, ranges, 8);
+
+SIZE(dfuse_range, 24);
+AT(dfuse_range, start, 0);
+AT(dfuse_range, size, 8);
+AT(dfuse_range, count, 16);
+AT(dfuse_range, access, 20);
+
+SIZE(dfuse_element, 24);
+AT(dfuse_element, address, 0);
+AT(dfuse_element, bytes, 8);
+AT(dfuse_element, length, 16);
+#if UINTPTR_MAX <= 0xffffffffu
+AT(dfuse_element, bytes_high, 12);
+AT(dfuse_element, length_high, 20);
+#endif
+
+SIZE(dfuse_plan, 16);
+AT(dfuse_plan, start, 0);
+AT(dfuse_plan, actions, 4);
+AT(dfuse_plan, restarts, 8);
+AT(dfuse_plan, transfer, 10);
+AT(dfuse_plan, front, 12);
+AT(dfuse_plan, leaves, 14);
+
+SIZE(dfuse_session, 64);
+AT(dfuse_session, version, 0);
+AT(dfuse_session, work, 4);
+AT(dfuse_session, at, 8);
+AT(dfuse_session, end, 16);
+AT(dfuse_session, pointer, 24);
+AT(dfuse_session, place, 32);
+AT(dfuse_session, step, 36);
+AT(dfuse_session, more, 40);
+AT(dfuse_session, report, 44);
+AT(dfuse_session, start, 48);
+AT(dfuse_session, actions, 52);
+AT(dfuse_session, restarts, 56);
+AT(dfuse_session, transfer, 58);
+AT(dfuse_session, front, 60);
+AT(dfuse_session, leaves, 62);
+
+SIZE(dfuse_action, 32);
+AT(dfuse_action, length, 0);
+AT(dfuse_action, what, 8);
+AT(dfuse_action, value, 12);
+AT(dfuse_action, more, 16);
+AT(dfuse_action, setup, 20);
+

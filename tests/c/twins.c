@@ -1,6 +1,7 @@
 /* Sessions by dice, each call made twice: of a device whose medium is plain memory, written in place by dfu_device_memory.h, and of one
  * whose flash has sectors, by the calls of dfu_core.h. Both answer the same, with the same bytes, and leave the same record and the same
- * image, in each unit. What each says of a setup before its body is there is the same too, and is so. */
+ * image, in each unit. What each says of a setup before its body is there is the same too, and is so. The first has one buffer for the
+ * body and the answer, which holds the body still after a request that has one. */
 #include "driver.h"
 
 #include "dfu_device_memory.h"
@@ -8,17 +9,17 @@
 static const struct fate well = {WELL, 0, 0, 0};
 static const uint32_t units[] = {1, 16, 64, 256};
 
-/* The device over plain memory. */
+/* The device over plain memory; what its buffer of data has before a call. */
 static struct dfu_config in_place;
-static uint8_t medium[MOST_FLASH], pending[MOST_BLOCK], out[MOST_BLOCK];
+static uint8_t medium[MOST_FLASH], pending[MOST_BLOCK], data[MOST_BLOCK];
 static const struct dfu_driver driver = DFU_MEMORY_DRIVER(medium);
 static struct dfu_device plain = {.config = &in_place, .flash = medium, .block = pending, .most = sizeof pending, .driver = &driver};
 
-static int32_t plain_call(uint32_t what, uint32_t ms, const uint8_t setup[8], const uint8_t *body) {
+static int32_t plain_call(uint32_t what, uint32_t ms, const uint8_t setup[8]) {
     int32_t n = what == 0 ? dfu_device_elapse(&plain, ms)
         : what == 1 ? dfu_device_usb_reset(&plain)
-        : what == 2 ? dfu_device_power_on(&plain) : dfu_device_handle(&plain, setup, body, out, sizeof out);
-    return dfu_device_settle(&plain, n, out, sizeof out);
+        : what == 2 ? dfu_device_power_on(&plain) : dfu_device_handle(&plain, setup, data, data, sizeof data);
+    return dfu_device_settle(&plain, n, data, sizeof data);
 }
 
 static int32_t make(struct board *board, uint32_t what, uint32_t ms, const uint8_t setup[8], const uint8_t *body, int32_t *other) {
@@ -26,7 +27,8 @@ static int32_t make(struct board *board, uint32_t what, uint32_t ms, const uint8
     int32_t will = dfu_device_would_stall(&plain, setup);
     if (what == 3 && will != dfu_core_would_stall(&config, &board->record, board->size, setup))
         return -100;
-    *other = plain_call(what, ms, setup, body);
+    memcpy(data, setup[0] == 0x21 ? body : board->out, sizeof data);
+    *other = plain_call(what, ms, setup);
     if (what == 3 && will != (*other == DFU_STALL))
         return -101;
     if (what == 0)
@@ -38,14 +40,14 @@ static int32_t make(struct board *board, uint32_t what, uint32_t ms, const uint8
     return length > config.transfer ? dfu_core_too_long(&config, &board->record, setup) : transfer(board, setup, body, &well);
 }
 
-/* Whether both left the same. */
-static int is_same(const struct board *board) {
+/* Whether both left the same, and the buffer of data has what it had, this body, or the answer. */
+static int is_same(const struct board *board, const uint8_t *body) {
     const struct dfu_record *one = &plain.record, *two = &board->record;
     struct dfu_place here, there;
     if (memcmp(one, two, offsetof(struct dfu_record, work)) != 0 || one->work != 0 || two->work != 0 || one->held_length != two->held_length
         || memcmp(one->held, two->held, one->held_length) != 0)
         return 0;
-    if (memcmp(board->pending, pending, one->length) != 0 || memcmp(board->out, out, sizeof out) != 0)
+    if (memcmp(board->pending, pending, one->length) != 0 || memcmp(body ? body : board->out, data, sizeof data) != 0)
         return 0;
     return dfu_device_image(&plain, &here) == 0 && dfu_core_image(&config, board->flash, board->size, &there) == 0
         && here.length == there.length && memcmp(medium + here.at, board->flash + there.at, here.length) == 0;
@@ -63,7 +65,6 @@ static int ship_both(struct board *board, uint32_t turn) {
     in_place.sector = 0;
     plain.size = DFU_MEDIUM_SIZE(unit, 0, capacity);
     memset(pending, 0x5a, sizeof pending);
-    memset(out, 0x5a, sizeof out);
     return made == 0 && dfu_device_format(&plain, image, length) == 0 && dfu_device_power_on(&plain) == 0;
 }
 
@@ -88,7 +89,7 @@ int main(int count, char **words) {
             : dies == 1 && roll(4) == 0 ? 1 + roll(2) : 3;
         uint32_t ms = roll(6);
         int32_t other = 0, result = make(&board, what, ms, setup, body, &other);
-        if (result != other || !is_same(&board))
+        if (result != other || !is_same(&board, setup[0] == 0x21 ? body : NULL))
             return printf("twins: call %ld, unit %u: %d, and %d of the device over memory\n", call, (unsigned)board.unit, (int)result,
                           (int)other), 1;
         if (result < -1)

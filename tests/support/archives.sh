@@ -1,7 +1,7 @@
 # What scripts share that build the libraries, or look at their archives. They have read counting.sh, and set `compiler`.
 # shellcheck shell=sh disable=SC2154
 
-# libraries FOLDER FLAGS: make builds the two libraries by $compiler with these flags, in $work/FOLDER.
+# libraries FOLDER FLAGS: make builds the libraries by $compiler with these flags, in $work/FOLDER.
 libraries() {
     mkdir -p "$work/$1"
     make -s -C "$top" libraries BUILD="$work/$1" CC="$compiler" CFLAGS="$2" > "$work/log" 2>&1 || {

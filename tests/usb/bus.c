@@ -65,9 +65,16 @@ static void at_end(void)
     seen->ended_ms = bus_ms();
 }
 
+static const struct model *model_of(const char *device)
+{
+    if (strcmp(device, "proved") == 0)
+        return &proved_model;
+    return strcmp(device, "uboot") == 0 ? &uboot_model : strcmp(device, "small") == 0 ? &small_model : &dfuse_model;
+}
+
 void bus_make(void)
 {
-    model = strcmp(settings.device, "proved") == 0 ? &proved_model : strcmp(settings.device, "uboot") == 0 ? &uboot_model : &small_model;
+    model = model_of(settings.device);
     model->make();
     keep_read(model);
     seen->is_app = model->is_app();
@@ -144,6 +151,9 @@ static int meets(const struct fate *fate, const uint8_t setup[8], uint8_t *data,
         seen->is_swapped = true;
         return leave();
     case FATE_LEAVE:
+        return leave();
+    case FATE_CUT:
+        handled(setup, data, length, fate);
         return leave();
     case FATE_LOST_OUT:
     case FATE_DEAF:

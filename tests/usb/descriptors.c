@@ -87,6 +87,22 @@ void forget_configuration(struct libusb_config_descriptor *found)
     free(found);
 }
 
+/* The name of the setting of that number, by USB_MAPS. */
+static const char *map_name(unsigned number)
+{
+    static char name[6 * MOST_UNITS + 1];
+    const char *at = settings.maps;
+    size_t length;
+    for (; number > 0; number--)
+        at += strcspn(at, "|") + 1;
+    length = strcspn(at, "|");
+    if (length >= sizeof name)
+        fail_loudly("a name of USB_MAPS is too long");
+    memcpy(name, at, length);
+    name[length] = '\0';
+    return name;
+}
+
 /* The units of UTF-16: a character of ASCII each, or \uXXXX, which may be any. */
 static unsigned units_of(const char *text, uint16_t units[MOST_UNITS])
 {
@@ -106,13 +122,14 @@ static unsigned units_of(const char *text, uint16_t units[MOST_UNITS])
 
 int describe_string(unsigned number, bool is_other, uint8_t *out, uint16_t room)
 {
-    static const char *const names[] = { "stand-in", "boot", "kernel", "data" };
+    static const char *const names[] = { "stand-in", "boot", "kernel", "data", "more" };
     const char *text = number < INTERFACE_STRING ? is_other || bus_is_swapped() ? "OTHER" : settings.serial : "";
     uint8_t bytes[2 + 2 * MOST_UNITS] = { 4, 3, 0x09, 0x04 };
     if (number > INTERFACE_STRING + MOST_ALTERNATES)
         return USB_ERROR_PIPE;
     if (number >= INTERFACE_STRING)
-        text = names[number - INTERFACE_STRING];
+        text = settings.maps == NULL ? names[number - INTERFACE_STRING]
+            : map_name(number == INTERFACE_STRING ? 0 : number - INTERFACE_STRING - 1);
     if (number == INTERFACE_STRING && bus_is_swapped() && settings.swapped_name != NULL)
         text = settings.swapped_name;
     uint16_t units[MOST_UNITS];

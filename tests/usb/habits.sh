@@ -30,7 +30,7 @@ answer '--path PATH' -n 5 -D new.dfu
 answer '-c of dfu-util' -c 1 -D new.dfu
 answer '--wait=SECONDS' -E 5 -D new.dfu
 answer '--verbose' -v -D new.dfu
-answer 'DfuSe' -s 0x08000000:leave -D new.dfu
+row 1 old 'NotDfuSe: ' '' -s 0x08000000:leave -D new.dfu
 answer '--serial' -S F1,F2 -D new.dfu
 answer 'decimal' -a 010 -D new.dfu
 answer 'decimal' -a 0x1 -D new.dfu

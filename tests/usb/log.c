@@ -4,6 +4,7 @@
  *     1 DNLOAD 0 8 lost-back -> timeout, dfuDNLOAD-SYNC
  *     reset -> appIDLE
  *     setting 1
+ *     started 08000000
  *     end 2 appIDLE OK
  *
  * After the number come the request, its wValue and its wLength, the fate where it is one, what the program heard, and
@@ -21,7 +22,7 @@ static const char *const codes[] = { "OK", "errTARGET", "errFILE", "errWRITE", "
                                      "errSTALLEDPKT" };
 static const char *const requests[] = { "DETACH", "DNLOAD", "UPLOAD", "GETSTATUS", "CLRSTATUS", "GETSTATE", "ABORT" };
 static const char *const fates[] = { "", " lost-out", " lost-back", " twice", " short", " leave", " swap", " kill", " deaf", " mute",
-                                     " stuck" };
+                                     " stuck", " cut" };
 
 #define NAME(table, number) ((unsigned)(number) < sizeof(table) / sizeof *(table) ? (table)[number] : "?")
 
@@ -72,6 +73,13 @@ void log_setting(int setting)
     FILE *file = sink();
     if (file != NULL)
         fprintf(file, "setting %d\n", setting);
+}
+
+void log_started(uint32_t address)
+{
+    FILE *file = sink();
+    if (file != NULL)
+        fprintf(file, "started %08lx\n", (unsigned long)address);
 }
 
 void log_end(unsigned transfers, int state, int code)

@@ -1,4 +1,5 @@
-/* What a device on the stand-in's bus has to answer: the proved device, the model of U-Boot, and that of a small bootloader. */
+/* What a device on the stand-in's bus has to answer: the proved device, and the models of U-Boot, of a small bootloader
+ * and of a DfuSe device. */
 #ifndef USB_MODEL_H
 #define USB_MODEL_H
 
@@ -30,7 +31,7 @@ struct model {
     struct part (*keeps)(unsigned);     /* by numbers from 0, the size 0 behind the last */
 };
 
-extern const struct model proved_model, uboot_model, small_model;
+extern const struct model proved_model, uboot_model, small_model, dfuse_model;
 
 /* A whole file, in memory that stays; where there is no name, one byte 00h. */
 struct part read_image(const char *name);

@@ -1,9 +1,9 @@
 /* The settings of the stand-in are environment variables. Numbers are decimal, but for ATTRIBUTES and the ids.
  *
- * USB_DEVICE      proved (the proved device of crates/dfu_device_c), uboot (the rules of U-Boot 2023.01) or small (a small
- *                 bootloader, device_small.c)
- * USB_ATTRIBUTES  bmAttributes, hexadecimal: 01 download, 02 upload, 04 tolerant, 08 will detach (07; for small 09)
- * USB_TRANSFER    wTransferSize (8; for uboot 4096)     USB_DETACH    wDetachTimeOut in ms (1000)
+ * USB_DEVICE      proved (the proved device of crates/dfu_device_c), uboot (the rules of U-Boot 2023.01), small (a small
+ *                 bootloader, device_small.c) or dfuse (a DfuSe device, device_dfuse.c)
+ * USB_ATTRIBUTES  bmAttributes, hexadecimal: 01 download, 02 upload, 04 tolerant, 08 will detach (07; for small 09, for dfuse 0b)
+ * USB_TRANSFER    wTransferSize (8; for uboot 4096, for dfuse 2048)  USB_DETACH    wDetachTimeOut in ms (1000)
  * USB_SAID        wTransferSize in the functional descriptor, where that isn't so (USB_TRANSFER)
  * USB_BUSY        poll time of a block in ms (1)        USB_MANIFEST  poll time of the manifestation in ms (1)
  * USB_LEAST       fewest bytes of an image (1)          USB_CAPACITY  most bytes of an image (100000)
@@ -27,13 +27,13 @@
  * USB_OPENS       so many opens go well before USB_DENIED holds (0)
  * USB_DENIALS     only so many opens are denied then, and the rest go well (all are)
  * USB_CLAIMED     the number of the error that claiming the interface answers, as 6 for LIBUSB_ERROR_BUSY (0: it is claimed)
- * USB_ALTERNATES  alternate settings of the interface in DFU mode, up to 3, with the names boot, kernel and data (1)
+ * USB_ALTERNATES  alternate settings of the interface in DFU mode, up to 4, with the names boot, kernel, data and more (1)
  * USB_SETTING     the setting that each request of DFU mode has to be made in: one in another ends the program (any)
  * USB_INTERFACE   the number of the interface, which wIndex of each request has to be (0)
  * USB_CONFIGURATIONS  configurations; the device stands in the last, and the others have no interface (1)
  * USB_APP_ATTRIBUTES  bmAttributes of the descriptor in run-time mode (USB_ATTRIBUTES)
  * USB_DESCRIPTOR  bytes of the functional descriptor, 7 as in DFU 1.0, or 0 for none (9)
- * USB_VERSION     its bcdDFUVersion, hexadecimal (0110)
+ * USB_VERSION     its bcdDFUVersion, hexadecimal (0110; for dfuse 011a)
  * USB_AWAY        for how many lists of devices it is away when its mode changes, or when it leaves (0)
  * USB_ABSENT      for how many lists of devices it is away at the start (0)
  * USB_SLOW        how many ms a transfer takes on the program's clock (0)
@@ -41,7 +41,8 @@
  *                 `leave N` (its power goes and comes back), `swap N` (the same, and another board, with the serial number
  *                 OTHER, stands in its place), `kill N` (the program is killed before it), `deaf N` (from N on
  *                 each is lost on its way out, and resets fail), `mute N` (from N on each answer is lost; resets work),
- *                 `stuck N` (the call never comes back, whatever time it was given)
+ *                 `stuck N` (the call never comes back, whatever time it was given), `cut N` (it is handled, and then the power
+ *                 goes and comes back)
  * USB_LOG         a file that gets a line for each transfer
  * USB_SAVE        a file that gets the active image at the end
  * USB_STATE       a file that keeps the device between runs: read at the start where it is there, written at the end
@@ -54,6 +55,17 @@
  * USB_STORE       uboot: file (replaced when it is flushed) or raw (written in place) (file)
  * USB_FAILS       uboot: the number of the write to its medium that fails, from 0 (none)
  * USB_FLUSH       uboot: `fails` (none)
+ * USB_MAPS        dfuse: the names of the settings, with | between them (16 pages of 1024 bytes at 08000000h)
+ * USB_PAGES       dfuse: the map of the memory that there is (the first of USB_MAPS)
+ * USB_BUSY, USB_ERASE  dfuse: how many ms a write and an erase take (0)
+ * USB_TOLD        dfuse: `nothing`: a status tells no times (they are told)
+ * USB_EARLY       dfuse: `stall`: GETSTATUS is stalled while it is busy (it says dfuDNBUSY)
+ * USB_CELLS       dfuse: what a write does to a cell that isn't erased: and, fail or any, which replaces it (and)
+ * USB_FAILS, USB_CODE  dfuse: the number of the command that fails, and the code it tells in dfuERROR (none; 3)
+ * USB_POINTER     dfuse: `erase`: an erase sets the pointer too
+ * USB_PROTECTED   dfuse: 1: the memory is protected
+ * USB_PENDING     dfuse: the address of a page whose erase was brought by an earlier run, and not started, hexadecimal (0: none)
+ * USB_LIES        dfuse: the address of a byte that is never written, hexadecimal (0: none)
  *
  * Transfers of the class are numbered from 0; others (descriptors) are not counted. A transfer that is lost, either
  * way, takes as long as the program waits for it: so much time has passed on the device. Once the program has ended,
@@ -106,14 +118,14 @@ static bool is_first(const char *name, const char *first, const char *second, co
     return strcmp(found, first) == 0;
 }
 
-/* Which of three words the variable is, from 0; without it the first. */
-static int which(const char *name, const char *const words[3])
+/* Which of up to four words the variable is, from 0; without it the first. */
+static int which(const char *name, const char *const words[4])
 {
     const char *found = text(name, words[0]);
-    for (int at = 0; at < 3; at++)
+    for (int at = 0; at < 4 && words[at] != NULL; at++)
         if (strcmp(found, words[at]) == 0)
             return at;
-    fail_loudly("%s is %s, %s or %s, not %s", name, words[0], words[1], words[2], found);
+    fail_loudly("%s is no word that is known: %s", name, found);
 }
 
 static struct ids ids(const char *name, const char *otherwise)
@@ -142,8 +154,8 @@ static void read_path(const char *path)
 
 static void read_app(void)
 {
-    int has = which("USB_APP", (const char *const[]){ "dfu", "plain", "none" });
-    int stalls = which("USB_APP_STALLS", (const char *const[]){ "nothing", "status", "all" });
+    int has = which("USB_APP", (const char *const[4]){ "dfu", "plain", "none" });
+    int stalls = which("USB_APP_STALLS", (const char *const[4]){ "nothing", "status", "all" });
     settings.app_has_dfu = has == 0;
     settings.app_has_usb = has < 2;
     settings.app_stalls_status = stalls > 0;
@@ -158,14 +170,14 @@ static void read_app(void)
 
 static void read_device(void)
 {
-    static const char *const devices[] = { "proved", "uboot", "small" };
+    static const char *const devices[4] = { "proved", "uboot", "small", "dfuse" };
     int kind = which("USB_DEVICE", devices);
     bool is_proved = kind == 0;
     settings.device = devices[kind];
     settings.restarts_in_app = is_first("USB_RESTARTS", "app", "dfu", "app");
     settings.detaches_ms = number("USB_LEAVES", 0, 10);
-    settings.attributes = (uint8_t)number("USB_ATTRIBUTES", is_proved ? 0x07 : kind == 1 ? 0x0f : 0x09, 16);
-    settings.transfer = (uint16_t)number("USB_TRANSFER", kind == 1 ? 4096 : 8, 10);
+    settings.attributes = (uint8_t)number("USB_ATTRIBUTES", is_proved ? 0x07 : kind == 1 ? 0x0f : kind == 2 ? 0x09 : 0x0b, 16);
+    settings.transfer = (uint16_t)number("USB_TRANSFER", kind == 1 ? 4096 : kind == 3 ? 2048 : 8, 10);
     settings.detach_ms = (uint16_t)number("USB_DETACH", is_proved ? 1000 : 0, 10);
     settings.busy_ms = number("USB_BUSY", is_proved ? 1 : 0, 10);
     settings.manifest_ms = number("USB_MANIFEST", is_proved ? 1 : 0, 10);
@@ -176,6 +188,42 @@ static void read_device(void)
     settings.is_raw = is_first("USB_STORE", "raw", "file", "file");
     settings.fails = (int)number("USB_FAILS", (uint32_t)-1, 10);
     settings.flush_fails = is_first("USB_FLUSH", "fails", "works", "works");
+    settings.version = (uint16_t)number("USB_VERSION", kind == 3 ? 0x011a : 0x0110, 16);
+}
+
+/* Up to the first | of the names of settings. */
+static const char *first_of(const char *names)
+{
+    char *first = strdup(names);
+    if (first == NULL)
+        fail_loudly("no memory for a map");
+    first[strcspn(first, "|")] = '\0';
+    return first;
+}
+
+static void read_dfuse(void)
+{
+    bool is_dfuse = strcmp(settings.device, "dfuse") == 0;
+    settings.maps = text("USB_MAPS", is_dfuse ? "@Internal Flash  /0x08000000/16*001Kg" : NULL);
+    settings.pages = is_dfuse ? text("USB_PAGES", first_of(settings.maps)) : NULL;
+    settings.erase_ms = number("USB_ERASE", 0, 10);
+    settings.tells_times = !is_first("USB_TOLD", "nothing", "all", "all");
+    settings.stalls_early = is_first("USB_EARLY", "stall", "busy", "busy");
+    settings.cells = which("USB_CELLS", (const char *const[4]){ "and", "fail", "any" });
+    settings.fail_code = (int)number("USB_CODE", 3, 10);
+    settings.erase_sets_pointer = is_first("USB_POINTER", "erase", "set", "set");
+    settings.is_protected = number("USB_PROTECTED", 0, 10) != 0;
+    settings.pending = number("USB_PENDING", 0, 16);
+    settings.lies = number("USB_LIES", 0, 16);
+}
+
+/* Each name of USB_MAPS is that of a setting. */
+static unsigned count_maps(void)
+{
+    unsigned count = settings.maps != NULL;
+    for (const char *at = settings.maps; at != NULL && *at != '\0'; at++)
+        count += *at == '|';
+    return count;
 }
 
 void settings_read(void)
@@ -193,17 +241,17 @@ void settings_read(void)
     settings.opens = number("USB_OPENS", 0, 10);
     settings.denials = number("USB_DENIALS", UINT32_MAX, 10);
     settings.claimed = -(int)number("USB_CLAIMED", 0, 10);
-    settings.alternates = number("USB_ALTERNATES", 1, 10);
     settings.interface = (uint8_t)number("USB_INTERFACE", 0, 10);
     settings.swapped_interface = (uint8_t)number("USB_SWAP_INTERFACE", settings.interface, 10);
     settings.swapped_name = getenv("USB_SWAP_NAME");
     settings.configurations = (uint8_t)number("USB_CONFIGURATIONS", 1, 10);
     settings.descriptor = (uint8_t)number("USB_DESCRIPTOR", 9, 10);
-    settings.version = (uint16_t)number("USB_VERSION", 0x0110, 16);
     read_app();
+    read_dfuse();
     if (settings.descriptor > 9 || settings.app_descriptor > 9)
         fail_loudly("USB_DESCRIPTOR and USB_APP_DESCRIPTOR are at most 9");
     settings.setting = (int)number("USB_SETTING", (uint32_t)-1, 10);
+    settings.alternates = settings.maps != NULL ? count_maps() : number("USB_ALTERNATES", 1, 10);
     if (settings.alternates < 1 || settings.alternates > MOST_ALTERNATES)
         fail_loudly("USB_ALTERNATES is 1 to %d", MOST_ALTERNATES);
     settings.away = number("USB_AWAY", 0, 10);

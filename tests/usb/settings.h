@@ -6,7 +6,7 @@
 #include <stdint.h>
 
 enum fate_kind { FATE_PASS, FATE_LOST_OUT, FATE_LOST_BACK, FATE_TWICE, FATE_SHORT, FATE_LEAVE, FATE_SWAP, FATE_KILL, FATE_DEAF, FATE_MUTE,
-                 FATE_STUCK };
+                 FATE_STUCK, FATE_CUT };
 
 /* What becomes of the transfer of one number, and, of FATE_DEAF and FATE_MUTE, of each behind it; `bytes` is for FATE_SHORT. */
 struct fate {
@@ -20,10 +20,10 @@ struct ids {
 
 #define FATES 8
 #define PORTS 7
-#define MOST_ALTERNATES 3
+#define MOST_ALTERNATES 4
 
 struct settings {
-    const char *device;                /* "proved", "uboot" or "small" */
+    const char *device;                /* "proved", "uboot", "small" or "dfuse" */
     uint8_t attributes, app_attributes; /* bmAttributes, in DFU mode and in run-time mode */
     uint16_t transfer, detach_ms;      /* wTransferSize, wDetachTimeOut */
     uint16_t said;                     /* wTransferSize as the functional descriptor has it */
@@ -59,7 +59,14 @@ struct settings {
     const char *log, *save, *state;    /* files, or NULL */
     uint32_t buffer;                   /* U-Boot: bytes that are gathered before they are written */
     bool is_raw, flush_fails;          /* U-Boot */
-    int fails;                         /* U-Boot: the number of the write that fails, or -1 */
+    int fails;                         /* U-Boot: the number of the write that fails, or -1; DfuSe: that of the command, */
+    int fail_code;                     /* with this code */
+    const char *maps, *pages;          /* DfuSe: the names of the settings, with | between, and the map of the memory that there is */
+    uint32_t erase_ms;                 /* how long an erase takes, */
+    int cells;                         /* what a write does to a cell that isn't erased: 0 ANDs, 1 fails, 2 replaces; */
+    bool stalls_early, tells_times;    /* whether GETSTATUS is stalled while it is busy, and tells how long that takes; */
+    bool erase_sets_pointer, is_protected;
+    uint32_t pending, lies;            /* a page whose erase was brought by an earlier run, and a byte that is never written, or 0 */
 };
 
 extern struct settings settings;

@@ -13,7 +13,12 @@ WHAT_IT_IS = """/* SPDX-License-Identifier: MIT OR Apache-2.0
 #include <stddef.h>
 #include <stdint.h>
 """
-WHAT = {"dfu_core.h": "a device of USB DFU 1.1.", "dfu_host.h": "the host of USB DFU 1.1."}
+WHAT = {
+    "dfu_core.h": "a device of USB DFU 1.1.",
+    "dfu_host.h": "the host of USB DFU 1.1.",
+    "dfuse_host.h": "the hosts of DfuSe, and of USB DFU 1.1 (dfu_host.h).",
+    "dfu_install_core.h": "a run area, to which images are linked.",
+}
 OF_C = """
 #if defined(__BYTE_ORDER__) && __BYTE_ORDER__ != __ORDER_LITTLE_ENDIAN__
 #error "this file is for processors that store the low byte of a number first"

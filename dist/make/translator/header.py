@@ -2,7 +2,8 @@
 import os
 import re
 
-SIZES = {"uint8_t": 1, "uint16_t": 2, "uint32_t": 4, "uint64_t": 8}
+SIZES = {"uint8_t": 1, "uint16_t": 2, "uint32_t": 4, "uint64_t": 8, "size_t": 8}
+POINTER = 8
 # The types of C that a parameter of the module may have in the header.
 TAKEN_AS = {"ptr": r".*(\*|\]).*", "i64": r"(size_t|uint64_t) \w+", "i32": r"uint32_t \w+", "i16": r"uint16_t \w+", "i8": r"uint8_t \w+"}
 
@@ -20,18 +21,30 @@ class Export:
                 and all(re.fullmatch(TAKEN_AS.get(type, "-"), it) for type, it in zip(types, self.parameters)))
 
 
+def prototypes(text):
+    """The exports that a text declares."""
+    found = re.findall(r"^(int32_t|int64_t) (dfu(?:se)?_\w+)\(([^)]*)\);", text, re.M)
+    return {name: Export(result, parameters) for result, name, parameters in found}
+
+
 class Header:
     def __init__(self, file):
         self.name = os.path.basename(file)
         own = self.read(file)
         included = re.findall(r'^#include "(\w+\.h)"', own, re.M)
-        self.text = "".join(self.read(os.path.join(os.path.dirname(file), it)) for it in included) + own
-        self.exports = {name: Export(result, parameters)
-                        for result, name, parameters in re.findall(r"^(int32_t|int64_t) (dfu_\w+)\(([^)]*)\);", own, re.M)}
+        texts = [self.read(os.path.join(os.path.dirname(file), it)) for it in included] + [own]
+        self.text = "".join(texts)
+        self.files = [prototypes(it) for it in texts]
+        self.exports = {name: it for file in self.files for name, it in file.items()}
         self.sizes = {name: (size, size) for name, size in SIZES.items()}
         self.layouts = []
-        for name, body in re.findall(r"^struct (dfu_\w+) \{(.*?)^\};", self.text, re.S | re.M):
+        for name, body in re.findall(r"^struct (dfu(?:se)?_\w+) \{(.*?)^\};", self.text, re.S | re.M):
             self.lay_out(name, body)
+
+    def leave_out(self, names):
+        """Leaves out the exports of an included header that is another library's: the module has none of these names there."""
+        kept = [it for it in self.files[:-1] if it.keys() & names] + self.files[-1:]
+        self.exports = {name: it for file in kept for name, it in file.items()}
 
     def read(self, file):
         """Its text without comments."""
@@ -40,8 +53,10 @@ class Header:
     def lay_out(self, name, body):
         """Each offset, size and alignment of a struct as AArch64 has it, as conditions of C, which the C asserts."""
         at = most = 0
-        for type, members in re.findall(r"(?:DFU_ALIGNED_8 )?(?:struct )?(\w+) ([^;]*);", body):
-            size, align = self.sizes[type]
+        # (what a processor of 32 bits has behind a pointer, one of 64 bits has in it)
+        body = re.sub(r"^#if UINTPTR_MAX <= .*?^#endif$", "", body, flags=re.S | re.M)
+        for type, members in re.findall(r"(?:DFU_ALIGNED_8 )?(?:const )?(?:struct )?(\w+) ([^;]*);", body):
+            size, align = (POINTER, POINTER) if "*" in members else self.sizes[type]
             for member, count in re.findall(r"(\w+)(?:\[(\d+)\])?", members):
                 at = -(-at // align) * align
                 most = max(most, align)

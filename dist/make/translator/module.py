@@ -24,7 +24,7 @@ TABLE = re.compile(rf'({text.TABLE}) = private unnamed_addr constant \[([0-9]+) 
                    r'(?:c"([^"]*)"|(zeroinitializer)|\[([^]]*)\]), align ([0-9]+)')
 PARAMETERS = rf"\(((?:{text.PARAMETER}(?:, {text.PARAMETER})*)?)\) \{{"
 INSIDE = re.compile(rf"define internal (void|{text.TYPE}) ({text.FUNCTION}){PARAMETERS}")
-EXPORT = re.compile(rf"define (i32|i64) @(dfu_[a-z0-9_]+){PARAMETERS}")
+EXPORT = re.compile(rf"define (i32|i64) @(dfu(?:se)?_[a-z0-9_]+){PARAMETERS}")
 BLOCK = re.compile(rf"({text.LABEL}):(?: *; (?:preds = .*|No predecessors!))?")
 
 

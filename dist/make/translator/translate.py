@@ -21,6 +21,7 @@ class Program:
 
     def __init__(self, module, header):
         self.header = header
+        header.leave_out({it.name for it in module.functions if it.is_export})
         self.functions = Names([*HELPERS, *header.exports])
         for function in module.functions:
             if function.is_export:

@@ -1,7 +1,7 @@
 /* SPDX-License-Identifier: MIT OR Apache-2.0 */
 /* A bootloader around the proved device: what comes over the serial port is handed to it, what it asks for is carried out, and what it
  * answers is sent. All of this happens in interrupts, so that an image that runs needs to do nothing for it. */
-#include "dfu_device.h"
+#include "dfu_install.h"
 
 #include <string.h>
 
@@ -12,7 +12,8 @@
 #include "serial.h"
 #include "start.h"
 
-static const struct dfu_driver driver = {NULL, flash_erase, flash_program};
+static const struct dfu_driver driver = {(void *)MEDIUM, flash_erase, flash_program};
+static const struct dfu_driver run_driver = {(void *)RUN, flash_erase, flash_program};
 static struct dfu_device device;
 static uint8_t block[TRANSFER], answer[TRANSFER];
 static struct frame request;
@@ -92,6 +93,12 @@ void on_text(const uint8_t *text, uint32_t length) {
     frame_send(serial_put, FRAME_TEXT, 0, text, length < 64 ? length : 64);
 }
 
+/* The run area is brought to the image: whether it holds all of it now, whatever happened to it before. */
+static int is_installed(const struct dfu_place *place) {
+    struct dfu_install install = {.run = flash_run, .size = CAPACITY, .area = {PAGE, DFU_NOWHERE}, .driver = &run_driver};
+    return dfu_install_settle(&install, flash_medium + place->at, place->length) == 0;
+}
+
 int main(void) {
     enum note note = note_taken();
     struct dfu_place place;
@@ -105,7 +112,7 @@ int main(void) {
     while ((note == NOTE_UPGRADE ? dfu_device_begin(&device) : dfu_device_power_on(&device)) != 0)
         __asm__ volatile("wfi");
     is_upgrading = dfu_device_state(&device) > DFU_STATE_APP_DETACH;
-    if (!is_upgrading && note != NOTE_FAULT && dfu_device_image(&device, &place) == 0)
-        image_start(flash_medium + place.at, place.length);
+    if (!is_upgrading && note != NOTE_FAULT && dfu_device_image(&device, &place) == 0 && is_installed(&place))
+        image_start(flash_run, place.length);
     return 0;
 }

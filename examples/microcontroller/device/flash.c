@@ -10,7 +10,7 @@
 #define NVMC_ERASEPAGE (*(volatile uint32_t *)0x4001e508)
 enum { READ_ONLY = 0, WRITE = 1, ERASE = 2 };
 
-const uint8_t *const flash_medium = (const uint8_t *)MEDIUM;
+const uint8_t *const flash_medium = (const uint8_t *)MEDIUM, *const flash_run = (const uint8_t *)RUN;
 
 static void wait_until_ready(void) {
     while ((NVMC_READY & 1) == 0)
@@ -35,30 +35,32 @@ void flash_write_word(volatile uint32_t *to, uint32_t word) {
     wait_until_ready();
 }
 
-/* What is asked for lies in the medium, by the library's contract. A bootloader is not to erase itself, so that is looked at again. */
-static int is_in_medium(uint32_t at, uint32_t length, uint32_t whole) {
-    return at <= MEDIUM_SIZE && length <= MEDIUM_SIZE - at && at % whole == 0 && length % whole == 0;
+/* What is asked for lies in the medium or in the run area, by the libraries' contracts. A bootloader is not to erase itself, so that is
+ * looked at again. */
+static int is_in(uint32_t begins, uint32_t at, uint32_t length, uint32_t whole) {
+    const uint32_t size = begins == MEDIUM ? MEDIUM_SIZE : begins == RUN ? CAPACITY : 0;
+    return at <= size && length <= size - at && at % whole == 0 && length % whole == 0;
 }
 
 int flash_erase(void *own, uint32_t at, uint32_t length) {
-    (void)own;
-    if (!is_in_medium(at, length, PAGE))
+    const uint32_t begins = (uint32_t)own;
+    if (!is_in(begins, at, length, PAGE))
         return 1;
     allow(ERASE);
     for (uint32_t page = 0; page < length; page += PAGE)
-        flash_erase_page(MEDIUM + at + page);
+        flash_erase_page(begins + at + page);
     allow(READ_ONLY);
     return 0;
 }
 
 int flash_program(void *own, uint32_t at, const uint8_t *bytes, uint32_t length) {
-    (void)own;
-    if (!is_in_medium(at, length, sizeof(uint32_t)))
+    const uint32_t begins = (uint32_t)own;
+    if (!is_in(begins, at, length, sizeof(uint32_t)))
         return 1;
     allow(WRITE);
     for (uint32_t i = 0; i < length; i += 4) {
         uint32_t word = bytes[i] | (uint32_t)bytes[i + 1] << 8 | (uint32_t)bytes[i + 2] << 16 | (uint32_t)bytes[i + 3] << 24;
-        flash_write_word((volatile uint32_t *)(MEDIUM + at + i), word);
+        flash_write_word((volatile uint32_t *)(begins + at + i), word);
     }
     allow(READ_ONLY);
     return 0;

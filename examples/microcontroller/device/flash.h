@@ -4,10 +4,11 @@
 #define FLASH_H
 #include <stdint.h>
 
-/* The medium, as the library reads it. */
-extern const uint8_t *const flash_medium;
+/* The medium and the run area, as the libraries read them. */
+extern const uint8_t *const flash_medium, *const flash_run;
 
-/* The driver: erases the page at `at` of the medium, or writes bytes there, in whole words: 0; or 1 if that is none of the medium's. */
+/* The driver of what begins at `own`, the medium or the run area: erases the page at `at` of it, or writes bytes there, in whole words: 0;
+ * or 1 if that is none of its. */
 int flash_erase(void *own, uint32_t at, uint32_t length);
 int flash_program(void *own, uint32_t at, const uint8_t *bytes, uint32_t length);
 

@@ -53,7 +53,7 @@ __attribute__((naked)) static void on_call(void) {
 /* An exception of the image's: its number is that of its word. */
 __attribute__((naked)) static void forward(void) {
     __asm__ volatile(".syntax unified\nldr r0, =image\nldr r0, [r0]\n"
-                     "mrs r1, ipsr\nlsls r1, r1, #2\nldr r1, [r0, r1]\nadds r0, r0, r1\nbx r0");
+                     "mrs r1, ipsr\nlsls r1, r1, #2\nldr r0, [r0, r1]\nbx r0");
 }
 
 /* Memory begins as zeros; the stack's words say by their value how deep it went. */
@@ -77,14 +77,15 @@ void on_reset(void) {
 
 void image_start(const uint8_t *at, size_t length) {
     const uint32_t *table = (const uint32_t *)(const void *)at;
+    const uint32_t start = (uint32_t)at;
     if (length < 4 * IMAGE_WORDS || table[0] % 8 != 0 || table[0] <= IMAGE_MEMORY || table[0] > IMAGE_MEMORY_END || table[1] % 2 != 1
-        || table[1] >= length)
+        || table[1] < start || table[1] - start >= length)
         return;
     image = at;
     NVIC_ENABLE = 1u << UART0 | 1u << TIMER0;
     /* The image has a stack of its own; that of the bootloader begins anew, for its exceptions. */
     __asm__ volatile("msr psp, %0\nmsr msp, %1\nmovs r0, #2\nmsr control, r0\nisb\nbx %2"
-                     : : "r"(table[0]), "r"(__stack), "r"(at + table[1]) : "r0", "memory");
+                     : : "r"(table[0]), "r"(__stack), "r"(table[1]) : "r0", "memory");
     __builtin_unreachable();
 }
 

@@ -1,10 +1,11 @@
 /* SPDX-License-Identifier: MIT OR Apache-2.0 */
-/* What a programmer writes into the flash of a new board: the bootloader, and the medium with a first image. */
+/* What a programmer writes into the flash of a new board: the bootloader, the medium with a first image, and the run area with it. */
 #include <stdio.h>
 #include <string.h>
 
 #include "board.h"
 #include "dfu_device_memory.h"
+#include "dfu_install.h"
 
 static uint8_t flash[FLASH_SIZE], image[FLASH_SIZE];
 
@@ -29,7 +30,11 @@ int main(int count, char **words) {
         fprintf(stderr, "factory: a file can't be read, or is too large\n");
         return 1;
     }
+    const struct dfu_driver driver = DFU_MEMORY_DRIVER(flash + RUN);
+    struct dfu_install install = {.run = flash + RUN, .size = CAPACITY, .area = {PAGE, DFU_NOWHERE}, .driver = &driver};
     int32_t refusal = dfu_memory_format(&board_config, flash + MEDIUM, MEDIUM_SIZE, image, length);
+    if (refusal == 0)
+        refusal = dfu_install_settle(&install, image, length);
     if (refusal != 0) {
         fprintf(stderr, "factory: refused %d\n", (int)refusal);
         return 1;

@@ -1,6 +1,5 @@
 /* SPDX-License-Identifier: MIT OR Apache-2.0 */
-/* An image: it says where it runs and whether it is whole, and later that its interrupts come. It is compiled for any place in flash
- * (-fropi of clang: what is constant is found by the program counter, the memory is where it is). NUMBER is its name and LENGTH how many
+/* An image: it says where it runs and whether it is whole, and later that its interrupts come. NUMBER is its name and LENGTH how many
  * bytes it has, with what the build puts behind the program; all words of it together are 0. */
 #include "image.h"
 

@@ -1,4 +1,4 @@
-/* An image at `place`, which is to have the same bytes at each place. */
+/* An image at `place`, where the run area begins. */
 SECTIONS {
     .text place : { KEEP(*(.table)) *(.text*) *(.rodata*) . = ALIGN(4); __data_in_flash = .; }
     /DISCARD/ : { *(.ARM.exidx*) }

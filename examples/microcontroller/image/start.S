@@ -7,13 +7,13 @@
     .globl table
 table:
     .word __stack
-    .word begin - table
+    .word begin
     .rept 23
-    .word on_other - table
+    .word on_other
     .endr
-    .word on_timer1 - table /* exception 25 */
+    .word on_timer1 /* exception 25 */
     .rept 22
-    .word on_other - table
+    .word on_other
     .endr
 
     .section .text.start, "ax"

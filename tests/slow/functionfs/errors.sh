@@ -91,6 +91,7 @@ done
 dd if=$disk of=spare bs=512 skip="$slot" count="$slot" 2> said
 fresh
 dd if=spare of=$medium bs=512 skip=8 seek=$((slot + 8)) conv=fsync 2> said
+# shellcheck disable=SC2217 # (it holds the file open)
 sleep 1000 < $medium &
 holder=$!
 breaks "$slot" 8

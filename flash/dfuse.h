@@ -1,0 +1,67 @@
+/* SPDX-License-Identifier: MIT OR Apache-2.0 */
+/* A session with a device that speaks DfuSe, ST's variant of USB DFU: for a download the proved host decides (dfuse_host.h), and this
+   carries out; an upload is this program's own. */
+#ifndef DFU_FLASH_DFUSE_H
+#define DFU_FLASH_DFUSE_H
+
+#include "say.h"
+
+#include <dfuse_host.h>
+#include <stdbool.h>
+#include <stdint.h>
+
+struct session;
+
+/* Reports of an upload, which the host doesn't have. */
+enum { DFUSE_UPLOADED = 101, DFUSE_NO_MEMORY = 102 };
+
+struct dfuse {
+    bool is;                       /* the device speaks DfuSe */
+    bool has_address, stays;       /* what was asked for: an address, and not to leave, */
+    uint32_t address, length;      /* and how many bytes an upload is to have */
+    const uint8_t *map;            /* the setting's name, which says the memory map, */
+    size_t map_length;             /* so many bytes of it */
+    struct dfuse_element image[1]; /* of a download, with the payload */
+    struct dfuse_plan plan;
+    struct dfuse_session host;     /* the host's record */
+    uint32_t short_waits;          /* waits of 0 ms in a row */
+    uint8_t string;                /* iString of the last GETSTATUS that said dfuERROR, or 0 */
+    uint32_t protections;          /* how often it said errVENDOR while it was read */
+    struct dfuse_action done;      /* the report */
+};
+
+/* Begins the session of the device that was found, which speaks DfuSe. 0, or a refusal of dfuse_host.h, dfu_host.h or session.h. Nothing
+   is sent. */
+int32_t dfuse_begin_session(struct session *session);
+
+/* Carries out what the host asks for, up to its report or to another end. */
+void dfuse_run(struct session *session);
+
+/* Reads the memory from the address on, up to an end. */
+void dfuse_read(struct session *session);
+
+/* Sends a request with a body, once the device is back if it was away. */
+struct answer dfuse_send(struct session *session, const uint8_t setup[8], const uint8_t *body, uint16_t length);
+
+/* Waits as the device asks for: if it says 0 again and again, a little longer. */
+struct answer dfuse_wait(struct session *session, uint32_t ms);
+
+/* Whether the device that is open is the one that the session was begun with. */
+bool dfuse_is_same(const struct session *session);
+
+/* What it came to, if there is a report. */
+void dfuse_verdict(const struct session *session, struct verdict *verdict);
+
+/* Prints the ranges of a setting's memory map, a line each, or why there is none. */
+void dfuse_print_map(const struct found *found);
+
+/* The same as members of a record in JSON. */
+void dfuse_print_json(const struct found *found);
+
+/* Whether each address of a part of the memory can be read: 0, DFUSE_OUTSIDE, DFUSE_NOT_READABLE, or why the string is no map. */
+int32_t dfuse_may_read(const uint8_t *map, size_t map_length, uint64_t start, uint64_t end);
+
+/* How many pages have an address of a part of the memory. */
+uint64_t dfuse_pages(const uint8_t *map, size_t map_length, uint64_t start, uint64_t end);
+
+#endif

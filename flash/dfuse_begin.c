@@ -1,0 +1,85 @@
+/* SPDX-License-Identifier: MIT OR Apache-2.0 */
+/* How a session with a device of DfuSe begins: what is refused before anything is sent, and the limits. */
+#include "session.h"
+#include "standard.h"
+
+#include <string.h>
+
+#define MOST_BYTES 4096  /* what Linux carries in a control transfer: a block is asked for by its number, so that it can't be smaller */
+#define FRONT_BYTES 32   /* of the image, which are written last: with less than them an application doesn't start */
+#define PAGE_POLLS 1000  /* GETSTATUS while a page is erased, if the device tells no times */
+#define BLOCK_ACTIONS 60 /* of a block, with one that is asked for its status again and again */
+
+/* What the host for DFU 1.1 says of the file and the device: its suffix, an empty image, and whether it is for another device. */
+static int32_t file_refusal(const struct session *session)
+{
+    static const uint8_t any[FUNCTIONAL_BYTES] = {FUNCTIONAL_BYTES, FUNCTIONAL_TYPE, CAN_DOWNLOAD, 0, 0, 64, 0, VERSION_1_1 & 0xff,
+                                                  VERSION_1_1 >> 8};
+    struct dfu_session none;
+    return dfu_host_download(&none, session->file, session->file_length, any, sizeof any, &session->ids, 1, 0);
+}
+
+/* As many actions as a clean session takes, many times over: for losses, restarts, and a device that is asked often. */
+static void take_limits(struct session *session, uint64_t length)
+{
+    struct dfuse *dfuse = &session->dfuse;
+    uint64_t pages = dfuse_pages(dfuse->map, dfuse->map_length, dfuse->address, dfuse->address + length);
+    uint64_t blocks = length / dfuse->plan.transfer + pages + 4;
+    uint64_t actions;
+    if (session->has_limits)
+        return;
+    session->restarts = 3;
+    actions = (PAGE_POLLS * pages + BLOCK_ACTIONS * blocks) * (session->restarts + 1u) + 300;
+    session->actions = actions > UINT32_MAX ? UINT32_MAX : (uint32_t)actions;
+}
+
+static int32_t begin_upload(struct session *session)
+{
+    struct dfuse *dfuse = &session->dfuse;
+    if (dfuse->plan.transfer == 0)
+        return DFUSE_NO_TRANSFER;
+    session->payload_length = dfuse->length;
+    take_limits(session, dfuse->length);
+    return dfuse_may_read(dfuse->map, dfuse->map_length, dfuse->address, (uint64_t)dfuse->address + dfuse->length);
+}
+
+static int32_t begin_download(struct session *session)
+{
+    struct dfuse *dfuse = &session->dfuse;
+    dfuse->image[0] = (struct dfuse_element){dfuse->address, session->file, session->payload_length};
+    if (dfuse->plan.transfer != 0)
+        take_limits(session, session->payload_length);
+    dfuse->plan.start = dfuse->address;
+    dfuse->plan.front = FRONT_BYTES;
+    dfuse->plan.leaves = !dfuse->stays;
+    dfuse->plan.actions = session->actions;
+    dfuse->plan.restarts = session->restarts;
+    return dfuse_begin(&dfuse->host, dfuse->map, dfuse->map_length, dfuse->image, 1, &dfuse->plan);
+}
+
+int32_t dfuse_begin_session(struct session *session)
+{
+    const struct found *is = &session->wire.device->is;
+    struct dfuse *dfuse = &session->dfuse;
+    int32_t refusal = session->is_upload ? 0 : file_refusal(session);
+    session->goal = session->is_upload ? GOAL_UPLOAD : GOAL_VERIFIED;
+    dfuse->is = true;
+    if (!is->is_upgrade)
+        return REFUSED_RUN_TIME;
+    if (!dfuse->has_address)
+        return REFUSED_NO_ADDRESS;
+    if (refusal != 0)
+        return refusal;
+    if (!session->is_upload && !has_attribute(is->descriptor, is->descriptor_size, CAN_DOWNLOAD))
+        return DFU_CANNOT_DOWNLOAD;
+    if (!has_attribute(is->descriptor, is->descriptor_size, CAN_UPLOAD))
+        return DFU_CANNOT_UPLOAD;
+    memcpy(session->known, is->descriptor, sizeof session->known);
+    session->known_size = is->descriptor_size;
+    dfuse->map = (const uint8_t *)session->first[1].name;
+    dfuse->map_length = strlen(session->first[1].name);
+    dfuse->plan.transfer = session->host.transfer = two_bytes(is->descriptor + AT_TRANSFER);
+    if (dfuse->plan.transfer > MOST_BYTES)
+        return REFUSED_LARGE_BLOCKS;
+    return session->is_upload ? begin_upload(session) : begin_download(session);
+}

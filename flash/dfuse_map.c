@@ -1,0 +1,113 @@
+/* SPDX-License-Identifier: MIT OR Apache-2.0 */
+/* Memory maps, which the library reads: how they are printed, and what they say of a part of the memory. */
+#include "dfuse.h"
+#include "json.h"
+
+#include <inttypes.h>
+#include <stdio.h>
+#include <string.h>
+
+static const uint8_t *bytes_of(const struct found *found)
+{
+    return (const uint8_t *)found->name;
+}
+
+/* The letters of what may be done with pages, or - in the place of each. */
+static void letters(uint32_t access, char out[4])
+{
+    out[0] = access & DFUSE_READABLE ? 'r' : '-';
+    out[1] = access & DFUSE_ERASABLE ? 'e' : '-';
+    out[2] = access & DFUSE_WRITABLE ? 'w' : '-';
+    out[3] = '\0';
+}
+
+static uint64_t end_of(const struct dfuse_range *range)
+{
+    return range->start + range->size * range->count;
+}
+
+static void print_range(const struct dfuse_range *range)
+{
+    char access[4];
+    letters(range->access, access);
+    printf("    %08" PRIx64 "..%08" PRIx64 " %" PRIu32 " page%s of %" PRIu64 " byte%s %s\n", range->start, end_of(range) - 1,
+           range->count, range->count == 1 ? "" : "s", range->size, range->size == 1 ? "" : "s", access);
+}
+
+void dfuse_print_map(const struct found *found)
+{
+    struct dfuse_range range;
+    size_t length = strlen(found->name);
+    int32_t refusal = 0;
+    for (uint32_t number = 0; refusal == 0; number++) {
+        refusal = dfuse_read_range(bytes_of(found), length, number, &range);
+        if (refusal == 0)
+            print_range(&range);
+    }
+    if (refusal != DFUSE_NO_RANGE)
+        printf("    no memory map: %s: %s\n", refusal_name(refusal), refusal_words(refusal));
+}
+
+static void print_range_json(const struct dfuse_range *range, bool is_first)
+{
+    char access[4];
+    letters(range->access, access);
+    printf("%s{\"start\":\"%08" PRIx64 "\",\"end\":\"%08" PRIx64 "\"", is_first ? "" : ",", range->start, end_of(range) - 1);
+    json_number("pages", range->count);
+    json_number("size", range->size);
+    json_text("access", access);
+    putchar('}');
+}
+
+void dfuse_print_json(const struct found *found)
+{
+    struct dfuse_range range;
+    size_t length = strlen(found->name);
+    int32_t refusal = dfuse_read_range(bytes_of(found), length, 0, &range);
+    json_text("protocol", "DfuSe");
+    if (refusal != 0) {
+        json_text("no_map", refusal_name(refusal));
+        return;
+    }
+    fputs(",\"map\":[", stdout);
+    for (uint32_t number = 0; dfuse_read_range(bytes_of(found), length, number, &range) == 0; number++)
+        print_range_json(&range, number == 0);
+    putchar(']');
+}
+
+/* The range that has an address: 0, DFUSE_NO_RANGE, or why the string is no map. */
+static int32_t range_at(const uint8_t *map, size_t map_length, uint64_t address, struct dfuse_range *range)
+{
+    int32_t refusal;
+    for (uint32_t number = 0;; number++) {
+        refusal = dfuse_read_range(map, map_length, number, range);
+        if (refusal != 0 || (range->start <= address && address < end_of(range)))
+            return refusal;
+    }
+}
+
+int32_t dfuse_may_read(const uint8_t *map, size_t map_length, uint64_t start, uint64_t end)
+{
+    struct dfuse_range range;
+    bool is_readable = true;
+    while (start < end) {
+        int32_t refusal = range_at(map, map_length, start, &range);
+        if (refusal != 0)
+            return refusal == DFUSE_NO_RANGE ? DFUSE_OUTSIDE : refusal;
+        is_readable = is_readable && (range.access & DFUSE_READABLE) != 0;
+        start = end_of(&range);
+    }
+    return is_readable ? 0 : DFUSE_NOT_READABLE;
+}
+
+uint64_t dfuse_pages(const uint8_t *map, size_t map_length, uint64_t start, uint64_t end)
+{
+    struct dfuse_range range;
+    uint64_t pages = 0;
+    while (start < end && range_at(map, map_length, start, &range) == 0) {
+        uint64_t last = (end < end_of(&range) ? end : end_of(&range)) - 1;
+        pages += (last - range.start) / range.size - (start - range.start) / range.size + 1;
+        start = end_of(&range);
+    }
+    return pages;
+}

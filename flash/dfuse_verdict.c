@@ -1,0 +1,54 @@
+/* SPDX-License-Identifier: MIT OR Apache-2.0 */
+/* What a session with DfuSe came to, if it has a report. */
+#include "session.h"
+#include "status.h"
+
+#include <stdio.h>
+#include <string.h>
+
+/* By the number of the report. */
+static const struct {
+    uint32_t report;
+    const char *name;
+    struct meaning meaning;
+} reports[] = {
+    {DFUSE_VERIFIED, "verified",
+        {STATUS_DONE, "each byte was read back from the device's memory, and is the file's"}},
+    {DFUSE_DIFFERENT, "different",
+        {STATUS_DIFFERENT, "a byte that was read back from the device's memory isn't the file's"}},
+    {DFUSE_REFUSED, "refused",
+        {STATUS_DEVICE, "the device refused a command; the device may have the old image, the new one or neither"}},
+    {DFUSE_READ_PROTECTED, "read-protected",
+        {STATUS_DEVICE, "the device's memory is protected; the device may have the old image, the new one or neither"}},
+    {DFUSE_GAVE_UP, "gave-up",
+        {STATUS_GIVEN_UP, "the limit of actions is spent; the device may have the old image, the new one or neither"}},
+    {DFUSE_RESTARTS_SPENT, "restarts-spent",
+        {STATUS_GIVEN_UP, "the device restarted too often; the device may have the old image, the new one or neither"}},
+    {DFUSE_NOT_DFU, "not-dfu",
+        {STATUS_GONE, "the device is in its application; the device may have the old image, the new one or neither"}},
+    {DFUSE_UPLOADED, "uploaded",
+        {STATUS_DONE, "the device gave so many bytes of its memory, from that address on"}},
+    {DFUSE_NO_MEMORY, "no-memory",
+        {STATUS_GIVEN_UP, "there was no memory for the image"}},
+};
+
+/* How the device left, behind what Verified means. */
+static const char *const leavings[] = {
+    [DFUSE_STAYED] = "; the device stays in DFU mode",
+    [DFUSE_LEFT] = "; the device starts its application",
+    [DFUSE_UNKNOWN] = "; whether it starts its application isn't known",
+};
+
+void dfuse_verdict(const struct session *session, struct verdict *verdict)
+{
+    const struct dfuse_action *done = &session->dfuse.done;
+    size_t at = 0, length;
+    while (at < sizeof reports / sizeof *reports - 1 && reports[at].report != done->value)
+        at++;
+    snprintf(verdict->name, sizeof verdict->name, "%s", reports[at].name);
+    verdict_words(verdict, session, &reports[at].meaning);
+    verdict->code = done->value == DFUSE_REFUSED ? (uint8_t)done->more : 0;
+    length = strlen(verdict->words);
+    if (done->value == DFUSE_VERIFIED && done->more < sizeof leavings / sizeof *leavings)
+        snprintf(verdict->words + length, sizeof verdict->words - length, "%s", leavings[done->more]);
+}
