@@ -102,7 +102,10 @@ enum dfu_result {
     DFU_NOT_LONG = -9,    /**< the host sends no more bytes with this setup than a block may have */
     DFU_NO_BLOCK = -10,   /**< the block's memory has fewer bytes than the transfer size */
     DFU_ASKS = -11,       /**< operations of the flash are due: next, carry it out, took, until that answers otherwise */
-    DFU_ASKED = -12       /**< operations are due, and come first */
+    DFU_ASKED = -12,      /**< operations are due, and come first */
+    DFU_NO_CLOSE = -13,   /**< the setup closes no download */
+    DFU_NO_STATUS = -14,  /**< the status is neither DFU_STATUS_ERR_TARGET nor DFU_STATUS_ERR_FILE */
+    DFU_NO_CANDIDATE = -15 /**< no image was taken that may be refused */
 };
 
 /** @brief Kinds of operations of the flash. */
@@ -232,6 +235,25 @@ int32_t dfu_core_would_stall(const struct dfu_config *config, const struct dfu_r
 /** @brief As dfu_core_handle for a setup whose body has more than transfer bytes, without the body.
  * @return DFU_STALL; DFU_NO_CONFIG, DFU_NO_DEVICE, DFU_ASKED, DFU_NOT_LONG */
 int32_t dfu_core_too_long(const struct dfu_config *config, struct dfu_record *record, const uint8_t setup[8]);
+
+/** @brief The program refuses the image that this setup closes: in dfuDNLOAD-IDLE, with as many bytes taken as an image has at least, a
+ *         DNLOAD with wLength 0. The device enters dfuERROR with the status, and nothing is written. It is called in place of
+ *         dfu_core_handle; else that takes the image.
+ * @param status DFU_STATUS_ERR_TARGET if the image is not for this device, DFU_STATUS_ERR_FILE if it fails a test, such as a signature's
+ * @return DFU_STALL; DFU_NO_CONFIG, DFU_NO_DEVICE, DFU_ASKED, DFU_NO_STATUS, DFU_NO_CLOSE */
+int32_t dfu_core_refuse_close(const struct dfu_config *config, struct dfu_record *record, const uint8_t setup[8], uint32_t status);
+
+/** @brief The program refuses the image that was closed, for a check that takes longer than a transfer may: dfuMANIFEST-SYNC, before the
+ *         image is in place, and dfuMANIFEST lead to dfuERROR with the status, and nothing is put in place. No other state changes.
+ * @param status as for dfu_core_refuse_close
+ * @return 0; DFU_NO_CONFIG, DFU_NO_DEVICE, DFU_ASKED, DFU_NO_STATUS */
+int32_t dfu_core_refuse(const struct dfu_config *config, struct dfu_record *record, uint32_t status);
+
+/** @brief Where the image is that was taken and may be refused: in dfuDNLOAD-IDLE, in dfuMANIFEST-SYNC before it is in place, and in
+ *         dfuMANIFEST. Its bytes are those of the place, and after them the first held_length bytes of the record's `held`.
+ * @return 0; DFU_NO_CONFIG, DFU_NO_DEVICE (none whatever the flash), DFU_ASKED, DFU_NO_MEDIUM, DFU_NO_DEVICE, DFU_NO_CANDIDATE */
+int32_t dfu_core_candidate(const struct dfu_config *config, const struct dfu_record *record, const uint8_t *flash, size_t size,
+                           struct dfu_place *place);
 
 /** @brief In how many milliseconds dfu_core_elapse changes the state.
  * @return 1 or more, of which 2,147,483,647 says as many or more; 0 if no time changes it; DFU_NO_CONFIG; DFU_NO_DEVICE as

@@ -64,7 +64,13 @@
  * - DFU_NO_MEDIUM or DFU_NO_DEVICE elsewhere: flash, block or record changed. Give power again; the host begins again.
  * - DFU_ASKED: operations are due. Carry them out (dfu_device_settle with DFU_ASKS), then make the call again.
  * - DFU_NOT_WRITTEN: format again; if that goes on, the part or its driver is broken.
- * - DFU_NOT_LONG: it is a request for dfu_device_handle.
+ * - DFU_NOT_LONG, DFU_NO_CLOSE: it is a request for dfu_device_handle.
+ * - DFU_NO_STATUS: a mistake of the program. DFU_NO_CANDIDATE: there is nothing to check.
+ *
+ * A check of images. The program that is to take no other image than its maker's looks at each one before it lets the close go by: where
+ * dfu_device_would_stall says 0 of a DNLOAD with wLength 0 in dfuDNLOAD-IDLE, it checks the bytes of dfu_device_candidate, and calls
+ * dfu_device_refuse_close if they fail, or else dfu_device_handle. A program that never asks takes every image. And such a check is no
+ * secure boot: who can write the flash can write an image. So check it again before it is started.
  *
  * Images are read by power_on, begin, image and format_start, at the start and the end of the work that puts one in place, and by the
  * first operation of a download. No other call reads one. So an image that fades under its standing header while the device runs is
@@ -181,6 +187,21 @@ static inline int32_t dfu_device_would_stall(const struct dfu_device *d, const u
 /** @brief As dfu_core_too_long. */
 static inline int32_t dfu_device_too_long(struct dfu_device *d, const uint8_t setup[8]) {
     return dfu_core_too_long(d->config, &d->record, setup);
+}
+
+/** @brief As dfu_core_refuse_close. */
+static inline int32_t dfu_device_refuse_close(struct dfu_device *d, const uint8_t setup[8], uint32_t status) {
+    return dfu_core_refuse_close(d->config, &d->record, setup, status);
+}
+
+/** @brief As dfu_core_refuse. */
+static inline int32_t dfu_device_refuse(struct dfu_device *d, uint32_t status) {
+    return dfu_core_refuse(d->config, &d->record, status);
+}
+
+/** @brief As dfu_core_candidate. */
+static inline int32_t dfu_device_candidate(const struct dfu_device *d, struct dfu_place *place) {
+    return dfu_core_candidate(d->config, &d->record, d->flash, d->size, place);
 }
 
 /** @brief As dfu_core_due. */

@@ -7,6 +7,8 @@ mod Rows
 mod Pieces
 mod Locating
 mod JobPieces
+mod OpPieces
+mod SequenceSteps
 mod Cutting
 pub mod Working
 mod Quiet
@@ -16,10 +18,10 @@ mod Ended
 mod Inside
 mod Sound
 mod Calling
+mod Refuses
 mod Spared
 mod Partly
 mod Shut
-mod Started
 mod FormatParts
 mod FormatInside
 mod FormatGoing

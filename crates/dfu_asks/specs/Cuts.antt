@@ -2,17 +2,15 @@
 use Rattle.std.specs.Prelude.{◌≡◌, ◌↔◌, Bool, IsTrue, ℕ, ◌+◌, ◌^◌, ◌≤◌, ◌<◌, true, false, List, ◌++◌, length, drop, replicate, slice_range}
 use Rattle.dfu_asks.specs.declared.piece.Stock.{Stock}
 use Rattle.dfu_asks.specs.declared.cut.Cut.{Cut}
-use Rattle.dfu_asks.specs.declared.cut.Source.{Source}
-use Rattle.dfu_asks.specs.declared.cut.Source.TheVariants.{Joined, Held, Unit}
+use Rattle.dfu_slots.specs.declared.operation.Source.{Source}
+use Rattle.dfu_slots.specs.Operations.{source_of}
 use Rattle.dfu_asks.specs.Steps.{Step}
 use Rattle.dfu_asks.specs.Carried.{IsPiece}
 use Rattle.dfu_asks.specs.Jobs.{asked}
 
--- The bytes of a source, if these are the front of a header unit or gate unit.
+-- The bytes of a source, if this is the header.
 abbrev pub source_bytes : Source → Stock → List ℕ → List ℕ
-source_bytes Joined s front = s.held.now ++ s.block.now
-source_bytes Held s front = s.held.now
-source_bytes Unit s front = front
+source_bytes source s front = source_of source s.held.now s.block.now front
 
 -- The same, with 256 zeros after them.
 abbrev pub zeroed : Source → Stock → List ℕ → List ℕ

@@ -4,6 +4,7 @@ pub mod Carried
 pub mod Series
 pub mod Jobs
 pub mod Cuts
+pub mod OpSteps
 pub mod Located
 pub mod Due
 pub mod Noted

@@ -19,10 +19,7 @@ use crate::located::behind_edge;
 use crate::next_piece::next_piece;
 use crate::{Asking, Mapped, Piece, Refusal, Reply, Sector, Work};
 use dfu_slots::laws::active_image_is_one;
-use dfu_slots::{Unit, WriteFault, check};
-
-// The first byte of an open gate.
-const OPEN_GATE: u8 = 0xa5;
+use dfu_slots::{OPEN_GATE, Unit, WriteFault, check};
 
 // Whether a range lies within the spare slot of this flash.
 fn is_spare(flash: &[u8], unit: Unit, sector: Sector, at: u64, len: u64) -> bool

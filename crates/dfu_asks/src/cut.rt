@@ -5,17 +5,7 @@ ghost use Rattle.dfu_asks.specs.Cuts.{step_of, IsCut};
 
 use crate::Piece;
 use crate::piece::Stock;
-
-/// What the bytes of a write are, with zeros after them.
-#[derive(Clone, Copy, Drop)]
-pub(crate) enum Source {
-    /// The bytes held back, and the block after them.
-    Joined,
-    /// The bytes held back.
-    Held,
-    /// The front of a header unit or of a gate unit.
-    Unit,
-}
+use dfu_slots::Source;
 
 /// A search for the next piece of a series of writes, and the piece once it is found.
 #[derive(Clone, Copy, Drop)]
@@ -24,7 +14,7 @@ pub(crate) struct Cut<'a> {
     pub(crate) stock: Stock<'a>,
     /// How many bytes are carried out of the writes that were not looked at yet.
     pub(crate) rest: usize,
-    /// The front of the header unit or gate unit that was looked at last.
+    /// The header, if one is written.
     pub(crate) front: [u8; 16],
     /// The piece that is found.
     pub(crate) piece: Piece,
@@ -48,21 +38,9 @@ pub(crate) fn cut_at<'a>(stock: Stock<'a>, done: u32) -> Cut<'a>
             at: 0,
             len: 0,
         },
-        source: Source::Unit,
+        source: Source::Closed,
         from: 0,
     }
-}
-
-// The byte so far behind the front of two slices, of which one stands behind the other, with zeros behind both.
-fn byte_in(front: &[u8], back: &[u8], at: usize) -> u8
-    requires { at < length front.now + length back.now + 256 }
-    ensures { result ≡ slice_index ((front.now ++ back.now) ++ replicate 256 0) at }
-{
-    if at < front.len() {
-        return front[at];
-    }
-    let behind = at - front.len();
-    if behind < back.len() { back[behind] } else { 0 }
 }
 
 // The byte so far behind the first one of a piece.
@@ -74,12 +52,14 @@ fn byte_of(cut: &Cut<'_>, i: usize) -> u8
     if cut.piece.erases {
         return 0xff;
     }
-    let at = cut.from + i;
-    match cut.source {
-        Source::Joined => byte_in(cut.stock.held, cut.stock.block, at),
-        Source::Held => byte_in(cut.stock.held, &[], at),
-        Source::Unit => byte_in(&cut.front, &[], at),
-    }
+    let stock = &cut.stock;
+    dfu_slots::byte_of(
+        cut.source,
+        stock.held,
+        stock.block,
+        &cut.front,
+        cut.from + i,
+    )
 }
 
 /// Puts the bytes of a piece at the front of a buffer; of an erase at most 256, each FFh.

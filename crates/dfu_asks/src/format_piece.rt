@@ -1,20 +1,21 @@
 //! The next piece of a format.
-ghost use Rattle.std.specs.Prelude.{◌≡◌, ◌+◌, ◌*◌, ◌^◌, ◌<◌, ◌≤◌, [], not, length, take, drop, IsTrue};
-ghost use Rattle.dfu_slots.specs.Units.{gate_room, fill_size, filled};
-ghost use Rattle.dfu_asks.specs.Steps.{step_writes, some_steps};
+ghost use Rattle.std.specs.Prelude.{◌≡◌, ◌+◌, ◌^◌, ◌<◌, ◌≤◌, [], not, length, IsTrue};
+ghost use Rattle.dfu_slots.specs.Units.{fill_size};
+ghost use Rattle.dfu_slots.specs.Layout.{header};
+ghost use Rattle.dfu_slots.specs.declared.sequence.Sequence.TheVariants.{Commit};
+ghost use Rattle.dfu_slots.specs.Operations.{operations};
+ghost use Rattle.dfu_asks.specs.Steps.{step_writes};
+ghost use Rattle.dfu_asks.specs.OpSteps.{steps_at};
 ghost use Rattle.dfu_asks.specs.Carried.{total, IsPiece};
 ghost use Rattle.dfu_asks.specs.Jobs.{grain_for};
 ghost use Rattle.dfu_asks.specs.Cuts.{step_of, IsCut};
 ghost use Rattle.dfu_asks.specs.Phases.{part_left};
 
-use crate::cut::{Cut, Source};
-use crate::next_piece::{OPEN_GATE, close_piece, gate_piece, header_piece, write_piece};
-use crate::piece::{Stock, gate_room};
+use crate::cut::Cut;
+use crate::next_piece::{numbered_piece, sequence_piece};
+use crate::piece::Stock;
 use crate::{Formatting, Phase};
-use dfu_slots::Unit;
-
-// How many bytes of the image are written at a time, with one erase for each sector that begins in them.
-const PART: usize = 4096;
+use dfu_slots::{Sequence, Unit, VERSION, make_header};
 
 /// How many bytes an image of so many has, filled up to whole units.
 pub(crate) fn filled_len(unit: Unit, len: usize) -> usize
@@ -42,25 +43,26 @@ pub(crate) fn stock_for<'a>(formatting: &Formatting, image: &'a [u8]) -> Stock<'
     }
 }
 
-// Whether the next piece is one of up to 4096 bytes of the image, from there on, or of their erases.
-fn image_piece(from: u32, cut: &mut Cut<'_>) -> bool
-    requires held { cut.old.stock.held.now ≡ [] }
-    requires image { length cut.old.stock.block.now ≤ 2 ^ 24 }
-    ensures found { let w = grain_for cut.old.stock in IsTrue result →
-        IsPiece (some_steps w.sector (2 * gate_room w + from) (take 4096 (drop from (filled w.unit cut.old.stock.block.now))))
+// Whether the next piece is one of the header, or of the gate that is opened after it.
+fn open_piece(index: usize, register: u32, cut: &mut Cut<'_>) -> bool
+    requires { length cut.old.stock.block.now ≤ 2 ^ 24 }
+    ensures found { let s = cut.old.stock in IsTrue result →
+        IsPiece (steps_at s (header 2 0 (length s.block.now) register) (operations (grain_for s) (Commit 0 0 0)) index)
         cut.old.rest (step_of cut.new) }
+    ensures behind { let s = cut.old.stock in IsTrue (not result) →
+        total (step_writes (steps_at s (header 2 0 (length s.block.now) register) (operations (grain_for s) (Commit 0 0 0)) index))
+        + cut.new.rest ≡ cut.old.rest }
     ensures same { cut.new.stock ≡ cut.old.stock }
     ensures is { IsTrue result → IsCut cut.old.stock.sector.size cut.new }
-    ensures end { IsTrue result → cut.old.rest + cut.new.piece.len ≤ 2 ^ 20 }
-    ensures none { let w = grain_for cut.old.stock in IsTrue (not result) →
-        total (step_writes (some_steps w.sector (2 * gate_room w + from) (take 4096 (drop from (filled w.unit cut.old.stock.block.now)))))
-        ≤ cut.old.rest }
+    ensures end { IsTrue result → cut.old.rest + cut.new.piece.len ≤ 2 ^ 18 }
 {
-    let size = filled_len(cut.stock.unit, cut.stock.block.len());
-    let skip = (from as usize).min(size);
-    let len = (size - skip).min(PART);
-    let at = 2 * gate_room(cut.stock.unit, cut.stock.sector) + u64::from(from);
-    write_piece(at, Source::Joined, skip, len, cut)
+    cut.front = make_header(VERSION, 0, cut.stock.block.len() as u32, register);
+    let sequence = Sequence::Commit {
+        slot: 0,
+        end: 0,
+        held: 0,
+    };
+    numbered_piece(sequence, index, cut)
 }
 
 /// Whether a piece is left of the part of a format that is being carried out. Then the next one is found. The flash has so many bytes.
@@ -78,14 +80,19 @@ pub(crate) fn part_piece(formatting: &Formatting, size: usize, cut: &mut Cut<'_>
     ensures none { IsTrue (not result) → total (step_writes (part_left formatting.now size cut.old.stock.block.now)) ≤ cut.old.rest }
 {
     match formatting.phase {
-        Phase::CloseSecond => close_piece((size / 2) as u32, cut),
-        Phase::CloseFirst => close_piece(0, cut),
-        Phase::Image { from } => image_piece(from, cut),
-        Phase::Header => {
-            let len = cut.stock.block.len() as u32;
-            header_piece(0, 0, len, formatting.register, cut)
+        Phase::CloseSecond => sequence_piece(
+            Sequence::Close {
+                slot: (size / 2) as u32,
+            },
+            cut,
+        ),
+        Phase::CloseFirst => sequence_piece(Sequence::Close { slot: 0 }, cut),
+        Phase::Image { from } => {
+            let image = cut.stock.block.len() as u32;
+            sequence_piece(Sequence::Image { from, image }, cut)
         }
-        Phase::Gate => gate_piece(0, OPEN_GATE, cut),
+        Phase::Header => open_piece(1, formatting.register, cut),
+        Phase::Gate => open_piece(2, formatting.register, cut),
         Phase::Ended => false,
     }
 }

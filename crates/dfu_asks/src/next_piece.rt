@@ -1,30 +1,27 @@
-//! The next piece of the writes of a job.
-ghost use Rattle.std.specs.Prelude.{◌≡◌, ◌+◌, ◌^◌, ◌<◌, ◌≤◌, ◌∷◌, [], length, replicate, not, true, IsTrue};
-ghost use Rattle.dfu_slots.specs.Units.{gate_size, gate_room};
-ghost use Rattle.dfu_slots.specs.Layout.{gate_unit, header_unit};
-ghost use Rattle.dfu_asks.specs.Steps.{step_writes, anew_steps, some_steps, put_steps, close_step};
+//! The next piece of the writes of a job: the operations of dfu_slots, each cut into its erases and pieces of at most 256 bytes.
+ghost use Rattle.std.specs.Prelude.{◌≡◌, ◌+◌, ◌*◌, ◌^◌, ◌<◌, ◌≤◌, ◌∷◌, [], length, not, true, if◌then◌else◌, IsTrue};
+ghost use Rattle.dfu_slots.specs.Operations.{operations};
+ghost use Rattle.dfu_asks.specs.Steps.{step_writes, some_steps, erase_step, close_step};
 ghost use Rattle.dfu_asks.specs.Carried.{total, IsPiece};
 ghost use Rattle.dfu_asks.specs.Jobs.{grain_for, steps_for};
 ghost use Rattle.dfu_asks.specs.Cuts.{source_bytes, range_in, step_of, IsCut};
+ghost use Rattle.dfu_asks.specs.OpSteps.{ops_steps, steps_at, MayCutAll};
 
-use crate::cut::{Cut, Source};
+use crate::cut::Cut;
 use crate::located::{Located, locate};
-use crate::piece::{Stock, fill_size, gate_room, gate_size, head_size, header, held_place};
 use crate::{Job, Piece};
+use dfu_slots::{Op, Sequence, Source, VERSION, make_header};
 
 // How many bytes are programmed at a time at most.
 const MOST: usize = 256;
 
-/// The first byte of an open gate.
-pub(crate) const OPEN_GATE: u8 = 0xa5;
-
-// The first byte of a gate unit that is written to close it.
-const CLOSED_GATE: u8 = 0x00;
+// No sequence has more operations.
+const OPERATIONS: usize = 3;
 
 // An erase of so many bytes there is found.
 fn find_erase(at: u64, len: usize, cut: &mut Cut<'_>)
     ensures piece { (cut.new.piece.erases ≡ true) × (cut.new.piece.at ≡ at) × (cut.new.piece.len ≡ len) }
-    ensures rest { (cut.new.stock ≡ cut.old.stock) × (cut.new.rest ≡ cut.old.rest) }
+    ensures rest { (cut.new.stock ≡ cut.old.stock) × (cut.new.rest ≡ cut.old.rest) × (cut.new.front ≡ cut.old.front) }
 {
     cut.piece = Piece {
         erases: true,
@@ -33,22 +30,36 @@ fn find_erase(at: u64, len: usize, cut: &mut Cut<'_>)
     };
 }
 
-/// Whether the next piece is one of a write of `len` bytes there, or of its erases: of the bytes of this source, without the first
-/// `skip`. Then it is found; else the search goes on behind the write.
-pub(crate) fn write_piece(
-    at: u64,
-    source: Source,
-    skip: usize,
-    len: usize,
-    cut: &mut Cut<'_>,
-) -> bool
+// Whether the next piece is one of the erase of the sector that begins there. Then it is found; else the search goes on after it.
+fn erase_piece(at: u64, cut: &mut Cut<'_>) -> bool
+    requires { at < 2 ^ 41 }
+    ensures found { IsTrue result → IsPiece (erase_step at cut.old.stock.sector.size ∷ []) cut.old.rest (step_of cut.new) }
+    ensures same { (cut.new.stock ≡ cut.old.stock) × (cut.new.front ≡ cut.old.front) }
+    ensures is { IsTrue result → IsCut cut.old.stock.sector.size cut.new }
+    ensures end { IsTrue result → cut.old.rest + cut.new.piece.len ≤ 2 ^ 18 }
+    ensures behind { IsTrue (not result) →
+        total (step_writes (erase_step at cut.old.stock.sector.size ∷ [])) + cut.new.rest ≡ cut.old.rest }
+    ensures past { IsTrue (not result) → cut.old.rest ≤ cut.new.rest + 2 ^ 18 }
+{
+    let sector = cut.stock.sector.size() as usize;
+    if cut.rest < sector {
+        find_erase(at + cut.rest as u64, sector - cut.rest, cut);
+        return true;
+    }
+    cut.rest -= sector;
+    false
+}
+
+// Whether the next piece is one of a write of `len` bytes there, or of its erases: of the bytes of this source, without the first
+// `skip`. Then it is found; else the search goes on after the write.
+fn write_piece(at: u64, source: Source, skip: usize, len: usize, cut: &mut Cut<'_>) -> bool
     requires small { at < 2 ^ 41 }
     requires short { len ≤ 4608 }
     requires within { skip + len ≤ length (source_bytes source cut.old.stock cut.old.front) + 256 }
     requires skipped { skip ≤ 2 ^ 32 }
     ensures found { IsTrue result → IsPiece (some_steps cut.old.stock.sector.size at (range_in source cut.old.stock cut.old.front skip len))
         cut.old.rest (step_of cut.new) }
-    ensures same { cut.new.stock ≡ cut.old.stock }
+    ensures same { (cut.new.stock ≡ cut.old.stock) × (cut.new.front ≡ cut.old.front) }
     ensures is { IsTrue result → IsCut cut.old.stock.sector.size cut.new }
     ensures end { IsTrue result → cut.old.rest + cut.new.piece.len ≤ 2 ^ 18 }
     ensures behind { IsTrue (not result) →
@@ -78,124 +89,64 @@ pub(crate) fn write_piece(
     }
 }
 
-// Whether the next piece is one of what a `put` writes.
-fn put_piece(at: u64, cut: &mut Cut<'_>) -> bool
-    requires small { at < 2 ^ 40 }
-    requires held { length cut.old.stock.held.now ≤ 256 }
-    requires block { length cut.old.stock.block.now ≤ 4096 }
-    ensures found { IsTrue result →
-        IsPiece (put_steps (grain_for cut.old.stock) at cut.old.stock.held.now cut.old.stock.block.now) cut.old.rest (step_of cut.new) }
+/// Whether the next piece is one of the operation of this number. Then it is found; else the search goes on after that, if there is one.
+pub(crate) fn numbered_piece(sequence: Sequence, index: usize, cut: &mut Cut<'_>) -> bool
+    requires { MayCutAll cut.old.stock cut.old.front (operations (grain_for cut.old.stock) sequence) }
+    ensures found { let s = cut.old.stock in IsTrue result →
+        IsPiece (steps_at s cut.old.front (operations (grain_for s) sequence) index) cut.old.rest (step_of cut.new) }
+    ensures same { (cut.new.stock ≡ cut.old.stock) × (cut.new.front ≡ cut.old.front) }
+    ensures is { IsTrue result → IsCut cut.old.stock.sector.size cut.new }
+    ensures end { IsTrue result → cut.old.rest + cut.new.piece.len ≤ 2 ^ 18 }
+    ensures behind { let s = cut.old.stock in IsTrue (not result) →
+        total (step_writes (steps_at s cut.old.front (operations (grain_for s) sequence) index)) + cut.new.rest ≡ cut.old.rest }
+    ensures past { IsTrue (not result) → cut.old.rest ≤ cut.new.rest + 2 ^ 18 }
+{
+    match sequence.operation(cut.stock.unit, cut.stock.sector.size(), index) {
+        None => false,
+        Some(Op::Erase { at }) => erase_piece(at, cut),
+        Some(
+            Op::Program {
+                at,
+                source,
+                skip,
+                len,
+            },
+        ) => write_piece(at, source, skip as usize, len as usize, cut),
+    }
+}
+
+/// Whether the next piece is one of the operations of a sequence. Then it is found; else the search goes on after them.
+pub(crate) fn sequence_piece(sequence: Sequence, cut: &mut Cut<'_>) -> bool
+    requires { MayCutAll cut.old.stock cut.old.front (operations (grain_for cut.old.stock) sequence) }
+    ensures found { let s = cut.old.stock in IsTrue result →
+        IsPiece (ops_steps s cut.old.front (operations (grain_for s) sequence)) cut.old.rest (step_of cut.new) }
     ensures same { cut.new.stock ≡ cut.old.stock }
     ensures is { IsTrue result → IsCut cut.old.stock.sector.size cut.new }
     ensures end { IsTrue result → cut.old.rest + cut.new.piece.len ≤ 2 ^ 20 }
-    ensures none { IsTrue (not result) →
-        total (step_writes (put_steps (grain_for cut.old.stock) at cut.old.stock.held.now cut.old.stock.block.now)) ≤ cut.old.rest }
+    ensures behind { let s = cut.old.stock in IsTrue (not result) →
+        total (step_writes (ops_steps s cut.old.front (operations (grain_for s) sequence))) + cut.new.rest ≡ cut.old.rest }
+    ensures past { IsTrue (not result) → cut.old.rest ≤ cut.new.rest + 2 ^ 20 }
 {
-    let size = cut.stock.unit.size() as usize;
-    let all = cut.stock.held.len() + cut.stock.block.len();
-    let whole = all - all % size;
-    let head = head_size(&cut.stock);
-    if write_piece(at, Source::Joined, 0, head, cut) {
-        return true;
+    for index in 0..OPERATIONS {
+        if numbered_piece(sequence, index, cut) {
+            return true;
+        }
     }
-    write_piece(at + head as u64, Source::Joined, head, whole - head, cut)
-}
-
-/// Whether the next piece is one of the header of the slot that begins there, or of its erases.
-pub(crate) fn header_piece(
-    spare: u32,
-    generation: u8,
-    len: u32,
-    register: u32,
-    cut: &mut Cut<'_>,
-) -> bool
-    ensures found { let w = grain_for cut.old.stock in IsTrue result →
-        IsPiece (anew_steps w.sector (spare + gate_room w) (header_unit (gate_size w.unit) generation len register))
-        cut.old.rest (step_of cut.new) }
-    ensures same { cut.new.stock ≡ cut.old.stock }
-    ensures is { IsTrue result → IsCut cut.old.stock.sector.size cut.new }
-    ensures end { IsTrue result → cut.old.rest + cut.new.piece.len ≤ 2 ^ 18 }
-    ensures behind { let w = grain_for cut.old.stock in IsTrue (not result) →
-        total (step_writes (anew_steps w.sector (spare + gate_room w) (header_unit (gate_size w.unit) generation len register)))
-        + cut.new.rest ≡ cut.old.rest }
-    ensures past { IsTrue (not result) → cut.old.rest ≤ cut.new.rest + 2 ^ 18 }
-{
-    cut.front = header(generation, len, register);
-    let at = u64::from(spare) + gate_room(cut.stock.unit, cut.stock.sector);
-    write_piece(at, Source::Unit, 0, gate_size(cut.stock.unit), cut)
-}
-
-// The front of a gate unit.
-fn gate_front(first: u8) -> [u8; 16]
-    ensures { result ≡ first ∷ replicate 15 0 }
-{
-    [first, 0, 0, 0, 0, 0, 0, 0, 0, 0, 0, 0, 0, 0, 0, 0]
-}
-
-/// Whether the next piece is one of the gate unit with this first byte of the slot that begins there, or of its erases.
-pub(crate) fn gate_piece(spare: u32, first: u8, cut: &mut Cut<'_>) -> bool
-    ensures found { let w = grain_for cut.old.stock in IsTrue result →
-        IsPiece (anew_steps w.sector spare (gate_unit (gate_size w.unit) first)) cut.old.rest (step_of cut.new) }
-    ensures same { cut.new.stock ≡ cut.old.stock }
-    ensures is { IsTrue result → IsCut cut.old.stock.sector.size cut.new }
-    ensures end { IsTrue result → cut.old.rest + cut.new.piece.len ≤ 2 ^ 18 }
-    ensures behind { let w = grain_for cut.old.stock in IsTrue (not result) →
-        total (step_writes (anew_steps w.sector spare (gate_unit (gate_size w.unit) first))) + cut.new.rest ≡ cut.old.rest }
-    ensures past { IsTrue (not result) → cut.old.rest ≤ cut.new.rest + 2 ^ 18 }
-{
-    cut.front = gate_front(first);
-    write_piece(
-        u64::from(spare),
-        Source::Unit,
-        0,
-        gate_size(cut.stock.unit),
-        cut,
-    )
-}
-
-// Whether the next piece is one of what a commit writes.
-fn commit_piece(spare: u32, generation: u8, register: u32, cut: &mut Cut<'_>) -> bool
-    requires held { length cut.old.stock.held.now ≤ 256 }
-    ensures found { IsTrue result →
-        IsPiece (steps_for (Job.Commit spare generation register) cut.old.stock) cut.old.rest (step_of cut.new) }
-    ensures same { cut.new.stock ≡ cut.old.stock }
-    ensures is { IsTrue result → IsCut cut.old.stock.sector.size cut.new }
-    ensures end { IsTrue result → cut.old.rest + cut.new.piece.len ≤ 2 ^ 21 }
-    ensures none { IsTrue (not result) →
-        total (step_writes (steps_for (Job.Commit spare generation register) cut.old.stock)) ≤ cut.old.rest }
-{
-    let size = cut.stock.held.len() + fill_size(cut.stock.unit, cut.stock.held.len());
-    let at = held_place(spare, &cut.stock);
-    if write_piece(at, Source::Held, 0, size, cut) {
-        return true;
-    }
-    if header_piece(spare, generation, cut.stock.put_end, register, cut) {
-        return true;
-    }
-    gate_piece(spare, OPEN_GATE, cut)
-}
-
-/// Whether the next piece is one of what closes the gate of the slot that begins there.
-pub(crate) fn close_piece(spare: u32, cut: &mut Cut<'_>) -> bool
-    ensures found { IsTrue result → IsPiece (close_step (grain_for cut.old.stock) spare ∷ []) cut.old.rest (step_of cut.new) }
-    ensures same { cut.new.stock ≡ cut.old.stock }
-    ensures is { IsTrue result → IsCut cut.old.stock.sector.size cut.new }
-    ensures end { IsTrue result → cut.old.rest + cut.new.piece.len ≤ 2 ^ 18 }
-    ensures behind { IsTrue (not result) →
-        total (step_writes (close_step (grain_for cut.old.stock) spare ∷ [])) + cut.new.rest ≡ cut.old.rest }
-    ensures past { IsTrue (not result) → cut.old.rest ≤ cut.new.rest + 2 ^ 18 }
-{
-    let sector = cut.stock.sector.size() as usize;
-    if sector == 0 {
-        return gate_piece(spare, CLOSED_GATE, cut);
-    }
-    if cut.rest < sector {
-        let at = u64::from(spare) + cut.rest as u64;
-        find_erase(at, sector - cut.rest, cut);
-        return true;
-    }
-    cut.rest -= sector;
     false
+}
+
+// Whether the next piece is one of what closes the gate of the slot that begins there, if that is to be closed.
+fn shut_piece(spare: u32, close: bool, cut: &mut Cut<'_>) -> bool
+    ensures found { IsTrue result →
+        IsPiece (if close then close_step (grain_for cut.old.stock) spare ∷ [] else []) cut.old.rest (step_of cut.new) }
+    ensures same { cut.new.stock ≡ cut.old.stock }
+    ensures is { IsTrue result → IsCut cut.old.stock.sector.size cut.new }
+    ensures end { IsTrue result → cut.old.rest + cut.new.piece.len ≤ 2 ^ 20 }
+    ensures behind { IsTrue (not result) →
+        total (step_writes (if close then close_step (grain_for cut.old.stock) spare ∷ [] else [])) + cut.new.rest ≡ cut.old.rest }
+    ensures past { IsTrue (not result) → cut.old.rest ≤ cut.new.rest + 2 ^ 20 }
+{
+    close && sequence_piece(Sequence::Close { slot: spare }, cut)
 }
 
 // Whether the next piece is one of what a block writes.
@@ -209,14 +160,37 @@ fn block_piece(spare: u32, close: bool, cut: &mut Cut<'_>) -> bool
     ensures end { IsTrue result → cut.old.rest + cut.new.piece.len ≤ 2 ^ 21 }
     ensures none { IsTrue (not result) → total (step_writes (steps_for (Job.Block spare close) cut.old.stock)) ≤ cut.old.rest }
 {
-    let at = held_place(spare, &cut.stock);
-    if !close {
-        return put_piece(at, cut);
-    }
-    if close_piece(spare, cut) {
+    if shut_piece(spare, close, cut) {
         return true;
     }
-    put_piece(at, cut)
+    let sequence = Sequence::Put {
+        slot: spare,
+        end: cut.stock.put_end,
+        held: cut.stock.held.len() as u16,
+        block: cut.stock.block.len() as u16,
+    };
+    sequence_piece(sequence, cut)
+}
+
+// Whether the next piece is one of what a commit writes.
+fn commit_piece(spare: u32, generation: u8, register: u32, cut: &mut Cut<'_>) -> bool
+    requires held { length cut.old.stock.held.now ≤ 256 }
+    ensures found { IsTrue result →
+        IsPiece (steps_for (Job.Commit spare generation register) cut.old.stock) cut.old.rest (step_of cut.new) }
+    ensures same { cut.new.stock ≡ cut.old.stock }
+    ensures is { IsTrue result → IsCut cut.old.stock.sector.size cut.new }
+    ensures end { IsTrue result → cut.old.rest + cut.new.piece.len ≤ 2 ^ 21 }
+    ensures none { IsTrue (not result) →
+        total (step_writes (steps_for (Job.Commit spare generation register) cut.old.stock)) ≤ cut.old.rest }
+{
+    let end = cut.stock.put_end;
+    cut.front = make_header(VERSION, generation, end, register);
+    let sequence = Sequence::Commit {
+        slot: spare,
+        end,
+        held: cut.stock.held.len() as u16,
+    };
+    sequence_piece(sequence, cut)
 }
 
 /// Whether a piece of the writes of a job is left. Then the next one is found.

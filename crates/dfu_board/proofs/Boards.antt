@@ -16,7 +16,8 @@ use Rattle.dfu_board.specs.Happens.{start_stage, IsOn, IsRun}
 use Rattle.dfu_board.specs.Keeps.{taken_by, IsClosed, HasKept, RunKeeps, is_manifesting, RunStays, has_manifested, RunInstalls}
 use Rattle.dfu_board.specs.Refines.{StandsFor, IdleRefines, RunRefines}
 use Rattle.dfu_board.proofs.Cut.{WriteLaws, cut_off}
-use Rattle.dfu_board.proofs.Closing.{Waits, waits_taken}
+use Rattle.dfu_board.specs.Accepts.{IsPending}
+use Rattle.dfu_board.proofs.Closing.{waits_taken}
 use Rattle.dfu_board.proofs.Installs.{over_waits}
 use Rattle.dfu_board.proofs.Due.{fails_lead}
 use Rattle.dfu_board.proofs.Powers.{on_idle, start_takes, none_waits}
@@ -32,7 +33,7 @@ OneImage = (s : SlotsState) (image : List ℕ) → Active s.medium image → ima
 -- The flash of a board has an active image: its device's, or while writes are due the bytes that wait.
 record HasImageOf (b : Board) (due : Option Cause) (d : Shown) : Type 0 where
   has : HasImage (medium_on b)
-  is : (image : List ℕ) → Active (medium_on b) image → (image ≡ image_of d.slots) ⊎ ((due ≡ None → ⊥) × Waits d.stage image)
+  is : (image : List ℕ) → Active (medium_on b) image → (image ≡ image_of d.slots) ⊎ ((due ≡ None → ⊥) × IsPending d.stage image)
 
 some_due : (cause : Cause) → ◌≡◌ {A = Option Cause} (Some cause) None → ⊥
 some_due cause e = absurd (cc)
@@ -53,7 +54,7 @@ module _ (laws : WriteLaws) (only : OneImage) where
             ∙ sym (ap (λ (s : SlotsState). image_of s) c.slots) in
             elim (due.image) [
               | inl old ↦ inl (e ∙ old)
-              | inr new ↦ inr (some_due cause, subst (λ (t : List ℕ). Waits d.stage t) (sym e) new)
+              | inr new ↦ inr (some_due cause, subst (λ (t : List ℕ). IsPending d.stage t) (sym e) new)
             ];
       }
 
@@ -65,13 +66,13 @@ start_plain true = refl
 start_plain false = refl
 
 -- An image waits in these states alone.
-waits_manifest : (st : Stage) (t : List ℕ) → Waits st t → is_manifesting (state_of st) ≡ true
+waits_manifest : (st : Stage) (t : List ℕ) → IsPending st t → is_manifesting (state_of st) ≡ true
 waits_manifest (InManifestSync taken) t m = refl
 waits_manifest (InManifest taken passed) t m = refl
 waits_manifest st t m = absurd m
 
 -- Nothing waits in a state in which no image does.
-none_manifests : (st : Stage) (t : List ℕ) → is_manifesting (state_of st) ≡ false → Waits st t → ⊥
+none_manifests : (st : Stage) (t : List ℕ) → is_manifesting (state_of st) ≡ false → IsPending st t → ⊥
 none_manifests (InManifestSync taken) t off m = absurd (cc)
 none_manifests (InManifest taken passed) t off m = absurd (cc)
 none_manifests st t off m = m

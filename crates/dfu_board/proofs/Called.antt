@@ -1,14 +1,15 @@
--- The calls `handle`, `elapse` and `usb_reset` of a board with nothing due.
+-- The calls `handle`, `elapse`, `usb_reset`, `refuse_close` and `refuse` of a board with nothing due.
 use Rattle.std.specs.Prelude.{◌≡◌, ◌⊎◌, ℕ, ◌+◌, true, List, [], ◌++◌, length, Option, Some, None}
 use Rattle.std.proofs.Common.{inl, inr, refl, sym, ap, ◌∙◌, subst}
 use Rattle.std.proofs.lemmas.List.{append-nil}
 use Rattle.dfu_slots.specs.Seen.{image_of}
 use Rattle.dfu_slots.proofs.Torn.{keeps_same}
 use Rattle.dfu_device.specs.declared.answer.Answer.{Answer}
+use Rattle.dfu_device.specs.declared.objection.Objection.{Objection}
 use Rattle.dfu_device.specs.declared.answer.Answer.TheVariants as answer
 use Rattle.dfu_device.specs.Stage.{state_of}
 use Rattle.dfu_device.specs.Shown.{Shown, situation}
-use Rattle.dfu_device.specs.Rows.{Cause, Transfer, Passing, BusReset, Row}
+use Rattle.dfu_device.specs.Rows.{Cause, Transfer, Passing, BusReset, RefusingClose, Refusing, Row}
 use Rattle.dfu_device.specs.History.{IsHistory}
 use Rattle.dfu_device.specs.History.{Step as TableRow}
 use Rattle.dfu_device.specs.Taken.{taken_of, held_in, acknowledged, is_dnload}
@@ -17,11 +18,12 @@ use Rattle.dfu_asks.specs.declared.reply.Reply.{Reply}
 use Rattle.dfu_asks.specs.Due.{IsDueRow}
 use Rattle.dfu_asks.specs.Asks.{store_in}
 use Rattle.dfu_asks.specs.Calls.{Called, called_ended, called_asks}
-use Rattle.dfu_board.specs.Board.{Board, lent_on, device_on, Event, Handle, Elapse, UsbReset, Says, Answers}
-use Rattle.dfu_board.specs.Happens.{said_by, IsServedBy, IsReset}
+use Rattle.dfu_board.specs.Board.{Board, lent_on, device_on, Event, Handle, Elapse, UsbReset, RefuseClose, Refuse, Says, Answers}
+use Rattle.dfu_board.specs.Happens.{said_by, IsServedBy, IsReset, IsObjected}
 use Rattle.dfu_board.specs.Keeps.{block_in}
 use Rattle.dfu_board.specs.Refines.{TellsCall, Tells, IsIdle, StandsFor}
-use Rattle.dfu_board.proofs.Closing.{Waits, row_leads}
+use Rattle.dfu_board.specs.Accepts.{IsPending}
+use Rattle.dfu_board.proofs.Closing.{row_leads}
 use Rattle.dfu_board.proofs.Installs.{Manifests, IsOver, never_both, row_puts}
 use Rattle.dfu_board.proofs.Turns.{stage_holds, Turned, idle_there, row_there, said_there, one_row, tells_answer}
 
@@ -39,9 +41,9 @@ pub record CallTurned (b' : Board) (due : Option Cause) (d : Shown) (cause : Cau
   pub tells : TellsCall cause due says rows due'
   pub stands : StandsFor b' due' device
   pub taken : taken_of (situation device) ≡ held_in (state_of device.stage) (taken_of (situation d) ++ block_by cause says)
-  pub waits : (t : List ℕ) → Waits device.stage t → Waits d.stage t ⊎ (((setup : List ℕ) × (cause ≡ Transfer setup [])
+  pub waits : (t : List ℕ) → IsPending device.stage t → IsPending d.stage t ⊎ (((setup : List ℕ) × (cause ≡ Transfer setup [])
       × (is_dnload setup ≡ true) × (says ≡ Answers answer.Ack [])) × (t ≡ taken_of (situation d)))
-  pub image : (image_of device.slots ≡ image_of d.slots) ⊎ Waits d.stage (image_of device.slots)
+  pub image : (image_of device.slots ≡ image_of d.slots) ⊎ IsPending d.stage (image_of device.slots)
   pub puts : Manifests d.stage → IsOver device.stage → image_of device.slots ≡ taken_of (situation d)
 
 module _ (takes : RowTakes) where
@@ -113,6 +115,14 @@ module _ (takes : RowTakes) where
       (subst (λ (z : Shown). Row z BusReset answer.Ack [] (device_on b')) k.device (refl, refl, h.row))
       (record { work = h.work; is = (h.is (record { fits = h.fits; is = k.is })).is; device = refl }) h.says_is
 
+  -- `refuse_close` and `refuse`.
+  pub objected : (b b' : Board) (d : Shown) (cause : Cause) (a : Answer) (says : Says) → IsIdle b d → IsObjected b cause a says b'
+      → CallTurned b' None d cause says
+  objected b b' d cause a says k h =
+      let both = h.row k.is in
+      row_turn b' d cause says a [] (subst (λ (z : Shown). Row z cause a [] (device_on b')) k.device both.1)
+      (record { work = h.work; is = both.0; device = refl }) h.says_is
+
 -- A call as the event that it is: it takes the same block, and closes a download as that event does.
 pub of_call : (b' : Board) (due : Option Cause) (d : Shown) (e : Event) (cause : Cause) (says : Says)
     → ((rows : List TableRow) (due' : Option Cause) → TellsCall cause due says rows due' → Tells due e says rows due')
@@ -136,7 +146,7 @@ of_call b' due d e cause says tells block closes c = record {
   puts = λ other on over. c.puts on over;
 }
 
--- `handle`, `elapse` and `usb_reset` as events.
+-- Each of them as an event.
 pub of_handle : (b' : Board) (d : Shown) (setup body : List ℕ) (says : Says) → CallTurned b' None d (Transfer setup body) says
     → Turned b' None d (Handle setup body) says
 of_handle b' d setup body says c =
@@ -168,3 +178,26 @@ of_reset b' d says c = of_call b' None d UsbReset BusReset says (λ rows due' t.
 
     other : (setup : List ℕ) → BusReset ≡ Transfer setup [] → UsbReset ≡ Handle setup []
     other setup e = absurd (cc)
+
+pub of_refuse_close : (b' : Board) (d : Shown) (setup : List ℕ) (why : Objection) (says : Says)
+    → CallTurned b' None d (RefusingClose setup why) says → Turned b' None d (RefuseClose setup why) says
+of_refuse_close b' d setup why says c =
+    of_call b' None d (RefuseClose setup why) (RefusingClose setup why) says (λ rows due' t. t) (no_block says) other c
+  where
+    no_block : (says : Says) → block_by (RefusingClose setup why) says ≡ []
+    no_block (Answers a out) = refl
+    no_block says = refl
+
+    other : (own : List ℕ) → RefusingClose setup why ≡ Transfer own [] → RefuseClose setup why ≡ Handle own []
+    other own e = absurd (cc)
+
+pub of_refuse : (b' : Board) (d : Shown) (why : Objection) (says : Says) → CallTurned b' None d (Refusing why) says
+    → Turned b' None d (Refuse why) says
+of_refuse b' d why says c = of_call b' None d (Refuse why) (Refusing why) says (λ rows due' t. t) (no_block says) other c
+  where
+    no_block : (says : Says) → block_by (Refusing why) says ≡ []
+    no_block (Answers a out) = refl
+    no_block says = refl
+
+    other : (own : List ℕ) → Refusing why ≡ Transfer own [] → Refuse why ≡ Handle own []
+    other own e = absurd (cc)

@@ -8,22 +8,28 @@ use Rattle.dfu_wire.specs.Setup.{IsSetup}
 use Rattle.dfu_wire.specs.Request.{Asks}
 use Rattle.dfu_slots.specs.Seen.{SlotsState, store_on, image_of}
 use Rattle.dfu_device.specs.declared.answer.Answer.{Answer}
+use Rattle.dfu_device.specs.declared.objection.Objection.{Objection}
 use Rattle.dfu_device.specs.declared.answer.Answer.TheVariants as answer
-use Rattle.dfu_device.specs.Stage.{Request, Dnload, Upload, GetStatus, GetState, OtherRequest, Reply, Ack, Profile, Stage, InAppDetach, InDfuIdle, InDownloadSync, InDownloadBusy, InDownloadIdle, InManifestSync, InManifestSyncComplete, InManifest, InManifestWaitReset, InUploadIdle}
-use Rattle.dfu_device.specs.Table.{Plan, Sure, Writes, Commits, is_empty, block_plan, further_plan, upload_plan, plan, time_plan, reset_stage}
+use Rattle.dfu_device.specs.Stage.{Request, Dnload, Upload, GetStatus, GetState, OtherRequest, Reply, Ack, Profile, Stage, InAppDetach, InDfuIdle, InDownloadSync, InDownloadBusy, InDownloadIdle, InManifestSync, InManifestSyncComplete, InManifest, InManifestWaitReset, InUploadIdle, InError}
+use Rattle.dfu_device.specs.Table.{Plan, Sure, Writes, Commits, is_empty, block_plan, further_plan, upload_plan, plan, time_plan, reset_stage, refuse_stage, commit_code}
 use Rattle.dfu_device.specs.Shown.{Shown, profile, situation}
-use Rattle.dfu_device.specs.Rows.{meant, asked_length, Answers, Done, is_served, setup_plan, handled_as, Cause, Transfer, Passing, BusReset, PowerOn, Row}
+use Rattle.dfu_device.specs.Rows.{meant, asked_length, Answers, Done, is_served, setup_plan, handled_as, Cause, Transfer, Passing, BusReset, RefusingClose, Refusing, PowerOn, Row}
 use Rattle.dfu_device.specs.Taken.{taken_in, taken_of, is_dnload}
 use Rattle.dfu_device.specs.Cases.{either_way}
+use Rattle.dfu_slots.specs.declared.fault.WriteFault.{WriteFault}
+use Rattle.dfu_slots.specs.declared.fault.WriteFault.TheVariants.{Failed, NotVerified}
+use Rattle.dfu_board.specs.Accepts.{IsPending, IsGivenUp}
 
--- These bytes wait to be put in place in a stage.
-abbrev pub Waits : Stage → List ℕ → Type 0
-Waits (InManifestSync taken) t = taken ≡ t
-Waits (InManifest taken passed) t = taken ≡ t
-Waits st t = ⊥
+-- An image is in place in a stage, or broke off as it was put there: none waits in it, and none is given up.
+abbrev pub IsPlaced : Stage → Type 0
+IsPlaced st = ((t : List ℕ) → IsPending st t → ⊥) × (IsGivenUp st → ⊥)
+
+commit_placed : (fault : WriteFault) → IsPlaced (InError (commit_code fault))
+commit_placed Failed = (λ t m. m, λ g. g)
+commit_placed NotVerified = (λ t m. m, λ g. g)
 
 -- They are the bytes taken.
-pub waits_taken : (image : List ℕ) (st : Stage) (t : List ℕ) → Waits st t → taken_in image st ≡ t
+pub waits_taken : (image : List ℕ) (st : Stage) (t : List ℕ) → IsPending st t → taken_in image st ≡ t
 waits_taken image (InManifestSync taken) t m = m
 waits_taken image (InManifest taken passed) t m = m
 waits_taken image st t m = absurd m
@@ -36,9 +42,9 @@ ClosesBy r reply = (reply ≡ Ack) × (number : ℕ) × (r ≡ Dnload number [])
 
 -- What begins to wait did so before, or the request closed the download that it is; what is committed waited.
 abbrev Closes : List ℕ → Stage → Request → Plan → Type 0
-Closes image st r (Sure reply next) = (t : List ℕ) → Waits next t → Waits st t ⊎ (ClosesBy r reply × (t ≡ taken_in image st))
-Closes image st r (Writes before block reply next bad) = (t : List ℕ) → Waits next t → ⊥
-Closes image st r (Commits taken reply next bad) = Waits st taken × ((t : List ℕ) → Waits next t → ⊥)
+Closes image st r (Sure reply next) = (t : List ℕ) → IsPending next t → IsPending st t ⊎ (ClosesBy r reply × (t ≡ taken_in image st))
+Closes image st r (Writes before block reply next bad) = (t : List ℕ) → IsPending next t → ⊥
+Closes image st r (Commits taken reply next bad) = IsPending st taken × IsPlaced next
 
 block_closes : (c : Profile) (image : List ℕ) (st : Stage) (before : List ℕ) (expected number : ℕ) (body : List ℕ)
     → Closes image st (Dnload number body) (block_plan c before expected number body)
@@ -77,7 +83,7 @@ row_closes c image (InDownloadSync before block number) GetStatus =
     either_way (Closes image (InDownloadSync before block number) GetStatus) (c.busy == 0) _ _ (λ t m. absurd m) (λ t m. absurd m)
 row_closes c image (InDownloadIdle taken number) (Dnload k body) = further_closes c image taken number k body
 row_closes c image (InManifestSync taken) GetStatus =
-    either_way (Closes image (InManifestSync taken) GetStatus) (c.manifest == 0) _ _ (refl, λ t m. absurd m) (λ t m. inl m)
+    either_way (Closes image (InManifestSync taken) GetStatus) (c.manifest == 0) _ _ (refl, (λ t m. m, λ g. g)) (λ t m. inl m)
 row_closes c image (InManifestSync taken) GetState = λ t m. inl m
 row_closes c image (InUploadIdle place number) (Upload k size) = upload_closes c image (InUploadIdle place number) place number k size
 row_closes c image st GetState = λ t m. absurd m
@@ -99,7 +105,7 @@ time_closes c image (InManifest taken passed) ms =
     either_way P (ms == 0) _ _ (λ t m. inl m)
     (either_way P (nat_le c.manifest (passed + ms)) _ _
     (either_way (λ (next : Stage). P (Commits taken Ack next (λ fault. Ack))) c.tolerant InManifestSyncComplete InManifestWaitReset
-    (refl, λ t m. absurd m) (refl, λ t m. absurd m))
+    (refl, (λ t m. m, λ g. g)) (refl, (λ t m. m, λ g. g)))
     (λ t m. inl m))
 time_closes c image (InManifestSync taken) ms = λ t m. inl m
 time_closes c image st ms = λ t m. absurd m
@@ -113,8 +119,9 @@ IsClosing cause a out =
 
 -- What waits after a row waited before, or was closed by it; and the image is the one before, or what waited.
 pub record Leads (w : Shown) (cause : Cause) (a : Answer) (out : List ℕ) (w' : Shown) : Type 0 where
-  pub waits : (t : List ℕ) → Waits w'.stage t → Waits w.stage t ⊎ (IsClosing cause a out × (t ≡ taken_of (situation w)))
-  pub image : (image_of w'.slots ≡ image_of w.slots) ⊎ Waits w.stage (image_of w'.slots)
+  pub waits : (t : List ℕ) → IsPending w'.stage t → IsPending w.stage t ⊎ (IsClosing cause a out × (t ≡ taken_of (situation w)))
+  pub image : (image_of w'.slots ≡ image_of w.slots) ⊎ IsPending w.stage (image_of w'.slots)
+  pub placed : (image_of w'.slots ≡ image_of w.slots) ⊎ IsPlaced w'.stage
 
 -- A request that means a DNLOAD of no bytes is one, with no body.
 empty_dnload : (q : Asked) (body : List ℕ) (number : ℕ) → meant q body ≡ Dnload number []
@@ -143,30 +150,35 @@ done_leads : (p : Plan) (r : Request) (cause : Cause) (len : ℕ) (w : Shown) (a
     → Closes (image_of w.slots) w.stage r p → Done p len w a out w'
     → ((number : ℕ) → r ≡ Dnload number [] → (a ≡ answer.Ack) × (out ≡ []) → IsClosing cause a out) → Leads w cause a out w'
 done_leads (Sure reply stage) r cause len w a out w' closes (says, is) by = record {
-  waits = λ t m. elim (closes t (subst (λ (x : Shown). Waits x.stage t) is m)) [
+  waits = λ t m. elim (closes t (subst (λ (x : Shown). IsPending x.stage t) is m)) [
     | inl before ↦ inl before
     | inr closed ↦ inr (by closed.0.1 closed.0.2 (reply_acks len reply a out closed.0.0 says), closed.1)
   ];
   image = inl (ap (λ (x : Shown). image_of x.slots) is);
+  placed = inl (ap (λ (x : Shown). image_of x.slots) is);
 }
 done_leads (Writes before block reply stage bad) r cause len w a out w' closes (inl (says, h)) by = record {
-  waits = λ t m. absurd (closes t (subst (λ (x : Stage). Waits x t) h.stage_is m));
+  waits = λ t m. absurd (closes t (subst (λ (x : Stage). IsPending x t) h.stage_is m));
   image = inl h.image;
+  placed = inl h.image;
 }
 done_leads (Writes before block reply stage bad) r cause len w a out w' closes (inr (fault, says, h)) by = record {
-  waits = λ t m. absurd (subst (λ (x : Stage). Waits x t) h.stage_is m);
+  waits = λ t m. absurd (subst (λ (x : Stage). IsPending x t) h.stage_is m);
   image = inl h.image;
+  placed = inl h.image;
 }
 done_leads (Commits taken reply stage bad) r cause len w a out w' closes (inl (says, h)) by = record {
-  waits = λ t m. absurd (closes.1 t (subst (λ (x : Stage). Waits x t) h.stage_is m));
-  image = inr (subst (λ (t : List ℕ). Waits w.stage t) (sym h.image) closes.0);
+  waits = λ t m. absurd (closes.1.0 t (subst (λ (x : Stage). IsPending x t) h.stage_is m));
+  image = inr (subst (λ (t : List ℕ). IsPending w.stage t) (sym h.image) closes.0);
+  placed = inr (subst IsPlaced (sym h.stage_is) closes.1);
 }
 done_leads (Commits taken reply stage bad) r cause len w a out w' closes (inr (fault, says, h)) by = record {
-  waits = λ t m. absurd (subst (λ (x : Stage). Waits x t) h.stage_is m);
+  waits = λ t m. absurd (subst (λ (x : Stage). IsPending x t) h.stage_is m);
   image = elim (h.image) [
     | inl old ↦ inl old
-    | inr new ↦ inr (subst (λ (t : List ℕ). Waits w.stage t) (sym new) closes.0)
+    | inr new ↦ inr (subst (λ (t : List ℕ). IsPending w.stage t) (sym new) closes.0)
   ];
+  placed = inr (subst IsPlaced (sym h.stage_is) (commit_placed fault));
 }
 
 setup_closes : (w : Shown) (p : Setup) (q : Asked) (body : List ℕ)
@@ -174,9 +186,14 @@ setup_closes : (w : Shown) (p : Setup) (q : Asked) (body : List ℕ)
 setup_closes w p q body = either_way (Closes (image_of w.slots) w.stage (meant q body)) (is_served p q body) _ _
     (row_closes (profile w) (image_of w.slots) w.stage (meant q body)) (λ t m. inl m)
 
-no_reset_waits : (st : Stage) (t : List ℕ) → Waits (reset_stage st) t → ⊥
+no_reset_waits : (st : Stage) (t : List ℕ) → IsPending (reset_stage st) t → ⊥
 no_reset_waits (InAppDetach timer passed) t m = m
 no_reset_waits st t m = m
+
+refusal_waits : (why : Objection) (st : Stage) (t : List ℕ) → IsPending (refuse_stage why st) t → IsPending st t
+refusal_waits why (InManifestSync taken) t m = absurd m
+refusal_waits why (InManifest taken passed) t m = absurd m
+refusal_waits why st t m = m
 
 -- The image does not change as a store is opened again.
 pub same_image : (s : SlotsState) → image_of (store_on s.medium) ≡ image_of s
@@ -201,10 +218,22 @@ row_leads w (Passing ms) a out w' (is, none, row) =
     (done_leads (time_plan (profile w) w.stage ms) OtherRequest (Passing ms) 0 w answer.Ack [] w'
     (time_closes (profile w) (image_of w.slots) w.stage ms) row (λ number e acks. absurd (cc))))
 row_leads w BusReset a out w' (is, none, same) = record {
-  waits = λ t m. absurd (no_reset_waits w.stage t (subst (λ (x : Shown). Waits x.stage t) same m));
+  waits = λ t m. absurd (no_reset_waits w.stage t (subst (λ (x : Shown). IsPending x.stage t) same m));
   image = inl (ap (λ (x : Shown). image_of x.slots) same);
+  placed = inl (ap (λ (x : Shown). image_of x.slots) same);
+}
+row_leads w (RefusingClose setup why) a out w' (is, none, closes, same) = record {
+  waits = λ t m. absurd (subst (λ (x : Shown). IsPending x.stage t) same m);
+  image = inl (ap (λ (x : Shown). image_of x.slots) same);
+  placed = inl (ap (λ (x : Shown). image_of x.slots) same);
+}
+row_leads w (Refusing why) a out w' (is, none, same) = record {
+  waits = λ t m. inl (refusal_waits why w.stage t (subst (λ (x : Shown). IsPending x.stage t) same m));
+  image = inl (ap (λ (x : Shown). image_of x.slots) same);
+  placed = inl (ap (λ (x : Shown). image_of x.slots) same);
 }
 row_leads w PowerOn a out w' (is, none, same) = record {
-  waits = λ t m. absurd (subst (λ (x : Shown). Waits x.stage t) same m);
+  waits = λ t m. absurd (subst (λ (x : Shown). IsPending x.stage t) same m);
   image = inl (ap (λ (x : Shown). image_of x.slots) same ∙ same_image w.slots);
+  placed = inl (ap (λ (x : Shown). image_of x.slots) same ∙ same_image w.slots);
 }

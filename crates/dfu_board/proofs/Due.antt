@@ -11,27 +11,27 @@ use Rattle.dfu_device.specs.Shown.{Shown, profile, situation}
 use Rattle.dfu_device.specs.Rows.{Committed}
 use Rattle.dfu_device.specs.Taken.{taken_in, taken_of, held_in}
 use Rattle.dfu_asks.specs.Due.{due_plan, WorksOut, FailsOut, Works, Fails}
-use Rattle.dfu_board.proofs.Closing.{Waits}
+use Rattle.dfu_board.specs.Accepts.{IsPending}
 use Rattle.dfu_board.proofs.Installs.{IsOver}
 
 -- After it the bytes taken are those before, or none if no download is under way; nothing waits; the image is the one before, or what
 -- waited; and if manifestation is over it is what was taken.
 pub record DueLeads (d d' : Shown) : Type 0 where
   pub taken : taken_of (situation d') ≡ held_in (state_of d'.stage) (taken_of (situation d))
-  pub waits : (t : List ℕ) → Waits d'.stage t → ⊥
-  pub image : (image_of d'.slots ≡ image_of d.slots) ⊎ Waits d.stage (image_of d'.slots)
+  pub waits : (t : List ℕ) → IsPending d'.stage t → ⊥
+  pub image : (image_of d'.slots ≡ image_of d.slots) ⊎ IsPending d.stage (image_of d'.slots)
   pub puts : IsOver d'.stage → image_of d'.slots ≡ taken_of (situation d)
 
 -- The device entered this stage, of which that is true.
 abbrev EndsIn : Shown → Shown → Stage → Type 0
-EndsIn d d' st = (taken_in (image_of d'.slots) st ≡ held_in (state_of st) (taken_of (situation d))) × ((t : List ℕ) → Waits st t → ⊥)
+EndsIn d d' st = (taken_in (image_of d'.slots) st ≡ held_in (state_of st) (taken_of (situation d))) × ((t : List ℕ) → IsPending st t → ⊥)
 
 ends_in : (d d' : Shown) (st : Stage) → d'.stage ≡ st → EndsIn d d' st
-    → (image_of d'.slots ≡ image_of d.slots) ⊎ Waits d.stage (image_of d'.slots)
+    → (image_of d'.slots ≡ image_of d.slots) ⊎ IsPending d.stage (image_of d'.slots)
     → (IsOver st → image_of d'.slots ≡ taken_of (situation d)) → DueLeads d d'
 ends_in d d' st is ends image puts = record {
   taken = subst (λ (x : Stage). taken_in (image_of d'.slots) x ≡ held_in (state_of x) (taken_of (situation d))) (sym is) ends.0;
-  waits = λ t m. ends.1 t (subst (λ (x : Stage). Waits x t) is m);
+  waits = λ t m. ends.1 t (subst (λ (x : Stage). IsPending x t) is m);
   image = image;
   puts = λ over. puts (subst IsOver is over);
 }
@@ -48,7 +48,7 @@ module _ (d d' : Shown) (len : ℕ) (a : Answer) (out : List ℕ) where
       (λ over. absurd (false≢true over))
   works_at (InManifestSync taken) is (says, h) =
       ends_in d d' InDfuIdle h.stage_is (refl, λ t m. m)
-      (inr (subst (λ (x : Stage). Waits x (image_of d'.slots)) (sym is) (sym h.image)))
+      (inr (subst (λ (x : Stage). IsPending x (image_of d'.slots)) (sym is) (sym h.image)))
       (λ over. h.image ∙ ap (λ (x : Stage). taken_in (image_of d.slots) x) (sym is))
   works_at (InManifest taken passed) is (says, h) = by_test (profile d).tolerant h
     where
@@ -56,11 +56,11 @@ module _ (d d' : Shown) (len : ℕ) (a : Answer) (out : List ℕ) where
       by_test true h =
           ends_in d d' InManifestSyncComplete h.stage_is
           (h.image ∙ ap (λ (x : Stage). taken_in (image_of d.slots) x) (sym is), λ t m. m)
-          (inr (subst (λ (x : Stage). Waits x (image_of d'.slots)) (sym is) (sym h.image)))
+          (inr (subst (λ (x : Stage). IsPending x (image_of d'.slots)) (sym is) (sym h.image)))
           (λ over. h.image ∙ ap (λ (x : Stage). taken_in (image_of d.slots) x) (sym is))
       by_test false h =
           ends_in d d' InManifestWaitReset h.stage_is (refl, λ t m. m)
-          (inr (subst (λ (x : Stage). Waits x (image_of d'.slots)) (sym is) (sym h.image)))
+          (inr (subst (λ (x : Stage). IsPending x (image_of d'.slots)) (sym is) (sym h.image)))
           (λ over. h.image ∙ ap (λ (x : Stage). taken_in (image_of d.slots) x) (sym is))
   works_at st is none = absurd none
 
@@ -78,12 +78,12 @@ module _ (d d' : Shown) (len : ℕ) (a : Answer) (out : List ℕ) where
   fails_at fault (InManifestSync taken) is (says, h) =
       ends_in d d' (InError (commit_code fault)) h.stage_is (refl, λ t m. m) (elim (h.image) [
         | inl old ↦ inl old
-        | inr new ↦ inr (subst (λ (x : Stage). Waits x (image_of d'.slots)) (sym is) (sym new))
+        | inr new ↦ inr (subst (λ (x : Stage). IsPending x (image_of d'.slots)) (sym is) (sym new))
       ]) (λ over. absurd (false≢true over))
   fails_at fault (InManifest taken passed) is (says, h) =
       ends_in d d' (InError (commit_code fault)) h.stage_is (refl, λ t m. m) (elim (h.image) [
         | inl old ↦ inl old
-        | inr new ↦ inr (subst (λ (x : Stage). Waits x (image_of d'.slots)) (sym is) (sym new))
+        | inr new ↦ inr (subst (λ (x : Stage). IsPending x (image_of d'.slots)) (sym is) (sym new))
       ]) (λ over. absurd (false≢true over))
   fails_at fault st is none = absurd none
 

@@ -6,15 +6,16 @@ use Rattle.dfu_wire.specs.declared.setups.Setup.{Setup}
 use Rattle.dfu_wire.specs.declared.requests.Request.{Request as Asked}
 use Rattle.dfu_slots.specs.Seen.{image_of}
 use Rattle.dfu_device.specs.declared.answer.Answer.{Answer}
+use Rattle.dfu_device.specs.declared.objection.Objection.{Objection}
 use Rattle.dfu_device.specs.declared.answer.Answer.TheVariants as answer
 use Rattle.dfu_device.specs.Stage.{Request, GetStatus, GetState, Ack, Profile, Stage, InAppDetach, InManifestSync, InManifestSyncComplete, InManifest, InManifestWaitReset, state_of}
-use Rattle.dfu_device.specs.Table.{Plan, Sure, Writes, Commits, plan, time_plan, reset_stage}
+use Rattle.dfu_device.specs.Table.{Plan, Sure, Writes, Commits, plan, time_plan, reset_stage, refuse_stage}
 use Rattle.dfu_device.specs.Shown.{Shown, profile, situation}
-use Rattle.dfu_device.specs.Rows.{meant, asked_length, Done, is_served, setup_plan, handled_as, Cause, Transfer, Passing, BusReset, PowerOn, Row}
+use Rattle.dfu_device.specs.Rows.{meant, asked_length, Done, is_served, setup_plan, handled_as, Cause, Transfer, Passing, BusReset, RefusingClose, Refusing, PowerOn, Row}
 use Rattle.dfu_device.specs.Taken.{taken_in, taken_of}
 use Rattle.dfu_device.specs.Cases.{either_way}
 use Rattle.dfu_board.specs.Keeps.{is_manifesting, has_manifested}
-use Rattle.dfu_board.proofs.Closing.{Waits}
+use Rattle.dfu_board.specs.Accepts.{IsPending}
 
 -- An image may wait in this stage, or be in place.
 abbrev pub Manifests : Stage → Type 0
@@ -32,7 +33,7 @@ never_both (InManifest taken passed) on over = false≢true over
 never_both st on over = false≢true on
 
 -- Nothing waits where it is over.
-pub over_waits : (st : Stage) (t : List ℕ) → IsOver st → Waits st t → ⊥
+pub over_waits : (st : Stage) (t : List ℕ) → IsOver st → IsPending st t → ⊥
 over_waits (InManifestSync taken) t over m = false≢true over
 over_waits (InManifest taken passed) t over m = false≢true over
 over_waits st t over m = m
@@ -86,6 +87,12 @@ no_reset_over : (st : Stage) → Manifests st → IsOver (reset_stage st) → �
 no_reset_over (InAppDetach timer passed) on over = false≢true on
 no_reset_over st on over = false≢true over
 
+no_refusal_over : (why : Objection) (st : Stage) → Manifests st → IsOver (refuse_stage why st) → ⊥
+no_refusal_over why (InManifestSync taken) on over = false≢true over
+no_refusal_over why InManifestSyncComplete on over = false≢true over
+no_refusal_over why (InManifest taken passed) on over = false≢true over
+no_refusal_over why st on over = false≢true on
+
 -- A row that leads out of manifestation without a fault has put in place what was taken.
 pub row_puts : (w : Shown) (cause : Cause) (a : Answer) (out : List ℕ) (w' : Shown) → Row w cause a out w' → Manifests w.stage
     → IsOver w'.stage → image_of w'.slots ≡ taken_of (situation w)
@@ -96,4 +103,8 @@ row_puts w (Passing ms) a out w' (is, none, row) on over =
     (time_installs (profile w) (image_of w.slots) w.stage ms on) row over
 row_puts w BusReset a out w' (is, none, same) on over =
     absurd (no_reset_over w.stage on (subst (λ (x : Shown). IsOver x.stage) same over))
+row_puts w (RefusingClose setup why) a out w' (is, none, closes, same) on over =
+    absurd (false≢true (subst (λ (x : Shown). IsOver x.stage) same over))
+row_puts w (Refusing why) a out w' (is, none, same) on over =
+    absurd (no_refusal_over why w.stage on (subst (λ (x : Shown). IsOver x.stage) same over))
 row_puts w PowerOn a out w' (is, none, same) on over = absurd (false≢true (subst (λ (x : Shown). IsOver x.stage) same over))

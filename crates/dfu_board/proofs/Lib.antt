@@ -4,6 +4,7 @@ mod Within
 mod Cut
 mod Closing
 mod Installs
+mod Objected
 mod Due
 mod Turns
 mod Called
@@ -12,4 +13,5 @@ mod Powers
 mod Each
 mod Runs
 mod Boards
+mod Accepts
 mod Served

@@ -21,7 +21,8 @@ use Rattle.dfu_board.specs.Board.{Board, medium_on, device_on, Restart, Says}
 use Rattle.dfu_board.specs.Happens.{start_stage, IsOn, Starts}
 use Rattle.dfu_board.specs.Refines.{IsStart, IsAtWork, IsIdle}
 use Rattle.dfu_board.proofs.Cut.{WriteLaws, cut_off}
-use Rattle.dfu_board.proofs.Closing.{Waits, same_image}
+use Rattle.dfu_board.specs.Accepts.{IsPending}
+use Rattle.dfu_board.proofs.Closing.{same_image}
 use Rattle.dfu_board.proofs.Installs.{IsOver}
 use Rattle.dfu_board.proofs.Due.{fails_lead}
 use Rattle.dfu_board.proofs.Turns.{Turned, one_row}
@@ -126,7 +127,7 @@ start_drops : (begins : Bool) (image t : List ℕ) → taken_in image (start_sta
 start_drops true image t = refl
 start_drops false image t = refl
 
-start_waits : (begins : Bool) (t : List ℕ) → Waits (start_stage begins) t → ⊥
+start_waits : (begins : Bool) (t : List ℕ) → IsPending (start_stage begins) t → ⊥
 start_waits true t m = m
 start_waits false t m = m
 
@@ -135,8 +136,8 @@ start_over true other over = other refl
 start_over false other over = false≢true over
 
 -- Nothing waits in a board that just got power.
-pub none_waits : (b : Board) (t : List ℕ) → IsOn b → Waits (device_on b).stage t → ⊥
-none_waits b t on m = start_waits on.begins t (subst (λ (x : Shown). Waits x.stage t) on.device m)
+pub none_waits : (b : Board) (t : List ℕ) → IsOn b → IsPending (device_on b).stage t → ⊥
+none_waits b t on m = start_waits on.begins t (subst (λ (x : Shown). IsPending x.stage t) on.device m)
 
 -- Power leaves the image.
 image_left : (w w' : Shown) (begins : Bool) → w' ≡ started w begins → image_of w'.slots ≡ image_of w.slots
@@ -186,7 +187,7 @@ cuts laws b b' cause d begins says k same flash on =
           let left = image_left c.after (device_on b') begins there in
           elim (due.image) [
             | inl old ↦ inl (left ∙ old)
-            | inr new ↦ inr (subst (λ (t : List ℕ). Waits d.stage t) (sym left) new)
+            | inr new ↦ inr (subst (λ (t : List ℕ). IsPending d.stage t) (sym left) new)
           ];
       puts = λ other manifests over. absurd (start_over begins other (subst (λ (x : Shown). IsOver x.stage) there over));
     }

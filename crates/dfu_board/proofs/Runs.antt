@@ -18,7 +18,7 @@ use Rattle.dfu_board.specs.Happens.{IsRun}
 use Rattle.dfu_board.specs.Keeps.{block_in, taken_by, IsClosed}
 use Rattle.dfu_board.specs.Refines.{TellsAll, StandsFor}
 use Rattle.dfu_board.proofs.Cut.{WriteLaws}
-use Rattle.dfu_board.proofs.Closing.{Waits}
+use Rattle.dfu_board.specs.Accepts.{IsPending}
 use Rattle.dfu_board.proofs.Turns.{Turned}
 use Rattle.dfu_board.proofs.Each.{turn}
 
@@ -42,7 +42,7 @@ state_stands b (Some cause) d k = mode_state b.asking.mode [] [] _ _ ∙ ap (λ 
 -- of the image, or it is this one.
 pub record KeptAt (image : List ℕ) (old steps : List BoardStep) (d : Shown) : Type 0 where
   pub taken : taken_by [] (old ++ steps) ≡ taken_of (situation d)
-  pub waits : (t : List ℕ) → Waits d.stage t → IsClosed old steps t
+  pub waits : (t : List ℕ) → IsPending d.stage t → IsClosed old steps t
   pub whence : (image_of d.slots ≡ image) ⊎ IsClosed old steps (image_of d.slots)
 
 taken_append : (t : List ℕ) (xs ys : List BoardStep) → taken_by t (xs ++ ys) ≡ taken_by (taken_by t xs) ys

@@ -18,7 +18,7 @@ use Rattle.dfu_asks.specs.Calls.{HasEnded}
 use Rattle.dfu_board.specs.Board.{Board, lent_on, device_on, Event, Handle, Restart, Says, Answers}
 use Rattle.dfu_board.specs.Keeps.{block_in}
 use Rattle.dfu_board.specs.Refines.{TellsCall, Tells, IsIdle, StandsFor}
-use Rattle.dfu_board.proofs.Closing.{Waits}
+use Rattle.dfu_board.specs.Accepts.{IsPending}
 use Rattle.dfu_board.proofs.Installs.{Manifests, IsOver, never_both}
 
 -- The bytes at the front of a buffer.
@@ -59,8 +59,8 @@ pub record Turned (b' : Board) (due : Option Cause) (d : Shown) (e : Event) (say
   pub tells : Tells due e says rows due'
   pub stands : StandsFor b' due' device
   pub taken : taken_of (situation device) ≡ held_in (state_of device.stage) (taken_of (situation d) ++ block_in e says)
-  pub waits : (t : List ℕ) → Waits device.stage t → Waits d.stage t ⊎ (IsClosingCall e says × (t ≡ taken_of (situation d)))
-  pub image : (image_of device.slots ≡ image_of d.slots) ⊎ Waits d.stage (image_of device.slots)
+  pub waits : (t : List ℕ) → IsPending device.stage t → IsPending d.stage t ⊎ (IsClosingCall e says × (t ≡ taken_of (situation d)))
+  pub image : (image_of device.slots ≡ image_of d.slots) ⊎ IsPending d.stage (image_of device.slots)
   pub puts : e ≢ Restart true → Manifests d.stage → IsOver device.stage → image_of device.slots ≡ taken_of (situation d)
 
 -- A step with no row.

@@ -3,6 +3,7 @@ use Rattle.std.specs.Prelude.{ℕ, Bool, List, []}
 use Rattle.dfu_wire.specs.declared.states.State.{State}
 use Rattle.dfu_slots.specs.Medium.{MediumState}
 use Rattle.dfu_device.specs.declared.answer.Answer.{Answer}
+use Rattle.dfu_device.specs.declared.objection.Objection.{Objection}
 use Rattle.dfu_device.specs.Shown.{Shown}
 use Rattle.dfu_device.specs.Stage.{state_of}
 use Rattle.dfu_device.specs.Parts.{stage_of}
@@ -40,6 +41,9 @@ pub data Event : Type 0 where
   Handle : (setup body : List ℕ) → Event
   Elapse : (ms : ℕ) → Event
   UsbReset : Event
+  -- The calls `refuse_close` and `refuse`, by which its program refuses an image.
+  RefuseClose : (setup : List ℕ) (why : Objection) → Event
+  Refuse : (why : Objection) → Event
   -- The flash changes in the range of the piece that `next` hands out.
   Write : Event
   -- The call `took`.

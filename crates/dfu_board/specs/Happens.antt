@@ -2,11 +2,12 @@
 use Rattle.std.specs.Prelude.{◌≡◌, ℕ, Bool, true, false, List, [], ◌∷◌, length, take, Some, None}
 use Rattle.dfu_slots.specs.Medium.{Torn}
 use Rattle.dfu_slots.specs.Seen.{SlotsState}
+use Rattle.dfu_device.specs.declared.answer.Answer.{Answer}
 use Rattle.dfu_device.specs.declared.answer.Answer.TheVariants as answer
 use Rattle.dfu_device.specs.Stage.{Stage, InAppIdle, InDfuIdle}
 use Rattle.dfu_device.specs.Table.{reset_stage}
 use Rattle.dfu_device.specs.Shown.{powered_on}
-use Rattle.dfu_device.specs.Rows.{Cause, Transfer, Passing, Row}
+use Rattle.dfu_device.specs.Rows.{Cause, Transfer, Passing, RefusingClose, Refusing, Row}
 use Rattle.dfu_asks.specs.declared.reply.Reply.{Reply}
 use Rattle.dfu_asks.specs.declared.reply.Reply.TheVariants as reply
 use Rattle.dfu_asks.specs.declared.work.Work.{Work}
@@ -16,7 +17,7 @@ use Rattle.dfu_asks.specs.Carried.{IsPiece}
 use Rattle.dfu_asks.specs.Asks.{device_of, IsDevice, steps_in}
 use Rattle.dfu_asks.specs.Calls.{Asks, Called, Took}
 use Rattle.dfu_asks.specs.Refused.{Fits, IsKept, IsLeft}
-use Rattle.dfu_board.specs.Board.{Board, lent_on, medium_on, device_on, Event, Handle, Elapse, UsbReset, Write, Report, Restart, Says, Nothing, WritesDue, Answers, BoardStep}
+use Rattle.dfu_board.specs.Board.{Board, lent_on, medium_on, device_on, Event, Handle, Elapse, UsbReset, RefuseClose, Refuse, Write, Report, Restart, Says, Nothing, WritesDue, Answers, BoardStep}
 
 -- What a reply says, with these bytes in the buffer of the call.
 abbrev pub said_by : Reply → List ℕ → Says
@@ -43,6 +44,14 @@ pub record IsReset (b : Board) (says : Says) (b' : Board) : Type 0 where
   pub is : IsKept b.asking b.block b.held b.flash → IsKept b'.asking b'.block b'.held b'.flash
   pub work : b'.asking.work ≡ None
   pub says_is : says ≡ Answers answer.Ack []
+
+-- A call of `refuse_close` or `refuse` that is not refused, by its clauses: the row of its cause, with this answer.
+pub record IsObjected (b : Board) (cause : Cause) (a : Answer) (says : Says) (b' : Board) : Type 0 where
+  pub idle : b.asking.work ≡ None
+  pub flash : b'.flash ≡ b.flash
+  pub row : IsDevice (lent_on b) b.flash → IsDevice (lent_on b') b'.flash × Row (device_on b) cause a [] (device_on b')
+  pub work : b'.asking.work ≡ None
+  pub says_is : says ≡ Answers a []
 
 -- `next` hands out this piece, by its clauses `due` and `piece`.
 abbrev pub IsHanded : Board → Step → Type 0
@@ -97,6 +106,8 @@ abbrev pub Happens : Board → Event → Says → Board → Type 0
 Happens b (Handle setup body) says b' = IsRefusedOr says b b' (IsServedBy b (Transfer setup body) says b')
 Happens b (Elapse ms) says b' = IsRefusedOr says b b' (IsServedBy b (Passing ms) says b')
 Happens b UsbReset says b' = IsRefusedOr says b b' (IsReset b says b')
+Happens b (RefuseClose setup why) says b' = IsRefusedOr says b b' (IsObjected b (RefusingClose setup why) answer.Stall says b')
+Happens b (Refuse why) says b' = IsRefusedOr says b b' (IsObjected b (Refusing why) answer.Ack says b')
 Happens b Write says b' = (says ≡ Nothing) × IsWritten b b'
 Happens b (Report failed) says b' = IsRefusedOr says b b' (IsTold b failed says b')
 Happens b (Restart begins) says b' = (says ≡ Nothing) × (b'.flash ≡ b.flash) × Starts begins b'

@@ -11,7 +11,7 @@ use Rattle.dfu_device.specs.declared.answer.Answer.{Answer}
 use Rattle.dfu_device.specs.declared.answer.Answer.TheVariants as answer
 use Rattle.dfu_device.specs.Stage.{state_of}
 use Rattle.dfu_device.specs.Shown.{Shown, situation}
-use Rattle.dfu_device.specs.Rows.{Cause, Transfer, Passing, BusReset, PowerOn, Row}
+use Rattle.dfu_device.specs.Rows.{Cause, Transfer, Passing, BusReset, RefusingClose, Refusing, PowerOn, Row}
 use Rattle.dfu_device.specs.History.{IsHistory}
 use Rattle.dfu_device.specs.History.{Step as TableRow}
 use Rattle.dfu_device.specs.Taken.{taken_of}
@@ -20,7 +20,7 @@ use Rattle.dfu_asks.specs.Carried.{IsPiece}
 use Rattle.dfu_asks.specs.Due.{IsDueRow}
 use Rattle.dfu_asks.specs.Asks.{device_of, IsDevice, steps_in}
 use Rattle.dfu_asks.specs.Calls.{Asks}
-use Rattle.dfu_board.specs.Board.{Board, lent_on, medium_on, device_on, state_on, Event, Handle, Elapse, UsbReset, Write, Report, Restart, Says, Nothing, WritesDue, Answers, BoardStep}
+use Rattle.dfu_board.specs.Board.{Board, lent_on, medium_on, device_on, state_on, Event, Handle, Elapse, UsbReset, RefuseClose, Refuse, Write, Report, Restart, Says, Nothing, WritesDue, Answers, BoardStep}
 use Rattle.dfu_board.specs.Happens.{IsOn, IsRun}
 use Rattle.dfu_board.specs.Keeps.{is_manifesting}
 
@@ -76,6 +76,8 @@ abbrev pub Tells : Option Cause → Event → Says → List TableRow → Option 
 Tells due (Handle setup body) says rows due' = TellsCall (Transfer setup body) due says rows due'
 Tells due (Elapse ms) says rows due' = TellsCall (Passing ms) due says rows due'
 Tells due UsbReset says rows due' = TellsCall BusReset due says rows due'
+Tells due (RefuseClose setup why) says rows due' = TellsCall (RefusingClose setup why) due says rows due'
+Tells due (Refuse why) says rows due' = TellsCall (Refusing why) due says rows due'
 Tells due Write says rows due' = (rows ≡ []) × (due' ≡ due)
 Tells (Some cause) (Report failed) says rows due' = TellsCall cause (Some cause) says rows due'
 Tells None (Report failed) says rows due' = (rows ≡ []) × (due' ≡ None)

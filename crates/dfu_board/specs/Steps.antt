@@ -1,5 +1,5 @@
 -- A call of the device as a step of a board.
-use Rattle.std.specs.Prelude.{ℕ, List, [], Result, Ok, Err}
+use Rattle.std.specs.Prelude.{ℕ, Bool, true, List, [], Result, Ok, Err}
 use Rattle.dfu_device.specs.declared.answer.Answer.TheVariants as answer
 use Rattle.dfu_asks.specs.declared.asking.Asking.{Asking}
 use Rattle.dfu_asks.specs.declared.refusal.Refusal.{Refusal}
@@ -20,3 +20,8 @@ said (Err e) out = Nothing
 abbrev pub said_of_reset : Result (Unit {0}) Refusal → Says
 said_of_reset (Ok x) = Answers answer.Ack []
 said_of_reset (Err e) = Nothing
+
+-- What the result of `refuse_close` says: a stall if the setup closes a download.
+abbrev pub said_of_close : Result Bool Refusal → Says
+said_of_close (Ok true) = Answers answer.Stall []
+said_of_close r = Nothing

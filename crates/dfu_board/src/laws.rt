@@ -2,6 +2,7 @@
 //! be called for what it does.
 
 ghost use Rattle.dfu_board.specs.Keeps.{RunKeeps, RunStays, RunInstalls};
+ghost use Rattle.dfu_board.specs.Accepts.{RunAccepts, HistoryAccepts};
 ghost use Rattle.dfu_board.specs.Refines.{RunRefines, IdleRefines};
 
 use dfu_asks::laws::{pieces_are_the_writes, steps_are_the_writes, writes_are_the_calls};
@@ -37,4 +38,16 @@ pub fn boards_keep_an_image()
     writes_are_the_calls();
     rows_take();
     active_image_is_one();
+}
+
+/// Whatever steps come to a board that just got power, and whatever check its program makes: if no close of bytes that the check refuses
+/// was acknowledged, its flash has an active image that it had then, or one that the check accepts, all bytes of a download that was closed
+/// since. And whatever history a device of the table has: if each image that waits to be put in place, and that the check refuses, was
+/// refused in time or given up, the active image is the one that it had at first, or one that the check accepts. A program that never asks
+/// takes every image.
+pub fn boards_take_what_is_accepted()
+    ensures at_close { RunAccepts }
+    ensures in_time { HistoryAccepts }
+{
+    boards_keep_an_image();
 }

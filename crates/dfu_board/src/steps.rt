@@ -10,13 +10,13 @@ ghost use Rattle.dfu_asks.specs.Calls.{Asks};
 ghost use Rattle.dfu_asks.specs.Refused.{IsRefused, IsNotTaken};
 ghost use Rattle.dfu_asks.specs.Mapped.{grain_of, mapped};
 ghost use Rattle.dfu_asks.specs.Jobs.{asked};
-ghost use Rattle.dfu_board.specs.Board.{Board, BoardStep, Handle, Elapse, UsbReset, Write, Report, Restart, Nothing, medium_on};
+ghost use Rattle.dfu_board.specs.Board.{Board, BoardStep, Handle, Elapse, UsbReset, RefuseClose, Refuse, Write, Report, Restart, Nothing, medium_on};
 ghost use Rattle.dfu_board.specs.Happens.{IsHanded, IsOn, Starts, Happens, IsRun};
-ghost use Rattle.dfu_board.specs.Steps.{board, said, said_of_reset};
+ghost use Rattle.dfu_board.specs.Steps.{board, said, said_of_reset, said_of_close};
 
 use crate::laws::boards_keep_an_image;
 use dfu_asks::{Asking, Piece, Refusal, Reply, Sector};
-use dfu_device::Config;
+use dfu_device::{Config, Objection};
 use dfu_slots::Unit;
 
 /// `Asking::handle` is a step of a board.
@@ -67,6 +67,30 @@ pub fn usb_reset(
     ensures same { IsSetUpAs asking.old asking.new }
 {
     asking.usb_reset(block, held, flash)
+}
+
+/// `Asking::refuse_close` is a step of a board, whatever is in its memories and on its flash.
+pub fn refuse_close(
+    asking: &mut Asking,
+    setup: &[u8; 8],
+    objection: Objection,
+) -> Result<bool, Refusal>
+    ensures step { (block held flash : List ℕ) → Happens (board asking.old block held flash) (RefuseClose setup.now objection)
+        (said_of_close result) (board asking.new block held flash) }
+    ensures refused { IfErr result (λ e. (e ≡ Refusal.Asked) × IsSome asking.old.work) }
+    ensures same { IsSetUpAs asking.old asking.new }
+{
+    asking.refuse_close(setup, objection)
+}
+
+/// `Asking::refuse` is a step of a board, whatever is in its memories and on its flash.
+pub fn refuse(asking: &mut Asking, objection: Objection) -> Result<(), Refusal>
+    ensures step { (block held flash : List ℕ) → Happens (board asking.old block held flash) (Refuse objection) (said_of_reset result)
+        (board asking.new block held flash) }
+    ensures refused { IfErr result (λ e. (e ≡ Refusal.Asked) × IsSome asking.old.work) }
+    ensures same { IsSetUpAs asking.old asking.new }
+{
+    asking.refuse(objection)
 }
 
 /// `Asking::next` hands out the piece in whose range a step may change the flash, to any bytes.

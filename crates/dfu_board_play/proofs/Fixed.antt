@@ -4,7 +4,7 @@ use Rattle.std.proofs.Common.{ap, ◌∙◌}
 use Rattle.dfu_slots.specs.Seen.{room_restarted}
 use Rattle.dfu_device.specs.declared.answer.Answer.{Answer}
 use Rattle.dfu_device.specs.Shown.{Shown, profile, profile_of}
-use Rattle.dfu_device.specs.Rows.{Cause, Transfer, Passing, BusReset, PowerOn, Row, Handles, handled_as, setup_plan, asked_length}
+use Rattle.dfu_device.specs.Rows.{Cause, Transfer, Passing, BusReset, RefusingClose, Refusing, PowerOn, Row, Handles, handled_as, setup_plan, asked_length}
 use Rattle.dfu_device.specs.Came.{came, time_came}
 use Rattle.dfu_device.specs.History.{IsHistory}
 use Rattle.dfu_device.specs.History.{Step as TableRow}
@@ -18,6 +18,8 @@ pub row_profile : (d d' : Shown) (cause : Cause) (a : Answer) (out : List ℕ) �
 row_profile d d' (Transfer setup body) a out h = handled_profile setup body d d' a out h
 row_profile d d' (Passing ms) a out h = (time_came ms d d' h.2).fixed
 row_profile d d' BusReset a out h = ap profile h.2
+row_profile d d' (RefusingClose setup why) a out (is, none, closes, same) = ap profile same
+row_profile d d' (Refusing why) a out h = ap profile h.2
 row_profile d d' PowerOn a out h =
     ap profile h.2 ∙ (λ k. profile_of d.config (room_restarted d.slots d.slots.medium.fuse k))
 

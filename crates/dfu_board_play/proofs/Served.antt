@@ -3,10 +3,10 @@ use Rattle.std.specs.Prelude.{◌≡◌, ℕ, List, [], ◌∷◌, ◌++◌, Opt
 use Rattle.std.proofs.Common.{sym, ◌∙◌, subst}
 use Rattle.dfu_device.specs.declared.answer.Answer.{Answer}
 use Rattle.dfu_device.specs.Shown.{Shown}
-use Rattle.dfu_device.specs.Rows.{Cause, Transfer, Passing, BusReset, Row}
+use Rattle.dfu_device.specs.Rows.{Cause, Transfer, Passing, BusReset, RefusingClose, Refusing, Row}
 use Rattle.dfu_device.specs.History.{IsHistory}
 use Rattle.dfu_device.specs.History.{Step as TableRow}
-use Rattle.dfu_board.specs.Board.{Board, Event, Handle, Elapse, UsbReset, Write, Report, Restart, Says, Nothing, WritesDue, Answers, BoardStep}
+use Rattle.dfu_board.specs.Board.{Board, Event, Handle, Elapse, UsbReset, RefuseClose, Refuse, Write, Report, Restart, Says, Nothing, WritesDue, Answers, BoardStep}
 use Rattle.dfu_board.specs.Refines.{IsOne, TellsCall, Tells, TellsAll, IsIdle, StandsFor, IdleRefines}
 use Rattle.dfu_board_play.specs.Calls.{CarriesOn, WorksOff, ends, carries_on, IsCall, at_once, with_writes, Serves}
 
@@ -40,6 +40,8 @@ carried (Report failed) WritesDue due due' rows c t = t
 carried (Handle setup body) says due due' rows c t = refused (Transfer setup body) due due' says rows c t
 carried (Elapse ms) says due due' rows c t = refused (Passing ms) due due' says rows c t
 carried UsbReset says due due' rows c t = refused BusReset due due' says rows c t
+carried (RefuseClose setup why) says due due' rows c t = refused (RefusingClose setup why) due due' says rows c t
+carried (Refuse why) says due due' rows c t = refused (Refusing why) due due' says rows c t
 carried (Restart begins) says due due' rows c t = elim c [ ]
 
 -- The rows of a call that is answered: one of its cause, with this answer, and nothing is due.

@@ -1,11 +1,11 @@
 -- What is decided is carried out, and is a row.
-use Rattle.std.proofs.Common.{◌≡◌, inl, inr, IsTrue, true, ℕ, List, [], length, refl, sym, ◌∙◌, ap, subst, arith, Result, Ok, Err, OnOk, IfErr}
+use Rattle.std.proofs.Common.{◌≡◌, ◌&&◌, Bool, inl, inr, IsTrue, true, ℕ, List, [], length, refl, sym, ◌∙◌, ap, subst, arith, Result, Ok, Err, OnOk, IfErr}
 use Rattle.std.proofs.lemmas.Grind.{common_steps}
 use Rattle.std.proofs.lemmas.List.{length-take-le}
 use Rattle.dfu_wire.specs.declared.requests.Request.{Request as Asked}
 use Rattle.dfu_wire.specs.declared.requests.Request.TheVariants as asked
 use Rattle.dfu_slots.specs.declared.fault.WriteFault.{WriteFault}
-use Rattle.dfu_slots.specs.Seen.{SlotsState, image_of, spare_of, room_of}
+use Rattle.dfu_slots.specs.Seen.{SlotsState, image_of, spare_of, room_of, is_shaped}
 use Rattle.dfu_device.specs.declared.answer.Answer.{Answer}
 use Rattle.dfu_device.specs.declared.answer.Answer.TheVariants as answer
 use Rattle.dfu_device.specs.declared.reply.Reply.{Reply as ReplyRead}
@@ -73,6 +73,13 @@ holds_written m b s sound = tt
 -- The parts of a device are filled as its mode says.
 pub filled : (m : Mode) (b : ℕ) (s : SlotsState) → IsTrue (is_sound m b s) → IsTrue (is_filled m b s)
 filled m b s sound = grind (arith, common_steps)
+
+-- A mode that is filled in the store of a device makes one with it.
+pub still_sound : (m n : Mode) (b : ℕ) (s : SlotsState) → IsTrue (is_sound m b s) → is_filled n b s ≡ true → IsTrue (is_sound n b s)
+still_sound m n b s sound fills = sound_of (is_shaped s) (is_filled m b s) (is_filled n b s) sound fills
+  where
+    sound_of : (p q r : Bool) → IsTrue (p && q) → r ≡ true → IsTrue (p && r)
+    sound_of p q r t e = grind (arith, common_steps)
 
 -- What is decided on a request and carried out is its row.
 pub served : (p : ProfileRead) (q : Asked) (m : Mode) (block body : List ℕ) (d : Decision) (asked : ℕ) (w w' : Shown) (x : Draft)

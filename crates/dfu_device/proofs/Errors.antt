@@ -4,10 +4,12 @@ use Rattle.std.proofs.Common.{ap, inl, inr, subst}
 use Rattle.dfu_slots.specs.Seen.{image_of}
 use Rattle.dfu_device.specs.declared.answer.Answer.{Answer}
 use Rattle.dfu_device.specs.declared.answer.Answer.TheVariants as answer
-use Rattle.dfu_device.specs.Stage.{Stage, InAppDetach}
-use Rattle.dfu_device.specs.Table.{reset_stage, Plan, Sure, Writes, Commits, time_plan}
+use Rattle.dfu_device.specs.declared.objection.Objection.{Objection}
+use Rattle.dfu_device.specs.declared.objection.Objection.TheVariants.{Target, File}
+use Rattle.dfu_device.specs.Stage.{Stage, InAppDetach, InManifestSync, InManifest, InError}
+use Rattle.dfu_device.specs.Table.{reset_stage, objection_code, refuse_stage, Plan, Sure, Writes, Commits, time_plan}
 use Rattle.dfu_device.specs.Shown.{Shown, profile}
-use Rattle.dfu_device.specs.Rows.{meant, asked_length, Done, is_served, setup_plan, handled_as, Transfer, Passing, BusReset, PowerOn}
+use Rattle.dfu_device.specs.Rows.{meant, asked_length, Done, is_served, setup_plan, handled_as, Transfer, Passing, BusReset, RefusingClose, Refusing, PowerOn}
 use Rattle.dfu_device.specs.Cases.{either_way}
 use Rattle.dfu_device.specs.Errors.{IsMediumError, MediumFailed, ErrorsHaveCause}
 use Rattle.dfu_device.specs.RowForms.{WorksWell}
@@ -27,6 +29,15 @@ reset_works : (st : Stage) → IsMediumError (reset_stage st) → ⊥
 reset_works (InAppDetach timer passed) x = x
 reset_works st x = x
 
+objection_works : (why : Objection) → IsMediumError (InError (objection_code why)) → ⊥
+objection_works Target x = x
+objection_works File x = x
+
+refusal_works : (why : Objection) (st : Stage) → IsMediumError (refuse_stage why st) → IsMediumError st
+refusal_works why (InManifestSync taken) x = absurd (objection_works why x)
+refusal_works why (InManifest taken passed) x = absurd (objection_works why x)
+refusal_works why st x = x
+
 -- An error of the medium comes only where the medium failed.
 pub errors_have_cause : ErrorsHaveCause
 errors_have_cause w (Transfer setup body) a out w' (handled_as p q reads asks done) broken =
@@ -37,4 +48,8 @@ errors_have_cause w (Passing ms) a out w' (is, none, row) broken =
     done_works (time_plan (profile w) w.stage ms) 0 w answer.Ack [] w' (time_leads (profile w) (image_of w.slots) w.stage ms).1 row broken
 errors_have_cause w BusReset a out w' (is, none, same) broken =
     absurd (reset_works w.stage (subst IsMediumError (ap (λ (z : Shown). z.stage) same) broken))
+errors_have_cause w (RefusingClose setup why) a out w' (is, none, closes, same) broken =
+    absurd (objection_works why (subst IsMediumError (ap (λ (z : Shown). z.stage) same) broken))
+errors_have_cause w (Refusing why) a out w' (is, none, same) broken =
+    inl (refusal_works why w.stage (subst IsMediumError (ap (λ (z : Shown). z.stage) same) broken))
 errors_have_cause w PowerOn a out w' (is, none, same) broken = absurd (subst IsMediumError (ap (λ (z : Shown). z.stage) same) broken)

@@ -11,7 +11,7 @@ use Rattle.dfu_device.specs.declared.answer.Answer.TheVariants as answer
 use Rattle.dfu_device.specs.Stage.{Request, GetStatus, ClrStatus, GetState, Profile, Stage, InError}
 use Rattle.dfu_device.specs.Table.{Plan, Sure, Writes, Commits, plan, time_plan}
 use Rattle.dfu_device.specs.Shown.{Shown, profile, situation, written_in}
-use Rattle.dfu_device.specs.Rows.{meant, asked_length, Done, is_served, setup_plan, handled_as, Transfer, Passing, BusReset, PowerOn}
+use Rattle.dfu_device.specs.Rows.{meant, asked_length, Done, is_served, setup_plan, handled_as, Transfer, Passing, BusReset, RefusingClose, Refusing, PowerOn}
 use Rattle.dfu_device.specs.Taken.{taken_of}
 use Rattle.dfu_device.specs.Cases.{either_way}
 use Rattle.dfu_device.specs.RowForms.{CallsFor}
@@ -75,6 +75,8 @@ image_kept w (Transfer setup body) a out w' (handled_as p q reads asks done) =
 image_kept w (Passing ms) a out w' (is, none, row) =
     done_keeps (time_plan (profile w) w.stage ms) 0 w answer.Ack [] w' (time_leads (profile w) (image_of w.slots) w.stage ms).0 row
 image_kept w BusReset a out w' (is, none, same) = inl (inl (ap (λ (z : Shown). z.slots) same))
+image_kept w (RefusingClose setup why) a out w' (is, none, closes, same) = inl (inl (ap (λ (z : Shown). z.slots) same))
+image_kept w (Refusing why) a out w' (is, none, same) = inl (inl (ap (λ (z : Shown). z.slots) same))
 image_kept w PowerOn a out w' (is, none, same) = inl (inr (ap (λ (z : Shown). z.slots) same))
 
 -- Plans that call nothing.
@@ -106,4 +108,6 @@ error_keeps code w (Passing ms) a out w' at (is, none, row) =
     inl (sure_keeps (time_plan (profile w) w.stage ms) 0 w answer.Ack [] w'
     (subst (λ (st : Stage). IsSure (time_plan (profile w) st ms)) (sym at) tt) row)
 error_keeps code w BusReset a out w' at (is, none, same) = inl (ap (λ (z : Shown). z.slots) same)
+error_keeps code w (RefusingClose setup why) a out w' at (is, none, closes, same) = inl (ap (λ (z : Shown). z.slots) same)
+error_keeps code w (Refusing why) a out w' at (is, none, same) = inl (ap (λ (z : Shown). z.slots) same)
 error_keeps code w PowerOn a out w' at (is, none, same) = inr (ap (λ (z : Shown). z.slots) same)

@@ -9,11 +9,12 @@ use Rattle.dfu_wire.specs.Request.{Asks}
 use Rattle.dfu_slots.specs.Seen.{store_on, image_of}
 use Rattle.dfu_device.specs.declared.answer.Answer.{Answer}
 use Rattle.dfu_device.specs.declared.answer.Answer.TheVariants as answer
-use Rattle.dfu_device.specs.Stage.{Request, OtherRequest, Reply, Profile, Stage, InAppIdle, state_of}
-use Rattle.dfu_device.specs.Table.{Plan, plan, time_plan, reset_stage}
+use Rattle.dfu_device.specs.declared.objection.Objection.{Objection}
+use Rattle.dfu_device.specs.Stage.{Request, OtherRequest, Reply, Profile, Stage, InAppIdle, InError, state_of}
+use Rattle.dfu_device.specs.Table.{Plan, plan, time_plan, reset_stage, objection_code, refuse_stage}
 use Rattle.dfu_device.specs.Outcome.{Luck, Outcome, outcome}
 use Rattle.dfu_device.specs.Shown.{Shown, profile}
-use Rattle.dfu_device.specs.Rows.{meant, asked_length, Answers, is_served, Handles, handled_as, Elapses, Cause, Transfer, Passing, BusReset, PowerOn, Row}
+use Rattle.dfu_device.specs.Rows.{meant, asked_length, Answers, is_served, Handles, handled_as, Elapses, Cause, Transfer, Passing, BusReset, RefusingClose, Refusing, PowerOn, Row}
 use Rattle.dfu_device.specs.Came.{Came, asked_came, not_served, time_came}
 use Rattle.dfu_device.specs.RowForms.{Fits, given, RowForm, row_form, time_form, row_fits}
 use Rattle.dfu_device.specs.History.{Step, IsRow, IsHistory, Gathered, from_start}
@@ -60,6 +61,11 @@ module _ (inside : State → Bool) (held : List ℕ → Stage → List ℕ) (joi
     -- What stays the same adds nothing, and after a reset nothing is left.
     pub stays : (i : List ℕ) (st : Stage) → held i st ≡ left (state_of st) (held i st ++ [])
     pub resets : (i bytes : List ℕ) (st : Stage) → held i (reset_stage st) ≡ left (state_of (reset_stage st)) bytes
+    -- Nothing is left in dfuERROR, and a program that refuses an image adds nothing.
+    pub errs : (why : Objection) (i bytes : List ℕ)
+        → held i (InError (objection_code why)) ≡ left (state_of (InError (objection_code why))) bytes
+    pub refuses : (why : Objection) (i : List ℕ) (st : Stage) (a : Answer) (out : List ℕ)
+        → held i (refuse_stage why st) ≡ left (state_of (refuse_stage why st)) (held i st ++ own (Refusing why) a out)
 
   module _ (known : Gathers) where
     served : (p : Setup) (q : Asked) (setup body : List ℕ) (w : Shown) (a : Answer) (out : List ℕ) (w' : Shown) → IsSetup p setup
@@ -101,6 +107,12 @@ module _ (inside : State → Bool) (held : List ℕ → Stage → List ℕ) (joi
     row_adds w BusReset a out w' (is, none, same) =
         subst (λ (z : Shown). held_by z ≡ left (state_of z.stage) (held_by w ++ own BusReset a out)) (sym same)
         (known.resets (image_of w.slots) (held_by w ++ own BusReset a out) w.stage)
+    row_adds w (RefusingClose setup why) a out w' (is, none, closes, same) =
+        subst (λ (z : Shown). held_by z ≡ left (state_of z.stage) (held_by w ++ own (RefusingClose setup why) a out)) (sym same)
+        (known.errs why (image_of w.slots) (held_by w ++ own (RefusingClose setup why) a out))
+    row_adds w (Refusing why) a out w' (is, none, same) =
+        subst (λ (z : Shown). held_by z ≡ left (state_of z.stage) (held_by w ++ own (Refusing why) a out)) (sym same)
+        (known.refuses why (image_of w.slots) w.stage a out)
     row_adds w PowerOn a out w' (is, none, same) =
         subst (λ (z : Shown). held_by z ≡ left (state_of z.stage) (held_by w ++ own PowerOn a out)) (sym same)
         (known.resets (image_of (store_on w.slots.medium)) (held_by w ++ own PowerOn a out) InAppIdle)

@@ -9,9 +9,10 @@ use Rattle.dfu_wire.specs.Setup.{IsSetup}
 use Rattle.dfu_wire.specs.Request.{Asks}
 use Rattle.dfu_device.specs.declared.answer.Answer.{Answer}
 use Rattle.dfu_device.specs.declared.answer.Answer.TheVariants as answer
-use Rattle.dfu_device.specs.Stage.{Request, Reply, Data, Stall, Stage, InAppDetach, InUploadIdle, state_of}
-use Rattle.dfu_device.specs.Table.{reset_stage}
-use Rattle.dfu_device.specs.Rows.{meant, Answers, is_served, Transfer}
+use Rattle.dfu_device.specs.declared.objection.Objection.{Objection}
+use Rattle.dfu_device.specs.Stage.{Request, Reply, Data, Stall, Stage, InAppDetach, InManifestSync, InManifest, InUploadIdle, state_of}
+use Rattle.dfu_device.specs.Table.{reset_stage, refuse_stage}
+use Rattle.dfu_device.specs.Rows.{meant, Answers, is_served, Refusing, Transfer}
 use Rattle.dfu_device.specs.RowForms.{Fits}
 use Rattle.dfu_device.specs.Sent.{is_uploading, sent_in, sent_by, still_sent, is_upload, piece, uploads, piece_of}
 use Rattle.dfu_device.proofs.SentRow.{form_sends}
@@ -54,6 +55,12 @@ reset_sends : (i bytes : List ℕ) (st : Stage) → sent_in i (reset_stage st) �
 reset_sends i bytes (InAppDetach timer passed) = refl
 reset_sends i bytes st = refl
 
+refusal_sends : (why : Objection) (i : List ℕ) (st : Stage) (a : Answer) (out : List ℕ)
+    → sent_in i (refuse_stage why st) ≡ still_sent (state_of (refuse_stage why st)) (sent_in i st ++ piece (Refusing why) a out)
+refusal_sends why i (InManifestSync taken) a out = refl
+refusal_sends why i (InManifest taken passed) a out = refl
+refusal_sends why i st a out = sent_already i st
+
 -- What was sent before, with what a reply sends.
 abbrev joined : List ℕ → Request → Reply → List ℕ
 joined sent r reply = sent ++ sent_by r reply
@@ -66,6 +73,8 @@ known = record {
   waits = λ ms t reply a out. refl;
   stays = sent_already;
   resets = reset_sends;
+  errs = λ why i bytes. refl;
+  refuses = refusal_sends;
 }
 
 -- Each row sends its piece.

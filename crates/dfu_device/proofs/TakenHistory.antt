@@ -10,11 +10,12 @@ use Rattle.dfu_wire.specs.Request.{Asks}
 use Rattle.dfu_slots.specs.Seen.{image_of}
 use Rattle.dfu_device.specs.declared.answer.Answer.{Answer}
 use Rattle.dfu_device.specs.declared.answer.Answer.TheVariants as answer
+use Rattle.dfu_device.specs.declared.objection.Objection.{Objection}
 use Rattle.dfu_device.specs.Stage.{Request, OtherRequest, Reply, Ack, Stall, Stage, InAppDetach, InDownloadSync, InDownloadSyncWritten, InDownloadBusy, InDownloadIdle, InManifestSync, InManifestSyncComplete, InManifest, state_of}
-use Rattle.dfu_device.specs.Table.{Plan, plan, time_plan, reset_stage}
+use Rattle.dfu_device.specs.Table.{Plan, plan, time_plan, reset_stage, refuse_stage}
 use Rattle.dfu_device.specs.Outcome.{Outcome}
 use Rattle.dfu_device.specs.Shown.{Shown, profile, situation}
-use Rattle.dfu_device.specs.Rows.{meant, asked_length, Answers, is_served, Cause, Transfer}
+use Rattle.dfu_device.specs.Rows.{meant, asked_length, Answers, is_served, Cause, Refusing, Transfer}
 use Rattle.dfu_device.specs.Came.{Came, asked_came, time_came}
 use Rattle.dfu_device.specs.RowForms.{Fits, RowForm, row_form, time_form}
 use Rattle.dfu_device.specs.Taken.{taken_in, taken_of, is_downloading, added, held_in, taken_after, is_dnload, acknowledged, downloads, block_of}
@@ -86,6 +87,12 @@ reset_takes : (image bytes : List ℕ) (st : Stage) → taken_in image (reset_st
 reset_takes image bytes (InAppDetach timer passed) = refl
 reset_takes image bytes st = refl
 
+refusal_takes : (why : Objection) (image : List ℕ) (st : Stage) (a : Answer) (out : List ℕ)
+    → taken_in image (refuse_stage why st) ≡ held_in (state_of (refuse_stage why st)) (taken_in image st ++ acknowledged (Refusing why) a)
+refusal_takes why image (InManifestSync taken) a out = refl
+refusal_takes why image (InManifest taken passed) a out = refl
+refusal_takes why image st a out = held_already image st
+
 abbrev block_by : Cause → Answer → List ℕ → List ℕ
 block_by cause a out = acknowledged cause a
 
@@ -97,6 +104,8 @@ known = record {
   waits = λ ms t reply a out. sym (append-nil t);
   stays = held_already;
   resets = reset_takes;
+  errs = λ why i bytes. refl;
+  refuses = refusal_takes;
 }
 
 -- Each row takes the body that it acknowledges.

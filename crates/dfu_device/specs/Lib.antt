@@ -19,5 +19,6 @@ pub mod Uploaded
 pub mod Told
 pub mod Kept
 pub mod Errors
+pub mod Candidate
 pub mod RowForms
 pub mod inside

@@ -1,5 +1,5 @@
 -- The rows of a device: what it answers to its bytes, what becomes of it, and which calls of the slot store it makes.
-use Rattle.std.specs.Prelude.{◌≡◌, ◌⊎◌, ℕ, ◌==◌, List, [], ◌∷◌, length, take, Bool, false, if◌then◌else◌, slice_index}
+use Rattle.std.specs.Prelude.{◌≡◌, ◌⊎◌, ℕ, ◌==◌, List, [], ◌∷◌, length, take, Bool, true, false, if◌then◌else◌, slice_index}
 use Rattle.dfu_wire.specs.declared.setups.Setup.{Setup}
 use Rattle.dfu_wire.specs.declared.requests.Request.{Request as Asked}
 use Rattle.dfu_wire.specs.declared.requests.Request.TheVariants as asked
@@ -10,10 +10,11 @@ use Rattle.dfu_wire.specs.State.{state_byte}
 use Rattle.dfu_slots.specs.declared.fault.WriteFault.{WriteFault}
 use Rattle.dfu_slots.specs.Medium.{Rose}
 use Rattle.dfu_slots.specs.Seen.{SlotsState, store_on, image_of, room_of, Call, Begin, Put, Commit, AllWorked, BrokenBy, Called}
+use Rattle.dfu_device.specs.declared.objection.Objection.{Objection}
 use Rattle.dfu_device.specs.declared.answer.Answer.{Answer}
 use Rattle.dfu_device.specs.declared.answer.Answer.TheVariants as answer
 use Rattle.dfu_device.specs.Stage.{Request, Detach, Dnload, Upload, GetStatus, ClrStatus, GetState, Abort, OtherRequest, Reply, Ack, StatusOf, StateOf, Data, Stall, Stage, InAppIdle, InError}
-use Rattle.dfu_device.specs.Table.{Plan, Sure, Writes, Commits, write_code, commit_code, plan, time_plan, reset_stage}
+use Rattle.dfu_device.specs.Table.{Plan, Sure, Writes, Commits, write_code, commit_code, plan, time_plan, reset_stage, objection_code, may_close, refuse_stage}
 use Rattle.dfu_device.specs.Setting.{Setting}
 use Rattle.dfu_device.specs.Shown.{Shown, profile}
 
@@ -127,19 +128,37 @@ pub data Handles (setup body : List ℕ) (w : Shown) (a : Answer) (out : List �
 abbrev pub Elapses : ℕ → Shown → Shown → Type 0
 Elapses ms w w' = Done (time_plan (profile w) w.stage ms) 0 w answer.Ack [] w'
 
--- What happens to a device: a setup with its body, milliseconds, a reset of the bus, or power that goes and comes back.
+-- The request is a DNLOAD with wLength 0.
+abbrev pub is_close : Asked → Bool
+is_close (asked.Dnload number len) = len == 0
+is_close q = false
+
+-- These eight bytes are the setup of such a request.
+abbrev pub IsCloseSetup : List ℕ → Type 0
+IsCloseSetup setup = (p : Setup) × (q : Asked) × IsSetup p setup × Asks p q × (is_close q ≡ true)
+
+-- The setup closes the download of this device.
+abbrev pub ClosesDownload : List ℕ → Shown → Type 0
+ClosesDownload setup w = IsCloseSetup setup × (may_close w.config.least w.stage ≡ true)
+
+-- What happens to a device: a setup with its body, milliseconds, a reset of the bus, its program refuses the image that this setup closes,
+-- or the image that was closed, or power goes and comes back.
 pub data Cause : Type 0 where
   Transfer : (setup body : List ℕ) → Cause
   Passing : (ms : ℕ) → Cause
   BusReset : Cause
+  RefusingClose : (setup : List ℕ) (why : Objection) → Cause
+  Refusing : (why : Objection) → Cause
   PowerOn : Cause
 
 -- A row of the device table: from a device by a cause to an answer and a device. Only a setup is answered, which is written as Ack
--- elsewhere;
--- power that goes leaves the medium alone.
+-- elsewhere; a program that refuses an image writes nothing; power that goes leaves the medium alone.
 abbrev pub Row : Shown → Cause → Answer → List ℕ → Shown → Type 0
 Row w (Transfer setup body) a out w' = Handles setup body w a out w'
 Row w (Passing ms) a out w' = (a ≡ answer.Ack) × (out ≡ []) × Elapses ms w w'
 Row w BusReset a out w' = (a ≡ answer.Ack) × (out ≡ []) × (w' ≡ record w { stage = reset_stage w.stage })
+Row w (RefusingClose setup why) a out w' =
+    (a ≡ answer.Stall) × (out ≡ []) × ClosesDownload setup w × (w' ≡ record w { stage = InError (objection_code why) })
+Row w (Refusing why) a out w' = (a ≡ answer.Ack) × (out ≡ []) × (w' ≡ record w { stage = refuse_stage why w.stage })
 Row w PowerOn a out w' = (a ≡ answer.Ack) × (out ≡ [])
     × (w' ≡ record { config = w.config; slots = store_on w.slots.medium; stage = InAppIdle })

@@ -2,9 +2,11 @@
 -- A star marks a rule where a reader may find the appendix otherwise; docs/PROFILE.md, "Where we choose", has the other reading of each.
 use Rattle.std.specs.Prelude.{ℕ, ◌+◌, ◌%◌, ◌==◌, nat_lt, nat_le, min, max, Bool, true, false, not, if◌then◌else◌, List, [], ◌∷◌, ◌++◌, length, take, drop}
 use Rattle.dfu_wire.specs.declared.codes.Code.{Code}
-use Rattle.dfu_wire.specs.declared.codes.Code.TheVariants.{Write as ErrWrite, Prog as ErrProg, Verify as ErrVerify, Address as ErrAddress, NotDone as ErrNotDone, StalledPkt as ErrStalledPkt}
+use Rattle.dfu_wire.specs.declared.codes.Code.TheVariants.{Target as ErrTarget, File as ErrFile, Write as ErrWrite, Prog as ErrProg, Verify as ErrVerify, Address as ErrAddress, NotDone as ErrNotDone, StalledPkt as ErrStalledPkt}
 use Rattle.dfu_slots.specs.declared.fault.WriteFault.{WriteFault}
 use Rattle.dfu_slots.specs.declared.fault.WriteFault.TheVariants.{Failed, NotVerified}
+use Rattle.dfu_device.specs.declared.objection.Objection.{Objection}
+use Rattle.dfu_device.specs.declared.objection.Objection.TheVariants.{Target, File}
 use Rattle.dfu_device.specs.Stage.{Request, Detach, Dnload, Upload, GetStatus, ClrStatus, GetState, Abort, Reply, Ack, StateOf, Data, Stall, Profile, Stage, InAppIdle, InAppDetach, InDfuIdle, InDownloadSync, InDownloadSyncWritten, InDownloadBusy, InDownloadIdle, InManifestSync, InManifestSyncComplete, InManifest, InManifestWaitReset, InUploadIdle, InError, state_of, status_of}
 
 -- What a row does. Only the medium is left open: where it works the first reply and stage come, where a write has a fault the last reply
@@ -190,3 +192,20 @@ time_plan c stage ms = ack stage
 abbrev pub reset_stage : Stage → Stage
 reset_stage (InAppDetach timer passed) = InDfuIdle
 reset_stage stage = InAppIdle
+
+-- The code that tells why the program of a device refuses an image.
+abbrev pub objection_code : Objection → Code
+objection_code Target = ErrTarget
+objection_code File = ErrFile
+
+-- A DNLOAD with wLength 0 closes the download of this stage: dfuDNLOAD-IDLE, with as many bytes taken as an image has at least.
+abbrev pub may_close : (least : ℕ) → Stage → Bool
+may_close least (InDownloadIdle taken number) = nat_le least (length taken)
+may_close least stage = false
+
+-- The row of a program that refuses the image after the close: dfuMANIFEST-SYNC, not complete, and dfuMANIFEST go to dfuERROR with the
+-- code, and nothing is put in place. Every other state stays.
+abbrev pub refuse_stage : Objection → Stage → Stage
+refuse_stage why (InManifestSync taken) = InError (objection_code why)
+refuse_stage why (InManifest taken passed) = InError (objection_code why)
+refuse_stage why stage = stage

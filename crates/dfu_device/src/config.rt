@@ -124,7 +124,7 @@ impl Config {
     }
 
     /// The fewest bytes of an image.
-    pub(crate) fn least(&self) -> u32
+    pub fn least(&self) -> u32
         ensures { result ≡ self.now.least }
     {
         self.least

@@ -1,16 +1,16 @@
 //! A device for a caller who keeps its parts between two calls, and lends the memory of its block.
 
-ghost use Rattle.std.specs.Prelude.{◌≡◌, ◌<◌, ◌≤◌, ◌↔◌, length, IsOk, IfOk, IfErr, IfSome, IfNone, IsTrue};
-ghost use Rattle.dfu_device.specs.Table.{reset_stage};
+ghost use Rattle.std.specs.Prelude.{◌≡◌, ◌<◌, ◌≤◌, ◌↔◌, [], length, not, IsOk, IfOk, IfErr, IfSome, IfNone, IsTrue};
+ghost use Rattle.dfu_device.specs.Table.{reset_stage, refuse_stage};
 ghost use Rattle.dfu_device.specs.Parts.{shows, is_sound};
-ghost use Rattle.dfu_device.specs.Rows.{Elapses};
+ghost use Rattle.dfu_device.specs.Rows.{Elapses, ClosesDownload, RefusingClose, Row};
 ghost use Rattle.dfu_device.specs.Lent.{HandlesInto, answer_room};
 
 use crate::block::Block;
 use crate::from_parts::is_sound;
 use crate::machine::Machine;
 use crate::mode::Mode;
-use crate::{Answer, Config};
+use crate::{Answer, Config, Objection};
 use dfu_slots::{Medium, Slots};
 use std::marker::Model;
 
@@ -109,5 +109,23 @@ impl<M: Medium, B: Block> LentDevice<M, B> {
         ensures memory { self.new.memory ≡ self.old.memory }
     {
         self.machine.usb_reset();
+    }
+
+    /// The program refuses the image that this setup closes, as `Device::refuse_close`.
+    pub fn refuse_close(&mut self, setup: &[u8; 8], objection: Objection) -> bool
+        ensures closes { IsTrue result ↔ ClosesDownload setup.now self.old.device }
+        ensures row { IsTrue result → Row self.old.device (RefusingClose setup.now objection) Answer.Stall [] self.new.device }
+        ensures unchanged { IsTrue (not result) → self.new.device ≡ self.old.device }
+        ensures memory { self.new.memory ≡ self.old.memory }
+    {
+        self.machine.refuse_close(setup, objection)
+    }
+
+    /// The program refuses the image that was closed, as `Device::refuse`.
+    pub fn refuse(&mut self, objection: Objection)
+        ensures row { self.new.device ≡ record self.old.device { stage = refuse_stage objection self.old.device.stage } }
+        ensures memory { self.new.memory ≡ self.old.memory }
+    {
+        self.machine.refuse(objection);
     }
 }

@@ -5,6 +5,7 @@
 
 mod answer;
 mod block;
+mod candidate;
 mod config;
 mod decision;
 mod device;
@@ -18,8 +19,10 @@ pub mod laws;
 mod lent;
 mod machine;
 mod mode;
+mod objection;
 mod plans;
 mod profile;
+mod refuse;
 mod reply;
 mod rules;
 mod status;
@@ -28,6 +31,7 @@ mod time_table;
 
 pub use answer::Answer;
 pub use block::{Block, LentBlock};
+pub use candidate::Candidate;
 pub use config::Config;
 pub use decision::Decision;
 pub use device::Device;
@@ -35,9 +39,10 @@ pub use fault::ConfigFault;
 pub use filled::{PutSoFar, is_filled};
 pub use lent::LentDevice;
 pub use mode::Mode;
+pub use objection::Objection;
 pub use profile::Profile;
 pub use reply::Reply;
-pub use rules::{asked_length, goes_with};
+pub use rules::{asked_length, goes_with, is_close};
 pub use status::status_in;
 pub use table::decide;
 pub use time_table::decide_time;

@@ -1,12 +1,12 @@
 //! The machine inside a device.
 
-ghost use Rattle.std.specs.Prelude.{◌≡◌, ◌≢◌, ◌<◌, ◌≤◌, ◌==◌, ◌^◌, length, ℕ, List, IsTrue, []};
+ghost use Rattle.std.specs.Prelude.{◌≡◌, ◌≢◌, ◌<◌, ◌≤◌, ◌==◌, ◌^◌, length, ℕ, List, IsTrue, [], ◌↔◌, not};
 ghost use Rattle.dfu_slots.specs.Seen.{image_of, room_of};
-ghost use Rattle.dfu_device.specs.Stage.{InAppIdle, state_of, code_of};
-ghost use Rattle.dfu_device.specs.Table.{reset_stage};
+ghost use Rattle.dfu_device.specs.Stage.{InAppIdle, InError, state_of, code_of};
+ghost use Rattle.dfu_device.specs.Table.{reset_stage, objection_code, refuse_stage};
 ghost use Rattle.dfu_device.specs.Shown.{Shown, profile, powered_on};
 ghost use Rattle.dfu_device.specs.Parts.{is_sound};
-ghost use Rattle.dfu_device.specs.Rows.{Handles, Elapses};
+ghost use Rattle.dfu_device.specs.Rows.{Handles, Elapses, ClosesDownload};
 ghost use Rattle.dfu_device.specs.Lent.{answer_room};
 ghost use Rattle.dfu_device.specs.Decision.{profile_in, HasLength};
 ghost use Rattle.dfu_device.specs.inside.Draft.{Drafted, DraftServed, DraftHandled};
@@ -15,10 +15,10 @@ use crate::block::Block;
 use crate::draft::Draft;
 use crate::mode::Mode;
 use crate::profile::Profile;
-use crate::rules::{asked_length, goes_with};
+use crate::rules::{asked_length, goes_with, is_close};
 use crate::table::decide;
 use crate::time_table::decide_time;
-use crate::{Answer, Config};
+use crate::{Answer, Config, Objection};
 use dfu_slots::{Medium, Slots};
 use dfu_wire::{Code, Request, Setup, State};
 
@@ -127,5 +127,27 @@ impl<M: Medium, B: Block> Machine<M, B> {
         ensures memory { B.memory self.new.block ≡ B.memory self.old.block }
     {
         self.mode = self.mode.after_reset();
+    }
+
+    /// The program refuses the image that this setup closes, if it closes one.
+    pub(crate) fn refuse_close(&mut self, setup: &[u8; 8], objection: Objection) -> bool
+        ensures closes { IsTrue result ↔ ClosesDownload setup.now (shown self.old) }
+        ensures row { IsTrue result → shown self.new ≡ record (shown self.old) { stage = InError (objection_code objection) } }
+        ensures unchanged { IsTrue (not result) → shown self.new ≡ shown self.old }
+        ensures memory { B.memory self.new.block ≡ B.memory self.old.block }
+    {
+        if !self.mode.may_close(self.config.least()) || !is_close(setup) {
+            return false;
+        }
+        self.mode = Mode::after_refused_close(objection);
+        true
+    }
+
+    /// The program refuses the image that was closed.
+    pub(crate) fn refuse(&mut self, objection: Objection)
+        ensures row { shown self.new ≡ record (shown self.old) { stage = refuse_stage objection (shown self.old).stage } }
+        ensures memory { B.memory self.new.block ≡ B.memory self.old.block }
+    {
+        self.mode = self.mode.after_refusal(objection);
     }
 }

@@ -3,9 +3,13 @@
 ghost use Rattle.std.specs.Prelude.{◌≡◌, ℕ, List, true};
 ghost use Rattle.dfu_slots.specs.Seen.{SlotsState};
 ghost use Rattle.dfu_device.specs.Stage.{state_of, code_of};
-ghost use Rattle.dfu_device.specs.Table.{reset_stage};
+ghost use Rattle.dfu_device.specs.Candidate.{candidate_length};
+ghost use Rattle.dfu_device.specs.Decision.{HoldsWritten};
+ghost use Rattle.dfu_device.specs.Table.{reset_stage, may_close, refuse_stage, objection_code};
+ghost use Rattle.dfu_device.specs.Stage.{InError};
 ghost use Rattle.dfu_device.specs.Parts.{stage_of, is_filled};
 
+use crate::objection::Objection;
 use dfu_wire::{Code, State};
 
 /// Where a device stands: a state of the standard (USB DFU 1.1, section 6.1.2), with what the device keeps there beside its
@@ -125,6 +129,54 @@ impl Mode {
         match self {
             Mode::AppDetach { .. } => Mode::DfuIdle,
             _ => Mode::AppIdle,
+        }
+    }
+
+    /// How many bytes an image has that was taken and may be refused: in dfuDNLOAD-IDLE, in dfuMANIFEST-SYNC before it is complete, and in
+    /// dfuMANIFEST.
+    pub fn candidate_len(self) -> Option<u32>
+        ensures { result ≡ candidate_length self }
+    {
+        match self {
+            Mode::DownloadIdle { written, .. }
+            | Mode::ManifestSync { written }
+            | Mode::Manifest { written, .. } => Some(written),
+            _ => None,
+        }
+    }
+
+    /// Whether a DNLOAD of no bytes closes a download in this mode, if an image has so many bytes at least: in dfuDNLOAD-IDLE, once as
+    /// many were taken.
+    pub fn may_close(self, least: u32) -> bool
+        ensures { (spare block : List ℕ) → HoldsWritten self spare → result ≡ may_close least (stage_of self spare block) }
+    {
+        match self {
+            Mode::DownloadIdle { written, .. } => least <= written,
+            _ => false,
+        }
+    }
+
+    /// The mode after the program refuses the image that such a request closes: dfuERROR with the code of its objection.
+    pub fn after_refused_close(objection: Objection) -> Mode
+        ensures stage { (spare block : List ℕ) → stage_of result spare block ≡ InError (objection_code objection) }
+        ensures filled { (block : ℕ) (s : SlotsState) → is_filled result block s ≡ true }
+    {
+        Mode::Error {
+            code: objection.code(),
+        }
+    }
+
+    /// The mode after the program refuses the image that was closed: dfuERROR with the code of its objection from dfuMANIFEST-SYNC, not
+    /// complete, and from dfuMANIFEST. Every other mode stays.
+    pub fn after_refusal(self, objection: Objection) -> Mode
+        ensures stage { (spare block : List ℕ) → stage_of result spare block ≡ refuse_stage objection (stage_of self spare block) }
+        ensures filled { (block : ℕ) (s : SlotsState) → is_filled self block s ≡ true → is_filled result block s ≡ true }
+    {
+        match self {
+            Mode::ManifestSync { .. } | Mode::Manifest { .. } => {
+                Mode::after_refused_close(objection)
+            }
+            mode => mode,
         }
     }
 }

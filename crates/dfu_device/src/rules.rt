@@ -1,7 +1,7 @@
 //! The rules before the table: which setups go by it, and how many bytes an answer may have.
 
-ghost use Rattle.std.specs.Prelude.{◌≡◌, ◌==◌, length};
-ghost use Rattle.dfu_device.specs.Rows.{body_length, asked_length};
+ghost use Rattle.std.specs.Prelude.{◌≡◌, ◌==◌, ◌↔◌, length, IsTrue};
+ghost use Rattle.dfu_device.specs.Rows.{body_length, asked_length, is_close, IsCloseSetup};
 
 use dfu_wire::{Request, Setup};
 
@@ -25,4 +25,21 @@ pub fn goes_with(setup: &Setup, body: &[u8]) -> bool
         0
     };
     body.len() == len
+}
+
+// Whether a request is a DNLOAD of no bytes.
+fn closes(request: Request) -> bool
+    ensures { result ≡ is_close request }
+{
+    match request {
+        Request::Dnload { length, .. } => length == 0,
+        _ => false,
+    }
+}
+
+/// Whether a setup is a DNLOAD with wLength 0, which closes a download in dfuDNLOAD-IDLE.
+pub fn is_close(setup: &[u8; 8]) -> bool
+    ensures { IsTrue result ↔ IsCloseSetup setup.now }
+{
+    closes(Setup::decode(setup).request())
 }

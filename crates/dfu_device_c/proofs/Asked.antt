@@ -75,7 +75,7 @@ module _ (c : DfuConfig) (r : DfuRecord) (size : ℕ) (setup : List ℕ) (p : Se
       (stalls_device block flash k kept device size_is body)
 
 -- No work is due if the record has the number of none.
-none_kept : (r : DfuRecord) (w : Option Work) → r.work ≡ 0 → HasWork r w → w ≡ None
+pub none_kept : (r : DfuRecord) (w : Option Work) → r.work ≡ 0 → HasWork r w → w ≡ None
 none_kept r None is has = refl
 none_kept r (Some w) is has = absurd (some_job r w.job is has.0)
   where
@@ -84,7 +84,7 @@ none_kept r (Some w) is has = absurd (some_job r w.job is has.0)
     some_job r (job.Commit spare generation register) is has = omega (arith, is, has.0)
 
 -- A device is one in a mode in which nothing is put.
-moved_sound : (s : SlotsState) (m m' : Mode) (n : ℕ) → IsTrue (is_sound m n s) → is_filled m' n s ≡ true → IsTrue (is_sound m' n s)
+pub moved_sound : (s : SlotsState) (m m' : Mode) (n : ℕ) → IsTrue (is_sound m n s) → is_filled m' n s ≡ true → IsTrue (is_sound m' n s)
 moved_sound s m m' n sound free = both (is_shaped s) (is_filled m n s) (is_filled m' n s) sound free
   where
     both : (x y z : Bool) → IsTrue (x && y) → z ≡ true → IsTrue (x && z)

@@ -10,12 +10,12 @@ use Rattle.dfu_device.specs.Rows.{Transfer}
 use Rattle.dfu_asks.specs.declared.asking.Asking.{Asking}
 use Rattle.dfu_asks.specs.Mapped.{mapped}
 use Rattle.dfu_asks.specs.Carried.{IsPiece}
-use Rattle.dfu_asks.specs.Asks.{device_in, device_of, steps_in}
+use Rattle.dfu_asks.specs.Asks.{device_in, device_of, steps_in, IsDevice}
 use Rattle.dfu_asks.specs.Refused.{Fits}
 use Rattle.dfu_asks.specs.Refused.{IsKept as IsWhole}
 use Rattle.dfu_asks.specs.Calls.{Took}
 use Rattle.dfu_board.specs.Board.{Says, Nothing, Answers}
-use Rattle.dfu_board.specs.Happens.{start_stage, Starts, Happens, said_by}
+use Rattle.dfu_board.specs.Happens.{start_stage, Starts, IsObjected, Happens, said_by}
 use Rattle.dfu_device_c.specs.declared.ask.DfuAsk.{DfuAsk}
 use Rattle.dfu_device_c.specs.declared.config.DfuConfig.{DfuConfig}
 use Rattle.dfu_device_c.specs.declared.record.DfuRecord.{DfuRecord}
@@ -26,12 +26,14 @@ use Rattle.dfu_device_c.specs.Calls.{Goes}
 use Rattle.dfu_device_c.specs.Writes.{step_of, HandsOut, RefusesPiece, refuses_unfound, refuses_piece}
 use Rattle.dfu_device_c.specs.declared.refusal.Refusal.TheVariants as refusal
 use Rattle.dfu_device_c.specs.Power.{Powers}
-use Rattle.dfu_device_c.specs.Idle.{RefusesSetup}
+use Rattle.dfu_device_c.specs.Idle.{IsIdle, RefusesSetup}
+use Rattle.dfu_device_c.specs.Refuse.{objection_in, TakesCause, WasClosed, WasRefused}
 use Rattle.dfu_device_c.specs.Verdict.{IsBodyOf}
 use Rattle.dfu_asks.specs.declared.reply.Reply.TheVariants as reply
 use Rattle.dfu_asks.specs.Calls.{Called, called_ended}
-use Rattle.dfu_device.specs.Rows.{Handles}
-use Rattle.dfu_device_c.specs.Board.{CoreBoard, CoreEvent, CoreHandle, CoreElapse, CoreReset, CoreTooLong, CoreWrite, CoreTook, CoreRestart}
+use Rattle.dfu_device.specs.declared.answer.Answer.{Answer}
+use Rattle.dfu_device.specs.Rows.{Cause, Handles, RefusingClose, Refusing, Row}
+use Rattle.dfu_device_c.specs.Board.{CoreBoard, CoreEvent, CoreHandle, CoreElapse, CoreReset, CoreTooLong, CoreRefuseClose, CoreRefuse, CoreWrite, CoreTook, CoreRestart}
 use Rattle.dfu_device_c.specs.Happens.{IsCalled, Handled, Elapsed, Reset, TookLong, Told, IsWritten, start_mode, CoreHappens}
 use Rattle.dfu_device_c.specs.Steps.{board_of, event_of, IsRefusal, EventSays}
 use Rattle.dfu_device_c.proofs.Same.{no_work, one_device}
@@ -307,6 +309,96 @@ long_turn b a setup body n out' b' sound called block room is_body (inr (kept, i
       told = setup_refused b n denied;
     }
 
+-- A record that takes the row of a refusal is a board that does.
+record IsObjectedTo (b : CoreBoard) (a : Asking) (cause : Cause) (x : Answer) (b' : CoreBoard) : Type 0 where
+  after : Asking
+  sound : IsSound b' after
+  is : IsObjected (board_of b a) cause x (Answers x []) (board_of b' after)
+
+objected : (b : CoreBoard) (a : Asking) (cause : Cause) (x : Answer) (b' : CoreBoard) → IsSound b a → IsCalled b b' → b'.block ≡ b.block
+    → IsIdle b.config b.kept → TakesCause b.config b.kept cause x b'.kept → IsObjectedTo b a cause x b'
+objected b a cause x b' sound called block idle takes =
+    let t = takes a sound.kept in
+    let before = with_memory b.kept b.block a in
+    record {
+      after = t.0;
+      sound = record {
+        config = subst (λ (c : DfuConfig). IsConfig c) (sym called.config) sound.config;
+        kept = subst (λ (c : DfuConfig). IsKept c b'.kept t.0) (sym called.config) t.1;
+        short = omega (arith, sound.short, t.3, ap (λ (l : List ℕ). length l) block);
+      };
+      is = record {
+        idle = no_work b.kept a.work sound.kept.work idle.idle;
+        flash = called.flash;
+        row = λ device. subst (λ (l : List ℕ). IsDevice (with_memory b'.kept l t.0) b'.flash
+            × Row (device_in before b.flash) cause x [] (device_in (with_memory b'.kept l t.0) b'.flash)) (sym block)
+            (subst (λ (f : List ℕ). IsDevice (with_memory b'.kept b.block t.0) f
+            × Row (device_in before b.flash) cause x [] (device_in (with_memory b'.kept b.block t.0) f)) (sym called.flash)
+            (t.4 b.block b.flash device));
+        work = t.2;
+        says_is = refl;
+      };
+    }
+
+-- dfu_core_refuse_close.
+close_turn : (b : CoreBoard) (a : Asking) (setup : List ℕ) (status : ℕ) (n : ℤ) (out' : List ℕ) (b' : CoreBoard) → IsSound b a
+    → IsCalled b b' → b'.block ≡ b.block → WasClosed b.config b.kept (addressed b.config.interface setup) status n b'.kept
+    → IsTurn b a (CoreRefuseClose setup status) n out' b'
+close_turn b a setup status n out' b' sound called block (inl (is, idle, objects, takes)) =
+    let o = objected b a (RefusingClose (addressed b.config.interface setup) (objection_in status)) answer.Stall b' sound called block idle
+    takes in
+    record {
+      config = called.config;
+      after = o.after;
+      sound = o.sound;
+      says = Answers answer.Stall [];
+      happens = o.is;
+      told = (is, refl);
+    }
+close_turn b a setup status n out' b' sound called block (inr (kept, denied)) =
+    let same = still b a b' sound called.config called.flash kept block in
+    record {
+      config = called.config;
+      after = a;
+      sound = same.0;
+      says = Nothing;
+      happens = same.1;
+      told = elim denied [
+        | inl none ↦ inr (inl none.0)
+        | inr refused ↦ elim refused [
+          | inl other ↦ inr (inr other.0)
+          | inr early ↦ inl (setup_refused b n early)
+        ]
+      ];
+    }
+
+-- dfu_core_refuse.
+refuse_turn : (b : CoreBoard) (a : Asking) (status : ℕ) (n : ℤ) (out' : List ℕ) (b' : CoreBoard) → IsSound b a → IsCalled b b'
+    → b'.block ≡ b.block → WasRefused b.config b.kept status n b'.kept → IsTurn b a (CoreRefuse status) n out' b'
+refuse_turn b a status n out' b' sound called block (inl (is, idle, objects, takes)) =
+    let o = objected b a (Refusing (objection_in status)) answer.Ack b' sound called block idle takes in
+    record {
+      config = called.config;
+      after = o.after;
+      sound = o.sound;
+      says = Answers answer.Ack [];
+      happens = o.is;
+      told = (is, refl);
+    }
+refuse_turn b a status n out' b' sound called block (inr (kept, denied)) =
+    let same = still b a b' sound called.config called.flash kept block in
+    record {
+      config = called.config;
+      after = a;
+      sound = same.0;
+      says = Nothing;
+      happens = same.1;
+      told = elim denied [
+        | inl other ↦ inr (inr other.0)
+        | inr early ↦ inl (setup_refused b n early)
+      ];
+    }
+
 -- A write of the flash.
 write_turn : (b : CoreBoard) (a : Asking) (n : ℤ) (out' : List ℕ) (b' : CoreBoard) → IsSound b a → IsWritten b n b'
     → IsTurn b a CoreWrite n out' b'
@@ -383,6 +475,8 @@ turn b a (CoreHandle setup body out) n out' b' sound is = handle_turn b a setup 
 turn b a (CoreElapse ms) n out' b' sound is = elapse_turn b a ms n out' b' sound is.0 is.1
 turn b a CoreReset n out' b' sound is = reset_turn b a n out' b' sound is.0 is.1
 turn b a (CoreTooLong setup body) n out' b' sound is = long_turn b a setup body n out' b' sound is.0 is.1 is.2 is.3 is.4
+turn b a (CoreRefuseClose setup status) n out' b' sound is = close_turn b a setup status n out' b' sound is.0 is.1 is.2
+turn b a (CoreRefuse status) n out' b' sound is = refuse_turn b a status n out' b' sound is.0 is.1 is.2
 turn b a CoreWrite n out' b' sound is = write_turn b a n out' b' sound is
 turn b a (CoreTook failed out) n out' b' sound is = took_turn b a failed out n out' b' sound is.0 is.1 is.2
 turn b a (CoreRestart begins) n out' b' sound is = restart_turn b a begins n out' b' is.0 is.1

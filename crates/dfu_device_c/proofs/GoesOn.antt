@@ -1,6 +1,6 @@
 -- Sessions with a board in C go on as those of a board.
-use Rattle.std.specs.Prelude.{◌≡◌, List, [], ◌∷◌, ◌++◌, pos}
-use Rattle.std.proofs.Common.{refl, sym, ap, ◌∙◌, subst}
+use Rattle.std.specs.Prelude.{List, [], ◌∷◌, ◌++◌, pos}
+use Rattle.std.proofs.Common.{refl, ap, ◌∙◌, subst}
 use Rattle.dfu_device.specs.Setting.{Setting}
 use Rattle.dfu_host.specs.Phases.{ToFetch}
 use Rattle.dfu_host.specs.Host.{started, aborted}

@@ -6,6 +6,8 @@ pub mod Kept
 pub mod Found
 pub mod Handed
 pub mod Asked
+pub mod Moved
+pub mod Refusals
 pub mod DueTimes
 pub mod Powered
 pub mod ImagePlaces

@@ -20,7 +20,7 @@ use Rattle.dfu_board.specs.Refines.{RunRefines}
 use Rattle.dfu_device_c.specs.declared.config.DfuConfig.{DfuConfig}
 use Rattle.dfu_device_c.specs.Config.{grain_of}
 use Rattle.dfu_device_c.specs.Kept.{IsKept}
-use Rattle.dfu_device_c.specs.Board.{CoreBoard, CoreEvent, CoreHandle, CoreElapse, CoreReset, CoreTooLong, CoreWrite, CoreTook, CoreRestart, CoreStep, flash_of, IsIn}
+use Rattle.dfu_device_c.specs.Board.{CoreBoard, CoreEvent, CoreHandle, CoreElapse, CoreReset, CoreTooLong, CoreRefuseClose, CoreRefuse, CoreWrite, CoreTook, CoreRestart, CoreStep, flash_of, IsIn}
 use Rattle.dfu_device_c.specs.Happens.{IsCoreRun}
 use Rattle.dfu_device_c.specs.Steps.{board_of, event_of, IsBoardOf, AreStepsOf}
 use Rattle.dfu_device_c.specs.Runs.{IsRunOf, CoreRefines, CoreKeeps, CoreStays, CoreInstalls, CoreStarts}
@@ -154,6 +154,8 @@ core_begins c (CoreHandle setup body out) same = absurd (cc)
 core_begins c (CoreElapse ms) same = absurd (cc)
 core_begins c CoreReset same = absurd (cc)
 core_begins c (CoreTooLong setup body) same = absurd (cc)
+core_begins c (CoreRefuseClose setup status) same = absurd (cc)
+core_begins c (CoreRefuse status) same = absurd (cc)
 core_begins c CoreWrite same = absurd (cc)
 core_begins c (CoreTook failed out) same = absurd (cc)
 

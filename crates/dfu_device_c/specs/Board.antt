@@ -36,6 +36,9 @@ pub data CoreEvent : Type 0 where
   CoreReset : CoreEvent
   -- The call dfu_core_too_long, for this setup with this body, which the memory of the block need not hold.
   CoreTooLong : (setup body : List ℕ) → CoreEvent
+  -- The calls dfu_core_refuse_close and dfu_core_refuse, with this status.
+  CoreRefuseClose : (setup : List ℕ) (status : ℕ) → CoreEvent
+  CoreRefuse : (status : ℕ) → CoreEvent
   -- The flash changes in the range of the write that dfu_core_next hands out.
   CoreWrite : CoreEvent
   -- The call dfu_core_took.

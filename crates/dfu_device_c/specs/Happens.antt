@@ -20,7 +20,8 @@ use Rattle.dfu_device_c.specs.Idle.{IsIdle, RefusesSetup}
 use Rattle.dfu_device_c.specs.Verdict.{IsBodyOf}
 use Rattle.dfu_device_c.specs.AfterLong.{IsLong}
 use Rattle.dfu_device_c.specs.Long.{TakesLong}
-use Rattle.dfu_device_c.specs.Board.{CoreBoard, CoreEvent, CoreHandle, CoreElapse, CoreReset, CoreTooLong, CoreWrite, CoreTook, CoreRestart, CoreStep}
+use Rattle.dfu_device_c.specs.Refuse.{WasClosed, WasRefused}
+use Rattle.dfu_device_c.specs.Board.{CoreBoard, CoreEvent, CoreHandle, CoreElapse, CoreReset, CoreTooLong, CoreRefuseClose, CoreRefuse, CoreWrite, CoreTook, CoreRestart, CoreStep}
 
 -- A call leaves the configuration and the flash as they were.
 pub record IsCalled (b b' : CoreBoard) : Type 0 where
@@ -91,6 +92,9 @@ CoreHappens b (CoreElapse ms) n out' b' = IsCalled b b' × Elapsed b ms n b'
 CoreHappens b CoreReset n out' b' = IsCalled b b' × Reset b n b'
 CoreHappens b (CoreTooLong setup body) n out' b' = IsCalled b b' × (b'.block ≡ b.block) × (transfer_of b.config ≤ length b.block)
     × IsBodyOf (addressed b.config.interface setup) body × TookLong b setup n b'
+CoreHappens b (CoreRefuseClose setup status) n out' b' = IsCalled b b' × (b'.block ≡ b.block)
+    × WasClosed b.config b.kept (addressed b.config.interface setup) status n b'.kept
+CoreHappens b (CoreRefuse status) n out' b' = IsCalled b b' × (b'.block ≡ b.block) × WasRefused b.config b.kept status n b'.kept
 CoreHappens b CoreWrite n out' b' = IsWritten b n b'
 CoreHappens b (CoreTook failed out) n out' b' = IsCalled b b' × (b'.block ≡ b.block) × Told b failed out n out' b'
 CoreHappens b (CoreRestart begins) n out' b' = IsCalled b b' × Powers b.config (start_mode begins) b.flash n b'.kept

@@ -47,6 +47,18 @@ ASKS = negsuc 10
 abbrev pub ASKED : ℤ
 ASKED = negsuc 11
 
+-- DFU_NO_CLOSE.
+abbrev pub NO_CLOSE : ℤ
+NO_CLOSE = negsuc 12
+
+-- DFU_NO_STATUS.
+abbrev pub NO_STATUS : ℤ
+NO_STATUS = negsuc 13
+
+-- DFU_NO_CANDIDATE.
+abbrev pub NO_CANDIDATE : ℤ
+NO_CANDIDATE = negsuc 14
+
 -- The number of a refusal.
 abbrev pub refusal_number : Refusal → ℤ
 refusal_number refusal.NoConfig = NO_CONFIG

@@ -1,13 +1,14 @@
 -- Which step of a board a step in C is.
 use Rattle.std.specs.Prelude.{◌≡◌, ◌⊎◌, ◌==◌, not, ℕ, ℤ, pos, List, [], ◌∷◌, take}
 use Rattle.dfu_asks.specs.declared.asking.Asking.{Asking}
-use Rattle.dfu_board.specs.Board.{Board, Event, Handle, Elapse, UsbReset, Write, Report, Restart, Says, Nothing, WritesDue, Answers, BoardStep}
+use Rattle.dfu_board.specs.Board.{Board, Event, Handle, Elapse, UsbReset, RefuseClose, Refuse, Write, Report, Restart, Says, Nothing, WritesDue, Answers, BoardStep}
 use Rattle.dfu_device_c.specs.declared.config.DfuConfig.{DfuConfig}
 use Rattle.dfu_device_c.specs.declared.refusal.Refusal.{Refusal}
 use Rattle.dfu_device_c.specs.Addressed.{addressed}
 use Rattle.dfu_device_c.specs.Kept.{IsKept}
-use Rattle.dfu_device_c.specs.Numbers.{refusal_number, answer_number, ASKS, NO_ROOM, NOT_LONG}
-use Rattle.dfu_device_c.specs.Board.{CoreBoard, CoreEvent, CoreHandle, CoreElapse, CoreReset, CoreTooLong, CoreWrite, CoreTook, CoreRestart, CoreStep}
+use Rattle.dfu_device_c.specs.Numbers.{refusal_number, answer_number, ASKS, NO_ROOM, NOT_LONG, NO_CLOSE, NO_STATUS}
+use Rattle.dfu_device_c.specs.Refuse.{objection_in}
+use Rattle.dfu_device_c.specs.Board.{CoreBoard, CoreEvent, CoreHandle, CoreElapse, CoreReset, CoreTooLong, CoreRefuseClose, CoreRefuse, CoreWrite, CoreTook, CoreRestart, CoreStep}
 
 -- The board that a board in C is, if its record is this device.
 abbrev pub board_of : CoreBoard → Asking → Board
@@ -24,6 +25,8 @@ event_of c (CoreHandle setup body out) = Handle (addressed c.interface setup) bo
 event_of c (CoreElapse ms) = Elapse ms
 event_of c CoreReset = UsbReset
 event_of c (CoreTooLong setup body) = Handle (addressed c.interface setup) body
+event_of c (CoreRefuseClose setup status) = RefuseClose (addressed c.interface setup) (objection_in status)
+event_of c (CoreRefuse status) = Refuse (objection_in status)
 event_of c CoreWrite = Write
 event_of c (CoreTook failed out) = Report (not (failed == 0))
 event_of c (CoreRestart begins) = Restart begins
@@ -45,12 +48,20 @@ PassedSays n Nothing = IsRefusal n
 PassedSays n WritesDue = n ≡ ASKS
 PassedSays n (Answers a bytes) = n ≡ pos 0
 
+-- The same of a call by which the program refuses an image.
+abbrev pub ObjectionSays : ℤ → Says → Type 0
+ObjectionSays n Nothing = IsRefusal n ⊎ (n ≡ NO_CLOSE) ⊎ (n ≡ NO_STATUS)
+ObjectionSays n WritesDue = ⊥
+ObjectionSays n (Answers a bytes) = (n ≡ answer_number a 0) × (bytes ≡ [])
+
 -- The number of an event says this.
 abbrev pub EventSays : CoreEvent → ℤ → List ℕ → Says → Type 0
 EventSays (CoreHandle setup body out) n out' says = NumberSays n out' says
 EventSays (CoreElapse ms) n out' says = PassedSays n says
 EventSays CoreReset n out' says = PassedSays n says
 EventSays (CoreTooLong setup body) n out' says = NumberSays n [] says
+EventSays (CoreRefuseClose setup status) n out' says = ObjectionSays n says
+EventSays (CoreRefuse status) n out' says = ObjectionSays n says
 EventSays (CoreTook failed out) n out' says = NumberSays n out' says
 EventSays e n out' says = (n ≡ pos 0) × (says ≡ Nothing)
 

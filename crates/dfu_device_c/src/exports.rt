@@ -20,7 +20,7 @@ use dfu_asks::Reply;
 use dfu_device::Answer;
 
 // The refusal of a call of a device that asks.
-fn refused(refusal: dfu_asks::Refusal) -> Refusal
+pub(crate) fn refused(refusal: dfu_asks::Refusal) -> Refusal
     ensures { result ≡ refusal_of refusal }
 {
     match refusal {

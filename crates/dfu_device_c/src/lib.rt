@@ -4,6 +4,7 @@
 
 mod addressed;
 mod ask;
+mod candidate;
 mod config;
 mod due;
 mod exports;
@@ -21,6 +22,7 @@ mod place;
 mod power;
 mod record;
 mod refusal;
+mod refuse;
 mod stalls;
 pub mod steps;
 mod tells;

@@ -1,7 +1,7 @@
 //! Each call is a step of a board in C. Each function makes the call of its name and nothing else; its contract says which step that is,
 //! from the call's contract alone.
 ghost use Rattle.std.specs.Prelude.{◌≡◌, ◌⊎◌, ◌≤◌, true, false, ℕ, List, [], length, pos};
-ghost use Rattle.dfu_device_c.specs.Board.{CoreHandle, CoreElapse, CoreReset, CoreTooLong, CoreWrite, CoreTook, CoreRestart, board};
+ghost use Rattle.dfu_device_c.specs.Board.{CoreHandle, CoreElapse, CoreReset, CoreTooLong, CoreRefuseClose, CoreRefuse, CoreWrite, CoreTook, CoreRestart, board};
 ghost use Rattle.dfu_device_c.specs.Happens.{CoreHappens, IsCoreOn};
 ghost use Rattle.dfu_slots.specs.Medium.{Torn};
 ghost use Rattle.dfu_device_c.specs.Writes.{step_of};
@@ -17,6 +17,7 @@ use crate::exports::{dfu_core_elapse, dfu_core_handle, dfu_core_usb_reset};
 use crate::long::dfu_core_too_long;
 use crate::power::{dfu_core_begin, dfu_core_power_on};
 use crate::record::DfuRecord;
+use crate::refuse::{dfu_core_refuse, dfu_core_refuse_close};
 use crate::writes::{dfu_core_next, dfu_core_took};
 
 /// `dfu_core_handle` is a step of a board in C.
@@ -94,6 +95,23 @@ pub fn too_long(config: &DfuConfig, device: &mut DfuRecord, setup: &[u8; 8]) -> 
         CoreHappens (board config.now device.old block flash) (CoreTooLong setup.now body) result [] (board config.now device.new block flash) }
 {
     dfu_core_too_long(config, device, setup)
+}
+
+/// `dfu_core_refuse_close` is a step of a board in C, whatever is in the memory of its block and on its flash.
+pub fn refuse_close(config: &DfuConfig, device: &mut DfuRecord, setup: &[u8; 8], status: u32) -> i32
+    ensures step { (block flash : List ℕ) →
+        CoreHappens (board config.now device.old block flash) (CoreRefuseClose setup.now status) result []
+        (board config.now device.new block flash) }
+{
+    dfu_core_refuse_close(config, device, setup, status)
+}
+
+/// `dfu_core_refuse` is a step of a board in C, whatever is in the memory of its block and on its flash.
+pub fn refuse(config: &DfuConfig, device: &mut DfuRecord, status: u32) -> i32
+    ensures step { (block flash : List ℕ) → CoreHappens (board config.now device.old block flash) (CoreRefuse status) result []
+        (board config.now device.new block flash) }
+{
+    dfu_core_refuse(config, device, status)
 }
 
 /// `dfu_core_power_on` makes a board in C that just got power, whatever stands in the memory of its block, exactly if the configuration is

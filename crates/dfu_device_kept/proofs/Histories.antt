@@ -1,20 +1,23 @@
 -- Whole histories are kept.
 use Rattle.std.specs.Prelude.{◌≡◌, ℕ, ◌<◌, Bool, true, false, List, [], ◌∷◌, length}
-use Rattle.std.proofs.Common.{refl, sym, ap, subst, ◌∙◌, inl, inr, lit<}
-use Rattle.std.proofs.lemmas.Bool.{and_left}
+use Rattle.std.proofs.Common.{refl, sym, ap, subst, ◌∙◌, inl, inr, lit<, ◌==◌}
+use Rattle.std.proofs.lemmas.Bool.{and_left, eq-eqb, eqb-true, cond-true, false≢true}
 use Rattle.dfu_wire.specs.declared.setups.Setup.{Setup}
 use Rattle.dfu_wire.specs.declared.codes.Code.TheVariants.{Ok as NoFault}
 use Rattle.dfu_wire.specs.declared.requests.Request.{Request as Asked}
 use Rattle.dfu_wire.specs.declared.requests.Request.TheVariants as asked
 use Rattle.dfu_wire.specs.Setup.{IsSetup}
 use Rattle.dfu_wire.specs.Request.{Asks}
+use Rattle.dfu_wire.specs.OneSetup.{IsSetup-one}
+use Rattle.dfu_wire.specs.OneRequest.{Asks-one}
+use Rattle.dfu_device.specs.declared.objection.Objection.{Objection}
 use Rattle.dfu_device.specs.declared.answer.Answer.{Answer}
 use Rattle.dfu_device.specs.declared.answer.Answer.TheVariants as answer
 use Rattle.dfu_device.specs.Setting.{Setting}
-use Rattle.dfu_device.specs.Stage.{Profile, Stage, InManifestSyncComplete, InUploadIdle, InError}
-use Rattle.dfu_device.specs.Table.{Plan, Sure, Writes, Commits, plan, time_plan}
+use Rattle.dfu_device.specs.Stage.{Profile, Stage, InDownloadIdle, InManifestSyncComplete, InUploadIdle, InError}
+use Rattle.dfu_device.specs.Table.{objection_code, may_close, Plan, Sure, Writes, Commits, plan, time_plan}
 use Rattle.dfu_device.specs.Shown.{Shown, profile, profile_of}
-use Rattle.dfu_device.specs.Rows.{Done, meant, Cause, Transfer, Passing, BusReset, PowerOn, Handles, Row, is_served, asked_length}
+use Rattle.dfu_device.specs.Rows.{Done, meant, Cause, Transfer, Passing, BusReset, RefusingClose, Refusing, PowerOn, Handles, Row, is_close, IsCloseSetup, body_length, is_served, asked_length}
 use Rattle.dfu_device.specs.Came.{row_of, not_served}
 use Rattle.dfu_slots.specs.Seen.{image_of, room_of}
 use Rattle.dfu_judge.specs.declared.place.Place.{Place}
@@ -25,10 +28,10 @@ use Rattle.dfu_judge.specs.Setups.{event_of, is_plain}
 use Rattle.dfu_judge.specs.MayAnswer.{Run}
 use Rattle.dfu_judge.proofs.ForCallers.{moves_first}
 use Rattle.dfu_device_kept.specs.Kept.{attributes, attributes_of, place_of, seen, Adds, Tells, Stands, TakesTime, HistoryIsKept, StartIsKept}
-use Rattle.dfu_device_kept.proofs.Leads.{PlanKept, write_stands, commit_stands}
+use Rattle.dfu_device_kept.proofs.Leads.{PlanKept, stalls, write_stands, commit_stands}
 use Rattle.dfu_device_kept.proofs.Rows.{plan_kept}
 use Rattle.dfu_device_kept.proofs.Seen.{LedOn}
-use Rattle.dfu_device_kept.proofs.Passing.{time_kept, time_moved, reset_led, reset_stands, power_led}
+use Rattle.dfu_device_kept.proofs.Passing.{time_kept, time_moved, reset_led, reset_stands, refusal_moved, objection_stands, power_led}
 
 -- A plan that is kept and was carried out led the device on.
 done_led : (pl : Plan) (c : Profile) (p : Setup) (q : Asked) (body : List ℕ) (st : Stage) (w : Shown) (a : Answer) (out : List ℕ)
@@ -118,6 +121,33 @@ by_request w setup body a out w' rest events p asked.NotDfu takes stands reads a
 by_request w setup body a out w' rest events p q takes stands reads asks h adds =
     led_step w w' _ rest events adds (transfer_kept w setup body a out w' p q _ takes stands reads asks tt refl h)
 
+-- A request that closes a download is a DNLOAD with wLength 0, read as any other setup.
+close_read : (setup : List ℕ) (p : Setup) (q : Asked) → IsSetup p setup → Asks p q → IsCloseSetup setup → is_close q ≡ true
+close_read setup p q reads asks (p2, q2, reads2, asks2, close) =
+    let same : p2 ≡ p = IsSetup-one p2 p setup reads2 reads in
+    subst (λ (r : Asked). is_close r ≡ true) (Asks-one p q2 q (subst (λ (x : Setup). Asks x q2) same asks2) asks) close
+
+-- A close that the program refuses.
+close_kept : (w : Shown) (a : Answer) (out : List ℕ) (w' : Shown) (rest events : List Event) (p : Setup) (q : Asked) (why : Objection)
+    (st : Stage) → is_close q ≡ true → Asks p q → may_close w.config.least st ≡ true → w.stage ≡ st → (a ≡ answer.Stall) × (out ≡ [])
+    → w' ≡ record w { stage = InError (objection_code why) } → Adds p q [] (seen a out) rest events → StepKept w w' rest events
+close_kept w a out w' rest events p (asked.Dnload number len) why (InDownloadIdle taken next) close asks may at says same adds =
+    let empty : len ≡ 0 = eqb-true len 0 close in
+    let served : is_served p (asked.Dnload number len) [] ≡ true =
+    eq-eqb 0 (body_length p) (sym (cond-true (p.kind == 0x21) p.length 0 (eq-eqb _ _ asks.0.kind) ∙ sym asks.2 ∙ empty)) in
+    let led = stalls (profile w) p (asked.Dnload number len) [] (InDownloadIdle taken next) (InError (objection_code why)) asks served refl
+    a out says in
+    led_step w w' _ rest events adds (
+      subst (λ (z : Shown). LedOn (attributes_of (profile w)) (place_of w.stage) (event_of p (asked.Dnload number len) 0 (seen a out))
+          (place_of z.stage)) (sym same)
+          (subst (λ (x : Stage). LedOn (attributes_of (profile w)) (place_of x) (event_of p (asked.Dnload number len) 0 (seen a out))
+          place.Error) (sym at) led),
+      subst (λ (z : Shown). Stands (profile w) z.stage) (sym same) (objection_stands (profile w) why),
+      ap (λ (z : Shown). z.config) same,
+    )
+close_kept w a out w' rest events p (asked.Dnload number len) why st close asks may at says same adds = absurd (false≢true may)
+close_kept w a out w' rest events p q why st close asks may at says same adds = absurd (false≢true close)
+
 -- A step of a history.
 step_kept : (w : Shown) (cause : Cause) (a : Answer) (out : List ℕ) (w' : Shown) (rest events : List Event) → TakesTime (profile w)
     → Stands (profile w) w.stage → Row w cause a out w' → Tells cause a out rest events → StepKept w w' rest events
@@ -136,6 +166,16 @@ step_kept w BusReset a out w' rest events takes stands row adds =
       λ last run. subst (λ (es : List Event). Run (attributes_of (profile w)) 0 (place_of w.stage) es last) (sym adds)
           (reset_led (attributes_of (profile w)) w.stage rest last run),
       reset_stands (profile w) w.stage,
+      refl,
+    )
+step_kept w (RefusingClose setup why) a out w' rest events takes stands (stall, none, closes, same) (p, q, reads, asks, adds) =
+    close_kept w a out w' rest events p q why w.stage (close_read setup p q reads asks closes.0) asks closes.1 refl (stall, none) same adds
+step_kept w (Refusing why) a out w' rest events takes stands row same =
+    let moved = refusal_moved (profile w) why w.stage stands in
+    subst (λ (z : Shown). StepKept w z rest events) (sym row.2) (
+      λ last run. subst (λ (es : List Event). Run (attributes_of (profile w)) 0 (place_of w.stage) es last) (sym same)
+          (moves_first (attributes_of (profile w)) 0 (place_of w.stage) _ rest last moved.0 run),
+      moved.1,
       refl,
     )
 step_kept w PowerOn a out w' rest events takes stands row adds =

@@ -3,8 +3,10 @@ use Rattle.std.specs.Prelude.{◌≡◌, ℕ, ◌+◌, ◌==◌, nat_le, max, no
 use Rattle.std.specs.List.{list_any}
 use Rattle.std.proofs.Common.{refl, sym, ap, subst, ◌∙◌, inl, inr}
 use Rattle.dfu_device.specs.declared.answer.Answer.{Answer}
-use Rattle.dfu_device.specs.Stage.{Profile, Stage, InAppIdle, InAppDetach, InDownloadBusy, InManifestSyncComplete, InManifest, InManifestWaitReset}
-use Rattle.dfu_device.specs.Table.{Plan, Sure, Writes, Commits, time_plan, reset_stage}
+use Rattle.dfu_device.specs.declared.objection.Objection.{Objection}
+use Rattle.dfu_device.specs.declared.objection.Objection.TheVariants.{Target, File}
+use Rattle.dfu_device.specs.Stage.{Profile, Stage, InAppIdle, InAppDetach, InDownloadBusy, InManifestSync, InManifestSyncComplete, InManifest, InManifestWaitReset, InError}
+use Rattle.dfu_device.specs.Table.{Plan, Sure, Writes, Commits, time_plan, reset_stage, objection_code, refuse_stage}
 use Rattle.dfu_device.specs.Cases.{either_way}
 use Rattle.dfu_device.specs.Shown.{Shown}
 use Rattle.dfu_device.specs.Rows.{Done}
@@ -104,6 +106,18 @@ time_moved (Commits taken reply next bad) c st w a out w' kept (inr (fault, says
       kept.1,
       commit_stands c fault,
     )
+
+-- What a program objects is no code that a device may not have in dfuERROR.
+pub objection_stands : (c : Profile) (why : Objection) → Stands c (InError (objection_code why))
+objection_stands c Target = tt
+objection_stands c File = tt
+
+-- An image that is refused after the close moves the device to dfuERROR, if at all.
+pub refusal_moved : (c : Profile) (why : Objection) (st : Stage) → Stands c st
+    → MayMove (attributes_of c) 0 (place_of st) (place_of (refuse_stage why st)) × Stands c (refuse_stage why st)
+refusal_moved c why (InManifestSync taken) stands = (moves c place.ManifestSync Always place.Error refl refl, objection_stands c why)
+refusal_moved c why (InManifest taken passed) stands = (moves c place.Manifest Always place.Error refl refl, objection_stands c why)
+refusal_moved c why st stands = (inl refl, stands)
 
 -- A mark goes by a row of the table of marks.
 pub marked : (att : ℕ) (from : Place) (next : Place) (e : Event) → list_any (is_row from e.asked Always gives.Silent next) MARKS ≡ true

@@ -11,7 +11,7 @@ use Rattle.dfu_device.specs.declared.answer.Answer.TheVariants as answer
 use Rattle.dfu_device.specs.Setting.{IsAllowed}
 use Rattle.dfu_device.specs.Stage.{Profile, Stage, InAppIdle, InAppDetach, InDfuIdle, InDownloadSync, InDownloadSyncWritten, InDownloadBusy, InDownloadIdle, InManifestSync, InManifestSyncComplete, InManifest, InManifestWaitReset, InUploadIdle, InError}
 use Rattle.dfu_device.specs.Shown.{Shown, profile}
-use Rattle.dfu_device.specs.Rows.{Cause, Transfer, Passing, BusReset, PowerOn}
+use Rattle.dfu_device.specs.Rows.{Cause, Transfer, Passing, BusReset, RefusingClose, Refusing, PowerOn}
 use Rattle.dfu_device.specs.History.{Step, IsHistory}
 use Rattle.dfu_judge.specs.declared.place.Place.{Place}
 use Rattle.dfu_judge.specs.declared.place.Place.TheVariants as place
@@ -63,12 +63,15 @@ abbrev pub Adds : Setup → Asked → List ℕ → Shows → (rest events : List
 Adds p asked.NotDfu body a rest events = events ≡ rest
 Adds p q body a rest events = events ≡ event_of p q (length body) a ∷ rest
 
--- A step comes before these events: time that passes is not seen.
+-- A step comes before these events: time that passes is not seen, nor that the program refuses an image that was closed.
 abbrev pub Tells : Cause → Answer → List ℕ → (rest events : List Event) → Type 0
 Tells (Transfer setup body) a out rest events =
     (p : Setup) × (q : Asked) × IsSetup p setup × Asks p q × Adds p q body (seen a out) rest events
 Tells (Passing ms) a out rest events = events ≡ rest
 Tells BusReset a out rest events = events ≡ reset ∷ rest
+Tells (RefusingClose setup why) a out rest events =
+    (p : Setup) × (q : Asked) × IsSetup p setup × Asks p q × Adds p q [] (seen a out) rest events
+Tells (Refusing why) a out rest events = events ≡ rest
 Tells PowerOn a out rest events = events ≡ power ∷ rest
 
 -- These events are what is seen of a history.

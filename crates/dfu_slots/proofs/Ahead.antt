@@ -3,7 +3,7 @@ use Rattle.std.proofs.Common.{◌≡◌, ◌≢◌, ◌⊎◌, ◌==◌, true, f
 use Rattle.std.proofs.lemmas.List.{length-replicate, get_or-replicate, get_or-take, get_or-drop}
 use Rattle.std.proofs.lemmas.Bool.{cases_lt, eqb-true, eqb-false}
 use Rattle.std.proofs.Math.Nat.{add-mod_right}
-use Rattle.dfu_slots.specs.Units.{Grain, IsMultiple}
+use Rattle.dfu_slots.specs.Units.{Grain}
 use Rattle.dfu_slots.specs.Medium.{MediumState, Write, AllWrites, KeepsOutside, IsErased, IsAhead, IsWritable, written}
 use Rattle.dfu_slots.specs.Image.{IsSized}
 use Rattle.dfu_slots.specs.Writes.{erase_write, erases, write_anew, write_some}
@@ -13,14 +13,6 @@ use Rattle.dfu_slots.proofs.Sectors.{IsEdge, edge_next}
 use Rattle.dfu_slots.proofs.Edges.{sized_edge}
 use Rattle.dfu_slots.proofs.Anew.{erases_inside}
 use Rattle.dfu_slots.proofs.SizedOn.{anew_is, erases_same}
-
--- The medium is two slots, and so many bytes may be written there.
-pub record MayWrite (m : MediumState) (at n : ℕ) : Type 0 where
-  pub sized : IsSized m
-  pub ahead : IsAhead m at
-  pub within : at + n ≤ length m.bytes
-  pub place : IsMultiple m.grain.unit at
-  pub whole : IsMultiple m.grain.unit n
 
 -- Where a sector begins, nothing is asked.
 pub edge_ahead : (m : MediumState) (at : ℕ) → IsEdge m.grain.sector at → IsAhead m at

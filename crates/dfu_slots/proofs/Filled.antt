@@ -1,14 +1,11 @@
 -- Bytes at the front of a buffer, with zeros behind them.
-use Rattle.std.proofs.Common.{◌≡◌, ◌==◌, ℕ, ◌+◌, ◌-◌, ◌≤◌, List, [], ◌∷◌, ◌++◌, length, take, drop, replicate, Result, sym, ◌∙◌, ap, subst, arith}
+use Rattle.std.proofs.Common.{◌≡◌, ℕ, ◌+◌, ◌-◌, ◌≤◌, List, ◌++◌, length, take, drop, replicate, Result, ◌∙◌, ap, subst, arith}
 use Rattle.std.proofs.lemmas.List.{drop-replicate, take-replicate}
 use Rattle.dfu_slots.specs.declared.fault.WriteFault.{WriteFault}
 use Rattle.dfu_slots.specs.declared.unit.Unit.{Unit as WriteUnit}
-use Rattle.dfu_slots.specs.Units.{Grain, IsMultiple, gate_size, fill_size, filled}
+use Rattle.dfu_slots.specs.Units.{IsMultiple, fill_size, filled}
 use Rattle.dfu_slots.specs.Medium.{MediumState}
-use Rattle.dfu_slots.specs.Layout.{gate_unit}
-use Rattle.dfu_slots.specs.Writes.{closed_gate, write_some}
-use Rattle.dfu_slots.proofs.Sectors.{unit_wide, gate_most}
-use Rattle.std.proofs.lemmas.Bool.{cond-true, eq-eqb}
+use Rattle.dfu_slots.specs.Writes.{write_some}
 use Rattle.dfu_slots.specs.inside.Series.{Series}
 use Rattle.dfu_slots.proofs.Within.{take_past}
 use Rattle.dfu_slots.proofs.Multiples.{length-filled, filled_within}
@@ -39,13 +36,3 @@ front_series m now at bytes r most whole {zeros = zeros} unit zeros_are short is
     subst (λ (l : List ℕ). Series m (write_some m.grain.sector at l) r now)
     (ap (λ (l : List ℕ). take size l) is ∙ buffer_front bytes size most (omega arith) fits ∙ ap (λ (n : ℕ). bytes ++ replicate n 0) behind)
     series
-
--- A byte 0 at the front of such a buffer is a gate unit that closes the gate, where the medium has no sectors.
-pub closed_front : (w : Grain) (size : ℕ) (buffer : List ℕ) → size ≡ gate_size w.unit
-    → buffer ≡ (0 ∷ []) ++ replicate (256 - length {A = ℕ} (0 ∷ [])) 0
-    → w.sector ≡ 0 → take size buffer ≡ closed_gate w
-closed_front w size buffer size_is is none =
-    ap (λ (l : List ℕ). take size l) is
-    ∙ buffer_front (0 ∷ []) size 256 (omega (arith, size_is, unit_wide w.unit)) (omega (arith, size_is, gate_most w.unit))
-    ∙ ap (λ (n : ℕ). gate_unit n 0) size_is
-    ∙ sym (cond-true (w.sector == 0) (gate_unit (gate_size w.unit) 0) (replicate w.sector 255) (eq-eqb w.sector 0 none))

@@ -1,29 +1,29 @@
 -- The steps of a `format` keep the length of the medium and its unit.
-use Rattle.std.proofs.Common.{◌≡◌, inr, ℕ, ◌+◌, ◌*◌, ◌≤◌, List, [], ◌++◌, length, take, replicate, Result, refl, sym, ◌∙◌, ap, subst, arith}
-use Rattle.std.proofs.lemmas.List.{take_at, take-take}
+use Rattle.std.proofs.Common.{◌≡◌, inr, ℕ, ◌+◌, ◌*◌, ◌≤◌, List, [], ◌++◌, length, Result, refl, sym, ap, subst, arith}
 use Rattle.dfu_suffix.specs.Register.{register}
-use Rattle.dfu_slots.specs.Units.{Grain, gate_room, fill_size, filled}
+use Rattle.dfu_slots.specs.declared.unit.Unit.{Unit as WriteUnit}
+use Rattle.dfu_slots.specs.declared.unit.Unit.TheVariants.{Byte, U16, U64, U256}
+use Rattle.dfu_slots.specs.Units.{Grain, gate_room, IsMultiple, filled}
 use Rattle.dfu_slots.specs.declared.fault.WriteFault.{WriteFault}
 use Rattle.dfu_slots.specs.Medium.{MediumState, Write, AllWrites, BrokenWrites, IsAhead}
 use Rattle.dfu_slots.specs.inside.Series.{Series}
-use Rattle.dfu_slots.specs.Layout.{slot_size, slot}
-use Rattle.dfu_slots.specs.Image.{gate_of, slot_of, capacity_of, IsSized, Active}
-use Rattle.dfu_slots.specs.Writes.{close_writes, piece_writes, image_writes, open_writes}
+use Rattle.dfu_slots.specs.Layout.{slot_size}
+use Rattle.dfu_slots.specs.Image.{gate_of, capacity_of, IsSized, Active}
+use Rattle.dfu_slots.specs.Writes.{close_writes, piece_writes, image_writes, open_writes, part_writes, write_some}
+use Rattle.dfu_slots.specs.Operations.{held_from}
 use Rattle.dfu_slots.specs.Seen.{SlotsState, store_of, image_of, format_series}
 use Rattle.dfu_slots.specs.Changes.{CanFormat}
 use Rattle.dfu_slots.proofs.Stands.{two_slots}
 use Rattle.dfu_slots.proofs.Series.{AllInside, SameSize, all_same, same_both, all_append, broken_first, broken_later, series_after, inside_append}
 use Rattle.dfu_slots.proofs.Pieces.{pieces_inside}
-use Rattle.dfu_slots.proofs.Sectors.{IsEdge, edge_zero}
-use Rattle.dfu_slots.proofs.SlotOpened.{MayOpen, open_inside}
-use Rattle.dfu_slots.proofs.Multiples.{multiple_zero, length-filled, filled_within, sized_after}
+use Rattle.dfu_slots.proofs.Sectors.{IsEdge, edge_zero, room_multiple}
+use Rattle.dfu_slots.proofs.SlotOpened.{open_inside}
+use Rattle.dfu_slots.proofs.Multiples.{multiple_zero, multiple_add, filled_within, sized_after}
 use Rattle.dfu_slots.proofs.Seeing.{active_on, image_is, IsFresh, fresh_leaves}
-use Rattle.dfu_slots.proofs.Formatted.{pieces_stand, format_done}
-use Rattle.dfu_slots.proofs.Anew.{Left}
+use Rattle.dfu_slots.proofs.Formatted.{format_done}
 use Rattle.dfu_slots.proofs.Edges.{sized_edge, data_edge}
 use Rattle.dfu_slots.proofs.Ahead.{edge_ahead}
 use Rattle.dfu_slots.proofs.Begun.{closed_most}
-use Rattle.dfu_slots.proofs.SpareData.{data_front}
 
 -- Bytes that fit in the data of a slot do so filled up with zeros.
 units_fit : (s : MediumState) (image : List ℕ) → CanFormat s image → length (filled s.grain.unit image) ≤ capacity_of s
@@ -70,6 +70,23 @@ formatted s now image can all =
     (omega (arith, can.sized.room, can.sized.even))) in
     active_on 0 (slot_size now.bytes) image (all_same (format_series s image) s now inside all) can.sized.whole
     (format_done s.grain s now image (two_slots s can.sized) can.sized.whole can.fits all)
+
+-- The first slot may be opened, with nothing held back.
+pub record MayOpenFirst (m : MediumState) : Type 0 where
+  pub sized : IsSized m
+  pub slot : 0 + slot_size m.bytes ≤ length m.bytes
+  pub place : IsMultiple m.grain.unit 0
+  pub sector : IsEdge m.grain.sector 0
+  pub ahead : IsAhead m (held_from m.grain 0 0 0)
+  pub within : held_from m.grain 0 0 0 + length (filled m.grain.unit []) ≤ length m.bytes
+  pub whole : IsMultiple m.grain.unit (held_from m.grain 0 0 0)
+
+-- No bytes are filled up with none.
+none_filled : (u : WriteUnit) → filled u [] ≡ []
+none_filled Byte = refl
+none_filled U16 = refl
+none_filled U64 = refl
+none_filled U256 = refl
 
 -- The steps of the code: the gates are closed, the pieces are written, and the first slot is opened.
 module _ {s : MediumState} {image : List ℕ} (can : CanFormat s image) (mid : MediumState) {at : ℕ} (at_is : at ≡ 0 + 2 * gate_of s)
@@ -118,49 +135,38 @@ module _ {s : MediumState} {image : List ℕ} (can : CanFormat s image) (mid : M
     same_all = same_both same same_filled
 
     -- The first slot may be opened then.
-    pub front_ready : MayOpen filling 0 (length image)
+    pub front_ready : MayOpenFirst filling
     front_ready =
         let sized = sized_after same_all can.sized in
+        let w = filling.grain in
+        let g = gate_of filling in
+        let here : 0 + 2 * g ≡ held_from w 0 0 0 = omega arith in
+        let room = room_multiple w (capacity_of filling) sized.whole in
+        let there : g + g ≡ held_from w 0 0 0 = omega arith in
         record {
           sized = sized;
           slot = omega (arith, sized.even);
-          place = multiple_zero filling.grain.unit;
-          sector = edge_zero filling.grain.sector;
-          room = (can_after same_all can).fits;
+          place = multiple_zero w.unit;
+          sector = edge_zero w.sector;
+          ahead = edge_ahead filling (held_from w 0 0 0) (subst (λ (n : ℕ). IsEdge w.sector n) here
+              (data_edge w filling.bytes (two_slots filling sized) sized.whole (slot_size filling.bytes) 0 (inr (refl, refl))));
+          within = omega (arith, ap length (none_filled w.unit), sized.room, sized.even);
+          whole = subst (λ (n : ℕ). IsMultiple w.unit n) there (multiple_add w.unit g g room room);
         }
-
-    -- The image stands in front of the first slot's data.
-    image_there : take (length image) (slot_of filling 0).data_bytes ≡ image
-    image_there =
-        let g = gate_of mid in
-        let sized = can_still.sized in
-        let here : at ≡ 0 + 2 * g + 0 = omega (arith, at_is, ap gate_room same.grain) in
-        let room : 2 * g + length units ≤ slot_size mid.bytes = omega (arith, units_fit mid image can_still, sized.room) in
-        let stand = pieces_stand mid.grain.sector (length mid.bytes) (sized_edge mid sized)
-        (length units) at units mid filling (omega arith) (omega (arith, here, room, sized.even)) (omega arith)
-        (all (length units) (omega arith)) in
-        let front : take (length units) (slot g filling.bytes 0).data_bytes ≡ units =
-        (let none : length units ≡ 0 + length units = omega arith in
-        ap (λ (n : ℕ). take n (slot g filling.bytes 0).data_bytes) none)
-        ∙ data_front g mid.bytes filling.bytes 0 0 units (length mid.bytes) (omega (arith, room))
-        (subst (λ (p : ℕ). Left p (length mid.bytes) units mid.bytes filling.bytes) here stand) in
-        let least : length image ≤ length units = omega (arith, length-filled mid.grain.unit image) in
-        ap (λ (w : Grain). take (length image) (slot (gate_room w) filling.bytes 0).data_bytes) same_filled.grain
-        ∙ sym (take-take (length image) (length units) (slot g filling.bytes 0).data_bytes least)
-        ∙ ap (λ (l : List ℕ). take (length image) l) front
-        ∙ take_at image (replicate (fill_size mid.grain.unit (length image)) 0) (length image) refl
 
     -- And the writes that open the first slot are the last ones of the `format`.
     pub pieces_opened : {T : Type 0} (now : MediumState) (r : Result T WriteFault)
-        → Series filling
-        (open_writes filling.grain 0 0 (length image) (register (take (length image) (slot_of filling 0).data_bytes))) r now
+        → Series filling (part_writes filling.grain (held_from filling.grain 0 0 0) []
+        ++ open_writes filling.grain 0 0 (length image) (register image)) r now
         → Series s (format_series s image) r now
     pieces_opened now r series =
+        let w = filling.grain in
         series_after (close_writes s.grain s.bytes ++ image_writes s.grain image)
         (open_writes s.grain 0 0 (length image) (register image)) s filling now r
         (all_append (close_writes s.grain s.bytes) (image_writes s.grain image) s mid filling closed in_place)
-        (subst (λ (ws : List Write). Series filling ws r now)
-        (λ i. open_writes (same_all.grain i) 0 0 (length image) (register (image_there i))) series)
+        (subst (λ (v : Grain). Series filling (open_writes v 0 0 (length image) (register image)) r now) same_all.grain
+        (subst (λ (ws : List Write). Series filling (ws ++ open_writes w 0 0 (length image) (register image)) r now)
+        (ap (λ (l : List ℕ). write_some w.sector (held_from w 0 0 0) l) (none_filled w.unit)) series))
 
 -- What is tested before a `format` is what it needs.
 pub can_format : {s : MediumState} (image : List ℕ) {a b : ℕ} → IsSized s → length image ≤ b → b ≡ a → a ≡ capacity_of s → CanFormat s image

@@ -18,7 +18,6 @@ mod Opening
 pub mod Parts
 pub mod Pieces
 pub mod Put
-mod PutSteps
 mod Refused
 mod Registering
 pub mod Seeing
@@ -26,7 +25,6 @@ pub mod Series
 mod Simulated
 mod SlotOpened
 mod SpareData
-mod SpareOpened
 pub mod Stands
 pub mod Stays
 pub mod Torn
@@ -38,6 +36,12 @@ pub mod Written
 mod Blank
 pub mod Sectors
 pub mod Anew
+mod Carried
+pub mod Ranges
+pub mod Sequences
+mod MayCarry
+mod HeldRest
+mod SpareOpened
 pub mod ErasedTo
 pub mod Edges
 mod SizedOn

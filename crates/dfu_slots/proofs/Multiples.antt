@@ -1,17 +1,15 @@
 -- Places and lengths that are whole in a unit.
-use Rattle.std.proofs.Common.{◌≡◌, Bool, true, false, if◌then◌else◌, ℕ, ◌+◌, ◌-◌, ◌*◌, ◌/◌, ◌%◌, ◌≤◌, ◌<◌, List, length, replicate, sym, ◌∙◌, ap, subst, arith, length-append}
+use Rattle.std.proofs.Common.{◌≡◌, ℕ, ◌+◌, ◌-◌, ◌*◌, ◌/◌, ◌%◌, ◌≤◌, ◌<◌, List, length, replicate, sym, ◌∙◌, ap, subst, arith, length-append}
 use Rattle.std.proofs.lemmas.List.{length-replicate}
 use Rattle.dfu_slots.specs.declared.unit.Unit.{Unit as WriteUnit}
 use Rattle.dfu_slots.specs.declared.unit.Unit.TheVariants.{Byte}
 use Rattle.dfu_slots.specs.Units.{IsWhole, unit_size, IsMultiple, whole_part, fill_size, filled, gate_room, Grain}
 use Rattle.dfu_slots.specs.Medium.{MediumState}
-use Rattle.dfu_slots.specs.Layout.{slot_size}
-use Rattle.dfu_slots.specs.Image.{gate_of, capacity_of, first_is_active, spare_at, IsSized}
+use Rattle.dfu_slots.specs.Image.{gate_of, capacity_of, IsSized}
 use Rattle.dfu_slots.specs.Seen.{SlotsState, held_at, data_place}
 use Rattle.dfu_slots.specs.Store.{HasPuts}
 use Rattle.dfu_slots.proofs.Stands.{two_slots}
 use Rattle.dfu_slots.proofs.Newest.{spare_end}
-use Rattle.dfu_slots.proofs.Sectors.{room_multiple}
 use Rattle.dfu_slots.proofs.Series.{SameSize}
 
 -- Sums.
@@ -35,16 +33,6 @@ multiple_unit _ = omega arith
 pub multiple_add : (u : WriteUnit) (a b : ℕ) → IsMultiple u a → IsMultiple u b → IsMultiple u (a + b)
 multiple_add Byte a b x y = omega (arith, x, y)
 multiple_add _ a b x y = omega (arith, x, y)
-
--- A unit is one.
-pub multiple_self : (u : WriteUnit) → IsMultiple u (unit_size u)
-multiple_self Byte = omega arith
-multiple_self _ = omega arith
-
--- So is what is a unit less.
-pub multiple_less : (u : WriteUnit) (n : ℕ) → IsMultiple u n → IsMultiple u (n - unit_size u)
-multiple_less Byte n x = omega (arith, x)
-multiple_less _ n x = omega (arith, x)
 
 -- Parts.
 
@@ -113,22 +101,6 @@ sized_after same sized = record {
   bound = omega (arith, same.size, ap gate_room same.grain, sized.bound);
   whole = whole_after same sized.whole;
 }
-
--- The spare begins at a whole place.
-pub spare_multiple : (m : MediumState) → IsSized m → IsMultiple m.grain.unit (spare_at (gate_of m) m.bytes)
-spare_multiple m sized = by_test (first_is_active (gate_of m) m.bytes)
-  where
-    half : IsMultiple m.grain.unit (slot_size m.bytes)
-    half =
-        let g = gate_of m in
-        let gates = room_multiple m.grain (capacity_of m) sized.whole in
-        let e : g + g + capacity_of m ≡ slot_size m.bytes = omega (arith, sized.room) in
-        subst (λ (n : ℕ). IsMultiple m.grain.unit n) e
-        (multiple_add m.grain.unit (g + g) (capacity_of m) (multiple_add m.grain.unit g g gates gates) sized.whole.units)
-
-    by_test : (b : Bool) → IsMultiple m.grain.unit (if b then slot_size m.bytes else 0)
-    by_test true = half
-    by_test false = multiple_zero m.grain.unit
 
 -- What a store holds back.
 

@@ -3,13 +3,13 @@ pub mod Medium
 pub mod Layout
 pub mod Image
 pub mod Writes
+pub mod Operations
 pub mod Seen
 pub mod Store
 pub mod Known
 pub mod Changes
 pub mod Leaves
 pub mod Unarmed
-pub mod Tagged
 pub mod OneWrite
 pub mod Determined
 pub mod inside

@@ -1,3 +1,4 @@
-pub mod Series
+pub mod Carry
 pub mod Kept
+pub mod Series
 pub mod Sim

@@ -8,8 +8,11 @@ ghost use Rattle.dfu_slots.specs.Writes.{piece_writes, close_writes};
 ghost use Rattle.dfu_slots.specs.Seen.{format_series};
 ghost use Rattle.dfu_slots.specs.Changes.{CanFormat};
 
+use crate::gates::{close_gate, open_slot};
+use crate::layout::{VERSION, make_header};
 use crate::read::data_at;
-use crate::writes::{close_gate, open_slot, write_anew, write_filled};
+use crate::register::register_of_image;
+use crate::writes::{write_anew, write_filled};
 use crate::{Medium, WriteFault};
 
 // How many bytes of the image are written at a time: whole units, whatever the unit is.
@@ -63,7 +66,11 @@ pub(crate) fn write_image<M: Medium>(medium: &mut M, image: &[u8]) -> Result<(),
         Err(fault) => Err(fault),
         Ok(()) => match write_pieces(medium, data, image) {
             Err(fault) => Err(fault),
-            Ok(()) => open_slot(medium, 0, 0, image.len() as u32),
+            Ok(()) => {
+                let register = register_of_image(medium, image);
+                let head = make_header(VERSION, 0, image.len() as u32, register);
+                open_slot(medium, 0, 0, &[], &head)
+            }
         },
     }
 }

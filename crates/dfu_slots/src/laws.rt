@@ -1,11 +1,13 @@
 //! Laws of the slot store. Each is the contract of a function with an empty body, which is proved and
 //! not to be called for what it does. A function above calls one for its law alone, as dfu_link does.
 
-ghost use Rattle.std.specs.Prelude.{◌≡◌, ℕ, List, [], ◌∷◌};
+ghost use Rattle.std.specs.Prelude.{◌≡◌, ◌≤◌, ◌+◌, ◌*◌, ℕ, List, [], ◌∷◌, ◌++◌, length, take, drop};
 ghost use Rattle.dfu_slots.specs.declared.unit.Unit.{Unit as WriteUnit};
-ghost use Rattle.dfu_slots.specs.Units.{in_place, gate_size, gate_room};
-ghost use Rattle.dfu_slots.specs.Layout.{gate_unit};
-ghost use Rattle.dfu_slots.specs.Writes.{closed_gate, write_anew};
+ghost use Rattle.dfu_slots.specs.Units.{Grain, in_place, gate_size, gate_room, filled};
+ghost use Rattle.dfu_slots.specs.Layout.{gate_unit, header};
+ghost use Rattle.dfu_slots.specs.Writes.{closed_gate, write_anew, write_some, put_writes, part_writes, open_writes};
+ghost use Rattle.dfu_slots.specs.declared.sequence.Sequence.TheVariants.{Close, Put, Commit, Image};
+ghost use Rattle.dfu_slots.specs.Operations.{ops_writes, held_from, operations};
 ghost use Rattle.dfu_slots.specs.Medium.{MediumState, Write, AllWrites, BrokenWrites};
 ghost use Rattle.dfu_slots.specs.Medium.Fuse.{Whole};
 ghost use Rattle.dfu_slots.specs.Image.{Active, HasImage};
@@ -31,6 +33,22 @@ pub fn without_sectors_nothing_is_erased()
     ensures writes { (at : ℕ) (bytes : List ℕ) → write_anew 0 at bytes ≡ record { at = at; bytes = bytes } ∷ [] }
     ensures gate { (unit : WriteUnit) → closed_gate (in_place unit) ≡ gate_unit (gate_size unit) 0 }
     ensures room { (unit : WriteUnit) → gate_room (in_place unit) ≡ gate_size unit }
+{}
+
+/// The operations of a sequence, in their order, are the writes of the change that it is for: of closing a gate, of a `put`, of a
+/// `commit`, and of the next 4,096 bytes of an image.
+pub fn operations_are_the_writes()
+    ensures close { (w : Grain) (held block head : List ℕ) (slot : ℕ) →
+        ops_writes w.sector held block head (operations w (Close slot)) ≡ record { at = slot; bytes = closed_gate w } ∷ [] }
+    ensures put { (w : Grain) (held block head : List ℕ) (slot end : ℕ) →
+        ops_writes w.sector held block head (operations w (Put slot end (length held) (length block)))
+        ≡ put_writes w (held_from w slot end (length held)) held block }
+    ensures commit { (w : Grain) (held block head : List ℕ) (slot end gen len crc : ℕ) → length held ≤ 256 →
+        head ≡ header 2 gen len crc → ops_writes w.sector held block head (operations w (Commit slot end (length held)))
+        ≡ part_writes w (held_from w slot end (length held)) held ++ open_writes w slot gen len crc }
+    ensures image { (w : Grain) (image head : List ℕ) (from : ℕ) →
+        ops_writes w.sector [] image head (operations w (Image from (length image)))
+        ≡ write_some w.sector (2 * gate_room w + from) (take 4096 (drop from (filled w.unit image))) }
 {}
 
 /// A medium whose fuse is whole (as `SimMedium::new` and `disarm` leave it) fails no write and no call, and lies in none,

@@ -1,6 +1,6 @@
 //! How a slot is laid out: the gate, the header, and the data.
-ghost use Rattle.std.specs.Prelude.{◌≡◌, ◌-◌, ◌<◌, ◌≤◌, ◌++◌, length, replicate};
-ghost use Rattle.dfu_slots.specs.Units.{gate_size, fill_size};
+ghost use Rattle.std.specs.Prelude.{◌≡◌, ◌<◌, ◌≤◌};
+ghost use Rattle.dfu_slots.specs.Units.{gate_size, gate_room, fill_size};
 ghost use Rattle.dfu_slots.specs.Layout.{header};
 
 use crate::Unit;
@@ -37,7 +37,7 @@ pub const OLD_VERSION: u8 = 1;
 
 /// A header: generation, version, two zeros, the length, the register over the image, both in little-endian order,
 /// and four zeros. In version 1 zeros stand in place of the register.
-pub(crate) fn make_header(version: u8, generation: u8, len: u32, register: u32) -> [u8; 16]
+pub fn make_header(version: u8, generation: u8, len: u32, register: u32) -> [u8; 16]
     ensures { result ≡ header version generation len register }
 {
     let [a, b, c, d] = len.to_le_bytes();
@@ -47,21 +47,18 @@ pub(crate) fn make_header(version: u8, generation: u8, len: u32, register: u32) 
     ]
 }
 
+/// How many bytes the gate of a slot has for itself, and as many its header: a unit of at least 16, or a sector.
+pub(crate) fn gate_room(unit: Unit, sector: u32) -> u32
+    ensures { result ≡ gate_room (record { unit = unit; sector = sector }) }
+{
+    gate_size(unit).max(sector)
+}
+
 /// How many zeros fill so many bytes up to the end of a unit, from 0 to 255.
-pub(crate) fn fill_size(unit: Unit, len: usize) -> usize
+pub(crate) fn fill_size(unit: Unit, len: u32) -> u32
     ensures value { result ≡ fill_size unit len }
     ensures most { result < 256 }
 {
-    let size = unit.size() as usize;
+    let size = unit.size();
     (size - len % size) % size
-}
-
-/// These bytes, at most 256, and zeros behind them up to 256 bytes.
-pub(crate) fn fill_up(bytes: &[u8]) -> [u8; 256]
-    requires { length bytes.now ≤ 256 }
-    ensures { result ≡ bytes.now ++ replicate (256 - length bytes.now) 0 }
-{
-    let mut unit = [0; 256];
-    unit[..bytes.len()].copy_from_slice(bytes);
-    unit
 }

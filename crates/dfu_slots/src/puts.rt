@@ -1,13 +1,15 @@
 //! What was put since `begin`: whole units go to the medium as they come, and the rest is held back.
-ghost use Rattle.std.specs.Prelude.{◌≡◌, ◌+◌, ◌-◌, ◌^◌, ◌≤◌, ◌<◌, ◌++◌, [], length, take, drop, OnOk};
+ghost use Rattle.std.specs.Prelude.{◌≡◌, ◌+◌, ◌≤◌, ◌<◌, ◌++◌, [], length, OnOk};
 ghost use Rattle.dfu_slots.specs.Units.{IsMultiple, unit_size};
 ghost use Rattle.dfu_slots.specs.Medium.{IsAhead};
 ghost use Rattle.dfu_slots.specs.inside.Series.{Series};
 ghost use Rattle.dfu_slots.specs.Image.{IsSized};
-ghost use Rattle.dfu_slots.specs.Writes.{write_some, put_writes, put_rest};
+ghost use Rattle.dfu_slots.specs.Operations.{held_from};
+ghost use Rattle.dfu_slots.specs.Writes.{put_writes, put_rest};
 
-use crate::writes::write_some;
-use crate::{Medium, WriteFault};
+use crate::carry::carry_out;
+use crate::sequence::Sequence;
+use crate::{Medium, Unit, WriteFault};
 use arrayvec::ArrayVec;
 
 /// The puts since `begin`, of which the whole units are written and the rest is held back.
@@ -41,7 +43,7 @@ impl Puts {
     }
 }
 
-// Holds these bytes back too, behind those that are held.
+// Holds these bytes back too, after those that are held.
 fn hold(held: &mut ArrayVec<u8, 256>, bytes: &[u8])
     requires { length held.old.items + length bytes.now ≤ 256 }
     ensures { held.new.items ≡ held.old.items ++ bytes.now }
@@ -49,71 +51,56 @@ fn hold(held: &mut ArrayVec<u8, 256>, bytes: &[u8])
     let _ = held.try_extend_from_slice(bytes);
 }
 
-// Writes the first `count` bytes in one write, and holds the others back.
-fn put_front<M: Medium>(
-    medium: &mut M,
-    held: &mut ArrayVec<u8, 256>,
-    at: u32,
-    bytes: &[u8],
-    count: usize,
-) -> Result<(), WriteFault>
-    requires sized { IsSized (M.state medium.old) }
-    requires ahead { IsAhead (M.state medium.old) at }
-    requires front { count ≤ length bytes.now }
-    requires back { length held.old.items + (length bytes.now - count) ≤ 256 }
-    requires within { at + count ≤ length (M.state medium.old).bytes }
-    requires place { IsMultiple (M.state medium.old).grain.unit at }
-    requires whole { IsMultiple (M.state medium.old).grain.unit count }
-    ensures writes { let was = M.state medium.old in
-        Series was (write_some was.grain.sector at (take count bytes.now)) result (M.state medium.new) }
-    ensures held { OnOk result (held.new.items ≡ held.old.items ++ drop count bytes.now) }
+/// Holds back what makes no whole unit of the bytes that are held and these after them.
+pub(crate) fn hold_rest(held: &mut ArrayVec<u8, 256>, unit: Unit, bytes: &[u8])
+    requires part { length held.old.items < unit_size unit }
+    requires short { length bytes.now ≤ 4096 }
+    ensures { held.new.items ≡ put_rest unit held.old.items bytes.now }
 {
-    let (front, back) = bytes.split_at(count);
-    match write_some(medium, at, front) {
-        Err(fault) => Err(fault),
-        Ok(()) => {
-            hold(held, back);
-            Ok(())
-        }
+    let all = held.len() + bytes.len();
+    let rest = all % unit.size() as usize;
+    if rest == all {
+        hold(held, bytes);
+        return;
     }
+    held.clear();
+    hold(held, &bytes[bytes.len() - rest..]);
 }
 
-/// Puts these bytes behind those that are held, which belong at `at`: it writes the unit that the held
-/// bytes begin, where it is full now, and then all further whole units in one write, and holds the rest back.
+/// Puts these bytes after those that are held, in the data of the slot that begins there, in which the puts end there: it writes
+/// the unit that the held bytes begin, where it is full now, and then all further whole units in one write, and holds the rest back.
 pub(crate) fn put_units<M: Medium>(
     medium: &mut M,
     held: &mut ArrayVec<u8, 256>,
-    at: u32,
+    slot: u32,
+    end: u32,
     bytes: &[u8],
 ) -> Result<(), WriteFault>
     requires sized { IsSized (M.state medium.old) }
-    requires ahead { IsAhead (M.state medium.old) at }
+    requires ahead { let was = M.state medium.old in IsAhead was (held_from was.grain slot end (length held.old.items)) }
     requires part { length held.old.items < unit_size (M.state medium.old).grain.unit }
     requires short { length bytes.now ≤ 4096 }
-    requires within { at + (length held.old.items + length bytes.now) ≤ length (M.state medium.old).bytes }
-    requires small { at + (length held.old.items + length bytes.now) < 2 ^ 32 }
-    requires place { IsMultiple (M.state medium.old).grain.unit at }
+    requires within { let was = M.state medium.old in
+        held_from was.grain slot end (length held.old.items) + (length held.old.items + length bytes.now) ≤ length was.bytes }
+    requires place { let was = M.state medium.old in IsMultiple was.grain.unit (held_from was.grain slot end (length held.old.items)) }
     ensures writes { let was = M.state medium.old in
-        Series was (put_writes was.grain at held.old.items bytes.now) result (M.state medium.new) }
+        Series was (put_writes was.grain (held_from was.grain slot end (length held.old.items)) held.old.items bytes.now)
+        result (M.state medium.new) }
     ensures held { OnOk result (held.new.items ≡ put_rest (M.state medium.old).grain.unit held.old.items bytes.now) }
 {
-    let size = medium.unit().size() as usize;
-    let all = held.len() + bytes.len();
-    let count = all - all % size;
-    if held.is_empty() {
-        return put_front(medium, held, at, bytes, count);
-    }
-    if count == 0 {
-        hold(held, bytes);
-        return Ok(());
-    }
-    let (head, rest) = bytes.split_at(size - held.len());
-    hold(held, head);
-    match write_some(medium, at, held.as_slice()) {
+    let unit = medium.unit();
+    let front = held.as_slice();
+    let sequence = Sequence::Put {
+        slot,
+        end,
+        held: front.len() as u16,
+        block: bytes.len() as u16,
+    };
+    match carry_out(medium, sequence, front, bytes, &[0; 16]) {
         Err(fault) => Err(fault),
         Ok(()) => {
-            held.clear();
-            put_front(medium, held, at + size as u32, rest, count - size)
+            hold_rest(held, unit, bytes);
+            Ok(())
         }
     }
 }

@@ -14,7 +14,7 @@ ghost use Rattle.dfu_slots.specs.Image.{
 
 use crate::Medium;
 use crate::header::{is_formed, is_header, length_in};
-use crate::layout::{OLD_VERSION, OPEN_GATE, VERSION, gate_size};
+use crate::layout::{OLD_VERSION, OPEN_GATE, VERSION, gate_room};
 use crate::register::register_of;
 
 // How many bytes are read back at a time.
@@ -71,7 +71,7 @@ pub(crate) fn stands_at<M: Medium>(medium: &M, at: u32, bytes: &[u8]) -> bool
 pub fn gate_of<M: Medium>(medium: &M) -> u32
     ensures { result ≡ gate_of (M.state medium.now) }
 {
-    gate_size(medium.unit()).max(medium.sector())
+    gate_room(medium.unit(), medium.sector())
 }
 
 /// How many bytes of data each slot has.

@@ -1,6 +1,7 @@
 //! The register over an image, read from the medium.
 ghost use Rattle.std.specs.Prelude.{◌≡◌, ℕ, ◌+◌, ◌≤◌, List, ◌++◌, length, take};
 ghost use Rattle.dfu_suffix.specs.Register.{register};
+ghost use Rattle.dfu_slots.specs.Medium.{written};
 ghost use Rattle.dfu_slots.specs.Layout.{slot_size};
 ghost use Rattle.dfu_slots.specs.Image.{IsSized, slot_of, capacity_of};
 
@@ -9,7 +10,7 @@ use crate::read::read_data;
 use dfu_suffix::Crc;
 
 // How many bytes are read at a time.
-const PIECE: u32 = 256;
+const PIECE: u32 = 64;
 
 // Takes more bytes of an image, by the tables that the medium has chosen.
 fn take_piece<M: Medium>(medium: &M, crc: &mut Crc, piece: &[u8])
@@ -22,8 +23,8 @@ fn take_piece<M: Medium>(medium: &M, crc: &mut Crc, piece: &[u8])
     }
 }
 
-/// The register over the first `len` bytes of the data of the slot that begins there.
-pub(crate) fn register_of<M: Medium>(medium: &M, slot_at: u32, len: u32) -> u32
+// The register over the first `len` bytes of the data of the slot that begins there, to go on from.
+fn crc_of<M: Medium>(medium: &M, slot_at: u32, len: u32) -> Crc
     requires sized { IsSized (M.state medium.now) }
     requires slot { slot_at + slot_size (M.state medium.now).bytes ≤ length (M.state medium.now).bytes }
     requires within { len ≤ capacity_of (M.state medium.now) }
@@ -39,5 +40,45 @@ pub(crate) fn register_of<M: Medium>(medium: &M, slot_at: u32, len: u32) -> u32
         take_piece(medium, &mut crc, piece);
         at += size;
     }
+    crc
+}
+
+/// The register over the first `len` bytes of the data of the slot that begins there.
+pub(crate) fn register_of<M: Medium>(medium: &M, slot_at: u32, len: u32) -> u32
+    requires sized { IsSized (M.state medium.now) }
+    requires slot { slot_at + slot_size (M.state medium.now).bytes ≤ length (M.state medium.now).bytes }
+    requires within { len ≤ capacity_of (M.state medium.now) }
+    ensures { result ≡ register (take len (slot_of (M.state medium.now) slot_at).data_bytes) }
+{
+    crc_of(medium, slot_at, len).value()
+}
+
+/// The register over the first `len` bytes of what was put into the slot that begins there: so many of them stand in its data, and
+/// these are held back.
+pub(crate) fn register_of_put<M: Medium>(
+    medium: &M,
+    slot_at: u32,
+    at: u32,
+    held: &[u8],
+    len: u32,
+) -> u32
+    requires sized { IsSized (M.state medium.now) }
+    requires slot { slot_at + slot_size (M.state medium.now).bytes ≤ length (M.state medium.now).bytes }
+    requires within { at + length held.now ≤ capacity_of (M.state medium.now) }
+    requires front { len ≤ at + length held.now }
+    ensures { result ≡ register (take len (written (slot_of (M.state medium.now) slot_at).data_bytes at held.now)) }
+{
+    let front = at.min(len);
+    let mut crc = crc_of(medium, slot_at, front);
+    take_piece(medium, &mut crc, &held[..(len - front) as usize]);
+    crc.value()
+}
+
+/// The register over an image, by the tables that the medium has chosen.
+pub(crate) fn register_of_image<M: Medium>(medium: &M, image: &[u8]) -> u32
+    ensures { result ≡ register image.now }
+{
+    let mut crc = Crc::new();
+    take_piece(medium, &mut crc, image);
     crc.value()
 }

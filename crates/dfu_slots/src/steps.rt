@@ -8,10 +8,12 @@ ghost use Rattle.dfu_slots.specs.Seen.{store_on, store_of, spare_slot, writes_of
 ghost use Rattle.dfu_slots.specs.Store.{HasPuts};
 ghost use Rattle.dfu_slots.specs.Changes.{IsBroken, Changes};
 
+use crate::gates::{close_gate, open_slot};
+use crate::layout::{VERSION, make_header};
 use crate::places::Places;
 use crate::puts::{Puts, put_units};
-use crate::read::{capacity_of, data_at, generation, is_open};
-use crate::writes::{close_gate, open_slot, write_part};
+use crate::read::{capacity_of, generation, is_open};
+use crate::register::register_of_put;
 use crate::{Medium, PutFault, WriteFault};
 
 // Closes the spare's gate, where it reads open.
@@ -73,8 +75,7 @@ pub(crate) fn put<M: Medium>(
     if u64::from(at) + bytes.len() as u64 > u64::from(capacity_of(medium)) {
         return Err(PutFault::TooLarge);
     }
-    let from = data_at(medium, places.spare) + (at - puts.held.len() as u32);
-    match put_units(medium, &mut puts.held, from, bytes) {
+    match put_units(medium, &mut puts.held, places.spare, at, bytes) {
         Ok(()) => {
             puts.end += bytes.len() as u32;
             Ok(())
@@ -106,11 +107,11 @@ fn open_spare<M: Medium>(
         Series (M.state medium.old) (writes_of was (Commit len)) result (M.state medium.new) }
 {
     let next = generation(medium, places.active).wrapping_add(1);
-    let from = data_at(medium, places.spare) + (puts.end - puts.held.len() as u32);
-    match write_part(medium, from, puts.held.as_slice()) {
-        Err(fault) => Err(fault),
-        Ok(()) => open_slot(medium, places.spare, next, len),
-    }
+    let held = puts.held.as_slice();
+    let at = puts.end - held.len() as u32;
+    let register = register_of_put(medium, places.spare, at, held, len);
+    let head = make_header(VERSION, next, len, register);
+    open_slot(medium, places.spare, puts.end, held, &head)
 }
 
 /// Makes the first `len` bytes of what was put the image of the spare, and opens it. It forgets what was put.

@@ -16,8 +16,9 @@ WHAT_IT_IS = """/* SPDX-License-Identifier: MIT OR Apache-2.0
 WHAT = {
     "dfu_core.h": "a device of USB DFU 1.1.",
     "dfu_host.h": "the host of USB DFU 1.1.",
-    "dfuse_host.h": "the hosts of DfuSe, and of USB DFU 1.1 (dfu_host.h).",
+    "dfuse_file.h": "DfuSe files, and the hosts of DfuSe (dfuse_host.h) and of USB DFU 1.1 (dfu_host.h).",
     "dfu_install_core.h": "a run area, to which images are linked.",
+    "dfu_trial_core.h": "images on trial.",
 }
 OF_C = """
 #if defined(__BYTE_ORDER__) && __BYTE_ORDER__ != __ORDER_LITTLE_ENDIAN__

@@ -1,7 +1,7 @@
 use Rattle.std.proofs.Common.{arith}
 use Rattle.dfu_asks.proofs.cut.byte_of.Goals as goal
 
-pub overflow_add-at : goal.overflow_add-at
-overflow_add-at c =
+pub overflow_add-cut : goal.overflow_add-cut
+overflow_add-cut c =
     let is = c.requires.cut.1 in
     omega (arith, is.near c.if-cut.false, is.programs c.if-cut.false, c.requires.within)

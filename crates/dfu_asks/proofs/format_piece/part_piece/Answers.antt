@@ -1,34 +1,78 @@
-use Rattle.std.proofs.Common.{◌≡◌, ◌+◌, ◌/◌, ◌≤◌, sym, subst, arith}
-use Rattle.dfu_slots.specs.Units.{Grain}
-use Rattle.dfu_asks.specs.declared.phase.Phase.{Phase}
+use Rattle.std.proofs.Common.{◌≡◌, ◌+◌, ◌/◌, List, length, refl, ◌∙◌, subst, arith}
+use Rattle.dfu_slots.specs.Layout.{header}
 use Rattle.dfu_asks.specs.declared.phase.Phase.TheVariants as phase
-use Rattle.dfu_asks.specs.Mapped.{grain_of}
-use Rattle.dfu_asks.specs.Steps.{step_writes}
+use Rattle.dfu_asks.specs.Steps.{Step, step_writes}
 use Rattle.dfu_asks.specs.Carried.{total, IsPiece}
-use Rattle.dfu_asks.specs.Jobs.{grain_for}
 use Rattle.dfu_asks.specs.Cuts.{step_of}
-use Rattle.dfu_asks.specs.Phases.{grain_within, part_steps}
+use Rattle.dfu_asks.proofs.SequenceSteps.{close_are, image_are, image_few, first_header, first_gate, part_in}
 use Rattle.dfu_asks.proofs.format_piece.part_piece.Goals as goal
+
+pub sequence_piece-requires-in-Image : goal.sequence_piece-requires-in-Image
+sequence_piece-requires-in-Image c = image_few c.args.cut.now.stock c.args.cut.now.front c.in-Image.from
+
+pub returns-in-CloseSecond-clause-found : goal.returns-in-CloseSecond-clause-found
+returns-in-CloseSecond-clause-found c = λ yes.
+    let f = c.args.formatting.now in
+    let s = c.args.cut.now.stock in
+    subst (λ (ss : List Step). IsPiece ss c.args.cut.now.rest (step_of c.sequence_piece.new.cut))
+    (close_are s c.args.cut.now.front (c.args.size / 2)
+    ∙ part_in f c.args.size s c.requires.unit c.requires.sector phase.CloseSecond c.in-CloseSecond.is) (c.sequence_piece.ensures.found yes)
+
+pub returns-in-CloseFirst-clause-found : goal.returns-in-CloseFirst-clause-found
+returns-in-CloseFirst-clause-found c = λ yes.
+    let f = c.args.formatting.now in
+    let s = c.args.cut.now.stock in
+    subst (λ (ss : List Step). IsPiece ss c.args.cut.now.rest (step_of c.sequence_piece-in-CloseFirst.new.cut))
+    (close_are s c.args.cut.now.front 0
+    ∙ part_in f c.args.size s c.requires.unit c.requires.sector phase.CloseFirst c.in-CloseFirst.is) (c.sequence_piece-in-CloseFirst.ensures.found yes)
+
+pub returns-in-Image-clause-found : goal.returns-in-Image-clause-found
+returns-in-Image-clause-found c = λ yes.
+    let f = c.args.formatting.now in
+    let s = c.args.cut.now.stock in
+    subst (λ (ss : List Step). IsPiece ss c.args.cut.now.rest (step_of c.sequence_piece-in-Image.new.cut))
+    (image_are s c.args.cut.now.front c.in-Image.from c.requires.held
+    ∙ part_in f c.args.size s c.requires.unit c.requires.sector (phase.Image c.in-Image.from) c.in-Image.is) (c.sequence_piece-in-Image.ensures.found yes)
+
+pub returns-in-Image-clause-none : goal.returns-in-Image-clause-none
+returns-in-Image-clause-none c = λ no.
+    let f = c.args.formatting.now in
+    let s = c.args.cut.now.stock in
+    let count = subst (λ (ss : List Step). total (step_writes ss) + c.sequence_piece-in-Image.new.cut.rest ≡ c.args.cut.now.rest)
+    (image_are s c.args.cut.now.front c.in-Image.from c.requires.held
+    ∙ part_in f c.args.size s c.requires.unit c.requires.sector (phase.Image c.in-Image.from) c.in-Image.is) (c.sequence_piece-in-Image.ensures.behind no) in
+    omega (arith, count)
 
 pub returns-in-Header-clause-found : goal.returns-in-Header-clause-found
 returns-in-Header-clause-found c = λ yes.
     let f = c.args.formatting.now in
-    let before = c.args.cut.now in
-    let image = before.stock.block.now in
-    let grain : grain_for before.stock ≡ grain_within f = λ i. grain_of (c.requires.unit i) (c.requires.sector i) in
-    let step = step_of c.header_piece.new.cut in
-    subst (λ (x : Phase). IsPiece (part_steps (grain_within f) (c.args.size / 2) image f.register x) before.rest step)
-    (sym c.in-Header.is)
-    (subst (λ (w : Grain). IsPiece (part_steps w (c.args.size / 2) image f.register phase.Header) before.rest step) grain
-    (c.header_piece.ensures.found yes))
+    let s = c.args.cut.now.stock in
+    subst (λ (ss : List Step). IsPiece ss c.args.cut.now.rest (step_of c.open_piece.new.cut))
+    (first_header s (header 2 0 (length s.block.now) f.register) (length s.block.now) f.register refl
+    ∙ part_in f c.args.size s c.requires.unit c.requires.sector phase.Header c.in-Header.is) (c.open_piece.ensures.found yes)
 
 pub returns-in-Header-clause-none : goal.returns-in-Header-clause-none
 returns-in-Header-clause-none c = λ no.
     let f = c.args.formatting.now in
-    let before = c.args.cut.now in
-    let image = before.stock.block.now in
-    let grain : grain_for before.stock ≡ grain_within f = λ i. grain_of (c.requires.unit i) (c.requires.sector i) in
-    let behind = subst (λ (w : Grain). total (step_writes (part_steps w (c.args.size / 2) image f.register phase.Header))
-    + c.header_piece.new.cut.rest ≡ before.rest) grain (c.header_piece.ensures.behind no) in
-    subst (λ (x : Phase). total (step_writes (part_steps (grain_within f) (c.args.size / 2) image f.register x)) ≤ before.rest)
-    (sym c.in-Header.is) (omega (arith, behind))
+    let s = c.args.cut.now.stock in
+    let count = subst (λ (ss : List Step). total (step_writes ss) + c.open_piece.new.cut.rest ≡ c.args.cut.now.rest)
+    (first_header s (header 2 0 (length s.block.now) f.register) (length s.block.now) f.register refl
+    ∙ part_in f c.args.size s c.requires.unit c.requires.sector phase.Header c.in-Header.is) (c.open_piece.ensures.behind no) in
+    omega (arith, count)
+
+pub returns-in-Gate-clause-found : goal.returns-in-Gate-clause-found
+returns-in-Gate-clause-found c = λ yes.
+    let f = c.args.formatting.now in
+    let s = c.args.cut.now.stock in
+    subst (λ (ss : List Step). IsPiece ss c.args.cut.now.rest (step_of c.open_piece-in-Gate.new.cut))
+    (first_gate s (header 2 0 (length s.block.now) f.register)
+    ∙ part_in f c.args.size s c.requires.unit c.requires.sector phase.Gate c.in-Gate.is) (c.open_piece-in-Gate.ensures.found yes)
+
+pub returns-in-Gate-clause-none : goal.returns-in-Gate-clause-none
+returns-in-Gate-clause-none c = λ no.
+    let f = c.args.formatting.now in
+    let s = c.args.cut.now.stock in
+    let count = subst (λ (ss : List Step). total (step_writes ss) + c.open_piece-in-Gate.new.cut.rest ≡ c.args.cut.now.rest)
+    (first_gate s (header 2 0 (length s.block.now) f.register)
+    ∙ part_in f c.args.size s c.requires.unit c.requires.sector phase.Gate c.in-Gate.is) (c.open_piece-in-Gate.ensures.behind no) in
+    omega (arith, count)

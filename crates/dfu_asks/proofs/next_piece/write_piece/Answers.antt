@@ -2,7 +2,8 @@ use Rattle.std.proofs.Common.{ℕ, ◌+◌, ◌≤◌, length, take, drop, repli
 use Rattle.std.proofs.lemmas.List.{length-replicate}
 use Rattle.dfu_asks.specs.Steps.{program}
 use Rattle.dfu_asks.specs.Cuts.{source_bytes, zeroed, range_in}
-use Rattle.dfu_asks.proofs.Cutting.{part_of, range_size}
+use Rattle.dfu_slots.proofs.Ranges.{range_size}
+use Rattle.dfu_asks.proofs.Cutting.{part_of}
 use Rattle.dfu_asks.proofs.next_piece.write_piece.Goals as goal
 
 pub returns-in-Program-clause-found : goal.returns-in-Program-clause-found

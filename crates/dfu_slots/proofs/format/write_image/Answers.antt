@@ -1,3 +1,6 @@
+use Rattle.std.proofs.Common.{ℕ, length, ◌∙◌, ap, arith}
+use Rattle.dfu_suffix.specs.Register.{register}
+use Rattle.dfu_slots.specs.Layout.{header}
 use Rattle.dfu_slots.proofs.Formatting.{data_ahead, pieces_broken, front_ready, pieces_opened}
 use Rattle.dfu_slots.proofs.format.write_image.Goals as goal
 
@@ -9,7 +12,16 @@ pub open_slot-requires : goal.open_slot-requires
 open_slot-requires g c =
     let r = front_ready c.requires (g.M.Medium.state c.close_gates.new.medium) c.data_at-data.ensures c.in-Ok.ensures
     (g.M.Medium.state c.write_pieces.new.medium) c.in-Ok-write_pieces.ensures in
-    record { sized = r.sized; slot = r.slot; place = r.place; sector = r.sector; room = r.room }
+    record {
+      sized = r.sized;
+      slot = r.slot;
+      place = r.place;
+      sector = r.sector;
+      few = omega arith;
+      ahead = r.ahead;
+      within = r.within;
+      whole = r.whole;
+    }
 
 pub returns-in-Err-write_pieces : goal.returns-in-Err-write_pieces
 returns-in-Err-write_pieces g c =
@@ -20,4 +32,6 @@ pub returns-in-Ok-write_pieces : goal.returns-in-Ok-write_pieces
 returns-in-Ok-write_pieces g c =
     pieces_opened c.requires (g.M.Medium.state c.close_gates.new.medium) c.data_at-data.ensures c.in-Ok.ensures
     (g.M.Medium.state c.write_pieces.new.medium) c.in-Ok-write_pieces.ensures
-    (g.M.Medium.state c.open_slot.new.medium) c.open_slot.result c.open_slot.ensures
+    (g.M.Medium.state c.open_slot.new.medium) c.open_slot.result
+    (c.open_slot.ensures 0 (length c.args.image.now) (register c.args.image.now)
+    (c.make_header-head.ensures ∙ ap (λ (n : ℕ). header 2 0 (length c.args.image.now) n) c.register_of_image-register.ensures))

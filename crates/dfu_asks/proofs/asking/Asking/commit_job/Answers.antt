@@ -9,7 +9,7 @@ use Rattle.dfu_asks.specs.Lent.{lent}
 use Rattle.dfu_asks.specs.Asks.{store_in}
 use Rattle.dfu_asks.specs.declared.job.Job.TheVariants.{Commit}
 use Rattle.dfu_asks.proofs.Noting.{noted_spare}
-use Rattle.dfu_asks.proofs.Started.{put_is}
+use Rattle.dfu_device.proofs.Candidates.{put_is}
 use Rattle.dfu_asks.proofs.asking.Asking.commit_job.Goals as goal
 
 pub returns : goal.returns

@@ -1,0 +1,66 @@
+//! The program of a device that asks refuses an image.
+ghost use Rattle.std.specs.Prelude.{◌≡◌, ◌↔◌, ℕ, List, not, IsTrue, IfOk, IfErr, OnOk, OnErr, IsSome};
+ghost use Rattle.dfu_device.specs.Rows.{ClosesDownload};
+ghost use Rattle.dfu_device.specs.Stage.{InError};
+ghost use Rattle.dfu_device.specs.Table.{objection_code, refuse_stage};
+ghost use Rattle.dfu_asks.specs.Lent.{lent, IsSetUpAs};
+ghost use Rattle.dfu_asks.specs.Asks.{device_in, IsDevice};
+ghost use Rattle.dfu_asks.specs.Refused.{Fits};
+
+use crate::{Asking, Refusal};
+use dfu_device::{Mode, Objection, is_close};
+
+impl Asking {
+    /// The program refuses the image that this setup closes, as `Device::refuse_close`: true if it closes one, and then the caller stalls
+    /// the request. It needs neither the flash nor the memory of the block.
+    ///
+    /// # Errors
+    ///
+    /// `Asked` if writes are due; nothing changed then.
+    pub fn refuse_close(&mut self, setup: &[u8; 8], objection: Objection) -> Result<bool, Refusal>
+        ensures closes { (block held flash : List ℕ) → IsDevice (lent self.old block held) flash →
+            IfOk result (λ b. IsTrue b ↔ ClosesDownload setup.now (device_in (lent self.old block held) flash)) }
+        ensures row { (block held flash : List ℕ) → let before = device_in (lent self.old block held) flash in IfOk result (λ b. IsTrue b →
+            device_in (lent self.new block held) flash ≡ record before { stage = InError (objection_code objection) }) }
+        ensures is { (block held flash : List ℕ) → OnOk result
+            (IsDevice (lent self.old block held) flash → IsDevice (lent self.new block held) flash) }
+        ensures fits { (room : ℕ) → OnOk result (Fits self.old room → Fits self.new room) }
+        ensures other { IfOk result (λ b. IsTrue (not b) → self.new ≡ self.old) }
+        ensures work { OnOk result ((self.old.work ≡ None) × (self.new.work ≡ None)) }
+        ensures asked { IfErr result (λ e. (e ≡ Refusal.Asked) × IsSome self.old.work) }
+        ensures same { IsSetUpAs self.old self.new }
+        ensures unchanged { OnErr result (self.new ≡ self.old) }
+    {
+        if self.work.is_some() {
+            return Err(Refusal::Asked);
+        }
+        if !self.mode.may_close(self.config.least()) || !is_close(setup) {
+            return Ok(false);
+        }
+        self.mode = Mode::after_refused_close(objection);
+        Ok(true)
+    }
+
+    /// The program refuses the image that was closed, as `Device::refuse`. It needs neither the flash nor the memory of the block.
+    ///
+    /// # Errors
+    ///
+    /// `Asked` if writes are due; nothing changed then.
+    pub fn refuse(&mut self, objection: Objection) -> Result<(), Refusal>
+        ensures row { (block held flash : List ℕ) → let before = device_in (lent self.old block held) flash in OnOk result
+            (device_in (lent self.new block held) flash ≡ record before { stage = refuse_stage objection before.stage }) }
+        ensures is { (block held flash : List ℕ) → OnOk result
+            (IsDevice (lent self.old block held) flash → IsDevice (lent self.new block held) flash) }
+        ensures fits { (room : ℕ) → OnOk result (Fits self.old room → Fits self.new room) }
+        ensures work { OnOk result ((self.old.work ≡ None) × (self.new.work ≡ None)) }
+        ensures asked { IfErr result (λ e. (e ≡ Refusal.Asked) × IsSome self.old.work) }
+        ensures same { IsSetUpAs self.old self.new }
+        ensures unchanged { OnErr result (self.new ≡ self.old) }
+    {
+        if self.work.is_some() {
+            return Err(Refusal::Asked);
+        }
+        self.mode = self.mode.after_refusal(objection);
+        Ok(())
+    }
+}

@@ -1,0 +1,111 @@
+-- Where an image stands that was taken and is not in place yet.
+use Rattle.std.proofs.Common.{◌≡◌, ℕ, ◌+◌, ◌-◌, ◌*◌, ◌%◌, ◌≤◌, IsTrue, List, ◌++◌, length, take, drop, slice_range, Option, Some, None, refl, sym, ◌∙◌, ap, subst, arith, length-append}
+use Rattle.std.proofs.lemmas.Grind.{common_steps}
+use Rattle.std.proofs.lemmas.List.{take-take, take_at, length-take-le}
+use Rattle.dfu_slots.specs.Units.{unit_size}
+use Rattle.dfu_slots.specs.Layout.{slot_size}
+use Rattle.dfu_slots.specs.Image.{gate_of, spare_at}
+use Rattle.dfu_slots.specs.Seen.{SlotsState, spare_slot, held_at, spare_of, room_of}
+use Rattle.dfu_slots.specs.Store.{IsStore}
+use Rattle.dfu_slots.proofs.Stands.{standing}
+use Rattle.dfu_slots.proofs.Newest.{spare_end}
+use Rattle.dfu_slots.proofs.Parts.{data_length}
+use Rattle.dfu_slots.proofs.Multiples.{held_end}
+use Rattle.dfu_slots.proofs.Seeing.{spare_is}
+use Rattle.dfu_device.specs.declared.candidate.Candidate.{Candidate}
+use Rattle.dfu_device.specs.declared.mode.Mode.{Mode}
+use Rattle.dfu_device.specs.declared.mode.Mode.TheVariants as mode
+use Rattle.dfu_device.specs.Parts.{stage_of, is_sound}
+use Rattle.dfu_device.specs.Shown.{Shown}
+use Rattle.dfu_device.specs.Candidate.{candidate_in, candidate_length, IsCandidate}
+
+module _ (s : SlotsState) (store : IsStore s) where
+  abbrev g : ℕ
+  g = gate_of s.medium
+
+  abbrev place : ℕ
+  place = spare_at g s.medium.bytes
+
+  pub end_there : place + slot_size s.medium.bytes ≤ length s.medium.bytes
+  end_there = spare_end g s.medium.bytes (standing store.has_image.active).sized
+
+  data_size : length (spare_slot s).data_bytes ≡ slot_size s.medium.bytes - 2 * g
+  data_size = data_length g s.medium.bytes place end_there (omega (arith, store.has_image.active.sized.room))
+
+  -- What was put is what stands on the medium, and after it what is held back.
+  pub put_is : take s.put_end (spare_of s)
+      ≡ slice_range s.medium.bytes (place + 2 * g) (place + 2 * g + (s.put_end - length s.held)) ++ s.held
+  put_is =
+      let d = (spare_slot s).data_bytes in
+      let k = held_at s in
+      let le : k ≤ length d = omega (arith, data_size, store.puts.fits) in
+      let e : s.put_end ≡ k + length s.held = sym (held_end s store.puts) in
+      let p = place + 2 * g in
+      let count : k ≡ p + k - p = omega arith in
+      (λ i. take (e i) (spare_is s i))
+      ∙ take_at (take k d ++ s.held) (drop (k + length s.held) d) (k + length s.held)
+      (omega (arith, length-append (take k d) s.held, length-take-le k d le))
+      ∙ ap (λ (l : List ℕ). l ++ s.held)
+      (take-take k (place + slot_size s.medium.bytes - p) (drop p s.medium.bytes) (omega (arith, le, data_size))
+      ∙ ap (λ (n : ℕ). take n (drop p s.medium.bytes)) count)
+
+-- The first bytes of the spare slot, if it is said how many.
+abbrev pub front_of : Option ℕ → List ℕ → Option (List ℕ)
+front_of (Some n) spare = Some (take n spare)
+front_of None spare = None
+
+-- As many as were put are said, if any are, and they fit.
+abbrev pub IsEnd : Option ℕ → SlotsState → Type 0
+IsEnd (Some n) s = (n ≡ s.put_end) × (n ≤ room_of s)
+IsEnd None s = Unit {0}
+
+-- The mode of a device tells how many bytes an image has that was taken.
+pub candidate_stage : (m : Mode) (spare block : List ℕ) → candidate_in (stage_of m spare block) ≡ front_of (candidate_length m) spare
+candidate_stage (mode.DownloadIdle written number) spare block = refl
+candidate_stage (mode.ManifestSync written) spare block = refl
+candidate_stage (mode.Manifest written passed) spare block = refl
+candidate_stage mode.AppIdle spare block = refl
+candidate_stage (mode.AppDetach timer passed) spare block = refl
+candidate_stage mode.DfuIdle spare block = refl
+candidate_stage (mode.DownloadSync written number) spare block = refl
+candidate_stage (mode.DownloadSyncWritten written number) spare block = refl
+candidate_stage (mode.DownloadBusy written number passed) spare block = refl
+candidate_stage mode.ManifestSyncComplete spare block = refl
+candidate_stage mode.ManifestWaitReset spare block = refl
+candidate_stage (mode.UploadIdle at number) spare block = refl
+candidate_stage (mode.Error code) spare block = refl
+
+-- So many were put in its slot store.
+pub candidate_put : (m : Mode) (b : ℕ) (s : SlotsState) → IsTrue (is_sound m b s) → IsEnd (candidate_length m) s
+candidate_put (mode.DownloadIdle written number) b s sound = (sym (grind (arith, common_steps)), grind (arith, common_steps))
+candidate_put (mode.ManifestSync written) b s sound = (sym (grind (arith, common_steps)), grind (arith, common_steps))
+candidate_put (mode.Manifest written passed) b s sound = (sym (grind (arith, common_steps)), grind (arith, common_steps))
+candidate_put mode.AppIdle b s sound = tt
+candidate_put (mode.AppDetach timer passed) b s sound = tt
+candidate_put mode.DfuIdle b s sound = tt
+candidate_put (mode.DownloadSync written number) b s sound = tt
+candidate_put (mode.DownloadSyncWritten written number) b s sound = tt
+candidate_put (mode.DownloadBusy written number passed) b s sound = tt
+candidate_put mode.ManifestSyncComplete b s sound = tt
+candidate_put mode.ManifestWaitReset b s sound = tt
+candidate_put (mode.UploadIdle at number) b s sound = tt
+candidate_put (mode.Error code) b s sound = tt
+
+-- An image of so many bytes, of which those of whole units are at the front of the spare slot's data, is the one that was taken.
+pub candidate_is : (w : Shown) (m : Mode) (block : List ℕ) (c : Candidate) (n : ℕ) → w.stage ≡ stage_of m (spare_of w.slots) block
+    → IsTrue (is_sound m (length block) w.slots) → IsStore w.slots → candidate_length m ≡ Some n
+    → c.at ≡ spare_at (gate_of w.slots.medium) w.slots.medium.bytes + 2 * gate_of w.slots.medium
+    → c.stored ≡ n - n % unit_size w.slots.medium.grain.unit → IsCandidate w c
+candidate_is w m block c n stage sound store len at stored =
+    let s = w.slots in
+    let end : n ≡ s.put_end = (subst (λ (o : Option ℕ). IsEnd o s) len (candidate_put m (length block) s sound)).0 in
+    let count : c.stored ≡ s.put_end - length s.held =
+    stored ∙ ap (λ (k : ℕ). k - k % unit_size s.medium.grain.unit) end ∙ ap (λ (k : ℕ). s.put_end - k) (sym store.puts.part) in
+    record {
+      taken = take n (spare_of s);
+      is = ap candidate_in stage ∙ candidate_stage m (spare_of s) block ∙ ap (λ (o : Option ℕ). front_of o (spare_of s)) len;
+      place = omega (arith, at);
+      within = omega (arith, at, count, store.puts.fits, end_there s store, store.has_image.active.sized.room);
+      bytes = (λ i. slice_range s.medium.bytes (at i) (at i + count i) ++ s.held) ∙ sym (put_is s store)
+          ∙ ap (λ (k : ℕ). take k (spare_of s)) (sym end);
+    }

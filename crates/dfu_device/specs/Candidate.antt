@@ -1,0 +1,30 @@
+-- An image that was taken and is not in place yet, which the program of a device may check where it is.
+use Rattle.std.specs.Prelude.{◌≡◌, ℕ, ◌+◌, ◌≤◌, List, ◌++◌, length, slice_range, Option, Some, None}
+use Rattle.dfu_slots.specs.Seen.{data_place}
+use Rattle.dfu_device.specs.declared.candidate.Candidate.{Candidate}
+use Rattle.dfu_device.specs.declared.mode.Mode.{Mode}
+use Rattle.dfu_device.specs.declared.mode.Mode.TheVariants as mode
+use Rattle.dfu_device.specs.Stage.{Stage, InDownloadIdle, InManifestSync, InManifest}
+use Rattle.dfu_device.specs.Shown.{Shown}
+
+-- Its bytes: all those taken, in dfuDNLOAD-IDLE, in dfuMANIFEST-SYNC before it is complete, and in dfuMANIFEST.
+abbrev pub candidate_in : Stage → Option (List ℕ)
+candidate_in (InDownloadIdle taken number) = Some taken
+candidate_in (InManifestSync taken) = Some taken
+candidate_in (InManifest taken passed) = Some taken
+candidate_in stage = None
+
+-- How many they are, by the mode.
+abbrev pub candidate_length : Mode → Option ℕ
+candidate_length (mode.DownloadIdle written number) = Some written
+candidate_length (mode.ManifestSync written) = Some written
+candidate_length (mode.Manifest written passed) = Some written
+candidate_length m = None
+
+-- They are the bytes of the medium at this place, after the gate and the header of the spare slot, and then the bytes held back.
+pub record IsCandidate (w : Shown) (c : Candidate) : Type 0 where
+  pub taken : List ℕ
+  pub is : candidate_in w.stage ≡ Some taken
+  pub place : c.at ≡ data_place w.slots 0
+  pub within : c.at + c.stored ≤ length w.slots.medium.bytes
+  pub bytes : slice_range w.slots.medium.bytes c.at (c.at + c.stored) ++ w.slots.held ≡ taken

@@ -1,0 +1,54 @@
+//! Where an image is that was taken and is not in place yet.
+
+ghost use Rattle.std.specs.Prelude.{◌≡◌, IfSome, IfNone, None};
+ghost use Rattle.dfu_device.specs.Candidate.{candidate_in, IsCandidate};
+ghost use Rattle.dfu_device.specs.inside.View.{shown};
+
+use crate::Device;
+use crate::block::Block;
+use crate::machine::Machine;
+use dfu_slots::{Medium, data_at};
+
+/// Where an image is that was taken and is not in place yet: its first bytes are on the medium, in the spare slot. The others, fewer than
+/// the medium's unit has, are held back in memory (`Slots::held`).
+#[derive(Clone, Copy, Debug, PartialEq, Eq)]
+pub struct Candidate {
+    /// Where its first byte is on the medium.
+    pub at: u32,
+    /// How many of its bytes are there.
+    pub stored: u32,
+}
+
+impl<M: Medium> Device<M> {
+    /// Where the image is that was taken, for a program that checks it before it calls `refuse_close` or `refuse`, or neither: in
+    /// dfuDNLOAD-IDLE, in dfuMANIFEST-SYNC before it is complete, and in dfuMANIFEST. None in every other state. It reads no byte of the
+    /// medium, and writes none.
+    pub fn candidate(&self) -> Option<Candidate>
+        ensures some { IfSome result (λ c. IsCandidate self.now c) }
+        ensures none { IfNone result (candidate_in self.now.stage ≡ None) }
+    {
+        self.machine.candidate()
+    }
+}
+
+impl<M: Medium, B: Block> Machine<M, B> {
+    // Where the image is that was taken.
+    fn candidate(&self) -> Option<Candidate>
+        ensures some { IfSome result (λ c. IsCandidate (shown self.now) c) }
+        ensures none { IfNone result (candidate_in (shown self.now).stage ≡ None) }
+    {
+        let len = self.mode.candidate_len()?;
+        // Called for its clause `store`, by which as many bytes are held back as make no whole unit.
+        let _ = self.slots.held();
+        let medium = self.slots.medium();
+        let spare = if self.slots.is_first() {
+            medium.len() / 2
+        } else {
+            0
+        };
+        Some(Candidate {
+            at: data_at(medium, spare),
+            stored: len - len % medium.unit().size(),
+        })
+    }
+}

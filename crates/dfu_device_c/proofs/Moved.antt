@@ -1,0 +1,74 @@
+-- A record whose mode alone is another one is that device in the other mode.
+use Rattle.std.proofs.Common.{◌≡◌, IsTrue, Option, ℕ, List, [], length, refl, sym, ap, ◌∙◌, subst}
+use Rattle.dfu_device.specs.declared.answer.Answer.{Answer}
+use Rattle.dfu_device.specs.declared.mode.Mode.{Mode}
+use Rattle.dfu_device.specs.Parts.{is_filled}
+use Rattle.dfu_device.specs.Rows.{Cause, Row}
+use Rattle.dfu_asks.specs.declared.asking.Asking.{Asking}
+use Rattle.dfu_asks.specs.declared.work.Work.{Work}
+use Rattle.dfu_asks.specs.Lent.{LentAsking, lent}
+use Rattle.dfu_asks.specs.Asks.{store_in, device_in, IsDevice}
+use Rattle.dfu_device_c.specs.declared.config.DfuConfig.{DfuConfig}
+use Rattle.dfu_device_c.specs.declared.record.DfuRecord.{DfuRecord}
+use Rattle.dfu_device_c.specs.Config.{setting_of}
+use Rattle.dfu_device_c.specs.Mode.{HasMode}
+use Rattle.dfu_device_c.specs.Kept.{IsFlag, HasWork, IsKept, with_memory}
+use Rattle.dfu_device_c.specs.Refuse.{TakesCause}
+use Rattle.dfu_device_c.proofs.Asked.{none_kept, moved_sound}
+
+module _ (c : DfuConfig) (r r' : DfuRecord) (m m' : Mode) (the_mode : (x : Mode) → HasMode r x → m ≡ x) (idle : r.work ≡ 0)
+    (moved : HasMode r' m') (rest : r' ≡ record r {
+      version = r'.version;
+      mode = r'.mode;
+      first = r'.first;
+      second = r'.second;
+      number = r'.number;
+    }) where
+  same_bytes : r'.held ≡ r.held
+  same_bytes = ap (λ (x : DfuRecord). x.held) rest
+
+  -- What is left to be written is in neither record.
+  moved_work : (a : Asking) → IsKept c r a → HasWork r' a.work
+  moved_work a kept = subst (λ (w : Option Work). HasWork r' w) (sym (none_kept r a.work idle kept.work))
+      (ap (λ (x : DfuRecord). x.work) rest ∙ idle)
+
+  moved_kept : (a : Asking) → IsKept c r a → IsKept c r' (record a { mode = m' })
+  moved_kept a kept = record {
+    set_up = kept.set_up;
+    mode = moved;
+    block = kept.block ∙ sym (ap (λ (x : DfuRecord). x.length) rest);
+    held = kept.held ∙ sym (ap (λ (x : DfuRecord). x.held_length) rest);
+    end = kept.end ∙ sym (ap (λ (x : DfuRecord). x.put_end) rest);
+    noted = record {
+      second = subst (λ (n : ℕ). IsFlag a.noted.second n) (sym (ap (λ (x : DfuRecord). x.slot) rest)) kept.noted.second;
+      header = kept.noted.header ∙ sym (ap (λ (x : DfuRecord). x.header) rest);
+    };
+    work = moved_work a kept;
+  }
+
+  -- The row of this cause leads to that mode.
+  abbrev Leads : Cause → Answer → Type 0
+  Leads cause x = (l : LentAsking) (flash : List ℕ) → l.config ≡ setting_of c → m ≡ l.mode → IsDevice l flash
+      → IsTrue (is_filled m' (length l.block) (store_in l flash))
+      × Row (device_in l flash) cause x [] (device_in (record l { mode = m' }) flash)
+
+  -- So the record takes that row.
+  pub takes_cause : (cause : Cause) (x : Answer) → Leads cause x → TakesCause c r cause x r'
+  takes_cause cause x leads a kept = (
+    record a { mode = m' },
+    moved_kept a kept,
+    none_kept r a.work idle kept.work,
+    refl,
+    λ block flash device.
+        let l : LentAsking = with_memory r block a in
+        let led = leads l flash kept.set_up.config_is (the_mode a.mode kept.mode) device in
+        subst (λ (h : List ℕ). IsDevice (lent (record a { mode = m' }) block h) flash
+        × Row (device_in l flash) cause x [] (device_in (lent (record a { mode = m' }) block h) flash)) (sym same_bytes) (
+          record {
+            store = device.store;
+            sound = moved_sound (store_in l flash) a.mode m' (length l.block) device.sound led.0;
+            noted = device.noted;
+          },
+          led.1,
+        ),
+  )

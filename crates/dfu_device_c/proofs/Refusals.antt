@@ -1,0 +1,62 @@
+-- What a refusal of the program makes of the device that a record is.
+use Rattle.std.proofs.Common.{◌≡◌, ℕ, Bool, true, IsTrue, List, [], length, refl, sym, ap, ◌∙◌, subst}
+use Rattle.dfu_slots.specs.Seen.{SlotsState, spare_of}
+use Rattle.dfu_device.specs.declared.answer.Answer.TheVariants as answer
+use Rattle.dfu_device.specs.declared.mode.Mode.{Mode}
+use Rattle.dfu_device.specs.declared.objection.Objection.{Objection}
+use Rattle.dfu_device.specs.Decision.{HoldsWritten}
+use Rattle.dfu_device.specs.Parts.{stage_of, is_filled, is_sound}
+use Rattle.dfu_device.specs.Rows.{IsCloseSetup, RefusingClose, Refusing, Row}
+use Rattle.dfu_device.specs.Stage.{InError}
+use Rattle.dfu_device.specs.Table.{objection_code, may_close, refuse_stage}
+use Rattle.dfu_device.proofs.Carried.{filled, holds_written}
+use Rattle.dfu_asks.specs.Lent.{LentAsking}
+use Rattle.dfu_asks.specs.Asks.{store_in, device_in, IsDevice}
+use Rattle.dfu_device_c.specs.declared.config.DfuConfig.{DfuConfig}
+use Rattle.dfu_device_c.specs.Config.{setting_of}
+
+module _ (c : DfuConfig) (m m' : Mode) (why : Objection) (l : LentAsking) (flash : List ℕ) (config : l.config ≡ setting_of c)
+    (mode : m ≡ l.mode) (device : IsDevice l flash) where
+  abbrev s : SlotsState
+  s = store_in l flash
+
+  sound : IsTrue (is_sound m (length l.block) s)
+  sound = subst (λ (x : Mode). IsTrue (is_sound x (length l.block) s)) (sym mode) device.sound
+
+  -- Its mode tells whether the download may be closed.
+  pub may_is : (b : Bool) → ((spare block : List ℕ) → HoldsWritten m spare → b ≡ may_close c.least (stage_of m spare block))
+      → b ≡ may_close l.config.least (device_in l flash).stage
+  may_is b may = may (spare_of s) l.block (holds_written m (length l.block) s sound)
+      ∙ (λ i. may_close (sym config i).least (stage_of (mode i) (spare_of s) l.block))
+
+  -- An image that was closed.
+  pub refuse_leads : ((spare block : List ℕ) → stage_of m' spare block ≡ refuse_stage why (stage_of m spare block))
+      → ((n : ℕ) (x : SlotsState) → is_filled m n x ≡ true → is_filled m' n x ≡ true)
+      → IsTrue (is_filled m' (length l.block) s)
+      × Row (device_in l flash) (Refusing why) answer.Ack [] (device_in (record l { mode = m' }) flash)
+  refuse_leads stage fills = (
+    fills (length l.block) s (filled m (length l.block) s sound),
+    (
+      refl,
+      refl,
+      ap (λ st. record (device_in l flash) { stage = st })
+          (stage (spare_of s) l.block ∙ ap (λ (x : Mode). refuse_stage why (stage_of x (spare_of s) l.block)) mode),
+    ),
+  )
+
+  -- One that this setup closes.
+  pub close_leads : (setup : List ℕ) (b : Bool) → IsCloseSetup setup
+      → ((spare block : List ℕ) → HoldsWritten m spare → b ≡ may_close c.least (stage_of m spare block)) → b ≡ true
+      → ((spare block : List ℕ) → stage_of m' spare block ≡ InError (objection_code why))
+      → ((n : ℕ) (x : SlotsState) → is_filled m' n x ≡ true)
+      → IsTrue (is_filled m' (length l.block) s)
+      × Row (device_in l flash) (RefusingClose setup why) answer.Stall [] (device_in (record l { mode = m' }) flash)
+  close_leads setup b close may on stage fills = (
+    fills (length l.block) s,
+    (
+      refl,
+      refl,
+      (close, sym (may_is b may) ∙ on),
+      ap (λ st. record (device_in l flash) { stage = st }) (stage (spare_of s) l.block),
+    ),
+  )

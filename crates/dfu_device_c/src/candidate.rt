@@ -1,0 +1,39 @@
+//! Where an image is that was taken and is not in place yet.
+ghost use Rattle.std.specs.Prelude.{◌≡◌, ◌⊎◌};
+ghost use Rattle.dfu_device_c.specs.Candidate.{HasCandidate, HasNone, RefusesCandidate};
+
+use crate::config::DfuConfig;
+use crate::exports::refused;
+use crate::keeping::found;
+use crate::place::DfuPlace;
+use crate::record::DfuRecord;
+
+/// Where the image is that was taken, as `Device::candidate`: 0, and `place` has its bytes in the flash, after which come the `held_length`
+/// ones that the record holds back.
+///
+/// Refused as `dfu_core_elapse` with memory of 4,096 bytes for the block; then with -15 if no image was taken that may be refused.
+#[unsafe(no_mangle)]
+pub extern "C" fn dfu_core_candidate(
+    config: &DfuConfig,
+    device: &DfuRecord,
+    flash: &[u8],
+    place: &mut DfuPlace,
+) -> i32
+    ensures outcome { HasCandidate config.now device.now flash.now result place.new
+        ⊎ ((place.new ≡ place.old) × (HasNone config.now device.now flash.now result
+        ⊎ RefusesCandidate config.now device.now flash.now result)) }
+{
+    let asking = match found(config, device, 4096) {
+        Ok(asking) => asking,
+        Err(refusal) => return refusal.number(),
+    };
+    match asking.candidate(flash) {
+        Ok(Some(found)) => {
+            place.at = found.at;
+            place.length = found.stored;
+            0
+        }
+        Ok(None) => -15,
+        Err(refusal) => refused(refusal).number(),
+    }
+}

@@ -1,0 +1,68 @@
+//! The program refuses an image: the record alone is needed.
+ghost use Rattle.std.specs.Prelude.{◌≡◌, IfSome, IfNone};
+ghost use Rattle.dfu_device_c.specs.Addressed.{addressed};
+ghost use Rattle.dfu_device_c.specs.Refuse.{objection_in, Objects, WasRefused, WasClosed};
+
+use crate::addressed::addressed;
+use crate::config::DfuConfig;
+use crate::idle::idle_mode;
+use crate::mode::set_mode;
+use crate::record::DfuRecord;
+use dfu_device::{Mode, Objection, is_close};
+
+// The objection of a status, which is errTARGET or errFILE.
+fn objection_of(status: u32) -> Option<Objection>
+    ensures some { IfSome result (λ why. (why ≡ objection_in status) × Objects status) }
+    ensures none { IfNone result (¬ Objects status) }
+{
+    match status {
+        1 => Some(Objection::Target),
+        2 => Some(Objection::File),
+        _ => None,
+    }
+}
+
+/// The program refuses the image that was closed, as `Device::refuse`, with errTARGET (1) or errFILE (2): 0.
+///
+/// Refused as `dfu_core_would_stall`; then with -14 if the status is another one.
+#[unsafe(no_mangle)]
+pub extern "C" fn dfu_core_refuse(config: &DfuConfig, device: &mut DfuRecord, status: u32) -> i32
+    ensures outcome { WasRefused config.now device.old status result device.new }
+{
+    let mode = match idle_mode(config, device) {
+        Ok(mode) => mode,
+        Err(refusal) => return refusal.number(),
+    };
+    let Some(objection) = objection_of(status) else {
+        return -14;
+    };
+    set_mode(device, mode.after_refusal(objection));
+    0
+}
+
+/// The program refuses the image that this setup closes, as `Device::refuse_close`, with errTARGET (1) or errFILE (2): -1.
+///
+/// Refused as `dfu_core_refuse`; then with -13 if the setup closes no download.
+#[unsafe(no_mangle)]
+pub extern "C" fn dfu_core_refuse_close(
+    config: &DfuConfig,
+    device: &mut DfuRecord,
+    setup: &[u8; 8],
+    status: u32,
+) -> i32
+    ensures outcome { WasClosed config.now device.old (addressed config.now.interface setup.now) status result device.new }
+{
+    let mode = match idle_mode(config, device) {
+        Ok(mode) => mode,
+        Err(refusal) => return refusal.number(),
+    };
+    let Some(objection) = objection_of(status) else {
+        return -14;
+    };
+    let own = addressed(config.interface, setup);
+    if !mode.may_close(config.least) || !is_close(&own) {
+        return -13;
+    }
+    set_mode(device, Mode::after_refused_close(objection));
+    -1
+}

@@ -1,0 +1,56 @@
+-- Ranges of bytes that have zeros after them.
+use Rattle.std.proofs.Common.{◌≡◌, ℕ, ◌+◌, ◌-◌, ◌≤◌, ◌<◌, List, ◌++◌, length, take, drop, replicate, get_or, slice_range, sym, ◌∙◌, ap, arith, length-append, length-drop}
+use Rattle.std.proofs.lemmas.Grind.{same_number_lists}
+use Rattle.std.proofs.lemmas.List.{take-append-le, take-replicate, drop_at, length-take-le, length-replicate, get_or-take, get_or-drop}
+use Rattle.std.proofs.lemmas.Slice.{between_is, between_from_start}
+use Rattle.dfu_slots.proofs.Torn.{drop_past}
+use Rattle.dfu_slots.proofs.Within.{take_past}
+
+-- Bytes that were put at the front of a buffer one by one.
+pub gathered : (all : List ℕ) (skip n : ℕ) (out : List ℕ) → length out ≡ 256 → n ≤ 256 → skip ≤ length all
+    → ((k : ℕ) → k < n → get_or out k 0 ≡ get_or (all ++ replicate 256 0) (skip + k) 0)
+    → take n out ≡ slice_range (all ++ replicate 256 0) skip (skip + n)
+gathered all skip n out size few front each =
+    let l = all ++ replicate 256 0 in
+    let long : length l ≡ length all + 256 = omega (arith, length-append all (replicate 256 0), length-replicate {A = ℕ} 256 0) in
+    let e : n ≡ skip + n - skip = omega arith in
+    let mine : length (take n out) ≡ n = length-take-le n out (omega (arith, size, few)) in
+    let own : length (take n (drop skip l)) ≡ n = length-take-le n (drop skip l) (omega (arith, long, length-drop skip l, front, few)) in
+    same_number_lists (take n out) (take n (drop skip l)) (mine ∙ sym own)
+    (λ k lt. let low : k < n = omega (arith, lt, mine) in
+    get_or-take n out k 0 low ∙ each k low ∙ sym (get_or-drop skip l k 0) ∙ sym (get_or-take n (drop skip l) k 0 low))
+    ∙ ap (λ (j : ℕ). take j (drop skip l)) e
+
+-- The front of bytes with zeros after them.
+pub zeroed_front : (l : List ℕ) (n : ℕ) → length l ≤ n → n ≤ 256
+    → slice_range (l ++ replicate 256 0) 0 (0 + n) ≡ l ++ replicate (n - length l) 0
+zeroed_front l n low high =
+    let e : 0 + n ≡ n = omega arith in
+    ap (λ (k : ℕ). slice_range (l ++ replicate 256 0) 0 k) e
+    ∙ between_from_start (l ++ replicate 256 0) n
+    ∙ take_past l (replicate 256 0) n low
+    ∙ ap (λ (x : List ℕ). l ++ x) (take-replicate (n - length l) 256 0 (omega (arith, high)))
+
+-- A range of the bytes before what comes after them.
+pub range_before : (l more : List ℕ) (i j : ℕ) → j ≤ length l → slice_range (l ++ more) i j ≡ slice_range l i j
+range_before l more i j le =
+    between_is (l ++ more) i j ∙ ap (λ (x : List ℕ). drop i x) (take-append-le j l more le) ∙ sym (between_is l i j)
+
+-- A range of what is held and the block, that lies in the block.
+pub block_range : (held block : List ℕ) (skip n : ℕ) → length held ≤ skip → skip + n ≤ length held + length block
+    → slice_range ((held ++ block) ++ replicate 256 0) skip (skip + n)
+    ≡ slice_range block (skip - length held) (skip - length held + n)
+block_range held block skip n low high =
+    let e : skip + n - skip ≡ skip - length held + n - (skip - length held) = omega arith in
+    range_before (held ++ block) (replicate 256 0) skip (skip + n) (omega (arith, length-append held block, high))
+    ∙ ap (λ (l : List ℕ). take (skip + n - skip) l)
+    (drop_past (held ++ block) (length held) skip low
+    ∙ ap (λ (l : List ℕ). drop (skip - length held) l) (drop_at held block (length held) (omega arith)))
+    ∙ ap (λ (j : ℕ). take j (drop (skip - length held) block)) e
+
+-- So many bytes a range has.
+pub range_size : (all : List ℕ) (skip n : ℕ) → skip + n ≤ length all → length (slice_range all skip (skip + n)) ≡ n
+range_size all skip n within =
+    let k : skip + n - skip ≡ n = omega arith in
+    ap (λ (j : ℕ). length (take j (drop skip all))) k
+    ∙ length-take-le n (drop skip all) (omega (arith, within, length-drop skip all))

@@ -1,0 +1,187 @@
+-- The operations of each sequence make the writes that it is for.
+use Rattle.std.proofs.Common.{◌≡◌, ◌≢◌, ◌⊎◌, inl, inr, ◌==◌, true, false, if◌then◌else◌, ℕ, suc, ◌+◌, ◌-◌, ◌*◌, ◌≤◌, ◌<◌, min, List, [], ◌∷◌, ◌++◌, length, take, drop, replicate, slice_range, sym, ◌∙◌, ap, arith, length-append}
+use Rattle.std.proofs.lemmas.Bool.{cases_eq, cond-true, cond-false, ne_eqb, eq-eqb}
+use Rattle.std.proofs.lemmas.List.{append-nil, append_assoc, drop_min, take_min, length-drop, replicate-append-replicate}
+use Rattle.std.proofs.lemmas.Slice.{between_is, between_from_start}
+use Rattle.dfu_slots.specs.declared.unit.Unit.{Unit as WriteUnit}
+use Rattle.dfu_slots.specs.declared.operation.Op.{Op}
+use Rattle.dfu_slots.specs.declared.operation.Op.TheVariants.{Erase, Program}
+use Rattle.dfu_slots.specs.declared.operation.Source.TheVariants.{Joined, Header, Opened, Closed}
+use Rattle.dfu_slots.specs.declared.sequence.Sequence.TheVariants.{Close, Put, Commit, Image}
+use Rattle.dfu_slots.specs.declared.unit.Unit.TheVariants.{Byte}
+use Rattle.dfu_slots.specs.Units.{Grain, unit_size, gate_size, gate_room, whole_part, fill_size, filled}
+use Rattle.dfu_slots.specs.Medium.{Write}
+use Rattle.dfu_slots.specs.Layout.{OPEN, header, gate_unit, header_unit}
+use Rattle.dfu_slots.specs.Writes.{erases, closed_gate, write_anew, write_some, head_size, put_writes, part_writes, open_writes}
+use Rattle.dfu_slots.specs.Operations.{range_of, ops_writes, held_from, operations}
+use Rattle.dfu_slots.proofs.Sectors.{unit_wide, gate_most}
+use Rattle.dfu_slots.proofs.Multiples.{multiple_unit, length-filled, filled_within}
+use Rattle.dfu_slots.proofs.Parts.{length-gate_unit, length-header_unit}
+use Rattle.dfu_slots.proofs.Put.{head_le, whole_le}
+use Rattle.dfu_slots.proofs.Ranges.{zeroed_front, range_before}
+
+-- Some bytes are written with the erases before them.
+anew_are : (sector at : ℕ) (bytes : List ℕ) → 0 < length bytes → write_some sector at bytes ≡ write_anew sector at bytes
+anew_are sector at bytes some =
+    cond-false (length bytes == 0) [] (write_anew sector at bytes) (ne_eqb (length bytes) 0 (λ e. omega (arith, some, e)))
+
+-- A gate unit.
+pub gate_range : (g first : ℕ) → 16 ≤ g → g ≤ 256 → slice_range ((first ∷ []) ++ replicate 256 0) 0 (0 + g) ≡ gate_unit g first
+gate_range g first least most = zeroed_front (first ∷ []) g (omega (arith, least)) most
+
+-- A gate unit of zeros.
+pub closed_range : (g : ℕ) → 16 ≤ g → g ≤ 256 → slice_range ([] ++ replicate 256 0) 0 (0 + g) ≡ gate_unit g 0
+closed_range g least most =
+    zeroed_front [] g (omega arith) most
+    ∙ (let e : g - 0 ≡ suc (g - 1) = omega (arith, least) in ap (λ (k : ℕ). replicate {A = ℕ} k 0) e)
+
+-- A header unit.
+pub header_range : (g gen len crc : ℕ) (front : List ℕ) → 16 ≤ g → g ≤ 256 → front ≡ header 2 gen len crc
+    → slice_range (front ++ replicate 256 0) 0 (0 + g) ≡ header_unit g gen len crc
+header_range g gen len crc front least most is =
+    ap (λ (l : List ℕ). slice_range (l ++ replicate 256 0) 0 (0 + g)) is
+    ∙ zeroed_front (header 2 gen len crc) g (omega (arith, least)) most
+
+-- The bytes held back, filled up to a unit.
+pub part_range : (u : WriteUnit) (held : List ℕ) → length held ≤ 256
+    → slice_range (held ++ replicate 256 0) 0 (0 + (length held + fill_size u (length held))) ≡ filled u held
+part_range u held few =
+    let n = length held + fill_size u (length held) in
+    let most : n ≤ 256 = omega (arith, filled_within u 256 held (multiple_unit u) few, length-filled u held) in
+    zeroed_front held n (omega arith) most
+    ∙ (let e : n - length held ≡ fill_size u (length held) = omega arith in ap (λ (k : ℕ). held ++ replicate k 0) e)
+
+-- What a `put` writes first, and what it writes then.
+module _ (w : Grain) (held block : List ℕ) where
+  abbrev all : List ℕ
+  all = held ++ block
+
+  abbrev head : ℕ
+  head = head_size w.unit held block
+
+  abbrev whole : ℕ
+  whole = whole_part w.unit (length all)
+
+  pub head_range : (n : ℕ) → n ≡ head → slice_range (all ++ replicate 256 0) 0 (0 + n) ≡ take head all
+  head_range n is =
+      let e : 0 + n ≡ n = omega arith in
+      ap (λ (k : ℕ). slice_range (all ++ replicate 256 0) 0 k) e
+      ∙ range_before all (replicate 256 0) 0 n (omega (arith, is, head_le w held block, whole_le w held block))
+      ∙ between_from_start all n
+      ∙ ap (λ (k : ℕ). take k all) is
+
+  pub back_range : (n k : ℕ) → n ≡ head → n + k ≡ whole → slice_range (all ++ replicate 256 0) n (n + k) ≡ drop head (take whole all)
+  back_range n k is end =
+      range_before all (replicate 256 0) n (n + k) (omega (arith, end, whole_le w held block))
+      ∙ between_is all n (n + k)
+      ∙ (λ i. drop (is i) (take (end i) all))
+
+module _ (w : Grain) (held block head : List ℕ) where
+  -- A gate is closed.
+  pub close_are : (slot : ℕ) → ops_writes w.sector held block head (operations w (Close slot))
+      ≡ record { at = slot; bytes = closed_gate w } ∷ []
+  close_are slot = by_sector (cases_eq w.sector 0)
+    where
+      g : ℕ
+      g = gate_size w.unit
+
+      by_sector : (w.sector ≡ 0) ⊎ (w.sector ≢ 0) → ops_writes w.sector held block head (operations w (Close slot))
+          ≡ record { at = slot; bytes = closed_gate w } ∷ []
+      by_sector (inl none) =
+          let e : (w.sector == 0) ≡ true = eq-eqb w.sector 0 none in
+          let bytes = closed_range g (unit_wide w.unit) (gate_most w.unit) in
+          let unit = gate_unit g 0 in
+          let some : 0 < length unit = omega (arith, length-gate_unit g 0 (unit_wide w.unit), unit_wide w.unit) in
+          ap (λ (o : Op). ops_writes w.sector held block head (o ∷ []))
+          (cond-true (w.sector == 0) (Program slot Closed 0 g) (Erase slot) e)
+          ∙ append-nil (write_some w.sector slot (range_of Closed held block head 0 g))
+          ∙ ap (λ (l : List ℕ). write_some w.sector slot l) bytes
+          ∙ anew_are w.sector slot unit some
+          ∙ ap (λ (ws : List Write). ws ++ record { at = slot; bytes = unit } ∷ [])
+          (cond-true (w.sector == 0) [] (erases w.sector slot (length unit)) e)
+          ∙ ap (λ (l : List ℕ). record { at = slot; bytes = l } ∷ [])
+          (sym (cond-true (w.sector == 0) unit (replicate w.sector 255) e))
+      by_sector (inr some) =
+          let e : (w.sector == 0) ≡ false = ne_eqb w.sector 0 some in
+          ap (λ (o : Op). ops_writes w.sector held block head (o ∷ []))
+          (cond-false (w.sector == 0) (Program slot Closed 0 g) (Erase slot) e)
+          ∙ ap (λ (l : List ℕ). record { at = slot; bytes = l } ∷ [])
+          (sym (cond-false (w.sector == 0) (gate_unit g 0) (replicate w.sector 255) e))
+
+  -- A block is put.
+  pub put_are : (slot end : ℕ) → ops_writes w.sector held block head (operations w (Put slot end (length held) (length block)))
+      ≡ put_writes w (held_from w slot end (length held)) held block
+  put_are slot end =
+      let n : length held + length block ≡ length (held ++ block) = sym (length-append held block) in
+      let whole : whole_part w.unit (length held + length block) ≡ whole_part w.unit (length (held ++ block)) =
+      ap (λ (k : ℕ). whole_part w.unit k) n in
+      let first : (if length held == 0 then 0 else min (unit_size w.unit) (whole_part w.unit (length held + length block)))
+      ≡ head_size w.unit held block =
+      ap (λ (k : ℕ). if length held == 0 then 0 else min (unit_size w.unit) k) whole in
+      let mine = if length held == 0 then 0 else min (unit_size w.unit) (whole_part w.unit (length held + length block)) in
+      let left = whole_part w.unit (length held + length block) - mine in
+      let at = held_from w slot end (length held) in
+      let back : mine + left ≡ whole_part w.unit (length (held ++ block)) = omega (arith, first, whole, head_le w held block) in
+      (λ i. write_some w.sector at (head_range w held block mine first i)
+      ++ (write_some w.sector (at + first i) (back_range w held block mine left first back i) ++ []))
+      ∙ ap (λ (ws : List Write). write_some w.sector at (take (head_size w.unit held block) (held ++ block)) ++ ws) (append-nil _)
+
+  -- What is held is written, and the slot is opened.
+  pub commit_are : (slot end gen len crc : ℕ) → length held ≤ 256 → head ≡ header 2 gen len crc
+      → ops_writes w.sector held block head (operations w (Commit slot end (length held)))
+      ≡ part_writes w (held_from w slot end (length held)) held ++ open_writes w slot gen len crc
+  commit_are slot end gen len crc few is =
+      let g = gate_size w.unit in
+      let at = held_from w slot end (length held) in
+      let header_bytes = header_range g gen len crc head (unit_wide w.unit) (gate_most w.unit) is in
+      let gate_bytes = gate_range g OPEN (unit_wide w.unit) (gate_most w.unit) in
+      let header_writes : write_some w.sector (slot + gate_room w) (range_of Header held block head 0 g)
+      ≡ write_anew w.sector (slot + gate_room w) (header_unit g gen len crc) =
+      ap (λ (l : List ℕ). write_some w.sector (slot + gate_room w) l) header_bytes
+      ∙ anew_are w.sector (slot + gate_room w) (header_unit g gen len crc)
+      (omega (arith, length-header_unit g gen len crc (unit_wide w.unit), unit_wide w.unit)) in
+      let gate_writes : write_some w.sector slot (range_of Opened held block head 0 g)
+      ≡ write_anew w.sector slot (gate_unit g OPEN) =
+      ap (λ (l : List ℕ). write_some w.sector slot l) gate_bytes
+      ∙ anew_are w.sector slot (gate_unit g OPEN) (omega (arith, length-gate_unit g OPEN (unit_wide w.unit), unit_wide w.unit)) in
+      (λ i. write_some w.sector at (part_range w.unit held few i)
+      ++ (header_writes i ++ append-nil (gate_writes i) i))
+
+-- Up to 4096 bytes of an image, filled up to a unit.
+pub image_range : (u : WriteUnit) (image : List ℕ) (from skip n : ℕ) → skip ≡ min from (length (filled u image))
+    → n ≡ min (length (filled u image) - skip) 4096
+    → slice_range (([] ++ image) ++ replicate 256 0) skip (skip + n) ≡ take 4096 (drop from (filled u image))
+image_range u image from skip n first size =
+    let fill = fill_size u (length image) in
+    let units = filled u image in
+    let few : fill ≤ 256 = fill_few u (length image) in
+    let count : 256 ≡ fill + (256 - fill) = omega (arith, few) in
+    let zeros : image ++ replicate 256 0 ≡ units ++ replicate (256 - fill) 0 =
+    ap (λ (l : List ℕ). image ++ l)
+    (ap (λ (k : ℕ). replicate {A = ℕ} k 0) count ∙ sym (replicate-append-replicate fill (256 - fill) 0))
+    ∙ sym (append_assoc image (replicate fill 0) (replicate (256 - fill) 0)) in
+    let k : skip + n - skip ≡ n = omega arith in
+    let same : n ≡ min 4096 (length (drop from units)) = omega (arith, size, first, length-drop from units) in
+    ap (λ (l : List ℕ). slice_range l skip (skip + n)) zeros
+    ∙ range_before units (replicate (256 - fill) 0) skip (skip + n) (omega (arith, first, size))
+    ∙ ap (λ (j : ℕ). take j (drop skip units)) k
+    ∙ (λ i. take n (drop (first i) units))
+    ∙ ap (λ (l : List ℕ). take n l) (drop_min from units)
+    ∙ ap (λ (j : ℕ). take j (drop from units)) same
+    ∙ take_min 4096 (drop from units)
+  where
+    fill_few : (v : WriteUnit) (m : ℕ) → fill_size v m ≤ 256
+    fill_few Byte m = omega arith
+    fill_few _ m = omega arith
+
+pub image_are : (w : Grain) (image head : List ℕ) (from : ℕ)
+    → ops_writes w.sector [] image head (operations w (Image from (length image)))
+    ≡ write_some w.sector (2 * gate_room w + from) (take 4096 (drop from (filled w.unit image)))
+image_are w image head from =
+    let size = length image + fill_size w.unit (length image) in
+    let long : size ≡ length (filled w.unit image) = sym (length-filled w.unit image) in
+    let skip = min from size in
+    let n = min (size - skip) 4096 in
+    append-nil (write_some w.sector (2 * gate_room w + from) (range_of Joined [] image head skip n))
+    ∙ ap (λ (l : List ℕ). write_some w.sector (2 * gate_room w + from) l)
+    (image_range w.unit image from skip n (ap (λ (k : ℕ). min from k) long) (ap (λ (k : ℕ). min (k - skip) 4096) long))

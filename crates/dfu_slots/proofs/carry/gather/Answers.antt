@@ -1,0 +1,10 @@
+use Rattle.std.proofs.Common.{arith}
+use Rattle.dfu_slots.specs.Operations.{source_of}
+use Rattle.dfu_slots.proofs.Ranges.{gathered}
+use Rattle.dfu_slots.proofs.carry.gather.Goals as goal
+
+pub returns : goal.returns
+returns c =
+    let (size, each) = c.loop-i.invariant in
+    gathered (source_of c.args.source c.args.held.now c.args.block.now c.args.header.now) c.args.skip c.args.len c.loop-i.out size
+    c.requires.few c.requires.front (λ k lt. each k (omega (arith, lt, c.loop-i-test.false)))

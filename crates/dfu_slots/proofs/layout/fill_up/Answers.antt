@@ -1,5 +1,0 @@
-use Rattle.dfu_slots.proofs.Filled.{buffer_is}
-use Rattle.dfu_slots.proofs.layout.fill_up.Goals as goal
-
-pub returns : goal.returns
-returns c = buffer_is c.args.bytes.now c.copy_from_slice.new.self 256 c.copy_from_slice.ensures.after
