@@ -1,17 +1,8 @@
 /* SPDX-License-Identifier: MIT OR Apache-2.0 */
 /* Requests, time and resets, as they come from the bus, and what is sent back. */
-#define _POSIX_C_SOURCE 200809L
 #include "bus.h"
+#include "clock.h"
 #include "say.h"
-
-#include <time.h>
-
-static int64_t clock_ms(void)
-{
-    struct timespec now;
-    clock_gettime(CLOCK_MONOTONIC, &now);
-    return (int64_t)now.tv_sec * 1000 + now.tv_nsec / 1000000;
-}
 
 /* What follows each change of the machine. */
 static void look(struct bus *bus)
@@ -80,6 +71,17 @@ static void send(struct function *function, const uint8_t setup[8], int32_t answ
         function_acknowledge(function);
 }
 
+/* The program of --check refuses the image that this setup closes. Then the machine stands in dfuERROR. */
+static bool is_refused(struct bus *bus, const uint8_t setup[8])
+{
+    struct dfu_place place;
+    uint8_t why;
+    if (bus->check.program == NULL || !machine_closes(&bus->machine, setup, &place))
+        return false;
+    why = check_image(&bus->check, place.at, place.length);
+    return why != 0 && machine_refuse_close(&bus->machine, setup, why);
+}
+
 /* The data stage is taken, unless the library stalls the setup before it: DFU_STALL, or its answer; and false where the host gave up. */
 static bool decide(struct bus *bus, const uint8_t setup[8], uint8_t out[MOST_TRANSFER], int32_t *answer)
 {
@@ -90,7 +92,13 @@ static bool decide(struct bus *bus, const uint8_t setup[8], uint8_t out[MOST_TRA
         *answer = DFU_STALL;
         say_exchange(setup, body, 0, DFU_STALL, out);
         return true;
-    case PLAN_ANSWER: length = 0; break;
+    case PLAN_ANSWER:
+        length = 0;
+        if (!is_refused(bus, setup))
+            break;
+        *answer = DFU_STALL;
+        say_exchange(setup, body, 0, DFU_STALL, out);
+        return true;
     case PLAN_TAKE:
         if (function_take(&bus->functions[bus->mode], body, length) != (int)length)
             return false;

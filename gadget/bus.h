@@ -3,6 +3,7 @@
 #ifndef DFU_GADGET_BUS_H
 #define DFU_GADGET_BUS_H
 
+#include "check.h"
 #include "controller.h"
 #include "function.h"
 #include "installed.h"
@@ -14,6 +15,7 @@ struct bus {
     struct machine machine;
     struct controller controller;
     struct function functions[MODES];
+    struct check check;
     struct installed installed;
     int mode;      /* whose gadget is on the bus, or NOWHERE */
     int64_t told;  /* up to when the machine was told the time, ms */

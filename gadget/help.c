@@ -24,6 +24,7 @@ void words_help(void)
           "  --config <FILE>         Read options from FILE, a line for each; words win\n"
           "  --application <NAME>    The gadget of run-time mode, else application\n"
           "  --upgrade <NAME>        The gadget of DFU mode, else upgrade\n"
+          "  --check <PROGRAM>       Take an image only if PROGRAM MEDIUM AT LENGTH ends with 0\n"
           "  --on-installed <PROGRAM>\n"
           "                          Run PROGRAM MEDIUM AT LENGTH once an image is in place\n"
           "  --dfu-mode              Begin in DFU mode\n"

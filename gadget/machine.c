@@ -101,6 +101,20 @@ int32_t machine_handle(struct machine *machine, const uint8_t setup[8], const ui
     return settle(machine, dfu_device_handle(&machine->device, setup, body, out, MOST_TRANSFER), out, MOST_TRANSFER);
 }
 
+/* A byte of the image is on the disk as soon as it was taken, since the medium's unit is a byte: none is held back in the record. */
+bool machine_closes(struct machine *machine, const uint8_t setup[8], struct dfu_place *place)
+{
+    return setup[0] == 0x21 && setup[1] == DFU_DNLOAD && setup[6] == 0 && setup[7] == 0
+        && machine_state(machine) == DFU_STATE_DNLOAD_IDLE && dfu_device_candidate(&machine->device, place) == 0
+        && place->length >= machine->config.least;
+}
+
+bool machine_refuse_close(struct machine *machine, const uint8_t setup[8], uint8_t why)
+{
+    int32_t answer = dfu_device_refuse_close(&machine->device, setup, why);
+    return answer == DFU_STALL || (answer != DFU_NO_CLOSE && note(machine, answer) < 0);
+}
+
 void machine_pass(struct machine *machine, int64_t ms)
 {
     uint8_t out[MOST_TRANSFER];

@@ -118,6 +118,7 @@ int run_device(const struct words *words)
     int status;
     bus.mode = NOWHERE;
     bus.controller.state = bus.functions[APPLICATION].ep0 = bus.functions[UPGRADE].ep0 = -1;
+    bus.check = (struct check){.program = words->check, .medium = words->medium};
     bus.installed = (struct installed){.command = words->command, .medium = words->medium, .child = -1};
     say_is_verbose = words->verbose;
     if (words->log != NULL && !say_to(words->log))

@@ -9,8 +9,8 @@
 #include <stdlib.h>
 #include <string.h>
 
-enum { MOST = 256, FORCE, CONTROLLER, CONFIG, APPLICATION, UPGRADE, ON_INSTALLED, DFU_MODE, DETACH_TIMEOUT, TRANSFER_SIZE, ATTRIBUTES,
-       BUSY, MANIFEST, LEAST, DRY_RUN, VERBOSE, ROOT, HELP, VERSION };
+enum { MOST = 256, FORCE, CONTROLLER, CONFIG, APPLICATION, UPGRADE, CHECK, ON_INSTALLED, DFU_MODE, DETACH_TIMEOUT, TRANSFER_SIZE,
+       ATTRIBUTES, BUSY, MANIFEST, LEAST, DRY_RUN, VERBOSE, ROOT, HELP, VERSION };
 
 static const struct option options[] = {
     {"most", required_argument, NULL, MOST},
@@ -19,6 +19,7 @@ static const struct option options[] = {
     {"config", required_argument, NULL, CONFIG},
     {"application", required_argument, NULL, APPLICATION},
     {"upgrade", required_argument, NULL, UPGRADE},
+    {"check", required_argument, NULL, CHECK},
     {"on-installed", required_argument, NULL, ON_INSTALLED},
     {"dfu-mode", no_argument, NULL, DFU_MODE},
     {"detach-timeout", required_argument, NULL, DETACH_TIMEOUT},
@@ -115,6 +116,7 @@ static bool take(struct words *words, int code, const char *value)
     case CONFIG: return take_text(value, &words->config);
     case APPLICATION: return take_text(value, &words->application);
     case UPGRADE: return take_text(value, &words->upgrade);
+    case CHECK: return take_text(value, &words->check);
     case ON_INSTALLED: return take_text(value, &words->command);
     case DFU_MODE: return words->dfu_mode = true;
     case DETACH_TIMEOUT: return take_short(value, 0, 65535, "it is no number of milliseconds, from 0 to 65535", &words->detach_ms);

@@ -19,6 +19,7 @@ struct words {
     const char *config;       /* NULL where it wasn't given */
     const char *application, *upgrade;  /* the gadgets of both modes */
     const char *command;      /* of --on-installed, NULL where it wasn't given */
+    const char *check;        /* of --check, NULL if it wasn't given */
     const char *root;
     bool dfu_mode, dry_run, verbose;
     const char *log; /* the file of --verbose=FILE, or NULL */

@@ -8,7 +8,7 @@ _dfu_gadget() {
     # for a word.
     while [ "$at" -lt "$COMP_CWORD" ]; do
         case ${COMP_WORDS[at]} in
-        --most | --controller | --config | --application | --upgrade | --on-installed | --detach-timeout | --transfer-size | \
+        --most | --controller | --config | --application | --upgrade | --check | --on-installed | --detach-timeout | --transfer-size | \
             --attributes | --busy | --manifest | --least | --root)
             value=${COMP_WORDS[at]}
             at=$((at + 1))
@@ -25,7 +25,7 @@ _dfu_gadget() {
     done
     [ "$word" != = ] || word=
     case $value in
-    --config | --on-installed | --root) compopt -o default ;;
+    --config | --check | --on-installed | --root) compopt -o default ;;
     --controller) COMPREPLY=($(compgen -W "$(ls /sys/class/udc 2> /dev/null)" -- "$word")) ;;
     --attributes) COMPREPLY=($(compgen -W 'download upload tolerant detach' -- "$word")) ;;
     esac
@@ -34,8 +34,8 @@ _dfu_gadget() {
     format) options='--most --force -h --help' ;;
     image) options='-h --help' ;;
     run)
-        options='--controller --config --application --upgrade --on-installed --dfu-mode --detach-timeout --transfer-size --attributes
-            --busy --manifest --least --dry-run --verbose --root -h --help'
+        options='--controller --config --application --upgrade --check --on-installed --dfu-mode --detach-timeout --transfer-size
+            --attributes --busy --manifest --least --dry-run --verbose --root -h --help'
         ;;
     esac
     case $command:$place:$word in

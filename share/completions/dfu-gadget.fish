@@ -7,7 +7,7 @@ function __dfu_gadget_at
     for word in (commandline -opc)[2..]
         if test $is_value -eq 1
             set is_value 0
-        else if contains -- $word --most --controller --config --application --upgrade --on-installed --detach-timeout \
+        else if contains -- $word --most --controller --config --application --upgrade --check --on-installed --detach-timeout \
                 --transfer-size --attributes --busy --manifest --least --root
             set is_value 1
         else if not string match -q -- '-?*' $word
@@ -33,6 +33,7 @@ complete -c dfu-gadget -x -n $with_run -l controller -a '(path basename /sys/cla
 complete -c dfu-gadget -r -F -n $with_run -l config -d 'Read options from FILE, a line for each; words win'
 complete -c dfu-gadget -x -n $with_run -l application -d 'The gadget of run-time mode, else application'
 complete -c dfu-gadget -x -n $with_run -l upgrade -d 'The gadget of DFU mode, else upgrade'
+complete -c dfu-gadget -r -F -n $with_run -l check -d 'Take an image only if PROGRAM MEDIUM AT LENGTH ends with 0'
 complete -c dfu-gadget -r -F -n $with_run -l on-installed -d 'Run PROGRAM MEDIUM AT LENGTH once an image is in place'
 complete -c dfu-gadget -n $with_run -l dfu-mode -d 'Begin in DFU mode'
 complete -c dfu-gadget -x -n $with_run -l detach-timeout -d 'Wait so long for the reset after a DETACH, else 1000'
