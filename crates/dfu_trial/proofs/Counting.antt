@@ -34,6 +34,11 @@ next_unset m at i (suc most) lt = ⊎_elim
     ap (λ (k : ℕ). is_set m at k) e ∙ unset)
     (cases_Bool (is_set m at i))
 
+-- If the first one is not, none counts.
+pub none_counted : (m : MediumState) (at i most : ℕ) → (0 < most → is_set m at i ≡ false) → set_from m at i most ≡ 0
+none_counted m at i zero unset = omega arith
+none_counted m at i (suc most) unset = counts_none m at i most (unset (omega arith))
+
 -- Each of them is set.
 pub each_set : (m : MediumState) (at i most k : ℕ) → i ≤ k → k < i + set_from m at i most → is_set m at k ≡ true
 each_set m at i zero k low high = absurd (omega (arith, low, high))

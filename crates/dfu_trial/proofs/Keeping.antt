@@ -21,7 +21,7 @@ use Rattle.dfu_trial.proofs.Closing.{no_trial}
 use Rattle.dfu_trial.proofs.Counting.{at_most, each_set, count_least, count_same}
 
 -- A mark outside a change is as it was.
-mark_kept : (m now : MediumState) (p j from to : ℕ) → KeepsOutside from to m.bytes now.bytes
+pub mark_kept : (m now : MediumState) (p j from to : ℕ) → KeepsOutside from to m.bytes now.bytes
     → (mark_at m.grain p j + mark_size m.grain ≤ from) ⊎ (to ≤ mark_at m.grain p j)
     → is_set (record now { grain = m.grain }) p j ≡ is_set m p j
 unfolding is_set
@@ -29,7 +29,7 @@ mark_kept m now p j from to keeps apart = ap is_marked
     (range_outside from to m.bytes now.bytes (mark_at m.grain p j) (mark_at m.grain p j + mark_size m.grain) keeps apart)
 
 -- The image of a slot that is as it was.
-image_kept : (a b : Slot) → a ≡ b → take (header_length a) a.data_bytes ≡ take (header_length b) b.data_bytes
+pub image_kept : (a b : Slot) → a ≡ b → take (header_length a) a.data_bytes ≡ take (header_length b) b.data_bytes
 image_kept a b same = ap (λ (s : Slot). take (header_length s) s.data_bytes) same
 
 module _ (m now : MediumState) (tries : ℕ) (t : Trial) (are : AreTries m.grain tries) (stands : IsStanding m tries (OnTrial t)) where

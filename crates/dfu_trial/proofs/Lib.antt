@@ -1,8 +1,11 @@
-mod Places
+pub mod Places
 mod Slots
 mod Closing
-mod Counting
-mod Asked
+pub mod Counting
+pub mod Asked
 mod Keeping
 mod Outcomes
 mod Starts
+mod Unique
+mod Downloading
+mod Lists

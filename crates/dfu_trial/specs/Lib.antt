@@ -2,3 +2,4 @@ pub mod Marks
 pub mod Trial
 pub mod Calls
 pub mod Laws
+pub mod Lists

@@ -1,13 +1,16 @@
 //! Laws of a trial. Each is the contract of a function with an empty body, which is proved and not to be called for what it does.
-ghost use Rattle.std.specs.Prelude.{◌⊎◌, ℕ};
+ghost use Rattle.std.specs.Prelude.{◌≡◌, ◌⊎◌, ℕ, true, List};
 ghost use Rattle.dfu_slots.specs.Medium.{MediumState};
 ghost use Rattle.dfu_slots.specs.Image.{HasImage};
 ghost use Rattle.dfu_trial.specs.Marks.{AreTries};
 ghost use Rattle.dfu_trial.specs.Calls.{IsStanding, sets, start_of, runs_in};
 ghost use Rattle.dfu_trial.specs.Laws.{Carried, CarriedIf, GoesOn, IsConfirmed, IsBack, Starts};
+ghost use Rattle.dfu_trial.specs.Trial.{image_at};
+ghost use Rattle.dfu_trial.specs.Lists.{TrialStep, CameAll, Trust, Alone, AreTrusted, AllTrusted};
+ghost use Rattle.dfu_trial.specs.declared.standing.Settled.{Settled};
 ghost use Rattle.dfu_trial.specs.declared.standing.Trial.{Trial};
 ghost use Rattle.dfu_trial.specs.declared.standing.Standing.{Standing};
-ghost use Rattle.dfu_trial.specs.declared.standing.Standing.TheVariants.{OnTrial};
+ghost use Rattle.dfu_trial.specs.declared.standing.Standing.TheVariants.{OnTrial, Settled as AreSettled};
 ghost use Rattle.dfu_trial.specs.declared.operation.Operation.TheVariants.{Close};
 
 /// A start, whatever becomes of what it asks for: if nothing is on trial the active image runs. On trial, with a start left, the image on
@@ -32,4 +35,14 @@ pub fn a_confirmation_holds_or_the_trial_goes_on()
 pub fn a_trial_ends_or_goes_on()
     ensures { (m now : MediumState) (tries : ℕ) (t : Trial) → AreTries m.grain tries → IsStanding m tries (OnTrial t) →
         Carried m (Close t.slot) now → GoesOn m tries t now ⊎ IsBack m t now }
+{}
+
+/// Starts, confirmations, ends and downloads in any order, with whatever becomes of each operation, once an image was confirmed. What runs
+/// is the image that was confirmed last, or that on trial, fewer than `tries` times before; and some image is active after each.
+pub fn what_was_confirmed_runs_or_the_newest_on_trial()
+    ensures first { (m : MediumState) (tries : ℕ) (s : Settled) → IsStanding m tries (AreSettled s) → s.is_confirmed ≡ true →
+        AreTrusted m tries (Alone (image_at m s.slot)) }
+    ensures list { (m : MediumState) (tries : ℕ) (trust : Trust) (steps : List TrialStep) → AreTries m.grain tries →
+        AreTrusted m tries trust → CameAll tries m steps → AllTrusted tries trust m steps }
+    ensures image { (m : MediumState) (tries : ℕ) (trust : Trust) → AreTrusted m tries trust → HasImage m }
 {}

@@ -1,0 +1,4 @@
+pub mod Tries
+pub mod Told
+pub mod Numbers
+pub mod TrialCalls

@@ -1,0 +1,95 @@
+//! The calls for a trial, as a program in C makes them: `include/dfu_trial_core.h` says each for a reader of C.
+ghost use Rattle.std.specs.Prelude.{◌≡◌, ◌⊎◌};
+ghost use Rattle.dfu_trial_c.specs.TrialCalls.{RefusesTrial, ToldStanding, ToldStart, ToldConfirm, ToldEnd};
+
+use crate::ask::{DfuAsk, tell};
+use crate::flash::looked;
+use crate::numbers::ELSEWHERE;
+use crate::standing::DfuStanding;
+use crate::starting::DfuStarting;
+use crate::tries::DfuTries;
+use crate::{standing, starting};
+use dfu_trial::Confirmation;
+
+/// How the images of the flash stand: 0, and `told` has it.
+///
+/// Refused, in this order: -2 if no unit has that size or there are no such sectors; -16 without sectors, -17 with fewer than two tries,
+/// -18 if a sector has no room for so many; -3 if the flash has no active image, or 2^32 bytes or more.
+#[unsafe(no_mangle)]
+pub extern "C" fn dfu_core_trial_look(tries: &DfuTries, flash: &[u8], told: &mut DfuStanding) -> i32
+    ensures outcome { ToldStanding tries.now flash.now result told.new
+        ⊎ (RefusesTrial tries.now flash.now result × (told.new ≡ told.old)) }
+{
+    match looked(tries, flash) {
+        Ok(looked) => {
+            *told = standing::tell(&looked.medium, tries.tries, looked.standing);
+            0
+        }
+        Err(refusal) => refusal.number(),
+    }
+}
+
+/// What starts: 0, and `told.run` runs; or -11, and `ask` has the operation that comes before. `dfu_core_trial_runs` tells then what runs.
+///
+/// Refused as `dfu_core_trial_look`.
+#[unsafe(no_mangle)]
+pub extern "C" fn dfu_core_trial_start(
+    tries: &DfuTries,
+    flash: &[u8],
+    ask: &mut DfuAsk,
+    told: &mut DfuStarting,
+) -> i32
+    ensures outcome { ToldStart tries.now flash.now result ask.old ask.new told.new
+        ⊎ (RefusesTrial tries.now flash.now result × (ask.new ≡ ask.old) × (told.new ≡ told.old)) }
+{
+    match looked(tries, flash) {
+        Ok(looked) => {
+            let starts = looked.standing.start(&looked.medium, tries.tries);
+            *told = starting::tell(&looked.medium, starts);
+            tell(starts.operation, tries.sector, ask)
+        }
+        Err(refusal) => refusal.number(),
+    }
+}
+
+/// How the image is confirmed whose first byte is `flash[at]`: 0 if it is confirmed; or -11, and `ask` has the operation; or -19 if no
+/// image begins there that may run.
+///
+/// Refused as `dfu_core_trial_look`.
+#[unsafe(no_mangle)]
+pub extern "C" fn dfu_core_trial_confirm(
+    tries: &DfuTries,
+    flash: &[u8],
+    at: u32,
+    ask: &mut DfuAsk,
+) -> i32
+    ensures outcome { ToldConfirm tries.now flash.now at result ask.old ask.new
+        ⊎ (RefusesTrial tries.now flash.now result × (ask.new ≡ ask.old)) }
+{
+    match looked(tries, flash) {
+        Ok(looked) => match looked.standing.confirm(&looked.medium, tries.tries, at) {
+            Confirmation::By(operation) => tell(Some(operation), tries.sector, ask),
+            Confirmation::Confirmed => 0,
+            Confirmation::Elsewhere => ELSEWHERE,
+        },
+        Err(refusal) => refusal.number(),
+    }
+}
+
+/// How a trial ends: 0 if nothing is on trial; or -11, and `ask` has the operation.
+///
+/// Refused as `dfu_core_trial_look`.
+#[unsafe(no_mangle)]
+pub extern "C" fn dfu_core_trial_end(tries: &DfuTries, flash: &[u8], ask: &mut DfuAsk) -> i32
+    ensures outcome { ToldEnd tries.now flash.now result ask.old ask.new
+        ⊎ (RefusesTrial tries.now flash.now result × (ask.new ≡ ask.old)) }
+{
+    match looked(tries, flash) {
+        Ok(looked) => tell(
+            looked.standing.end(&looked.medium, tries.tries),
+            tries.sector,
+            ask,
+        ),
+        Err(refusal) => refusal.number(),
+    }
+}

@@ -1,0 +1,68 @@
+//! A flash is looked at.
+ghost use Rattle.std.specs.Prelude.{◌≡◌, ◌≤◌, ◌^◌, ℕ, List, IfSome, IfNone, IfOk, IfErr, length};
+ghost use Rattle.dfu_asks.specs.Mapped.{grain_of as mapped_grain, mapped};
+ghost use Rattle.dfu_trial.specs.Marks.{AreTries};
+ghost use Rattle.dfu_trial_c.specs.Tries.{tries_grain, flash_state, IsTriesPart, HasStanding, IsTrialRefused};
+
+use crate::refusal::Refusal;
+use crate::tries::{DfuTries, unit_sized};
+use dfu_asks::Mapped;
+use dfu_slots::laws::active_image_is_one;
+use dfu_trial::{Standing, check_tries, look};
+
+/// A flash, and how its images stand.
+#[derive(Drop)]
+pub(crate) struct Flash<'f> {
+    pub(crate) medium: Mapped<'f>,
+    pub(crate) standing: Standing,
+}
+
+// The flash as a medium; None if no unit has that size, if there are no such sectors, or if it has 2^32 bytes or more.
+fn medium_of<'f>(tries: &DfuTries, flash: &'f [u8]) -> Option<Mapped<'f>>
+    ensures state { IfSome result (λ m. mapped (mapped_grain m.unit m.sector) m.bytes.now ≡ flash_state tries.now flash.now) }
+    ensures part { IfSome result (λ m. IsTriesPart tries.now) }
+    ensures none { IfNone result (IsTriesPart tries.now → 2 ^ 32 ≤ length flash.now) }
+{
+    let unit = unit_sized(tries.unit);
+    if unit.size() != tries.unit {
+        return None;
+    }
+    Mapped::with_sectors(flash, unit, tries.sector)
+}
+
+// Whether the flash can have so many tries.
+fn refused(tries: &DfuTries) -> Option<Refusal>
+    ensures some { IfSome result (λ e. (flash : List ℕ) → IsTrialRefused e tries.now flash) }
+    ensures none { IfNone result (IsTriesPart tries.now × AreTries (tries_grain tries.now) tries.now.tries) }
+{
+    let Some(sizes) = medium_of(tries, &[]) else {
+        return Some(Refusal::NoConfig);
+    };
+    match check_tries(&sizes, tries.tries) {
+        Ok(()) => None,
+        Err(fault) => Some(Refusal::Tries(fault)),
+    }
+}
+
+/// Looks how the images of the flash stand, or why there are none.
+pub(crate) fn looked<'f>(tries: &DfuTries, flash: &'f [u8]) -> Result<Flash<'f>, Refusal>
+    ensures state { IfOk result (λ l. mapped (mapped_grain l.medium.unit l.medium.sector) l.medium.bytes.now
+        ≡ flash_state tries.now flash.now) }
+    ensures ok { IfOk result (λ l. HasStanding tries.now flash.now l.standing) }
+    ensures err { IfErr result (λ e. IsTrialRefused e tries.now flash.now) }
+{
+    if let Some(refusal) = refused(tries) {
+        return Err(refusal);
+    }
+    let Some(medium) = medium_of(tries, flash) else {
+        return Err(Refusal::NoMedium);
+    };
+    match look(&medium, tries.tries) {
+        Ok(standing) => Ok(Flash { medium, standing }),
+        Err(_) => {
+            // Called for its clause `refused`.
+            active_image_is_one();
+            Err(Refusal::NoMedium)
+        }
+    }
+}

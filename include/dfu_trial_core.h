@@ -1,0 +1,78 @@
+/* SPDX-License-Identifier: MIT OR Apache-2.0 */
+/**
+ * @file dfu_trial_core.h
+ * @brief The proved calls for images on trial: types, numbers and calls. A bootloader includes dfu_trial.h, which is built on this.
+ *
+ * The body is dfu_trial.c, in C11, for processors of 32 or 64 bits that store the low byte of a number first. It has no state, takes
+ * no memory, and wants at most memcpy, memmove and memset of a C library. What the program owes is in dfu_trial.h. Each call reads the
+ * flash and asks for at most one operation. Whatever flash and structs hold, a call ends, and touches nothing but what its pointers say.
+ */
+#ifndef DFU_TRIAL_CORE_H
+#define DFU_TRIAL_CORE_H
+
+#include "dfu_core.h"
+
+#ifdef __cplusplus
+extern "C" {
+#endif
+
+/** @brief Results beside those of enum dfu_result. */
+enum dfu_trial_result {
+    DFU_NO_SECTORS = -16, /**< the flash has no sectors, so no room for marks */
+    DFU_FEW_TRIES = -17,  /**< fewer than two tries: a download that is verified starts the new image twice */
+    DFU_MANY_TRIES = -18, /**< a sector has no room for the header, the confirmation and so many tries */
+    DFU_ELSEWHERE = -19   /**< an answer: no image that may run begins at that place */
+};
+
+/** @brief How the flash is written, and how many tries a new image has; the same in every call. */
+struct dfu_tries {
+    uint32_t unit;   /**< bytes programmed at a time, as in struct dfu_config */
+    uint32_t sector; /**< bytes erased at a time, as in struct dfu_config: (tries + 2) units of at least 16 bytes fit in it */
+    uint32_t tries;  /**< how often a new image is started: 2 or more, 3 is advised */
+};
+
+/** @brief How the images of a flash stand. */
+struct dfu_standing {
+    struct dfu_place active; /**< the active image: the one on trial, if there is one */
+    struct dfu_place base;   /**< the confirmed image, which comes back if that on trial is not confirmed; else the active one */
+    uint32_t on_trial;       /**< 1 if the active image is on trial, else 0 */
+    uint32_t left;           /**< how many starts of an image on trial are left */
+    uint32_t is_confirmed;   /**< 1 if the active image is confirmed, else 0 */
+};
+
+/** @brief What a start comes to. */
+struct dfu_starting {
+    struct dfu_place run;       /**< what runs */
+    struct dfu_place otherwise; /**< what runs if the mark of this start does not read set */
+};
+
+/** @brief How the images stand.
+ * @return 0; DFU_NO_CONFIG (no such unit, or no such sector), DFU_NO_SECTORS, DFU_FEW_TRIES, DFU_MANY_TRIES, DFU_NO_MEDIUM (no active
+ *         image, or 2^32 bytes or more), and told is as it was */
+int32_t dfu_core_trial_look(const struct dfu_tries *tries, const uint8_t *flash, size_t size, struct dfu_standing *told);
+
+/** @brief What starts, and the operation that comes before: on trial the mark of the next start; without one left the erase of the gate of
+ *         the image on trial.
+ * @return 0: told.run is started; DFU_ASKS: ask has the operation, and dfu_core_trial_runs tells what is started once it was carried out
+ *         or failed; the refusals of dfu_core_trial_look, and nothing changed */
+int32_t dfu_core_trial_start(const struct dfu_tries *tries, const uint8_t *flash, size_t size, struct dfu_ask *ask,
+                             struct dfu_starting *told);
+
+/** @brief What is started, once that operation was carried out or failed: a mark is read back, whatever the driver answered.
+ * @return 0 */
+int32_t dfu_core_trial_runs(const uint8_t *flash, size_t size, const struct dfu_ask *ask, const struct dfu_starting *starting,
+                            struct dfu_place *place);
+
+/** @brief How the image is confirmed whose first byte is flash[at]: the caller's own one.
+ * @return 0: it is confirmed; DFU_ASKS: ask has the operation; DFU_ELSEWHERE; the refusals of dfu_core_trial_look, and ask is as it was */
+int32_t dfu_core_trial_confirm(const struct dfu_tries *tries, const uint8_t *flash, size_t size, uint32_t at, struct dfu_ask *ask);
+
+/** @brief How a trial ends: the gate of the image on trial is erased.
+ * @return 0: nothing is on trial; DFU_ASKS: ask has the operation; the refusals of dfu_core_trial_look, and ask is as it was */
+int32_t dfu_core_trial_end(const struct dfu_tries *tries, const uint8_t *flash, size_t size, struct dfu_ask *ask);
+
+#ifdef __cplusplus
+}
+#endif
+
+#endif
