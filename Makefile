@@ -6,11 +6,20 @@
 #   make uninstall    takes away what make install puts there, and nothing else
 #   make libraries    the libraries alone: make libraries CC=arm-none-eabi-gcc CFLAGS='-mcpu=cortex-m4 -mthumb' BUILD=build-m4
 #   make page         the page for browsers, in build/page
+#   make dfu-flash.exe CROSS=x86_64-w64-mingw32- CPPFLAGS=-I.. LDFLAGS=-L..
+#                     dfu-flash for Windows by mingw-w64, with libusb-1.0 for Windows in these folders; in build-x86_64-w64-mingw32/
 #   make archive      the sources as build/fustrelan-VERSION.tar.gz
 #   make clean        takes away what make built
 #
 # CPPFLAGS, CFLAGS and LDFLAGS come after what is chosen here, so that they win. With other words `make` builds anew; `make check` and
 # `make install` take what is there.
+# The compiler of another system, by the front of its name, and a folder for what it builds.
+ifneq ($(CROSS),)
+BUILD ?= build-$(CROSS:%-=%)
+CC = $(CROSS)gcc
+AR = $(CROSS)ar
+PKG_CONFIG ?= $(CROSS)pkg-config
+endif
 PREFIX ?= /usr/local
 BINDIR ?= $(PREFIX)/bin
 LIBDIR ?= $(PREFIX)/lib
@@ -37,10 +46,10 @@ endif
 .SECONDEXPANSION:
 .DELETE_ON_ERROR:
 .SUFFIXES:
-.PHONY: all libraries page check check-all install uninstall archive clean FORCE
+.PHONY: all libraries dfu-flash.exe page check check-all install uninstall archive clean FORCE
 
-libraries = $(BUILD)/libdfu_device.a $(BUILD)/libdfu_host.a $(BUILD)/libdfu_install.a
-programs = $(if $(has_code),$(BUILD)/dfu) $(if $(has_libusb),$(BUILD)/dfu-flash) $(if $(has_functionfs),$(BUILD)/dfu-gadget)
+libraries = $(BUILD)/libdfu_device.a $(BUILD)/libdfu_host.a $(BUILD)/libdfu_install.a $(BUILD)/libdfu_trial.a
+programs = $(if $(has_code),$(BUILD)/dfu) $(if $(has_libusb),$(BUILD)/dfu-flash$(exe)) $(if $(has_functionfs),$(BUILD)/dfu-gadget)
 
 all: libraries $$(programs)
 	@$(if $(has_code),,echo 'dfu is left out: there is code of it for Linux on x86-64 and AArch64 alone')
@@ -51,9 +60,12 @@ libraries: $(libraries)
 # What the compiler has; each is looked for once, and only if it matters.
 once = $(eval $(1) := $(2))$($(1))
 hash := \#
+comma := ,
 macros = $(call once,macros,$(or $(shell $(CC) $(CPPFLAGS) $(CFLAGS) -dM -E -x c /dev/null | awk '{ print $$2 }'), \
     $(error the compiler failed: $(CC) $(CPPFLAGS) $(CFLAGS))))
 is_linux = $(filter __linux__,$(macros))
+is_windows = $(filter _WIN32,$(macros))
+exe = $(if $(is_windows),.exe)
 has_code = $(if $(filter __ILP32__ __AARCH64EB__,$(macros)),,$(and $(is_linux),$(filter __x86_64__ __aarch64__,$(macros))))
 has_functionfs = $(call once,has_functionfs,$(and $(is_linux),$(shell echo '$(hash)include <linux/usb/functionfs.h>' | \
     $(CC) $(CPPFLAGS) $(CFLAGS) -E -x c - > /dev/null 2>&1 && echo yes)))
@@ -67,13 +79,18 @@ usb_library = $(call once,usb_library,$(shell $(PKG_CONFIG) --libs libusb-1.0 2>
 # dfu-flash reads what any device says, and dfu-gadget what any host sends, so what finds an overrun late is on: guards on the stack, sizes
 # looked at by the C library, addresses that nobody knows, and tables of them that can't be written. FORTIFY is for a compiler that
 # optimises, and its level is that of CPPFLAGS and CFLAGS, or of the compiler itself, if they have one.
-is_movable = $(if $(filter -static% -no-pie -fno-pie -fno-PIE,$(CFLAGS) $(LDFLAGS)),,yes)
+# Windows has these by other means: its linker moves programs to any address by itself, and the guards of the stack are linked in.
+is_movable = $(if $(is_windows)$(filter -static% -no-pie -fno-pie -fno-PIE,$(CFLAGS) $(LDFLAGS)),,yes)
 guards = $(filter-out $(CFLAGS),-fstack-protector-strong $(if $(is_movable),-fPIE))
 fortify = $(call once,fortify,$(shell $(CC) -O2 $(CPPFLAGS) $(CFLAGS) -dM -E -x c /dev/null | \
     awk '$$2 == "_FORTIFY_SOURCE" { level = 1 } $$2 == "__OPTIMIZE__" { fast = 1 } \
     END { if (fast && !level) print "-D_FORTIFY_SOURCE=2" }'))
-hosted = -std=c11 -Wall -Wextra -Iinclude -O2 $(guards) $(fortify) $(CPPFLAGS) $(CFLAGS)
-links = $(filter-out $(LDFLAGS),$(if $(is_movable),-pie) -Wl,-z,relro -Wl,-z,now) $(LDFLAGS)
+# windows.h has no more in it than it is to have: with all of it some names here are taken.
+of_windows = $(if $(is_windows),-DWIN32_LEAN_AND_MEAN -DNOGDI)
+hosted = -std=c11 -Wall -Wextra -Iinclude $(of_windows) -O2 $(guards) $(fortify) $(CPPFLAGS) $(CFLAGS)
+links = $(filter-out $(LDFLAGS),$(if $(is_windows),-static -fstack-protector-strong,$(if $(is_movable),-pie) -Wl,-z,relro -Wl,-z,now)) $(LDFLAGS)
+# On Windows only libusb stays a file of its own, if there is one.
+used_usb = $(if $(is_windows),-Wl$(comma)-Bdynamic $(usb_library) -Wl$(comma)-Bstatic -lshell32 -ladvapi32,$(usb_library))
 # A library is small, and a program takes of it what it calls. On Linux it is fast, and fits into programs and shared objects at any
 # address.
 portable = -std=c11 -Wall -Wextra -Iinclude $(if $(is_linux),-O2 -fPIC,-Os) -ffunction-sections -fdata-sections $(CPPFLAGS) $(CFLAGS)
@@ -93,14 +110,16 @@ define archive
 endef
 
 of_dfu = $(objects)/dist/dfu.o $(objects)/dist/os.o
-of_flash = $(patsubst %.c,$(objects)/%.o,$(wildcard flash/*.c))
-of_gadget = $(patsubst %.c,$(objects)/%.o,$(wildcard gadget/*.c) flash/text.c flash/fresh.c)
-of_libraries = $(objects)/dist/dfu_device.o $(objects)/dist/dfu_host.o $(objects)/dist/dfu_install.o
+# What differs by system is in folders of flash/: Windows has one, and Linux and the others of POSIX have one for each beside their own.
+folders = $(if $(is_windows),windows,posix $(if $(is_linux),linux,unix))
+of_flash = $(patsubst %.c,$(objects)/%.o,$(wildcard flash/*.c $(folders:%=flash/%/*.c)))
+of_gadget = $(patsubst %.c,$(objects)/%.o,$(wildcard gadget/*.c) flash/text.c flash/posix/fresh.c)
+of_libraries = $(patsubst $(BUILD)/lib%.a,$(objects)/dist/%.o,$(libraries))
 
 $(BUILD)/dfu: $(of_dfu) $(anew)
 	$(call program)
-$(BUILD)/dfu-flash: $(of_flash) $(BUILD)/libdfu_host.a $(anew)
-	$(call program,$(usb_library))
+$(BUILD)/dfu-flash$(exe): $(of_flash) $(BUILD)/libdfu_host.a $(anew)
+	$(call program,$(used_usb))
 $(BUILD)/dfu-gadget: $(of_gadget) $(BUILD)/libdfu_device.a $(anew)
 	$(call program)
 $(libraries): $(BUILD)/lib%.a: $(objects)/dist/%.o $(anew)
@@ -115,7 +134,7 @@ $(objects)/flash/%.o: flash/%.c $(anew)
 	$(call compile,$(hosted) $(usb_headers))
 $(objects)/gadget/%.o: gadget/%.c $(anew)
 	$(call compile,$(hosted))
--include $(wildcard $(objects)/*/*.d)
+-include $(wildcard $(objects)/*/*.d $(objects)/*/*/*.d)
 
 # The words of the last build, and which sources there were.
 $(objects)/words: export WORDS = $(CC) $(AR) $(CPPFLAGS) $(CFLAGS) $(LDFLAGS) $(of_dfu) $(of_flash) $(of_gadget)
@@ -125,6 +144,8 @@ $(objects)/words:
 ifeq ($(filter check check-all install,$(MAKECMDGOALS)),)
 $(objects)/words: FORCE
 endif
+
+dfu-flash.exe: $(BUILD)/dfu-flash.exe
 
 page:
 	web/build $(BUILD)/page
@@ -145,6 +166,6 @@ archive:
 clean:
 	@if [ -f $(objects)/words ]; then \
 	    rm -rf $(objects) $(BUILD)/page && \
-	    rm -f $(libraries) $(BUILD)/dfu $(BUILD)/dfu-flash $(BUILD)/dfu-gadget $(BUILD)/fustrelan-*.tar.gz && \
+	    rm -f $(libraries) $(BUILD)/dfu $(BUILD)/dfu-flash $(BUILD)/dfu-flash.exe $(BUILD)/dfu-gadget $(BUILD)/fustrelan-*.tar.gz && \
 	    rmdir $(BUILD) 2> /dev/null || [ ! -d $(objects) ]; \
 	fi

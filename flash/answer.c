@@ -18,6 +18,12 @@
      LIBUSB_ERROR_NO_DEVICE             Left        it left before, after the end of a download, as below
                                         Restarted   else: reported once it is back
      any other                          Nothing     the host asks for it again
+   Where the system makes no reset (properties.h) a person is asked to pull the plug of a device in DFU mode, and WasReset is
+   reported once it was seen to leave: it is enumerated, and so reset, once it is plugged in again. It may lose its power then, and
+   so its state: by the device table both lead to appIDLE from each state but appDETACH, and both leave the active image. From there
+   a reset leads to DFU mode and a loss of power doesn't; so in run-time mode no plug is asked for. If nobody pulls it the session
+   ends, and no reset is reported. Where the system doesn't tell that a device left, GET_STATUS of USB is sent after each transfer
+   that failed, but for TIMEOUT: every device answers it, and it changes nothing. If that fails too, the device left.
    NOT_FOUND is also what Linux says of a device that left before the reset. It comes back reset then too; and after a reset
    the host is done, or begins anew with asking for the device's state, as it does after a restart. A device that is to be
    asked again is waited for before that request; one whose session is over need not come back, as where its application has
@@ -40,6 +46,8 @@
    as Restarted. The host asks for the device's state after either. */
 #include "answer.h"
 #include "clock.h"
+#include "present.h"
+#include "properties.h"
 #include "standard.h"
 
 #include <string.h>
@@ -89,7 +97,7 @@ static struct answer answer_of(struct wire *wire, bool is_in, uint16_t length, i
 {
     struct answer answer = reported(wire, DFU_SEEN_NOTHING);
     answer.error = result < 0 ? result : 0;
-    if (result == LIBUSB_ERROR_NO_DEVICE)
+    if (result == LIBUSB_ERROR_NO_DEVICE || present_is_lost(wire->device, result))
         return left(wire);
     if (result == LIBUSB_ERROR_PIPE)
         answer.seen = DFU_SEEN_STALL;
@@ -145,28 +153,13 @@ struct answer answer_send(struct wire *wire, const struct dfu_action *action, co
     return answer;
 }
 
-/* Whether the device that was opened is still there: one that comes back has another address. */
-static bool is_there(const struct wire *wire)
-{
-    libusb_device *opened = wire->device->is.device, **devices;
-    bool is = false;
-    ssize_t count = libusb_get_device_list(wire->device->usb, &devices);
-    if (count < 0)
-        return true;
-    for (ssize_t at = 0; at < count; at++)
-        is = is || (libusb_get_bus_number(devices[at]) == libusb_get_bus_number(opened)
-                    && libusb_get_device_address(devices[at]) == libusb_get_device_address(opened));
-    libusb_free_device_list(devices, 1);
-    return is;
-}
-
 struct answer answer_wait(struct wire *wire, uint32_t ms)
 {
     int64_t began_ms = clock_ms();
     struct answer answer = reported(wire, clock_wait(ms) ? DFU_SEEN_WAIT : DFU_SEEN_NOTHING);
     trace_wait(&wire->trace, ms, &answer, clock_ms() - began_ms);
     /* With bitWillDetach it leaves by itself, and is opened again before the next request. */
-    if (wire->is_leaving && !is_there(wire))
+    if (wire->is_leaving && !present_is(wire->device))
         device_close(wire->device);
     return answer;
 }
@@ -179,17 +172,38 @@ static int reset(struct device *device)
     return error == 0 && device->is.alternate != 0 ? device_set(device) : error;
 }
 
+/* The place of a reset on a system that makes none. */
+static struct answer pulled(struct wire *wire)
+{
+    if (!wire->device->is.is_upgrade || !present_is_pulled(wire->device)) {
+        wire->is_unreset = !*wire->device->is_stop;
+        return reported(wire, DFU_SEEN_NOTHING);
+    }
+    forget_end(wire);
+    device_close(wire->device);
+    return reported(wire, DFU_SEEN_RESET);
+}
+
+/* Whether the device may be another one after a reset than before it. */
+static bool is_changed(const struct wire *wire, int error)
+{
+    return error == LIBUSB_ERROR_NOT_FOUND || error == LIBUSB_ERROR_NO_DEVICE
+        || (error == 0 && !platform_tells_new() && !wire->device->is.is_upgrade);
+}
+
 static struct answer reset_reported(struct wire *wire)
 {
     struct answer answer = reported(wire, DFU_SEEN_RESET);
     int error;
     if (wire->device->handle == NULL) /* it left before this reset */
         return wire->is_leaving ? answer : restarted(wire);
+    if (!platform_resets())
+        return pulled(wire);
     error = reset(wire->device);
     answer.error = error;
     if (error == LIBUSB_ERROR_NO_DEVICE && !wire->is_leaving)
         return left(wire);
-    if (error == LIBUSB_ERROR_NOT_FOUND || error == LIBUSB_ERROR_NO_DEVICE)
+    if (is_changed(wire, error))
         device_close(wire->device);
     else if (error != 0)
         answer.seen = DFU_SEEN_NOTHING;

@@ -27,6 +27,7 @@ struct wire {
     bool is_manifesting;   /* and a GETSTATUS said dfuMANIFEST-SYNC or dfuMANIFEST: the device may start its image by itself */
     uint8_t bytes[65536];  /* of one transfer: wLength is under 65,536 */
     uint64_t transfers;    /* how many were tried */
+    bool is_unreset;       /* a reset was asked for that this system doesn't make, and nobody pulled the plug: the session is over */
     struct trace trace;
 };
 

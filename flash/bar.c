@@ -1,35 +1,27 @@
 /* SPDX-License-Identifier: MIT OR Apache-2.0 */
 /* A bar of progress. */
-#define _DEFAULT_SOURCE
 #include "bar.h"
+#include "terminal.h"
 
 #include <inttypes.h>
 #include <stdio.h>
 #include <string.h>
-#include <sys/ioctl.h>
-#include <unistd.h>
 
 #define BAR 30        /* characters of a bar at most, */
 #define LEAST 5       /* and at least */
 #define FRAME 20      /* what is around it: the words in front, brackets, the percentage */
 #define AMOUNT_ROOM 96
 
-static struct winsize terminal(void)
-{
-    struct winsize size = {0};
-    if (ioctl(STDERR_FILENO, TIOCGWINSZ, &size) != 0 || size.ws_col == 0 || size.ws_row == 0)
-        size = (struct winsize){.ws_col = 80, .ws_row = 24};
-    return size;
-}
-
 int bar_columns(void)
 {
-    return terminal().ws_col;
+    int columns, lines;
+    return terminal_size(&columns, &lines) ? columns : 80;
 }
 
 int bar_lines(void)
 {
-    return terminal().ws_row;
+    int columns, lines;
+    return terminal_size(&columns, &lines) ? lines : 24;
 }
 
 /* How long the rest takes at the rate so far; it is rounded up. */

@@ -1,5 +1,6 @@
 /* SPDX-License-Identifier: MIT OR Apache-2.0 */
 /* How a session begins: with the device's functional descriptor, and with limits. */
+#include "properties.h"
 #include "session.h"
 #include "standard.h"
 
@@ -40,11 +41,17 @@ static void take_limits(struct session *session, const uint8_t descriptor[9])
     session->actions = actions > UINT32_MAX ? UINT32_MAX : (uint32_t)actions;
 }
 
-/* A download is verified where that is asked for and the device can upload. */
+/* On a system that makes no reset a device comes to DFU mode only if it leaves for it by itself. */
+static bool may_detach(const struct found *is)
+{
+    return platform_resets() || has_attribute(is->descriptor, is->descriptor_size, WILL_DETACH);
+}
+
+/* A download is verified where that is asked for and the device can upload, which takes it to DFU mode a second time. */
 static enum goal goal_of(const struct session *session)
 {
     const struct found *is = &session->wire.device->is;
-    bool can_upload = has_attribute(is->descriptor, is->descriptor_size, CAN_UPLOAD);
+    bool can_upload = has_attribute(is->descriptor, is->descriptor_size, CAN_UPLOAD) && may_detach(is);
     return session->is_upload ? GOAL_UPLOAD : session->wants_verified && can_upload ? GOAL_VERIFIED : GOAL_DOWNLOAD;
 }
 
@@ -97,8 +104,10 @@ int32_t session_begin(struct session *session)
     /* A device of DfuSe would take the blocks for commands. */
     if (is_dfuse(is))
         return dfuse_begin_session(session);
-    if (session->dfuse.has_address)
+    if (session->dfuse.has_address || session->dfuse.file != NULL)
         return REFUSED_NOT_DFUSE;
+    if (!is->is_upgrade && !may_detach(is))
+        return REFUSED_NO_RESET;
     memcpy(session->known, is->descriptor, sizeof session->known);
     memcpy(descriptor, is->descriptor, sizeof descriptor);
     session->known_size = is->descriptor_size;

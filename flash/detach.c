@@ -3,6 +3,7 @@
    sends DETACH once appIDLE was reported to it; but many a device stalls GETSTATUS in run-time mode, and knows nothing but DETACH there. */
 #include "detach.h"
 #include "clock.h"
+#include "properties.h"
 #include "standard.h"
 
 #define NO_DESCRIPTOR_MS 1000 /* wDetachTimeOut where there is no functional descriptor to tell it */
@@ -53,7 +54,8 @@ bool detach(struct wire *wire)
     if (answer.is_gone || answer.seen == DFU_SEEN_STALL)
         return false;
     wire->trace.is_own = true;
-    if (!wire->device->is.is_upgrade)
+    /* Where the system makes no reset it may still leave by itself. */
+    if (!wire->device->is.is_upgrade && platform_resets())
         answer_reset(wire);
     wire->trace.is_own = false;
     return detach_await(wire);

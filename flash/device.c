@@ -6,10 +6,10 @@
 #include "device.h"
 #include "clock.h"
 #include "say.h"
+#include "terminal.h"
 
 #include <stdio.h>
 #include <string.h>
-#include <unistd.h>
 
 #define AWAY_MS 10000 /* how long it may be away: an operating system takes a second or two to see a device; --wait gives it more */
 #define LOOK_MS 50
@@ -106,19 +106,20 @@ static bool is_awaited(const struct device *device, int64_t began_ms, bool *is_s
     if (*device->is_stop || away_ms >= (most_ms > AWAY_MS ? most_ms : AWAY_MS))
         return false;
     if (away_ms >= AWAY_MS && !*is_said && !device->patience.is_quiet)
-        fprintf(stderr, "%sdfu-flash: the device is away; it is waited for up to %u s\n", isatty(STDERR_FILENO) == 1 ? "\n" : "",
+        fprintf(stderr, "%sdfu-flash: the device is away; it is waited for up to %u s\n", terminal_is(stderr) ? "\n" : "",
                 (unsigned)device->patience.seconds);
     *is_said = *is_said || away_ms >= AWAY_MS;
     return true;
 }
 
-/* A device whose name is in the list still, though it left, can't be opened; and its rights may come a moment after it does. */
+/* A device whose name is in the list still, though it left, can't be opened; and its rights may come a moment after it does. Its reference
+   is given back first: on Windows libusb hands out the descriptors of before as long as somebody holds one. */
 bool device_reopen(struct device *device)
 {
     int64_t began_ms = clock_ms();
     bool is_said = false;
     int error;
-    device_close(device);
+    device_drop(device);
     for (;;) {
         int same = look_for(device);
         device->is_many = same > 1;

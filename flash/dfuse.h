@@ -6,11 +6,14 @@
 
 #include "say.h"
 
-#include <dfuse_host.h>
+#include <dfuse_file.h>
 #include <stdbool.h>
 #include <stdint.h>
 
 struct session;
+
+/* As many elements as an image may have. */
+#define DFUSE_ELEMENTS 256
 
 /* Reports of an upload, which the host doesn't have. */
 enum { DFUSE_UPLOADED = 101, DFUSE_NO_MEMORY = 102 };
@@ -18,10 +21,12 @@ enum { DFUSE_UPLOADED = 101, DFUSE_NO_MEMORY = 102 };
 struct dfuse {
     bool is;                       /* the device speaks DfuSe */
     bool has_address, stays;       /* what was asked for: an address, and not to leave, */
-    uint32_t address, length;      /* and how many bytes an upload is to have */
+    uint32_t address, length;      /* and how many bytes an upload is to have; the first address of a DfuSe file is its own */
+    const struct dfuse_file *file; /* what FILE says, if it is a DfuSe file; else NULL */
     const uint8_t *map;            /* the setting's name, which says the memory map, */
     size_t map_length;             /* so many bytes of it */
-    struct dfuse_element image[1]; /* of a download, with the payload */
+    struct dfuse_element image[DFUSE_ELEMENTS]; /* of a download: the elements for the device's setting, or the payload, */
+    uint64_t elements;             /* so many; their addresses ascend */
     struct dfuse_plan plan;
     struct dfuse_session host;     /* the host's record */
     uint32_t short_waits;          /* waits of 0 ms in a row */
@@ -33,6 +38,18 @@ struct dfuse {
 /* Begins the session of the device that was found, which speaks DfuSe. 0, or a refusal of dfuse_host.h, dfu_host.h or session.h. Nothing
    is sent. */
 int32_t dfuse_begin_session(struct session *session);
+
+/* Takes the elements of FILE, a DfuSe file, for the device's setting: 0, or a refusal of dfuse_file.h or dfu_host.h. */
+int32_t dfuse_take_file(struct session *session);
+
+/* How many bytes of the image have an address below this one. */
+uint64_t dfuse_below(const struct dfuse *dfuse, uint64_t address);
+
+/* Prints the elements of a DfuSe file, a line each: their addresses and how many bytes they have. */
+void dfuse_print_elements(const struct dfuse *dfuse);
+
+/* The same as a member of a record in JSON, with their places in the file. */
+void dfuse_elements_json(const struct session *session);
 
 /* Carries out what the host asks for, up to its report or to another end. */
 void dfuse_run(struct session *session);

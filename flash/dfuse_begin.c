@@ -10,21 +10,23 @@
 #define PAGE_POLLS 1000  /* GETSTATUS while a page is erased, if the device tells no times */
 #define BLOCK_ACTIONS 60 /* of a block, with one that is asked for its status again and again */
 
-/* What the host for DFU 1.1 says of the file and the device: its suffix, an empty image, and whether it is for another device. */
-static int32_t file_refusal(const struct session *session)
+/* What the host for DFU 1.1 says of the file and the device: its suffix, an empty image, and whether it is for another device. Of a DfuSe
+   file the suffix was read, and its elements are taken. */
+static int32_t file_refusal(struct session *session)
 {
     static const uint8_t any[FUNCTIONAL_BYTES] = {FUNCTIONAL_BYTES, FUNCTIONAL_TYPE, CAN_DOWNLOAD, 0, 0, 64, 0, VERSION_1_1 & 0xff,
                                                   VERSION_1_1 >> 8};
     struct dfu_session none;
+    if (session->dfuse.file != NULL)
+        return dfuse_take_file(session);
     return dfu_host_download(&none, session->file, session->file_length, any, sizeof any, &session->ids, 1, 0);
 }
 
-/* As many actions as a clean session takes, many times over: for losses, restarts, and a device that is asked often. */
-static void take_limits(struct session *session, uint64_t length)
+/* As many actions as a clean session takes for elements of so many bytes, many times over: for losses, restarts, and a device that is asked
+   often. A page of two elements counts twice. */
+static void take_limits(struct session *session, uint64_t pages, uint64_t length, uint64_t elements)
 {
-    struct dfuse *dfuse = &session->dfuse;
-    uint64_t pages = dfuse_pages(dfuse->map, dfuse->map_length, dfuse->address, dfuse->address + length);
-    uint64_t blocks = length / dfuse->plan.transfer + pages + 4;
+    uint64_t blocks = length / session->dfuse.plan.transfer + elements + pages + 3;
     uint64_t actions;
     if (session->has_limits)
         return;
@@ -33,28 +35,40 @@ static void take_limits(struct session *session, uint64_t length)
     session->actions = actions > UINT32_MAX ? UINT32_MAX : (uint32_t)actions;
 }
 
+/* How many pages these bytes touch. */
+static uint64_t pages_of(const struct dfuse *dfuse, uint64_t address, uint64_t length)
+{
+    return dfuse_pages(dfuse->map, dfuse->map_length, address, address + length);
+}
+
 static int32_t begin_upload(struct session *session)
 {
     struct dfuse *dfuse = &session->dfuse;
     if (dfuse->plan.transfer == 0)
         return DFUSE_NO_TRANSFER;
     session->payload_length = dfuse->length;
-    take_limits(session, dfuse->length);
+    take_limits(session, pages_of(dfuse, dfuse->address, dfuse->length), dfuse->length, 1);
     return dfuse_may_read(dfuse->map, dfuse->map_length, dfuse->address, (uint64_t)dfuse->address + dfuse->length);
 }
 
 static int32_t begin_download(struct session *session)
 {
     struct dfuse *dfuse = &session->dfuse;
-    dfuse->image[0] = (struct dfuse_element){dfuse->address, session->file, session->payload_length};
+    uint64_t pages = 0;
+    if (dfuse->file == NULL) {
+        dfuse->image[0] = (struct dfuse_element){.address = dfuse->address, .bytes = session->file, .length = session->payload_length};
+        dfuse->elements = 1;
+    }
+    for (uint64_t at = 0; at < dfuse->elements; at++)
+        pages += pages_of(dfuse, dfuse->image[at].address, dfuse->image[at].length);
     if (dfuse->plan.transfer != 0)
-        take_limits(session, session->payload_length);
+        take_limits(session, pages, session->payload_length, dfuse->elements);
     dfuse->plan.start = dfuse->address;
     dfuse->plan.front = FRONT_BYTES;
     dfuse->plan.leaves = !dfuse->stays;
     dfuse->plan.actions = session->actions;
     dfuse->plan.restarts = session->restarts;
-    return dfuse_begin(&dfuse->host, dfuse->map, dfuse->map_length, dfuse->image, 1, &dfuse->plan);
+    return dfuse_begin(&dfuse->host, dfuse->map, dfuse->map_length, dfuse->image, (size_t)dfuse->elements, &dfuse->plan);
 }
 
 int32_t dfuse_begin_session(struct session *session)
@@ -66,7 +80,7 @@ int32_t dfuse_begin_session(struct session *session)
     dfuse->is = true;
     if (!is->is_upgrade)
         return REFUSED_RUN_TIME;
-    if (!dfuse->has_address)
+    if (!dfuse->has_address && dfuse->file == NULL)
         return REFUSED_NO_ADDRESS;
     if (refusal != 0)
         return refusal;

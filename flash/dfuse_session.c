@@ -96,7 +96,7 @@ static struct answer perform(struct session *session, const struct dfuse_action 
 static void show(struct session *session)
 {
     const struct dfuse *dfuse = &session->dfuse;
-    uint64_t done = dfuse->host.at - dfuse->address;
+    uint64_t done = dfuse_below(dfuse, dfuse->host.at);
     if (dfuse->host.work == DFUSE_ERASE)
         progress_at(&session->progress, PROGRESS_ERASING, done);
     else if (dfuse->host.work == DFUSE_WRITE)
@@ -112,7 +112,8 @@ static bool tell(struct session *session, const struct answer *answer)
     struct dfuse *dfuse = &session->dfuse;
     session->taken++;
     session->restarted += answer->seen == DFU_SEEN_RESTART;
-    if (dfuse_take(&dfuse->host, dfuse->map, dfuse->map_length, dfuse->image, 1, answer->seen, answer->bytes, answer->count) != 0)
+    if (dfuse_take(&dfuse->host, dfuse->map, dfuse->map_length, dfuse->image, (size_t)dfuse->elements, answer->seen, answer->bytes,
+                   answer->count) != 0)
         return end(session, END_BROKEN);
     if (dfuse->host.report == 0 || dfuse->host.report == DFUSE_VERIFIED)
         show(session);
@@ -178,7 +179,8 @@ void dfuse_run(struct session *session)
             stop(session);
             return;
         }
-        if (dfuse_next(&dfuse->host, dfuse->map, dfuse->map_length, dfuse->image, 1, body, sizeof body, &action) != 0) {
+        if (dfuse_next(&dfuse->host, dfuse->map, dfuse->map_length, dfuse->image, (size_t)dfuse->elements, body, sizeof body,
+                       &action) != 0) {
             end(session, END_BROKEN);
             return;
         }

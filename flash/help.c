@@ -21,6 +21,7 @@ static const char usage[] =
     "  -l, -w, -e, -V       --list, --wait, --detach, --version\n"
     "  -d, -p, -S, -i, -a   --device, --path, --serial, --interface, --alt\n"
     "  -s A:leave, -s A     --address A, and with no leave --no-leave too; -s A:N -U OUT is --length N\n"
+    "  -s :leave            nothing: after a DfuSe file the device leaves; see --no-leave\n"
     "  -R                   nothing: a session that took or fetched the image ends with a reset\n"
     "  -v, -E, -Z           not taken: see --verbose, --wait=SECONDS; an upload ends by itself\n"
     "  -n, -c               not taken: there is --path; no other configuration is set\n"

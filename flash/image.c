@@ -1,6 +1,6 @@
 /* SPDX-License-Identifier: MIT OR Apache-2.0 */
-/* Reads the file of a download. The suffix that a raw image gets here (USB DFU 1.1, appendix B) is read by the host like any other, so a
-   mistake in it is a refusal and no other image. */
+/* Reads the file of a download. A DfuSe file is known by its front, or by its suffix. The suffix that a raw image gets here (USB DFU 1.1,
+   appendix B) is read by the host like any other, so a mistake in it is a refusal and no other image. */
 #include "image.h"
 #include "files.h"
 #include "say.h"
@@ -69,14 +69,48 @@ static int32_t look(struct image *image)
     return 0;
 }
 
+static bool begins_as_dfuse(const struct image *image)
+{
+    static const char letters[] = "DfuSe";
+    return image->length >= sizeof letters - 1 && memcmp(image->bytes, letters, sizeof letters - 1) == 0;
+}
+
+/* Whether the words go with what the file is. What goes to addresses is read back, in blocks that the device counts in. */
+static bool is_fit(const struct words *words, bool is_dfuse)
+{
+    if (is_dfuse && !words->verify)
+        return words_refuse("--no-verify doesn't go with a DfuSe file: what is written of it is read back", "");
+    if (is_dfuse && words->transfer != 0)
+        return words_refuse("--transfer-size doesn't go with a DfuSe file: such a device counts in blocks of its own size", "");
+    return is_dfuse || !words->stays || words->has_address || words_refuse("--no-leave goes with --address, or with a DfuSe file", "");
+}
+
+/* A DfuSe file, whole. With targets of several settings it is asked for one: none is passed over in silence. */
+static int32_t read_dfuse(struct image *image, const struct words *words)
+{
+    int32_t refusal;
+    if (words->has_address)
+        return REFUSED_OWN_ADDRESS;
+    refusal = dfuse_read_file(image->bytes, image->length, &image->says);
+    if (refusal != 0)
+        return refusal;
+    image->vendor = image->says.vendor;
+    image->product = image->says.product;
+    return image->says.setting == DFUSE_SEVERAL && words->alternate < 0 && words->setting == NULL ? REFUSED_MIXED : 0;
+}
+
+/* What begins as a DfuSe file is none without addresses, whatever is wrong with it; but a sound file of DFU 1.1 may have any image. */
 int32_t image_read(struct image *image, const struct words *words)
 {
     int32_t refusal;
     if (!file_read(words->file, &image->bytes, &image->length))
         return IMAGE_UNREAD;
     refusal = look(image);
-    if (refusal == DFU_FILE_DFUSE && words->has_address)
-        return REFUSED_OWN_ADDRESS;
+    image->is_dfuse = refusal == DFU_FILE_DFUSE || (begins_as_dfuse(image) && (refusal != 0 || words->has_address));
+    if (!is_fit(words, image->is_dfuse))
+        return IMAGE_WORDS;
+    if (image->is_dfuse)
+        return read_dfuse(image, words);
     if (refusal == 0 || !is_raw(words, refusal))
         return refusal;
     if (!words->quiet && words->has_address)

@@ -5,6 +5,7 @@
 
 #include "words.h"
 
+#include <dfuse_file.h>
 #include <stddef.h>
 #include <stdint.h>
 
@@ -13,13 +14,16 @@ struct image {
     size_t length;
     size_t payload;           /* how many of its bytes, from the first on, are sent */
     uint16_t vendor, product; /* for which device it is, as its suffix says; FFFFh is any */
+    bool is_dfuse;            /* it is a DfuSe file, */
+    struct dfuse_file says;   /* which says this */
 };
 
 /* Reads FILE of the words. A raw image, which has no suffix, gets one for the device that --device names. 0; a refusal of the host
-   (dfu_host.h); or IMAGE_UNREAD if the file can't be read. That, and what else is to know, is said on standard error. */
+   (dfu_host.h), of dfuse_file.h or of session.h; IMAGE_UNREAD if the file can't be read; or IMAGE_WORDS if the words don't go with it.
+   The last two, and what else is to know, are said on standard error. */
 int32_t image_read(struct image *image, const struct words *words);
 
 #define IMAGE_UNREAD (-100)
-
+#define IMAGE_WORDS (-101)
 
 #endif

@@ -83,6 +83,8 @@ static void print_plan_record(const struct session *session)
         json_address(session->dfuse.address);
     if (session->goal != GOAL_UPLOAD || session->dfuse.is)
         json_number("bytes", session->payload_length);
+    if (session->dfuse.is && session->dfuse.file != NULL)
+        dfuse_elements_json(session);
     if (session->odd == 0) {
         json_number("transfer", session->host.transfer);
         json_number("most_actions", session->actions);
@@ -101,6 +103,8 @@ void list_plan(const struct session *session, bool is_json)
     if (session->odd != 0)
         fputs("dry-run: bring it to DFU mode, and look there how large blocks are: ", stdout);
     else {
+        if (session->dfuse.is && session->dfuse.file != NULL)
+            dfuse_print_elements(&session->dfuse);
         printf("dry-run: %s", goals[session->goal]);
         if (session->goal != GOAL_UPLOAD || session->dfuse.is)
             printf(" %zu bytes", session->payload_length);

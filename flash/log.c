@@ -63,12 +63,13 @@ void log_request(struct log *log, const uint8_t setup[8], unsigned interface, co
     fputc(' ', log->file);
     print_answer(log->file, answer);
     fputc('\n', log->file);
+    fflush(log->file); /* Windows writes no line by itself */
 }
 
 void log_reset(struct log *log)
 {
-    if (log->file != NULL)
-        fputs("reset\n", log->file);
+    if (log->file != NULL && fputs("reset\n", log->file) >= 0)
+        fflush(log->file);
 }
 
 void log_close(struct log *log)

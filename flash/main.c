@@ -4,6 +4,7 @@
    came of it. share/man/dfu-flash.1 says how it is used, and flash/README.md what is this program's own. */
 #include "all.h"
 #include "one.h"
+#include "platform.h"
 #include "record.h"
 #include "status.h"
 #include "streams.h"
@@ -13,6 +14,8 @@ int main(int count, char **texts)
     struct image image = {0};
     struct words words;
     streams_keep();
+    if (!platform_words(&count, &texts))
+        return STATUS_FILE;
     if (!words_read(&words, count, texts))
         return STATUS_WORDS;
     if (words.job != JOB_HELP && words.job != JOB_VERSION)

@@ -49,10 +49,15 @@ static int take_file(const struct words *words, struct image *image, struct want
         session.file = image->bytes;
     if (refusal == IMAGE_UNREAD)
         return say_none(words, STATUS_FILE);
+    if (refusal == IMAGE_WORDS)
+        return STATUS_WORDS;
     if (refusal < 0)
         return say_refused(words, refusal);
     session.file_length = image->length;
     session.payload_length = image->payload;
+    session.dfuse.file = image->is_dfuse ? &image->says : NULL;
+    if (image->is_dfuse && wanted->place.alternate < 0 && wanted->place.name == NULL)
+        wanted->place.alternate = (int)image->says.setting;
     if (!words->has_ids && words->path == NULL && words->serial == NULL) {
         wanted->has_ids = wanted->is_of_file = true;
         wanted->vendor = image->vendor;
@@ -130,6 +135,7 @@ static bool make_file(const struct words *words)
 static int run_session(const struct words *words, enum progress_style style)
 {
     struct verdict verdict;
+    bool is_whole;
     int status = begin_work(words);
     if (status != STATUS_DONE)
         return status;
@@ -140,7 +146,8 @@ static int run_session(const struct words *words, enum progress_style style)
     if (session.end == END_REFUSED)
         return say_refused(words, session.refusal);
     verdict = verdict_of(&session);
-    if (session.goal == GOAL_UPLOAD && verdict.status == STATUS_DONE && !make_file(words))
+    is_whole = verdict.status == STATUS_DONE || (verdict.status == STATUS_UNRESET && session.is_fetched);
+    if (session.goal == GOAL_UPLOAD && is_whole && !make_file(words))
         return say_none(words, STATUS_FILE);
     return print_verdict(words, &verdict);
 }

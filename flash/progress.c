@@ -1,15 +1,14 @@
 /* SPDX-License-Identifier: MIT OR Apache-2.0 */
 /* How far a session is: a bar, or a line each ten percent. An upload has no length before it ends, so it has a line for each 65,536
    bytes. */
-#define _POSIX_C_SOURCE 200809L
 #include "progress.h"
 #include "bar.h"
 #include "clock.h"
+#include "terminal.h"
 
 #include <inttypes.h>
 #include <stdio.h>
 #include <string.h>
-#include <unistd.h>
 
 #define SHOW_MS 100 /* a bar is drawn so often at most */
 #define LINE_BYTES 65536
@@ -21,7 +20,7 @@ static const char *const names[] = {"", "downloading", "comparing", "uploading",
 
 enum progress_style progress_style(bool is_quiet, bool is_lines)
 {
-    return is_quiet ? PROGRESS_QUIET : !is_lines && isatty(STDERR_FILENO) == 1 ? PROGRESS_BAR : PROGRESS_LINES;
+    return is_quiet ? PROGRESS_SILENT : !is_lines && terminal_is(stderr) ? PROGRESS_BAR : PROGRESS_LINES;
 }
 
 void progress_begin(struct progress *progress, enum progress_style style, uint64_t total)
@@ -82,7 +81,7 @@ static void begin_part(struct progress *progress, enum progress_part part)
 
 void progress_at(struct progress *progress, enum progress_part part, uint64_t bytes)
 {
-    if (progress->style == PROGRESS_QUIET)
+    if (progress->style == PROGRESS_SILENT)
         return;
     if (part != progress->part)
         begin_part(progress, part);
@@ -98,7 +97,7 @@ void progress_at(struct progress *progress, enum progress_part part, uint64_t by
 void progress_wait(struct progress *progress, uint32_t ms)
 {
     uint32_t seconds = ms / 1000;
-    if (progress->style == PROGRESS_QUIET || ms <= LONG_MS || ms <= progress->said_ms)
+    if (progress->style == PROGRESS_SILENT || ms <= LONG_MS || ms <= progress->said_ms)
         return;
     progress_end(progress);
     progress->said_ms = ms;

@@ -10,7 +10,7 @@ enum progress_part { PROGRESS_NONE, PROGRESS_SENDING, PROGRESS_COMPARING, PROGRE
 
 /* How it is shown: not at all; by lines on standard error; by a bar there, which is a terminal; or, for a program that shows many
    sessions, by lines on standard output that begin with a tab and have a bar in them. */
-enum progress_style { PROGRESS_QUIET, PROGRESS_LINES, PROGRESS_BAR, PROGRESS_ROWS };
+enum progress_style { PROGRESS_SILENT, PROGRESS_LINES, PROGRESS_BAR, PROGRESS_ROWS };
 
 struct progress {
     enum progress_style style;

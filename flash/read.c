@@ -1,14 +1,13 @@
 /* SPDX-License-Identifier: MIT OR Apache-2.0 */
 /* Reads the file of a download. */
-#define _POSIX_C_SOURCE 200809L
 #include "files.h"
 #include "say.h"
+#include "terminal.h"
 
 #include <errno.h>
 #include <stdio.h>
 #include <stdlib.h>
 #include <string.h>
-#include <unistd.h>
 
 #define MOST 16777216 /* bytes of a DFU file; with one more it is refused as TooLarge */
 
@@ -16,9 +15,9 @@
 static FILE *open_file(const char *name)
 {
     if (strcmp(name, "-") != 0)
-        return fopen(name, "rb");
-    if (isatty(STDIN_FILENO) == 1)
-        fputs("dfu-flash: the image is read from this terminal; Ctrl-D ends it\n", stderr);
+        return file_open(name);
+    if (terminal_is(stdin))
+        fprintf(stderr, "dfu-flash: the image is read from this terminal; %s ends it\n", terminal_end_key());
     return stdin;
 }
 

@@ -1,6 +1,7 @@
 /* SPDX-License-Identifier: MIT OR Apache-2.0 */
 /* Lines about devices. */
 #include "say.h"
+#include "platform.h"
 #include "standard.h"
 #include "status.h"
 #include "text.h"
@@ -50,28 +51,16 @@ void say_found(FILE *out, const struct found *found)
     fprintf(out, "%s\n", access_words(found->access));
 }
 
-static void say_rule(const struct found *found)
-{
-    fprintf(stderr,
-            "To allow it to who sits at this computer, write this line to /etc/udev/rules.d/60-dfu-%04x.rules,\n"
-            "run `udevadm control --reload`, and plug the device in again:\n"
-            "SUBSYSTEM==\"usb\", ATTR{idVendor}==\"%04x\", ATTR{idProduct}==\"%04x\", MODE=\"0660\", TAG+=\"uaccess\"\n"
-            "To allow it for every device with DFU, run `make install UDEVDIR=/etc/udev/rules.d` of Fustrelan as root, which\n"
-            "installs 70-dfu.rules. Over ssh nobody sits there: that file has a line for the members of a group.\n",
-            found->vendor, found->vendor, found->product);
-}
-
 int say_no_access(const struct found *found)
 {
     fprintf(stderr, "dfu-flash: %04x:%04x at %s ", found->vendor, found->product, found->path);
     if (found->access == LIBUSB_ERROR_BUSY)
         fprintf(stderr, "is in use: another program or a driver has its interface %u", found->interface);
     else if (found->access == LIBUSB_ERROR_NO_DEVICE)
-        fputs("is gone: it left, or there is no file for it below /dev/bus/usb, as in a container", stderr);
+        fprintf(stderr, "is gone: %s", platform_gone());
     else
         fputs("may not be opened", stderr);
     fprintf(stderr, ": %s\n", libusb_error_name(found->access));
-    if (found->access == LIBUSB_ERROR_ACCESS)
-        say_rule(found);
+    platform_help(found);
     return found->access == LIBUSB_ERROR_NO_DEVICE ? STATUS_NO_DEVICE : STATUS_NO_ACCESS;
 }

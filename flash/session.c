@@ -69,6 +69,8 @@ static struct answer send_request(struct session *session, const struct dfu_acti
     answer = answer_send(&session->wire, action, session->file + action->from);
     if (is_download(action))
         session->is_whole = action->length == 0 && answer.seen == DFU_SEEN_ACK;
+    if (is_upload(action))
+        session->is_fetched = answer.seen == DFU_SEEN_BYTES && answer.count < setup_length(action->setup);
     stalls_note(&session->stalls, &session->wire.device->is, answer.seen);
     show(session, action, &answer);
     return answer;
@@ -174,6 +176,8 @@ static bool step(struct session *session, const struct dfu_action *action)
         return end(session, early);
     }
     answer = perform(session, action);
+    if (session->wire.is_unreset)
+        return end(session, END_UNRESET);
     if (answer.is_gone && !*device->is_stop)
         return end(session, device->is_many ? END_MANY : END_GONE);
     if (answer.is_gone)

@@ -25,7 +25,8 @@ enum end {
     END_ABORTED, /* a signal came; DfuSe alone, whose host isn't told */
     END_TIMED_OUT, /* the time of --timeout is spent, and the host gave up */
     END_BROKEN, /* the host's library refused its own record */
-    END_STALLED /* it stays in run-time mode, and stalls what it is asked there */
+    END_STALLED, /* it stays in run-time mode, and stalls what it is asked there */
+    END_UNRESET /* a reset is asked for that the system doesn't make, and nobody pulled the plug */
 };
 
 struct session {
@@ -51,6 +52,7 @@ struct session {
     uint8_t another[9];           /* then another one in its place */
     bool has_sent, has_begun_anew, is_aborted;
     bool is_whole;                /* the device acknowledged the image's last block and its end, and no block was sent since */
+    bool is_fetched;              /* the last part of an upload came, and none was asked for since */
     uint32_t silent;              /* transfers in a row of which nothing was heard */
     struct stalls stalls;
     struct wire wire;
@@ -65,13 +67,16 @@ struct session {
 
 /* The program's own refusals, beside the host's: the file is for any device, and would go to all; of DfuSe: the device speaks it, and
    nobody said at which address; it is in run-time mode; an address was given, and the device has none; or the file has its own; or
-   the device's blocks are larger than Linux carries. */
+   the device's blocks are larger than Linux carries; on a system that makes no reset, a reset brings the device to DFU mode; or the
+   file has targets of several settings, and none was asked for. */
 #define REFUSED_ANY (-102)
 #define REFUSED_NO_ADDRESS (-103)
 #define REFUSED_RUN_TIME (-104)
 #define REFUSED_NOT_DFUSE (-105)
 #define REFUSED_OWN_ADDRESS (-106)
 #define REFUSED_LARGE_BLOCKS (-107)
+#define REFUSED_MIXED (-108)
+#define REFUSED_NO_RESET (-120)
 
 /* What it is for, in a word. */
 const char *goal_name(enum goal goal);

@@ -35,7 +35,9 @@ struct answer stalls_reset(struct stalls *stalls, struct wire *wire)
     answer = answer_reset(wire);
     if (stalls->is_last && answer.seen == DFU_SEEN_RESET)
         stalls->resets++;
-    if (is_first)
-        detach_await(wire);
+    if (is_first && detach_await(wire) && wire->is_unreset) {
+        wire->is_unreset = false; /* it left by itself, and late */
+        answer.seen = DFU_SEEN_RESTART;
+    }
     return answer;
 }

@@ -14,13 +14,7 @@ extern volatile sig_atomic_t stop_cause;
 /* From here on signals, and `seconds` where they aren't 0, end a session well and a wait at once. */
 void stop_catch(uint32_t seconds);
 
-/* A process that was forked has no stop of the first one, and none of its pipe. */
-void stop_anew(void);
-
 /* The session is over: the seconds count no more. */
 void stop_no_more(void);
-
-/* A file descriptor that can be read once a stop came, for poll; -1 where there is none. */
-int stop_descriptor(void);
 
 #endif

@@ -184,10 +184,13 @@ bool value_length(const char *text, struct words *words)
         || words_refuse("--length takes bytes, from 1 to 4294967295, or as 0x1000", text);
 }
 
-/* dfu-util stays in DFU mode unless `leave` is said. Of its words that destroy more than an image none is taken. */
+/* dfu-util stays in DFU mode unless `leave` is said. Of its words that destroy more than an image none is taken. Without an address it goes
+   with a DfuSe file, after which the device leaves here anyhow. */
 bool value_dfuse(const char *text, struct words *words)
 {
     const char *rest;
+    if (strcmp(text, ":leave") == 0)
+        return true;
     if (!is_hexadecimal(text, &words->address, &rest))
         return words_refuse("-s takes an address as 0x08000000, which may have :leave or a length behind it", text);
     words->has_address = words->stays = true;

@@ -37,15 +37,22 @@ static const struct {
     [END_BROKEN] = {"broken", {STATUS_BROKEN, "the host refused its own record, which is a mistake of this program"}},
     [END_STALLED] = {"stalled",
         {STATUS_STALLED, "in run-time mode it stalls GETSTATUS: bring it to DFU mode by hand, as by its button, and run this again"}},
+    [END_UNRESET] = {"not-reset", {STATUS_UNRESET,
+        "a reset is missing, which this system does not make; the device may have the old image, the new one or neither"}},
 };
 
-/* The same, where the device took the whole image and was to give it back. */
+/* The same, where the device took the whole image, and was to give it back or was to be reset. */
 static const struct meaning uncompared[] = {
+    [END_UNRESET] = {STATUS_UNRESET,
+        "the device took the whole image; a reset is missing, which this system does not make: pull its plug, and put it in again"},
     [END_GONE] =
         {STATUS_GONE, "the device took the whole image, left, and did not come back to be compared; see --no-verify and --wait"},
     [END_STALLED] =
         {STATUS_STALLED, "the device took the whole image, and stalls GETSTATUS in run-time mode: it was not compared; see --no-verify"},
 };
+
+/* And where it gave the whole image. */
+static const struct meaning fetched = {STATUS_UNRESET, "the device gave the image that it has; to leave DFU mode it needs its plug pulled"};
 
 /* What a device may have is said only where a block was sent. */
 void verdict_words(struct verdict *verdict, const struct session *session, const struct meaning *meaning)
@@ -65,8 +72,10 @@ static void take_end(struct verdict *verdict, const struct session *session)
 {
     enum end end = session->end == END_REPORT ? END_BROKEN : session->end;
     bool is_uncompared = session->goal == GOAL_VERIFIED && session->is_whole && (end == END_GONE || end == END_STALLED);
+    bool is_fetched = session->goal == GOAL_UPLOAD && session->is_fetched && end == END_UNRESET;
+    is_uncompared = is_uncompared || (session->goal != GOAL_UPLOAD && session->is_whole && end == END_UNRESET);
     snprintf(verdict->name, sizeof verdict->name, "%s", ends[end].name);
-    verdict_words(verdict, session, is_uncompared ? &uncompared[end] : &ends[end].meaning);
+    verdict_words(verdict, session, is_fetched ? &fetched : is_uncompared ? &uncompared[end] : &ends[end].meaning);
 }
 
 struct verdict verdict_of(const struct session *session)

@@ -133,8 +133,8 @@ static bool is_fit_for_dfuse(const struct words *words)
         return words_refuse("--length goes with --upload and --address", "");
     if (is_upload && words->has_address && words->length == 0)
         return words_refuse("--upload with --address takes --length", "");
-    /* -s of an upload says to stay too. */
-    return !words->stays || words->has_address || words_refuse("--no-leave goes with --address", "");
+    /* -s of an upload says to stay too; what a download has is seen when its file is read. */
+    return !words->stays || words->has_address || is_download || words_refuse("--no-leave goes with --address, or with a DfuSe file", "");
 }
 
 /* Whether the options go with what is to be done. */

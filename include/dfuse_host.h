@@ -13,7 +13,7 @@
  * The loop of a flashing tool:
  *
  *     struct dfuse_session s; struct dfuse_action a; uint8_t body[4096], answer[4096];
- *     struct dfuse_element image[1] = {{0x08000000, bytes, length}};
+ *     struct dfuse_element image[1] = {{.address = 0x08000000, .bytes = bytes, .length = length}};
  *     struct dfuse_plan plan = {0x08000000, 100000, 3, 2048, 32, 1};
  *     if (dfuse_begin(&s, map, map_length, image, 1, &plan) != 0) refused
  *     for (;;) {

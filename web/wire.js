@@ -19,7 +19,8 @@
 //   it is made                                   Reset     once its interface is in its setting again, where that is another than 0
 //   the device leaves with it                    Reset     at once: it comes back as a new one, whose enumeration is a reset
 //   it can't be made, and a person pulls         Reset     the same, once the device is seen to leave; nothing else that a person
-//   the plug                                               says counts
+//   the plug                                               says counts. In run-time mode Restart: in appDETACH a loss of power
+//                                                          doesn't lead to DFU mode, as a reset does
 //   it left before, unasked                      Left, Restart, as of a transfer
 //   any other                                    Nothing   the host asks for it again
 // Behind a reset the host is done, or asks for the device's state, as behind a restart. So it may have lost its power too.
@@ -42,6 +43,7 @@ const GRACE_MS = 100    // and from a reset that is made,
 const DETACH_MS = 3000  // and from the end of the time in which a device detaches itself
 const LOOK_MS = 20
 const NONE = new Uint8Array(0)
+const PULLED = 'PULLED'  // the plug, in run-time mode
 // For the trace: what libusb calls them.
 const ERRORS = { NotFoundError: 'NO_DEVICE', NetworkError: 'IO', TimeoutError: 'TIMEOUT', SecurityError: 'ACCESS',
   AbortError: 'INTERRUPTED' }
@@ -172,13 +174,14 @@ export class Wire {
       return told(SEEN.RESET)
     }
     const error = await this.resetBus(board.handle)
+    if (error === PULLED) return this.restarted()
     if (error !== null) return told(SEEN.NOTHING, { error })
     if (!board.isOpen()) board.letGo()
     this.forgetEnd()
     return told(SEEN.RESET)
   }
 
-  // Null where the bus was reset, else the error. A device that left is no longer open.
+  // Null where the bus was reset, else the error, or PULLED. A device that left is no longer open.
   async resetBus(device) {
     const { board } = this
     try {
@@ -188,7 +191,7 @@ export class Wire {
     } catch (error) {
       if (error.name === 'NotFoundError') board.letGo()
       if (await this.hasLeft(LEAVE_MS)) return null
-      if (await this.ask.replug(() => !board.isOpen())) return null
+      if (await this.ask.replug(() => !board.isOpen())) return board.is.isUpgrade ? null : PULLED
       return ERRORS[error.name] ?? 'OTHER'
     }
   }

@@ -2,8 +2,9 @@
  * library that agree on the version agree on these. So a change here takes a new version, and a new version takes a look at these. */
 #include "dfu_device.h"
 #include "dfu_host.h"
-#include "dfuse_host.h"
+#include "dfuse_file.h"
 #include "dfu_install.h"
+#include "dfu_trial.h"
 #include "dfu_runtime.h"
 
 #if DFU_VERSION != 300
@@ -86,6 +87,29 @@ AT(dfu_install, size, sizeof(void *));
 AT(dfu_install, area, 2 * sizeof(void *));
 AT(dfu_install, driver, 2 * sizeof(void *) + 8);
 
+SIZE(dfu_tries, 12);
+AT(dfu_tries, unit, 0);
+AT(dfu_tries, sector, 4);
+AT(dfu_tries, tries, 8);
+
+SIZE(dfu_standing, 28);
+AT(dfu_standing, active, 0);
+AT(dfu_standing, base, 8);
+AT(dfu_standing, on_trial, 16);
+AT(dfu_standing, left, 20);
+AT(dfu_standing, is_confirmed, 24);
+
+SIZE(dfu_starting, 16);
+AT(dfu_starting, run, 0);
+AT(dfu_starting, otherwise, 8);
+
+SIZE(dfu_trial, 3 * sizeof(void *) + 16);
+AT(dfu_trial, flash, 0);
+AT(dfu_trial, size, sizeof(void *));
+AT(dfu_trial, driver, 2 * sizeof(void *));
+AT(dfu_trial, tries, 3 * sizeof(void *));
+AT(dfu_trial, unused, 3 * sizeof(void *) + 12);
+
 SIZE(dfu_runtime, 12);
 AT(dfu_runtime, detach_ms, 0);
 AT(dfu_runtime, interface_number, 2);
@@ -147,6 +171,13 @@ AT(dfuse_element, length, 16);
 AT(dfuse_element, bytes_high, 12);
 AT(dfuse_element, length_high, 20);
 #endif
+
+SIZE(dfuse_file, 16);
+AT(dfuse_file, targets, 0);
+AT(dfuse_file, setting, 4);
+AT(dfuse_file, device, 8);
+AT(dfuse_file, product, 10);
+AT(dfuse_file, vendor, 12);
 
 SIZE(dfuse_plan, 16);
 AT(dfuse_plan, start, 0);

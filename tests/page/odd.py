@@ -24,6 +24,8 @@ ROWS = [
      'unconfirmed', True),
     ('Windows: it detaches itself', {**WINDOWS, 'settings': {**NO_RESET, **ITSELF}, 'replugs': True}, 'verified', True),
     ('Windows: from run-time mode', {**WINDOWS, 'settings': {**NO_RESET, **APP, **ITSELF}, 'replugs': True}, 'verified', True),
+    ('Windows: it falls back to run-time mode, where a plug is pulled in vain',
+     {**WINDOWS, 'settings': {**NO_RESET, 'fates': [{'kind': 'leave', 'number': 5}]}, 'replugs': True}, 'restarts-spent', False),
     ('limits', {'limits': {'actions': 3, 'restarts': 0}}, 'gave-up', False),
     ('another board comes in its place', {'settings': {'fates': [{'kind': 'swap', 'number': 4}]}}, 'other', False),
     ('it answers no more', {'settings': {'fates': [{'kind': 'deaf', 'number': 4}]}}, 'silent', False),

@@ -19,14 +19,19 @@ def examples():
     return [(one.name, one.read_text(), one.with_suffix('.out').read_text()) for one in sorted(TOP.glob('examples/*.script'))]
 
 
+def script_in(row):
+    """The script of a row, and what is wanted of it."""
+    script, wanted = re.sub(r'(offer|verify) ([WZEN])(?= )', lambda it: f'{it[1]} {FILES[it[2]]}', row).rsplit('=> ', 1)
+    return re.sub(' */ *', '\n', script) + '\n', wanted.replace(' / ', '\n') + '\n'
+
+
 def rows():
     found = []
     for file in sorted(TOP.glob('tests/rows/*.rows')):
         for row in file.read_text().splitlines():
             if ' => ' not in row:
                 continue
-            script, wanted = re.sub(r'(offer|verify) ([WZEN])(?= )', lambda it: f'{it[1]} {FILES[it[2]]}', row).rsplit('=> ', 1)
-            found.append((row, re.sub(' */ *', '\n', script) + '\n', wanted.replace(' / ', '\n') + '\n'))
+            found.append((row, *script_in(row)))
     for name, wanted in (('good.lines', 'image 00'), ('bad.lines', 'refused BadLine 1')):
         for line in (TOP / 'tests/rows' / name).read_text().splitlines():
             found.append((line, line.replace('\\t', '\t').replace('\\r', '\r') + '\n', wanted + '\n'))

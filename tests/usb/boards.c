@@ -41,6 +41,7 @@ static void read_board(char *line)
             fail_loudly("USB_BOARDS has NAME=VALUE, with tabs between: %s", word);
         *value = '\0';
         before[number] = getenv(word);
+        before[number] = before[number] == NULL ? NULL : strdup(before[number]);
         words[number++] = word;
         setenv(word, value + 1, 1);
     }

@@ -17,7 +17,7 @@
 
 static const struct model *model;
 struct seen *seen = &(struct seen){ 0 };
-static unsigned transfers;
+static unsigned transfers, idle_lists;
 static uint64_t told_ns;
 
 static uint64_t now_ns(void)
@@ -122,7 +122,7 @@ static int leave(void)
     seen->is_app = model->is_app();
     seen->is_there = is_there_now();
     enumerate();
-    return USB_ERROR_NO_DEVICE;
+    return settings.leaves_untold ? USB_ERROR_PIPE : USB_ERROR_NO_DEVICE;
 }
 
 /* The device handles it, once or twice: bytes of the last answer, or an error. */
@@ -181,6 +181,7 @@ static void pass_untold(unsigned ms)
 
 int bus_transfer(const uint8_t setup[8], uint8_t *data, uint16_t length, unsigned timeout)
 {
+    idle_lists = 0;
     uint8_t none[8] = { 0 }, *at = data != NULL && length > 0 ? data : none;
     if (transfers == BOUND)
         fail_loudly("%d transfers were made, and the program is not done", BOUND);
@@ -227,8 +228,13 @@ void bus_set_interface(int setting)
     model->set_interface();
 }
 
+/* A person pulls the plug while nothing is asked of the device. */
 bool bus_lists(void)
 {
+    if (settings.pull != 0 && ++idle_lists == settings.pull) {
+        leave();
+        log_pull(model->state());
+    }
     if (!seen->is_there)
         return false;
     if (seen->away == 0)

@@ -10,6 +10,7 @@
 #include <string.h>
 
 #define GET_DESCRIPTOR 6
+#define GET_STATUS 0
 #define STRING 3
 #define FUNCTIONAL 0x21
 
@@ -102,6 +103,8 @@ int libusb_reset_device(libusb_device_handle *handle)
         fail_loudly("the other device is reset");
     if (bus_is_deaf())
         return USB_ERROR_IO;
+    if (settings.resets_nothing)
+        return 0;
     return bus_reset() ? 0 : USB_ERROR_NOT_FOUND;
 }
 
@@ -110,6 +113,10 @@ int libusb_reset_device(libusb_device_handle *handle)
 static int standard(const libusb_device *device, uint8_t kind, uint8_t request, uint16_t value, uint8_t *data, uint16_t length)
 {
     uint8_t function[9];
+    if (kind == 0x80 && request == GET_STATUS && length == 2) {
+        memset(data, 0, 2);
+        return 2;
+    }
     if ((kind & 0x80) == 0 || request != GET_DESCRIPTOR)
         fail_loudly("request %u of type %02x is not in this stand-in", request, kind);
     if (value >> 8 == STRING)
@@ -129,7 +136,7 @@ int libusb_control_transfer(libusb_device_handle *handle, uint8_t kind, uint8_t 
                                (uint8_t)length, (uint8_t)(length >> 8) };
     int error = held(handle);
     if (error != 0)
-        return error;
+        return settings.leaves_untold ? USB_ERROR_IO : error;
     if ((kind & 0x60) == 0)
         return standard(handle->device, kind, request, value, data, length);
     if ((kind & 0x7f) != 0x21)

@@ -17,6 +17,25 @@ write_here() {
         tail -c +$((to + 1)) old
     } > expected
     address=$(printf '0x%08x' $((0x08000000 + at)))
+    flashed="--address $address image"
+}
+# elements_here ADDRESS-WITHIN=FILE..: `some.dfu`, a DfuSe file with these elements for setting 0, and in `expected` the memory with them,
+# where each of their pages is erased.
+elements_here() {
+    cp old expected
+    packed=
+    for element in "$@"; do
+        at=$((${element%%=*})) bytes=$(wc -c < "${element#*=}")
+        first=$((at / 1024)) past=$(((at + bytes + 1023) / 1024))
+        head -c $(((past - first) * 1024)) /dev/zero | tr '\0' '\377' | dd of=expected bs=1024 seek="$first" conv=notrunc status=none
+        packed="$packed 0:$(printf '%08x' $((0x08000000 + at)))=${element#*=}"
+    done
+    for element in "$@"; do
+        dd if="${element#*=}" of=expected bs=1 seek=$((${element%%=*})) conv=notrunc status=none
+    done
+    # shellcheck disable=SC2086
+    ./dfuse_pack $packed > some.dfu
+    flashed=some.dfu
 }
 # dfuse SETTINGS WORDS..: runs dfu-flash over the device. Its status is in $code, its texts in out and err, what was sent in log, and the
 # memory in saved.
@@ -64,7 +83,8 @@ dfuse_fates() {
     with=$1
     shift
     fate=
-    dfuse "$with" --quiet --address "$address" image
+    # shellcheck disable=SC2086
+    dfuse "$with" --quiet $flashed
     if [ "$code" -ne 0 ] || ! cmp -s saved expected; then wrong "$with: $code, $(cat out err)"; fi
     transfers=$(grep -c '^[0-9]' log)
     number=0
@@ -72,7 +92,8 @@ dfuse_fates() {
         for kind in "$@"; do
             # shellcheck disable=SC2059
             fate=$(printf "$kind" "$number")
-            dfuse "$with" --quiet --address "$address" image
+            # shellcheck disable=SC2086
+            dfuse "$with" --quiet $flashed
             if [ "$code" -ne 0 ]; then
                 wrong "$with, $fate: $code, $(cat out err)"
             elif ! cmp -s saved expected; then
@@ -88,10 +109,12 @@ dfuse_fates() {
 # dfuse_fails SETTINGS CODE: each command of a session fails with this code, in turn. None succeeds.
 dfuse_fails() {
     number=0
-    dfuse "$1" --quiet --address "$address" image
+    # shellcheck disable=SC2086
+    dfuse "$1" --quiet $flashed
     commands=$(grep -c ' DNLOAD .* ok' log)
     while [ "$number" -lt $((commands - 1)) ]; do
-        dfuse "$1 USB_FAILS=$number USB_CODE=$2" --quiet --address "$address" image
+        # shellcheck disable=SC2086
+        dfuse "$1 USB_FAILS=$number USB_CODE=$2" --quiet $flashed
         if [ "$code" -ne 6 ]; then
             wrong "$1, command $number fails with code $2: $code, $(cat out err)"
         elif ! outside_is_old; then

@@ -31,7 +31,7 @@ static FILE *sink(void)
 {
     static FILE *file;
     if (file == NULL && settings.log != NULL) {
-        file = fopen(settings.log, "w");
+        file = fopen(settings.log, "wb");
         if (file == NULL)
             fail_loudly("%s can't be written", settings.log);
         setvbuf(file, NULL, _IOLBF, BUFSIZ);
@@ -66,6 +66,13 @@ void log_reset(int state)
     FILE *file = sink();
     if (file != NULL)
         fprintf(file, "reset -> %s\n", NAME(states, state));
+}
+
+void log_pull(int state)
+{
+    FILE *file = sink();
+    if (file != NULL)
+        fprintf(file, "pulled -> %s\n", NAME(states, state));
 }
 
 void log_setting(int setting)

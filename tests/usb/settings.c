@@ -21,6 +21,9 @@
  * USB_APP_TRANSFER  its wTransferSize (USB_TRANSFER)    USB_APP_PROTOCOL  bInterfaceProtocol in run-time mode (1)
  * USB_RESTARTS    small: what it starts by itself behind a download: app, or dfu (DFU mode again) (app)
  * USB_LEAVES      small: DETACH leads to DFU mode after so many ms, and no reset does (0: a reset does, or bitWillDetach)
+ * USB_RESETS      works, or nothing: libusb_reset_device answers 0 and resets nothing, as over WinUSB (works)
+ * USB_LEFT        told, or untold: a transfer to a device that left is stalled, and then answered LIBUSB_ERROR_IO (told)
+ * USB_PULL        the plug is pulled, and put in again, after so many lists of devices with no transfer between them (0: never)
  * USB_DEVICES     1, or 2: another device, whose serial number is OTHER, stands on the bus (1)
  * USB_DENIED      the number of the error that opening a device answers, as 3 for LIBUSB_ERROR_ACCESS (0: it is opened)
  * USB_OTHER_DENIED  the same of the other device alone (0)
@@ -91,6 +94,16 @@ void fail_loudly(const char *format, ...)
     abort();
 }
 
+/* A variable's text, which stays as it is if the variable is set anew: a C library may free the one of before. NULL if it isn't set. */
+static const char *kept(const char *name)
+{
+    const char *text = getenv(name);
+    char *copy = text == NULL ? NULL : strdup(text);
+    if (text != NULL && copy == NULL)
+        fail_loudly("no memory for a text");
+    return copy;
+}
+
 static uint32_t number(const char *name, uint32_t otherwise, int base)
 {
     const char *text = getenv(name);
@@ -105,7 +118,7 @@ static uint32_t number(const char *name, uint32_t otherwise, int base)
 
 static const char *text(const char *name, const char *otherwise)
 {
-    const char *found = getenv(name);
+    const char *found = kept(name);
     return found != NULL ? found : otherwise;
 }
 
@@ -183,7 +196,7 @@ static void read_device(void)
     settings.manifest_ms = number("USB_MANIFEST", is_proved ? 1 : 0, 10);
     settings.least = number("USB_LEAST", 1, 10);
     settings.capacity = number("USB_CAPACITY", 100000, 10);
-    settings.image = getenv("USB_IMAGE");
+    settings.image = kept("USB_IMAGE");
     settings.buffer = number("USB_BUFFER", 8388608, 10);
     settings.is_raw = is_first("USB_STORE", "raw", "file", "file");
     settings.fails = (int)number("USB_FAILS", (uint32_t)-1, 10);
@@ -235,6 +248,9 @@ void settings_read(void)
     settings.swapped = ids("USB_SWAP_IDS", text("USB_DFU_IDS", text("USB_IDS", "1209:0001:0100")));
     settings.serial = text("USB_SERIAL", "F1");
     read_path(text("USB_PATH", "1-1"));
+    settings.resets_nothing = is_first("USB_RESETS", "nothing", "works", "works");
+    settings.leaves_untold = is_first("USB_LEFT", "untold", "told", "told");
+    settings.pull = (unsigned)number("USB_PULL", 0, 10);
     settings.devices = number("USB_DEVICES", 1, 10);
     settings.denied = -(int)number("USB_DENIED", 0, 10);
     settings.other_denied = -(int)number("USB_OTHER_DENIED", 0, 10);
@@ -243,7 +259,7 @@ void settings_read(void)
     settings.claimed = -(int)number("USB_CLAIMED", 0, 10);
     settings.interface = (uint8_t)number("USB_INTERFACE", 0, 10);
     settings.swapped_interface = (uint8_t)number("USB_SWAP_INTERFACE", settings.interface, 10);
-    settings.swapped_name = getenv("USB_SWAP_NAME");
+    settings.swapped_name = kept("USB_SWAP_NAME");
     settings.configurations = (uint8_t)number("USB_CONFIGURATIONS", 1, 10);
     settings.descriptor = (uint8_t)number("USB_DESCRIPTOR", 9, 10);
     read_app();
@@ -261,9 +277,9 @@ void settings_read(void)
     settings.pause_ms = number("USB_PAUSE", 0, 10);
     settings.slow_ms = number("USB_SLOW", 0, 10);
     fates_read(text("USB_FATE", ""));
-    settings.log = getenv("USB_LOG");
-    settings.save = getenv("USB_SAVE");
-    settings.state = getenv("USB_STATE");
+    settings.log = kept("USB_LOG");
+    settings.save = kept("USB_SAVE");
+    settings.state = kept("USB_STATE");
 }
 
 #define GETSTATUS 3

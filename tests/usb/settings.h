@@ -51,6 +51,9 @@ struct settings {
     int setting;                       /* the one that requests are to be made in, or -1: any */
     int denied, other_denied, claimed; /* the error of an open, of one of the other device, and of a claim, or 0 */
     unsigned opens, denials;           /* so many opens go well before, and so many are denied */
+    bool resets_nothing;               /* libusb_reset_device answers 0 and does nothing, as over WinUSB */
+    bool leaves_untold;                /* a device that left: a stall at first, then LIBUSB_ERROR_IO, as libusb has it over WinUSB */
+    unsigned pull;                     /* after so many lists in a row the plug is pulled, and put in again; 0: never */
     unsigned devices, away, absent;
     unsigned pulled_ms, plugged, pause_ms; /* of several boards: when it is pulled out, and behind which it comes, so much later */
     unsigned slow_ms;                  /* what a transfer takes on the program's clock */

@@ -45,9 +45,9 @@ fate=
 code=0
 env LD_LIBRARY_PATH="$work" USB_SLOW=1500 USB_LOG="$work/log" ./dfu-flash new.dfu > out 2> err &
 sleep 0.5
-kill -INT "$!"
+kill -INT "$!" || :
 sleep 0.2
-kill -INT "$!"
+kill -INT "$!" || :
 wait "$!" || code=$?
 expect 'a second Ctrl-C' test "$code" -eq 130
 expect 'a second Ctrl-C: no report' test ! -s out
@@ -56,10 +56,10 @@ expect 'a second Ctrl-C: no report' test ! -s out
 code=0
 env LD_LIBRARY_PATH="$work" USB_SLOW=1000 USB_LOG="$work/log" ./dfu-flash new.dfu > out 2> err &
 sleep 0.5
-kill -TERM "$!"
-kill -TERM "$!"
+kill -TERM "$!" || :
+kill -TERM "$!" || :
 sleep 0.02
-kill -TERM "$!"
+kill -TERM "$!" || :
 wait "$!" || code=$?
 expect 'a signal that comes twice at once' test "$code-$(last_request)" = 11-ABORT
 

@@ -4,5 +4,7 @@ pub mod Sessions
 pub mod Refusals
 pub mod Told
 pub mod Maps
+pub mod FileRefusals
+pub mod Files
 pub mod Actions
 pub mod Calls

@@ -1,7 +1,10 @@
-//! The host of DfuSe for C, and memory maps: `include/dfuse_host.h` describes these calls.
+//! The host of DfuSe for C, and memory maps: `include/dfuse_host.h` describes these calls. DfuSe files: `include/dfuse_file.h` does.
 
 mod action;
 mod beginning;
+mod file;
+mod file_image;
+mod file_refusals;
 mod holding;
 mod map;
 mod phases;

@@ -3,7 +3,7 @@
 ghost use Rattle.std.specs.Prelude.{◌≡◌, ◌≤◌, length, take, true, IfOk, MatchResult, None, Some};
 ghost use Rattle.std.specs.List.Sorted.{IsPermutation};
 ghost use Rattle.dfuse_host.specs.Refusing.{ascends_from};
-ghost use Rattle.dfuse_file.specs.Images.{elements_for, image_fault, IsImage};
+ghost use Rattle.dfuse_file.specs.Images.{elements_for, image_fault, IsImage, ListsBehind};
 
 use crate::file::File;
 use crate::listing::put;
@@ -41,15 +41,15 @@ fn sort(count: usize, room: &mut [Element<'_>])
 }
 
 impl<'f> File<'f> {
-    /// Puts the elements of all targets of an alternate setting into the front of `room`, by their addresses: how many they are. Whether
-    /// they overlap is not looked at: a session refuses that.
+    /// Puts the elements of all targets of an alternate setting into the front of `room`, in the order of the file: how many they are. A
+    /// session wants them by their addresses.
     ///
     /// # Errors
     ///
     /// NoSuchSetting, or TooManyElements if `room` has fewer places.
-    pub fn image(&self, setting: u8, room: &mut [Element<'f>]) -> Result<usize, ImageFault>
+    pub fn listed(&self, setting: u8, room: &mut [Element<'f>]) -> Result<usize, ImageFault>
         ensures size { length room.new ≡ length room.old }
-        ensures image { IfOk result (λ n. IsImage (elements_for setting self.now.targets) n room.new) }
+        ensures listed { IfOk result (λ n. ListsBehind 0 (elements_for setting self.now.targets) room.old (Some n) room.new) }
         ensures fault { MatchResult result (λ n. image_fault (length room.old) setting self.now.targets ≡ None)
             (λ fault. image_fault (length room.old) setting self.now.targets ≡ Some fault) }
     {
@@ -68,6 +68,24 @@ impl<'f> File<'f> {
         if !has_target {
             return Err(ImageFault::NoSuchSetting);
         }
+        Ok(count)
+    }
+
+    /// The same, by their addresses. Whether they overlap is not looked at: a session refuses that.
+    ///
+    /// # Errors
+    ///
+    /// NoSuchSetting, or TooManyElements if `room` has fewer places.
+    pub fn image(&self, setting: u8, room: &mut [Element<'f>]) -> Result<usize, ImageFault>
+        ensures size { length room.new ≡ length room.old }
+        ensures image { IfOk result (λ n. IsImage (elements_for setting self.now.targets) n room.new) }
+        ensures fault { MatchResult result (λ n. image_fault (length room.old) setting self.now.targets ≡ None)
+            (λ fault. image_fault (length room.old) setting self.now.targets ≡ Some fault) }
+    {
+        let count = match self.listed(setting, room) {
+            Ok(count) => count,
+            Err(fault) => return Err(fault),
+        };
         sort(count, room);
         Ok(count)
     }

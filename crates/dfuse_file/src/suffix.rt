@@ -54,7 +54,7 @@ fn has_bad_crc(bytes: &[u8]) -> bool
     let (before, _) = bytes.split_at(bytes.len() - 4);
     let (_, crc) = tail(bytes).split_at(12);
     let mut over = Crc::new();
-    over.update_long(before);
+    over.update_small(before);
     LittleEndian::read_u32(crc) != over.value()
 }
 
@@ -110,11 +110,11 @@ fn read_signed(bytes: &[u8]) -> Result<Suffixed<'_>, FileFault>
     }
 }
 
-/// Reads the suffix.
+/// Reads the suffix, by the small table: a file is read once, and a library for C has none of the large ones.
 pub(crate) fn read_suffix(bytes: &[u8]) -> Result<Suffixed<'_>, FileFault>
     ensures { result ≡ suffix_at bytes.now }
 {
-    let fault = match dfu_suffix::read(bytes) {
+    let fault = match dfu_suffix::read_small(bytes) {
         Ok(_) => return Err(FileFault::NotDfuSe),
         Err(fault) => fault,
     };

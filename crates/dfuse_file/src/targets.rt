@@ -83,6 +83,7 @@ impl<'f> Targets<'f> {
     }
 
     /// Takes the first target off. Without one it changes nothing.
+    #[inline(always)]
     pub fn next_target(&mut self) -> Option<Target<'f>>
         ensures { MatchOption result ((self.old ≡ []) × (self.new ≡ [])) (λ t. self.old ≡ told t ∷ self.new) }
     {

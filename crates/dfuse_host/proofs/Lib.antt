@@ -1,4 +1,5 @@
 pub mod CloseLaws
+pub mod ForCallers
 pub mod ForgetLaws
 pub mod ImageLaws
 pub mod ReadBackLaws

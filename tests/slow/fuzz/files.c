@@ -12,13 +12,13 @@ ssize_t __real_write(int file, const void *bytes, size_t length);
 int __real_fchmod(int file, mode_t mode);
 int __real_mkstemp(char *name);
 int __real_link(const char *from, const char *to);
-int __real_renameat2(int from_folder, const char *from, int to_folder, const char *to, unsigned flags);
+int __real_own_rename(const char *from, const char *to);
 ssize_t __wrap_write(int file, const void *bytes, size_t length);
 int __wrap_fsync(int file);
 int __wrap_fchmod(int file, mode_t mode);
 int __wrap_mkstemp(char *name);
 int __wrap_link(const char *from, const char *to);
-int __wrap_renameat2(int from_folder, const char *from, int to_folder, const char *to, unsigned flags);
+int __wrap_own_rename(const char *from, const char *to);
 int __wrap_isatty(int file);
 
 static int with(int error)
@@ -61,9 +61,9 @@ int __wrap_link(const char *from, const char *to)
     return chance(temper.files_fail) ? with(any_error()) : __real_link(from, to);
 }
 
-int __wrap_renameat2(int from_folder, const char *from, int to_folder, const char *to, unsigned flags)
+int __wrap_own_rename(const char *from, const char *to)
 {
-    return chance(temper.files_fail) ? with(any_error()) : __real_renameat2(from_folder, from, to_folder, to, flags);
+    return chance(temper.files_fail) ? with(any_error()) : __real_own_rename(from, to);
 }
 
 int __wrap_isatty(int file)

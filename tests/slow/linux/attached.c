@@ -8,7 +8,8 @@
  * A device that leaves, by itself or by its fate, closes its socket, and is attached again, unless its application has no USB. A
  * transfer that is lost is not answered, until the program's time for it is over.
  *
- * usage: attached    (as root, until SIGTERM; the settings are those of the stand-in, in tests/usb/settings.c) */
+ * usage: attached [PORT]    (as root, until SIGTERM; at this port of the controller, 0 to 7, or 0. The settings are those of the stand-in,
+ * in tests/usb/settings.c) */
 #define _GNU_SOURCE
 #include "abi.h"
 #include "bus.h"
@@ -41,6 +42,7 @@ struct header {
 
 static volatile sig_atomic_t is_stopped;
 static int line = -1;
+static long port;
 static bool is_configured;
 static unsigned generation;
 
@@ -58,7 +60,7 @@ static bool attach(void)
     bool is = false;
     if (file < 0 || socketpair(AF_UNIX, SOCK_STREAM, 0, ends) != 0)
         fail_loudly("there is no %s", ATTACH);
-    length = snprintf(words, sizeof words, "0 %d %d %d", ends[1], DEVICE, FULL_SPEED);
+    length = snprintf(words, sizeof words, "%ld %d %d %d", port, ends[1], DEVICE, FULL_SPEED);
     is = write(file, words, (size_t)length) == length;
     close(file);
     close(ends[1]);
@@ -197,9 +199,10 @@ static bool serve(void)
     return transfer_all(&answer, sizeof answer, false) && (!is_in || count <= 0 || transfer_all(data, (size_t)count, false));
 }
 
-int main(void)
+int main(int count, char **words)
 {
     struct sigaction action = { .sa_handler = on_stop };
+    port = count > 1 ? strtol(words[1], NULL, 10) : 0;
     sigaction(SIGTERM, &action, NULL);
     signal(SIGPIPE, SIG_IGN);
     bus_start();

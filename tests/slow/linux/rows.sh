@@ -142,4 +142,7 @@ row 0 new 'Done!' USB_START=app dfu-util -D new.dfu
 row 0 old 'Received a total of 13 bytes' USB_ATTRIBUTES=07 dfu-util -U up-util
 expect cmp old up-util
 row 251 new '' USB_ATTRIBUTES=07 dfu-util -R -D new.dfu
+
+# shellcheck source=tests/slow/linux/all.sh
+. ./all.sh
 echo "$passed passed, $failed failed"

@@ -10,25 +10,25 @@ pub returns-in-Ok : goal.returns-in-Ok
 returns-in-Ok c =
     let b = c.args.bytes.now in
     let o = find (has_fault b) fault_order in
-    let none = no_fault c.read.result o _ c.in-Ok.is c.read.ensures.fault in
+    let none = no_fault c.read_small.result o _ c.in-Ok.is c.read_small.ensures.fault in
     sym (ap (λ (p : Option SuffixFault). suffix_by p b) none ∙ is_other b)
 
 pub read_signed-requires : goal.read_signed-requires
 read_signed-requires c =
     let b = c.args.bytes.now in
-    let first = (c.read.ensures.fault c.in-Err.fault).0 c.in-Err.is in
+    let first = (c.read_small.ensures.fault c.in-Err.fault).0 c.in-Err.is in
     long_enough b (first ∙ ap Some (is_the_fault c.in-Err.fault (sym c.is_dfuse.ensures ∙ c.if-is_dfuse.true)))
 
 pub returns-then-is_dfuse : goal.returns-then-is_dfuse
 returns-then-is_dfuse c =
     let b = c.args.bytes.now in
-    let first = (c.read.ensures.fault c.in-Err.fault).0 c.in-Err.is in
+    let first = (c.read_small.ensures.fault c.in-Err.fault).0 c.in-Err.is in
     c.read_signed.ensures ∙ sym (ap (λ (p : Option SuffixFault). suffix_by p b) first
     ∙ the_fault c.in-Err.fault b (sym c.is_dfuse.ensures ∙ c.if-is_dfuse.true))
 
 pub returns-else-is_dfuse : goal.returns-else-is_dfuse
 returns-else-is_dfuse c =
     let b = c.args.bytes.now in
-    let first = (c.read.ensures.fault c.in-Err.fault).0 c.in-Err.is in
+    let first = (c.read_small.ensures.fault c.in-Err.fault).0 c.in-Err.is in
     ap Err c.refusal.ensures ∙ sym (ap (λ (p : Option SuffixFault). suffix_by p b) first
     ∙ other_fault c.in-Err.fault b (sym c.is_dfuse.ensures ∙ c.if-is_dfuse.false))

@@ -1,0 +1,51 @@
+-- A DfuSe file, as records for C.
+use Rattle.std.specs.Prelude.{◌≡◌, ℕ, ℤ, List, length, Option, Some, None}
+use Rattle.dfuse_host.specs.declared.element.Element.{Element}
+use Rattle.dfuse_file.specs.Reading.{Content}
+use Rattle.dfuse_file.specs.Grammar.{IsDfuSe, First}
+use Rattle.dfuse_file.specs.Images.{elements_for, image_fault, one_setting, ListsBehind}
+use Rattle.dfuse_file.specs.declared.fault.FileFault.{FileFault}
+use Rattle.dfuse_file.specs.declared.image.ImageFault.{ImageFault}
+use Rattle.dfu_host_c.specs.dfuse.FileRefusals.{dfuse_refusal, image_refusal}
+use Rattle.dfu_host_c.specs.declared.dfuse.file.DfuseFile.{DfuseFile}
+
+-- The number of the setting that all targets are for; 256 if there are several.
+abbrev pub setting_number : Option ℕ → ℕ
+setting_number (Some setting) = setting
+setting_number None = 256
+
+-- What a file says as numbers: how many targets it has, their setting, and the identifiers of its suffix.
+abbrev pub file_record : Content → DfuseFile
+file_record f = record {
+  targets = length f.targets;
+  setting = setting_number (one_setting f.targets);
+  device = f.ids.device;
+  product = f.ids.product;
+  vendor = f.ids.vendor;
+}
+
+-- The bytes are no DfuSe file, and this is the number of their first fault.
+pub record IsNoDfuSe (bytes : List ℕ) (result : ℤ) : Type 0 where
+  pub fault : FileFault
+  pub first : First fault bytes
+  pub number_is : result ≡ dfuse_refusal fault
+
+-- The bytes are a DfuSe file, and the record says what it has.
+pub record HasFile (bytes : List ℕ) (r : DfuseFile) : Type 0 where
+  pub file : Content
+  pub is_file : IsDfuSe file bytes
+  pub says : r ≡ file_record file
+
+-- The bytes are a DfuSe file, and the first places have all its elements for this setting, which are so many, in the order of the file.
+pub record HasElements (bytes : List ℕ) (setting : ℕ) (old new : List Element) (count : ℕ) : Type 0 where
+  pub file : Content
+  pub is_file : IsDfuSe file bytes
+  pub listed : ListsBehind 0 (elements_for setting file.targets) old (Some count) new
+
+-- The bytes are a DfuSe file, and this is the number of why there is no image of this setting in so many places.
+pub record HasNoElements (bytes : List ℕ) (setting : ℕ) (places : ℕ) (result : ℤ) : Type 0 where
+  pub file : Content
+  pub fault : ImageFault
+  pub is_file : IsDfuSe file bytes
+  pub first : image_fault places setting file.targets ≡ Some fault
+  pub number_is : result ≡ image_refusal fault

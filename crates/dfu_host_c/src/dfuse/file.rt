@@ -1,0 +1,61 @@
+//! What a DfuSe file says, as a record for C.
+
+ghost use Rattle.std.specs.Prelude.{◌≡◌, ◌⊎◌, pos};
+ghost use Rattle.dfu_host_c.specs.dfuse.Files.{file_record, setting_number, HasFile, IsNoDfuSe};
+
+use crate::dfuse::file_refusals;
+use dfuse_file::{File, read};
+
+/// `struct dfuse_file`: what a DfuSe file says. The header says what each number means.
+#[repr(C)]
+#[derive(Drop)]
+pub struct DfuseFile {
+    /// How many targets there are, 1 to 255.
+    pub targets: u32,
+    /// The alternate setting that all targets are for, 0 to 255; 256 if there are several.
+    pub setting: u32,
+    /// bcdDevice.
+    pub device: u16,
+    /// idProduct.
+    pub product: u16,
+    /// idVendor.
+    pub vendor: u16,
+}
+
+/// The number of a setting, or of none.
+fn setting_number(setting: Option<u8>) -> u32
+    ensures { result ≡ setting_number setting }
+{
+    match setting {
+        Some(number) => u32::from(number),
+        None => 256,
+    }
+}
+
+/// The record of a file.
+fn file_record(file: &File<'_>) -> DfuseFile
+    ensures { result ≡ file_record file.now }
+{
+    let ids = file.ids();
+    DfuseFile {
+        targets: u32::from(file.targets().len()),
+        setting: setting_number(file.setting()),
+        device: ids.device,
+        product: ids.product,
+        vendor: ids.vendor,
+    }
+}
+
+/// Reads a DfuSe file: 0, or its first fault.
+#[unsafe(no_mangle)]
+pub extern "C" fn dfuse_read_file(file: &[u8], out: &mut DfuseFile) -> i32
+    ensures outcome { ((result ≡ pos 0) × HasFile file.now out.new) ⊎ (IsNoDfuSe file.now result × (out.new ≡ out.old)) }
+{
+    match read(file) {
+        Ok(read) => {
+            *out = file_record(&read);
+            0
+        }
+        Err(fault) => file_refusals::of_file(fault),
+    }
+}

@@ -1,0 +1,35 @@
+//! What a DfuSe file has for an alternate setting, for C.
+
+ghost use Rattle.std.specs.Prelude.{◌≡◌, ◌⊎◌, length, pos};
+ghost use Rattle.dfu_host_c.specs.dfuse.Files.{HasElements, HasNoElements, IsNoDfuSe};
+
+use crate::dfuse::file_refusals;
+use dfuse_file::read;
+use dfuse_host::Element;
+
+/// Lists the elements of a DfuSe file for an alternate setting, in the order of the file, at the front of the places: 0, or the file's
+/// first fault, or why it has no such image.
+#[unsafe(no_mangle)]
+pub extern "C" fn dfuse_file_image<'f>(
+    file: &'f [u8],
+    setting: u8,
+    places: &mut [Element<'f>],
+    count: &mut u64,
+) -> i32
+    ensures size { length places.new ≡ length places.old }
+    ensures outcome { ((result ≡ pos 0) × HasElements file.now setting places.old places.new count.new)
+        ⊎ (IsNoDfuSe file.now result × (places.new ≡ places.old) × (count.new ≡ count.old))
+        ⊎ (HasNoElements file.now setting (length places.old) result × (count.new ≡ count.old)) }
+{
+    let read = match read(file) {
+        Ok(read) => read,
+        Err(fault) => return file_refusals::of_file(fault),
+    };
+    match read.listed(setting, places) {
+        Ok(found) => {
+            *count = found as u64;
+            0
+        }
+        Err(fault) => file_refusals::of_image(fault),
+    }
+}

@@ -1,0 +1,64 @@
+use Rattle.std.proofs.Common.{◌≡◌, List, length, refl, sym, ap, ◌∙◌, subst, arith}
+use Rattle.dfuse_file.specs.Reading.{Target}
+use Rattle.dfuse_file.specs.Images.{elements_for, image_fault}
+use Rattle.dfuse_file.proofs.ImageLaws.{past_other, past_this, too_many_here, at_end, no_such, no_image_fault}
+use Rattle.dfuse_file.proofs.file.File.listed.Goals as goal
+
+pub loop-target-init : goal.loop-target-init
+loop-target-init c = record {
+  within = omega arith;
+  size = refl;
+  looked = record { number = omega arith; listed = refl; has_it = refl };
+}
+
+pub loop-target-preserved-in-Some-put : goal.loop-target-preserved-in-Some-put
+loop-target-preserved-in-Some-put c =
+    let s = c.args.setting in
+    let put = c.in-Some-put.ensures.listed in
+    let i = c.loop-target.invariant in record {
+      within = put.1;
+      size = c.in-Some-put.ensures.size ∙ i.size;
+      looked = past_this s c.loop-target.room c.put.new.room c.loop-target.count c.in-Some-put.n c.loop-target.has_target c.loop-target.targets
+          c.targets-targets.result c.next_target.new.self _ i.looked c.in-Some.ensures c.if-target-setting.true put.0 put.2;
+    }
+
+pub returns-in-None-clause-fault : goal.returns-in-None-clause-fault
+returns-in-None-clause-fault c =
+    let i = c.loop-target.invariant in
+    let more = c.in-None.ensures.listed in
+    let here = too_many_here c.args.setting (length c.args.room.now) c.loop-target.room c.loop-target.count c.loop-target.has_target c.loop-target.targets
+    c.targets-targets.result c.next_target.new.self _ i.looked c.in-Some.ensures c.if-target-setting.true (omega (arith, more, i.size)) in
+    subst (λ (all : List Target). image_fault (length c.args.room.now) c.args.setting all ≡ _) c.targets-targets.ensures here
+
+pub loop-target-preserved : goal.loop-target-preserved
+loop-target-preserved c =
+    let i = c.loop-target.invariant in record {
+      within = i.within;
+      size = i.size;
+      looked = past_other c.args.setting c.loop-target.room c.loop-target.count c.loop-target.has_target c.loop-target.targets c.targets-targets.result
+          c.next_target.new.self _ i.looked c.in-Some.ensures c.if-target-setting.false;
+    }
+
+pub returns-then-not-has_target-clause-fault : goal.returns-then-not-has_target-clause-fault
+returns-then-not-has_target-clause-fault c =
+    let i = c.loop-target.invariant in
+    let end = at_end c.args.setting c.loop-target.room c.loop-target.count c.loop-target.has_target c.loop-target.targets c.targets-targets.result i.looked
+    c.in_default.ensures.0 in
+    subst (λ (all : List Target). image_fault (length c.args.room.now) c.args.setting all ≡ _) c.targets-targets.ensures
+    (no_such (length c.args.room.now) c.args.setting c.targets-targets.result (sym end.2 ∙ c.if-not-has_target.true))
+
+pub returns-clause-listed : goal.returns-clause-listed
+returns-clause-listed c =
+    let i = c.loop-target.invariant in
+    let end = at_end c.args.setting c.loop-target.room c.loop-target.count c.loop-target.has_target c.loop-target.targets c.targets-targets.result i.looked
+    c.in_default.ensures.0 in
+    let all = ap (elements_for c.args.setting) c.targets-targets.ensures in
+    (omega (arith, end.0 ∙ ap length all), i.within, end.1 ∙ all)
+
+pub returns-clause-fault : goal.returns-clause-fault
+returns-clause-fault c =
+    let i = c.loop-target.invariant in
+    let end = at_end c.args.setting c.loop-target.room c.loop-target.count c.loop-target.has_target c.loop-target.targets c.targets-targets.result i.looked
+    c.in_default.ensures.0 in
+    subst (λ (all : List Target). image_fault (length c.args.room.now) c.args.setting all ≡ _) c.targets-targets.ensures
+    (no_image_fault (length c.args.room.now) c.args.setting c.targets-targets.result (sym end.2 ∙ c.if-not-has_target.false) (omega (arith, end.0, i.within, i.size)))

@@ -1,0 +1,13 @@
+use Rattle.std.proofs.Common.{◌≡◌, ◌≤◌, length}
+use Rattle.dfuse_file.proofs.ImageLaws.{Looked}
+use Rattle.dfuse_file.proofs.file.File.listed.Given as goal
+
+abbrev pub invariant-loop-target : goal.invariant-loop-target
+invariant-loop-target l = record {
+  within : l.count ≤ length l.room;
+  size : length l.room ≡ length l.initial.room;
+  looked : Looked l.setting l.room l.count l.has_target l.targets l.initial.targets;
+}
+
+abbrev pub decreases-loop-target : goal.decreases-loop-target
+decreases-loop-target l = length l.targets

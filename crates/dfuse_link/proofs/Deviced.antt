@@ -1,0 +1,194 @@
+-- What requests make of a device.
+use Rattle.std.proofs.Common.{◌≡◌, ℕ, List, [], Option, Some, ◌⊎◌, inl, inr, refl, sym, subst}
+use Rattle.dfu_wire.specs.declared.states.State.{State}
+use Rattle.dfu_wire.specs.declared.states.State.TheVariants as state
+use Rattle.dfu_wire.specs.declared.requests.Request.{Request}
+use Rattle.dfu_wire.specs.declared.requests.Request.TheVariants as request
+use Rattle.dfuse_host.specs.declared.place.Place.{Place}
+use Rattle.dfuse_host.proofs.ForCallers.{AnyCommand, by_command}
+use Rattle.dfuse_link.specs.Chips.{Chip, Order, Doing, Rests, Pending, Busy, state_in, Device, IsPointed, Advances, goes_on, ends, fails}
+use Rattle.dfuse_link.specs.Reactions.{Reaction, Acks, order_of, doing_now, set_off, told_of, Reacts, stalls, stops, takes, closes, gives, lists, tells, shows, aborts}
+use Rattle.dfuse_link.specs.Histories.{Arrives, never, again}
+use Rattle.dfuse_link.proofs.Claims.{IsQuiet, Knows, IsOrderOf, IsDone, MayHave, Has}
+
+-- ---- what a device does
+
+pub not_busy : (doing : Doing) (order : Order) → doing ≡ Busy order → IsQuiet doing → ⊥
+not_busy doing order e h = subst IsQuiet e h
+
+pub idle_quiet : (doing : Doing) → state_in doing ≡ state.DfuIdle → IsQuiet doing
+idle_quiet (Rests s) e = subst (λ (t : State). IsQuiet (Rests t)) (sym e) tt
+idle_quiet (Pending order) e = cc
+idle_quiet (Busy order) e = cc
+
+pub have_quiet : (c : AnyCommand) (doing : Doing) → IsQuiet doing → MayHave c doing
+have_quiet c (Rests s) h = h
+have_quiet c (Pending order) h = absurd h
+have_quiet c (Busy order) h = h
+
+-- ---- requests that start nothing
+
+-- A device stays quiet, and its pointer stays.
+pub record KeepsQuiet (d d' : Device) : Type 0 where
+  pub quiet : IsQuiet d.doing → IsQuiet d'.doing
+  pub pointer : d'.pointer ≡ d.pointer
+
+module _ (chip : Chip) where
+  abort_quiet : (d d' : Device) (body : List ℕ) (r : Reaction) → Reacts chip d request.Abort body r d' → KeepsQuiet d d'
+  abort_quiet d _ body _ (stalls _ _ may) = record { quiet = λ h. h; pointer = refl }
+  abort_quiet d _ body _ (stops _ _ may) = record { quiet = λ h. tt; pointer = refl }
+  abort_quiet d _ body _ (aborts _ may) = record { quiet = λ h. tt; pointer = refl }
+
+  state_quiet : (d d' : Device) (n : ℕ) (body : List ℕ) (r : Reaction) → Reacts chip d (request.GetState n) body r d' → KeepsQuiet d d'
+  state_quiet d _ n body _ (stalls _ _ may) = record { quiet = λ h. h; pointer = refl }
+  state_quiet d _ n body _ (stops _ _ may) = record { quiet = λ h. tt; pointer = refl }
+  state_quiet d _ n body _ (shows _ _) = record { quiet = λ h. h; pointer = refl }
+
+  behind_reading : (s : State) → (s ≡ state.DfuIdle) ⊎ (s ≡ state.UploadIdle) → IsQuiet (Rests s)
+  behind_reading s (inl e) = subst (λ (t : State). IsQuiet (Rests t)) (sym e) tt
+  behind_reading s (inr e) = subst (λ (t : State). IsQuiet (Rests t)) (sym e) tt
+
+  upload_quiet : (d d' : Device) (block n : ℕ) (body : List ℕ) (r : Reaction) → Reacts chip d (request.Upload block n) body r d' →
+      KeepsQuiet d d'
+  upload_quiet d _ block n body _ (stalls _ _ may) = record { quiet = λ h. h; pointer = refl }
+  upload_quiet d _ block n body _ (stops _ _ may) = record { quiet = λ h. tt; pointer = refl }
+  upload_quiet d _ block n body _ (gives _ _ _ bytes s may from most stands is) =
+      record { quiet = λ h. behind_reading s is; pointer = refl }
+  upload_quiet d _ block n body _ (lists _ _ _ bytes may low) = record { quiet = λ h. tt; pointer = refl }
+
+  -- What each reaction keeps, all of them keep.
+  pub kept : (P : Device → Type 0) (q : Request) (body : List ℕ) → ((d d' : Device) (r : Reaction) → Reacts chip d q body r d' → P d →
+      P d') →
+      (d d' : Device) (r : Option Reaction) → Arrives chip q body d r d' → P d → P d'
+  kept P q body keeps d _ _ never h = h
+  kept P q body keeps d d' _ (again {before = before} {mid = mid} {reaction = reaction} first last) h =
+      keeps mid d' reaction last (kept P q body keeps d mid before first h)
+
+  still_quiet : (p : Place) (d d' : Device) → KeepsQuiet d d' → IsQuiet d.doing × Knows p d.pointer → IsQuiet d'.doing × Knows p d'.pointer
+  still_quiet p d d' k h = (k.quiet h.0, subst (λ (x : ℕ). Knows p x) (sym k.pointer) h.1)
+
+  pub aborts_quiet : (p : Place) (d d' : Device) (body : List ℕ) (r : Option Reaction) → Arrives chip request.Abort body d r d' →
+      IsQuiet d.doing × Knows p d.pointer → IsQuiet d'.doing × Knows p d'.pointer
+  aborts_quiet p d d' body r comes h =
+      kept (λ x. IsQuiet x.doing × Knows p x.pointer) request.Abort body
+      (λ x y reaction step k. still_quiet p x y (abort_quiet x y body reaction step) k) d d' r comes h
+
+  pub uploads_quiet : (p : Place) (d d' : Device) (block n : ℕ) (body : List ℕ) (r : Option Reaction) →
+      Arrives chip (request.Upload block n) body d r d' →
+      IsQuiet d.doing × Knows p d.pointer → IsQuiet d'.doing × Knows p d'.pointer
+  uploads_quiet p d d' block n body r comes h =
+      kept (λ x. IsQuiet x.doing × Knows p x.pointer) (request.Upload block n) body
+      (λ x y reaction step k. still_quiet p x y (upload_quiet x y block n body reaction step) k) d d' r comes h
+
+  -- ---- a command comes
+
+  module _ (c : AnyCommand) (p : Place) where
+    have_state : (d d' : Device) (n : ℕ) (body : List ℕ) (r : Reaction) → Reacts chip d (request.GetState n) body r d' →
+        MayHave c d.doing × Knows p d.pointer → MayHave c d'.doing × Knows p d'.pointer
+    have_state d _ n body _ (stalls _ _ may) h = h
+    have_state d _ n body _ (stops _ _ may) h = (tt, h.1)
+    have_state d _ n body _ (shows _ _) h = h
+
+    pub states_have : (d d' : Device) (n : ℕ) (body : List ℕ) (r : Option Reaction) → Arrives chip (request.GetState n) body d r d' →
+        MayHave c d.doing × Knows p d.pointer → MayHave c d'.doing × Knows p d'.pointer
+    states_have d d' n body r comes h =
+        kept (λ x. MayHave c x.doing × Knows p x.pointer) (request.GetState n) body
+        (λ x y reaction step k. have_state x y n body reaction step k) d d' r comes h
+
+    -- The order of a DNLOAD is the command's, if the pointer is where it is known to be.
+    abbrev pub IsOf : (block : ℕ) → (body : List ℕ) → Type 0
+    IsOf block body = (pointer : ℕ) → Knows p pointer → IsOrderOf c (order_of chip pointer block body)
+
+    have_sent : (d : Device) (block n : ℕ) (body : List ℕ) (r : Reaction) (d' : Device) → IsOf block body →
+        Reacts chip d (request.Dnload block n) body r d' →
+        MayHave c d.doing × Knows p d.pointer → MayHave c d'.doing × Knows p d'.pointer
+    have_sent d block n body _ _ is (stalls _ _ may) h = h
+    have_sent d block n body _ _ is (stops _ _ may) h = (tt, h.1)
+    have_sent d block n body _ _ is (takes _ _ _ may some) h = (is d.pointer h.1, h.1)
+    have_sent d block n _ _ _ is (closes _ _ may) h = (tt, h.1)
+
+    pub sent_have : (d d' : Device) (block n : ℕ) (body : List ℕ) (r : Option Reaction) → IsOf block body →
+        Arrives chip (request.Dnload block n) body d r d' → MayHave c d.doing × Knows p d.pointer → MayHave c d'.doing × Knows p d'.pointer
+    sent_have d d' block n body r is comes h =
+        kept (λ x. MayHave c x.doing × Knows p x.pointer) (request.Dnload block n) body
+        (λ x y reaction step k. have_sent x block n body reaction y is step k) d d' r comes h
+
+    -- A DNLOAD of a command that is acknowledged brought it.
+    ack_has : (d : Device) (block n : ℕ) (body : List ℕ) (r : Reaction) (d' : Device) → r ≡ Acks → IsOf block body →
+        ((pointer : ℕ) → body ≡ [] → IsDone c pointer) →
+        Reacts chip d (request.Dnload block n) body r d' → Knows p d.pointer → Has c d'.doing d'.pointer
+    ack_has d block n body _ _ e is some (stalls _ _ may) h = cc
+    ack_has d block n body _ _ e is some (stops _ _ may) h = cc
+    ack_has d block n body _ _ e is some (takes _ _ _ may any) h = is d.pointer h
+    ack_has d block n _ _ _ e is some (closes _ _ may) h = some d.pointer refl
+
+    pub acked_has : (d d' : Device) (block n : ℕ) (body : List ℕ) → IsOf block body → ((pointer : ℕ) → body ≡ [] → IsDone c pointer) →
+        Arrives chip (request.Dnload block n) body d (Some Acks) d' → MayHave c d.doing × Knows p d.pointer → Has c d'.doing d'.pointer
+    acked_has d d' block n body is some (again {before = before} {mid = mid} first last) h =
+        ack_has mid block n body Acks d' refl is some last (sent_have d mid block n body before is first h).1
+
+    -- ---- a command is started
+
+    done_has : (s : State) (pointer : ℕ) → IsDone c pointer → Has c (Rests s) pointer
+    done_has state.Error pointer h = tt
+    done_has s pointer h = h
+
+    set_off_has : (doing : Doing) (pointer : ℕ) → Has c doing pointer → Has c (set_off doing) pointer
+    set_off_has (Rests s) pointer h = h
+    set_off_has (Pending order) pointer h = h
+    set_off_has (Busy order) pointer h = h
+
+    told_has : (doing : Doing) (pointer : ℕ) → Has c doing pointer → Has c (told_of doing) pointer
+    told_has (Rests state.DownloadSync) pointer h = h
+    told_has (Rests state.DownloadBusy) pointer h = h
+    told_has (Rests state.ManifestSync) pointer h = h
+    told_has doing pointer h = h
+
+    pointed_done : (order : Order) (pointer : ℕ) → IsOrderOf c order → IsPointed order pointer → IsDone c pointer
+    pointed_done order pointer =
+        by_command (λ v. IsOrderOf v order → IsPointed order pointer → IsDone v pointer)
+        (λ at e h. subst (λ (x : Order). IsPointed x pointer) e h) (λ at e h. tt) (λ at e h. tt) c
+
+    order_is : (doing : Doing) (order : Order) (pointer : ℕ) → doing ≡ Busy order → Has c doing pointer → IsOrderOf c order
+    order_is doing order pointer e h = subst (λ (x : Doing). Has c x pointer) e h
+
+    pub advances_has : (d d' : Device) → Advances chip d d' → Has c d.doing d.pointer → Has c d'.doing d'.pointer
+    advances_has d d' (goes_on order e e' changed) h =
+        subst (λ (x : Doing). Has c x d'.pointer) (sym e') (order_is d.doing order d.pointer e h)
+    advances_has d d' (ends order s e e' end changed pointed) h =
+        subst (λ (x : Doing). Has c x d'.pointer) (sym e')
+        (done_has s d'.pointer (pointed_done order d'.pointer (order_is d.doing order d.pointer e h) pointed))
+    advances_has d d' (fails order e e' changed) h = subst (λ (x : Doing). Has c x d'.pointer) (sym e') tt
+
+    mid_has : (d mid : Device) → (mid ≡ doing_now d (set_off d.doing)) ⊎ Advances chip (doing_now d (set_off d.doing)) mid →
+        Has c d.doing d.pointer →
+        Has c mid.doing mid.pointer
+    mid_has d mid (inl e) h = subst (λ (x : Device). Has c x.doing x.pointer) (sym e) (set_off_has d.doing d.pointer h)
+    mid_has d mid (inr a) h = advances_has (doing_now d (set_off d.doing)) mid a (set_off_has d.doing d.pointer h)
+
+    status_has : (d d' : Device) (n : ℕ) (body : List ℕ) (r : Reaction) → Reacts chip d (request.GetStatus n) body r d' →
+        Has c d.doing d.pointer → Has c d'.doing d'.pointer
+    status_has d _ n body _ (stalls _ _ may) h = h
+    status_has d _ n body _ (stops _ _ may) h = tt
+    status_has d _ n body _ (tells _ _ bytes status mid way is same) h = told_has mid.doing mid.pointer (mid_has d mid way h)
+
+    pub statuses_have : (d d' : Device) (n : ℕ) (body : List ℕ) (r : Option Reaction) → Arrives chip (request.GetStatus n) body d r d' →
+        Has c d.doing d.pointer → Has c d'.doing d'.pointer
+    statuses_have d d' n body r comes h =
+        kept (λ x. Has c x.doing x.pointer) (request.GetStatus n) body (λ x y reaction step k. status_has x y n body reaction step k) d d'
+        r comes h
+
+    -- A device that tells dfuDNLOAD-IDLE is quiet, and the command is done.
+    pub told_done : (doing : Doing) (pointer : ℕ) → state_in doing ≡ state.DownloadIdle → Has c doing pointer → IsQuiet doing ×
+        IsDone c pointer
+    told_done (Rests s) pointer e h =
+        let k = subst (λ (t : State). Has c (Rests t) pointer) e h in
+        (subst (λ (t : State). IsQuiet (Rests t)) (sym e) tt, k)
+    told_done (Pending order) pointer e h = cc
+    told_done (Busy order) pointer e h = cc
+
+    -- A device that tells dfuDNLOAD-SYNC has the command.
+    pub synced_has : (doing : Doing) (pointer : ℕ) → state_in doing ≡ state.DownloadSync → MayHave c doing → Has c doing pointer
+    synced_has (Rests s) pointer e h = absurd (subst (λ (t : State). IsQuiet (Rests t)) e h)
+    synced_has (Pending order) pointer e h = h
+    synced_has (Busy order) pointer e h = absurd h

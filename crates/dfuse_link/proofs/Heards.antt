@@ -1,0 +1,131 @@
+-- What a session hears is what the device meant.
+use Rattle.std.proofs.Common.{◌≡◌, ℕ, List, [], ◌∷◌, Option, Some, None, slice_index_or, refl, sym, ap, ◌∙◌, subst}
+use Rattle.dfu_wire.specs.declared.states.State.{State}
+use Rattle.dfu_wire.specs.declared.states.State.TheVariants as state
+use Rattle.dfu_wire.specs.declared.requests.Request.TheVariants as request
+use Rattle.dfu_wire.specs.State.{state_byte}
+use Rattle.dfu_wire.specs.Status.{StatusFields, IsStatus}
+use Rattle.dfu_wire.specs.OneStatus.{IsStatus-one}
+use Rattle.dfuse_host.specs.declared.plan.Plan.{Plan}
+use Rattle.dfuse_host.specs.declared.work.Work.{Work}
+use Rattle.dfuse_host.specs.declared.step.Step.{Step}
+use Rattle.dfuse_host.specs.declared.seen.Seen.{Seen}
+use Rattle.dfuse_host.specs.declared.seen.Seen.TheVariants as seen
+use Rattle.dfuse_host.specs.Wire.{ReadsStatus, ReadsState, HearsBytes, Hears}
+use Rattle.dfuse_host.proofs.ForCallers.{AnyHeard, by_heard}
+use Rattle.dfuse_link.specs.Chips.{Chip, state_in, Device}
+use Rattle.dfuse_link.specs.Reactions.{Reaction, Acks, Data, Stalls, Reacts, stalls, stops, tells, shows}
+use Rattle.dfuse_link.specs.Histories.{Arrives, never, again, IsSeenOf}
+use Rattle.dfuse_link.proofs.Claims.{SaysState}
+
+-- The states in the order of their numbers.
+abbrev states : List State
+states =
+    state.AppIdle ∷ state.AppDetach ∷ state.DfuIdle ∷ state.DownloadSync ∷ state.DownloadBusy ∷ state.DownloadIdle
+    ∷ state.ManifestSync ∷ state.Manifest ∷ state.ManifestWaitReset ∷ state.UploadIdle ∷ state.Error ∷ []
+
+-- The state of a number.
+abbrev state_numbered : ℕ → State
+state_numbered n = slice_index_or states n state.Error
+
+state_back : (s : State) → state_numbered (state_byte s) ≡ s
+state_back state.AppIdle = refl
+state_back state.AppDetach = refl
+state_back state.DfuIdle = refl
+state_back state.DownloadSync = refl
+state_back state.DownloadBusy = refl
+state_back state.DownloadIdle = refl
+state_back state.ManifestSync = refl
+state_back state.Manifest = refl
+state_back state.ManifestWaitReset = refl
+state_back state.UploadIdle = refl
+state_back state.Error = refl
+
+one_state : (s t : State) → state_byte s ≡ state_byte t → s ≡ t
+one_state s t e = sym (state_back s) ∙ ap state_numbered e ∙ state_back t
+
+-- ---- what a device sends
+
+-- Bytes that answer GETSTATE are the device's state.
+abbrev pub StateSent : Option Reaction → Device → Type 0
+StateSent (Some (Data bytes)) d = bytes ≡ state_byte (state_in d.doing) ∷ []
+StateSent r d = Unit {0}
+
+-- Bytes that answer GETSTATUS are a status of the device's state.
+pub record SendsStatus (bytes : List ℕ) (d : Device) : Type 0 where
+  pub status : StatusFields
+  pub is : IsStatus status bytes
+  pub same : status.state ≡ state_in d.doing
+
+abbrev pub StatusSent : Option Reaction → Device → Type 0
+StatusSent (Some (Data bytes)) d = SendsStatus bytes d
+StatusSent r d = Unit {0}
+
+module _ (chip : Chip) where
+  reacted_state : (d : Device) (n : ℕ) (body : List ℕ) (r : Reaction) (d' : Device) → Reacts chip d (request.GetState n) body r d' →
+      StateSent (Some r) d'
+  reacted_state d n body _ _ (stalls _ _ may) = tt
+  reacted_state d n body _ _ (stops _ _ may) = tt
+  reacted_state d n body _ _ (shows _ _) = refl
+
+  pub arrived_state : (d : Device) (n : ℕ) (body : List ℕ) (r : Option Reaction) (d' : Device) →
+      Arrives chip (request.GetState n) body d r d' → StateSent r d'
+  arrived_state d n body _ _ never = tt
+  arrived_state d n body _ d' (again {before = before} {mid = mid} {reaction = reaction} first last) =
+      reacted_state mid n body reaction d' last
+
+  reacted_status : (d : Device) (n : ℕ) (body : List ℕ) (r : Reaction) (d' : Device) → Reacts chip d (request.GetStatus n) body r d' →
+      StatusSent (Some r) d'
+  reacted_status d n body _ _ (stalls _ _ may) = tt
+  reacted_status d n body _ _ (stops _ _ may) = tt
+  reacted_status d n body _ _ (tells _ _ bytes status mid way is same) = record { status = status; is = is; same = same }
+
+  pub arrived_status : (d : Device) (n : ℕ) (body : List ℕ) (r : Option Reaction) (d' : Device) →
+      Arrives chip (request.GetStatus n) body d r d' → StatusSent r d'
+  arrived_status d n body _ _ never = tt
+  arrived_status d n body _ d' (again {before = before} {mid = mid} {reaction = reaction} first last) =
+      reacted_status mid n body reaction d' last
+
+-- ---- what a session hears
+
+state_heard : (bytes : List ℕ) (h : AnyHeard) (t : State) → ReadsState bytes h → bytes ≡ state_byte t ∷ [] → SaysState h t
+state_heard bytes h t =
+    by_heard (λ x. ReadsState bytes x → bytes ≡ state_byte t ∷ [] → SaysState x t) (λ r e. tt) (λ s r e. absurd r)
+    (λ s r e. one_state t s (ap (λ (xs : List ℕ). slice_index_or xs 0 0) (sym e ∙ r))) (λ b r e. tt) (λ r e. tt) (λ r e. tt) (λ r e. tt)
+    (λ r e. tt) h
+
+status_heard : (bytes : List ℕ) (h : AnyHeard) (d : Device) → ReadsStatus bytes h → SendsStatus bytes d → SaysState h (state_in d.doing)
+status_heard bytes h d =
+    by_heard (λ x. ReadsStatus bytes x → SendsStatus bytes d → SaysState x (state_in d.doing)) (λ r e. tt)
+    (λ s r e. sym e.same ∙ ap (λ (z : StatusFields). z.state) (IsStatus-one e.status s bytes e.is r)) (λ s r e. absurd r)
+    (λ b r e. tt) (λ r e. tt) (λ r e. tt) (λ r e. tt) (λ r e. tt) h
+
+module _ (plan : Plan) (w : Work) (s : Step) (h : AnyHeard) (d : Device) where
+  -- What is heard of GETSTATE.
+  pub says_state : ((bytes : List ℕ) → HearsBytes plan w s bytes h → ReadsState bytes h) → (r : Option Reaction) (x : Seen) → IsSeenOf r x →
+      StateSent r d → Hears plan w s x h → SaysState h (state_in d.doing)
+  says_state reads r seen.Ack is sent e = subst (λ x. SaysState x (state_in d.doing)) (sym e) tt
+  says_state reads r seen.Stall is sent e = subst (λ x. SaysState x (state_in d.doing)) (sym e) tt
+  says_state reads r seen.Nothing is sent e = subst (λ x. SaysState x (state_in d.doing)) (sym e) tt
+  says_state reads r seen.Waited is sent e = subst (λ x. SaysState x (state_in d.doing)) (sym e) tt
+  says_state reads r seen.Restarted is sent e = subst (λ x. SaysState x (state_in d.doing)) (sym e) tt
+  says_state reads (Some (Data bytes)) (seen.Bytes given) is sent e =
+      state_heard given.now h (state_in d.doing) (reads given.now e) (is ∙ sent)
+  says_state reads (Some Acks) (seen.Bytes given) is sent e = absurd is
+  says_state reads (Some Stalls) (seen.Bytes given) is sent e = absurd is
+  says_state reads None (seen.Bytes given) is sent e = absurd is
+
+  -- What is heard of GETSTATUS.
+  pub says_status : ((bytes : List ℕ) → HearsBytes plan w s bytes h → ReadsStatus bytes h) → (r : Option Reaction) (x : Seen) →
+      IsSeenOf r x →
+      StatusSent r d → Hears plan w s x h → SaysState h (state_in d.doing)
+  says_status reads r seen.Ack is sent e = subst (λ x. SaysState x (state_in d.doing)) (sym e) tt
+  says_status reads r seen.Stall is sent e = subst (λ x. SaysState x (state_in d.doing)) (sym e) tt
+  says_status reads r seen.Nothing is sent e = subst (λ x. SaysState x (state_in d.doing)) (sym e) tt
+  says_status reads r seen.Waited is sent e = subst (λ x. SaysState x (state_in d.doing)) (sym e) tt
+  says_status reads r seen.Restarted is sent e = subst (λ x. SaysState x (state_in d.doing)) (sym e) tt
+  says_status reads (Some (Data bytes)) (seen.Bytes given) is sent e =
+      status_heard given.now h d (reads given.now e) (subst (λ (xs : List ℕ). SendsStatus xs d) (sym is) sent)
+  says_status reads (Some Acks) (seen.Bytes given) is sent e = absurd is
+  says_status reads (Some Stalls) (seen.Bytes given) is sent e = absurd is
+  says_status reads None (seen.Bytes given) is sent e = absurd is

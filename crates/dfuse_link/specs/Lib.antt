@@ -1,0 +1,6 @@
+pub mod Chips
+pub mod Fronts
+pub mod Histories
+pub mod Promises
+pub mod Reactions
+pub mod Touched

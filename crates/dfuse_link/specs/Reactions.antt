@@ -1,0 +1,102 @@
+-- What a device answers to a request, and what it does then.
+use Rattle.std.specs.Prelude.{◌≡◌, ◌⊎◌, ℕ, ◌+◌, ◌-◌, ◌*◌, ◌<◌, ◌≤◌, ◌==◌, nat_le, List, [], ◌∷◌, length, slice_index, if◌then◌else◌}
+use Rattle.std.specs.Int.{w32, from_le_bytes}
+use Rattle.dfu_wire.specs.declared.states.State.{State}
+use Rattle.dfu_wire.specs.declared.states.State.TheVariants as state
+use Rattle.dfu_wire.specs.declared.requests.Request.{Request}
+use Rattle.dfu_wire.specs.declared.requests.Request.TheVariants as request
+use Rattle.dfu_wire.specs.State.{state_byte}
+use Rattle.dfu_wire.specs.Status.{StatusFields, IsStatus}
+use Rattle.dfuse_link.specs.Chips.{Chip, Order, Points, Erases, Programs, Other, Doing, Rests, Pending, Busy, state_in, Device, Advances}
+
+-- A request is acknowledged, answered with bytes, or stalled.
+pub data Reaction : Type 0 where
+  Acks : Reaction
+  Data : (bytes : List ℕ) → Reaction
+  Stalls : Reaction
+
+-- The order of a number and an address: 21h sets the pointer, 41h erases.
+abbrev pub order_at : (number at : ℕ) → Order
+order_at number at = if number == 0x21 then Points at else (if number == 0x41 then Erases at else Other)
+
+-- The order in the body of a DNLOAD of block 0: a number, and an address of four bytes, the low one first.
+abbrev pub order_in : List ℕ → Order
+order_in [] = Other
+order_in (number ∷ address) = if length address == 4 then order_at number (from_le_bytes w32 address) else Other
+
+-- The order of a DNLOAD: bytes for the pointer from block 2 on, and in block 0 a command.
+abbrev pub order_of : Chip → (pointer block : ℕ) → (body : List ℕ) → Order
+order_of chip pointer block body =
+    if nat_le 2 block then Programs (pointer + (block - 2) * chip.transfer) (length body)
+    else (if block == 0 then order_in body else Other)
+
+-- From here DNLOAD is taken.
+abbrev pub TakesBlocks : Doing → Type 0
+TakesBlocks doing = (doing ≡ Rests state.DfuIdle) ⊎ (doing ≡ Rests state.DownloadIdle)
+
+-- From here UPLOAD is answered.
+abbrev pub GivesBlocks : Doing → Type 0
+GivesBlocks doing = (doing ≡ Rests state.DfuIdle) ⊎ (doing ≡ Rests state.UploadIdle)
+
+-- From here ABORT leads to dfuIDLE: from each state of upgrade mode but dfuERROR and those in which a device works by itself.
+abbrev pub TakesAbort : Doing → Type 0
+TakesAbort (Rests state.DfuIdle) = Unit {0}
+TakesAbort (Rests state.DownloadSync) = Unit {0}
+TakesAbort (Rests state.DownloadIdle) = Unit {0}
+TakesAbort (Rests state.ManifestSync) = Unit {0}
+TakesAbort (Rests state.UploadIdle) = Unit {0}
+TakesAbort (Pending order) = Unit {0}
+TakesAbort doing = ⊥
+
+-- Any request may be stalled, but GETSTATE while an order isn't started.
+abbrev pub MayStall : Doing → Request → Type 0
+MayStall (Pending order) (request.GetState n) = ⊥
+MayStall doing q = Unit {0}
+
+-- The bytes from an address on are these.
+abbrev pub StandsAt : (memory : ℕ → ℕ) → (at : ℕ) → List ℕ → Type 0
+StandsAt memory at bytes = (i : ℕ) → i < length bytes → memory (at + i) ≡ slice_index bytes i
+
+-- A device that does another thing.
+abbrev pub doing_now : Device → Doing → Device
+doing_now d doing = record { memory = d.memory; pointer = d.pointer; doing = doing }
+
+-- GETSTATUS starts an order.
+abbrev pub set_off : Doing → Doing
+set_off (Pending order) = Busy order
+set_off doing = doing
+
+-- GETSTATUS tells that an order is done, and goes on to leave.
+abbrev pub told_of : Doing → Doing
+told_of (Rests state.DownloadSync) = Rests state.DownloadIdle
+told_of (Rests state.DownloadBusy) = Rests state.DownloadIdle
+told_of (Rests state.ManifestSync) = Rests state.Manifest
+told_of doing = doing
+
+-- A device reacts to a request with this body. Behind a stall it goes on as before, or is in dfuERROR.
+pub data Reacts (chip : Chip) (d : Device) : Request → List ℕ → Reaction → Device → Type 0 where
+  stalls : (q : Request) (body : List ℕ) → MayStall d.doing q → Reacts chip d q body Stalls d
+  stops : (q : Request) (body : List ℕ) → MayStall d.doing q → Reacts chip d q body Stalls (doing_now d (Rests state.Error))
+  -- DNLOAD brings an order, and starts nothing.
+  takes : (block n : ℕ) (body : List ℕ) → TakesBlocks d.doing → 0 < length body
+      → Reacts chip d (request.Dnload block n) body Acks (doing_now d (Pending (order_of chip d.pointer block body)))
+  -- DNLOAD of no bytes asks the device to leave.
+  closes : (block n : ℕ) → TakesBlocks d.doing → Reacts chip d (request.Dnload block n) [] Acks (doing_now d (Rests state.ManifestSync))
+  -- UPLOAD from block 2 on gives the memory's bytes from the pointer on, or the first of them.
+  gives : (block n : ℕ) (body bytes : List ℕ) (s : State) → GivesBlocks d.doing → 2 ≤ block → length bytes ≤ n
+      → StandsAt d.memory (d.pointer + (block - 2) * chip.transfer) bytes → (s ≡ state.DfuIdle) ⊎ (s ≡ state.UploadIdle)
+      → Reacts chip d (request.Upload block n) body (Data bytes) (doing_now d (Rests s))
+  -- UPLOAD of block 0 or 1 gives other things.
+  lists : (block n : ℕ) (body bytes : List ℕ) → GivesBlocks d.doing → block < 2
+      → Reacts chip d (request.Upload block n) body (Data bytes) (doing_now d (Rests state.UploadIdle))
+  -- GETSTATUS starts an order, and tells how far it is, with any code and any time.
+  tells : (n : ℕ) (body bytes : List ℕ) (status : StatusFields) (mid : Device)
+      → (mid ≡ doing_now d (set_off d.doing)) ⊎ Advances chip (doing_now d (set_off d.doing)) mid → IsStatus status bytes
+      → status.state ≡ state_in (told_of mid.doing) → Reacts chip d (request.GetStatus n) body (Data bytes)
+      (doing_now mid (told_of mid.doing))
+  -- GETSTATE changes nothing.
+  shows : (n : ℕ) (body : List ℕ) → Reacts chip d (request.GetState n) body (Data (state_byte (state_in d.doing) ∷ [])) d
+  -- ABORT drops an order that isn't started.
+  aborts : (body : List ℕ) → TakesAbort d.doing → Reacts chip d request.Abort body Acks (doing_now d (Rests state.DfuIdle))
+  -- CLRSTATUS leaves dfuERROR.
+  clears : (body : List ℕ) → d.doing ≡ Rests state.Error → Reacts chip d request.ClrStatus body Acks (doing_now d (Rests state.DfuIdle))

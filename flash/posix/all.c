@@ -1,0 +1,154 @@
+/* SPDX-License-Identifier: MIT OR Apache-2.0 */
+/* --all: this process looks at the bus, and begins one for each device that the file is for. */
+#define _POSIX_C_SOURCE 200809L
+#include "../all.h"
+#include "../bays.h"
+#include "../clock.h"
+#include "../crew.h"
+#include "../one.h"
+#include "../record.h"
+#include "../say.h"
+#include "../session.h"
+#include "../standard.h"
+#include "../status.h"
+#include "../stop.h"
+
+#include <stdio.h>
+#include <sys/stat.h>
+#include <unistd.h>
+
+#define LOOK_MS 250
+
+static struct {
+    const struct words *words;
+    struct image image;
+    struct wanted wanted;
+    struct bays bays;
+    struct crew crew;
+    bool is_stopped;
+} all;
+
+static int say_file(void)
+{
+    record_none(STATUS_FILE, all.words->json);
+    return STATUS_FILE;
+}
+
+/* Whether logs can be made in the folder. */
+static bool has_folder(void)
+{
+    const char *folder = all.words->folder;
+    struct stat is;
+    if (folder == NULL || (stat(folder, &is) == 0 && S_ISDIR(is.st_mode) && access(folder, W_OK | X_OK) == 0))
+        return true;
+    say_text(stderr, "dfu-flash: no logs can be made in ", folder, ": it has to be a folder that is there\n");
+    return false;
+}
+
+/* The file says for which devices it is, or --device does. What is for any would go to whatever has DFU on the bus. */
+static int take_file(void)
+{
+    int32_t refusal = image_read(&all.image, all.words);
+    all.wanted = wanted_of(all.words);
+    if (refusal == IMAGE_UNREAD)
+        return say_file();
+    if (refusal == IMAGE_WORDS)
+        return STATUS_WORDS;
+    if (refusal == 0 && !all.wanted.has_ids) {
+        all.wanted.has_ids = all.wanted.is_of_file = true;
+        all.wanted.vendor = all.image.vendor;
+        all.wanted.product = all.image.product;
+    }
+    if (refusal == 0 && (all.wanted.vendor == ANY_ID || all.wanted.product == ANY_ID))
+        refusal = REFUSED_ANY;
+    if (refusal != 0)
+        return record_refused(refusal, all.words->json) ? STATUS_REFUSED : STATUS_FILE;
+    return STATUS_DONE;
+}
+
+/* Looks at the bus, and begins with those that are another device than before. 0, or an error of libusb, which is then said. */
+static int look(void)
+{
+    static struct port ports[PORTS_ROOM];
+    int count = ports_look(&all.wanted, ports);
+    int64_t now_ms = clock_ms();
+    if (count < 0) {
+        fprintf(stderr, "dfu-flash: the list of devices can't be had: %s\n", libusb_error_name(count));
+        return count;
+    }
+    bays_miss(&all.bays, ports, count, now_ms);
+    for (int at = 0; at < count; at++) {
+        struct bay *bay = bays_see(&all.bays, &ports[at], now_ms);
+        if (bay != NULL)
+            crew_begin(&all.crew, all.words, &all.image, bay);
+    }
+    return 0;
+}
+
+/* Whether there is something to wait for still: with --wait=SECONDS for so long since a device came or ended. */
+static bool goes_on(void)
+{
+    int64_t patience_ms = (int64_t)all.words->patience * 1000;
+    if (all.crew.count > 0)
+        return true;
+    if (all.is_stopped || !all.words->wait)
+        return false;
+    return patience_ms == 0 || clock_ms() - all.crew.came_ms < patience_ms;
+}
+
+/* The first signal: who is at work gives up, and nothing is begun any more. */
+static void stop(void)
+{
+    if (stop_cause == STOP_NONE || all.is_stopped)
+        return;
+    all.is_stopped = true;
+    crew_stop(&all.crew);
+}
+
+static void loop(void)
+{
+    int64_t looked_ms = clock_ms();
+    while (goes_on()) {
+        crew_step(&all.crew, LOOK_MS);
+        stop();
+        if (!all.words->wait || all.is_stopped || clock_ms() - looked_ms < LOOK_MS)
+            continue;
+        looked_ms = clock_ms();
+        look();
+    }
+    crew_end(&all.crew);
+}
+
+/* No device was flashed. */
+static int say_none(void)
+{
+    libusb_context *usb;
+    if (all.is_stopped)
+        return STATUS_ABORTED;
+    if (libusb_init(&usb) == 0) {
+        say_missing(usb, &all.wanted);
+        libusb_exit(usb);
+    }
+    return record_none(STATUS_NO_DEVICE, all.words->json) ? STATUS_NO_DEVICE : STATUS_FILE;
+}
+
+int all_run(const struct words *words)
+{
+    int status;
+    all.words = words;
+    status = has_folder() ? take_file() : say_file();
+    if (status != STATUS_DONE)
+        return status;
+    stop_catch(0);
+    crew_make(&all.crew, words);
+    if (look() != 0)
+        return record_none(STATUS_NO_DEVICE, words->json) ? STATUS_NO_DEVICE : STATUS_FILE;
+    if (words->wait && !words->quiet)
+        fputs("dfu-flash: each device that comes is flashed; Ctrl-C ends it\n", stderr);
+    loop();
+    if (all.crew.flashed + all.crew.failed == 0)
+        return say_none();
+    if (!words->quiet)
+        fprintf(stderr, "dfu-flash: %u flashed, %u not\n", all.crew.flashed, all.crew.failed);
+    return all.crew.is_out ? all.crew.worst : STATUS_FILE;
+}

@@ -1,0 +1,133 @@
+/* SPDX-License-Identifier: MIT OR Apache-2.0 */
+/* What the processes say is read here alone, and printed a whole line at a time. */
+#define _POSIX_C_SOURCE 200809L
+#include "../crew.h"
+#include "../clock.h"
+#include "../record.h"
+#include "../rows.h"
+#include "../status.h"
+#include "../stop.h"
+#include "wake.h"
+
+#include <poll.h>
+#include <stdio.h>
+#include <string.h>
+
+#define ENDING_MS 5
+#define GIVE_UP_MS 10000 /* for a session to end after a signal */
+
+static struct rows rows;
+
+void crew_make(struct crew *crew, const struct words *words)
+{
+    memset(crew, 0, sizeof *crew);
+    crew->is_json = words->json;
+    crew->is_out = true;
+    crew->came_ms = clock_ms();
+    rows_begin(&rows, words->quiet);
+}
+
+static void say(void *with, const char *line)
+{
+    const struct worker *worker = with;
+    /* Why the one of before can't be opened again is nobody's concern. */
+    if (worker->is_early)
+        return;
+    rows_clear(&rows);
+    fprintf(stderr, "%s: %s\n", worker->bay->path, line);
+}
+
+static void count_end(struct crew *crew, int status)
+{
+    crew->worst = status > crew->worst ? status : crew->worst;
+    crew->flashed += status == STATUS_DONE;
+    crew->failed += status != STATUS_DONE;
+    crew->came_ms = clock_ms();
+}
+
+void crew_begin(struct crew *crew, const struct words *words, struct image *image, struct bay *bay)
+{
+    rows_clear(&rows);
+    if (worker_begin(&crew->workers[crew->count], words, image, bay, rows.are_on)) {
+        crew->count++;
+        return;
+    }
+    count_end(crew, STATUS_FILE);
+    bay_end(bay, false, crew->came_ms);
+}
+
+/* The record of one that could print none. */
+static void print_lost(const struct worker *worker, int status, const char *why, bool is_json)
+{
+    static const struct found unread;
+    static const struct log none;
+    record_each(worker->bay->path, &unread, &none);
+    record_since(worker->began_ms);
+    record_short(status, status == STATUS_GONE ? "silent" : "broken", why, is_json);
+}
+
+static void end(struct crew *crew, struct worker *worker, int status, const char *why)
+{
+    bool is_same = status == BAY_SAME;
+    rows_clear(&rows);
+    if (why != NULL)
+        print_lost(worker, status, why, crew->is_json);
+    else if (!is_same)
+        puts(worker->record);
+    else if (worker->bay->is_late)
+        say(worker, "the device that was flashed here is back; another one with its serial number has to be plugged in again");
+    crew->is_out = record_out() && crew->is_out;
+    if (!is_same)
+        count_end(crew, status);
+    bay_end(worker->bay, is_same, clock_ms());
+    worker_drop(worker);
+}
+
+/* Those that have ended are taken out; one that is over its time is killed. */
+static void reap(struct crew *crew)
+{
+    int left = 0;
+    for (int at = 0; at < crew->count; at++) {
+        struct worker *worker = &crew->workers[at];
+        const char *why = NULL;
+        int status = 0;
+        if (worker->deadline_ms != 0 && clock_ms() >= worker->deadline_ms)
+            worker_kill(worker);
+        if (worker_has_ended(worker, &status, &why))
+            end(crew, worker, status, why);
+        else
+            crew->workers[left++] = *worker;
+    }
+    crew->count = left;
+}
+
+void crew_step(struct crew *crew, int ms)
+{
+    struct pollfd polls[2 * BAYS_ROOM + 1];
+    nfds_t count = 0;
+    rows_draw(&rows, crew->workers, crew->count);
+    for (int at = 0; at < crew->count; at++) {
+        const struct worker *worker = &crew->workers[at];
+        polls[count++] = (struct pollfd){worker->out.from, POLLIN, 0};
+        polls[count++] = (struct pollfd){worker->err.from, POLLIN, 0};
+        ms = worker_is_ending(worker) && ms > ENDING_MS ? ENDING_MS : ms;
+    }
+    if (stop_cause == STOP_NONE)
+        polls[count++] = (struct pollfd){stop_descriptor(), POLLIN, 0};
+    poll(polls, count, ms);
+    for (int at = 0; at < crew->count; at++)
+        worker_read(&crew->workers[at], say);
+    reap(crew);
+}
+
+void crew_stop(struct crew *crew)
+{
+    for (int at = 0; at < crew->count; at++)
+        worker_stop(&crew->workers[at], clock_ms() + GIVE_UP_MS);
+}
+
+void crew_end(struct crew *crew)
+{
+    (void)crew;
+    rows_clear(&rows);
+}

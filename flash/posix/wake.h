@@ -1,0 +1,12 @@
+/* SPDX-License-Identifier: MIT OR Apache-2.0 */
+/* What a wait looks at, and what a process that was forked forgets of it. */
+#ifndef DFU_FLASH_WAKE_H
+#define DFU_FLASH_WAKE_H
+
+/* A file descriptor that can be read once a stop came, for poll; -1 where there is none. */
+int stop_descriptor(void);
+
+/* A process that was forked has no stop of the first one, and none of its pipe. */
+void stop_anew(void);
+
+#endif

@@ -1,0 +1,229 @@
+/* SPDX-License-Identifier: MIT OR Apache-2.0 */
+/* A process for each device: what is done there is what the program does for one (one.c), and a device that hangs, or a mistake, ends no
+   other. It has a group of its own, so that Ctrl-C comes to the first process alone, which passes it on once. */
+#define _POSIX_C_SOURCE 200809L
+#include "../worker.h"
+#include "../clock.h"
+#include "../one.h"
+#include "../record.h"
+#include "../status.h"
+#include "../stop.h"
+#include "../text.h"
+#include "own.h"
+#include "wake.h"
+
+#include <errno.h>
+#include <fcntl.h>
+#include <signal.h>
+#include <stdio.h>
+#include <stdlib.h>
+#include <string.h>
+#include <sys/wait.h>
+#include <unistd.h>
+
+#define CHOOSE_S 5     /* for the rights of a device that came */
+#define GRACE_MS 10000 /* after --timeout or a signal; a session needs at most 8 seconds to give up */
+#define NAME_ROOM 4096
+
+/* A name in FOLDER that is free: the path of the bay, and a number. To be freed; NULL where there is none. */
+static char *log_name(const char *folder, const char *path)
+{
+    char *name = malloc(NAME_ROOM);
+    for (unsigned number = 1; name != NULL && number < 1000000; number++) {
+        int length = snprintf(name, NAME_ROOM, "%s/%s_%u.log", folder, path, number);
+        if (length < 0 || length >= NAME_ROOM)
+            break;
+        if (access(name, F_OK) != 0 && errno == ENOENT)
+            return name;
+    }
+    free(name);
+    return NULL;
+}
+
+/* There is no name for a log. */
+static int say_unnamed(const struct words *words)
+{
+    static const struct found unread;
+    static const struct log none;
+    fputs("dfu-flash: the log has no free name, or too long a one\n", stderr);
+    record_each(words->path, &unread, &none);
+    record_none(STATUS_FILE, words->json);
+    return STATUS_FILE;
+}
+
+/* What the new process does. */
+static void work(const struct words *all, struct image *image, const struct bay *bay, bool has_rows)
+{
+    struct words words = *all;
+    words.bay = bay;
+    words.path = bay->path;
+    words.has_ids = true;
+    words.vendor = all->has_ids ? all->vendor : image->vendor;
+    words.product = all->has_ids ? all->product : image->product;
+    words.wait = true;
+    words.patience = all->patience > CHOOSE_S ? all->patience : CHOOSE_S;
+    words.log = all->folder == NULL ? NULL : log_name(all->folder, bay->path);
+    stop_catch(0);
+    if (all->folder != NULL && words.log == NULL)
+        exit(say_unnamed(&words));
+    exit(one_run(&words, image, has_rows ? PROGRESS_ROWS : PROGRESS_SILENT));
+}
+
+/* The pipes of the first process, which are marked to be closed, aren't open here; and where it ends this one gives up. */
+static void leave_first(int out, int err, pid_t first)
+{
+    stop_anew();
+    setpgid(0, 0);
+    own_end_with_parent();
+    if (getppid() != first)
+        _exit(STATUS_ABORTED);
+    dup2(out, STDOUT_FILENO);
+    dup2(err, STDERR_FILENO);
+    for (int at = 3; at < 1024; at++)
+        if (fcntl(at, F_GETFD) != -1 && (fcntl(at, F_GETFD) & FD_CLOEXEC) != 0)
+            close(at);
+}
+
+/* A pipe that no program that is started here gets. */
+static bool make_pipe(int ends[2])
+{
+    if (pipe(ends) != 0)
+        return false;
+    fcntl(ends[0], F_SETFD, FD_CLOEXEC);
+    fcntl(ends[1], F_SETFD, FD_CLOEXEC);
+    return true;
+}
+
+static bool make_pipes(int out[2], int err[2])
+{
+    if (!make_pipe(out))
+        return false;
+    if (make_pipe(err))
+        return true;
+    close(out[0]);
+    close(out[1]);
+    return false;
+}
+
+bool worker_begin(struct worker *worker, const struct words *words, struct image *image, struct bay *bay, bool has_rows)
+{
+    int out[2], err[2];
+    pid_t first = getpid();
+    bool has_pipes = make_pipes(out, err);
+    memset(worker, 0, sizeof *worker);
+    fflush(NULL);
+    worker->process = has_pipes ? fork() : -1;
+    if (worker->process == 0) {
+        leave_first(out[1], err[1], first);
+        work(words, image, bay, has_rows);
+    }
+    if (has_pipes) {
+        close(out[1]);
+        close(err[1]);
+    }
+    if (worker->process < 0) {
+        fprintf(stderr, "dfu-flash: no process for the device at %s: %s\n", bay->path, strerror(errno));
+        if (has_pipes) {
+            close(out[0]);
+            close(err[0]);
+        }
+        return false;
+    }
+    reader_begin(&worker->out, out[0]);
+    reader_begin(&worker->err, err[0]);
+    worker->bay = bay;
+    worker->began_ms = clock_ms();
+    worker->deadline_ms = words->timeout == 0 ? 0 : worker->began_ms + (int64_t)words->timeout * 1000 + GRACE_MS;
+    worker->is_early = bay_is_early(bay);
+    bay->state = BAY_BUSY;
+    return true;
+}
+
+/* The first character of a line that is for the first process alone. */
+#define ROW_MARK '\t'
+#define SERIAL_MARK '\v'
+
+void worker_print_serial(bool is_upgrade, const char *serial)
+{
+    printf("%c%d", SERIAL_MARK, is_upgrade);
+    text_hex(stdout, (const uint8_t *)serial, strlen(serial));
+    putchar('\n');
+}
+
+/* The serial number in a line, by its bytes. */
+static void take_serial(struct bay *bay, const char *line)
+{
+    int mode = line[0] == '1';
+    size_t length = 0;
+    unsigned byte;
+    for (const char *at = line + (line[0] != '\0'); length < TEXT_ROOM - 1 && sscanf(at, "%2x", &byte) == 1 && at[1] != '\0'; at += 2)
+        bay->serial[mode][length++] = (char)byte;
+    bay->serial[mode][length] = '\0';
+    bay->has_serial[mode] = true;
+}
+
+/* A line of standard output that has come whole. */
+static void take_line(void *with, const char *line)
+{
+    struct worker *worker = with;
+    if (line[0] == ROW_MARK)
+        snprintf(worker->row, sizeof worker->row, "%s", line + 1);
+    else if (line[0] == SERIAL_MARK)
+        take_serial(worker->bay, line + 1);
+    else {
+        free(worker->record);
+        worker->record = strdup(line);
+    }
+}
+
+void worker_read(struct worker *worker, void (*say)(void *worker, const char *line))
+{
+    reader_read(&worker->err, say, worker);
+    reader_read(&worker->out, take_line, worker);
+}
+
+bool worker_is_ending(const struct worker *worker)
+{
+    return worker->out.from < 0 && worker->err.from < 0;
+}
+
+bool worker_has_ended(struct worker *worker, int *status, const char **why)
+{
+    static const char late[] =
+        "it did not end in time, and its process was killed; the device may have the old image, the new one or neither";
+    static const char failed[] = "its process failed; the device may have the old image, the new one or neither";
+    int how;
+    if (!worker_is_ending(worker) || waitpid(worker->process, &how, WNOHANG) == 0)
+        return false;
+    *why = NULL;
+    if (WIFEXITED(how) && (worker->record != NULL || WEXITSTATUS(how) == BAY_SAME)) {
+        *status = WEXITSTATUS(how);
+        return true;
+    }
+    *status = worker->is_killed ? STATUS_GONE : STATUS_BROKEN;
+    *why = worker->is_killed ? late : failed;
+    return true;
+}
+
+void worker_stop(struct worker *worker, int64_t deadline_ms)
+{
+    /* SIGTERM comes where this process ends: a second signal of one kind would end that one at once. */
+    kill(worker->process, SIGINT);
+    if (worker->deadline_ms == 0 || worker->deadline_ms > deadline_ms)
+        worker->deadline_ms = deadline_ms;
+}
+
+void worker_kill(struct worker *worker)
+{
+    kill(worker->process, SIGKILL);
+    worker->is_killed = true;
+    worker->deadline_ms = 0;
+}
+
+void worker_drop(struct worker *worker)
+{
+    reader_drop(&worker->out);
+    reader_drop(&worker->err);
+    free(worker->record);
+    memset(worker, 0, sizeof *worker);
+}

@@ -1,0 +1,48 @@
+/* SPDX-License-Identifier: MIT OR Apache-2.0 */
+/* A device is there as long as it is listed, or as it answers GET_STATUS of USB, which every device does, and which changes nothing. */
+#include "present.h"
+#include "clock.h"
+#include "properties.h"
+#include "standard.h"
+#include "terminal.h"
+
+#include <stdio.h>
+
+#define LOOK_MS 50
+#define STATUS_MS 1000
+#define GET_STATUS 0 /* USB 2.0, section 9.4.5 */
+
+bool present_is(const struct device *device)
+{
+    libusb_device *opened = device->is.device, **devices;
+    bool is = false;
+    ssize_t count = opened == NULL ? 0 : libusb_get_device_list(device->usb, &devices);
+    if (opened == NULL || count < 0)
+        return opened != NULL;
+    for (ssize_t at = 0; at < count; at++)
+        is = is || (libusb_get_bus_number(devices[at]) == libusb_get_bus_number(opened)
+                    && libusb_get_device_address(devices[at]) == libusb_get_device_address(opened));
+    libusb_free_device_list(devices, 1);
+    return is;
+}
+
+bool present_is_lost(const struct device *device, int answer)
+{
+    unsigned char status[2];
+    if (platform_tells_left() || answer >= 0 || answer == LIBUSB_ERROR_TIMEOUT)
+        return false;
+    answer = libusb_control_transfer(device->handle, KIND_IS_IN, GET_STATUS, 0, 0, status, sizeof status, STATUS_MS);
+    return answer < 0 && answer != LIBUSB_ERROR_TIMEOUT;
+}
+
+bool present_is_pulled(const struct device *device)
+{
+    int64_t end = clock_ms() + platform_pull_ms();
+    fprintf(stderr, "%sdfu-flash: this system resets no device: pull its plug now, and put it in again\n", terminal_is(stderr) ? "\n" : "");
+    while (!*device->is_stop && clock_ms() < end) {
+        if (!present_is(device))
+            return true;
+        clock_wait(LOOK_MS);
+    }
+    return false;
+}

@@ -1,0 +1,18 @@
+/* SPDX-License-Identifier: MIT OR Apache-2.0 */
+/* The terminal that a stream may be. */
+#ifndef DFU_FLASH_TERMINAL_H
+#define DFU_FLASH_TERMINAL_H
+
+#include <stdbool.h>
+#include <stdio.h>
+
+/* Whether somebody sees there what is printed, or types what is read. */
+bool terminal_is(FILE *stream);
+
+/* The columns and the lines of the terminal that standard error is. False where nobody says. */
+bool terminal_size(int *columns, int *lines);
+
+/* The key that ends what is typed there. */
+const char *terminal_end_key(void);
+
+#endif

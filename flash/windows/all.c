@@ -1,0 +1,21 @@
+/* SPDX-License-Identifier: MIT OR Apache-2.0 */
+/* --all, with its processes, is in the folder posix. */
+#include "../all.h"
+#include "../status.h"
+#include "../worker.h"
+
+#include <stdio.h>
+
+int all_run(const struct words *words)
+{
+    (void)words;
+    fputs("dfu-flash: --all isn't there on Windows: flash one device after the other, by --path\n", stderr);
+    return STATUS_WORDS;
+}
+
+/* There is no first process that would read it. */
+void worker_print_serial(bool is_upgrade, const char *serial)
+{
+    (void)is_upgrade;
+    (void)serial;
+}

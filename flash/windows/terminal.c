@@ -1,0 +1,32 @@
+/* SPDX-License-Identifier: MIT OR Apache-2.0 */
+/* A console. NUL is a device with characters too, but nobody sees it. */
+#include "../terminal.h"
+
+#include <io.h>
+#include <windows.h>
+
+static HANDLE handle_of(FILE *stream)
+{
+    return (HANDLE)_get_osfhandle(_fileno(stream));
+}
+
+bool terminal_is(FILE *stream)
+{
+    DWORD mode;
+    return GetConsoleMode(handle_of(stream), &mode) != 0;
+}
+
+bool terminal_size(int *columns, int *lines)
+{
+    CONSOLE_SCREEN_BUFFER_INFO is;
+    if (!GetConsoleScreenBufferInfo(handle_of(stderr), &is))
+        return false;
+    *columns = is.srWindow.Right - is.srWindow.Left + 1;
+    *lines = is.srWindow.Bottom - is.srWindow.Top + 1;
+    return *columns > 0 && *lines > 0;
+}
+
+const char *terminal_end_key(void)
+{
+    return "Ctrl-Z and Enter";
+}

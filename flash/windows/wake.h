@@ -1,0 +1,9 @@
+/* SPDX-License-Identifier: MIT OR Apache-2.0 */
+/* What a wait looks at. */
+#ifndef DFU_FLASH_WAKE_H
+#define DFU_FLASH_WAKE_H
+
+/* A HANDLE of an event that is set once a stop came; NULL if there is none. */
+void *stop_event(void);
+
+#endif

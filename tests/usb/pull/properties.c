@@ -1,0 +1,32 @@
+/* In place of flash/linux/properties.c: libusb's answers mean what they mean over WinUSB, and a person has a quarter of a second to pull
+   the plug. With USB_NEW=untold they are those of macOS. */
+#include "../../../flash/properties.h"
+
+#include <stdlib.h>
+#include <string.h>
+
+static bool is_macos(void)
+{
+    const char *untold = getenv("USB_NEW");
+    return untold != NULL && strcmp(untold, "untold") == 0;
+}
+
+bool platform_resets(void)
+{
+    return is_macos();
+}
+
+bool platform_tells_new(void)
+{
+    return false;
+}
+
+bool platform_tells_left(void)
+{
+    return is_macos();
+}
+
+uint32_t platform_pull_ms(void)
+{
+    return 250;
+}

@@ -1,0 +1,38 @@
+/* In place of ../boards.c: one board. Several need memory that processes which are forked have in common. */
+#include "../boards.h"
+#include "../bus.h"
+#include "posix.h"
+
+#include <windows.h>
+
+int boards_start(void)
+{
+    bus_start();
+    return 1;
+}
+
+void boards_enter(int board)
+{
+    (void)board;
+}
+
+void boards_wake(int board)
+{
+    (void)board;
+}
+
+void boards_pass_time(void)
+{
+    bus_pass_time();
+}
+
+bool boards_lists(void)
+{
+    return bus_lists();
+}
+
+int pause(void)
+{
+    Sleep(INFINITE);
+    return -1;
+}

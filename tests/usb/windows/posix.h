@@ -1,0 +1,7 @@
+/* What the stand-in calls and Windows doesn't have. */
+#ifndef USB_WINDOWS_POSIX_H
+#define USB_WINDOWS_POSIX_H
+
+int pause(void);
+
+#endif
