@@ -1,7 +1,9 @@
 -- What a packet of usbmon says (Linux, Documentation/usb/usbmon.rst, "Raw binary format and API").
 use Rattle.std.specs.Prelude.{ℕ, ◌+◌, ◌*◌, ◌%◌, ◌==◌, ◌&&◌, ◌||◌, nat_le, Bool, true, List, [], ◌∷◌, length, drop, slice_index_or, Option, Some, None, if◌then◌else◌}
-use Rattle.dfu_capture.specs.declared.usbmon.Kind.{Kind}
-use Rattle.dfu_capture.specs.declared.usbmon.Kind.TheVariants.{Submits, Completes, Other}
+use Rattle.dfu_capture.specs.declared.event.Kind.{Kind}
+use Rattle.dfu_capture.specs.declared.event.Kind.TheVariants.{Submits, Completes, Other}
+use Rattle.dfu_capture.specs.declared.event.Ending.{Ending}
+use Rattle.dfu_capture.specs.declared.event.Ending.TheVariants.{Done, Stalled, Failed}
 
 -- The byte at a place, and 0 behind the end.
 abbrev pub byte : List ℕ → ℕ → ℕ
@@ -37,6 +39,12 @@ kind_in bytes = if byte bytes 8 == 83 then Submits else if byte bytes 8 == 67 th
 -- Bytes 40 to 47 are the setup, where byte 14 is 0.
 abbrev pub setup_in : List ℕ → Option (List ℕ)
 setup_in bytes = if byte bytes 14 == 0 then Some (eight_in (drop 40 bytes)) else None
+
+-- Bytes 28 to 31 are the status: 0 if the transfer was done, and -32 if the device stalled it.
+abbrev pub ending_in : (is_big : Bool) → List ℕ → Ending
+ending_in big bytes =
+    let status = four_in big (drop 28 bytes) in
+    if status == 0 then Done else if status == 0xffffffe0 then Stalled else Failed
 
 -- The first four bytes of pcap, of microseconds or nanoseconds, in either order of bytes, or of pcapng.
 abbrev pub begins_capture : List ℕ → Bool

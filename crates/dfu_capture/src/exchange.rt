@@ -19,22 +19,13 @@ pub(crate) struct Exchange<'c> {
     pub setup: [u8; 8],
     pub body: &'c [u8],
     pub seen: Seen<'c>,
+    /// The address that the device gets by it, if it shows that the bus was reset.
+    pub given: Option<Address>,
     /// Not all of its bytes were captured.
     pub is_cut: bool,
 }
 
 impl Exchange<'_> {
-    /// The address that SET_ADDRESS gives, where it is one.
-    pub(crate) fn new_address(&self) -> Option<Address> {
-        match self.setup {
-            [0, 5, low, ..] => Some(Address {
-                bus: self.address.bus,
-                device: low,
-            }),
-            _ => None,
-        }
-    }
-
     /// Whether it is a request of the class to an interface.
     pub(crate) fn is_class(&self) -> bool {
         let [kind, ..] = self.setup;

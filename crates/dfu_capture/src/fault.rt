@@ -3,7 +3,7 @@
 /// Why a capture gives no log.
 #[derive(Clone, Copy, Debug, PartialEq, Eq)]
 pub enum CaptureFault {
-    /// Its packets aren't those of usbmon: link type 189 or 220.
+    /// Its packets aren't those of usbmon, link type 189 or 220, or of USBPcap, link type 249.
     NotUsbmon,
     /// A transfer of the device was captured in part.
     CutPacket,

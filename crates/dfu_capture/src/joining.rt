@@ -5,12 +5,41 @@ ghost use Rattle.dfu_capture.specs.Packets.{begins_capture};
 ghost use Rattle.dfu_capture.specs.declared.fault.CaptureFault.TheVariants as CaptureFault;
 
 use crate::address::Address;
+use crate::event::{Ending, Kind, UsbEvent};
 use crate::exchange::{Exchange, Seen};
 use crate::fault::CaptureFault;
 use crate::numbers::from;
-use crate::records::{Form, form_of, head_of};
-use crate::usbmon::{self, Kind, UsbEvent, event_of};
+use crate::records::{Packet, form_of, head_of};
+use crate::usbmon::{self, packet_event};
+use crate::usbpcap::recorded_event;
 use std::alloc::Global;
+
+/// The link type of USBPcap.
+const USBPCAP: u16 = 249;
+
+/// What a packet says, by its link type. NotUsbmon if that is another one.
+fn event_of<'c>(packet: &Packet<'c>) -> Result<Option<UsbEvent<'c>>, CaptureFault> {
+    if packet.link == USBPCAP {
+        return Ok(recorded_event(packet.bytes));
+    }
+    match usbmon::head_of(packet.link) {
+        Some(head) => Ok(packet_event(packet.bytes, head, packet.is_big)),
+        None => Err(CaptureFault::NotUsbmon),
+    }
+}
+
+/// The address that a device gets by a request: that of SET_ADDRESS. USBPcap shows none, so SET_CONFIGURATION is taken for it, which
+/// Windows sends once after each reset.
+fn given_by(setup: &[u8; 8], address: Address, link: u16) -> Option<Address> {
+    match *setup {
+        [0, 5, device, ..] => Some(Address {
+            bus: address.bus,
+            device,
+        }),
+        [0, 9, ..] if link == USBPCAP => Some(address),
+        _ => None,
+    }
+}
 
 /// A transfer that was submitted and isn't completed.
 #[derive(Clone, Copy)]
@@ -27,10 +56,10 @@ struct Pending<'c> {
 fn seen_of<'c>(setup: &[u8; 8], event: &UsbEvent<'c>) -> Seen<'c> {
     let [kind, _, _, _, _, _, low, high] = *setup;
     let wanted = u16::from_le_bytes([low, high]) as u32;
-    match event.status {
-        0 if kind >= 0x80 => Seen::Bytes(event.data),
-        0 if event.length == wanted => Seen::Bytes(&[]),
-        usbmon::STALL => Seen::Stall,
+    match event.ending {
+        Ending::Done if kind >= 0x80 => Seen::Bytes(event.data),
+        Ending::Done if event.moved.is_none() || event.moved == Some(wanted) => Seen::Bytes(&[]),
+        Ending::Stalled => Seen::Stall,
         _ => Seen::Nothing,
     }
 }
@@ -79,8 +108,19 @@ impl<'c> Joining<'c> {
         None
     }
 
-    /// A transfer is completed.
-    fn complete(&mut self, event: &UsbEvent<'c>) -> Result<(), CaptureFault> {
+    /// The bytes of a transfer that was submitted without them come.
+    fn carry(&mut self, event: &UsbEvent<'c>) {
+        for old in &mut self.pending {
+            let [kind, ..] = old.setup;
+            if !old.is_done && old.id == event.id && kind < 0x80 {
+                old.body = event.data;
+                old.is_cut = event.is_cut;
+            }
+        }
+    }
+
+    /// A transfer is completed, by a packet of this link type.
+    fn complete(&mut self, event: &UsbEvent<'c>, link: u16) -> Result<(), CaptureFault> {
         let Some(began) = self.take(&event.id) else {
             return Ok(());
         };
@@ -91,9 +131,10 @@ impl<'c> Joining<'c> {
             setup: began.setup,
             body: began.body,
             seen: seen_of(&began.setup, event),
-            is_cut: began.is_cut || kind >= 0x80 && event.status == 0 && event.is_cut,
+            given: given_by(&began.setup, began.address, link),
+            is_cut: began.is_cut || kind >= 0x80 && event.ending == Ending::Done && event.is_cut,
         };
-        if !exchange.is_class() && exchange.new_address().is_none() {
+        if !exchange.is_class() && exchange.given.is_none() {
             return Ok(());
         }
         match self.exchanges.push(exchange) {
@@ -102,17 +143,21 @@ impl<'c> Joining<'c> {
         }
     }
 
-    /// An event comes.
-    fn come(&mut self, event: &UsbEvent<'c>) -> Result<(), CaptureFault> {
+    /// An event comes, in a packet of this link type.
+    fn come(&mut self, event: &UsbEvent<'c>, link: u16) -> Result<(), CaptureFault> {
         match (event.kind, event.setup) {
             (Kind::Submits, Some(setup)) => self.submit(event, setup),
-            (Kind::Completes, _) => self.complete(event),
+            (Kind::Carries, _) => {
+                self.carry(event);
+                Ok(())
+            }
+            (Kind::Completes, _) => self.complete(event, link),
             _ => Ok(()),
         }
     }
 }
 
-/// The requests of the class and those of SET_ADDRESS, with their answers, in the order of the completions. A completion without a
+/// The requests of the class and those that show a reset, with their answers, in the order of the completions. A completion without a
 /// submission is passed over, as at the begin of a capture, and so is a submission without a completion.
 ///
 /// NotUsbmon where it is no capture, or a packet has another link type; NoMemory where an allocation was refused.
@@ -137,11 +182,8 @@ pub(crate) fn exchanges_of(alloc: Global, capture: &[u8]) -> Result<Vec<Exchange
             joining.count = joining.count.saturating_add(1);
         }
         if let Some(packet) = record.packet {
-            if usbmon::head_of(packet.link).is_none() {
-                return Err(CaptureFault::NotUsbmon);
-            }
-            if let Some(event) = event_of(&packet) {
-                joining.come(&event)?;
+            if let Some(event) = event_of(&packet)? {
+                joining.come(&event, packet.link)?;
             }
         }
         let (_, behind) = rest.split_at(record.size.min(rest.len()));

@@ -1,9 +1,10 @@
-//! A reader of captures of the USB: pcap and pcapng with packets of Linux's usbmon.
+//! A reader of captures of the USB: pcap and pcapng with packets of Linux's usbmon, or of USBPcap on Windows.
 //!
 //! `log_of` makes the log of a device of it. No bytes make it stop but by a fault.
 #![tactic(auto)]
 
 mod address;
+mod event;
 mod exchange;
 mod fault;
 mod joining;
@@ -11,8 +12,11 @@ mod logging;
 mod numbers;
 mod records;
 mod usbmon;
+mod usbpcap;
 
 pub use address::Address;
+pub use event::{Ending, Kind, UsbEvent};
 pub use fault::CaptureFault;
 pub use logging::{is_capture, log_of};
-pub use usbmon::{Kind, UsbEvent, packet_event};
+pub use usbmon::packet_event;
+pub use usbpcap::recorded_event;

@@ -120,7 +120,7 @@ impl Log {
             self.text.push(b'\n')?;
         }
         self.lines = exchange.packet;
-        if exchange.new_address().is_some() {
+        if exchange.given.is_some() {
             self.text.extend_from_slice(b"reset\n")
         } else {
             push_exchange(&mut self.text, exchange)
@@ -135,7 +135,7 @@ fn log_one(
     is_dfu: bool,
     followed: &mut Followed,
 ) -> Result<(), CaptureFault> {
-    if let Some(address) = exchange.new_address() {
+    if let Some(address) = exchange.given {
         if is_dfu && (followed.only.is_none() || followed.only == Some(address)) {
             followed.given = Some(address);
             return match log.push(exchange) {
@@ -158,13 +158,13 @@ fn log_one(
 }
 
 /// The log of a capture. Line N is what packet N says, counted from 1 as other programs do: a request of the class to the device, where the
-/// packet completes it; `reset`, where SET_ADDRESS gives the device an address; and else it is empty. The device is the one at `only`, or
+/// packet completes it; `reset`, if the packet shows that the bus was reset; and else it is empty. The device is the one at `only`, or
 /// the one that gets requests of DFU at this interface.
 ///
 /// # Errors
 ///
-/// NotUsbmon where it is no capture of usbmon; ManyDevices and CutPacket at the first request of which they are true; NoDevice where there
-/// is none; NoMemory where an allocation was refused.
+/// NotUsbmon if it is no capture of usbmon or USBPcap; ManyDevices and CutPacket at the first request of which they are true; NoDevice if
+/// there is none; NoMemory if an allocation was refused.
 pub fn log_of(
     alloc: Global,
     capture: &[u8],
@@ -185,7 +185,7 @@ pub fn log_of(
         given: None,
     };
     for exchange in &exchanges {
-        let address = match exchange.new_address() {
+        let address = match exchange.given {
             Some(address) => address,
             None => exchange.address,
         };

@@ -1,7 +1,7 @@
 //! Numbers of a capture, in the order of bytes of the computer that made it.
 
-ghost use Rattle.std.specs.Prelude.{◌≡◌, drop, slice_index_or};
-ghost use Rattle.dfu_capture.specs.Packets.{two_in, four_in};
+ghost use Rattle.std.specs.Prelude.{◌≡◌, drop, take, slice_index_or};
+ghost use Rattle.dfu_capture.specs.Packets.{two_in, four_in, eight_in};
 
 /// The byte at a place, or 0 behind the end.
 pub(crate) fn byte_at(bytes: &[u8], at: usize) -> u8
@@ -48,5 +48,33 @@ pub(crate) fn four(bytes: &[u8], is_big: bool) -> u32
         16_777_216 * first + 65_536 * second + 256 * third + fourth
     } else {
         first + 256 * second + 65_536 * third + 16_777_216 * fourth
+    }
+}
+
+/// Eight bytes from a place on.
+pub(crate) fn eight(bytes: &[u8], at: usize) -> [u8; 8]
+    ensures { result ≡ eight_in (drop at bytes.now) }
+{
+    let rest = from(bytes, at);
+    [
+        byte_at(rest, 0),
+        byte_at(rest, 1),
+        byte_at(rest, 2),
+        byte_at(rest, 3),
+        byte_at(rest, 4),
+        byte_at(rest, 5),
+        byte_at(rest, 6),
+        byte_at(rest, 7),
+    ]
+}
+
+/// The first bytes, so many of them; all where there are fewer.
+pub(crate) fn front(bytes: &[u8], count: usize) -> &[u8]
+    ensures { result.now ≡ take count bytes.now }
+{
+    if count < bytes.len() {
+        &bytes[..count]
+    } else {
+        bytes
     }
 }

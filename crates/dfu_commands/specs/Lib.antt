@@ -1,4 +1,5 @@
 pub mod RunText
+pub mod BesideText
 pub mod Buffering
 pub mod HexWords
 pub mod Identifiers

@@ -84,7 +84,7 @@ pub(crate) fn capture_line(fault: CaptureFault) -> &'static str {
 pub(crate) fn capture_why(fault: CaptureFault) -> Option<&'static str> {
     match fault {
         CaptureFault::NotUsbmon => Some(
-            "its packets aren't of link type 189 or 220, those of usbmon",
+            "its packets aren't those of usbmon (link type 189 or 220) or USBPcap (249)",
         ),
         CaptureFault::CutPacket => Some(
             "a transfer of the device was captured in part; capture with a longer snapshot length",

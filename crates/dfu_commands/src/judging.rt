@@ -8,12 +8,13 @@ use crate::prefixing::Prefixed;
 use crate::watching::Watched;
 use dfu_capture::{Address, is_capture, log_of};
 use dfu_files::{error_reason, file_reason, gather_fault, open};
+use dfu_json::JsonLines;
 use dfu_judge::LineFault;
 use dfu_judge_text::{LogFault, judge_with_fault};
 use dfu_suffix::{SuffixFault, gather};
 use dfu_text::{Answer, Exit, fault_text, name_before, write_out};
 use std::alloc::Global;
-use std::io::{self, Read};
+use std::io::{self, Printer, Read};
 use std::rt::Files;
 
 /// The number of an interface, 0 to 255.
@@ -78,6 +79,19 @@ struct Judged<'w> {
     pub interface: u8,
     /// The address, where one is named.
     pub only: Option<Address>,
+    /// Whether each line is an object.
+    pub json: bool,
+}
+
+/// The output for the lines of what is judged.
+fn output<'o, R: Print + AllocGlobal>(
+    rt: &'o R,
+    judged: Judged<'o>,
+) -> Prefixed<'o, JsonLines<'o, Printer<'o, R>>> {
+    Prefixed::new(
+        judged.before,
+        JsonLines::new(rt.alloc(), judged.json, Some(judged.name), io::writer(rt)),
+    )
 }
 
 /// Judges the log that a reader gives.
@@ -88,7 +102,7 @@ fn judge_text_of<R: Print + AllocGlobal, S: Read + Drop>(
 ) -> Answer {
     let alloc = rt.alloc();
     let mut watched = Watched::new(alloc, log, false);
-    let mut out = Eventful::new(Prefixed::new(judged.before, io::writer(rt)));
+    let mut out = Eventful::new(output(rt, judged));
     let (exit, fault) = judge_with_fault(alloc, judged.interface, &mut watched, &mut out);
     if out.is_without() {
         let why =
@@ -113,11 +127,7 @@ fn judge_bytes<R: Print + AllocGlobal>(rt: &R, judged: Judged<'_>, capture: &[u8
         Err(fault) => {
             let line = capture_line(fault).as_bytes();
             Answer {
-                exit: write_out(
-                    &mut Prefixed::new(judged.before, io::writer(rt)),
-                    line,
-                    Exit::Refused,
-                ),
+                exit: write_out(&mut output(rt, judged), line, Exit::Refused),
                 reason: match capture_why(fault) {
                     Some(why) => file_reason(alloc, judged.name, why),
                     None => None,
@@ -138,10 +148,7 @@ fn judge_capture<R: Print + AllocGlobal, S: Read + Drop>(
     match gather(alloc, &mut watched, MAX_CAPTURE) {
         Ok(bytes) => judge_bytes(rt, judged, &bytes),
         Err(fault) => Answer {
-            exit: fault_text(
-                gather_fault(fault),
-                &mut Prefixed::new(judged.before, io::writer(rt)),
-            ),
+            exit: fault_text(gather_fault(fault), &mut output(rt, judged)),
             reason: match &watched.error {
                 Some(error) => error_reason(alloc, judged.name, error),
                 None => None,
@@ -153,10 +160,7 @@ fn judge_capture<R: Print + AllocGlobal, S: Read + Drop>(
 /// A file or standard input that can't be read.
 fn unread<R: Print + AllocGlobal>(rt: &R, judged: Judged<'_>, error: &io::Error) -> Answer {
     Answer {
-        exit: fault_text(
-            SuffixFault::Read,
-            &mut Prefixed::new(judged.before, io::writer(rt)),
-        ),
+        exit: fault_text(SuffixFault::Read, &mut output(rt, judged)),
         reason: error_reason(rt.alloc(), judged.name, error),
     }
 }
@@ -179,6 +183,26 @@ fn judge_file<R: Files + Input + Print + AllocGlobal>(rt: &R, judged: Judged<'_>
     }
 }
 
+/// Judges a file, with no name before its lines.
+fn judge_bare<R: Files + Input + Print + AllocGlobal>(
+    rt: &R,
+    name: &str,
+    interface: u8,
+    only: Option<Address>,
+    json: bool,
+) -> Answer {
+    judge_file(
+        rt,
+        Judged {
+            name,
+            before: "",
+            interface,
+            only,
+            json,
+        },
+    )
+}
+
 /// Judges one of several files, with its name before each line.
 fn judge_named<R: Files + Input + Print + AllocGlobal>(
     rt: &R,
@@ -194,6 +218,7 @@ fn judge_named<R: Files + Input + Print + AllocGlobal>(
                 before: &before,
                 interface,
                 only,
+                json: false,
             },
         ),
         Err(_) => Answer {
@@ -204,30 +229,29 @@ fn judge_named<R: Files + Input + Print + AllocGlobal>(
 }
 
 /// Judges logs and captures, or those of standard input where a name is `-`, each with the reason where it is judged no further. Of more
-/// than one file each line begins with its name. The end is the worst one.
+/// than one file each line begins with its name; with `json` each line is a JSON object, with the name as its member `file`. The end is the
+/// worst one.
 pub(crate) fn judge_files<R: Files + Input + Print + AllocGlobal>(
     rt: &R,
     names: &[String],
     interface: u8,
     only: Option<Address>,
+    json: bool,
 ) -> Answer {
     if let [name] = names {
-        return judge_file(
-            rt,
-            Judged {
-                name,
-                before: "",
-                interface,
-                only,
-            },
-        );
+        return judge_bare(rt, name, interface, only, json);
     }
     let mut all = Answer {
         exit: Exit::Done,
         reason: None,
     };
     for name in names {
-        all = all.and(rt.alloc(), judge_named(rt, name, interface, only));
+        let answer = if json {
+            judge_bare(rt, name, interface, only, true)
+        } else {
+            judge_named(rt, name, interface, only)
+        };
+        all = all.and(rt.alloc(), answer);
     }
     all
 }

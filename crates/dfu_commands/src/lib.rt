@@ -4,6 +4,7 @@
 //! `run_buffered` run a script of any reader.
 #![tactic(auto)]
 
+mod beside;
 mod buffering;
 mod captures;
 mod changing;
@@ -25,6 +26,7 @@ mod scripts;
 mod setup;
 mod sharing;
 mod shown;
+mod tips;
 mod watching;
 mod words;
 

@@ -7,27 +7,44 @@ use crate::identifiers::IdTexts;
 use crate::judging::{interface_in, judge_files};
 use crate::offered::read_file;
 use crate::remembering::Remembering;
-use crate::scripts::run_script;
+use crate::scripts::{Ways, run_script};
 use crate::shown::show_reason;
+use crate::tips::advised;
 use crate::words::{bad_device, bad_file, bad_interface, bad_kind, refused};
 use dfu_files::{Owned, check_files};
+use dfu_json::JsonLines;
 use dfu_suffix::SuffixFault;
 use dfu_text::{Answer, Exit, fault_text, show_text};
 use dfu_words::{Asked, Job, JobFault, asked};
 use std::io::{self, IsTerminal};
 use std::rt::Files;
 
-fn perform_show<R: Print + AllocGlobal>(rt: &R, kind: &str, words: &[String]) -> Answer {
+/// Whether bytes of this kind can be shown.
+fn is_kind(kind: &str) -> bool {
+    matches!(
+        kind,
+        "functional" | "status" | "state" | "setup" | "configuration"
+    )
+}
+
+fn perform_show<R: Print + AllocGlobal>(
+    rt: &R,
+    kind: &str,
+    words: &[String],
+    json: bool,
+) -> Answer {
     let alloc = rt.alloc();
+    // Words that aren't understood have no object.
+    let lines = JsonLines::new(alloc, json && is_kind(kind), None, io::writer(rt));
+    let mut out = Remembering::new(lines);
     let Ok(digits) = bare(alloc, words) else {
         return Answer {
-            exit: no_memory(rt),
+            exit: fault_text(SuffixFault::NoMemory, &mut out),
             reason: None,
         };
     };
     // A text stays one where signs of ASCII go.
     let hex = std::str::from_utf8(&digits).unwrap_or("?");
-    let mut out = Remembering::new(io::writer(rt));
     let exit = show_text(alloc, kind, hex, &mut out);
     let reason = match exit {
         Exit::BadWords => bad_kind(alloc, kind),
@@ -43,6 +60,7 @@ fn perform_judge<R: Files + Input + Print + AllocGlobal>(
     names: &[String],
     interface: &str,
     device: &str,
+    json: bool,
 ) -> Answer {
     let Some(number) = interface_in(interface) else {
         return refused(rt, bad_interface(rt.alloc(), interface));
@@ -50,29 +68,35 @@ fn perform_judge<R: Files + Input + Print + AllocGlobal>(
     let Some(only) = device_in(device) else {
         return refused(rt, bad_device(rt.alloc(), device));
     };
-    judge_files(rt, names, number, only)
+    judge_files(rt, names, number, only, json)
 }
 
-/// Runs a script, where the words can be used: the script and its file can't both be standard input.
+/// Runs a script in these ways, where the words can be used: the script and its file can't both be standard input.
 fn perform_run<R: Files + Input + Print + AllocGlobal>(
     rt: &R,
     script: &str,
-    trace: bool,
     file: &Option<String>,
-    explain: bool,
+    ways: Ways<'_>,
 ) -> Answer
 where
     R::File: IsTerminal,
     R::Reader: IsTerminal,
 {
     let Some(name) = file else {
-        return run_script(rt, script, trace, None, explain);
+        return run_script(rt, script, ways);
     };
     if script == "-" && name.as_str() == "-" {
         return refused(rt, bad_file(rt.alloc()));
     }
     match read_file(rt, name) {
-        Ok(bytes) => run_script(rt, script, trace, Some(&bytes), explain),
+        Ok(bytes) => run_script(
+            rt,
+            script,
+            Ways {
+                file: Some(&bytes),
+                ..ways
+            },
+        ),
         Err(answer) => answer,
     }
 }
@@ -84,7 +108,7 @@ where
     R::Reader: IsTerminal,
 {
     match job {
-        Job::Check { files } => check_files(rt, files, explain),
+        Job::Check { files, json } => check_files(rt, files, explain, *json),
         Job::Add {
             file,
             to,
@@ -112,23 +136,47 @@ where
             pid,
             did,
         } => perform_set(rt, file, vid, pid, did, explain),
-        Job::Show { kind, hex } => perform_show(rt, kind, hex),
+        Job::Show { kind, hex, json } => perform_show(rt, kind, hex, *json),
         Job::Run {
             script,
             trace,
+            board,
             file,
-        } => perform_run(rt, script, *trace, file, explain),
+        } => perform_run(
+            rt,
+            script,
+            file,
+            Ways {
+                trace: *trace,
+                board: *board,
+                file: None,
+                explain,
+            },
+        ),
         Job::Judge {
             files,
             interface,
             device,
-        } => perform_judge(rt, files, interface, device),
+            json,
+        } => perform_judge(rt, files, interface, device, *json),
+    }
+}
+
+/// The parser's text, with other tips where it has misleading ones, if there is memory for it.
+fn print_advised<R: Print + AllocGlobal>(rt: &R, error: &clap::Error) -> io::Result<()> {
+    let alloc = rt.alloc();
+    let Ok(text) = format!(in alloc; "{error}") else {
+        return rt.print(error);
+    };
+    match advised(alloc, &text) {
+        Ok(text) => rt.print(text.as_str()),
+        Err(_) => rt.print(error),
     }
 }
 
 /// The parser's text, which for a mistake ends with how to ask for help.
-fn print_text<R: Print>(rt: &R, error: &clap::Error) -> u8 {
-    match rt.print(error) {
+fn print_text<R: Print + AllocGlobal>(rt: &R, error: &clap::Error) -> u8 {
+    match print_advised(rt, error) {
         Ok(()) => error.exit_code() as u8,
         Err(_error) => Exit::Fault.status(),
     }

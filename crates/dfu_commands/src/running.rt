@@ -12,7 +12,7 @@ use std::alloc::Global;
 use std::io::{Read, Write};
 
 /// Writes the line for a script that stopped. Where the writer failed nothing more is written.
-fn stop_text<W: Write>(alloc: Global, fault: ScriptFault, writer: &mut W) -> Exit
+pub(crate) fn stop_text<W: Write>(alloc: Global, fault: ScriptFault, writer: &mut W) -> Exit
     ensures { WritesStop fault (W.contents writer.old) (W.contents writer.new) result }
 {
     match fault {

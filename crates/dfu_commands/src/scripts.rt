@@ -1,5 +1,6 @@
 //! `dfu run`: the script of a file or of standard input, and how often it prints.
 
+use crate::beside::{Stop, run_beside_traced_with_stop, run_beside_with_stop};
 use crate::buffering::run_buffered_with_fault;
 use crate::running::run_traced_with_fault;
 use crate::sharing::Shared;
@@ -28,8 +29,40 @@ fn buffer_of<R: Print + AllocGlobal>(rt: &R, room: usize) -> BufWriter<Printer<'
     buffer
 }
 
+/// How a script is run, beside its own lines.
+#[derive(Clone, Copy)]
+pub(crate) struct Ways<'f> {
+    /// Whether each action of the host is told.
+    pub trace: bool,
+    /// Whether a board plays each event too.
+    pub board: bool,
+    /// The bytes that FILE stands for, if there are any.
+    pub file: Option<&'f [u8]>,
+    /// Whether the reason is wanted if it stops.
+    pub explain: bool,
+}
+
 /// Why a script stopped, where its line doesn't say it.
 fn stop_reason<S>(
+    alloc: Global,
+    name: &str,
+    stop: Stop,
+    has_file: bool,
+    watched: &mut Watched<S>,
+) -> Option<String> {
+    match stop {
+        Stop::Fault(fault) => fault_reason(alloc, name, fault, has_file, watched),
+        Stop::Differs(number) => line_reason(
+            alloc,
+            name,
+            number,
+            "after an event of it the board differs from the device; report that, with the script",
+        ),
+    }
+}
+
+/// Why a script stopped at a fault, where its line doesn't say it.
+fn fault_reason<S>(
     alloc: Global,
     name: &str,
     fault: ScriptFault,
@@ -85,6 +118,33 @@ fn line_reason(alloc: Global, name: &str, number: u32, why: &str) -> Option<Stri
     }
 }
 
+/// Runs a script on a board too, with its trace if that is wanted, as `run_traced` does.
+fn run_beside<R: Read + Drop, W: Write + Drop>(
+    alloc: Global,
+    ways: Ways<'_>,
+    reader: R,
+    buffer: BufWriter<W>,
+) -> (Exit, Option<Stop>) {
+    let shared = Shared::new(buffer);
+    let (exit, stop, _, is_traced) = if ways.trace {
+        run_beside_traced_with_stop(
+            alloc,
+            ways.file,
+            reader,
+            shared.writer(),
+            &mut shared.writer(),
+        )
+    } else {
+        let (exit, stop, writer) = run_beside_with_stop(alloc, ways.file, reader, shared.writer());
+        (exit, stop, writer, true)
+    };
+    if shared.finish() && is_traced {
+        (exit, stop)
+    } else {
+        (Exit::Fault, stop)
+    }
+}
+
 /// Runs a script with its trace: both have a writer of their own, and share the buffer. Where a line of the trace
 /// isn't out, or what is printed, the end is Fault.
 fn run_traced<R: Read + Drop, W: Write + Drop>(
@@ -108,53 +168,58 @@ fn run_traced<R: Read + Drop, W: Write + Drop>(
     }
 }
 
+/// Runs a script on the device alone, with its trace if that is wanted.
+fn run_alone<R: Read + Drop, W: Write + Drop>(
+    alloc: Global,
+    ways: Ways<'_>,
+    reader: R,
+    buffer: BufWriter<W>,
+) -> (Exit, Option<ScriptFault>) {
+    if ways.trace {
+        return run_traced(alloc, ways.file, reader, buffer);
+    }
+    let (exit, fault, _) = run_buffered_with_fault(alloc, ways.file, reader, buffer);
+    (exit, fault)
+}
+
 /// Runs a script through a buffer, so that it makes few writes. Where the script is typed at a
 /// terminal, what a line prints is out before the next one is waited for, so the buffer has no room.
 fn run_from<R: Print + AllocGlobal, S: Read + IsTerminal + Drop>(
     rt: &R,
     name: &str,
     script: S,
-    trace: bool,
-    file: Option<&[u8]>,
-    explain: bool,
+    ways: Ways<'_>,
 ) -> Answer {
     let alloc = rt.alloc();
     let room = if script.is_terminal() { 0 } else { BUFFER };
-    let mut watched = Watched::new(alloc, script, explain);
-    let (exit, fault) = if trace {
-        run_traced(alloc, file, &mut watched, buffer_of(rt, room))
+    let mut watched = Watched::new(alloc, script, ways.explain);
+    let (exit, stop) = if ways.board {
+        run_beside(alloc, ways, &mut watched, buffer_of(rt, room))
     } else {
-        let (exit, fault, _) = run_buffered_with_fault(
-            alloc,
-            file,
-            &mut watched,
-            buffer_of(rt, room),
-        );
-        (exit, fault)
+        let (exit, fault) = run_alone(alloc, ways, &mut watched, buffer_of(rt, room));
+        (exit, fault.map(Stop::Fault))
     };
-    let reason = match fault {
-        Some(fault) if explain => { stop_reason(alloc, name, fault, file.is_some(), &mut watched) }
+    let reason = match stop {
+        Some(stop) if ways.explain => {
+            stop_reason(alloc, name, stop, ways.file.is_some(), &mut watched)
+        }
         _ => None,
     };
     Answer { exit, reason }
 }
 
-/// Runs a script, or that of standard input where the name is `-`, with a line for each action of the host
-/// where `trace` is set, and with the reason where it stops and that is wanted. FILE stands for the bytes
-/// of `file`, if there are any.
+/// Runs a script, or that of standard input where the name is `-`, in these ways.
 pub(crate) fn run_script<R: Files + Input + Print + AllocGlobal>(
     rt: &R,
     script: &str,
-    trace: bool,
-    file: Option<&[u8]>,
-    explain: bool,
+    ways: Ways<'_>,
 ) -> Answer
 where
     R::File: IsTerminal,
     R::Reader: IsTerminal,
 {
     match open(rt, script) {
-        Ok(reader) => run_from(rt, script, reader, trace, file, explain),
+        Ok(reader) => run_from(rt, script, reader, ways),
         Err(error) => Answer {
             exit: fault_text(SuffixFault::Read, &mut io::writer(rt)),
             reason: error_reason(rt.alloc(), script, &error),

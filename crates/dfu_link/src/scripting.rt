@@ -12,6 +12,7 @@ mod hex_text;
 mod keywords;
 mod line;
 mod line_forms;
+mod on_board;
 mod output;
 mod pieces;
 mod playing;
@@ -26,4 +27,5 @@ mod words;
 
 pub use alone::{script, script_traced};
 pub use fault::ScriptFault;
+pub use on_board::{script_beside_traced_with, script_beside_with};
 pub use whole::{script_traced_with, script_with};

@@ -43,6 +43,18 @@ pub(crate) struct Trace<'n, N> {
     pub alloc: Global,
 }
 
+impl<'n, N> Trace<'n, N> {
+    /// A trace of which no line is written yet.
+    pub(crate) fn new(alloc: Global, writer: &'n mut N) -> Trace<'n, N> {
+        Trace {
+            writer,
+            is_broken: false,
+            count: Count { number: 0, ms: 0 },
+            alloc,
+        }
+    }
+}
+
 impl<N: Write> Watch<SimMedium> for Trace<'_, N> {
     fn look<'f>(&self, world: &World<'f, SimMedium>) -> Option<Look<'f>> {
         let (phase, action) = world.asks()?;

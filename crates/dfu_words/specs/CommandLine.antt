@@ -36,9 +36,9 @@ flag id = record (new_rule id) { long = Some id; action = Some SetTrue }
 abbrev pub explained : App → App
 explained app = with_rule app (flag (codes "explain"))
 
--- The command `check` takes each FILE.
+-- The command `check` takes each FILE, and the flag `--json`.
 abbrev pub check_app : App
-check_app = explained (with_rule (new_app (codes "check")) (repeated (codes "file")))
+check_app = explained (with_rule (with_rule (new_app (codes "check")) (repeated (codes "file"))) (flag (codes "json")))
 
 -- The command `add` takes FILE, OUT and the options `--vid`, `--pid` and `--did`, each `ffff` by default, `--format` and `--fill`.
 abbrev pub add_app : App
@@ -57,21 +57,24 @@ set_app =
     explained (with_rule (with_rule (with_rule (with_rule (new_app (codes "set")) (needed (codes "file"))) (unset (codes "vid")))
     (unset (codes "pid"))) (unset (codes "did")))
 
--- The command `show` takes KIND and each HEX.
+-- The command `show` takes KIND, each HEX and the flag `--json`.
 abbrev pub show_app : App
-show_app = explained (with_rule (with_rule (new_app (codes "show")) (needed (codes "kind"))) (repeated (codes "hex")))
+show_app =
+    explained (with_rule (with_rule (with_rule (new_app (codes "show")) (needed (codes "kind"))) (repeated (codes "hex")))
+    (flag (codes "json")))
 
--- The command `run` takes SCRIPT, the flag `--trace` and the option `--file`.
+-- The command `run` takes SCRIPT, the flags `--trace` and `--board`, and the option `--file`.
 abbrev pub run_app : App
 run_app =
-    explained (with_rule (with_rule (with_rule (new_app (codes "run")) (needed (codes "script"))) (flag (codes "trace")))
-    (unset (codes "file")))
+    explained (with_rule (with_rule (with_rule (with_rule (new_app (codes "run")) (needed (codes "script"))) (flag (codes "trace")))
+    (flag (codes "board"))) (unset (codes "file")))
 
--- The command `judge` takes each FILE, `-` by default, and the options `--interface`, `0` by default, and `--device`, `only` by default.
+-- The command `judge` takes each FILE, `-` by default, the options `--interface`, `0` by default, and `--device`, `only` by default, and
+-- the flag `--json`.
 abbrev pub judge_app : App
 judge_app =
-    explained (with_rule (with_rule (with_rule (new_app (codes "judge")) (optional (codes "file") (codes "-")))
-    (option (codes "interface") (codes "0"))) (option (codes "device") (codes "only")))
+    explained (with_rule (with_rule (with_rule (with_rule (new_app (codes "judge")) (optional (codes "file") (codes "-")))
+    (option (codes "interface") (codes "0"))) (option (codes "device") (codes "only"))) (flag (codes "json")))
 
 -- The command `dfu` with no subcommand yet has to get one, and has a version.
 abbrev pub bare_app : App
@@ -97,7 +100,8 @@ is_on (Some text) = bytes_eq text (codes "true")
 -- The job is what the subcommand and its arguments state, each text in its own place.
 abbrev pub States : Option (Text × List Row) → Job → Type 0
 States None job = ⊥
-States (Some p) (Check files) = (p.0 ≡ codes "check") × (all_of (codes "file") p.1 ≡ Some (map string_bytes files.items))
+States (Some p) (Check files json) = (p.0 ≡ codes "check") × (all_of (codes "file") p.1 ≡ Some (map string_bytes files.items))
+    × (json ≡ is_on (first_of (codes "json") p.1))
 States (Some p) (Add file to vid pid did format fill) =
     (p.0 ≡ codes "add") × (first_of (codes "file") p.1 ≡ Some (string_bytes file)) × (first_of (codes "to") p.1 ≡ Some (string_bytes to))
     × (first_of (codes "vid") p.1 ≡ Some (string_bytes vid)) × (first_of (codes "pid") p.1 ≡ Some (string_bytes pid))
@@ -109,13 +113,15 @@ States (Some p) (Change file vid pid did) =
     (p.0 ≡ codes "set") × (first_of (codes "file") p.1 ≡ Some (string_bytes file))
     × (first_of (codes "vid") p.1 ≡ option_map string_bytes vid) × (first_of (codes "pid") p.1 ≡ option_map string_bytes pid)
     × (first_of (codes "did") p.1 ≡ option_map string_bytes did)
-States (Some p) (Show kind hex) = (p.0 ≡ codes "show") × (first_of (codes "kind") p.1 ≡ Some (string_bytes kind))
-    × (all_of (codes "hex") p.1 ≡ Some (map string_bytes hex.items))
-States (Some p) (Run script trace file) = (p.0 ≡ codes "run") × (first_of (codes "script") p.1 ≡ Some (string_bytes script))
-    × (trace ≡ is_on (first_of (codes "trace") p.1)) × (first_of (codes "file") p.1 ≡ option_map string_bytes file)
-States (Some p) (Judge files interface device) =
+States (Some p) (Show kind hex json) = (p.0 ≡ codes "show") × (first_of (codes "kind") p.1 ≡ Some (string_bytes kind))
+    × (all_of (codes "hex") p.1 ≡ Some (map string_bytes hex.items)) × (json ≡ is_on (first_of (codes "json") p.1))
+States (Some p) (Run script trace board file) = (p.0 ≡ codes "run") × (first_of (codes "script") p.1 ≡ Some (string_bytes script))
+    × (trace ≡ is_on (first_of (codes "trace") p.1)) × (board ≡ is_on (first_of (codes "board") p.1))
+    × (first_of (codes "file") p.1 ≡ option_map string_bytes file)
+States (Some p) (Judge files interface device json) =
     (p.0 ≡ codes "judge") × (all_of (codes "file") p.1 ≡ Some (map string_bytes files.items))
     × (first_of (codes "interface") p.1 ≡ Some (string_bytes interface)) × (first_of (codes "device") p.1 ≡ Some (string_bytes device))
+    × (json ≡ is_on (first_of (codes "json") p.1))
 
 -- The rows of a subcommand, which has none where there is no subcommand.
 abbrev pub rows_in : Option (Text × List Row) → List Row

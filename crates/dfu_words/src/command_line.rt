@@ -153,6 +153,7 @@ fn check_command<'a>(alloc: Global) -> Result<Command<'a>, AllocError>
         Ok(command),
         repeated(alloc, "file", "FILE", help::CHECK_FILE),
     );
+    let command = with(command, flag(alloc, "json", help::JSON));
     explained(alloc, command)
 }
 
@@ -200,6 +201,7 @@ fn show_command<'a>(alloc: Global) -> Result<Command<'a>, AllocError>
     let command = described(alloc, "show", help::SHOW, help::SHOW_EXAMPLE);
     let command = with(Ok(command), needed(alloc, "kind", "KIND", help::SHOW_KIND));
     let command = with(command, repeated(alloc, "hex", "HEX", help::SHOW_HEX));
+    let command = with(command, flag(alloc, "json", help::JSON));
     explained(alloc, command)
 }
 
@@ -213,6 +215,7 @@ fn run_command<'a>(alloc: Global) -> Result<Command<'a>, AllocError>
         needed(alloc, "script", "SCRIPT", help::RUN_SCRIPT),
     );
     let command = with(command, flag(alloc, "trace", help::RUN_TRACE));
+    let command = with(command, flag(alloc, "board", help::RUN_BOARD));
     let command = with(command, unset(alloc, "file", help::RUN_FILE));
     explained(alloc, command)
 }
@@ -229,6 +232,7 @@ fn judge_command<'a>(alloc: Global) -> Result<Command<'a>, AllocError>
         option(alloc, "interface", "0", help::JUDGE_INTERFACE),
     );
     let command = with(command, option(alloc, "device", "only", help::JUDGE_DEVICE));
+    let command = with(command, flag(alloc, "json", help::JSON));
     explained(alloc, command)
 }
 

@@ -18,6 +18,8 @@ Exit status:
 
 pub(crate) const EXPLAIN: &str = "Print the reason of a refusal on standard error";
 
+pub(crate) const JSON: &str = "Print each line as a JSON object";
+
 pub(crate) const CHECK: &str = "Check a DFU file and print what its suffix says";
 
 pub(crate) const CHECK_FILE: &str = "The file, or - for standard input";
@@ -80,6 +82,9 @@ pub(crate) const RUN_SCRIPT: &str = "The script, or - for standard input";
 
 pub(crate) const RUN_TRACE: &str =
     "Print a line for each action of the host too, which begins with #";
+
+pub(crate) const RUN_BOARD: &str =
+    "Play each event on a board beside the device too, and refuse at the first difference";
 
 pub(crate) const RUN_FILE: &str =
     "The file that FILE stands for in offer and verify, or - for standard input";

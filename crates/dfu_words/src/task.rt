@@ -7,6 +7,8 @@ pub enum Job {
     Check {
         /// Each FILE, one at least.
         files: Vec<String>,
+        /// Whether each line is to be an object: `--json` was given.
+        json: bool,
     },
     /// Write a file and a suffix for it.
     Add {
@@ -49,6 +51,8 @@ pub enum Job {
         kind: String,
         /// Each HEX, one at least: the bytes, two hexadecimal digits each.
         hex: Vec<String>,
+        /// Whether each line is to be an object: `--json` was given.
+        json: bool,
     },
     /// Run a script, or that of standard input where `script` is `-`.
     Run {
@@ -56,6 +60,8 @@ pub enum Job {
         script: String,
         /// Whether each action is to be told: `--trace` was given.
         trace: bool,
+        /// Whether each event is to be played on a board beside the device: `--board` was given.
+        board: bool,
         /// The file that FILE stands for, or standard input where it is `-`; none without `--file`.
         file: Option<String>,
     },
@@ -67,6 +73,8 @@ pub enum Job {
         interface: String,
         /// BUS.DEVICE, or `only`.
         device: String,
+        /// Whether each line is to be an object: `--json` was given.
+        json: bool,
     },
 }
 

@@ -111,7 +111,8 @@ fn check_job(alloc: Global, found: &ArgMatches<'_>) -> Result<Job, JobFault>
     ensures memory { IfErr result (λ f. f ≡ JobFault.NoMemory) }
 {
     let files = texts_of(alloc, found, "file")?;
-    Ok(Job::Check { files })
+    let json = is_on(found, "json");
+    Ok(Job::Check { files, json })
 }
 
 fn add_job(alloc: Global, found: &ArgMatches<'_>) -> Result<Job, JobFault>
@@ -171,7 +172,8 @@ fn show_job(alloc: Global, found: &ArgMatches<'_>) -> Result<Job, JobFault>
 {
     let kind = text_of(alloc, found, "kind")?;
     let hex = texts_of(alloc, found, "hex")?;
-    Ok(Job::Show { kind, hex })
+    let json = is_on(found, "json");
+    Ok(Job::Show { kind, hex, json })
 }
 
 fn run_job(alloc: Global, found: &ArgMatches<'_>) -> Result<Job, JobFault>
@@ -181,10 +183,12 @@ fn run_job(alloc: Global, found: &ArgMatches<'_>) -> Result<Job, JobFault>
 {
     let script = text_of(alloc, found, "script")?;
     let trace = is_on(found, "trace");
+    let board = is_on(found, "board");
     let file = text_if(alloc, found, "file")?;
     Ok(Job::Run {
         script,
         trace,
+        board,
         file,
     })
 }
@@ -197,10 +201,12 @@ fn judge_job(alloc: Global, found: &ArgMatches<'_>) -> Result<Job, JobFault>
     let files = texts_of(alloc, found, "file")?;
     let interface = text_of(alloc, found, "interface")?;
     let device = text_of(alloc, found, "device")?;
+    let json = is_on(found, "json");
     Ok(Job::Judge {
         files,
         interface,
         device,
+        json,
     })
 }
 

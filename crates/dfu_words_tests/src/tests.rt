@@ -49,11 +49,15 @@ fn run_told(
     alloc: Global,
     script: &str,
     trace: bool,
+    board: bool,
     file: &Option<String>,
 ) -> Result<String, AllocError> {
     let mut line = joined(alloc, &["run", script])?;
     if trace {
         line.push_str("traced;")?;
+    }
+    if board {
+        line.push_str("on a board too;")?;
     }
     if let Some(file) = file {
         line.push_str(file)?;
@@ -93,27 +97,40 @@ fn made_told(alloc: Global, job: Job) -> Result<String, AllocError> {
     }
 }
 
+/// Adds that the lines are to be objects.
+fn push_json(line: &mut String, json: bool) -> Result<(), AllocError> {
+    if json { line.push_str("json;") } else { Ok(()) }
+}
+
 /// A job in words.
 fn told(alloc: Global, job: Job) -> Result<String, AllocError> {
     match job {
-        Job::Check { files } => list_told(alloc, "check", &files),
-        Job::Show { kind, hex } => {
+        Job::Check { files, json } => {
+            let mut line = list_told(alloc, "check", &files)?;
+            push_json(&mut line, json)?;
+            Ok(line)
+        }
+        Job::Show { kind, hex, json } => {
             let mut line = joined(alloc, &["show", &kind])?;
             line.push_str(&list_told(alloc, "hex", &hex)?)?;
+            push_json(&mut line, json)?;
             Ok(line)
         }
         Job::Run {
             script,
             trace,
+            board,
             file,
-        } => run_told(alloc, &script, trace, &file),
+        } => run_told(alloc, &script, trace, board, &file),
         Job::Judge {
             files,
             interface,
             device,
+            json,
         } => {
             let mut line = list_told(alloc, "judge", &files)?;
             line.push_str(&joined(alloc, &[&interface, &device])?)?;
+            push_json(&mut line, json)?;
             Ok(line)
         }
         job => made_told(alloc, job),
@@ -141,7 +158,7 @@ fn outcome(alloc: Global, line: &str) -> Result<String, AllocError> {
 }
 
 /// Words, and the job that they are.
-static JOBS: [(&str, &str); 44] = [
+static JOBS: [(&str, &str); 52] = [
     (
         "dfu add a b --pid 0001",
         "add;a;b;ffff;0001;ffff;none;none;",
@@ -156,6 +173,7 @@ static JOBS: [(&str, &str); 44] = [
     ("dfu check -", "check;-;"),
     ("dfu check a b c", "check;a;b;c;"),
     ("dfu check a --explain b", "check;a;b;"),
+    ("dfu check --json a b", "check;a;b;json;"),
     ("dfu check a --fill ff", "words 2"),
     ("dfu extract a b", "extract;a;b;"),
     ("dfu extract a", "words 2"),
@@ -166,9 +184,17 @@ static JOBS: [(&str, &str); 44] = [
     ("dfu set a b", "words 2"),
     ("dfu show status 00", "show;status;hex;00;"),
     ("dfu show status 00 05", "show;status;hex;00;05;"),
+    (
+        "dfu show status 00 --json 05",
+        "show;status;hex;00;05;json;",
+    ),
     ("dfu show status", "words 2"),
     ("dfu run -", "run;-;"),
     ("dfu run --trace a", "run;a;traced;"),
+    ("dfu run --board a", "run;a;on a board too;"),
+    ("dfu run a --file b --board", "run;a;on a board too;b;"),
+    ("dfu run --trace --board a", "run;a;traced;on a board too;"),
+    ("dfu run --board=1 a", "words 2"),
     ("dfu run a --file b", "run;a;b;"),
     ("dfu run --file=- a --trace", "run;a;traced;-;"),
     ("dfu run a --file", "words 2"),
@@ -177,6 +203,8 @@ static JOBS: [(&str, &str); 44] = [
     ("dfu judge a --interface 2", "judge;a;2;only;"),
     ("dfu judge --device=1.7 a", "judge;a;0;1.7;"),
     ("dfu judge a b", "judge;a;b;0;only;"),
+    ("dfu judge --json", "judge;-;0;only;json;"),
+    ("dfu extract a b --json", "words 2"),
     ("dfu judge a b --device 1.2 c", "judge;a;b;c;0;1.2;"),
     ("dfu", "words 2"),
     ("dfu check", "words 2"),

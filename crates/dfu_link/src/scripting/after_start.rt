@@ -1,7 +1,7 @@
 //! The lines of a script once the device is started.
 //!
 //! A `World` borrows the file that it was offered, so each session has a world of its own, which is
-//! made over the device and taken apart again.
+//! made over the device and taken apart again. So is that of a board that plays the script beside it.
 
 ghost use Rattle.std.specs.Prelude.{◌≤◌, OnOk, IfOk, IfErr, IfSome};
 ghost use Rattle.dfu_sim.specs.Refusing.{IsLive};
@@ -10,6 +10,7 @@ ghost use Rattle.dfu_link.specs.inside.Expected.{at_point};
 ghost use Rattle.dfu_link.specs.inside.Source.{Next, GivesLine, SourceState};
 ghost use Rattle.dfu_link.specs.inside.Moving.{LineEnds, Ends, LinesDone, IsUnarmed, Plainly, PlainlyFalls, MovesAndFalls};
 
+use crate::beside::{Beside, Played};
 use crate::scripting::expectation::{Ahead, expect};
 use crate::scripting::fault::ScriptFault;
 use crate::scripting::held::{file_of, tear_of};
@@ -66,6 +67,7 @@ fn live_line<'f, T: Watch<M>, M: Faulty, W: Write>(
     world: &mut World<'f, M>,
     line: &[u8],
     number: u32,
+    beside: &mut Played<'f, '_>,
     ahead: &mut Ahead<'_>,
     writer: &mut W,
     watch: &mut T,
@@ -79,15 +81,18 @@ fn live_line<'f, T: Watch<M>, M: Faulty, W: Write>(
         return Ok(());
     };
     let torn = tear_of(alloc, events)?;
-    play_live::<T, M, W>(world, events, &torn, ahead, writer, watch)
+    beside.number = number;
+    play_live::<T, M, W>(world, events, &torn, beside, ahead, writer, watch)
 }
 
 /// Does lines until no session is live, and gives the device back; or all that are left, and then
 /// writes the line of the image.
-fn follow<'f, T: Watch<M>, R: Read + Drop, M: Faulty, W: Write>(
+fn follow<'f, 'd, T: Watch<M>, R: Read + Drop, M: Faulty, W: Write>(
     alloc: Global,
     world: World<'f, M>,
     source: &mut Source<R>,
+    played: Played<'f, 'd>,
+    beside: &mut Beside<'d>,
     ahead: &mut Ahead<'_>,
     writer: &mut W,
     watch: &mut T,
@@ -100,8 +105,10 @@ fn follow<'f, T: Watch<M>, R: Read + Drop, M: Faulty, W: Write>(
         (W.contents writer.new) f) }
 {
     let mut world = world;
+    let mut played = played;
     'lines: loop {
         if !world.is_live() {
+            beside.end(played);
             return Ok(Some(world.release()));
         }
         if source.next()? {
@@ -110,6 +117,7 @@ fn follow<'f, T: Watch<M>, R: Read + Drop, M: Faulty, W: Write>(
                 &mut world,
                 source.line(),
                 source.number(),
+                &mut played,
                 ahead,
                 writer,
                 watch,
@@ -123,10 +131,11 @@ fn follow<'f, T: Watch<M>, R: Read + Drop, M: Faulty, W: Write>(
 
 /// Does the line that the source gave while no session is live, and those after it until the session
 /// that it begins is over. The device is given back, unless all lines were done first.
-fn act<'g, T: Watch<M>, R: Read + Drop, M: Faulty, W: Write>(
+fn act<'g, 'd, T: Watch<M>, R: Read + Drop, M: Faulty, W: Write>(
     alloc: Global,
     device: Device<M>,
     source: &mut Source<R>,
+    beside: &mut Beside<'d>,
     ahead: &mut Ahead<'g>,
     writer: &mut W,
     watch: &mut T,
@@ -154,8 +163,18 @@ fn act<'g, T: Watch<M>, R: Read + Drop, M: Faulty, W: Write>(
     let bytes = file.bytes();
     let torn = tear_of(alloc, events)?;
     let mut world = World::new(alloc, device);
-    play_events::<T, M, W>(&mut world, events, bytes, &torn, ahead, writer, watch)?;
-    let after = follow::<T, R, M, W>(alloc, world, source, ahead, writer, watch)?;
+    let mut played = beside.begin(alloc, source.number());
+    play_events::<T, M, W>(
+        &mut world,
+        events,
+        bytes,
+        &torn,
+        &mut played,
+        ahead,
+        writer,
+        watch,
+    )?;
+    let after = follow::<T, R, M, W>(alloc, world, source, played, beside, ahead, writer, watch)?;
     Ok(after)
 }
 
@@ -166,6 +185,7 @@ pub(crate) fn run_on<T: Watch<M>, R: Read + Drop, M: Faulty, W: Write>(
     device: Device<M>,
     source: &mut Source<R>,
     given: bool,
+    beside: Beside<'_>,
     ahead: Ahead<'_>,
     writer: &mut W,
     watch: &mut T,
@@ -177,10 +197,19 @@ pub(crate) fn run_on<T: Watch<M>, R: Read + Drop, M: Faulty, W: Write>(
         (W.contents writer.old) (W.contents writer.new) f) }
 {
     let mut device = device;
+    let mut beside = beside;
     let mut ahead = ahead;
     let mut more = given;
     while more {
-        match act::<T, R, M, W>(alloc, device, source, &mut ahead, writer, watch)? {
+        match act::<T, R, M, W>(
+            alloc,
+            device,
+            source,
+            &mut beside,
+            &mut ahead,
+            writer,
+            watch,
+        )? {
             Some(after) => device = after,
             None => return Ok(()),
         }

@@ -9,6 +9,7 @@ ghost use Rattle.dfu_link.specs.Said.{GoesOn, harm_fate, said_by, tear_bytes};
 ghost use Rattle.dfu_link.specs.inside.Expected.{expectation_of, point_at, at_point};
 ghost use Rattle.dfu_link.specs.inside.Moving.{Plays, Acts, file_bytes};
 
+use crate::beside::Played;
 use crate::scripting::expectation::{Ahead, Expectation};
 use crate::scripting::fault::ScriptFault;
 use crate::scripting::line::{EventLine, HarmKind};
@@ -19,10 +20,11 @@ use dfu_sim::{Aim, Event, Fate, LinkFault, World};
 use dfu_slots::Faulty;
 use std::io::Write;
 
-/// Lets an event come that is no action of the host, and writes what is printed of it.
+/// Lets an event come that is no action of the host, to the board beside the device too, and writes what is printed of it.
 fn play<'f, M: Faulty, W: Write>(
     world: &mut World<'f, M>,
     event: Event<'f, '_>,
+    beside: &mut Played<'f, '_>,
     next: &mut Option<Expectation>,
     writer: &mut W,
 ) -> Result<(), ScriptFault>
@@ -30,24 +32,32 @@ fn play<'f, M: Faulty, W: Write>(
         (expectation_of next.new) (W.contents writer.new) result }
 {
     let answer = world.step(event);
+    beside.meet::<M>(event, answer, world);
     say_next(writer, next, answer, world.uploaded())
 }
 
-/// Lets the host take an action, and shows the link to who watches before and after it. What is printed of it is
-/// still to be written.
+/// Lets the host take an action, on the board beside the device too, and shows the link to who watches before and after it. What is printed
+/// of it is still to be written.
 fn take<'f, T: Watch<M>, M: Faulty>(
     world: &mut World<'f, M>,
     fate: Fate<'_>,
+    beside: &mut Played<'f, '_>,
     watch: &mut T,
 ) -> Result<Option<Report>, LinkFault>
     ensures play { HasCome world.old (Goes (fate_of fate.entry) (harm_in fate.entry)) world.new result }
     ensures active { ShowsActive world.new.bench }
 {
-    let look = watch.look(world);
+    // Once the board differs the run is over, and what it still does isn't told.
+    let look = if beside.is_over() {
+        None
+    } else {
+        watch.look(world)
+    };
     let answer = world.step(Event::Go(fate));
     if let Some(look) = look {
         watch.tell(&look, fate, world);
     }
+    beside.meet::<M>(Event::Go(fate), answer, world);
     answer
 }
 
@@ -56,6 +66,7 @@ fn play_actions<'f, T: Watch<M>, M: Faulty, W: Write>(
     world: &mut World<'f, M>,
     fate: Fate<'_>,
     times: u32,
+    beside: &mut Played<'f, '_>,
     next: &mut Option<Expectation>,
     writer: &mut W,
     watch: &mut T,
@@ -64,7 +75,7 @@ fn play_actions<'f, T: Watch<M>, M: Faulty, W: Write>(
         (W.contents writer.old) world.new.bench (expectation_of next.new) (W.contents writer.new) result }
 {
     for turn in 0..times {
-        let answer = take::<T, M>(world, fate, watch);
+        let answer = take::<T, M>(world, fate, beside, watch);
         say_next(writer, next, answer, world.uploaded())?;
     }
     Ok(())
@@ -74,6 +85,7 @@ fn play_actions<'f, T: Watch<M>, M: Faulty, W: Write>(
 /// refusal where none is live.
 fn pass_on<'f, T: Watch<M>, M: Faulty, W: Write>(
     world: &mut World<'f, M>,
+    beside: &mut Played<'f, '_>,
     next: &mut Option<Expectation>,
     writer: &mut W,
     watch: &mut T,
@@ -82,7 +94,7 @@ fn pass_on<'f, T: Watch<M>, M: Faulty, W: Write>(
         (W.contents writer.old) (point_at given limits (expectation_of next.new) world.new.bench) (W.contents writer.new) result }
 {
     'passes: loop {
-        let answer = take::<T, M>(world, Fate::Pass, watch);
+        let answer = take::<T, M>(world, Fate::Pass, beside, watch);
         say_next(writer, next, answer, world.uploaded())?;
         if !is_silent(answer) {
             return Ok(());
@@ -118,6 +130,7 @@ pub(crate) fn play_events<'f, T: Watch<M>, M: Faulty, W: Write>(
     events: EventLine<'_, '_>,
     file: &'f [u8],
     torn: &[u8],
+    beside: &mut Played<'f, '_>,
     ahead: &mut Ahead<'_>,
     writer: &mut W,
     watch: &mut T,
@@ -130,24 +143,36 @@ pub(crate) fn play_events<'f, T: Watch<M>, M: Faulty, W: Write>(
     let limits = ahead.limits;
     match events {
         EventLine::Offer { aim, .. } => {
-            play::<M, W>(world, offered(aim, file, limits), &mut ahead.next, writer)
+            play::<M, W>(
+                world,
+                offered(aim, file, limits),
+                beside,
+                &mut ahead.next,
+                writer,
+            )
         }
-        EventLine::Upload => play::<M, W>(world, Event::Upload { limits }, &mut ahead.next, writer),
-        EventLine::Abort => play::<M, W>(world, Event::Abort, &mut ahead.next, writer),
+        EventLine::Upload => play::<M, W>(
+            world,
+            Event::Upload { limits },
+            beside,
+            &mut ahead.next,
+            writer,
+        ),
+        EventLine::Abort => play::<M, W>(world, Event::Abort, beside, &mut ahead.next, writer),
         EventLine::Go { fate, times } => {
-            play_actions::<T, M, W>(world, fate, times, &mut ahead.next, writer, watch)
+            play_actions::<T, M, W>(world, fate, times, beside, &mut ahead.next, writer, watch)
         }
         EventLine::GoHarmed { harm, writes, .. } => {
             let fate = harmed(harm, writes, torn);
-            play_actions::<T, M, W>(world, fate, 1, &mut ahead.next, writer, watch)
+            play_actions::<T, M, W>(world, fate, 1, beside, &mut ahead.next, writer, watch)
         }
-        EventLine::GoOn => pass_on::<T, M, W>(world, &mut ahead.next, writer, watch),
+        EventLine::GoOn => pass_on::<T, M, W>(world, beside, &mut ahead.next, writer, watch),
         EventLine::Time(ms) => {
             watch.pass(ms);
-            play::<M, W>(world, Event::Time(ms), &mut ahead.next, writer)
+            play::<M, W>(world, Event::Time(ms), beside, &mut ahead.next, writer)
         }
-        EventLine::Reset => play::<M, W>(world, Event::Reset, &mut ahead.next, writer),
-        EventLine::Cut => play::<M, W>(world, Event::Cut, &mut ahead.next, writer),
+        EventLine::Reset => play::<M, W>(world, Event::Reset, beside, &mut ahead.next, writer),
+        EventLine::Cut => play::<M, W>(world, Event::Cut, beside, &mut ahead.next, writer),
     }
 }
 
@@ -156,6 +181,7 @@ pub(crate) fn play_live<'f, T: Watch<M>, M: Faulty, W: Write>(
     world: &mut World<'f, M>,
     events: EventLine<'_, '_>,
     torn: &[u8],
+    beside: &mut Played<'f, '_>,
     ahead: &mut Ahead<'_>,
     writer: &mut W,
     watch: &mut T,
@@ -165,13 +191,15 @@ pub(crate) fn play_live<'f, T: Watch<M>, M: Faulty, W: Write>(
     ensures { Acts (at_point ahead.old world.old.bench) (said_by events.entry) (W.contents writer.old) (at_point ahead.new world.new.bench)
         (W.contents writer.new) result }
 {
+    let limits = ahead.limits;
     match events {
-        EventLine::Offer { .. } => {
+        EventLine::Offer { aim, .. } => {
+            beside.meet::<M>(offered(aim, &[], limits), Err(LinkFault::HostBusy), world);
             // Called for its clause `active`, which a refusal's bench needs; what it answers isn't
             // used.
             let _ = world.device();
             say_next(writer, &mut ahead.next, Err(LinkFault::HostBusy), &[])
         }
-        _ => play_events::<T, M, W>(world, events, &[], torn, ahead, writer, watch),
+        _ => play_events::<T, M, W>(world, events, &[], torn, beside, ahead, writer, watch),
     }
 }

@@ -7,6 +7,7 @@ ghost use Rattle.dfu_link.specs.Printed.{HasPrinted};
 ghost use Rattle.dfu_link.specs.inside.Moving.{Configured, CannotConfigure};
 ghost use Rattle.dfu_link.specs.inside.SetupView.{settings_of};
 
+use crate::beside::Beside;
 use crate::scripting::after_start::run_on;
 use crate::scripting::expectation::Ahead;
 use crate::scripting::fault::ScriptFault;
@@ -15,11 +16,11 @@ use crate::scripting::reading::parse;
 use crate::scripting::setup::{Setup, beginning, set, set_limits};
 use crate::scripting::source::Source;
 use crate::scripting::starting::start;
+use crate::seen::Difference;
 use crate::watch::{Nobody, Trace, Watch};
 use dfu_host::Limits;
 use dfu_sim::laws::image_shown;
 use dfu_slots::SimMedium;
-use dfu_trace::Count;
 use std::alloc::Global;
 use std::io::{Read, Write};
 
@@ -50,13 +51,15 @@ fn configure<R: Read + Drop>(
     }
 }
 
-/// Runs what a reader gives, where FILE stands for these bytes.
-fn run_lines<T: Watch<SimMedium>, R: Read + Drop, W: Write>(
+/// Runs what a reader gives, where FILE stands for these bytes, on a board beside the device too if that is wanted.
+pub(super) fn run_lines<T: Watch<SimMedium>, R: Read + Drop, W: Write>(
     alloc: Global,
     given: Option<&[u8]>,
     reader: R,
     writer: &mut W,
     watch: &mut T,
+    wants_board: bool,
+    seen: &Difference,
 ) -> Result<(), ScriptFault>
     ensures { IfSome (R.remaining reader)
         (λ text. Ended (given_bytes given.entry) text (W.contents writer.old) (W.contents writer.new) result) }
@@ -65,12 +68,22 @@ fn run_lines<T: Watch<SimMedium>, R: Read + Drop, W: Write>(
     let mut setup = beginning(given);
     let more = configure(alloc, &mut setup, &mut source)?;
     let device = start(alloc, &setup)?;
+    let beside = Beside::start(alloc, wants_board, &device, seen)?;
     let ahead = Ahead {
         given: setup.given,
         limits: setup.limits,
         next: None,
     };
-    run_on::<T, R, SimMedium, W>(alloc, device, &mut source, more, ahead, writer, watch)
+    run_on::<T, R, SimMedium, W>(
+        alloc,
+        device,
+        &mut source,
+        more,
+        beside,
+        ahead,
+        writer,
+        watch,
+    )
 }
 
 /// Runs a script: reads it line by line, and does each line before the next one is read. Lines that
@@ -107,7 +120,15 @@ pub fn script_with<R: Read + Drop, W: Write>(
 {
     // Called for its law, which `printed` needs: no image but the one that is shown is active.
     image_shown();
-    run_lines::<Nobody, R, W>(alloc, given, reader, writer, &mut Nobody)
+    run_lines::<Nobody, R, W>(
+        alloc,
+        given,
+        reader,
+        writer,
+        &mut Nobody,
+        false,
+        &Difference::none(),
+    )
 }
 
 /// Runs a script as `script_with` does, and writes a line for each action of the host to `trace`, before what
@@ -136,12 +157,15 @@ pub fn script_traced_with<R: Read + Drop, W: Write, N: Write>(
 {
     // Called for its law, which `printed` needs: no image but the one that is shown is active.
     image_shown();
-    let mut told = Trace {
-        writer: trace,
-        is_broken: false,
-        count: Count { number: 0, ms: 0 },
+    let mut told = Trace::new(alloc, trace);
+    let answer = run_lines::<Trace<'_, N>, R, W>(
         alloc,
-    };
-    let answer = run_lines::<Trace<'_, N>, R, W>(alloc, given, reader, writer, &mut told);
+        given,
+        reader,
+        writer,
+        &mut told,
+        false,
+        &Difference::none(),
+    );
     (answer, !told.is_broken)
 }

@@ -1,0 +1,48 @@
+//! What a packet says of a control transfer.
+
+use crate::address::Address;
+
+/// Which part of a transfer a packet is.
+#[derive(Clone, Copy, Debug, PartialEq, Eq)]
+pub enum Kind {
+    /// It submits the transfer.
+    Submits,
+    /// It has the bytes of a transfer that was submitted without them.
+    Carries,
+    /// It completes the transfer.
+    Completes,
+    /// None of these.
+    Other,
+}
+
+/// How a transfer ended.
+#[derive(Clone, Copy, Debug, PartialEq, Eq)]
+pub enum Ending {
+    /// It was done.
+    Done,
+    /// The device stalled it.
+    Stalled,
+    /// It failed in another way, or has not ended.
+    Failed,
+}
+
+/// An event of a control transfer to endpoint 0.
+#[derive(Clone, Copy)]
+pub struct UsbEvent<'c> {
+    /// Which part of the transfer it is.
+    pub kind: Kind,
+    /// What joins a submission and its completion.
+    pub id: [u8; 8],
+    /// Where the device is.
+    pub address: Address,
+    /// Of a submission: the eight bytes that begin the request.
+    pub setup: Option<[u8; 8]>,
+    /// How it ended, if it completes the transfer.
+    pub ending: Ending,
+    /// How many bytes were moved, if the packet says so.
+    pub moved: Option<u32>,
+    /// The bytes of the transfer that were captured.
+    pub data: &'c [u8],
+    /// Not all of its bytes were captured.
+    pub is_cut: bool,
+}

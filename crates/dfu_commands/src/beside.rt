@@ -1,0 +1,81 @@
+//! `dfu run --board`: what a script prints that a board plays too, beside the device.
+
+ghost use Rattle.std.specs.Prelude.{◌≡◌, None};
+ghost use Rattle.dfu_link.specs.Said.{given_bytes};
+ghost use Rattle.dfu_link.specs.Falls.{Ended};
+ghost use Rattle.dfu_link.specs.Printed.{HasPrinted};
+ghost use Rattle.dfu_commands.specs.BesideText.{WritesBeside, PrintsBeside};
+
+use crate::numbering::number_text;
+use crate::running::stop_text;
+use dfu_link::{ScriptFault, script_beside_traced_with, script_beside_with};
+use dfu_text::Exit;
+use std::alloc::Global;
+use std::io::{Read, Write};
+
+/// Where a script stopped that a board plays too.
+#[derive(Clone, Copy)]
+pub(crate) enum Stop {
+    /// At a fault of the script.
+    Fault(ScriptFault),
+    /// At an event of this line, after which the board differs from the device.
+    Differs(u32),
+}
+
+/// Runs a script as `run_with_fault` does, with each event on a board beside the device too. If the board differs, `refused BoardDiffers N`
+/// is written with the number of the line, and the end is Refused. It returns beside the end where the script stopped, if it did,
+/// and the writer.
+pub(crate) fn run_beside_with_stop<R: Read + Drop, W: Write + Drop>(
+    alloc: Global,
+    file: Option<&[u8]>,
+    reader: R,
+    writer: W,
+) -> (Exit, Option<Stop>, W)
+    ensures run { WritesBeside (given_bytes file.entry) (R.remaining reader) (W.contents writer) (W.contents result.2) result.0 }
+    ensures printed { PrintsBeside (given_bytes file.entry) (R.remaining reader) (W.contents writer) (W.contents result.2) result.0 }
+    // If it stopped nowhere the script ran to its end.
+    ensures stop { result.1 ≡ None → result.0 ≡ Exit.Done }
+{
+    let (answer, line, mut writer) = script_beside_with(alloc, file, reader, writer);
+    if let Some(number) = line {
+        let exit = number_text(alloc, "refused BoardDiffers ", number, &mut writer);
+        return (exit, Some(Stop::Differs(number)), writer);
+    }
+    match answer {
+        Ok(()) => (Exit::Done, None, writer),
+        Err(fault) => {
+            let exit = stop_text(alloc, fault, &mut writer);
+            (exit, Some(Stop::Fault(fault)), writer)
+        }
+    }
+}
+
+/// Does what `run_beside_with_stop` does, with a line for each action of the host to `trace`, as `dfu_link::script_beside_traced_with`
+/// writes it. It returns beside these whether each line of the trace is out.
+pub(crate) fn run_beside_traced_with_stop<R: Read + Drop, W: Write + Drop, N: Write>(
+    alloc: Global,
+    file: Option<&[u8]>,
+    reader: R,
+    writer: W,
+    trace: &mut N,
+) -> (Exit, Option<Stop>, W, bool)
+    ensures run { WritesBeside (given_bytes file.entry) (R.remaining reader) (W.contents writer) (W.contents result.2) result.0 }
+    ensures printed { PrintsBeside (given_bytes file.entry) (R.remaining reader) (W.contents writer) (W.contents result.2) result.0 }
+    // If it stopped nowhere the script ran to its end.
+    ensures stop { result.1 ≡ None → result.0 ≡ Exit.Done }
+{
+    let (answer, line, mut writer, is_traced) = script_beside_traced_with(
+        alloc, file, reader, writer, trace,
+    );
+    if let Some(number) = line {
+        let exit = number_text(alloc, "refused BoardDiffers ", number, &mut writer);
+        return (exit, Some(Stop::Differs(number)), writer, is_traced);
+    }
+    match answer {
+        Ok(()) => (Exit::Done, None, writer, is_traced),
+        Err(fault) => {
+            let exit = stop_text(alloc, fault, &mut writer);
+            (exit, Some(Stop::Fault(fault)), writer, is_traced)
+        }
+    }
+}

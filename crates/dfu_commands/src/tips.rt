@@ -1,0 +1,64 @@
+//! What the parser's text for a mistake advises.
+
+use std::alloc::{AllocError, Global};
+
+/// The commands that have an option.
+fn owners(option: &str) -> Option<&'static str> {
+    match option {
+        "--vid" | "--pid" | "--did" => Some("add and set"),
+        "--format" | "--fill" => Some("add"),
+        "--trace" | "--board" | "--file" => Some("run"),
+        "--interface" | "--device" => Some("judge"),
+        "--json" => Some("check, show and judge"),
+        _ => None,
+    }
+}
+
+/// The option that the first line of a text says is unexpected.
+fn unexpected(line: &str) -> Option<&str> {
+    let option = line.strip_prefix("error: unexpected argument '")?;
+    let option = option.strip_suffix("' found")?;
+    if option.starts_with("--") {
+        Some(option)
+    } else {
+        None
+    }
+}
+
+/// Adds the tips for an option: which commands have it, or else those of the parser, but for how it would be a value.
+fn push_tips(text: &mut String, option: &str, tips: &str) -> Result<(), AllocError> {
+    if let Some(names) = owners(option) {
+        text.push_str("\n\n  tip: '")?;
+        text.push_str(option)?;
+        text.push_str("' is an option of ")?;
+        return text.push_str(names);
+    }
+    let mut is_first = true;
+    for tip in tips.lines() {
+        if tip.starts_with("  tip: ") && !tip.starts_with("  tip: to pass ") {
+            text.push_str(if is_first { "\n\n" } else { "\n" })?;
+            text.push_str(tip)?;
+            is_first = false;
+        }
+    }
+    Ok(())
+}
+
+/// The parser's text, where it says of an option that another command has it which command that is, and of no option how it would be a
+/// value.
+pub(crate) fn advised(alloc: Global, text: &str) -> Result<String, AllocError> {
+    let Some((line, rest)) = text.split_once('\n') else {
+        return String::from_str(alloc, text);
+    };
+    let Some(option) = unexpected(line) else {
+        return String::from_str(alloc, text);
+    };
+    let Some((tips, usage)) = rest.split_once("\n\nUsage:") else {
+        return String::from_str(alloc, text);
+    };
+    let mut told = String::from_str(alloc, line)?;
+    push_tips(&mut told, option, tips)?;
+    told.push_str("\n\nUsage:")?;
+    told.push_str(usage)?;
+    Ok(told)
+}

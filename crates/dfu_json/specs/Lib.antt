@@ -1,0 +1,4 @@
+pub mod Names
+pub mod Objects
+pub mod Parts
+pub mod Quoted

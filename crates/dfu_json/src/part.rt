@@ -1,0 +1,35 @@
+//! The parts of a line.
+
+use crate::name::Name;
+
+/// What a word of a line is in an object.
+#[derive(Clone, Copy, Debug, PartialEq, Eq)]
+pub(crate) enum Kind {
+    /// A decimal number: a number.
+    Number,
+    /// `yes` or `no`: `true` or `false`.
+    Flag,
+    /// Any word: a string.
+    Word,
+}
+
+/// A part of a line, which gives a member of the object.
+#[derive(Clone, Copy, Debug, PartialEq, Eq)]
+pub(crate) enum Part {
+    /// The second name: the member of the first name has it as its string.
+    Says(Name, Name),
+    /// A word: the member of this name has it as its value.
+    Value(Name, Kind),
+    /// The name and a word: the member of this name has the word as its value.
+    Pair(Name, Kind),
+    /// The first name and words, up to ` events ` or to the end: the member of the second name has them as its array.
+    List(Name, Name),
+    /// The first name and a word: the member of the first name is an object, whose member of the second name has the word as its string.
+    Opens(Name, Name),
+    /// All words that are left: the member of this name has them as its array, and the inner object ends.
+    Rest(Name),
+    /// No word: the member of this name has an empty array.
+    Without(Name),
+    /// No word and no member.
+    Blank,
+}

@@ -1,0 +1,122 @@
+//! A board that plays a script beside the device: the same events come to both, one by one.
+
+ghost use Rattle.std.specs.Prelude.{◌≡◌, IfErr};
+
+use crate::same::are_the_same;
+use crate::scripting::ScriptFault;
+use crate::seen::Difference;
+use dfu_asks::Sector;
+use dfu_board_sim::{BoardWorld, MemoryBoard};
+use dfu_device::Device;
+use dfu_host::Report;
+use dfu_sim::{Event, LinkFault, World};
+use dfu_slots::{Faulty, Medium, SimMedium};
+use std::alloc::Global;
+
+/// A board beside the device between two sessions, if one plays the script too, and where the first difference is kept.
+#[derive(Drop)]
+pub(crate) struct Beside<'d> {
+    board: Option<MemoryBoard>,
+    seen: &'d Difference,
+}
+
+impl<'d> Beside<'d> {
+    /// A board plays the script too if that is wanted, which gets power on the bytes of the medium of a device that has just started.
+    ///
+    /// # Errors
+    ///
+    /// NoMemory if there is none for these bytes.
+    pub(crate) fn start(
+        alloc: Global,
+        is_wanted: bool,
+        device: &Device<SimMedium>,
+        seen: &'d Difference,
+    ) -> Result<Beside<'d>, ScriptFault>
+        ensures fault { IfErr result (λ f. f ≡ ScriptFault.NoMemory) }
+    {
+        let mut board = None;
+        if is_wanted {
+            board = board_of(alloc, device);
+            if board.is_none() {
+                return Err(ScriptFault::NoMemory);
+            }
+        }
+        Ok(Beside { board, seen })
+    }
+
+    /// The board on a link of its own, with no session, for the line with this number.
+    pub(crate) fn begin<'f>(&mut self, alloc: Global, number: u32) -> Played<'f, 'd> {
+        let world = match self.board.take() {
+            Some(board) => Some(BoardWorld::new(alloc, board)),
+            None => None,
+        };
+        Played {
+            world,
+            number,
+            seen: self.seen,
+        }
+    }
+
+    /// The board back, once no session is live.
+    pub(crate) fn end(&mut self, played: Played<'_, 'd>) {
+        let Played {
+            world,
+            number: _,
+            seen: _,
+        } = played;
+        self.board = match world {
+            Some(world) => Some(world.release()),
+            None => None,
+        };
+    }
+}
+
+/// A board with the configuration and the bytes of a device that has just started.
+///
+/// None if there is no memory for the bytes. The other causes can't come of a script: its device has an active image, and no sector over
+/// 131,072 bytes.
+fn board_of(alloc: Global, device: &Device<SimMedium>) -> Option<MemoryBoard> {
+    let medium = device.slots().medium();
+    let sector = Sector::new(medium.sector())?;
+    let len = medium.len() as usize;
+    let mut flash = Vec::new(alloc);
+    if flash.resize(len, 0).is_err() {
+        return None;
+    }
+    medium.read(0, &mut flash);
+    MemoryBoard::power_on(device.config(), device.ids(), medium.unit(), sector, flash)
+}
+
+/// A board beside the device in a session, if one plays the script too, and the number of the line that is played.
+#[derive(Drop)]
+pub(crate) struct Played<'f, 'd> {
+    world: Option<BoardWorld<'f>>,
+    pub number: u32,
+    seen: &'d Difference,
+}
+
+impl<'f> Played<'f, '_> {
+    /// Whether the board differed from the device.
+    pub(crate) fn is_over(&self) -> bool {
+        self.seen.line().is_some()
+    }
+
+    /// An event came to the device, which answered this: it comes to the board too. If the answer, the state, the status code, the image,
+    /// what was uploaded or whether a session is live differs, that is noted with the number of the line, and the board plays no further.
+    pub(crate) fn meet<M: Faulty>(
+        &mut self,
+        event: Event<'f, '_>,
+        answer: Result<Option<Report>, LinkFault>,
+        world: &World<'f, M>,
+    ) {
+        let Some(mut board) = self.world.take() else {
+            return;
+        };
+        let told = board.step(event);
+        if told == answer && are_the_same::<M>(world, &board) {
+            self.world = Some(board);
+        } else {
+            self.seen.note(self.number);
+        }
+    }
+}

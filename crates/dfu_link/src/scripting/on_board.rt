@@ -1,0 +1,113 @@
+//! Whole scripts on a device and a board beside it.
+
+ghost use Rattle.std.specs.Prelude.{IfSome};
+ghost use Rattle.dfu_link.specs.Said.{given_bytes};
+ghost use Rattle.dfu_link.specs.Falls.{Ended};
+ghost use Rattle.dfu_link.specs.Printed.{HasPrinted};
+
+use crate::scripting::fault::ScriptFault;
+use crate::scripting::whole::run_lines;
+use crate::seen::{Difference, Until};
+use crate::watch::{Nobody, Trace};
+use dfu_sim::laws::image_shown;
+use std::alloc::Global;
+use std::io::{Read, Write};
+
+/// Runs a script as `script_with` does, and plays each event on a board beside the device: a device that asks for its writes, whose program
+/// carries them out on flash in memory (`dfu_board_sim::BoardWorld`). It begins with the bytes of the device's medium.
+///
+/// After each event the answer, the state, the status code, the active image, what was uploaded last, and whether a session is live are
+/// compared. At the first difference the run ends: nothing is written of that event or of what comes after it, and no more is read. Beside
+/// the result the number of the line with that event is answered, or none if the board never differed, and the writer back. After a difference the result tells
+/// nothing of the script: the rest of what was read is still done on the device, and its output fails.
+///
+/// It takes memory for the flash of the board, as much as for the medium of the device, and for the parts of uploads a second time. Where
+/// one of the two gets no memory for an upload, and the other does, their reports differ.
+///
+/// # Errors
+///
+/// Those of `script_with`.
+pub fn script_beside_with<R: Read + Drop, W: Write + Drop>(
+    alloc: Global,
+    given: Option<&[u8]>,
+    reader: R,
+    writer: W,
+) -> (Result<(), ScriptFault>, Option<u32>, W)
+    // What is written is what a run of the script on the device writes, as far as it goes.
+    ensures ended { IfSome (R.remaining reader)
+        (λ text. Ended (given_bytes given.entry) text (W.contents writer) (W.contents result.2) result.0) }
+    ensures printed { IfSome (R.remaining reader)
+        (λ text. HasPrinted (given_bytes given.entry) text (W.contents writer) (W.contents result.2) result.0) }
+{
+    // Called for its law, which `printed` needs: no image but the one that is shown is active.
+    image_shown();
+    let seen = Difference::none();
+    let mut until = Until {
+        inner: writer,
+        seen: &seen,
+    };
+    let answer = run_lines::<Nobody, Until<'_, R>, Until<'_, W>>(
+        alloc,
+        given,
+        Until {
+            inner: reader,
+            seen: &seen,
+        },
+        &mut until,
+        &mut Nobody,
+        true,
+        &seen,
+    );
+    let Until {
+        inner: writer,
+        seen: _,
+    } = until;
+    (answer, seen.line(), writer)
+}
+
+/// Runs a script as `script_beside_with` does, and writes a line for each action of the host to `trace`, as `script_traced_with` does. The
+/// last is that of the action in which the board differs, if it does. Beside the result and the number it answers whether each line of the
+/// trace is out.
+///
+/// # Errors
+///
+/// Those of `script_with`.
+pub fn script_beside_traced_with<R: Read + Drop, W: Write + Drop, N: Write>(
+    alloc: Global,
+    given: Option<&[u8]>,
+    reader: R,
+    writer: W,
+    trace: &mut N,
+) -> (Result<(), ScriptFault>, Option<u32>, W, bool)
+    ensures ended { IfSome (R.remaining reader)
+        (λ text. Ended (given_bytes given.entry) text (W.contents writer) (W.contents result.2) result.0) }
+    ensures printed { IfSome (R.remaining reader)
+        (λ text. HasPrinted (given_bytes given.entry) text (W.contents writer) (W.contents result.2) result.0) }
+{
+    // Called for its law, which `printed` needs: no image but the one that is shown is active.
+    image_shown();
+    let seen = Difference::none();
+    let mut until = Until {
+        inner: writer,
+        seen: &seen,
+    };
+    let mut told = Trace::new(alloc, trace);
+    let answer = run_lines::<Trace<'_, N>, Until<'_, R>, Until<'_, W>>(
+        alloc,
+        given,
+        Until {
+            inner: reader,
+            seen: &seen,
+        },
+        &mut until,
+        &mut told,
+        true,
+        &seen,
+    );
+    let is_traced = !told.is_broken;
+    let Until {
+        inner: writer,
+        seen: _,
+    } = until;
+    (answer, seen.line(), writer, is_traced)
+}
