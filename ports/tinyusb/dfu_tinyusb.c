@@ -4,8 +4,8 @@
 
 static struct dfu_device *dfu;
 static int32_t refusal;
-static bool is_awaited; /* a data stage of the host, for body */
-static uint8_t body[DFU_TINYUSB_TRANSFER], out[DFU_TINYUSB_TRANSFER < 6 ? 6 : DFU_TINYUSB_TRANSFER];
+static bool is_awaited; /* a data stage of the host */
+static uint8_t data[DFU_TINYUSB_TRANSFER < 6 ? 6 : DFU_TINYUSB_TRANSFER]; /* of a data stage, of either side */
 
 static int32_t state(void)
 {
@@ -41,11 +41,11 @@ static bool await(uint8_t rhport, tusb_control_request_t const *request, const u
     if (noted(dfu_device_work(dfu)) < 0)
         return false;
     if (request->wLength > dfu->config->transfer || noted(dfu_device_would_stall(dfu, setup)) != 0) {
-        (void)noted(dfu_device_serve(dfu, setup, body, out, sizeof out));
+        (void)noted(dfu_device_serve(dfu, setup, data, data, sizeof data));
         return false;
     }
-    memset(body, 0, request->wLength);
-    is_awaited = tud_control_xfer(rhport, request, body, request->wLength);
+    memset(data, 0, request->wLength);
+    is_awaited = tud_control_xfer(rhport, request, data, request->wLength);
     return is_awaited;
 }
 
@@ -55,10 +55,10 @@ static bool begin(uint8_t rhport, tusb_control_request_t const *request, const u
     is_awaited = false;
     if (request->bmRequestType_bit.direction == TUSB_DIR_OUT && request->wLength > 0)
         return await(rhport, request, setup);
-    n = noted(dfu_device_serve(dfu, setup, body, out, sizeof out));
+    n = noted(dfu_device_serve(dfu, setup, data, data, sizeof data));
     if (n >= 0 && request->bRequest == DFU_DETACH)
         detach();
-    return n >= 0 && dfu_tinyusb_answer(rhport, request, out, (uint16_t)n);
+    return n >= 0 && dfu_tinyusb_answer(rhport, request, data, (uint16_t)n);
 }
 
 static bool control(uint8_t rhport, uint8_t stage, tusb_control_request_t const *request)
@@ -74,7 +74,7 @@ static bool control(uint8_t rhport, uint8_t stage, tusb_control_request_t const 
         is_awaited = false;
         if (request->bmRequestType_bit.direction == TUSB_DIR_IN)
             return true;
-        return was_awaited && noted(dfu_device_serve(dfu, setup, body, out, sizeof out)) >= 0;
+        return was_awaited && noted(dfu_device_serve(dfu, setup, data, data, sizeof data)) >= 0;
     case CONTROL_STAGE_ACK:
         ahead_ms = 0;
         (void)noted(dfu_device_work(dfu));

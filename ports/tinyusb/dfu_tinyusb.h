@@ -33,7 +33,7 @@
 extern "C" {
 #endif
 
-/** @brief The largest transfer size that a configuration may have: two buffers of so many bytes are kept. */
+/** @brief The largest transfer size that a configuration may have: a buffer of so many bytes is kept. */
 #ifndef DFU_TINYUSB_TRANSFER
 #define DFU_TINYUSB_TRANSFER 1024
 #endif
