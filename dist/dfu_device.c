@@ -86,8 +86,10 @@ _Static_assert(offsetof(struct dfu_place, length) == 4, "another layout");
 _Static_assert(sizeof(struct dfu_place) == 8, "another layout");
 _Static_assert(_Alignof(struct dfu_place) == 4, "another layout");
 
+struct i32_i32 { uint32_t a; uint32_t b; };
 struct i64_i8 { uint64_t a; uint8_t b; };
 struct i8_i64 { uint8_t a; uint64_t b; };
+struct i8_i8 { uint8_t a; uint8_t b; };
 
 static inline uint16_t load16(const unsigned char *p) { uint16_t x = 0; memcpy(&x, ALIGNED(p, 2), 2); return x; }
 static inline uint32_t load32(const unsigned char *p) { uint32_t x = 0; memcpy(&x, ALIGNED(p, 4), 4); return x; }
@@ -104,7 +106,6 @@ static inline void store64a4(unsigned char *p, uint64_t x) { memcpy(ALIGNED(p, 4
 static inline uint32_t uadd_sat32(uint32_t x, uint32_t y) { return (uint32_t)(x + y) < x ? (uint32_t)-1 : (uint32_t)(x + y); }
 static inline uint16_t umax16(uint16_t x, uint16_t y) { return x < y ? y : x; }
 static inline uint32_t umax32(uint32_t x, uint32_t y) { return x < y ? y : x; }
-static inline uint64_t umax64(uint64_t x, uint64_t y) { return x < y ? y : x; }
 static inline uint16_t umin16(uint16_t x, uint16_t y) { return x < y ? x : y; }
 static inline uint32_t umin32(uint32_t x, uint32_t y) { return x < y ? x : y; }
 static inline uint64_t umin64(uint64_t x, uint64_t y) { return x < y ? x : y; }
@@ -114,16 +115,13 @@ static inline uint64_t usub_sat64(uint64_t x, uint64_t y) { return x < y ? 0 : (
 static _Alignas(1) const uint8_t static_0[1] = {
     0
 };
-static _Alignas(1) const uint8_t static_1[1] = {
-    0
-};
 static _Alignas(4) const uint8_t static_3[64] = {
     0, 0, 0, 0, 0x64, 0x10, 0xb7, 0x1d, 0xc8, 0x20, 0x6e, 0x3b, 0xac, 0x30, 0xd9, 0x26, 0x90, 0x41, 0xdc, 0x76,
     0xf4, 0x51, 0x6b, 0x6b, 0x58, 0x61, 0xb2, 0x4d, 0x3c, 0x71, 5, 0x50, 0x20, 0x83, 0xb8, 0xed, 0x44, 0x93, 0xf, 0xf0,
     0xe8, 0xa3, 0xd6, 0xd6, 0x8c, 0xb3, 0x61, 0xcb, 0xb0, 0xc2, 0x64, 0x9b, 0xd4, 0xd2, 0xd3, 0x86, 0x78, 0xe2, 0xa, 0xa0,
     0x1c, 0xf2, 0xbd, 0xbd
 };
-static _Alignas(4) const uint32_t switch_table_dfu_device_c_config_settings_of[4] = {
+static _Alignas(4) const uint32_t switch_table_dfu_slots_layout_fill_size[4] = {
     1, 0x10, 0x40, 0x100
 };
 static _Alignas(4) const uint32_t switch_table_dfu_device_c_refusal_Refusal_number[5] = {
@@ -132,7 +130,7 @@ static _Alignas(4) const uint32_t switch_table_dfu_device_c_refusal_Refusal_numb
 static _Alignas(4) const uint8_t switch_table_dfu_device_table_decide[9] = {
     3, 3, 3, 1, 3, 2, 3, 3, 3
 };
-static _Alignas(4) const uint32_t switch_table_dfu_device_table_decide_1[9] = {
+static _Alignas(4) const uint32_t switch_table_dfu_device_table_decide_2[9] = {
     0xf0c, 0xf0c, 0xf0c, 2, 0xf0c, 8, 0xf0c, 0xf0c, 0xf0c
 };
 static _Alignas(4) const uint32_t switch_table_dfu_asks_asking_Asking_is_fit[4] = {
@@ -144,17 +142,17 @@ static _Alignas(4) const uint8_t switch_table_dfu_device_mode_Mode_state[13] = {
 static _Alignas(8) const uint64_t switch_table_dfu_asks_asking_Asking_advance[4] = {
     0, 0xf, 0x3f, 0xff
 };
-static _Alignas(8) const uint64_t switch_table_dfu_asks_piece_held_place[4] = {
-    0x10, 0x10, 0x40, 0x100
-};
-static _Alignas(8) const uint64_t switch_table_dfu_asks_next_piece_put_piece[4] = {
-    1, 0x10, 0x40, 0x100
-};
 static _Alignas(4) const uint32_t switch_table_dfu_core_state[12] = {
     0, 1, 2, 3, 3, 4, 5, 6, 6, 7, 8, 9
 };
+static _Alignas(8) const uint64_t switch_table_dfu_core_format_took[4] = {
+    1, 0x10, 0x40, 0x100
+};
 static _Alignas(4) const uint32_t switch_table_dfu_core_would_stall[4] = {
     0x10, 0x10, 0x40, 0x100
+};
+static _Alignas(4) const uint32_t switch_table_dfu_core_candidate[4] = {
+    0xffffffff, 0xfffffff0, 0xffffffc0, 0xffffff00
 };
 static _Alignas(4) const uint8_t switch_table_dfu_core_took[13] = {
     6, 6, 6, 3, 6, 3, 6, 6, 6, 6, 6, 6, 6
@@ -168,23 +166,28 @@ static void dfu_device_c_config_functional_of(unsigned char *a0, unsigned char *
 static void dfu_device_c_formatting_formatting_of(unsigned char *a0, unsigned char *a1, unsigned char *a2);
 static uint8_t dfu_asks_formatting_Formatting_due(unsigned char *a0, uint64_t a2, unsigned char *a3);
 static uint8_t dfu_asks_format_piece_part_piece(unsigned char *a0, uint64_t a1, unsigned char *a2);
-static uint8_t dfu_asks_next_piece_close_piece(uint32_t a0, unsigned char *a1);
-static uint8_t dfu_asks_next_piece_write_piece(uint64_t a0, uint8_t a1, uint64_t a2, uint64_t a3, unsigned char *a4);
+static uint8_t dfu_asks_next_piece_sequence_piece(unsigned char *a0, unsigned char *a1);
+static uint8_t dfu_asks_next_piece_numbered_piece(unsigned char *a0, uint64_t a1, unsigned char *a2);
+static void dfu_slots_sequence_Sequence_operation(unsigned char *a0, unsigned char *a1, uint8_t a2, uint32_t a3, uint64_t a4);
 static void dfu_asks_located_locate(unsigned char *a0, uint32_t a1, uint64_t a2, uint64_t a3, uint64_t a4);
-static uint8_t dfu_asks_next_piece_header_piece(uint32_t a0, uint8_t a1, uint32_t a2, uint32_t a3, unsigned char *a4);
-static uint8_t dfu_asks_next_piece_gate_piece(uint32_t a0, uint8_t a1, unsigned char *a2);
+static uint8_t dfu_asks_format_piece_open_piece(uint64_t a0, uint32_t a1, unsigned char *a2);
 static uint8_t dfu_asks_asks_is_sound(uint32_t a0, unsigned char *a1);
 static void dfu_asks_cut_fill(unsigned char *a0, unsigned char *a1);
 static uint8_t dfu_asks_cut_byte_of(unsigned char *a0, uint64_t a1);
 static uint8_t dfu_slots_open_is_sized(unsigned char *a0);
 static uint32_t dfu_slots_read_capacity_of(unsigned char *a0);
+static uint8_t dfu_slots_gates_close_gate(unsigned char *a0, uint32_t a1);
+static uint8_t dfu_slots_carry_carry_out(unsigned char *a0, unsigned char *a1);
 static void core_slice_edits_slice_T_copy_from_slice_i8_core_clone_U8Clone(unsigned char *a0, unsigned char *a2, uint64_t a3);
-static void dfu_slots_read_read_data(unsigned char *a0, uint32_t a1, uint32_t a2, unsigned char *a3, uint64_t a4);
+static uint8_t dfu_slots_writes_write_filled(unsigned char *a0, unsigned char *a2, uint64_t a3);
 static void dfu_suffix_crc_Crc_update_small(unsigned char *a0, unsigned char *a1, uint64_t a2);
+static struct i8_i8 dfu_slots_places_count_slots(unsigned char *a0);
 static uint8_t dfu_slots_read_counts(unsigned char *a0, uint32_t a1);
 static uint8_t dfu_slots_read_is_open(unsigned char *a0, uint32_t a1);
 static uint8_t dfu_slots_read_byte_at(unsigned char *a0, uint32_t a1);
 static void dfu_slots_read_header_of(unsigned char *a0, unsigned char *a1, uint32_t a2);
+static void dfu_slots_read_read_data(unsigned char *a0, uint32_t a1, uint32_t a2, unsigned char *a3, uint64_t a4);
+static struct i32_i32 dfu_slots_places_find_places(unsigned char *a0, uint8_t a1, uint8_t a2);
 static uint8_t dfu_slots_places_is_newest(unsigned char *a0, uint32_t a1, uint32_t a2, uint8_t a3, uint8_t a4);
 static uint8_t dfu_slots_read_generation(unsigned char *a0, uint32_t a1);
 static uint8_t dfu_asks_cut_stands(unsigned char *a0, uint64_t a1, unsigned char *a2);
@@ -195,14 +198,14 @@ static void dfu_wire_bytes_two_bytes(unsigned char *a0, uint16_t a1);
 static void dfu_device_c_idle_mode_in(unsigned char *a0, unsigned char *a1, unsigned char *a2);
 static void dfu_device_c_idle_idle_mode(unsigned char *a0, unsigned char *a1, unsigned char *a2);
 static void dfu_device_c_mode_set_mode(unsigned char *a0, unsigned char *a1);
-static uint32_t dfu_device_c_power_start(unsigned char *a0, unsigned char *a1, unsigned char *a2, uint64_t a3, uint32_t a4);
 static void dfu_wire_setups_Setup_request(unsigned char *a0, unsigned char *a1);
+static uint32_t dfu_device_c_power_start(unsigned char *a0, unsigned char *a1, unsigned char *a2, uint64_t a3, uint32_t a4);
 static void dfu_device_table_decide(unsigned char *a0, unsigned char *a1, unsigned char *a2, unsigned char *a3);
 static void dfu_device_plans_block(unsigned char *a0, unsigned char *a1, uint32_t a2, uint16_t a3, uint16_t a4, uint16_t a5);
 static void dfu_device_plans_upload(unsigned char *a0, unsigned char *a1, uint32_t a2, uint16_t a3, uint16_t a4, uint16_t a5);
 static void dfu_device_c_keeping_found(unsigned char *a0, unsigned char *a1, unsigned char *a2, uint64_t a3);
-static void dfu_asks_asking_Asking_see(unsigned char *a0, unsigned char *a1, uint64_t a2, unsigned char *a3, uint64_t a4);
 static void dfu_asks_view_look(unsigned char *a0, unsigned char *a1, unsigned char *a2);
+static void dfu_asks_asking_Asking_see(unsigned char *a0, unsigned char *a1, uint64_t a2, unsigned char *a3, uint64_t a4);
 static uint8_t dfu_asks_asking_Asking_is_fit(unsigned char *a0, uint64_t a1, unsigned char *a2, unsigned char *a3);
 static void dfu_asks_asking_Asking_carry_out(unsigned char *a0, unsigned char *a1, unsigned char *a2, uint8_t a3, uint16_t a4, unsigned char *a5, uint64_t a6, unsigned char *a7, uint64_t a8, unsigned char *a9, unsigned char *a10, unsigned char *a11, unsigned char *a12, uint64_t a13);
 static struct i8_i64 dfu_asks_asking_Asking_give(unsigned char *a0, uint8_t a1, uint16_t a2, unsigned char *a3);
@@ -210,8 +213,6 @@ static void dfu_asks_asking_Asking_block_job(unsigned char *a0, unsigned char *a
 static void dfu_asks_asking_Asking_advance(unsigned char *a0, unsigned char *a1, unsigned char *a2, uint64_t a3, unsigned char *a4, unsigned char *a5, uint64_t a6, unsigned char *a7);
 static struct i64_i8 dfu_asks_asking_Asking_look_at(unsigned char *a0, unsigned char *a1, unsigned char *a2, uint64_t a3, unsigned char *a4, unsigned char *a5, uint64_t a6);
 static uint8_t dfu_asks_next_piece_next_piece(unsigned char *a0, unsigned char *a1);
-static uint64_t dfu_asks_piece_held_place(uint32_t a0, unsigned char *a1);
-static uint8_t dfu_asks_next_piece_put_piece(uint64_t a0, unsigned char *a1);
 static void dfu_asks_asking_Asking_noted_after(unsigned char *a0, unsigned char *a1, unsigned char *a2, uint64_t a3);
 static struct i8_i64 dfu_asks_asking_Asking_answer(unsigned char *a0, uint8_t a1, uint16_t a2, unsigned char *a3);
 static void dfu_device_c_keeping_keep(unsigned char *a0, unsigned char *a1);
@@ -401,7 +402,7 @@ static void dfu_device_c_config_settings_of(unsigned char *a0, unsigned char *a1
     r24 = dfu_device_c_config_unit_of(a1);
     uint32_t r25 = load32(a1);
     if (r25 != 300) goto join_5;
-    uint32_t switch_load = load32(PLACE(switch_table_dfu_device_c_config_settings_of) + 4 * (size_t)r24);
+    uint32_t switch_load = load32(PLACE(switch_table_dfu_slots_layout_fill_size) + 4 * (size_t)r24);
     uint32_t r34 = load32(a1 + 28);
     if (switch_load == r34) goto after_1;
     goto join_5;
@@ -603,9 +604,15 @@ after_1:;
 
 /* dfu_asks::format_piece::part_piece */
 static uint8_t dfu_asks_format_piece_part_piece(unsigned char *a0, uint64_t a1, unsigned char *a2) {
+    _Alignas(4) unsigned char r6[16];
+    _Alignas(4) unsigned char r8[16];
+    _Alignas(4) unsigned char r11[16];
     uint8_t r3_0_shrunk;
-    uint8_t r14 = a0[12];
-    switch (r14) {
+    store64a4(r6 + 8, 0);
+    store64a4(r8 + 8, 0);
+    store32(r11 + 12, 0);
+    uint8_t r18 = a0[12];
+    switch (r18) {
     case 0: goto arm_1;
     case 1: goto arm_2;
     case 2: goto arm_3;
@@ -616,83 +623,120 @@ static uint8_t dfu_asks_format_piece_part_piece(unsigned char *a0, uint64_t a1, 
         goto join_8;
     default: never();
     }
-arm_1:;
-    uint8_t r20 = dfu_asks_next_piece_close_piece((uint32_t)(a1 >> 1), a2);
-    r3_0_shrunk = r20;
+arm_1:
+    store32(r6, 0);
+    store32(r6 + 4, (uint32_t)(a1 >> 1));
+    uint8_t r25 = dfu_asks_next_piece_sequence_piece(r6, a2);
+    r3_0_shrunk = r25;
     goto join_8;
-arm_2:;
-    uint8_t r23 = dfu_asks_next_piece_close_piece(0, a2);
-    r3_0_shrunk = r23;
+arm_2:
+    store32(r8, 0);
+    store32(r8 + 4, 0);
+    uint8_t r29 = dfu_asks_next_piece_sequence_piece(r8, a2);
+    r3_0_shrunk = r29;
     goto join_8;
 arm_3:;
-    uint32_t r27 = load32(a0 + 16);
-    uint8_t r5_0_0_copyload = *a2;
-    uint64_t r15 = load64(a2 + 40);
-    uint32_t r8_0_0_copyload = load32(a2 + 4);
-    uint64_t v0 = (uint64_t)r5_0_0_copyload;
-    uint64_t switch_load = load64(PLACE(switch_table_dfu_asks_piece_held_place) + 8 * (size_t)v0);
-    uint64_t switch_load_2 = load64(PLACE(switch_table_dfu_asks_next_piece_put_piece) + 8 * (size_t)v0);
-    uint64_t v1 = switch_load_2 + 0xffffffffffffffffULL;
-    uint64_t r22 = ((switch_load_2 - (v1 & r15)) & v1) + r15;
-    uint64_t r19 = (uint64_t)r27;
-    uint64_t a1_a0 = umin64(r22, r19);
-    uint8_t r43 = dfu_asks_next_piece_write_piece((umax64(switch_load, (uint64_t)r8_0_0_copyload) << 1) + r19, 0, a1_a0, umin64(r22 - a1_a0, 4096), a2);
-    r3_0_shrunk = r43;
+    uint32_t r33 = load32(a0 + 16);
+    uint64_t r36 = load64(a2 + 40);
+    store32(r11, 3);
+    store32(r11 + 4, r33);
+    store32(r11 + 8, (uint32_t)r36);
+    uint8_t r44 = dfu_asks_next_piece_sequence_piece(r11, a2);
+    r3_0_shrunk = r44;
     goto join_8;
 arm_4:;
-    uint64_t r34 = load64(a2 + 40);
-    uint32_t r38 = load32(a0 + 8);
-    uint8_t r42 = dfu_asks_next_piece_header_piece(0, 0, (uint32_t)r34, r38, a2);
-    r3_0_shrunk = r42;
+    uint32_t r47 = load32(a0 + 8);
+    uint8_t r50 = dfu_asks_format_piece_open_piece(1, r47, a2);
+    r3_0_shrunk = r50;
     goto join_8;
 arm_5:;
-    uint8_t r45 = dfu_asks_next_piece_gate_piece(0, 165, a2);
-    r3_0_shrunk = r45;
+    uint32_t r53 = load32(a0 + 8);
+    uint8_t r56 = dfu_asks_format_piece_open_piece(2, r53, a2);
+    r3_0_shrunk = r56;
 join_8:
     return r3_0_shrunk;
 }
 
-/* dfu_asks::next_piece::close_piece */
-static uint8_t dfu_asks_next_piece_close_piece(uint32_t a0, unsigned char *a1) {
-    uint64_t r18, r30;
-    uint8_t common_ret_op;
-    unsigned char *r29;
-    uint32_t r4_0_0_copyload = load32(a1 + 4);
-    r18 = (uint64_t)r4_0_0_copyload;
-    if (r4_0_0_copyload == 0) goto then_1;
-    goto join_3;
+/* dfu_asks::next_piece::sequence_piece */
+static uint8_t dfu_asks_next_piece_sequence_piece(unsigned char *a0, unsigned char *a1) {
+    _Alignas(4) unsigned char r1[16];
+    uint64_t r12_0;
+    uint8_t r2 = *a0;
+    store32(r1, (uint32_t)r2);
+    uint32_t v0 = load32(a0 + 4);
+    store32(r1 + 4, v0);
+    uint32_t v1 = load32(a0 + 8);
+    store32(r1 + 8, v1);
+    uint16_t v2 = load16(a0 + 12);
+    store16(r1 + 12, v2);
+    uint16_t v3 = load16(a0 + 14);
+    store16(r1 + 14, v3);
+    r12_0 = 0;
+loop_2:
+    if (r12_0 == 3) goto common_ret;
+    uint8_t r23 = dfu_asks_next_piece_numbered_piece(r1, r12_0, a1);
+    if (!r23) {
+        r12_0 = r12_0 + 1;
+        goto loop_2;
+    }
 common_ret:
-    return common_ret_op;
-then_1:;
-    uint8_t r25 = dfu_asks_next_piece_gate_piece(a0, 0, a1);
-    common_ret_op = r25;
-    goto common_ret;
-join_3:
-    r29 = a1 + 48;
-    r30 = load64(r29);
-    if (r30 >= r18) goto join_6;
-    a1[72] = 1;
-    memset(a1 + 73, 0, 7);
-    store64(a1 + 80, r30 + (uint64_t)a0);
-    store64(a1 + 88, r18 - r30);
-    common_ret_op = 1;
-    goto common_ret;
-join_6:
-    store64(r29, r30 - r18);
-    common_ret_op = 0;
-    goto common_ret;
+    return r12_0 < 3;
 }
 
-/* dfu_asks::next_piece::write_piece */
-static uint8_t dfu_asks_next_piece_write_piece(uint64_t a0, uint8_t a1, uint64_t a2, uint64_t a3, unsigned char *a4) {
+/* dfu_asks::next_piece::numbered_piece */
+static uint8_t dfu_asks_next_piece_numbered_piece(unsigned char *a0, uint64_t a1, unsigned char *a2) {
+    _Alignas(8) unsigned char r17[40];
     _Alignas(8) unsigned char r6[24];
-    unsigned char *r17;
-    uint64_t r23;
-    uint8_t r9_0_off0;
-    uint32_t r7_0_0_copyload = load32(a4 + 4);
-    r17 = a4 + 48;
-    uint64_t r18 = load64(r17);
-    dfu_asks_located_locate(r6, r7_0_0_copyload, a0, a3, r18);
+    _Alignas(4) unsigned char r1[16];
+    uint32_t r20_0_0_copyload, r49;
+    uint64_t r17_2, r19, r44, r56, r23;
+    unsigned char *r18, *r17_3;
+    uint8_t r14_0_0_copyload;
+    uint8_t r9_0_off0, r21_0_shrunk;
+    uint8_t r2 = *a0;
+    store32(r1, (uint32_t)r2);
+    uint32_t v0 = load32(a0 + 4);
+    store32(r1 + 4, v0);
+    uint32_t v1 = load32(a0 + 8);
+    store32(r1 + 8, v1);
+    uint16_t v2 = load16(a0 + 12);
+    store16(r1 + 12, v2);
+    uint16_t v3 = load16(a0 + 14);
+    store16(r1 + 14, v3);
+    uint8_t r18_0_0_copyload = *a2;
+    r20_0_0_copyload = load32(a2 + 4);
+    dfu_slots_sequence_Sequence_operation(r17, r1, r18_0_0_copyload, r20_0_0_copyload, a1);
+    uint8_t r31 = *r17;
+    if (r31 == 0) {
+        r21_0_shrunk = 0;
+        goto join_4;
+    }
+    uint8_t r34 = r17[8];
+    if (r34 != 0) goto arm_6;
+    r17_2 = (uint64_t)r20_0_0_copyload;
+    r18 = a2 + 48;
+    r19 = load64(r18);
+    if (r19 >= r17_2) goto join_3;
+    uint64_t r37 = load64(r17 + 16);
+    a2[72] = 1;
+    memset(a2 + 73, 0, 7);
+    store64(a2 + 80, r37 + r19);
+    store64(a2 + 88, r17_2 - r19);
+    r21_0_shrunk = 1;
+    goto join_4;
+join_3:
+    store64(r18, r19 - r17_2);
+    r21_0_shrunk = 0;
+    goto join_4;
+arm_6:
+    r44 = load64(r17 + 16);
+    r14_0_0_copyload = r17[24];
+    r49 = load32(r17 + 28);
+    uint32_t r52 = load32(r17 + 32);
+    r56 = (uint64_t)r52;
+    r17_3 = a2 + 48;
+    uint64_t r18_2 = load64(r17_3);
+    dfu_asks_located_locate(r6, r20_0_0_copyload, r44, r56, r18_2);
     uint8_t r21 = *r6;
     r23 = load64(r6 + 8);
     switch (r21) {
@@ -703,25 +747,264 @@ static uint8_t dfu_asks_next_piece_write_piece(uint64_t a0, uint8_t a1, uint64_t
     }
 arm_1:;
     uint64_t r25 = load64(r6 + 16);
-    a4[72] = 1;
-    memset(a4 + 73, 0, 7);
-    store64(a4 + 80, r23);
-    store64(a4 + 88, r25);
+    a2[72] = 1;
+    memset(a2 + 73, 0, 7);
+    store64(a2 + 80, r23);
+    store64(a2 + 88, r25);
     r9_0_off0 = 1;
-    goto join_5;
+    goto dfu_asks_next_piece_write_piece_exit;
 arm_2:
-    store64(a4 + 72, 0);
-    store64(a4 + 80, r23 + a0);
-    store64(a4 + 88, umin64(a3 - r23, 256));
-    a4[96] = a1;
-    store64(a4 + 104, r23 + a2);
+    store64(a2 + 72, 0);
+    store64(a2 + 80, r23 + r44);
+    store64(a2 + 88, umin64(r56 - r23, 256));
+    a2[96] = r14_0_0_copyload;
+    store64(a2 + 104, r23 + (uint64_t)r49);
     r9_0_off0 = 1;
-    goto join_5;
+    goto dfu_asks_next_piece_write_piece_exit;
 arm_3:
-    store64(r17, r23);
+    store64(r17_3, r23);
     r9_0_off0 = 0;
-join_5:
-    return r9_0_off0;
+    goto dfu_asks_next_piece_write_piece_exit;
+dfu_asks_next_piece_write_piece_exit:
+    r21_0_shrunk = r9_0_off0;
+join_4:
+    return r21_0_shrunk;
+}
+
+/* dfu_slots::sequence::Sequence::operation */
+static void dfu_slots_sequence_Sequence_operation(unsigned char *a0, unsigned char *a1, uint8_t a2, uint32_t a3, uint64_t a4) {
+    uint32_t r1_3_4_copyload, r1_8_8_copyload, r31, spec_select, r25_2738_0, r25_35_0;
+    uint16_t r1_12_12_copyload;
+    uint64_t r1, r26, r1_4, r1_5, r25_0_0_0, r25_9_0_0, r25_15_0;
+    uint8_t r25_21_0;
+    uint8_t r2 = *a1;
+    r1_3_4_copyload = load32(a1 + 4);
+    r1_8_8_copyload = load32(a1 + 8);
+    r1_12_12_copyload = load16(a1 + 12);
+    switch (r2) {
+    case 0: goto arm_1;
+    case 1: goto arm_2;
+    case 2: goto arm_3;
+    case 3: goto arm_4;
+    default: never();
+    }
+arm_1:
+    if (a4 != 0) {
+        r25_0_0_0 = 0;
+        r25_9_0_0 = 0;
+        r25_15_0 = 0;
+        r25_21_0 = 0;
+        r25_2738_0 = 0;
+        r25_35_0 = 0;
+        goto join_6;
+    }
+    r1 = (uint64_t)r1_3_4_copyload;
+    if (a3 != 0) {
+        r25_0_0_0 = 1;
+        r25_9_0_0 = 0;
+        r25_15_0 = r1;
+        r25_21_0 = 0;
+        r25_2738_0 = 0;
+        r25_35_0 = 0;
+        goto join_6;
+    }
+    switch (a2) {
+    case 0:
+        r25_0_0_0 = 1;
+        r25_9_0_0 = 1;
+        r25_15_0 = r1;
+        r25_21_0 = 4;
+        r25_2738_0 = 0;
+        r25_35_0 = 16;
+        goto join_6;
+    case 1:
+        r25_0_0_0 = 1;
+        r25_9_0_0 = 1;
+        r25_15_0 = r1;
+        r25_21_0 = 4;
+        r25_2738_0 = 0;
+        r25_35_0 = 16;
+        goto join_6;
+    case 2: goto arm_3_2;
+    case 3: goto arm_4_2;
+    default: never();
+    }
+arm_3_2:
+    r25_0_0_0 = 1;
+    r25_9_0_0 = 1;
+    r25_15_0 = r1;
+    r25_21_0 = 4;
+    r25_2738_0 = 0;
+    r25_35_0 = 64;
+    goto join_6;
+arm_4_2:
+    r25_0_0_0 = 1;
+    r25_9_0_0 = 1;
+    r25_15_0 = r1;
+    r25_21_0 = 4;
+    r25_2738_0 = 0;
+    r25_35_0 = 256;
+    goto join_6;
+arm_2:;
+    uint16_t r1_15_14_copyload = load16(a1 + 14);
+    uint64_t v0 = (uint64_t)a2;
+    uint32_t switch_load = load32(PLACE(switch_table_dfu_core_would_stall) + 4 * (size_t)v0);
+    uint32_t r1_2 = (uint32_t)r1_12_12_copyload;
+    r26 = ((uint64_t)usub_sat32(r1_8_8_copyload, r1_2) + (uint64_t)r1_3_4_copyload) + ((uint64_t)umax32(a3, switch_load) << 1);
+    uint32_t switch_load_2 = load32(PLACE(switch_table_dfu_slots_layout_fill_size) + 4 * (size_t)v0);
+    r31 = ((uint32_t)r1_15_14_copyload + r1_2) & ((uint32_t)0 - switch_load_2);
+    spec_select = (uint32_t)((r1_12_12_copyload == 0) ? 0 : umin32(r31, switch_load_2));
+    switch (a4) {
+    case 0:
+        r25_0_0_0 = 1;
+        r25_9_0_0 = 1;
+        r25_15_0 = r26;
+        r25_21_0 = 0;
+        r25_2738_0 = 0;
+        r25_35_0 = spec_select;
+        goto join_6;
+    case 1: goto arm_7;
+    default: goto default_8;
+    }
+arm_7:
+    r25_0_0_0 = 1;
+    r25_9_0_0 = 1;
+    r25_15_0 = r26 + (uint64_t)spec_select;
+    r25_21_0 = 0;
+    r25_2738_0 = spec_select;
+    r25_35_0 = r31 - spec_select;
+    goto join_6;
+default_8:
+    r25_0_0_0 = 0;
+    r25_9_0_0 = 0;
+    r25_15_0 = 0;
+    r25_21_0 = 0;
+    r25_2738_0 = 0;
+    r25_35_0 = 0;
+    goto join_6;
+arm_3:
+    switch (a4) {
+    case 0: goto arm_1_2;
+    case 1: goto arm_2_2;
+    case 2: goto arm_3_3;
+    default: never();
+    }
+arm_1_2:;
+    uint64_t v1 = (uint64_t)a2;
+    uint32_t switch_load_3 = load32(PLACE(switch_table_dfu_core_would_stall) + 4 * (size_t)v1);
+    uint32_t r1_3 = (uint32_t)r1_12_12_copyload;
+    uint32_t switch_load_4 = load32(PLACE(switch_table_dfu_slots_layout_fill_size) + 4 * (size_t)v1);
+    uint32_t v2 = switch_load_4 + 0xffffffffU;
+    r25_0_0_0 = 1;
+    r25_9_0_0 = 1;
+    r25_15_0 = ((uint64_t)usub_sat32(r1_8_8_copyload, r1_3) + (uint64_t)r1_3_4_copyload) + ((uint64_t)umax32(a3, switch_load_3) << 1);
+    r25_21_0 = 1;
+    r25_2738_0 = 0;
+    r25_35_0 = ((switch_load_4 - (v2 & r1_3)) & v2) + r1_3;
+    goto join_6;
+arm_2_2:
+    r1_4 = (uint64_t)r1_3_4_copyload;
+    switch (a2) {
+    case 0: goto dfu_slots_layout_gate_room_exit;
+    case 1: goto dfu_slots_layout_gate_room_exit;
+    case 2: goto dfu_slots_layout_gate_room_exit_thread;
+    case 3: goto dfu_slots_layout_gate_room_exit_thread33;
+    default: never();
+    }
+dfu_slots_layout_gate_room_exit_thread:
+    r25_0_0_0 = 1;
+    r25_9_0_0 = 1;
+    r25_15_0 = r1_4 + (uint64_t)umax32(a3, 64);
+    r25_21_0 = 2;
+    r25_2738_0 = 0;
+    r25_35_0 = 64;
+    goto join_6;
+dfu_slots_layout_gate_room_exit_thread33:
+    r25_0_0_0 = 1;
+    r25_9_0_0 = 1;
+    r25_15_0 = r1_4 + (uint64_t)umax32(a3, 256);
+    r25_21_0 = 2;
+    r25_2738_0 = 0;
+    r25_35_0 = 256;
+    goto join_6;
+dfu_slots_layout_gate_room_exit:
+    r25_0_0_0 = 1;
+    r25_9_0_0 = 1;
+    r25_15_0 = r1_4 + (uint64_t)umax32(a3, 16);
+    r25_21_0 = 2;
+    r25_2738_0 = 0;
+    r25_35_0 = 16;
+    goto join_6;
+arm_3_3:
+    r1_5 = (uint64_t)r1_3_4_copyload;
+    switch (a2) {
+    case 0:
+        r25_0_0_0 = 1;
+        r25_9_0_0 = 1;
+        r25_15_0 = r1_5;
+        r25_21_0 = 3;
+        r25_2738_0 = 0;
+        r25_35_0 = 16;
+        goto join_6;
+    case 1:
+        r25_0_0_0 = 1;
+        r25_9_0_0 = 1;
+        r25_15_0 = r1_5;
+        r25_21_0 = 3;
+        r25_2738_0 = 0;
+        r25_35_0 = 16;
+        goto join_6;
+    case 2: goto arm_3_4;
+    case 3: goto arm_4_3;
+    default: never();
+    }
+arm_3_4:
+    r25_0_0_0 = 1;
+    r25_9_0_0 = 1;
+    r25_15_0 = r1_5;
+    r25_21_0 = 3;
+    r25_2738_0 = 0;
+    r25_35_0 = 64;
+    goto join_6;
+arm_4_3:
+    r25_0_0_0 = 1;
+    r25_9_0_0 = 1;
+    r25_15_0 = r1_5;
+    r25_21_0 = 3;
+    r25_2738_0 = 0;
+    r25_35_0 = 256;
+    goto join_6;
+arm_4:
+    if (a4 != 0) {
+        r25_0_0_0 = 0;
+        r25_9_0_0 = 0;
+        r25_15_0 = 0;
+        r25_21_0 = 0;
+        r25_2738_0 = 0;
+        r25_35_0 = 0;
+        goto join_6;
+    }
+    uint64_t v3 = (uint64_t)a2;
+    uint32_t switch_load_5 = load32(PLACE(switch_table_dfu_slots_layout_fill_size) + 4 * (size_t)v3);
+    uint32_t v4 = switch_load_5 + 0xffffffffU;
+    uint64_t r41 = (uint64_t)((switch_load_5 - (v4 & r1_8_8_copyload)) & v4) + (uint64_t)r1_8_8_copyload;
+    uint64_t r1_6 = (uint64_t)r1_3_4_copyload;
+    uint64_t a1_a0 = umin64(r41, r1_6);
+    uint32_t switch_load52 = load32(PLACE(switch_table_dfu_core_would_stall) + 4 * (size_t)v3);
+    r25_0_0_0 = 1;
+    r25_9_0_0 = 1;
+    r25_15_0 = ((uint64_t)umax32(a3, switch_load52) << 1) + r1_6;
+    r25_21_0 = 0;
+    r25_2738_0 = (uint32_t)a1_a0;
+    r25_35_0 = (uint32_t)umin64(r41 - a1_a0, 4096);
+join_6:
+    store64(a0, r25_0_0_0);
+    store64(a0 + 8, r25_9_0_0);
+    store64(a0 + 16, r25_15_0);
+    a0[24] = r25_21_0;
+    store32(a0 + 28, r25_2738_0);
+    store32(a0 + 32, r25_35_0);
+    return;
 }
 
 /* dfu_asks::located::locate */
@@ -764,50 +1047,23 @@ join_7:
     return;
 }
 
-/* dfu_asks::next_piece::header_piece */
-static uint8_t dfu_asks_next_piece_header_piece(uint32_t a0, uint8_t a1, uint32_t a2, uint32_t a3, unsigned char *a4) {
-    uint32_t r6_0_0_copyload, a0_a1_pn_in;
-    uint64_t r2_0;
-    a4[56] = a1;
-    a4[57] = 2;
-    a4[58] = 0;
-    a4[59] = 0;
-    store32(a4 + 60, a2);
-    store32(a4 + 64, a3);
-    store32(a4 + 68, 0);
-    uint8_t r5_0_0_copyload = *a4;
-    r6_0_0_copyload = load32(a4 + 4);
-    switch (r5_0_0_copyload) {
-    case 0: goto dfu_asks_piece_gate_room_exit;
-    case 1: goto dfu_asks_piece_gate_room_exit;
-    case 2: goto dfu_asks_piece_gate_room_exit_thread;
-    case 3: goto dfu_asks_piece_gate_room_exit_thread9;
-    default: never();
-    }
-dfu_asks_piece_gate_room_exit_thread:
-    a0_a1_pn_in = umax32(r6_0_0_copyload, 64);
-    r2_0 = 64;
-    goto dfu_asks_piece_gate_size_exit;
-dfu_asks_piece_gate_room_exit_thread9:
-    a0_a1_pn_in = umax32(r6_0_0_copyload, 256);
-    r2_0 = 256;
-    goto dfu_asks_piece_gate_size_exit;
-dfu_asks_piece_gate_room_exit:
-    a0_a1_pn_in = umax32(r6_0_0_copyload, 16);
-    r2_0 = 16;
-dfu_asks_piece_gate_size_exit:;
-    uint8_t r25 = dfu_asks_next_piece_write_piece((uint64_t)a0_a1_pn_in + (uint64_t)a0, 2, 0, r2_0, a4);
-    return r25;
-}
-
-/* dfu_asks::next_piece::gate_piece */
-static uint8_t dfu_asks_next_piece_gate_piece(uint32_t a0, uint8_t a1, unsigned char *a2) {
-    a2[56] = a1;
-    memset(a2 + 57, 0, 15);
-    uint8_t r5_0_0_copyload = *a2;
-    uint64_t switch_load = load64(PLACE(switch_table_dfu_asks_piece_held_place) + 8 * (size_t)r5_0_0_copyload);
-    uint8_t r15 = dfu_asks_next_piece_write_piece((uint64_t)a0, 2, 0, switch_load, a2);
-    return r15;
+/* dfu_asks::format_piece::open_piece */
+static uint8_t dfu_asks_format_piece_open_piece(uint64_t a0, uint32_t a1, unsigned char *a2) {
+    _Alignas(4) unsigned char r1[16];
+    store32(r1 + 12, 0);
+    uint64_t r8 = load64(a2 + 40);
+    a2[56] = 0;
+    a2[57] = 2;
+    a2[58] = 0;
+    a2[59] = 0;
+    store32(a2 + 60, (uint32_t)r8);
+    store32(a2 + 64, a1);
+    store32(a2 + 68, 0);
+    store32(r1, 2);
+    store32(r1 + 4, 0);
+    store32(r1 + 8, 0);
+    uint8_t r17 = dfu_asks_next_piece_numbered_piece(r1, a0, a2);
+    return r17;
 }
 
 /* dfu_asks::asks::is_sound */
@@ -847,59 +1103,66 @@ loop_2:
 /* dfu_asks::cut::byte_of */
 static uint8_t dfu_asks_cut_byte_of(unsigned char *a0, uint64_t a1) {
     uint8_t common_ret_op;
-    uint64_t r26, r5_3_0_copyload, r29;
-    unsigned char *r34;
-    uint8_t r17 = a0[72];
-    if (!(r17 & 1)) goto join_3;
+    uint64_t r4_3_0_copyload, r5_3_0_copyload, r25, r29;
+    unsigned char *r21, *r27, *r30;
+    uint8_t r10 = a0[72];
+    if (!(r10 & 1)) goto join_3;
     common_ret_op = 255;
 common_ret:
     return common_ret_op;
 join_3:;
-    uint64_t r24 = load64(a0 + 104);
-    r26 = r24 + a1;
-    uint8_t r28 = a0[96];
-    switch (r28) {
-    case 0: goto arm_4;
-    case 1: goto arm_5;
-    case 2: goto arm_6;
+    uint8_t r3_0_0_copyload = a0[96];
+    uint64_t r4_0_0_copyload = load64(a0 + 16);
+    r4_3_0_copyload = load64(a0 + 24);
+    uint64_t r5_0_0_copyload = load64(a0 + 32);
+    r5_3_0_copyload = load64(a0 + 40);
+    r21 = a0 + 56;
+    uint64_t r23 = load64(a0 + 104);
+    r25 = r23 + a1;
+    r27 = (unsigned char *)(uintptr_t)r4_0_0_copyload;
+    r30 = (unsigned char *)(uintptr_t)r5_0_0_copyload;
+    switch (r3_0_0_copyload) {
+    case 0: goto arm_1;
+    case 1: goto arm_2;
+    case 2: goto arm_3;
+    case 3: goto arm_4;
+    case 4:
+        common_ret_op = 0;
+        goto common_ret;
     default: never();
     }
-arm_4:
-    r5_3_0_copyload = load64(a0 + 24);
-    uint64_t r6_0_0_copyload = load64(a0 + 32);
-    r34 = (unsigned char *)(uintptr_t)r6_0_0_copyload;
-    if (r26 >= r5_3_0_copyload) goto join_3_2;
-    uint64_t r5_0_0_copyload = load64(a0 + 16);
-    uint8_t r23 = *((unsigned char *)(uintptr_t)r5_0_0_copyload + (size_t)r26);
-    common_ret_op = r23;
-    goto common_ret;
-join_3_2:;
-    uint64_t r6_3_0_copyload = load64(a0 + 40);
-    r29 = r26 - r5_3_0_copyload;
-    if (r29 >= r6_3_0_copyload) {
-        common_ret_op = 0;
-        goto common_ret;
-    }
-    uint8_t r42 = r34[(size_t)r29];
-    common_ret_op = r42;
-    goto common_ret;
-arm_5:;
-    uint64_t r7_3_0_copyload = load64(a0 + 24);
-    if (r26 >= r7_3_0_copyload) {
-        common_ret_op = 0;
-        goto common_ret;
-    }
-    uint64_t r7_0_0_copyload = load64(a0 + 16);
-    uint8_t r23_2 = *((unsigned char *)(uintptr_t)r7_0_0_copyload + (size_t)r26);
+arm_1:
+    if (r25 >= r4_3_0_copyload) goto join_3_2;
+    uint8_t r23_2 = r27[(size_t)r25];
     common_ret_op = r23_2;
     goto common_ret;
-arm_6:
-    if (r26 >= 16) {
+join_3_2:
+    r29 = r25 - r4_3_0_copyload;
+    if (r29 >= r5_3_0_copyload) {
         common_ret_op = 0;
         goto common_ret;
     }
-    uint8_t r23_3 = *((a0 + 56) + (size_t)r26);
+    uint8_t r42 = r30[(size_t)r29];
+    common_ret_op = r42;
+    goto common_ret;
+arm_2:
+    if (r25 >= r4_3_0_copyload) {
+        common_ret_op = 0;
+        goto common_ret;
+    }
+    uint8_t r23_3 = r27[(size_t)r25];
     common_ret_op = r23_3;
+    goto common_ret;
+arm_3:
+    if (r25 >= 16) {
+        common_ret_op = 0;
+        goto common_ret;
+    }
+    uint8_t r23_4 = r21[(size_t)r25];
+    common_ret_op = r23_4;
+    goto common_ret;
+arm_4:
+    common_ret_op = (uint8_t)((r25 == 0) ? 165 : 0);
     goto common_ret;
 }
 
@@ -943,9 +1206,63 @@ join_3:;
 static uint32_t dfu_slots_read_capacity_of(unsigned char *a0) {
     uint64_t r3 = load64(a0 + 8);
     uint8_t r0_0_0_copyload = a0[16];
-    uint32_t switch_load = load32(PLACE(switch_table_dfu_core_would_stall) + 4 * (size_t)r0_0_0_copyload);
     uint32_t r1_0_0_copyload = load32(a0 + 20);
+    uint32_t switch_load = load32(PLACE(switch_table_dfu_core_would_stall) + 4 * (size_t)r0_0_0_copyload);
     return ((uint32_t)r3 >> 1) - (umax32(r1_0_0_copyload, switch_load) << 1);
+}
+
+/* dfu_slots::gates::close_gate::<#c4c4734aca759fff> */
+static uint8_t dfu_slots_gates_close_gate(unsigned char *a0, uint32_t a1) {
+    _Alignas(4) unsigned char r2[16];
+    memset(r2, 0, 16);
+    store32(r2 + 4, a1);
+    uint8_t r25 = dfu_slots_carry_carry_out(a0, r2);
+    return r25;
+}
+
+/* dfu_slots::carry::carry_out::<#c4c4734aca759fff> */
+static uint8_t dfu_slots_carry_carry_out(unsigned char *a0, unsigned char *a1) {
+    _Alignas(8) unsigned char r24[40];
+    _Alignas(4) unsigned char r1[16];
+    uint8_t r0_0_0_copyload, r0_0_0;
+    uint32_t r1_0_0_copyload;
+    unsigned char *r41, *r51;
+    uint64_t r18_0;
+    uint8_t r2 = *a1;
+    store32(r1, (uint32_t)r2);
+    uint32_t v0 = load32(a1 + 4);
+    store32(r1 + 4, v0);
+    uint32_t v1 = load32(a1 + 8);
+    store32(r1 + 8, v1);
+    uint16_t v2 = load16(a1 + 12);
+    store16(r1 + 12, v2);
+    uint16_t v3 = load16(a1 + 14);
+    store16(r1 + 14, v3);
+    r0_0_0_copyload = a0[16];
+    r1_0_0_copyload = load32(a0 + 20);
+    r41 = r24 + 8;
+    r51 = r24 + 32;
+    r18_0 = 0;
+loop_2:
+    if (r18_0 == 3) {
+        r0_0_0 = 0;
+        goto return_10;
+    }
+    dfu_slots_sequence_Sequence_operation(r24, r1, r0_0_0_copyload, r1_0_0_copyload, r18_0);
+    uint8_t r39 = *r24;
+    if (r39 == 0) {
+        r0_0_0 = 0;
+        goto return_10;
+    }
+    uint8_t r42 = *r41;
+    uint32_t v6 = load32(r51);
+    if ((r42 != 0) ? (v6 == 0) : 0) {
+        r18_0 = r18_0 + 1;
+        goto loop_2;
+    }
+    r0_0_0 = 1;
+return_10:
+    return r0_0_0;
 }
 
 /* core::slice::edits::slice+T::copy_from_slice::<i8,20'core::clone::U8Clone{}> */
@@ -965,14 +1282,15 @@ loop_4:
     goto loop_4;
 }
 
-/* dfu_slots::read::read_data::<#c4c4734aca759fff> */
-static void dfu_slots_read_read_data(unsigned char *a0, uint32_t a1, uint32_t a2, unsigned char *a3, uint64_t a4) {
+/* dfu_slots::writes::write_filled::<#c4c4734aca759fff> */
+static uint8_t dfu_slots_writes_write_filled(unsigned char *a0, unsigned char *a2, uint64_t a3) {
+    _Alignas(1) unsigned char r4[4096];
     uint8_t r0_0_0_copyload = a0[16];
-    uint32_t switch_load = load32(PLACE(switch_table_dfu_core_would_stall) + 4 * (size_t)r0_0_0_copyload);
-    uint32_t r1_0_0_copyload = load32(a0 + 20);
-    uint64_t r5_0_0_copyload = load64(a0);
-    core_slice_edits_slice_T_copy_from_slice_i8_core_clone_U8Clone(a3, (unsigned char *)(uintptr_t)r5_0_0_copyload + (size_t)((a2 + a1) + (umax32(r1_0_0_copyload, switch_load) << 1)), a4);
-    return;
+    uint32_t switch_load = load32(PLACE(switch_table_dfu_slots_layout_fill_size) + 4 * (size_t)r0_0_0_copyload);
+    uint32_t v1 = switch_load + 0xffffffffU;
+    memset(r4, 0, 4096);
+    core_slice_edits_slice_T_copy_from_slice_i8_core_clone_U8Clone(r4, a2, a3);
+    return (a3 | (uint64_t)((switch_load - (v1 & (uint32_t)a3)) & v1)) != 0;
 }
 
 /* dfu_suffix::crc::Crc::update_small */
@@ -997,9 +1315,21 @@ dfu_suffix_small_after_bytes_exit:
     return;
 }
 
+/* dfu_slots::places::count_slots::<#c4c4734aca759fff> */
+static struct i8_i8 dfu_slots_places_count_slots(unsigned char *a0) {
+    uint8_t r5 = dfu_slots_read_counts(a0, 0);
+    uint64_t r3 = load64(a0 + 8);
+    uint8_t r11 = dfu_slots_read_counts(a0, (uint32_t)r3 >> 1);
+    struct i8_i8 r20_half = (struct i8_i8){ 0, 0 };
+    r20_half.a = r5;
+    struct i8_i8 r20 = r20_half;
+    r20.b = r11;
+    return r20;
+}
+
 /* dfu_slots::read::counts::<#c4c4734aca759fff> */
 static uint8_t dfu_slots_read_counts(unsigned char *a0, uint32_t a1) {
-    _Alignas(1) unsigned char r2[256];
+    _Alignas(1) unsigned char r2[64];
     _Alignas(1) unsigned char r3_2[16];
     _Alignas(1) unsigned char r3[16];
     _Alignas(4) unsigned char r1[4];
@@ -1030,19 +1360,19 @@ static uint8_t dfu_slots_read_counts(unsigned char *a0, uint32_t a1) {
         goto dfu_slots_read_is_intact_exit;
     }
     store32(r1, 0xffffffffU);
-    memset(r2, 0, 256);
+    memset(r2, 0, 64);
     r3_0 = 0;
 loop_2:
     if (r3_0 >= r1_5_0_copyload) goto dfu_slots_register_register_of_exit;
-    uint32_t a1_a0 = umin32(r1_5_0_copyload - r3_0, 256);
-    uint64_t r29 = (uint64_t)a1_a0;
-    dfu_slots_read_read_data(a0, a1, r3_0, r2, r29);
-    dfu_suffix_crc_Crc_update_small(r1, r2, r29);
+    uint32_t a1_a0 = umin32(r1_5_0_copyload - r3_0, 64);
+    uint64_t r28 = (uint64_t)a1_a0;
+    dfu_slots_read_read_data(a0, a1, r3_0, r2, r28);
+    dfu_suffix_crc_Crc_update_small(r1, r2, r28);
     r3_0 = a1_a0 + r3_0;
     goto loop_2;
 dfu_slots_register_register_of_exit:;
-    uint32_t r1_2 = load32(r1);
-    common_ret_op = ((((r1_2_0_copyload == 2) ? (r1_3_0_copyload == 0) : 0) ? (r1_4_0_copyload == 0) : 0) ? (r1_6_0_copyload == r1_2) : 0) ? (r1_7_0_copyload == 0) : 0;
+    uint32_t r0_0_0_copyload = load32(r1);
+    common_ret_op = ((((r1_2_0_copyload == 2) ? (r1_3_0_copyload == 0) : 0) ? (r1_4_0_copyload == 0) : 0) ? (r1_6_0_copyload == r0_0_0_copyload) : 0) ? (r1_7_0_copyload == 0) : 0;
 dfu_slots_read_is_intact_exit:
     r1_0_in = common_ret_op;
 join_3:
@@ -1070,12 +1400,34 @@ static void dfu_slots_read_header_of(unsigned char *a0, unsigned char *a1, uint3
     _Alignas(1) unsigned char r1[16];
     memset(r1, 0, 16);
     uint8_t r0_0_0_copyload = a1[16];
-    uint32_t switch_load = load32(PLACE(switch_table_dfu_core_would_stall) + 4 * (size_t)r0_0_0_copyload);
     uint32_t r1_0_0_copyload = load32(a1 + 20);
+    uint32_t switch_load = load32(PLACE(switch_table_dfu_core_would_stall) + 4 * (size_t)r0_0_0_copyload);
     uint64_t r5_0_0_copyload = load64(a1);
     core_slice_edits_slice_T_copy_from_slice_i8_core_clone_U8Clone(r1, (unsigned char *)(uintptr_t)r5_0_0_copyload + (size_t)(umax32(r1_0_0_copyload, switch_load) + a2), 16);
     memcpy(a0, r1, 16);
     return;
+}
+
+/* dfu_slots::read::read_data::<#c4c4734aca759fff> */
+static void dfu_slots_read_read_data(unsigned char *a0, uint32_t a1, uint32_t a2, unsigned char *a3, uint64_t a4) {
+    uint8_t r0_0_0_copyload = a0[16];
+    uint32_t r1_0_0_copyload = load32(a0 + 20);
+    uint32_t switch_load = load32(PLACE(switch_table_dfu_core_would_stall) + 4 * (size_t)r0_0_0_copyload);
+    uint64_t r5_0_0_copyload = load64(a0);
+    core_slice_edits_slice_T_copy_from_slice_i8_core_clone_U8Clone(a3, (unsigned char *)(uintptr_t)r5_0_0_copyload + (size_t)((a2 + a1) + (umax32(r1_0_0_copyload, switch_load) << 1)), a4);
+    return;
+}
+
+/* dfu_slots::places::find_places::<#c4c4734aca759fff> */
+static struct i32_i32 dfu_slots_places_find_places(unsigned char *a0, uint8_t a1, uint8_t a2) {
+    uint64_t r3 = load64(a0 + 8);
+    uint32_t r93 = (uint32_t)r3 >> 1;
+    uint8_t r16 = dfu_slots_places_is_newest(a0, 0, r93, a1 & 1, a2 & 1);
+    struct i32_i32 r24_half = (struct i32_i32){ 0, 0 };
+    r24_half.a = (uint32_t)(r16 ? 0 : r93);
+    struct i32_i32 r24 = r24_half;
+    r24.b = (uint32_t)(r16 ? r93 : 0);
+    return r24;
 }
 
 /* dfu_slots::places::is_newest::<#c4c4734aca759fff> */
@@ -1095,8 +1447,8 @@ join_3:
 /* dfu_slots::read::generation::<#c4c4734aca759fff> */
 static uint8_t dfu_slots_read_generation(unsigned char *a0, uint32_t a1) {
     uint8_t r0_0_0_copyload = a0[16];
-    uint32_t switch_load = load32(PLACE(switch_table_dfu_core_would_stall) + 4 * (size_t)r0_0_0_copyload);
     uint32_t r1_0_0_copyload = load32(a0 + 20);
+    uint32_t switch_load = load32(PLACE(switch_table_dfu_core_would_stall) + 4 * (size_t)r0_0_0_copyload);
     uint8_t r7 = dfu_slots_read_byte_at(a0, umax32(r1_0_0_copyload, switch_load) + a1);
     return r7;
 }
@@ -1167,11 +1519,9 @@ join_7:
 
 /* dfu_slots::open::check::<#c4c4734aca759fff> */
 static void dfu_slots_open_check(unsigned char *a0, unsigned char *a1) {
-    _Alignas(1) unsigned char r3_3[16];
-    uint8_t r5, r11;
-    unsigned char *r2;
-    uint32_t r93_2, r93_3, r1_9_0_copyload, v3, v4;
-    uint8_t r1_2_0_copyload, v51, v5;
+    _Alignas(1) unsigned char r3[16];
+    uint8_t r26, r27, r1_2_0_copyload, v45, v5;
+    uint32_t r45, r46, r1_9_0_copyload, v3, v4;
     uint8_t r12 = dfu_slots_open_is_sized(a1);
     if (r12) goto join_3;
     goto then_1;
@@ -1181,29 +1531,26 @@ then_1:
     store32(a0 + 4, 0);
     store32(a0 + 8, 0);
     return;
-join_3:
-    r5 = dfu_slots_read_counts(a1, 0);
-    r2 = a1 + 8;
-    uint64_t r3 = load64(r2);
-    r11 = dfu_slots_read_counts(a1, (uint32_t)r3 >> 1);
-    if (r5 | r11) goto join_6;
+join_3:;
+    struct i8_i8 r25 = dfu_slots_places_count_slots(a1);
+    r26 = r25.a;
+    r27 = r25.b;
+    if ((r27 | r26) != 0) goto join_6;
     *a0 = 1;
     a0[1] = 1;
     store32(a0 + 4, 0);
     store32(a0 + 8, 0);
     return;
 join_6:;
-    uint64_t r3_2 = load64(r2);
-    uint32_t r93 = (uint32_t)r3_2 >> 1;
-    uint8_t r16 = dfu_slots_places_is_newest(a1, 0, r93, r5, r11);
-    r93_2 = (uint32_t)(r16 ? 0 : r93);
-    r93_3 = (uint32_t)(r16 ? r93 : 0);
-    if (r93_2 != 0) goto dfu_slots_places_has_newest_exit;
-    uint8_t r24 = dfu_slots_places_is_newest(a1, 0, r93_3, r5, r11);
+    struct i32_i32 r44 = dfu_slots_places_find_places(a1, r26, r27);
+    r45 = r44.a;
+    r46 = r44.b;
+    if (r45 != 0) goto dfu_slots_places_has_newest_exit;
+    uint8_t r24 = dfu_slots_places_is_newest(a1, 0, r46, r26 & 1, r27 & 1);
     if (r24) goto join_9;
     goto then_7;
 dfu_slots_places_has_newest_exit:;
-    uint8_t r33 = dfu_slots_places_is_newest(a1, r93_2, r93_3, r11, r5);
+    uint8_t r33 = dfu_slots_places_is_newest(a1, r45, r46, r27 & 1, r26 & 1);
     if (r33) goto join_9;
 then_7:
     *a0 = 1;
@@ -1212,38 +1559,38 @@ then_7:
     store32(a0 + 8, 0);
     return;
 join_9:
-    dfu_slots_read_header_of(r3_3, a1, r93_2);
-    r1_2_0_copyload = r3_3[1];
-    r1_9_0_copyload = load32u(r3_3 + 12);
+    dfu_slots_read_header_of(r3, a1, r45);
+    r1_2_0_copyload = r3[1];
+    r1_9_0_copyload = load32u(r3 + 12);
     if (r1_2_0_copyload != 2) goto join_3_2;
-    v51 = 0;
-    v3 = r93_3;
-    v4 = r93_2;
+    v45 = 0;
+    v3 = r46;
+    v4 = r45;
     v5 = 0;
     goto v2;
 join_3_2:;
-    uint32_t r1_6_0_copyload = load32u(r3_3 + 4);
-    uint32_t r1_8_0_copyload = load32u(r3_3 + 8);
-    uint8_t r1_5_0_copyload = r3_3[3];
-    uint8_t r1_4_0_copyload = r3_3[2];
-    uint32_t r26 = dfu_slots_read_capacity_of(a1);
-    if (((((r1_2_0_copyload == 1) & (r1_6_0_copyload <= r26)) ? (r1_4_0_copyload == 0) : 0) ? (r1_5_0_copyload == 0) : 0) ? (r1_8_0_copyload == 0) : 0) goto dfu_slots_read_header_len_exit;
+    uint32_t r1_6_0_copyload = load32u(r3 + 4);
+    uint32_t r1_8_0_copyload = load32u(r3 + 8);
+    uint8_t r1_5_0_copyload = r3[3];
+    uint8_t r1_4_0_copyload = r3[2];
+    uint32_t r26_2 = dfu_slots_read_capacity_of(a1);
+    if (((((r1_2_0_copyload == 1) & (r1_6_0_copyload <= r26_2)) ? (r1_4_0_copyload == 0) : 0) ? (r1_5_0_copyload == 0) : 0) ? (r1_8_0_copyload == 0) : 0) goto dfu_slots_read_header_len_exit;
     goto v1;
 dfu_slots_read_header_len_exit:
     if (r1_9_0_copyload == 0) {
-        v51 = 0;
-        v3 = r93_3;
-        v4 = r93_2;
+        v45 = 0;
+        v3 = r46;
+        v4 = r45;
         v5 = 0;
         goto v2;
     }
 v1:
-    v51 = 1;
+    v45 = 1;
     v3 = 0;
     v4 = 0;
     v5 = 3;
 v2:
-    *a0 = v51;
+    *a0 = v45;
     a0[1] = v5;
     store32(a0 + 4, v4);
     store32(a0 + 8, v3);
@@ -1488,36 +1835,6 @@ dfu_device_c_mode_numbers_of_exit:
     return;
 }
 
-/* dfu_device_c::power::start */
-static uint32_t dfu_device_c_power_start(unsigned char *a0, unsigned char *a1, unsigned char *a2, uint64_t a3, uint32_t a4) {
-    _Alignas(4) unsigned char r7[40];
-    _Alignas(4) unsigned char r8[18];
-    uint32_t common_ret_op;
-    dfu_device_c_config_settings_of(r7, a0);
-    uint8_t r14 = *r7;
-    if (r14 != 1) {
-        common_ret_op = 0xfffffffeU;
-        goto common_ret;
-    }
-    uint8_t r3_2_0_copyload = r7[32];
-    uint32_t r3_31_0_copyload = load32(r7 + 36);
-    dfu_asks_noted_Noted_find(r8, a2, a3, r3_2_0_copyload, r3_31_0_copyload);
-    uint8_t r24 = *r8;
-    if (r24 == 1) goto arm_5;
-    common_ret_op = 0xfffffffdU;
-common_ret:
-    return common_ret_op;
-arm_5:;
-    uint8_t r4_0_0_copyload = r8[1];
-    store32(a1, 300);
-    memset(a1 + 8, 0, 316);
-    store32(a1 + 4, a4);
-    store32(a1 + 20, (uint32_t)(r4_0_0_copyload & 1));
-    memcpy(a1 + 28, r8 + 2, 16);
-    common_ret_op = 0;
-    goto common_ret;
-}
-
 /* dfu_wire::setups::Setup::request */
 static void dfu_wire_setups_Setup_request(unsigned char *a0, unsigned char *a1) {
     uint8_t r15, r52, r11_0_0_0;
@@ -1602,6 +1919,36 @@ after_14:
     store16(a0 + 2, r11_10_0);
     store16(a0 + 4, r11_16_0);
     return;
+}
+
+/* dfu_device_c::power::start */
+static uint32_t dfu_device_c_power_start(unsigned char *a0, unsigned char *a1, unsigned char *a2, uint64_t a3, uint32_t a4) {
+    _Alignas(4) unsigned char r7[40];
+    _Alignas(4) unsigned char r8[18];
+    uint32_t common_ret_op;
+    dfu_device_c_config_settings_of(r7, a0);
+    uint8_t r14 = *r7;
+    if (r14 != 1) {
+        common_ret_op = 0xfffffffeU;
+        goto common_ret;
+    }
+    uint8_t r3_2_0_copyload = r7[32];
+    uint32_t r3_31_0_copyload = load32(r7 + 36);
+    dfu_asks_noted_Noted_find(r8, a2, a3, r3_2_0_copyload, r3_31_0_copyload);
+    uint8_t r24 = *r8;
+    if (r24 == 1) goto arm_5;
+    common_ret_op = 0xfffffffdU;
+common_ret:
+    return common_ret_op;
+arm_5:;
+    uint8_t r4_0_0_copyload = r8[1];
+    store32(a1, 300);
+    memset(a1 + 8, 0, 316);
+    store32(a1 + 4, a4);
+    store32(a1 + 20, (uint32_t)(r4_0_0_copyload & 1));
+    memcpy(a1 + 28, r8 + 2, 16);
+    common_ret_op = 0;
+    goto common_ret;
 }
 
 /* dfu_device::table::decide */
@@ -2423,7 +2770,7 @@ arm_4_6:
 switch_lookup:;
     uint64_t v30 = (uint64_t)r11;
     uint8_t switch_load = *(PLACE(switch_table_dfu_device_table_decide) + (size_t)v30);
-    uint32_t switch_load149 = load32(PLACE(switch_table_dfu_device_table_decide_1) + 4 * (size_t)v30);
+    uint32_t switch_load149 = load32(PLACE(switch_table_dfu_device_table_decide_2) + 4 * (size_t)v30);
     r29_0_0 = 0;
     r29_15_0 = switch_load;
     r29_29117_0 = switch_load149;
@@ -2670,6 +3017,61 @@ join_16:
     return;
 }
 
+/* dfu_asks::view::look */
+static void dfu_asks_view_look(unsigned char *a0, unsigned char *a1, unsigned char *a2) {
+    uint32_t r3847_2, r3847_3, r99, r17;
+    unsigned char *r74, *r82;
+    uint64_t r3_0;
+    uint8_t r24 = dfu_slots_open_is_sized(a1);
+    if (r24) goto join_3;
+    goto then_1;
+then_1:
+    memset(a0, 0, 20);
+    return;
+join_3:;
+    uint64_t r3 = load64(a1 + 8);
+    uint32_t r3847 = (uint32_t)r3 >> 1;
+    uint8_t r39 = *a2;
+    uint8_t r40 = r39 & 1;
+    r3847_2 = (uint32_t)(r40 ? r3847 : 0);
+    r3847_3 = (uint32_t)(r40 ? 0 : r3847);
+    uint8_t r52 = dfu_slots_read_is_open(a1, r3847_2);
+    if (r52) goto join_9;
+    memset(a0, 0, 20);
+    return;
+join_9:;
+    uint8_t r0_0_0_copyload = a1[16];
+    uint32_t r1_0_0_copyload = load32(a1 + 20);
+    uint32_t switch_load = load32(PLACE(switch_table_dfu_core_would_stall) + 4 * (size_t)r0_0_0_copyload);
+    uint64_t r13_0_0_copyload = load64(a1);
+    r74 = (unsigned char *)(uintptr_t)r13_0_0_copyload + (size_t)(umax32(r1_0_0_copyload, switch_load) + r3847_2);
+    r82 = a2 + 1;
+    r3_0 = 0;
+loop_2:
+    if (r3_0 == 16) goto join_12;
+    uint8_t r19 = r74[(size_t)r3_0];
+    uint8_t r24_2 = r82[(size_t)r3_0];
+    if (r19 == r24_2) {
+        r3_0 = r3_0 + 1;
+        goto loop_2;
+    }
+    memset(a0, 0, 20);
+    return;
+join_12:
+    r99 = dfu_slots_read_capacity_of(a1);
+    r17 = load32u(a2 + 5);
+    if (r99 >= r17) goto join_15;
+    memset(a0, 0, 20);
+    return;
+join_15:
+    store32(a0, 1);
+    store32(a0 + 4, r3847_2);
+    store32(a0 + 8, r3847_3);
+    store32(a0 + 12, r99);
+    store32(a0 + 16, r17);
+    return;
+}
+
 /* dfu_asks::asking::Asking::see */
 static void dfu_asks_asking_Asking_see(unsigned char *a0, unsigned char *a1, uint64_t a2, unsigned char *a3, uint64_t a4) {
     _Alignas(8) unsigned char r20[40];
@@ -2713,61 +3115,6 @@ join_10:
     *a0 = 0;
     a0[1] = 0;
     memcpy(a0 + 8, r20, 40);
-    return;
-}
-
-/* dfu_asks::view::look */
-static void dfu_asks_view_look(unsigned char *a0, unsigned char *a1, unsigned char *a2) {
-    uint32_t r3847_2, r3847_3, r99, r17;
-    unsigned char *r74, *r82;
-    uint64_t r3_0;
-    uint8_t r24 = dfu_slots_open_is_sized(a1);
-    if (r24) goto join_3;
-    goto then_1;
-then_1:
-    memset(a0, 0, 20);
-    return;
-join_3:;
-    uint64_t r3 = load64(a1 + 8);
-    uint32_t r3847 = (uint32_t)r3 >> 1;
-    uint8_t r39 = *a2;
-    uint8_t r40 = r39 & 1;
-    r3847_2 = (uint32_t)(r40 ? r3847 : 0);
-    r3847_3 = (uint32_t)(r40 ? 0 : r3847);
-    uint8_t r52 = dfu_slots_read_is_open(a1, r3847_2);
-    if (r52) goto join_9;
-    memset(a0, 0, 20);
-    return;
-join_9:;
-    uint8_t r0_0_0_copyload = a1[16];
-    uint32_t switch_load = load32(PLACE(switch_table_dfu_core_would_stall) + 4 * (size_t)r0_0_0_copyload);
-    uint32_t r1_0_0_copyload = load32(a1 + 20);
-    uint64_t r13_0_0_copyload = load64(a1);
-    r74 = (unsigned char *)(uintptr_t)r13_0_0_copyload + (size_t)(umax32(r1_0_0_copyload, switch_load) + r3847_2);
-    r82 = a2 + 1;
-    r3_0 = 0;
-loop_2:
-    if (r3_0 == 16) goto join_12;
-    uint8_t r19 = r74[(size_t)r3_0];
-    uint8_t r24_2 = r82[(size_t)r3_0];
-    if (r19 == r24_2) {
-        r3_0 = r3_0 + 1;
-        goto loop_2;
-    }
-    memset(a0, 0, 20);
-    return;
-join_12:
-    r99 = dfu_slots_read_capacity_of(a1);
-    r17 = load32u(a2 + 5);
-    if (r99 >= r17) goto join_15;
-    memset(a0, 0, 20);
-    return;
-join_15:
-    store32(a0, 1);
-    store32(a0 + 4, r3847_2);
-    store32(a0 + 8, r3847_3);
-    store32(a0 + 12, r99);
-    store32(a0 + 16, r17);
     return;
 }
 
@@ -2981,8 +3328,8 @@ arm_2_2:;
 arm_3_2:;
     uint32_t r15_3 = load32(a11 + 4);
     uint8_t r0_0_0_copyload = a10[16];
-    uint32_t switch_load = load32(PLACE(switch_table_dfu_core_would_stall) + 4 * (size_t)r0_0_0_copyload);
     uint32_t r1_0_0_copyload_2 = load32(a10 + 20);
+    uint32_t switch_load = load32(PLACE(switch_table_dfu_core_would_stall) + 4 * (size_t)r0_0_0_copyload);
     uint32_t r21 = load32(a1 + 72);
     uint64_t r25 = load64(a1 + 64);
     uint8_t r36 = a1[77];
@@ -3361,7 +3708,6 @@ static struct i64_i8 dfu_asks_asking_Asking_look_at(unsigned char *a0, unsigned 
     uint64_t r24 = load64(a0 + 56);
     uint32_t r19_2 = load32(a1 + 20);
     *r5 = r3_0_0_copyload;
-    memset(r5 + 1, 0, 3);
     store32(r5 + 4, r4_0_0_copyload);
     store32(r5 + 8, r17);
     store32(r5 + 12, 0);
@@ -3371,7 +3717,7 @@ static struct i64_i8 dfu_asks_asking_Asking_look_at(unsigned char *a0, unsigned 
     store64(r5 + 40, umin64(a3, r24));
     store64(r5 + 48, (uint64_t)r19_2);
     memset(r5 + 56, 0, 40);
-    r5[96] = 2;
+    r5[96] = 4;
     memset(r5 + 97, 0, 15);
     uint8_t r21 = *a1;
     store32(r10, (uint32_t)r21);
@@ -3401,85 +3747,62 @@ return_4:;
 
 /* dfu_asks::next_piece::next_piece */
 static uint8_t dfu_asks_next_piece_next_piece(unsigned char *a0, unsigned char *a1) {
-    uint32_t r1_3_4_copyload, r1_91_12_copyload;
+    _Alignas(4) unsigned char r2_3[16];
+    unsigned char *const r2_2 = r2_3;
+    _Alignas(4) unsigned char r1[16];
+    uint32_t r1_3_4_copyload;
     uint8_t r1_6_8_copyload;
-    uint64_t r9;
-    uint8_t r15_0_in;
+    uint8_t common_ret_op, r15_0_in;
     uint8_t r2 = *a0;
     r1_3_4_copyload = load32(a0 + 4);
     r1_6_8_copyload = a0[8];
     if (r2 != 0) goto arm_2;
-    r9 = dfu_asks_piece_held_place(r1_3_4_copyload, a1);
-    if (r1_6_8_copyload & 1) goto join_3;
-    uint8_t r16 = dfu_asks_next_piece_put_piece(r9, a1);
-    r15_0_in = r16;
-    goto join_4;
+    store64a4(r2_2 + 8, 0);
+    if (r1_6_8_copyload & 1) goto dfu_asks_next_piece_shut_piece_exit;
+    goto join_3;
+dfu_asks_next_piece_shut_piece_exit:
+    store32(r2_2, 0);
+    store32(r2_2 + 4, r1_3_4_copyload);
+    uint8_t r9 = dfu_asks_next_piece_sequence_piece(r2_2, a1);
+    if (r9) {
+        common_ret_op = 1;
+        goto dfu_asks_next_piece_block_piece_exit;
+    }
 join_3:;
-    uint8_t r21 = dfu_asks_next_piece_close_piece(r1_3_4_copyload, a1);
-    if (r21) {
-        r15_0_in = 1;
-        goto join_4;
-    }
-    uint8_t r30 = dfu_asks_next_piece_put_piece(r9, a1);
-    r15_0_in = r30;
+    uint32_t r19 = load32(a1 + 8);
+    uint64_t r22 = load64(a1 + 24);
+    uint64_t r27 = load64(a1 + 40);
+    store32(r1, 1);
+    store32(r1 + 4, r1_3_4_copyload);
+    store32(r1 + 8, r19);
+    store16(r1 + 12, (uint16_t)r22);
+    store16(r1 + 14, (uint16_t)r27);
+    uint8_t r38 = dfu_asks_next_piece_sequence_piece(r1, a1);
+    common_ret_op = r38;
+dfu_asks_next_piece_block_piece_exit:
+    r15_0_in = common_ret_op;
     goto join_4;
-arm_2:
-    r1_91_12_copyload = load32(a0 + 12);
-    uint64_t r17 = load64(a1 + 24);
-    uint8_t r5_0_0_copyload = *a1;
-    uint64_t switch_load = load64(PLACE(switch_table_dfu_asks_next_piece_put_piece) + 8 * (size_t)r5_0_0_copyload);
-    uint64_t v2 = switch_load + 0xffffffffffffffffULL;
-    uint64_t r28 = dfu_asks_piece_held_place(r1_3_4_copyload, a1);
-    uint8_t r33 = dfu_asks_next_piece_write_piece(r28, 1, 0, ((switch_load - (v2 & r17)) & v2) + r17, a1);
-    if (r33) {
-        r15_0_in = 1;
-        goto join_4;
-    }
-    uint32_t r41 = load32(a1 + 8);
-    uint8_t r44 = dfu_asks_next_piece_header_piece(r1_3_4_copyload, r1_6_8_copyload, r41, r1_91_12_copyload, a1);
-    if (r44) {
-        r15_0_in = 1;
-        goto join_4;
-    }
-    uint8_t r52 = dfu_asks_next_piece_gate_piece(r1_3_4_copyload, 165, a1);
-    r15_0_in = r52;
+arm_2:;
+    uint32_t r1_91_12_copyload = load32(a0 + 12);
+    unsigned char *v2 = r2_3 + 12;
+    store32(v2, 0);
+    uint32_t r8 = load32(a1 + 8);
+    a1[56] = r1_6_8_copyload;
+    a1[57] = 2;
+    a1[58] = 0;
+    a1[59] = 0;
+    store32(a1 + 60, r8);
+    store32(a1 + 64, r1_91_12_copyload);
+    store32(a1 + 68, 0);
+    uint64_t r13 = load64(a1 + 24);
+    store32(r2_3, 2);
+    store32(r2_3 + 4, r1_3_4_copyload);
+    store32(r2_3 + 8, r8);
+    store16(v2, (uint16_t)r13);
+    uint8_t r22_2 = dfu_asks_next_piece_sequence_piece(r2_3, a1);
+    r15_0_in = r22_2;
 join_4:
     return r15_0_in;
-}
-
-/* dfu_asks::piece::held_place */
-static uint64_t dfu_asks_piece_held_place(uint32_t a0, unsigned char *a1) {
-    uint32_t r11 = load32(a1 + 8);
-    uint64_t r16 = load64(a1 + 24);
-    uint8_t r6_0_0_copyload = *a1;
-    uint32_t r7_0_0_copyload = load32(a1 + 4);
-    uint64_t switch_load = load64(PLACE(switch_table_dfu_asks_piece_held_place) + 8 * (size_t)r6_0_0_copyload);
-    return (usub_sat64((uint64_t)r11, r16) + (uint64_t)a0) + (umax64(switch_load, (uint64_t)r7_0_0_copyload) << 1);
-}
-
-/* dfu_asks::next_piece::put_piece */
-static uint8_t dfu_asks_next_piece_put_piece(uint64_t a0, unsigned char *a1) {
-    uint64_t switch_load, r2215, r2516, r9_0;
-    uint8_t common_ret_op;
-    uint8_t r6_0_0_copyload = *a1;
-    switch_load = load64(PLACE(switch_table_dfu_asks_next_piece_put_piece) + 8 * (size_t)r6_0_0_copyload);
-    r2215 = load64(a1 + 24);
-    r2516 = load64(a1 + 40);
-    if (r2215 == 0) {
-        r9_0 = 0;
-        goto dfu_asks_piece_head_size_exit;
-    }
-    r9_0 = umin64((r2516 + r2215) & ((uint64_t)0 - switch_load), switch_load);
-dfu_asks_piece_head_size_exit:;
-    uint8_t r41 = dfu_asks_next_piece_write_piece(a0, 0, 0, r9_0, a1);
-    if (!r41) goto join_5;
-    common_ret_op = 1;
-common_ret:
-    return common_ret_op;
-join_5:;
-    uint8_t r59 = dfu_asks_next_piece_write_piece(r9_0 + a0, 0, r9_0, ((r2516 + r2215) & ((uint64_t)0 - switch_load)) - r9_0, a1);
-    common_ret_op = r59;
-    goto common_ret;
 }
 
 /* dfu_asks::asking::Asking::noted_after */
@@ -3686,7 +4009,7 @@ int32_t dfu_core_format_next(const struct dfu_config *config, const struct dfu_r
     store64(r5 + 40, a5);
     store64(r5 + 48, (uint64_t)r6_52_0_copyload);
     memset(r5 + 56, 0, 40);
-    r5[96] = 2;
+    r5[96] = 4;
     memset(r5 + 97, 0, 15);
     uint8_t r30 = dfu_asks_formatting_Formatting_due(r20, a3, r5);
     if (!r30) goto dfu_asks_formatting_Formatting_next_exit_thread;
@@ -3717,13 +4040,16 @@ int32_t dfu_core_format_start(const struct dfu_config *config, struct dfu_record
     uint64_t a3 = size;
     unsigned char *a4 = (unsigned char *)(uintptr_t)image;
     uint64_t a5 = length;
-    _Alignas(4) unsigned char r3[256];
-    unsigned char *const r3_2 = r3;
     _Alignas(4) unsigned char r8[40];
     _Alignas(8) unsigned char r4_2[24];
+    unsigned char *const r3_3 = r4_2;
+    _Alignas(8) unsigned char r5[24];
+    _Alignas(4) unsigned char r3_2[16];
+    unsigned char *const r3 = r3_2;
     unsigned char *r4, *r13;
-    uint32_t r5_31_0_copyload, r12_5_0_neg, common_ret_op;
+    uint32_t r5_31_0_copyload, r71, r12_5_0_neg, common_ret_op;
     uint8_t r5_2_0_copyload;
+    uint64_t wide_5768;
     r4 = (unsigned char *)((uintptr_t)a2 + (uintptr_t)(uint64_t)((a2 == NULL) ? 4096 : 0));
     r13 = (unsigned char *)((uintptr_t)a4 + (uintptr_t)(uint64_t)((a4 == NULL) ? 4096 : 0));
     store64a4(r8 + 32, 0);
@@ -3739,7 +4065,8 @@ int32_t dfu_core_format_start(const struct dfu_config *config, struct dfu_record
     }
     r5_31_0_copyload = load32(r8 + 36);
     r5_2_0_copyload = r8[32];
-    store64(r4_2, (uint64_t)(uintptr_t)r4);
+    wide_5768 = (uint64_t)(uintptr_t)r4;
+    store64(r4_2, wide_5768);
     store64(r4_2 + 8, a3);
     r4_2[16] = r5_2_0_copyload;
     memset(r4_2 + 17, 0, 3);
@@ -3749,18 +4076,37 @@ int32_t dfu_core_format_start(const struct dfu_config *config, struct dfu_record
         r12_5_0_neg = 0xfffffffaU;
         goto arm_9;
     }
+    r71 = (uint32_t)a3 >> 1;
     uint32_t switch_load = load32(PLACE(switch_table_dfu_core_would_stall) + 4 * (size_t)r5_2_0_copyload);
-    if (a5 > (uint64_t)(((uint32_t)a3 >> 1) - (umax32(r5_31_0_copyload, switch_load) << 1))) {
+    if (a5 > (uint64_t)(r71 - (umax32(r5_31_0_copyload, switch_load) << 1))) {
         r12_5_0_neg = 0xfffffff9U;
         goto arm_9;
     }
-    if (r5_31_0_copyload != 0) goto arm_8;
-    memset(r3, 0, 256);
-    core_slice_edits_slice_T_copy_from_slice_i8_core_clone_U8Clone(r3, PLACE(static_1), 1);
+    store64(r5, wide_5768);
+    store64(r5 + 8, a3);
+    r5[16] = r5_2_0_copyload;
+    memset(r5 + 17, 0, 3);
+    store32(r5 + 20, r5_31_0_copyload);
+    uint8_t r15 = dfu_slots_gates_close_gate(r5, r71);
+    if (r15 != 0) goto arm_8;
+    uint8_t r23 = dfu_slots_gates_close_gate(r5, 0);
+    if ((r23 != 0) ? 1 : (a5 > 4096)) goto arm_8;
+    uint8_t r47 = dfu_slots_writes_write_filled(r5, r13, a5);
+    if (r47 != 0) goto arm_8;
+    store32(r3, 0xffffffffU);
+    dfu_suffix_crc_Crc_update_small(r3, r13, a5);
+    store32(r3_2 + 12, 0);
+    store32(r3_2, 2);
+    store32(r3_2 + 4, 0);
+    store32(r3_2 + 8, 0);
+    uint8_t r28 = dfu_slots_carry_carry_out(r5, r3_2);
+    if (r28 != 0) goto arm_8;
+    struct i8_i8 r2 = dfu_slots_places_count_slots(r5);
+    dfu_slots_places_find_places(r5, r2.a, r2.b);
 arm_8:
-    store32(r3_2, 0xffffffffU);
-    dfu_suffix_crc_Crc_update_small(r3_2, r13, a5);
-    uint32_t r1 = load32(r3_2);
+    store32(r3_3, 0xffffffffU);
+    dfu_suffix_crc_Crc_update_small(r3_3, r13, a5);
+    uint32_t r1 = load32(r3_3);
     store32(a1, 300);
     memset(a1 + 4, 0, 320);
     store32(a1 + 44, 3);
@@ -3824,7 +4170,7 @@ int32_t dfu_core_format_took(const struct dfu_config *config, struct dfu_record 
     store64(r5 + 40, a5);
     store64(r5 + 48, (uint64_t)r31);
     memset(r5 + 56, 0, 40);
-    r5[96] = 2;
+    r5[96] = 4;
     memset(r5 + 97, 0, 15);
     uint8_t r38 = dfu_asks_formatting_Formatting_due(r24, a3, r5);
     if (!r38) goto dfu_asks_formatting_Formatting_took_exit;
@@ -3845,7 +4191,7 @@ int32_t dfu_core_format_took(const struct dfu_config *config, struct dfu_record 
     store64(r3 + 40, a5);
     store64(r3 + 48, (uint64_t)r100);
     memset(r3 + 56, 0, 40);
-    r3[96] = 2;
+    r3[96] = 4;
     memset(r3 + 97, 0, 15);
     uint8_t r21 = dfu_asks_format_piece_part_piece(r6, a3, r3);
     if (!r21) goto join_3;
@@ -3876,11 +4222,11 @@ arm_2:
 arm_3:;
     uint32_t r4_3_4_copyload = load32(r6 + 16);
     uint64_t r29 = (uint64_t)r4_3_4_copyload + 4096;
-    uint64_t switch_load = load64(PLACE(switch_table_dfu_asks_next_piece_put_piece) + 8 * (size_t)r3_0_0_copyload);
+    uint64_t switch_load = load64(PLACE(switch_table_dfu_core_format_took) + 8 * (size_t)r3_0_0_copyload);
     uint64_t v4 = switch_load + 0xffffffffffffffffULL;
-    uint8_t r34 = r29 < (((switch_load - (v4 & a5)) & v4) + a5);
-    r7_0_0_0 = (uint8_t)(r34 ? 2 : 3);
-    r7_8_0 = (uint32_t)(r34 ? (uint32_t)r29 : 0);
+    uint8_t r34_fr = r29 < (((switch_load - (v4 & a5)) & v4) + a5);
+    r7_0_0_0 = (uint8_t)(r34_fr ? 2 : 3);
+    r7_8_0 = (uint32_t)(r34_fr ? (uint32_t)r29 : 0);
     goto arm_9_thread12;
 arm_4:
     r7_0_0_0 = 4;
@@ -4071,6 +4417,206 @@ dfu_device_c_due_dfu_core_due_exit:
     return signed32(r4_0);
 }
 
+/* dfu_core_refuse */
+int32_t dfu_core_refuse(const struct dfu_config *config, struct dfu_record *record, uint32_t status) {
+    unsigned char *a0 = (unsigned char *)(uintptr_t)config;
+    unsigned char *a1 = (unsigned char *)(uintptr_t)record;
+    uint32_t a2 = status;
+    _Alignas(4) unsigned char r5[20];
+    _Alignas(4) unsigned char r10[16];
+    uint8_t v1, v2, r1_5_0, r12_0_0, r12_4_0;
+    uint32_t v3, v4, v5, r12_76_0, r12_10_0, r12_13_0, common_ret_op;
+    memset(r5, 0, 20);
+    store32(r10, 0);
+    dfu_device_c_idle_idle_mode(r5, a0, a1);
+    uint8_t r12 = *r5;
+    if (r12 != 0) goto arm_2;
+    v1 = r5[4];
+    v2 = r5[5];
+    v3 = load32(r5 + 8);
+    v4 = load32(r5 + 12);
+    v5 = load32(r5 + 16);
+    switch (a2) {
+    case 1:
+        r1_5_0 = 1;
+        goto arm_5;
+    case 2: goto arm_2_2;
+    default:
+        common_ret_op = 0xfffffff2U;
+        goto dfu_device_c_refuse_dfu_core_refuse_exit;
+    }
+arm_2_2:
+    r1_5_0 = 2;
+    goto arm_5;
+arm_2:;
+    uint8_t r3_0_0_copyload = r5[1];
+    uint32_t switch_load = load32(PLACE(switch_table_dfu_device_c_refusal_Refusal_number) + 4 * (size_t)r3_0_0_copyload);
+    common_ret_op = switch_load;
+    goto dfu_device_c_refuse_dfu_core_refuse_exit;
+arm_5:
+    switch (v1) {
+    case 7: goto arm_1;
+    case 9: goto arm_1;
+    case 0:
+        r12_0_0 = v1;
+        r12_4_0 = v2;
+        r12_76_0 = v3;
+        r12_10_0 = v4;
+        r12_13_0 = v5;
+        goto dfu_device_mode_Mode_after_refusal_exit;
+    case 1:
+        r12_0_0 = v1;
+        r12_4_0 = v2;
+        r12_76_0 = v3;
+        r12_10_0 = v4;
+        r12_13_0 = v5;
+        goto dfu_device_mode_Mode_after_refusal_exit;
+    case 2:
+        r12_0_0 = v1;
+        r12_4_0 = v2;
+        r12_76_0 = v3;
+        r12_10_0 = v4;
+        r12_13_0 = v5;
+        goto dfu_device_mode_Mode_after_refusal_exit;
+    case 3:
+        r12_0_0 = v1;
+        r12_4_0 = v2;
+        r12_76_0 = v3;
+        r12_10_0 = v4;
+        r12_13_0 = v5;
+        goto dfu_device_mode_Mode_after_refusal_exit;
+    case 4:
+        r12_0_0 = v1;
+        r12_4_0 = v2;
+        r12_76_0 = v3;
+        r12_10_0 = v4;
+        r12_13_0 = v5;
+        goto dfu_device_mode_Mode_after_refusal_exit;
+    case 5:
+        r12_0_0 = v1;
+        r12_4_0 = v2;
+        r12_76_0 = v3;
+        r12_10_0 = v4;
+        r12_13_0 = v5;
+        goto dfu_device_mode_Mode_after_refusal_exit;
+    case 6:
+        r12_0_0 = v1;
+        r12_4_0 = v2;
+        r12_76_0 = v3;
+        r12_10_0 = v4;
+        r12_13_0 = v5;
+        goto dfu_device_mode_Mode_after_refusal_exit;
+    case 8:
+        r12_0_0 = v1;
+        r12_4_0 = v2;
+        r12_76_0 = v3;
+        r12_10_0 = v4;
+        r12_13_0 = v5;
+        goto dfu_device_mode_Mode_after_refusal_exit;
+    case 10:
+        r12_0_0 = v1;
+        r12_4_0 = v2;
+        r12_76_0 = v3;
+        r12_10_0 = v4;
+        r12_13_0 = v5;
+        goto dfu_device_mode_Mode_after_refusal_exit;
+    case 11:
+        r12_0_0 = v1;
+        r12_4_0 = v2;
+        r12_76_0 = v3;
+        r12_10_0 = v4;
+        r12_13_0 = v5;
+        goto dfu_device_mode_Mode_after_refusal_exit;
+    case 12:
+        r12_0_0 = v1;
+        r12_4_0 = v2;
+        r12_76_0 = v3;
+        r12_10_0 = v4;
+        r12_13_0 = v5;
+        goto dfu_device_mode_Mode_after_refusal_exit;
+    default: never();
+    }
+arm_1:
+    r12_0_0 = 12;
+    r12_4_0 = r1_5_0;
+    r12_76_0 = 0;
+    r12_10_0 = 0;
+    r12_13_0 = 0;
+    goto dfu_device_mode_Mode_after_refusal_exit;
+dfu_device_mode_Mode_after_refusal_exit:
+    *r10 = r12_0_0;
+    r10[1] = r12_4_0;
+    store32(r10 + 4, r12_76_0);
+    store32(r10 + 8, r12_10_0);
+    store32(r10 + 12, r12_13_0);
+    dfu_device_c_mode_set_mode(a1, r10);
+    common_ret_op = 0;
+dfu_device_c_refuse_dfu_core_refuse_exit:
+    return signed32(common_ret_op);
+}
+
+/* dfu_core_refuse_close */
+int32_t dfu_core_refuse_close(const struct dfu_config *config, struct dfu_record *record, const uint8_t setup[8], uint32_t status) {
+    unsigned char *a0 = (unsigned char *)(uintptr_t)config;
+    unsigned char *a1 = (unsigned char *)(uintptr_t)record;
+    unsigned char *a2 = (unsigned char *)(uintptr_t)setup;
+    uint32_t a3 = status;
+    _Alignas(4) unsigned char r6[20];
+    _Alignas(4) unsigned char r19[16];
+    _Alignas(8) unsigned char r3[8];
+    _Alignas(4) unsigned char r1[6];
+    uint8_t v1, r1_5_0;
+    uint32_t v2, common_ret_op;
+    memset(r6, 0, 20);
+    store32(r19, 12);
+    dfu_device_c_idle_idle_mode(r6, a0, a1);
+    uint8_t r21 = *r6;
+    if (r21 != 0) goto arm_2;
+    v1 = r6[4];
+    v2 = load32(r6 + 8);
+    switch (a3) {
+    case 1:
+        r1_5_0 = 1;
+        goto arm_5;
+    case 2: goto arm_2_2;
+    default:
+        common_ret_op = 0xfffffff2U;
+        goto dfu_device_c_refuse_dfu_core_refuse_close_exit;
+    }
+arm_2_2:
+    r1_5_0 = 2;
+    goto arm_5;
+arm_2:;
+    uint8_t r3_0_0_copyload = r6[1];
+    uint32_t switch_load = load32(PLACE(switch_table_dfu_device_c_refusal_Refusal_number) + 4 * (size_t)r3_0_0_copyload);
+    common_ret_op = switch_load;
+    goto dfu_device_c_refuse_dfu_core_refuse_close_exit;
+arm_5:;
+    uint32_t r62 = load32(a0 + 24);
+    if (!((v1 == 6) ? (r62 <= v2) : 0)) {
+        common_ret_op = 0xfffffff3U;
+        goto dfu_device_c_refuse_dfu_core_refuse_close_exit;
+    }
+    uint64_t r2_0_0_copyload = load64u(a2);
+    uint8_t r59 = a0[15];
+    store64(r3, (uint64_t)((r59 == (uint8_t)(r2_0_0_copyload >> 32)) ? 0 : 0x100000000ULL) | (r2_0_0_copyload & 0xffffff00ffffffffULL));
+    dfu_wire_setups_Setup_request(r1, r3);
+    uint8_t r2 = *r1;
+    uint16_t r1_4_4_copyload = load16(r1 + 4);
+    if (!((r2 == 1) ? (r1_4_4_copyload == 0) : 0)) {
+        common_ret_op = 0xfffffff3U;
+        goto dfu_device_c_refuse_dfu_core_refuse_close_exit;
+    }
+    r19[1] = r1_5_0;
+    store32(r19 + 4, 0);
+    store32(r19 + 8, 0);
+    store32(r19 + 12, 0);
+    dfu_device_c_mode_set_mode(a1, r19);
+    common_ret_op = 0xffffffffU;
+dfu_device_c_refuse_dfu_core_refuse_close_exit:
+    return signed32(common_ret_op);
+}
+
 /* dfu_core_too_long */
 int32_t dfu_core_too_long(const struct dfu_config *config, struct dfu_record *record, const uint8_t setup[8]) {
     unsigned char *a0 = (unsigned char *)(uintptr_t)config;
@@ -4232,6 +4778,93 @@ arm_2:;
     uint32_t switch_load_2 = load32(PLACE(switch_table_dfu_device_c_refusal_Refusal_number) + 4 * (size_t)r3_0_0_copyload);
     common_ret_op = switch_load_2;
 dfu_device_c_stalls_dfu_core_would_stall_exit:
+    return signed32(common_ret_op);
+}
+
+/* dfu_core_candidate */
+int32_t dfu_core_candidate(const struct dfu_config *config, const struct dfu_record *record, const uint8_t *flash, size_t size, struct dfu_place *place) {
+    unsigned char *a0 = (unsigned char *)(uintptr_t)config;
+    unsigned char *a1 = (unsigned char *)(uintptr_t)record;
+    unsigned char *a2 = (unsigned char *)(uintptr_t)flash;
+    uint64_t a3 = size;
+    unsigned char *a4 = (unsigned char *)(uintptr_t)place;
+    _Alignas(8) unsigned char r8[136];
+    _Alignas(8) unsigned char r3[128];
+    _Alignas(8) unsigned char r3_2[24];
+    _Alignas(4) unsigned char r13[20];
+    unsigned char *r4;
+    uint32_t r11_0_0_copyload, r4_2_0_copyload, v4, common_ret_op;
+    uint8_t r10_0_0_copyload;
+    uint64_t r2_0_0;
+    r4 = (unsigned char *)((uintptr_t)a2 + (uintptr_t)(uint64_t)((a2 == NULL) ? 4096 : 0));
+    memset(r8, 0, 136);
+    dfu_device_c_keeping_found(r8, a0, a1, 4096);
+    uint8_t r16 = *r8;
+    if (r16 != 0) goto arm_2;
+    memcpy(r3, r8 + 8, 128);
+    memset(r13, 0, 20);
+    uint8_t r2 = r3[96];
+    if (r2 != 1) goto join_3;
+    r2_0_0 = 2;
+    goto dfu_device_c_exports_refused_exit;
+join_3:
+    if (a3 > 0xffffffffU) goto arm_2_2;
+    r11_0_0_copyload = load32(r3 + 32);
+    r10_0_0_copyload = r3[28];
+    store64(r3_2, (uint64_t)(uintptr_t)r4);
+    store64(r3_2 + 8, a3);
+    r3_2[16] = r10_0_0_copyload;
+    memset(r3_2 + 17, 0, 3);
+    store32(r3_2 + 20, r11_0_0_copyload);
+    dfu_asks_view_look(r13, r3_2, r3 + 76);
+    uint8_t r65 = *r13;
+    if (r65 != 1) goto arm_2_2;
+    r4_2_0_copyload = load32(r13 + 8);
+    uint8_t v3 = r3[36];
+    v4 = load32(r3 + 40);
+    switch (v3) {
+    case 6: goto arm_11;
+    case 7: goto arm_11;
+    case 9: goto arm_11;
+    case 0: goto arm_5;
+    case 1: goto arm_5;
+    case 2: goto arm_5;
+    case 3: goto arm_5;
+    case 4: goto arm_5;
+    case 5: goto arm_5;
+    case 8: goto arm_5;
+    case 10: goto arm_5;
+    case 11: goto arm_5;
+    case 12: goto arm_5;
+    default: never();
+    }
+arm_11:;
+    uint32_t r4_3_0_copyload = load32(r13 + 12);
+    if (r4_3_0_copyload < v4) goto arm_3;
+    uint64_t v5 = (uint64_t)r10_0_0_copyload;
+    uint32_t switch_load = load32(PLACE(switch_table_dfu_core_would_stall) + 4 * (size_t)v5);
+    uint32_t switch_load_2 = load32(PLACE(switch_table_dfu_core_candidate) + 4 * (size_t)v5);
+    store32(a4, (umax32(r11_0_0_copyload, switch_load) << 1) + r4_2_0_copyload);
+    store32(a4 + 4, switch_load_2 & v4);
+    common_ret_op = 0;
+    goto dfu_device_c_candidate_dfu_core_candidate_exit;
+arm_2:;
+    uint8_t r5_0_0_copyload = r8[1];
+    uint32_t switch_load_3 = load32(PLACE(switch_table_dfu_device_c_refusal_Refusal_number) + 4 * (size_t)r5_0_0_copyload);
+    common_ret_op = switch_load_3;
+    goto dfu_device_c_candidate_dfu_core_candidate_exit;
+arm_5:
+    common_ret_op = 0xfffffff1U;
+    goto dfu_device_c_candidate_dfu_core_candidate_exit;
+arm_2_2:
+    r2_0_0 = 3;
+    goto dfu_device_c_exports_refused_exit;
+arm_3:
+    r2_0_0 = 4;
+dfu_device_c_exports_refused_exit:;
+    uint32_t switch_load_4 = load32(PLACE(switch_table_dfu_device_c_refusal_Refusal_number) + 4 * (size_t)r2_0_0);
+    common_ret_op = switch_load_4;
+dfu_device_c_candidate_dfu_core_candidate_exit:
     return signed32(common_ret_op);
 }
 
@@ -4627,7 +5260,7 @@ join_7:;
     store64(r8 + 40, umin64(a3, r6_7_0_copyload));
     store64(r8 + 48, (uint64_t)r6_20_0_copyload);
     memset(r8 + 56, 0, 40);
-    r8[96] = 2;
+    r8[96] = 4;
     memset(r8 + 97, 0, 15);
     store32(r16, (uint32_t)r6_13_0_copyload);
     store32(r16 + 4, r6_15_0_copyload);

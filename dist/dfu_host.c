@@ -1,11 +1,11 @@
 /* SPDX-License-Identifier: MIT OR Apache-2.0
  *
- * The body of dfuse_host.h: the hosts of DfuSe, and of USB DFU 1.1 (dfu_host.h).
+ * The body of dfuse_file.h: DfuSe files, and the hosts of DfuSe (dfuse_host.h) and of USB DFU 1.1 (dfu_host.h).
  *
  * Made by dist/make/library of the proved crate. Nobody edits it: change the crate, and make it anew by dist/generate. Compile it as C11
  * beside its header. Memory is arrays of bytes here, laid out as on a 64-bit processor with the low byte first: a size is a uint64_t,
  * and a pointer takes 8 bytes. */
-#include "dfuse_host.h"
+#include "dfuse_file.h"
 
 #include <stddef.h>
 #include <stdint.h>
@@ -123,6 +123,13 @@ _Static_assert(offsetof(struct dfuse_action, more) == 16, "another layout");
 _Static_assert(offsetof(struct dfuse_action, setup) == 20, "another layout");
 _Static_assert(sizeof(struct dfuse_action) == 32, "another layout");
 _Static_assert(_Alignof(struct dfuse_action) == 8, "another layout");
+_Static_assert(offsetof(struct dfuse_file, targets) == 0, "another layout");
+_Static_assert(offsetof(struct dfuse_file, setting) == 4, "another layout");
+_Static_assert(offsetof(struct dfuse_file, device) == 8, "another layout");
+_Static_assert(offsetof(struct dfuse_file, product) == 10, "another layout");
+_Static_assert(offsetof(struct dfuse_file, vendor) == 12, "another layout");
+_Static_assert(sizeof(struct dfuse_file) == 16, "another layout");
+_Static_assert(_Alignof(struct dfuse_file) == 4, "another layout");
 
 struct i32_i32 { uint32_t a; uint32_t b; };
 struct i64_i1 { uint64_t a; uint8_t b; };
@@ -176,12 +183,17 @@ static _Alignas(8) const uint64_t switch_table_dfu_host_name_1[11] = {
     9, 0x15, 0x1d, 0x25, 0x2d, 0x3c, 0x45, 0x55, 0x5f, 0x68, 0x72
 };
 
+static void dfuse_file_file_read(unsigned char *a0, unsigned char *a1, uint64_t a2);
+static void dfu_suffix_parse_read_small(unsigned char *a0, unsigned char *a1, uint64_t a2);
+static void dfu_suffix_crc_Crc_update_small(unsigned char *a0, unsigned char *a1, uint64_t a2);
+static void core_slice_edits_slice_T_copy_from_slice_i8_core_clone_U8Clone(unsigned char *a0, unsigned char *a2, uint64_t a3);
+static void dfuse_file_headings_take_heading(unsigned char *a0, unsigned char *a1, uint64_t a2);
+static void dfuse_file_elements_take_element(unsigned char *a0, unsigned char *a1, uint64_t a2);
 static void dfuse_memory_map_Map_read(unsigned char *a0, unsigned char *a1, uint64_t a2);
 static void dfuse_memory_place_take_address(unsigned char *a0, unsigned char *a1, uint64_t a2);
 static void dfuse_memory_digits_take_number(unsigned char *a0, uint64_t a1, uint64_t a2, unsigned char *a3, uint64_t a4);
 static uint64_t dfuse_memory_digits_digit_value(uint8_t a0);
 static void dfu_host_c_file_file_in(unsigned char *a0, unsigned char *a1, uint64_t a2);
-static void core_slice_edits_slice_T_copy_from_slice_i8_core_clone_U8Clone(unsigned char *a0, unsigned char *a2, uint64_t a3);
 static void dfu_host_c_reports_report_at(unsigned char *a0, uint64_t a1, uint32_t a2);
 static void dfu_host_c_holding_session_of(unsigned char *a0, unsigned char *a1, unsigned char *a2, uint64_t a3);
 static void dfu_host_c_holding_record_of(unsigned char *a0, unsigned char *a1, uint64_t a2);
@@ -244,6 +256,573 @@ static void dfuse_host_plan_Plan_to_compare_front(unsigned char *a0, unsigned ch
 static void dfuse_host_plan_Plan_unsure_of(unsigned char *a0, unsigned char *a1, unsigned char *a2, uint8_t a3, uint64_t a4);
 static void dfuse_host_session_Session_spent(unsigned char *a0, unsigned char *a1, unsigned char *a2, uint16_t a3);
 
+/* dfuse_file::file::read */
+static void dfuse_file_file_read(unsigned char *a0, unsigned char *a1, uint64_t a2) {
+    _Alignas(8) unsigned char r9[72];
+    unsigned char *const r5 = r9;
+    _Alignas(8) unsigned char r8[48];
+    unsigned char *const r5_2 = r8;
+    unsigned char *v1, *r5_2_0_r27_sroa_idx, *r5_32_0_r27_sroa_idx, *r5_4_0_r27_sroa_idx, *r5_5_0_r27_sroa_idx, *r5_5_3_0_r5_5_0_r27_sroa_idx_sroa_idx, *r4_2_0_r21_sroa_idx, *r4_3_0_r21_sroa_idx;
+    uint64_t r2_0, wide_665, r19, r3_0_0, r3_5_0, r5_5_0_0_copyload, r5_5_3_0_copyload, r3_0_0_2, r3_5_0_2, r6_26_0, r6_27_0;
+    uint16_t r7_0_0, r7_0_0_2, r7_0_0_3, r6_17_1_0, r6_17_8_0, r6_17_9_0;
+    uint8_t r98, r7_0, r0_5_0, r5_4_0, r6_0_0, r6_9_0, r6_24_0;
+    uint32_t r5_2_0_copyload, r6_0;
+    dfu_suffix_parse_read_small(r5, a1, a2);
+    uint8_t r14 = *r5;
+    if (r14 == 0) {
+        r5_4_0 = 4;
+        goto arm_2;
+    }
+    uint8_t r4_0_0_copyload = r5[1];
+    switch (r4_0_0_copyload) {
+    case 3: goto then_5;
+    case 6:
+        r5_4_0 = 0;
+        goto arm_2;
+    case 0: goto arm_2_2;
+    case 1: goto arm_3;
+    case 2: goto arm_4;
+    case 9: goto arm_5;
+    case 4: goto arm_5;
+    case 5: goto arm_5;
+    case 7: goto arm_5;
+    case 8: goto arm_5;
+    default: never();
+    }
+then_5:
+    v1 = a1 + (size_t)a2;
+    store32(r5_2, 0xffffffffU);
+    dfu_suffix_crc_Crc_update_small(r5_2, a1, a2 + 0xfffffffffffffffcULL);
+    uint32_t r15 = load32u(v1 - 4);
+    uint32_t r1 = load32(r5_2);
+    if (r15 == r1) goto arm_1;
+    r5_4_0 = 5;
+    goto arm_2;
+arm_2_2:
+    r5_4_0 = 1;
+    goto arm_2;
+arm_3:
+    r5_4_0 = 2;
+    goto arm_2;
+arm_4:
+    r5_4_0 = 3;
+    goto arm_2;
+arm_5:
+    r5_4_0 = 4;
+    goto arm_2;
+arm_1:;
+    uint8_t r27 = *(v1 - 5);
+    r2_0 = usub_sat64(a2, (uint64_t)r27);
+    uint8_t r11 = *(v1 - 16);
+    uint8_t r15_2 = *(v1 - 15);
+    r7_0_0 = (uint16_t)((uint32_t)r15_2 << 8) | r11;
+    uint8_t r11_2 = *(v1 - 14);
+    uint8_t r15_3 = *(v1 - 13);
+    r7_0_0_2 = (uint16_t)((uint32_t)r15_3 << 8) | r11_2;
+    uint8_t r11_3 = *(v1 - 12);
+    uint8_t r15_4 = *(v1 - 11);
+    r7_0_0_3 = (uint16_t)((uint32_t)r15_4 << 8) | r11_3;
+    if (r2_0 < 11) {
+        r6_17_1_0 = 0;
+        r6_17_8_0 = 0;
+        r6_17_9_0 = 0;
+        r6_0_0 = 1;
+        r6_9_0 = 6;
+        r6_24_0 = 0;
+        r6_26_0 = 0;
+        r6_27_0 = 0;
+        goto dfuse_file_file_read_file_exit;
+    }
+    uint8_t r20 = *a1;
+    if (r20 != 68) {
+        r6_17_1_0 = 0;
+        r6_17_8_0 = 0;
+        r6_17_9_0 = 0;
+        r6_0_0 = 1;
+        r6_9_0 = 6;
+        r6_24_0 = 0;
+        r6_26_0 = 0;
+        r6_27_0 = 0;
+        goto dfuse_file_file_read_file_exit;
+    }
+    uint8_t r29 = a1[1];
+    if (r29 != 102) {
+        r6_17_1_0 = 0;
+        r6_17_8_0 = 0;
+        r6_17_9_0 = 0;
+        r6_0_0 = 1;
+        r6_9_0 = 6;
+        r6_24_0 = 0;
+        r6_26_0 = 0;
+        r6_27_0 = 0;
+        goto dfuse_file_file_read_file_exit;
+    }
+    uint8_t r41 = a1[2];
+    if (r41 != 117) {
+        r6_17_1_0 = 0;
+        r6_17_8_0 = 0;
+        r6_17_9_0 = 0;
+        r6_0_0 = 1;
+        r6_9_0 = 6;
+        r6_24_0 = 0;
+        r6_26_0 = 0;
+        r6_27_0 = 0;
+        goto dfuse_file_file_read_file_exit;
+    }
+    uint8_t r53 = a1[3];
+    if (r53 != 83) {
+        r6_17_1_0 = 0;
+        r6_17_8_0 = 0;
+        r6_17_9_0 = 0;
+        r6_0_0 = 1;
+        r6_9_0 = 6;
+        r6_24_0 = 0;
+        r6_26_0 = 0;
+        r6_27_0 = 0;
+        goto dfuse_file_file_read_file_exit;
+    }
+    uint8_t r65 = a1[4];
+    if (r65 != 101) {
+        r6_17_1_0 = 0;
+        r6_17_8_0 = 0;
+        r6_17_9_0 = 0;
+        r6_0_0 = 1;
+        r6_9_0 = 6;
+        r6_24_0 = 0;
+        r6_26_0 = 0;
+        r6_27_0 = 0;
+        goto dfuse_file_file_read_file_exit;
+    }
+    uint8_t r57 = a1[5];
+    if (r57 != 1) {
+        r6_17_1_0 = 0;
+        r6_17_8_0 = 0;
+        r6_17_9_0 = 0;
+        r6_0_0 = 1;
+        r6_9_0 = 7;
+        r6_24_0 = 0;
+        r6_26_0 = 0;
+        r6_27_0 = 0;
+        goto dfuse_file_file_read_file_exit;
+    }
+    uint32_t r26 = load32u(a1 + 6);
+    uint64_t r73 = (uint64_t)r26;
+    if (!((r2_0 == r73) | (a2 == r73))) {
+        r6_17_1_0 = 0;
+        r6_17_8_0 = 0;
+        r6_17_9_0 = 0;
+        r6_0_0 = 1;
+        r6_9_0 = 8;
+        r6_24_0 = 0;
+        r6_26_0 = 0;
+        r6_27_0 = 0;
+        goto dfuse_file_file_read_file_exit;
+    }
+    r98 = a1[10];
+    if (r98 == 0) {
+        r6_17_1_0 = 0;
+        r6_17_8_0 = 0;
+        r6_17_9_0 = 0;
+        r6_0_0 = 1;
+        r6_9_0 = 9;
+        r6_24_0 = 0;
+        r6_26_0 = 0;
+        r6_27_0 = 0;
+        goto dfuse_file_file_read_file_exit;
+    }
+    wide_665 = (uint64_t)(uintptr_t)(a1 + 11);
+    r19 = r2_0 + 0xfffffffffffffff5ULL;
+    r5_2_0_r27_sroa_idx = r9 + 32;
+    r5_32_0_r27_sroa_idx = r9 + 40;
+    r5_4_0_r27_sroa_idx = r9 + 48;
+    r5_5_0_r27_sroa_idx = r9 + 56;
+    r5_5_3_0_r5_5_0_r27_sroa_idx_sroa_idx = r9 + 64;
+    r4_2_0_r21_sroa_idx = r8 + 32;
+    r4_3_0_r21_sroa_idx = r8 + 40;
+    r3_0_0 = wide_665;
+    r3_5_0 = r19;
+    r7_0 = 0;
+loop_2_2:
+    if (r7_0 >= r98) goto dfuse_file_targets_check_targets_exit;
+    dfuse_file_headings_take_heading(r9, (unsigned char *)(uintptr_t)r3_0_0, r3_5_0);
+    uint8_t r24 = *r9;
+    if (r24 != 1) goto arm_7;
+    uint8_t r4_0_0_copyload_2 = r9[1];
+    r0_5_0 = r4_0_0_copyload_2;
+    goto dfuse_file_targets_check_targets_exit_thread;
+arm_7:
+    r5_2_0_copyload = load32(r5_2_0_r27_sroa_idx);
+    uint64_t r5_32_0_copyload = load64(r5_32_0_r27_sroa_idx);
+    uint64_t r5_4_0_copyload = load64(r5_4_0_r27_sroa_idx);
+    r5_5_0_0_copyload = load64(r5_5_0_r27_sroa_idx);
+    r5_5_3_0_copyload = load64(r5_5_3_0_r5_5_0_r27_sroa_idx_sroa_idx);
+    r3_0_0_2 = r5_32_0_copyload;
+    r3_5_0_2 = r5_4_0_copyload;
+    r6_0 = 0;
+loop_2:
+    if (r6_0 == r5_2_0_copyload) goto dfuse_file_elements_check_elements_exit;
+    dfuse_file_elements_take_element(r8, (unsigned char *)(uintptr_t)r3_0_0_2, r3_5_0_2);
+    uint8_t r20_2 = *r8;
+    if (r20_2 != 0) goto dfuse_file_elements_check_elements_exit_thread;
+    uint64_t r4_2_0_copyload = load64(r4_2_0_r21_sroa_idx);
+    uint64_t r4_3_0_copyload = load64(r4_3_0_r21_sroa_idx);
+    r3_0_0_2 = r4_2_0_copyload;
+    r3_5_0_2 = r4_3_0_copyload;
+    r6_0 = r6_0 + 1;
+    goto loop_2;
+dfuse_file_elements_check_elements_exit_thread:;
+    uint8_t r5_0_0_copyload = r8[1];
+    r0_5_0 = r5_0_0_copyload;
+    goto dfuse_file_targets_check_targets_exit_thread;
+dfuse_file_elements_check_elements_exit:
+    if (r3_5_0_2 == 0) {
+        r3_0_0 = r5_5_0_0_copyload;
+        r3_5_0 = r5_5_3_0_copyload;
+        r7_0 = (uint8_t)(r7_0 + 1);
+        goto loop_2_2;
+    }
+    r0_5_0 = 11;
+dfuse_file_targets_check_targets_exit_thread:
+    r6_17_1_0 = 0;
+    r6_17_8_0 = 0;
+    r6_17_9_0 = 0;
+    r6_0_0 = 1;
+    r6_9_0 = r0_5_0;
+    r6_24_0 = 0;
+    r6_26_0 = 0;
+    r6_27_0 = 0;
+    goto dfuse_file_file_read_file_exit;
+dfuse_file_targets_check_targets_exit:
+    if (r3_5_0 != 0) {
+        r6_17_1_0 = 0;
+        r6_17_8_0 = 0;
+        r6_17_9_0 = 0;
+        r6_0_0 = 1;
+        r6_9_0 = 15;
+        r6_24_0 = 0;
+        r6_26_0 = 0;
+        r6_27_0 = 0;
+        goto dfuse_file_file_read_file_exit;
+    }
+    r6_17_1_0 = r7_0_0;
+    r6_17_8_0 = r7_0_0_2;
+    r6_17_9_0 = r7_0_0_3;
+    r6_0_0 = 0;
+    r6_9_0 = 0;
+    r6_24_0 = r98;
+    r6_26_0 = wide_665;
+    r6_27_0 = r19;
+    goto dfuse_file_file_read_file_exit;
+arm_2:
+    r6_17_1_0 = 0;
+    r6_17_8_0 = 0;
+    r6_17_9_0 = 0;
+    r6_0_0 = 1;
+    r6_9_0 = r5_4_0;
+    r6_24_0 = 0;
+    r6_26_0 = 0;
+    r6_27_0 = 0;
+dfuse_file_file_read_file_exit:
+    *a0 = r6_0_0;
+    a0[1] = r6_9_0;
+    store16(a0 + 8, r6_17_1_0);
+    store16(a0 + 10, r6_17_8_0);
+    store16(a0 + 12, r6_17_9_0);
+    a0[14] = r6_24_0;
+    a0[15] = 0;
+    store64(a0 + 16, r6_26_0);
+    store64(a0 + 24, r6_27_0);
+    return;
+}
+
+/* dfu_suffix::parse::read_small */
+static void dfu_suffix_parse_read_small(unsigned char *a0, unsigned char *a1, uint64_t a2) {
+    _Alignas(4) unsigned char r3[4];
+    unsigned char *r16;
+    uint8_t r48, r11_2, r15_2, r11_3, r15_3, r11_4, r15_4, r0_0_0, r0_6_0, r0_18_0;
+    uint64_t v0, r0_914_0, r0_12_0;
+    uint16_t r7_0_0, r0_14_0_0, r0_14_6_0, r0_14_8_0, r0_16_0;
+    if (a2 > 0x1000000U) {
+        r0_14_0_0 = 0;
+        r0_14_6_0 = 0;
+        r0_14_8_0 = 0;
+        r0_0_0 = 1;
+        r0_6_0 = 6;
+        r0_914_0 = 0;
+        r0_12_0 = 0;
+        r0_16_0 = 0;
+        r0_18_0 = 0;
+        goto dfu_suffix_parse_parse_exit;
+    }
+    r16 = a1 + (size_t)usub_sat64(a2, 16);
+    if (a2 < 16) {
+        r0_14_0_0 = 0;
+        r0_14_6_0 = 0;
+        r0_14_8_0 = 0;
+        r0_0_0 = 1;
+        r0_6_0 = 0;
+        r0_914_0 = 0;
+        r0_12_0 = 0;
+        r0_16_0 = 0;
+        r0_18_0 = 0;
+        goto dfu_suffix_parse_parse_exit;
+    }
+    uint8_t r14 = r16[8];
+    if (r14 != 85) {
+        r0_14_0_0 = 0;
+        r0_14_6_0 = 0;
+        r0_14_8_0 = 0;
+        r0_0_0 = 1;
+        r0_6_0 = 1;
+        r0_914_0 = 0;
+        r0_12_0 = 0;
+        r0_16_0 = 0;
+        r0_18_0 = 0;
+        goto dfu_suffix_parse_parse_exit;
+    }
+    uint8_t r23 = r16[9];
+    if (r23 != 70) {
+        r0_14_0_0 = 0;
+        r0_14_6_0 = 0;
+        r0_14_8_0 = 0;
+        r0_0_0 = 1;
+        r0_6_0 = 1;
+        r0_914_0 = 0;
+        r0_12_0 = 0;
+        r0_16_0 = 0;
+        r0_18_0 = 0;
+        goto dfu_suffix_parse_parse_exit;
+    }
+    uint8_t r35 = r16[10];
+    if (r35 != 68) {
+        r0_14_0_0 = 0;
+        r0_14_6_0 = 0;
+        r0_14_8_0 = 0;
+        r0_0_0 = 1;
+        r0_6_0 = 1;
+        r0_914_0 = 0;
+        r0_12_0 = 0;
+        r0_16_0 = 0;
+        r0_18_0 = 0;
+        goto dfu_suffix_parse_parse_exit;
+    }
+    r48 = r16[11];
+    v0 = (uint64_t)r48;
+    if ((r48 < 16) | (a2 < v0)) {
+        r0_14_0_0 = 0;
+        r0_14_6_0 = 0;
+        r0_14_8_0 = 0;
+        r0_0_0 = 1;
+        r0_6_0 = 2;
+        r0_914_0 = 0;
+        r0_12_0 = 0;
+        r0_16_0 = 0;
+        r0_18_0 = 0;
+        goto dfu_suffix_parse_parse_exit;
+    }
+    uint8_t r11 = r16[6];
+    uint8_t r15 = r16[7];
+    r7_0_0 = (uint16_t)((uint32_t)r15 << 8) | r11;
+    if (r7_0_0 == 282) {
+        r0_14_0_0 = 0;
+        r0_14_6_0 = 0;
+        r0_14_8_0 = 0;
+        r0_0_0 = 1;
+        r0_6_0 = 3;
+        r0_914_0 = 0;
+        r0_12_0 = 0;
+        r0_16_0 = 0;
+        r0_18_0 = 0;
+        goto dfu_suffix_parse_parse_exit;
+    }
+    r11_2 = *r16;
+    r15_2 = r16[1];
+    r11_3 = r16[2];
+    r15_3 = r16[3];
+    r11_4 = r16[4];
+    r15_4 = r16[5];
+    store32(r3, 0xffffffffU);
+    dfu_suffix_crc_Crc_update_small(r3, a1, a2);
+    uint32_t r1 = load32(r3);
+    if (r1 != 0) {
+        r0_14_0_0 = 0;
+        r0_14_6_0 = 0;
+        r0_14_8_0 = 0;
+        r0_0_0 = 1;
+        r0_6_0 = 4;
+        r0_914_0 = 0;
+        r0_12_0 = 0;
+        r0_16_0 = 0;
+        r0_18_0 = 0;
+        goto dfu_suffix_parse_parse_exit;
+    }
+    r0_14_0_0 = (uint16_t)((uint32_t)r15_2 << 8) | r11_2;
+    r0_14_6_0 = (uint16_t)((uint32_t)r15_3 << 8) | r11_3;
+    r0_14_8_0 = (uint16_t)((uint32_t)r15_4 << 8) | r11_4;
+    r0_0_0 = 0;
+    r0_6_0 = 0;
+    r0_914_0 = (uint64_t)(uintptr_t)a1;
+    r0_12_0 = a2 - v0;
+    r0_16_0 = r7_0_0;
+    r0_18_0 = r48;
+dfu_suffix_parse_parse_exit:
+    *a0 = r0_0_0;
+    a0[1] = r0_6_0;
+    store64(a0 + 8, r0_914_0);
+    store64(a0 + 16, r0_12_0);
+    store16(a0 + 24, r0_14_0_0);
+    store16(a0 + 26, r0_14_6_0);
+    store16(a0 + 28, r0_14_8_0);
+    store16(a0 + 30, r0_16_0);
+    a0[32] = r0_18_0;
+    return;
+}
+
+/* dfu_suffix::crc::Crc::update_small */
+static void dfu_suffix_crc_Crc_update_small(unsigned char *a0, unsigned char *a1, uint64_t a2) {
+    uint64_t r4_0;
+    uint32_t r3_0;
+    uint32_t r5 = load32(a0);
+    r4_0 = 0;
+    r3_0 = r5;
+loop_3:
+    if (r4_0 == a2) goto dfu_suffix_small_after_bytes_exit;
+    uint8_t r23 = a1[(size_t)r4_0];
+    uint32_t r6 = r3_0 ^ (uint32_t)r23;
+    uint32_t r20 = load32(PLACE(static_0) + (size_t)((r6 << 2) & 60));
+    uint32_t r23_2 = (r6 >> 4) ^ r20;
+    uint32_t r20_2 = load32(PLACE(static_0) + (size_t)((r23_2 << 2) & 60));
+    r4_0 = r4_0 + 1;
+    r3_0 = (r23_2 >> 4) ^ r20_2;
+    goto loop_3;
+dfu_suffix_small_after_bytes_exit:
+    store32(a0, r3_0);
+    return;
+}
+
+/* core::slice::edits::slice+T::copy_from_slice::<i8,20'core::clone::U8Clone{}> */
+static void core_slice_edits_slice_T_copy_from_slice_i8_core_clone_U8Clone(unsigned char *a0, unsigned char *a2, uint64_t a3) {
+    uint64_t r0_0;
+    if (((uint64_t)(uintptr_t)a0 - (uint64_t)(uintptr_t)a2) < a3) {
+        r0_0 = 0;
+        goto loop_4;
+    }
+    memmove(a0, a2, (size_t)a3);
+    return;
+loop_4:
+    if (r0_0 == a3) return;
+    uint8_t r26 = a2[(size_t)r0_0];
+    a0[(size_t)r0_0] = r26;
+    r0_0 = r0_0 + 1;
+    goto loop_4;
+}
+
+/* dfuse_file::headings::take_heading */
+static void dfuse_file_headings_take_heading(unsigned char *a0, unsigned char *a1, uint64_t a2) {
+    uint64_t r57, r19;
+    if (a2 < 274) goto then_1;
+    goto join_3;
+then_1:
+    *a0 = 1;
+    a0[1] = 10;
+    memset(a0 + 8, 0, 64);
+    return;
+join_3:;
+    uint8_t r23 = *a1;
+    if (r23 != 84) goto then_4;
+    uint8_t r32 = a1[1];
+    if (r32 != 97) goto then_4;
+    uint8_t r44 = a1[2];
+    if (r44 != 114) goto then_4;
+    uint8_t r56 = a1[3];
+    if (r56 != 103) goto then_4;
+    uint8_t r68 = a1[4];
+    if (r68 != 101) goto then_4;
+    uint8_t r80 = a1[5];
+    if (r80 == 116) goto join_6;
+then_4:
+    *a0 = 1;
+    a0[1] = 10;
+    memset(a0 + 8, 0, 64);
+    return;
+join_6:;
+    uint32_t r26 = load32u(a1 + 266);
+    r57 = (uint64_t)r26;
+    r19 = a2 + 0xfffffffffffffeeeULL;
+    if (r19 >= r57) goto join_9;
+    *a0 = 1;
+    a0[1] = 11;
+    memset(a0 + 8, 0, 64);
+    return;
+join_9:;
+    unsigned char *r16 = a1 + 274;
+    uint8_t r90 = a1[6];
+    uint32_t r26_2 = load32u(a1 + 7);
+    uint32_t r26_3 = load32u(a1 + 270);
+    *a0 = 0;
+    a0[1] = 0;
+    a0[8] = r90;
+    memset(a0 + 9, 0, 3);
+    store32(a0 + 12, r26_2);
+    store64(a0 + 16, (uint64_t)(uintptr_t)(a1 + 11));
+    store64(a0 + 24, 255);
+    store32(a0 + 32, r26_3);
+    store32(a0 + 36, 0);
+    store64(a0 + 40, (uint64_t)(uintptr_t)r16);
+    store64(a0 + 48, r57);
+    store64(a0 + 56, (uint64_t)(uintptr_t)(r16 + (size_t)r57));
+    store64(a0 + 64, r19 - r57);
+    return;
+}
+
+/* dfuse_file::elements::take_element */
+static void dfuse_file_elements_take_element(unsigned char *a0, unsigned char *a1, uint64_t a2) {
+    uint32_t r26, r26_2;
+    unsigned char *r16;
+    uint64_t wide_665, r19, r49;
+    if (a2 < 8) goto then_1;
+    goto join_3;
+then_1:
+    *a0 = 1;
+    a0[1] = 12;
+    memset(a0 + 8, 0, 40);
+    return;
+join_3:
+    r26 = load32u(a1);
+    r26_2 = load32u(a1 + 4);
+    r16 = a1 + 8;
+    wide_665 = (uint64_t)(uintptr_t)r16;
+    r19 = a2 + 0xfffffffffffffff8ULL;
+    r49 = (uint64_t)r26_2;
+    if (r19 >= r49) goto join_6;
+    *a0 = 1;
+    a0[1] = 12;
+    memset(a0 + 8, 0, 40);
+    return;
+join_6:
+    if (r26_2 != 0) goto join_9;
+    *a0 = 1;
+    a0[1] = 13;
+    memset(a0 + 8, 0, 40);
+    return;
+join_9:
+    if ((r49 + (uint64_t)r26) <= 0x100000000ULL) goto join_12;
+    *a0 = 1;
+    a0[1] = 14;
+    memset(a0 + 8, 0, 40);
+    return;
+join_12:
+    *a0 = 0;
+    a0[1] = 0;
+    store32(a0 + 8, r26);
+    store32(a0 + 12, 0);
+    store64(a0 + 16, wide_665);
+    store64(a0 + 24, r49);
+    store64(a0 + 32, (uint64_t)(uintptr_t)(r16 + (size_t)r49));
+    store64(a0 + 40, r19 - r49);
+    return;
+}
+
 /* dfuse_memory::map::Map::read */
 static void dfuse_memory_map_Map_read(unsigned char *a0, unsigned char *a1, uint64_t a2) {
     _Alignas(2) unsigned char r17_11[782];
@@ -256,7 +835,7 @@ static void dfuse_memory_map_Map_read(unsigned char *a0, unsigned char *a1, uint
     unsigned char *const r4 = r1;
     unsigned char *const r5 = r1;
     _Alignas(8) unsigned char r14[32];
-    uint64_t r19, wide_950, r23, r3_0, r3_0_2, r4_0, r7_0_0_copyload, r7_3_0_copyload, r7_4_0_copyload, r2_0, r3_2, r5_0_0;
+    uint64_t r19, wide_665, r23, r3_0, r3_0_2, r4_0, r7_0_0_copyload, r7_3_0_copyload, r7_4_0_copyload, r2_0, r3_2, r5_0_0;
     uint64_t r5_4_0, r4_0_2, r21, r3_4_0_copyload, r17, r3_4_0_copyload_2, r1_0, r19_3, r5_6_4_0_ph138, r5_6_1_0_ph137, r17_2, r21_2;
     uint64_t r19_4, r8_17_0_0, r8_17_5_0, r8_13_0, r4_2, indvars_iv_in, r4_0_3, indvars_iv, r51, r19_5, r3_0_3, r9_2;
     uint64_t r11_2, r3_0_lcssa, r0_131_0, r0_19_0;
@@ -269,7 +848,7 @@ static void dfuse_memory_map_Map_read(unsigned char *a0, unsigned char *a1, uint
     if (r25 != 64) goto arm_2;
     r19 = a2 + 0xffffffffffffffffULL;
     r16 = a1 + 1;
-    wide_950 = (uint64_t)(uintptr_t)r16;
+    wide_665 = (uint64_t)(uintptr_t)r16;
     r4_0_0_in = r16;
     r23 = r19;
     r3_0 = 0;
@@ -531,7 +1110,7 @@ join_13:
     memcpy(r0_20, r17_11_8_r60_sroa_idx, 776);
     r0_0_0 = 0;
     r0_7_0 = 0;
-    r0_131_0 = wide_950;
+    r0_131_0 = wide_665;
     r0_19_0 = r3_0_2;
 dfuse_memory_map_read_map_exit:
     *a0 = r0_0_0;
@@ -690,172 +1269,14 @@ after_1:
 
 /* dfu_host_c::file::file_in */
 static void dfu_host_c_file_file_in(unsigned char *a0, unsigned char *a1, uint64_t a2) {
-    unsigned char *r16;
-    uint8_t r48, r11_2, r15_2, r11_3, r15_3, r11_4, r15_4, r0_0_0, r0_6_0, r0_18_0;
-    uint64_t v0, r4_0, r0_915_0, r0_12_0;
-    uint16_t r7_0_0, r0_14_0_0, r0_14_6_0, r0_14_8_0, r0_16_0;
-    uint32_t r3_0;
-    if (a2 > 0x1000000U) {
-        r0_14_0_0 = 0;
-        r0_14_6_0 = 0;
-        r0_14_8_0 = 0;
-        r0_0_0 = 1;
-        r0_6_0 = 6;
-        r0_915_0 = 0;
-        r0_12_0 = 0;
-        r0_16_0 = 0;
-        r0_18_0 = 0;
-        goto dfu_suffix_parse_read_small_exit;
-    }
-    r16 = a1 + (size_t)usub_sat64(a2, 16);
-    if (a2 < 16) {
-        r0_14_0_0 = 0;
-        r0_14_6_0 = 0;
-        r0_14_8_0 = 0;
-        r0_0_0 = 1;
-        r0_6_0 = 0;
-        r0_915_0 = 0;
-        r0_12_0 = 0;
-        r0_16_0 = 0;
-        r0_18_0 = 0;
-        goto dfu_suffix_parse_read_small_exit;
-    }
-    uint8_t r14 = r16[8];
-    if (r14 != 85) {
-        r0_14_0_0 = 0;
-        r0_14_6_0 = 0;
-        r0_14_8_0 = 0;
-        r0_0_0 = 1;
-        r0_6_0 = 1;
-        r0_915_0 = 0;
-        r0_12_0 = 0;
-        r0_16_0 = 0;
-        r0_18_0 = 0;
-        goto dfu_suffix_parse_read_small_exit;
-    }
-    uint8_t r23 = r16[9];
-    if (r23 != 70) {
-        r0_14_0_0 = 0;
-        r0_14_6_0 = 0;
-        r0_14_8_0 = 0;
-        r0_0_0 = 1;
-        r0_6_0 = 1;
-        r0_915_0 = 0;
-        r0_12_0 = 0;
-        r0_16_0 = 0;
-        r0_18_0 = 0;
-        goto dfu_suffix_parse_read_small_exit;
-    }
-    uint8_t r35 = r16[10];
-    if (r35 != 68) {
-        r0_14_0_0 = 0;
-        r0_14_6_0 = 0;
-        r0_14_8_0 = 0;
-        r0_0_0 = 1;
-        r0_6_0 = 1;
-        r0_915_0 = 0;
-        r0_12_0 = 0;
-        r0_16_0 = 0;
-        r0_18_0 = 0;
-        goto dfu_suffix_parse_read_small_exit;
-    }
-    r48 = r16[11];
-    v0 = (uint64_t)r48;
-    if ((r48 < 16) | (a2 < v0)) {
-        r0_14_0_0 = 0;
-        r0_14_6_0 = 0;
-        r0_14_8_0 = 0;
-        r0_0_0 = 1;
-        r0_6_0 = 2;
-        r0_915_0 = 0;
-        r0_12_0 = 0;
-        r0_16_0 = 0;
-        r0_18_0 = 0;
-        goto dfu_suffix_parse_read_small_exit;
-    }
-    uint8_t r11 = r16[6];
-    uint8_t r15 = r16[7];
-    r7_0_0 = (uint16_t)((uint32_t)r15 << 8) | r11;
-    if (r7_0_0 == 282) {
-        r0_14_0_0 = 0;
-        r0_14_6_0 = 0;
-        r0_14_8_0 = 0;
-        r0_0_0 = 1;
-        r0_6_0 = 3;
-        r0_915_0 = 0;
-        r0_12_0 = 0;
-        r0_16_0 = 0;
-        r0_18_0 = 0;
-        goto dfu_suffix_parse_read_small_exit;
-    }
-    r11_2 = *r16;
-    r15_2 = r16[1];
-    r11_3 = r16[2];
-    r15_3 = r16[3];
-    r11_4 = r16[4];
-    r15_4 = r16[5];
-    r4_0 = 0;
-    r3_0 = 0xffffffffU;
-loop_3:
-    if (r4_0 == a2) goto dfu_suffix_crc_Crc_update_small_exit;
-    uint8_t r23_2 = a1[(size_t)r4_0];
-    uint32_t r6 = r3_0 ^ (uint32_t)r23_2;
-    uint32_t r20 = load32(PLACE(static_0) + (size_t)((r6 << 2) & 60));
-    uint32_t r23_3 = (r6 >> 4) ^ r20;
-    uint32_t r20_2 = load32(PLACE(static_0) + (size_t)((r23_3 << 2) & 60));
-    r4_0 = r4_0 + 1;
-    r3_0 = (r23_3 >> 4) ^ r20_2;
-    goto loop_3;
-dfu_suffix_crc_Crc_update_small_exit:
-    if (r3_0 != 0) {
-        r0_14_0_0 = 0;
-        r0_14_6_0 = 0;
-        r0_14_8_0 = 0;
-        r0_0_0 = 1;
-        r0_6_0 = 4;
-        r0_915_0 = 0;
-        r0_12_0 = 0;
-        r0_16_0 = 0;
-        r0_18_0 = 0;
-        goto dfu_suffix_parse_read_small_exit;
-    }
-    r0_14_0_0 = (uint16_t)((uint32_t)r15_2 << 8) | r11_2;
-    r0_14_6_0 = (uint16_t)((uint32_t)r15_3 << 8) | r11_3;
-    r0_14_8_0 = (uint16_t)((uint32_t)r15_4 << 8) | r11_4;
-    r0_0_0 = 0;
-    r0_6_0 = 0;
-    r0_915_0 = (uint64_t)(uintptr_t)a1;
-    r0_12_0 = a2 - v0;
-    r0_16_0 = r7_0_0;
-    r0_18_0 = r48;
-dfu_suffix_parse_read_small_exit:
-    *a0 = r0_0_0;
-    a0[1] = r0_6_0;
-    store64(a0 + 8, r0_915_0);
-    store64(a0 + 16, r0_12_0);
-    store16(a0 + 24, r0_14_0_0);
-    store16(a0 + 26, r0_14_6_0);
-    store16(a0 + 28, r0_14_8_0);
-    store16(a0 + 30, r0_16_0);
-    a0[32] = r0_18_0;
+    _Alignas(8) unsigned char r0[40];
+    dfu_suffix_parse_read_small(r0, a1, a2);
+    uint8_t v0 = *r0;
+    *a0 = v0;
+    uint8_t v1 = r0[1];
+    a0[1] = v1;
+    memcpy(a0 + 8, r0 + 8, 32);
     return;
-}
-
-/* core::slice::edits::slice+T::copy_from_slice::<i8,20'core::clone::U8Clone{}> */
-static void core_slice_edits_slice_T_copy_from_slice_i8_core_clone_U8Clone(unsigned char *a0, unsigned char *a2, uint64_t a3) {
-    uint64_t r0_0;
-    if (((uint64_t)(uintptr_t)a0 - (uint64_t)(uintptr_t)a2) < a3) {
-        r0_0 = 0;
-        goto loop_4;
-    }
-    memmove(a0, a2, (size_t)a3);
-    return;
-loop_4:
-    if (r0_0 == a3) return;
-    uint8_t r26 = a2[(size_t)r0_0];
-    a0[(size_t)r0_0] = r26;
-    r0_0 = r0_0 + 1;
-    goto loop_4;
 }
 
 /* dfu_host_c::reports::report_at */
@@ -945,7 +1366,7 @@ join_13:
 static void dfu_host_c_holding_session_of(unsigned char *a0, unsigned char *a1, unsigned char *a2, uint64_t a3) {
     _Alignas(4) unsigned char r31[3];
     _Alignas(4) unsigned char r36_2[3];
-    uint64_t wide_9009, r3_12_0_0, r3_12_6_0, r3_7_0_0, r38, r6_132_0, r6_132_0_2;
+    uint64_t wide_11804, r3_12_0_0, r3_12_6_0, r3_7_0_0, r38, r6_132_0, r6_132_0_2;
     uint8_t v0;
     uint32_t r40, r6_158_0, r6_106_0, r6_106_0_2, r6_158_0_2, r79;
     uint8_t r6_28_0, r6_54_0, r6_28_0_2, r6_0_0_0, r6_28_0_3, r6_54_0_2, r70, r75;
@@ -958,10 +1379,10 @@ then_1:
     return;
 join_3:;
     uint32_t r20 = load32(a1 + 4);
-    wide_9009 = (uint64_t)(uintptr_t)a2;
+    wide_11804 = (uint64_t)(uintptr_t)a2;
     switch (r20) {
     case 1:
-        r3_12_0_0 = wide_9009;
+        r3_12_0_0 = wide_11804;
         r3_12_6_0 = a3;
         v0 = 0;
         r3_7_0_0 = 0;
@@ -978,13 +1399,13 @@ arm_2:
     r3_7_0_0 = 1;
     goto arm_1;
 arm_3:
-    r3_12_0_0 = wide_9009;
+    r3_12_0_0 = wide_11804;
     r3_12_6_0 = a3;
     v0 = 0;
     r3_7_0_0 = 2;
     goto arm_1;
 arm_4:
-    r3_12_0_0 = wide_9009;
+    r3_12_0_0 = wide_11804;
     r3_12_6_0 = a3;
     v0 = 0;
     r3_7_0_0 = 3;
@@ -5711,6 +6132,121 @@ int32_t dfu_host_version(void) {
     return signed32(300);
 }
 
+/* dfuse_file_image */
+int32_t dfuse_file_image(const uint8_t *file, size_t length, uint8_t setting, struct dfuse_element *places, size_t room, uint64_t *count) {
+    unsigned char *a0 = (unsigned char *)(uintptr_t)file;
+    uint64_t a1 = length;
+    uint8_t a2 = setting;
+    unsigned char *a3 = (unsigned char *)(uintptr_t)places;
+    uint64_t a4 = room;
+    unsigned char *a5 = (unsigned char *)(uintptr_t)count;
+    _Alignas(8) unsigned char r4[72];
+    unsigned char *const r4_2 = r4;
+    _Alignas(8) unsigned char r10[32];
+    _Alignas(8) unsigned char r8_4[24];
+    unsigned char *r13, *r32, *r1_5_0_r32_sroa_idx, *r1_63_0_r32_sroa_idx, *r1_7_0_r32_sroa_idx, *r1_8_0_r32_sroa_idx, *r1_8_5_0_r1_8_0_r32_sroa_idx_sroa_idx, *r26, *v1, *r4_7_8_sroa_idx;
+    uint8_t r5_0_0, r5_0_0_2, r35;
+    uint64_t r5_6_0, r5_9_0, r3_0, r5_6_0_2, r5_9_0_2, r1_63_0_copyload, r1_7_0_copyload, r1_8_0_0_copyload, r1_8_5_0_copyload, r4_57_0, r4_7_0, r5_0;
+    uint64_t r4_57_8_copyload, r4_7_8_copyload;
+    uint8_t r4_0_off0;
+    uint32_t r1_5_0_copyload, r4_0_0, common_ret_op;
+    r13 = (unsigned char *)((uintptr_t)a3 + (uintptr_t)(uint64_t)((a3 == NULL) ? 4096 : 0));
+    memset(r10, 0, 32);
+    dfuse_file_file_read(r10, (unsigned char *)((uintptr_t)a0 + (uintptr_t)(uint64_t)((a0 == NULL) ? 4096 : 0)), a1);
+    uint8_t r21 = *r10;
+    if (r21 != 0) goto arm_2;
+    uint8_t r6_3_0_copyload = r10[14];
+    uint64_t r6_5_0_copyload = load64(r10 + 16);
+    uint64_t r6_6_0_copyload = load64(r10 + 24);
+    r32 = r4 + 8;
+    r1_5_0_r32_sroa_idx = r4 + 32;
+    r1_63_0_r32_sroa_idx = r4 + 40;
+    r1_7_0_r32_sroa_idx = r4 + 48;
+    r1_8_0_r32_sroa_idx = r4 + 56;
+    r1_8_5_0_r1_8_0_r32_sroa_idx_sroa_idx = r4 + 64;
+    r26 = r4_2 + 8;
+    v1 = r4_2 + 32;
+    r4_7_8_sroa_idx = r4_2 + 40;
+    r5_0_0 = r6_3_0_copyload;
+    r5_6_0 = r6_5_0_copyload;
+    r5_9_0 = r6_6_0_copyload;
+    r4_0_off0 = 0;
+    r3_0 = 0;
+loop_2_outer:
+    r5_0_0_2 = r5_0_0;
+    r5_6_0_2 = r5_6_0;
+    r5_9_0_2 = r5_9_0;
+loop_2:
+    memset(r4, 0, 72);
+    if (r5_0_0_2 != 0) goto join_3;
+    goto after_1;
+join_3:
+    dfuse_file_headings_take_heading(r4, (unsigned char *)(uintptr_t)r5_6_0_2, r5_9_0_2);
+    uint8_t r31 = *r4;
+    if (r31 == 1) goto after_1_critedge;
+    uint8_t r1_0_0_copyload = *r32;
+    r1_5_0_copyload = load32(r1_5_0_r32_sroa_idx);
+    r1_63_0_copyload = load64(r1_63_0_r32_sroa_idx);
+    r1_7_0_copyload = load64(r1_7_0_r32_sroa_idx);
+    r1_8_0_0_copyload = load64(r1_8_0_r32_sroa_idx);
+    r1_8_5_0_copyload = load64(r1_8_5_0_r1_8_0_r32_sroa_idx_sroa_idx);
+    r35 = (uint8_t)(r5_0_0_2 + 255);
+    if (r1_0_0_copyload != a2) {
+        r5_0_0_2 = r35;
+        r5_6_0_2 = r1_8_0_0_copyload;
+        r5_9_0_2 = r1_8_5_0_copyload;
+        goto loop_2;
+    }
+    r4_0_0 = r1_5_0_copyload;
+    r4_57_0 = r1_63_0_copyload;
+    r4_7_0 = r1_7_0_copyload;
+    r5_0 = r3_0;
+loop_2_2:
+    memset(r4_2, 0, 48);
+    if (r4_0_0 != 0) goto join_3_2;
+    goto arm_10;
+join_3_2:
+    dfuse_file_elements_take_element(r4_2, (unsigned char *)(uintptr_t)r4_57_0, r4_7_0);
+    uint8_t r25 = *r4_2;
+    if (r25 == 0) goto arm_3;
+    goto arm_10;
+arm_3:
+    r4_57_8_copyload = load64(v1);
+    r4_7_8_copyload = load64(r4_7_8_sroa_idx);
+    memcpy(r8_4, r26, 24);
+    if (r5_0 == a4) goto arm_6;
+    memcpy(r13 + (size_t)(r5_0 * 24), r8_4, 24);
+    r4_0_0 = r4_0_0 + 0xffffffffU;
+    r4_57_0 = r4_57_8_copyload;
+    r4_7_0 = r4_7_8_copyload;
+    r5_0 = r5_0 + 1;
+    goto loop_2_2;
+arm_10:
+    r5_0_0 = r35;
+    r5_6_0 = r1_8_0_0_copyload;
+    r5_9_0 = r1_8_5_0_copyload;
+    r4_0_off0 = 1;
+    r3_0 = r5_0;
+    goto loop_2_outer;
+after_1_critedge:;
+after_1:
+    if (r4_0_off0) goto arm_5;
+    common_ret_op = 0xffffffa9U;
+    goto dfu_host_c_dfuse_file_image_dfuse_file_image_exit;
+arm_2:;
+    uint8_t r7_0_0_copyload = r10[1];
+    common_ret_op = (uint32_t)0xffffffb9U - (uint32_t)r7_0_0_copyload;
+    goto dfu_host_c_dfuse_file_image_dfuse_file_image_exit;
+arm_5:
+    store64(a5, r3_0);
+    common_ret_op = 0;
+    goto dfu_host_c_dfuse_file_image_dfuse_file_image_exit;
+arm_6:
+    common_ret_op = 0xffffffa8U;
+dfu_host_c_dfuse_file_image_dfuse_file_image_exit:
+    return signed32(common_ret_op);
+}
+
 /* dfuse_read_map */
 int32_t dfuse_read_map(const uint8_t *text, size_t length, struct dfuse_map *out) {
     unsigned char *a0 = (unsigned char *)(uintptr_t)text;
@@ -6105,6 +6641,88 @@ dfu_host_c_action_record_of_exit:
     common_ret_op = 0;
 dfu_host_c_action_dfu_host_next_exit:
     return signed32(common_ret_op);
+}
+
+/* dfuse_read_file */
+int32_t dfuse_read_file(const uint8_t *file, size_t length, struct dfuse_file *out) {
+    unsigned char *a0 = (unsigned char *)(uintptr_t)file;
+    uint64_t a1 = length;
+    unsigned char *a2 = (unsigned char *)(uintptr_t)out;
+    _Alignas(8) unsigned char r4[72];
+    unsigned char *const r4_2 = r4;
+    _Alignas(8) unsigned char r5[32];
+    uint16_t r3_0_0_copyload, r3_3_0_copyload, r3_4_0_copyload;
+    uint8_t r3_5_0_copyload, r1_0_0_copyload, r1_0_0_in, r1_0_0;
+    uint64_t r3_61_0_copyload, r3_7_0_copyload, r1_9_0, r1_14_0;
+    unsigned char *r32, *r1_8_0_r32_sroa_idx, *r1_8_5_0_r1_8_0_r32_sroa_idx_sroa_idx;
+    uint32_t v2, r6_0;
+    memset(r5, 0, 32);
+    dfuse_file_file_read(r5, (unsigned char *)((uintptr_t)a0 + (uintptr_t)(uint64_t)((a0 == NULL) ? 4096 : 0)), a1);
+    uint8_t r12 = *r5;
+    if (r12 != 0) goto arm_2;
+    r3_0_0_copyload = load16(r5 + 8);
+    r3_3_0_copyload = load16(r5 + 10);
+    r3_4_0_copyload = load16(r5 + 12);
+    r3_5_0_copyload = r5[14];
+    r3_61_0_copyload = load64(r5 + 16);
+    r3_7_0_copyload = load64(r5 + 24);
+    memset(r4, 0, 72);
+    if (r3_5_0_copyload != 0) goto join_3;
+    v2 = 256;
+    goto dfu_host_c_dfuse_file_file_record_exit;
+join_3:
+    dfuse_file_headings_take_heading(r4, (unsigned char *)(uintptr_t)r3_61_0_copyload, r3_7_0_copyload);
+    uint8_t r31 = *r4;
+    if (r31 != 1) goto loop_7_preheader;
+    v2 = 256;
+    goto dfu_host_c_dfuse_file_file_record_exit;
+loop_7_preheader:
+    r1_0_0_copyload = r4[8];
+    uint64_t r1_8_0_0_copyload = load64(r4 + 56);
+    uint64_t r1_8_5_0_copyload = load64(r4 + 64);
+    r32 = r4_2 + 8;
+    r1_8_0_r32_sroa_idx = r4_2 + 56;
+    r1_8_5_0_r1_8_0_r32_sroa_idx_sroa_idx = r4_2 + 64;
+    r1_0_0_in = r3_5_0_copyload;
+    r1_9_0 = r1_8_0_0_copyload;
+    r1_14_0 = r1_8_5_0_copyload;
+loop_7:
+    r1_0_0 = (uint8_t)(r1_0_0_in + 255);
+    memset(r4_2, 0, 72);
+    if (r1_0_0 != 0) goto join_3_2;
+    goto v1;
+join_3_2:
+    dfuse_file_headings_take_heading(r4_2, (unsigned char *)(uintptr_t)r1_9_0, r1_14_0);
+    uint8_t r31_2 = *r4_2;
+    if (r31_2 == 1) goto return_5_critedge;
+    uint8_t r1_0_0_copyload_2 = *r32;
+    uint64_t r1_8_0_0_copyload_2 = load64(r1_8_0_r32_sroa_idx);
+    uint64_t r1_8_5_0_copyload_2 = load64(r1_8_5_0_r1_8_0_r32_sroa_idx_sroa_idx);
+    if (r1_0_0_copyload_2 == r1_0_0_copyload) {
+        r1_0_0_in = r1_0_0;
+        r1_9_0 = r1_8_0_0_copyload_2;
+        r1_14_0 = r1_8_5_0_copyload_2;
+        goto loop_7;
+    }
+    v2 = 256;
+    goto dfu_host_c_dfuse_file_file_record_exit;
+return_5_critedge:;
+v1:
+    v2 = (uint32_t)r1_0_0_copyload;
+dfu_host_c_dfuse_file_file_record_exit:
+    store32(a2, (uint32_t)r3_5_0_copyload);
+    store32(a2 + 4, v2);
+    store16(a2 + 8, r3_0_0_copyload);
+    store16(a2 + 10, r3_3_0_copyload);
+    store16(a2 + 12, r3_4_0_copyload);
+    store16(a2 + 14, 0);
+    r6_0 = 0;
+    goto dfu_host_c_dfuse_file_dfuse_read_file_exit;
+arm_2:;
+    uint8_t r4_0_0_copyload = r5[1];
+    r6_0 = (uint32_t)0xffffffb9U - (uint32_t)r4_0_0_copyload;
+dfu_host_c_dfuse_file_dfuse_read_file_exit:
+    return signed32(r6_0);
 }
 
 /* dfu_host_download */
