@@ -18,6 +18,7 @@ are_there() {
     done
     udevadm settle
 }
+# unplug: all devices, which save their images then.
 unplug() {
     for device in $devices; do
         kill "$device" 2> /dev/null
@@ -25,14 +26,16 @@ unplug() {
     done
     devices=
     sleep 1
-    rm -f saved-* said-* out err
 }
-# ended PORT REPORT IMAGE: the line of the device at this port, and the image that it has then.
+# ended PORT REPORT IMAGE: the line of the device at this port, and the image that it has once it is unplugged.
 ended() {
     line=$(grep "^1-$(($1 + 1)) " out)
     expect test "$(echo "$line" | sed -n 's/^[^:]* s \([^:]*\): .*/\1/p')" = "$2"
     expect cmp "saved-$1" "$3"
     echo "row --all: $line"
+}
+forget() {
+    rm -f saved-* said-* out err
 }
 
 # Eight that do as they should: a line each, and status 0.
@@ -42,8 +45,9 @@ code=0
 ./dfu-flash --all new.dfu > out 2> err || code=$?
 expect test "$code" -eq 0
 expect test "$(wc -l < out)" -eq 8
-for port in 0 1 2 3 4 5 6 7; do ended $port verified new; done
 unplug
+for port in 0 1 2 3 4 5 6 7; do ended $port verified new; done
+forget
 
 # Faults of their own: no device holds up another one, and the status is the highest.
 board 0 USB_ATTRIBUTES=07
@@ -58,6 +62,7 @@ are_there 8
 code=0
 ./dfu-flash --all --timeout 60 new.dfu > out 2> err || code=$?
 expect test "$code" -eq 13
+unplug
 ended 0 verified new
 ended 1 verified new
 ended 2 verified new
@@ -67,7 +72,7 @@ ended 5 'refused errADDRESS' old
 ended 6 other old
 ended 7 timed-out old
 expect test "$(sed -n '$s/ .*//p' out)" = 1-8
-unplug
+forget
 
 # Those that are plugged in later, with a record each.
 board 0 USB_ATTRIBUTES=07
@@ -83,9 +88,9 @@ for _ in 1 2 3 4 5 6 7 8 9 10 11 12 13 14 15 16 17 18 19 20 21 22 23 24 25 26 27
 done
 kill -INT "$flashing"
 wait "$flashing" || :
+unplug
 for port in 0 3 5; do
-    expect grep -q "\"path\":\"1-$((port + 1))\".*\"report\":\"verified\"" out
+    expect grep -q "\"report\":\"verified\".*\"path\":\"1-$((port + 1))\"" out
     expect cmp "saved-$port" new
 done
 sed 's/^/row --all --wait --json: /' out
-unplug
