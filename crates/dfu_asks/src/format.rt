@@ -16,7 +16,7 @@ use crate::asks::is_sound;
 use crate::cut::{Cut, cut_at, fill, stands};
 use crate::format_piece::{filled_len, part_piece, stock_for};
 use crate::{Formatting, Mapped, Phase, Piece, Progress, Sector};
-use dfu_slots::{FormatFault, Slots, Unit, WriteFault};
+use dfu_slots::{FormatFault, Unit, WriteFault, capacity_of, is_sized};
 use dfu_suffix::Crc;
 
 // No image has more bytes.
@@ -42,14 +42,13 @@ fn fault_of(flash: &[u8], unit: Unit, sector: Sector, image: &[u8]) -> Option<Fo
     let Some(medium) = Mapped::with_sector(flash, unit, sector) else {
         return Some(FormatFault::WrongSize);
     };
-    // No write of a mapped medium works, so this changes nothing. It looks for the other faults first.
-    match Slots::format(medium, image) {
-        Ok(_) => None,
-        Err(refused) => match refused.0 {
-            FormatFault::Failed => None,
-            fault => Some(fault),
-        },
+    if !is_sized(&medium) {
+        return Some(FormatFault::WrongSize);
     }
+    if image.len() > capacity_of(&medium) as usize {
+        return Some(FormatFault::TooLarge);
+    }
+    None
 }
 
 // The part behind this one of a format of an image of so many bytes.

@@ -3,19 +3,20 @@ use Rattle.std.proofs.Common.{◌≡◌, inr, ℕ, ◌+◌, ◌*◌, ◌≤◌, 
 use Rattle.dfu_suffix.specs.Register.{register}
 use Rattle.dfu_slots.specs.declared.unit.Unit.{Unit as WriteUnit}
 use Rattle.dfu_slots.specs.declared.unit.Unit.TheVariants.{Byte, U16, U64, U256}
-use Rattle.dfu_slots.specs.Units.{Grain, gate_room, IsMultiple, filled}
+use Rattle.dfu_slots.specs.Units.{Grain, IsMultiple, filled}
 use Rattle.dfu_slots.specs.declared.fault.WriteFault.{WriteFault}
 use Rattle.dfu_slots.specs.Medium.{MediumState, Write, AllWrites, BrokenWrites, IsAhead}
 use Rattle.dfu_slots.specs.inside.Series.{Series}
 use Rattle.dfu_slots.specs.Layout.{slot_size}
 use Rattle.dfu_slots.specs.Image.{gate_of, capacity_of, IsSized, Active}
-use Rattle.dfu_slots.specs.Writes.{close_writes, piece_writes, image_writes, open_writes, part_writes, write_some}
+use Rattle.dfu_slots.specs.Writes.{close_writes, image_writes, open_writes, part_writes, write_some}
 use Rattle.dfu_slots.specs.Operations.{held_from}
 use Rattle.dfu_slots.specs.Seen.{SlotsState, store_of, image_of, format_series}
 use Rattle.dfu_slots.specs.Changes.{CanFormat}
 use Rattle.dfu_slots.proofs.Stands.{two_slots}
 use Rattle.dfu_slots.proofs.Series.{AllInside, SameSize, all_same, same_both, all_append, broken_first, broken_later, series_after, inside_append}
 use Rattle.dfu_slots.proofs.Pieces.{pieces_inside}
+use Rattle.dfu_slots.proofs.ImagePieces.{can_after}
 use Rattle.dfu_slots.proofs.Sectors.{IsEdge, edge_zero, room_multiple}
 use Rattle.dfu_slots.proofs.SlotOpened.{open_inside}
 use Rattle.dfu_slots.proofs.Multiples.{multiple_zero, multiple_add, filled_within, sized_after}
@@ -41,20 +42,6 @@ image_inside s image can =
     let units = filled s.grain.unit image in
     pieces_inside s.grain.sector (length units) 0 (length s.bytes) (2 * gate_of s) units (sized_edge s can.sized) (omega arith)
     (omega (arith, units_fit s image can, can.sized.room, can.sized.even))
-
--- A medium of the same size can be formatted too.
-can_after : {s mid : MediumState} {image : List ℕ} → SameSize s mid → CanFormat s image → CanFormat mid image
-can_after same can = record {
-  sized = sized_after same can.sized;
-  fits = omega (arith, can.fits, same.size, ap gate_room same.grain);
-}
-
--- The pieces that are written on a medium of the same unit.
-pieces_are : (s mid : MediumState) (image : List ℕ) (at : ℕ) → at ≡ 0 + 2 * gate_of s → mid.grain ≡ s.grain
-    → piece_writes mid.grain.sector (length (filled mid.grain.unit image)) at (filled mid.grain.unit image) ≡ image_writes s.grain image
-pieces_are s mid image at place grain =
-    let here : at ≡ 2 * gate_of s = omega (arith, place) in
-    λ i. piece_writes (grain i).sector (length (filled (grain i).unit image)) (here i) (filled (grain i).unit image)
 
 -- The whole series.
 
@@ -89,47 +76,34 @@ none_filled U64 = refl
 none_filled U256 = refl
 
 -- The steps of the code: the gates are closed, the pieces are written, and the first slot is opened.
-module _ {s : MediumState} {image : List ℕ} (can : CanFormat s image) (mid : MediumState) {at : ℕ} (at_is : at ≡ 0 + 2 * gate_of s)
+module _ {s : MediumState} {image : List ℕ} (can : CanFormat s image) (mid : MediumState)
     (closed : AllWrites s (close_writes s.grain s.bytes) mid) where
-  abbrev units : List ℕ
-  units = filled mid.grain.unit image
-
   same : SameSize s mid
   same = all_same (close_writes s.grain s.bytes) s mid (close_inside s can.sized) closed
 
-  can_still : CanFormat mid image
+  -- The image can be written then.
+  pub can_still : CanFormat mid image
   can_still = can_after same can
 
-  are : piece_writes mid.grain.sector (length units) at units ≡ image_writes s.grain image
-  are = pieces_are s mid image at at_is same.grain
-
-  -- The data begins with a sector.
-  pub data_ahead : IsAhead mid at
-  data_ahead =
-      let sized = can_still.sized in
-      let here : 0 + 2 * gate_of mid ≡ at = omega (arith, at_is, ap gate_room same.grain) in
-      edge_ahead mid at (subst (λ (n : ℕ). IsEdge mid.grain.sector n) here
-      (data_edge mid.grain mid.bytes (two_slots mid sized) sized.whole (slot_size mid.bytes) 0 (inr (refl, refl))))
+  are : image_writes mid.grain image ≡ image_writes s.grain image
+  are = ap (λ (w : Grain). image_writes w image) same.grain
 
   -- A piece fails.
-  pub pieces_broken : (fault : WriteFault) (now : MediumState)
-      → ((n : ℕ) → length units ≤ n → BrokenWrites fault mid (piece_writes mid.grain.sector n at units) now)
+  pub pieces_broken : (fault : WriteFault) (now : MediumState) → BrokenWrites fault mid (image_writes mid.grain image) now
       → BrokenWrites fault s (format_series s image) now
   pieces_broken fault now broken =
       broken_first fault (close_writes s.grain s.bytes ++ image_writes s.grain image)
       (open_writes s.grain 0 0 (length image) (register image)) s now
       (broken_later fault (close_writes s.grain s.bytes) (image_writes s.grain image) s mid now closed
-      (subst (λ (ws : List Write). BrokenWrites fault mid ws now) are (broken (length units) (omega arith))))
+      (subst (λ (ws : List Write). BrokenWrites fault mid ws now) are broken))
 
   -- All pieces are written.
-  module _ (filling : MediumState)
-      (all : (n : ℕ) → length units ≤ n → AllWrites mid (piece_writes mid.grain.sector n at units) filling) where
+  module _ (filling : MediumState) (all : AllWrites mid (image_writes mid.grain image) filling) where
     in_place : AllWrites mid (image_writes s.grain image) filling
-    in_place = subst (λ (ws : List Write). AllWrites mid ws filling) are (all (length units) (omega arith))
+    in_place = subst (λ (ws : List Write). AllWrites mid ws filling) are all
 
     same_filled : SameSize mid filling
-    same_filled = all_same (image_writes mid.grain image) mid filling (image_inside mid image can_still)
-        (subst (λ (w : Grain). AllWrites mid (image_writes w image) filling) (sym same.grain) in_place)
+    same_filled = all_same (image_writes mid.grain image) mid filling (image_inside mid image can_still) all
 
     same_all : SameSize s filling
     same_all = same_both same same_filled
@@ -188,3 +162,10 @@ format_leaves {s} {image} now can all {held} {put_end} none zero_is =
       image_is = sym (image_is (store_of now held put_end) image active);
       fresh = fresh_leaves (record { image = image; active = active }) none zero_is;
     }
+
+-- The data of the first slot begins with a sector.
+pub data_ahead : (m : MediumState) → IsSized m → IsAhead m (2 * gate_of m)
+data_ahead m sized =
+    let here : 0 + 2 * gate_of m ≡ 2 * gate_of m = omega arith in
+    edge_ahead m (2 * gate_of m) (subst (λ (n : ℕ). IsEdge m.grain.sector n) here
+    (data_edge m.grain m.bytes (two_slots m sized) sized.whole (slot_size m.bytes) 0 (inr (refl, refl))))

@@ -17,6 +17,7 @@ pub mod Newest
 mod Opening
 pub mod Parts
 pub mod Pieces
+mod ImagePieces
 pub mod Put
 mod Refused
 mod Registering

@@ -67,11 +67,6 @@ fill_fits : (u : WriteUnit) (k n c : ℕ) → IsMultiple u k → IsMultiple u c 
 fill_fits Byte k n c x y le = omega (arith, x, y, le)
 fill_fits _ k n c x y le = omega (arith, x, y, le)
 
--- A length needs as many zeros as one that is a piece shorter.
-pub fill_piece : (u : WriteUnit) (n : ℕ) → 4096 ≤ n → fill_size u (n - 4096) ≡ fill_size u n
-fill_piece Byte n le = omega (arith, le)
-fill_piece _ n le = omega (arith, le)
-
 -- Filled bytes are longer by the zeros.
 pub length-filled : (u : WriteUnit) (bytes : List ℕ) → length (filled u bytes) ≡ length bytes + fill_size u (length bytes)
 length-filled u bytes = length-append bytes (replicate (fill_size u (length bytes)) 0)

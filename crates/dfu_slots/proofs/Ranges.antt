@@ -1,7 +1,8 @@
 -- Ranges of bytes that have zeros after them.
-use Rattle.std.proofs.Common.{◌≡◌, ℕ, ◌+◌, ◌-◌, ◌≤◌, ◌<◌, List, ◌++◌, length, take, drop, replicate, get_or, slice_range, sym, ◌∙◌, ap, arith, length-append, length-drop}
+use Rattle.std.proofs.Common.{◌≡◌, ℕ, ◌+◌, ◌-◌, ◌≤◌, ◌<◌, List, [], ◌++◌, length, take, drop, replicate, get_or, slice_range, sym, ◌∙◌, ap, arith, length-append, length-drop}
 use Rattle.std.proofs.lemmas.Grind.{same_number_lists}
-use Rattle.std.proofs.lemmas.List.{take-append-le, take-replicate, drop_at, length-take-le, length-replicate, get_or-take, get_or-drop}
+use Rattle.std.proofs.lemmas.List.{take_all, take-append-le, drop-append-le, take-replicate, drop_at, length-take-le, length-replicate}
+use Rattle.std.proofs.lemmas.List.{get_or-take, get_or-drop}
 use Rattle.std.proofs.lemmas.Slice.{between_is, between_from_start}
 use Rattle.dfu_slots.proofs.Torn.{drop_past}
 use Rattle.dfu_slots.proofs.Within.{take_past}
@@ -47,6 +48,17 @@ block_range held block skip n low high =
     (drop_past (held ++ block) (length held) skip low
     ∙ ap (λ (l : List ℕ). drop (skip - length held) l) (drop_at held block (length held) (omega arith)))
     ∙ ap (λ (j : ℕ). take j (drop (skip - length held) block)) e
+
+-- A range that begins in an image and ends in the zeros after it.
+pub padded_range : (image : List ℕ) (skip n : ℕ) → skip ≤ length image
+    → slice_range (([] ++ image) ++ replicate 256 0) skip (skip + n) ≡ take n (slice_range image skip (length image) ++ replicate 256 0)
+padded_range image skip n high =
+    let k : skip + n - skip ≡ n = omega arith in
+    ap (λ (j : ℕ). take j (drop skip (image ++ replicate 256 0))) k
+    ∙ ap (λ (l : List ℕ). take n l)
+    (drop-append-le skip image (replicate 256 0) high
+    ∙ ap (λ (l : List ℕ). l ++ replicate 256 0)
+    (sym (take_all (length image - skip) (drop skip image) (omega (arith, length-drop skip image)))))
 
 -- So many bytes a range has.
 pub range_size : (all : List ℕ) (skip n : ℕ) → skip + n ≤ length all → length (slice_range all skip (skip + n)) ≡ n

@@ -21,7 +21,7 @@ use Rattle.dfu_slots.proofs.Put.{head_le, whole_le}
 use Rattle.dfu_slots.proofs.Ranges.{zeroed_front, range_before}
 
 -- Some bytes are written with the erases before them.
-anew_are : (sector at : ℕ) (bytes : List ℕ) → 0 < length bytes → write_some sector at bytes ≡ write_anew sector at bytes
+pub anew_are : (sector at : ℕ) (bytes : List ℕ) → 0 < length bytes → write_some sector at bytes ≡ write_anew sector at bytes
 anew_are sector at bytes some =
     cond-false (length bytes == 0) [] (write_anew sector at bytes) (ne_eqb (length bytes) 0 (λ e. omega (arith, some, e)))
 

@@ -5,7 +5,7 @@ use Rattle.dfu_slots.specs.Medium.{MediumState, Write, AllWrites}
 use Rattle.dfu_slots.specs.Image.{IsSized}
 use Rattle.dfu_slots.specs.Writes.{erases, write_anew, write_some}
 use Rattle.dfu_slots.proofs.Series.{SameSize, all_same}
-use Rattle.dfu_slots.proofs.Anew.{erases_inside, anew_inside, some_inside}
+use Rattle.dfu_slots.proofs.Anew.{erases_inside, some_inside}
 use Rattle.dfu_slots.proofs.Edges.{sized_edge}
 
 -- The erases before a write do.
@@ -15,12 +15,7 @@ erases_same m mid at n sized some fits all = all_same (erases m.grain.sector at 
     (erases_inside m.grain.sector 0 (length m.bytes) (sized_edge m sized some) at n (omega arith) fits) all
 
 module _ (m mid : MediumState) (at : ℕ) (bytes : List ℕ) (sized : IsSized m) (fits : at + length bytes ≤ length m.bytes) where
-  -- So does a write with its erases.
-  pub anew_same : AllWrites m (write_anew m.grain.sector at bytes) mid → SameSize m mid
-  anew_same all = all_same (write_anew m.grain.sector at bytes) m mid
-      (anew_inside m.grain.sector 0 (length m.bytes) at bytes (sized_edge m sized) (omega arith) fits) all
-
-  -- So does one of some bytes, or of none.
+  -- So does a write of some bytes with its erases, or of none.
   pub some_same : AllWrites m (write_some m.grain.sector at bytes) mid → SameSize m mid
   some_same all = all_same (write_some m.grain.sector at bytes) m mid
       (some_inside m.grain.sector 0 (length m.bytes) at bytes (sized_edge m sized) (omega arith) fits) all

@@ -1,46 +1,103 @@
 //! Formatting a medium: an image goes into the first slot, whatever stood on the medium.
-ghost use Rattle.std.specs.Prelude.{◌≡◌, ℕ, ◌+◌, ◌*◌, ◌≤◌, ◌<◌, ◌^◌, length};
-ghost use Rattle.dfu_slots.specs.Units.{IsMultiple, filled};
-ghost use Rattle.dfu_slots.specs.Medium.{IsAhead};
+ghost use Rattle.std.specs.Prelude.{◌≤◌, ◌+◌, ◌++◌, [], length, take, replicate};
+ghost use Rattle.dfu_slots.specs.inside.Carry.{MayWrite, MayWritePiece};
 ghost use Rattle.dfu_slots.specs.inside.Series.{Series};
 ghost use Rattle.dfu_slots.specs.Image.{IsSized};
-ghost use Rattle.dfu_slots.specs.Writes.{piece_writes, close_writes};
+ghost use Rattle.dfu_slots.specs.Writes.{write_some, image_writes, close_writes};
+ghost use Rattle.dfu_slots.specs.Operations.{range_of, ops_writes, operations};
+ghost use Rattle.dfu_slots.specs.declared.operation.Source.TheVariants.{Joined};
+ghost use Rattle.dfu_slots.specs.declared.sequence.Sequence.TheVariants.{Image};
 ghost use Rattle.dfu_slots.specs.Seen.{format_series};
 ghost use Rattle.dfu_slots.specs.Changes.{CanFormat};
 
 use crate::gates::{close_gate, open_slot};
-use crate::layout::{VERSION, make_header};
-use crate::read::data_at;
+use crate::layout::{VERSION, fill_size, make_header};
+use crate::operation::Op;
 use crate::register::register_of_image;
-use crate::writes::{write_anew, write_filled};
+use crate::sequence::{PIECE, Sequence};
+use crate::writes::write_some;
 use crate::{Medium, WriteFault};
 
-// How many bytes of the image are written at a time: whole units, whatever the unit is.
-const PIECE: usize = 4096;
-
-// Writes the bytes from there on, in pieces.
-fn write_pieces<M: Medium>(medium: &mut M, at: u32, bytes: &[u8]) -> Result<(), WriteFault>
-    requires sized { IsSized (M.state medium.old) }
-    requires ahead { IsAhead (M.state medium.old) at }
-    requires within { at + length (filled (M.state medium.old).grain.unit bytes.now) ≤ length (M.state medium.old).bytes }
-    requires room { at + length bytes.now < 2 ^ 32 }
-    requires place { IsMultiple (M.state medium.old).grain.unit at }
-    ensures { let was = M.state medium.old in let units = filled was.grain.unit bytes.now in (n : ℕ) → length units ≤ n →
-        Series was (piece_writes was.grain.sector n at units) result (M.state medium.new) }
+// Writes these bytes and zeros after them: at most 4,096 together, of which at most 256 are zeros.
+#[inline(never)]
+fn write_padded<M: Medium>(
+    medium: &mut M,
+    at: u32,
+    bytes: &[u8],
+    len: usize,
+) -> Result<(), WriteFault>
+    requires may { MayWrite (M.state medium.old) at len }
+    requires short { len ≤ 4096 }
+    requires fits { length bytes.now ≤ len }
+    requires few { len ≤ length bytes.now + 256 }
+    ensures { let was = M.state medium.old in
+        Series was (write_some was.grain.sector at (take len (bytes.now ++ replicate 256 0))) result (M.state medium.new) }
 {
-    let mut place = at;
-    let mut rest = bytes;
-    while rest.len() > PIECE {
-        let (piece, left) = rest.split_at(PIECE);
-        match write_anew(medium, place, piece) {
+    let mut padded = [0; 4096];
+    padded[..bytes.len()].copy_from_slice(bytes);
+    write_some(medium, at, &padded[..len])
+}
+
+// Writes so many bytes of an image without its first ones, and zeros if it has fewer.
+fn write_part<M: Medium>(
+    medium: &mut M,
+    at: u32,
+    image: &[u8],
+    skip: usize,
+    len: usize,
+) -> Result<(), WriteFault>
+    requires may { MayWrite (M.state medium.old) at len }
+    requires short { len ≤ 4096 }
+    requires front { skip ≤ length image.now }
+    requires few { skip + len ≤ length image.now + 256 }
+    ensures { let was = M.state medium.old in
+        Series was (write_some was.grain.sector at (range_of Joined [] image.now [] skip len)) result (M.state medium.new) }
+{
+    if len > image.len() - skip {
+        return write_padded(medium, at, &image[skip..], len);
+    }
+    write_some(medium, at, &image[skip..skip + len])
+}
+
+// Carries out the operation of the piece of an image that begins there in it.
+fn write_piece<M: Medium>(medium: &mut M, image: &[u8], from: u32) -> Result<(), WriteFault>
+    requires { MayWritePiece (M.state medium.old) image.now from }
+    ensures { let was = M.state medium.old in
+        Series was (ops_writes was.grain.sector [] image.now [] (operations was.grain (Image from (length image.now))))
+        result (M.state medium.new) }
+{
+    let sequence = Sequence::Image {
+        from,
+        image: image.len() as u32,
+    };
+    match sequence.operation(medium.unit(), medium.sector(), 0) {
+        Some(
+            Op::Program {
+                at,
+                source: _,
+                skip,
+                len,
+            },
+        ) => write_part(medium, at as u32, image, skip as usize, len as usize),
+        _ => unreachable!(),
+    }
+}
+
+// Writes an image into the data of the first slot, in the pieces of its sequence.
+fn write_pieces<M: Medium>(medium: &mut M, image: &[u8]) -> Result<(), WriteFault>
+    requires { CanFormat (M.state medium.old) image.now }
+    ensures { let was = M.state medium.old in Series was (image_writes was.grain image.now) result (M.state medium.new) }
+{
+    let len = image.len() as u32;
+    let end = len + fill_size(medium.unit(), len);
+    let mut from = 0;
+    while from < end {
+        match write_piece(medium, image, from) {
             Err(fault) => return Err(fault),
-            Ok(()) => {
-                place += PIECE as u32;
-                rest = left;
-            }
+            Ok(()) => from += PIECE,
         }
     }
-    write_filled(medium, place, rest)
+    Ok(())
 }
 
 // Closes both gates, the second slot's first.
@@ -61,10 +118,9 @@ pub(crate) fn write_image<M: Medium>(medium: &mut M, image: &[u8]) -> Result<(),
     requires { CanFormat (M.state medium.old) image.now }
     ensures { Series (M.state medium.old) (format_series (M.state medium.old) image.now) result (M.state medium.new) }
 {
-    let data = data_at(medium, 0);
     match close_gates(medium) {
         Err(fault) => Err(fault),
-        Ok(()) => match write_pieces(medium, data, image) {
+        Ok(()) => match write_pieces(medium, image) {
             Err(fault) => Err(fault),
             Ok(()) => {
                 let register = register_of_image(medium, image);

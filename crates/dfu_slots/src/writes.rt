@@ -1,13 +1,12 @@
 //! The one function through which the store writes, and the writes that are made of it.
 ghost use Rattle.std.specs.Prelude.{◌+◌, ◌≤◌, length, OnOk, IfErr};
-ghost use Rattle.dfu_slots.specs.Units.{IsMultiple, filled};
+ghost use Rattle.dfu_slots.specs.Units.{IsMultiple};
 ghost use Rattle.dfu_slots.specs.Medium.{Wrote, FailedWrite, IsAhead, IsWritable};
 ghost use Rattle.dfu_slots.specs.inside.Series.{Series};
 ghost use Rattle.dfu_slots.specs.Image.{IsSized};
 ghost use Rattle.dfu_slots.specs.Writes.{write_anew, write_some};
 
 use crate::erasing::erase_within;
-use crate::layout::fill_size;
 use crate::read::stands_at;
 use crate::{Medium, WriteFault};
 
@@ -65,25 +64,4 @@ pub(crate) fn write_some<M: Medium>(medium: &mut M, at: u32, bytes: &[u8]) -> Re
         return Ok(());
     }
     write_anew(medium, at, bytes)
-}
-
-/// Writes these bytes there, at most 4,096, with zeros up to the end of a unit, and writes nothing for no bytes.
-#[inline(never)]
-pub(crate) fn write_filled<M: Medium>(
-    medium: &mut M,
-    at: u32,
-    bytes: &[u8],
-) -> Result<(), WriteFault>
-    requires sized { IsSized (M.state medium.old) }
-    requires ahead { IsAhead (M.state medium.old) at }
-    requires short { length bytes.now ≤ 4096 }
-    requires within { at + length (filled (M.state medium.old).grain.unit bytes.now) ≤ length (M.state medium.old).bytes }
-    requires place { IsMultiple (M.state medium.old).grain.unit at }
-    ensures { let was = M.state medium.old in
-        Series was (write_some was.grain.sector at (filled was.grain.unit bytes.now)) result (M.state medium.new) }
-{
-    let size = bytes.len() + fill_size(medium.unit(), bytes.len() as u32) as usize;
-    let mut units = [0; 4096];
-    units[..bytes.len()].copy_from_slice(bytes);
-    write_some(medium, at, &units[..size])
 }

@@ -1,12 +1,13 @@
 -- What is asked of a medium before operations are carried out on it.
-use Rattle.std.specs.Prelude.{◌≡◌, ℕ, ◌+◌, ◌%◌, ◌≤◌, ◌<◌, List, [], ◌∷◌, length}
+use Rattle.std.specs.Prelude.{◌≡◌, ℕ, ◌+◌, ◌*◌, ◌%◌, ◌≤◌, ◌<◌, List, [], ◌∷◌, length}
 use Rattle.dfu_slots.specs.declared.operation.Op.{Op}
 use Rattle.dfu_slots.specs.declared.operation.Op.TheVariants.{Erase, Program}
 use Rattle.dfu_slots.specs.declared.operation.Source.{Source}
 use Rattle.dfu_slots.specs.declared.operation.Source.TheVariants.{Joined}
-use Rattle.dfu_slots.specs.Units.{IsMultiple}
+use Rattle.dfu_slots.specs.Units.{IsMultiple, fill_size}
 use Rattle.dfu_slots.specs.Medium.{MediumState, AllWrites, IsAhead}
-use Rattle.dfu_slots.specs.Image.{IsSized}
+use Rattle.dfu_slots.specs.Image.{gate_of, IsSized}
+use Rattle.dfu_slots.specs.Changes.{CanFormat}
 use Rattle.dfu_slots.specs.Operations.{op_writes}
 
 -- The medium is two slots, and so many bytes may be written there.
@@ -32,3 +33,10 @@ abbrev pub MayCarryAll : MediumState → List ℕ → List ℕ → List ℕ → 
 MayCarryAll m held block header [] = Unit {0}
 MayCarryAll m held block header (o ∷ os) = MayCarry m held block o
     × ((now : MediumState) → AllWrites m (op_writes m.grain.sector held block header o) now → MayCarryAll now held block header os)
+
+-- A piece of an image, from there on in it, may be written into the data of the first slot.
+pub record MayWritePiece (m : MediumState) (image : List ℕ) (from : ℕ) : Type 0 where
+  pub can : CanFormat m image
+  pub more : from < length image + fill_size m.grain.unit (length image)
+  pub whole : IsMultiple m.grain.unit from
+  pub ahead : IsAhead m (2 * gate_of m + from)
