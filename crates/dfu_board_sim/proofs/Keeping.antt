@@ -1,6 +1,6 @@
 -- What a write of flash leaves of the bytes around it.
-use Rattle.std.proofs.Common.{ℕ, ◌+◌, ◌≤◌, List, length, take, replicate, arith}
-use Rattle.std.proofs.lemmas.List.{length-take, length-replicate}
+use Rattle.std.proofs.Common.{ℕ, ◌+◌, ◌≤◌, List, length, replicate, arith}
+use Rattle.std.proofs.lemmas.List.{length-replicate}
 use Rattle.dfu_slots.specs.Medium.{KeepsOutside, written}
 use Rattle.dfu_slots.proofs.Torn.{written_torn, keeps_wider}
 
@@ -10,11 +10,6 @@ pub write_keeps : (old : List ℕ) (at n : ℕ) (new : List ℕ) → length new 
 write_keeps old at n new short fits =
     keeps_wider at (at + length new) at (at + n) old (written old at new) (written_torn old at new (omega (arith, fits, short)))
     (omega arith) (omega (arith, short))
-
--- So does the write of a front.
-pub front_keeps : (old : List ℕ) (at n : ℕ) (bytes : List ℕ) → at + n ≤ length old
-    → KeepsOutside at (at + n) old (written old at (take n bytes))
-front_keeps old at n bytes fits = write_keeps old at n (take n bytes) (omega (arith, length-take n bytes)) fits
 
 -- So does an erase.
 pub erase_keeps : (old : List ℕ) (at n : ℕ) → at + n ≤ length old → KeepsOutside at (at + n) old (written old at (replicate n 255))

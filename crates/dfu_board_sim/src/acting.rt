@@ -26,7 +26,7 @@ fn send(chip: &mut Chip, host: &mut Host<'_>, fate: Fate<'_>, setup: &[u8; 8], b
     ensures sent { HasSent (fate_of fate.entry) host.old setup.now body.now (board_of chip.old) (board_of chip.new) host.new }
     ensures stands { Stands chip.new }
 {
-    let mut harm = Harm::of(fate, chip.asking.held_len > 0);
+    let mut harm = Harm::of(fate);
     let mut out = [0; 4096];
     let came = reach(chip, &mut harm, handling_of(fate), setup, body, &mut out);
     tell(host, came, comes_back(fate), &out);
@@ -50,7 +50,7 @@ fn wait(chip: &mut Chip, host: &mut Host<'_>, fate: Fate<'_>, ms: u32)
     ensures waited { HasWaited (fate_of fate.entry) host.old ms (board_of chip.old) (board_of chip.new) host.new }
     ensures stands { Stands chip.new }
 {
-    let mut harm = Harm::of(fate, chip.asking.held_len > 0);
+    let mut harm = Harm::of(fate);
     pass(chip, &mut harm, time_of(handling_of(fate), ms));
     tell_wait(host);
 }
@@ -90,7 +90,7 @@ fn act_cut(chip: &mut Chip, host: &mut Host<'_>, fate: Fate<'_>)
     ensures acted { HasActed (fate_of fate.entry) host.old (board_of chip.old) (board_of chip.new) host.new }
     ensures stands { Stands chip.new }
 {
-    let mut harm = Harm::of(fate, chip.asking.held_len > 0);
+    let mut harm = Harm::of(fate);
     match host.next() {
         Action::Send { setup, body } => {
             cut_request(chip, &mut harm, &setup, body);

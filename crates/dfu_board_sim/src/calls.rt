@@ -85,6 +85,7 @@ fn work_off(chip: &mut Chip, harm: &mut Harm<'_>, out: &mut [u8]) -> Came
     ensures same { harm.new.kind ≡ harm.old.kind }
     ensures cut { result ≡ Came.NoAnswer → harm.old.kind ≡ Kind.CutsPower }
 {
+    harm.expect(chip.asking.held_len > 0);
     'pieces: loop {
         // Called for its clause: it is a number of 32 bits, which rises.
         let _ = done(chip);

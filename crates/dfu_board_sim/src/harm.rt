@@ -48,8 +48,8 @@ impl<'t> Harm<'t> {
         }
     }
 
-    /// How a fate harms the writes, on a board that holds bytes back or doesn't.
-    pub(crate) fn of(fate: Fate<'t>, is_held: bool) -> Harm<'t>
+    /// How a fate harms the writes.
+    pub(crate) fn of(fate: Fate<'t>) -> Harm<'t>
         ensures { is_cut (fate_of fate.entry) ≡ false → result.kind ≢ Kind.CutsPower }
     {
         let (kind, writes, tear) = match fate {
@@ -62,11 +62,18 @@ impl<'t> Harm<'t> {
             kind,
             tear,
             left: Some(writes),
-            first_alone: is_held,
+            first_alone: false,
             harms: false,
             goes_on: None,
             came: 0,
         }
+    }
+
+    /// The writes of a call begin. Bytes are held back before them, or aren't.
+    pub(crate) fn expect(&mut self, is_held: bool)
+        ensures { self.new.kind ≡ self.old.kind }
+    {
+        self.first_alone = is_held;
     }
 
     /// A write begins.
