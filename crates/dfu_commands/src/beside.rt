@@ -1,13 +1,13 @@
 //! `dfu run --board`: what a script prints that a board plays too, beside the device.
 
-ghost use Rattle.std.specs.Prelude.{◌≡◌, None};
+ghost use Rattle.std.specs.Prelude.{◌≡◌, ℕ, List, Option, None, IfSome};
 ghost use Rattle.dfu_link.specs.Said.{given_bytes};
 ghost use Rattle.dfu_link.specs.Falls.{Ended};
 ghost use Rattle.dfu_link.specs.Printed.{HasPrinted};
 ghost use Rattle.dfu_commands.specs.BesideText.{WritesBeside, PrintsBeside};
 
 use crate::numbering::number_text;
-use crate::running::stop_text;
+use crate::running::end_text;
 use dfu_link::{ScriptFault, script_beside_traced_with, script_beside_with};
 use dfu_text::Exit;
 use std::alloc::Global;
@@ -20,6 +20,29 @@ pub(crate) enum Stop {
     Fault(ScriptFault),
     /// At an event of this line, after which the board differs from the device.
     Differs(u32),
+}
+
+/// Writes the line for a script that came to this end, or for the number of a line with an event after which the board differs.
+fn beside_text<W: Write>(
+    alloc: Global,
+    answer: Result<(), ScriptFault>,
+    line: Option<u32>,
+    writer: &mut W,
+) -> (Exit, Option<Stop>)
+    ensures run { (file given old : Option (List ℕ)) → IfSome given (λ text. Ended file text old (W.contents writer.old) answer) →
+        WritesBeside file given old (W.contents writer.new) result.0 }
+    ensures printed { (file given old : Option (List ℕ)) → IfSome given (λ text. HasPrinted file text old (W.contents writer.old) answer) →
+        PrintsBeside file given old (W.contents writer.new) result.0 }
+    ensures stop { result.1 ≡ None → result.0 ≡ Exit.Done }
+{
+    if let Some(number) = line {
+        let exit = number_text(alloc, "refused BoardDiffers ", number, writer);
+        return (exit, Some(Stop::Differs(number)));
+    }
+    match end_text(alloc, answer, writer) {
+        (exit, None) => (exit, None),
+        (exit, Some(fault)) => (exit, Some(Stop::Fault(fault))),
+    }
 }
 
 /// Runs a script as `run_with_fault` does, with each event on a board beside the device too. If the board differs, `refused BoardDiffers N`
@@ -37,17 +60,8 @@ pub(crate) fn run_beside_with_stop<R: Read + Drop, W: Write + Drop>(
     ensures stop { result.1 ≡ None → result.0 ≡ Exit.Done }
 {
     let (answer, line, mut writer) = script_beside_with(alloc, file, reader, writer);
-    if let Some(number) = line {
-        let exit = number_text(alloc, "refused BoardDiffers ", number, &mut writer);
-        return (exit, Some(Stop::Differs(number)), writer);
-    }
-    match answer {
-        Ok(()) => (Exit::Done, None, writer),
-        Err(fault) => {
-            let exit = stop_text(alloc, fault, &mut writer);
-            (exit, Some(Stop::Fault(fault)), writer)
-        }
-    }
+    let (exit, stop) = beside_text(alloc, answer, line, &mut writer);
+    (exit, stop, writer)
 }
 
 /// Does what `run_beside_with_stop` does, with a line for each action of the host to `trace`, as `dfu_link::script_beside_traced_with`
@@ -67,15 +81,6 @@ pub(crate) fn run_beside_traced_with_stop<R: Read + Drop, W: Write + Drop, N: Wr
     let (answer, line, mut writer, is_traced) = script_beside_traced_with(
         alloc, file, reader, writer, trace,
     );
-    if let Some(number) = line {
-        let exit = number_text(alloc, "refused BoardDiffers ", number, &mut writer);
-        return (exit, Some(Stop::Differs(number)), writer, is_traced);
-    }
-    match answer {
-        Ok(()) => (Exit::Done, None, writer, is_traced),
-        Err(fault) => {
-            let exit = stop_text(alloc, fault, &mut writer);
-            (exit, Some(Stop::Fault(fault)), writer, is_traced)
-        }
-    }
+    let (exit, stop) = beside_text(alloc, answer, line, &mut writer);
+    (exit, stop, writer, is_traced)
 }

@@ -100,11 +100,7 @@ where
     R::File: Owned,
 {
     let alloc = rt.alloc();
-    let texts = IdTexts {
-        vendor: text_in(vid),
-        product: text_in(pid),
-        device: text_in(did),
-    };
+    let texts = IdTexts::new(text_in(vid), text_in(pid), text_in(did));
     if ids_said(&texts).is_none() {
         return refused(rt, bad_identifier(alloc, &texts));
     }

@@ -19,6 +19,21 @@ pub(crate) struct IdTexts<'t> {
     pub device: &'t str,
 }
 
+impl<'t> IdTexts<'t> {
+    /// These texts.
+    pub(crate) fn new(vendor: &'t str, product: &'t str, device: &'t str) -> IdTexts<'t>
+        ensures vendor { result.vendor.now ≡ vendor.now }
+        ensures product { result.product.now ≡ product.now }
+        ensures device { result.device.now ≡ device.now }
+    {
+        IdTexts {
+            vendor,
+            product,
+            device,
+        }
+    }
+}
+
 /// The identifiers, where each text is four hexadecimal digits.
 pub(crate) fn ids_said(texts: &IdTexts<'_>) -> Option<Ids>
     ensures { result ≡ ids_said texts.now.vendor.now texts.now.product.now texts.now.device.now }

@@ -117,18 +117,7 @@ where
             did,
             format,
             fill,
-        } => perform_add(
-            rt,
-            file,
-            to,
-            &IdTexts {
-                vendor: vid,
-                product: pid,
-                device: did,
-            },
-            format,
-            fill,
-        ),
+        } => perform_add(rt, file, to, &IdTexts::new(vid, pid, did), format, fill),
         Job::Extract { file, to } => perform_extract(rt, file, to, explain),
         Job::Change {
             file,
@@ -146,12 +135,7 @@ where
             rt,
             script,
             file,
-            Ways {
-                trace: *trace,
-                board: *board,
-                file: None,
-                explain,
-            },
+            Ways::without_file(*trace, *board, explain),
         ),
         Job::Judge {
             files,

@@ -1,7 +1,9 @@
 //! `dfu run`: what a script prints, and the line for one that stopped.
 
-ghost use Rattle.std.specs.Prelude.{◌≡◌, None};
+ghost use Rattle.std.specs.Prelude.{◌≡◌, ℕ, List, Option, None, IfSome};
 ghost use Rattle.dfu_link.specs.Said.{given_bytes};
+ghost use Rattle.dfu_link.specs.Falls.{Ended};
+ghost use Rattle.dfu_link.specs.Printed.{HasPrinted};
 ghost use Rattle.dfu_commands.specs.RunText.{WritesStop, WritesRun, WritesPrinted};
 
 use crate::numbering::number_text;
@@ -35,6 +37,24 @@ pub(crate) fn stop_text<W: Write>(alloc: Global, fault: ScriptFault, writer: &mu
     }
 }
 
+/// Writes the line for a script that came to this end, if it stopped, and returns beside the end the fault at which it did.
+pub(crate) fn end_text<W: Write>(
+    alloc: Global,
+    answer: Result<(), ScriptFault>,
+    writer: &mut W,
+) -> (Exit, Option<ScriptFault>)
+    ensures run { (file given old : Option (List ℕ)) → IfSome given (λ text. Ended file text old (W.contents writer.old) answer) →
+        WritesRun file given old (W.contents writer.new) result.0 }
+    ensures printed { (file given old : Option (List ℕ)) → IfSome given (λ text. HasPrinted file text old (W.contents writer.old) answer) →
+        WritesPrinted file given old (W.contents writer.new) result.0 }
+    ensures fault { result.1 ≡ None → result.0 ≡ Exit.Done }
+{
+    match answer {
+        Ok(()) => (Exit::Done, None),
+        Err(fault) => (stop_text(alloc, fault, writer), Some(fault)),
+    }
+}
+
 /// Runs the script that the reader gives, and writes what it prints; with Done the last line is
 /// that of the active image. For a script that stopped the line is `refused NAME` with Refused, for
 /// BadLine, LateConfig and Expected with the number of the line behind it, or `fault Read` with Fault; what
@@ -64,10 +84,8 @@ pub(crate) fn run_with_fault<R: Read + Drop, W: Write>(
     // Where no fault is given the script ran to its end.
     ensures fault { result.1 ≡ None → result.0 ≡ Exit.Done }
 {
-    match script_with(alloc, file, reader, writer) {
-        Ok(()) => (Exit::Done, None),
-        Err(fault) => (stop_text(alloc, fault, writer), Some(fault)),
-    }
+    let answer = script_with(alloc, file, reader, writer);
+    end_text(alloc, answer, writer)
 }
 
 /// Does what `run_with_fault` does, with a line for each action of the host to `trace`, as
@@ -86,8 +104,6 @@ pub(crate) fn run_traced_with_fault<R: Read + Drop, W: Write, N: Write>(
     ensures fault { result.1 ≡ None → result.0 ≡ Exit.Done }
 {
     let (answer, is_traced) = script_traced_with(alloc, file, reader, writer, trace);
-    match answer {
-        Ok(()) => (Exit::Done, None, is_traced),
-        Err(fault) => (stop_text(alloc, fault, writer), Some(fault), is_traced),
-    }
+    let (exit, fault) = end_text(alloc, answer, writer);
+    (exit, fault, is_traced)
 }

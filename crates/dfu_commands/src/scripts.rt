@@ -1,5 +1,7 @@
 //! `dfu run`: the script of a file or of standard input, and how often it prints.
 
+ghost use Rattle.std.specs.Prelude.{◌≡◌, None};
+
 use crate::beside::{Stop, run_beside_traced_with_stop, run_beside_with_stop};
 use crate::buffering::run_buffered_with_fault;
 use crate::running::run_traced_with_fault;
@@ -40,6 +42,23 @@ pub(crate) struct Ways<'f> {
     pub file: Option<&'f [u8]>,
     /// Whether the reason is wanted if it stops.
     pub explain: bool,
+}
+
+impl Ways<'_> {
+    /// These ways, and no bytes that FILE stands for.
+    pub(crate) fn without_file(trace: bool, board: bool, explain: bool) -> Ways<'static>
+        ensures trace { result.trace ≡ trace }
+        ensures board { result.board ≡ board }
+        ensures file { result.file ≡ None }
+        ensures explain { result.explain ≡ explain }
+    {
+        Ways {
+            trace,
+            board,
+            file: None,
+            explain,
+        }
+    }
 }
 
 /// Why a script stopped, where its line doesn't say it.

@@ -59,63 +59,21 @@ pub(crate) enum Name {
     WillDetach,
 }
 
+/// The texts, in the order of the enum.
+#[rattlefmt::skip]
+static TEXTS: [&str; 51] = [
+    "allowed", "alternate", "answer", "by", "configuration", "crc", "departs", "detach", "device", "dfu",
+    "download", "events", "fault", "for", "functional", "habits", "in", "index", "interface", "kept", "kind",
+    "length", "line", "mode", "next", "not kept", "number", "ok", "payload", "poll", "product", "refused",
+    "request", "setup", "show", "single", "source", "state", "states", "status", "string", "suffix", "tolerant",
+    "transfer", "upload", "value", "vendor", "verdict", "version", "why", "will-detach",
+];
+
 impl Name {
     /// The text of the word or the key.
     pub(crate) fn text(self) -> &'static str
         ensures { result.now ≡ name_text self }
     {
-        match self {
-            Name::Allowed => "allowed",
-            Name::Alternate => "alternate",
-            Name::Answer => "answer",
-            Name::By => "by",
-            Name::Configuration => "configuration",
-            Name::Crc => "crc",
-            Name::Departs => "departs",
-            Name::Detach => "detach",
-            Name::Device => "device",
-            Name::Dfu => "dfu",
-            Name::Download => "download",
-            Name::Events => "events",
-            Name::Fault => "fault",
-            Name::For => "for",
-            Name::Functional => "functional",
-            Name::Habits => "habits",
-            Name::In => "in",
-            Name::Index => "index",
-            Name::Interface => "interface",
-            Name::Kept => "kept",
-            Name::Kind => "kind",
-            Name::Length => "length",
-            Name::Line => "line",
-            Name::Mode => "mode",
-            Name::Next => "next",
-            Name::NotKept => "not kept",
-            Name::Number => "number",
-            Name::Ok => "ok",
-            Name::Payload => "payload",
-            Name::Poll => "poll",
-            Name::Product => "product",
-            Name::Refused => "refused",
-            Name::Request => "request",
-            Name::Setup => "setup",
-            Name::Show => "show",
-            Name::Single => "single",
-            Name::Source => "source",
-            Name::State => "state",
-            Name::States => "states",
-            Name::Status => "status",
-            Name::String => "string",
-            Name::Suffix => "suffix",
-            Name::Tolerant => "tolerant",
-            Name::Transfer => "transfer",
-            Name::Upload => "upload",
-            Name::Value => "value",
-            Name::Vendor => "vendor",
-            Name::Verdict => "verdict",
-            Name::Version => "version",
-            Name::Why => "why",
-            Name::WillDetach => "will-detach",
-        }
+        TEXTS[self as usize]
     }
 }

@@ -1,17 +1,7 @@
-use Rattle.dfu_commands.specs.RunText.{runs, stops, prints_all, prints_part}
-use Rattle.std.proofs.Common.{refl}
 use Rattle.dfu_commands.proofs.running.run_traced_with_fault.Goals as goal
 
-pub returns-in-Ok-clause-run : goal.returns-in-Ok-clause-run
-returns-in-Ok-clause-run g c = runs (rw c.in-Ok.is at c.script_traced_with-answer.ensures.ended) refl
+pub returns-clause-run : goal.returns-clause-run
+returns-clause-run g c = c.end_text-exit.ensures.run _ _ _ c.script_traced_with-answer.ensures.ended
 
-pub returns-in-Ok-clause-printed : goal.returns-in-Ok-clause-printed
-returns-in-Ok-clause-printed g c = prints_all (rw c.in-Ok.is at c.script_traced_with-answer.ensures.printed) refl
-
-pub returns-in-Err-clause-run : goal.returns-in-Err-clause-run
-returns-in-Err-clause-run g c = stops (g.W.Write.contents c.script_traced_with-answer.new.writer) c.in-Err.fault
-    (rw c.in-Err.is at c.script_traced_with-answer.ensures.ended) c.stop_text.ensures
-
-pub returns-in-Err-clause-printed : goal.returns-in-Err-clause-printed
-returns-in-Err-clause-printed g c = prints_part (g.W.Write.contents c.script_traced_with-answer.new.writer) c.in-Err.fault
-    (rw c.in-Err.is at c.script_traced_with-answer.ensures.printed) c.stop_text.ensures
+pub returns-clause-printed : goal.returns-clause-printed
+returns-clause-printed g c = c.end_text-exit.ensures.printed _ _ _ c.script_traced_with-answer.ensures.printed
