@@ -14,6 +14,8 @@ pub mod ImagePlaces
 pub mod Same
 pub mod Parts
 pub mod Each
+mod Turned
+mod CallTurns
 pub mod Fits
 pub mod Runs
 pub mod Played

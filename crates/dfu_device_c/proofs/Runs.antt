@@ -26,7 +26,8 @@ use Rattle.dfu_device_c.specs.Steps.{board_of, event_of, IsBoardOf, AreStepsOf}
 use Rattle.dfu_device_c.specs.Runs.{IsRunOf, CoreRefines, CoreKeeps, CoreStays, CoreInstalls, CoreStarts}
 use Rattle.dfu_device_c.proofs.Same.{one_mode, set_up_alike}
 use Rattle.dfu_device_c.proofs.Fits.{all_fit}
-use Rattle.dfu_device_c.proofs.Each.{IsSound, powers_on, turn}
+use Rattle.dfu_device_c.proofs.Turned.{IsSound}
+use Rattle.dfu_device_c.proofs.Each.{powers_on, turn}
 
 -- From a board in C that is this device, steps lead to one that is another.
 record RanTo (b : CoreBoard) (a : Asking) (steps : List CoreStep) (b' : CoreBoard) : Type 0 where

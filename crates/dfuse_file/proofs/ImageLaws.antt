@@ -1,9 +1,9 @@
 -- Lists of elements, as an image is made of them.
-use Rattle.std.proofs.Common.{◌≡◌, ◌≢◌, ℕ, suc, ◌+◌, ◌<◌, ◌≤◌, ◌&&◌, ◌||◌, Bool, true, false, not, cond, eqb, ltb, leb, List, [], ◌∷◌, ◌++◌, length, take, map, set, get_or, Some, None, inl, inr, refl, sym, ap, ◌∙◌, subst, arith, length-append}
+use Rattle.std.proofs.Common.{◌≡◌, ◌≢◌, ℕ, suc, ◌+◌, ◌<◌, ◌≤◌, ◌&&◌, ◌||◌, Bool, true, false, not, cond, eqb, ltb, leb, List, [], ◌∷◌, ◌++◌, length, take, map, set, get_or, Some, None, inl, inr, refl, sym, ap, ◌∙◌, arith, length-append}
 use Rattle.std.proofs.lemmas.Bool.{eq-eqb}
 use Rattle.std.proofs.lemmas.Bool.Decides.{nat_tests, eqb_tells}
-use Rattle.std.proofs.lemmas.List.{append_assoc, append-nil, map-append, take_more_set, take_at}
-use Rattle.std.specs.List.Sorted.{IsNonDecreasingBy, IsPermutation}
+use Rattle.std.proofs.lemmas.List.{append_assoc, append-nil, map-append, take_more_set}
+use Rattle.std.specs.List.Sorted.{IsNonDecreasingBy}
 use Rattle.dfu_images.specs.Elements.{Piece}
 use Rattle.dfuse_host.specs.Refusing.{ascends_from}
 use Rattle.dfuse_host.specs.declared.element.Element.{Element}
@@ -43,18 +43,6 @@ ascends start [] f h = refl
 ascends start (e ∷ es) f h =
     both_yes (leb start e.address) (ascends_from e.address es) (not_more start e.address (h e (omega arith)))
     (ascends e.address es (λ i j d p q. f (suc i) (suc j) d (omega (arith, p)) (omega (arith, q))) (λ d p. f 0 1 d (omega arith) (omega (arith, p))))
-
--- What is done to the front of elements, the others stay.
-pub front_same : (room front back later front' : List Element) (n : ℕ) → room ≡ front ++ back → later ≡ front' ++ back → length front ≡ n →
-    length front' ≡ length front → IsPermutation front front' → IsPermutation (take n room) (take n later)
-front_same room front back later front' n old new long same moves =
-    subst (λ (xs : List Element). IsPermutation xs (take n later)) (sym (ap (take n) old ∙ take_at front back n long))
-    (subst (λ (xs : List Element). IsPermutation front xs) (sym (ap (take n) new ∙ take_at front' back n (same ∙ long))) moves)
-
--- So the front ascends.
-pub front_sorted : (front' back later : List Element) (n : ℕ) → later ≡ front' ++ back → length front' ≡ n → ascends_from 0 front' ≡ true →
-    ascends_from 0 (take n later) ≡ true
-front_sorted front' back later n new long h = ap (ascends_from 0) (ap (take n) new ∙ take_at front' back n long) ∙ h
 
 -- ---- settings
 

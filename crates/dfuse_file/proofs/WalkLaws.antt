@@ -93,11 +93,6 @@ targets_left (x ∷ b) h = refl
 
 -- ---- what was found
 
--- Without a fault all was found.
-pub all_found : {A : Type 0} (r : Result (List A) FileFault) → checked r ≡ Ok tt → r ≡ Ok (found r)
-all_found (Ok xs) h = refl
-all_found (Err fault) h = cc
-
 -- None is left of none.
 pub none_left : (b : List ℕ) → found (elements_at 0 b) ≡ []
 unfolding elements_at

@@ -39,11 +39,6 @@ module _ (chip : Chip) where
   abort_quiet d _ body _ (stops _ _ may) = record { quiet = λ h. tt; pointer = refl }
   abort_quiet d _ body _ (aborts _ may) = record { quiet = λ h. tt; pointer = refl }
 
-  state_quiet : (d d' : Device) (n : ℕ) (body : List ℕ) (r : Reaction) → Reacts chip d (request.GetState n) body r d' → KeepsQuiet d d'
-  state_quiet d _ n body _ (stalls _ _ may) = record { quiet = λ h. h; pointer = refl }
-  state_quiet d _ n body _ (stops _ _ may) = record { quiet = λ h. tt; pointer = refl }
-  state_quiet d _ n body _ (shows _ _) = record { quiet = λ h. h; pointer = refl }
-
   behind_reading : (s : State) → (s ≡ state.DfuIdle) ⊎ (s ≡ state.UploadIdle) → IsQuiet (Rests s)
   behind_reading s (inl e) = subst (λ (t : State). IsQuiet (Rests t)) (sym e) tt
   behind_reading s (inr e) = subst (λ (t : State). IsQuiet (Rests t)) (sym e) tt

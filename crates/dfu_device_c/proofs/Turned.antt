@@ -1,0 +1,82 @@
+-- What a step of a board in C is, as one of a board; and a call that changes nothing.
+use Rattle.std.specs.Prelude.{◌≡◌, ◌≤◌, ℕ, ℤ, List, length}
+use Rattle.std.proofs.Common.{sym, ap, subst, arith}
+use Rattle.dfu_device.specs.Setting.{Setting}
+use Rattle.dfu_asks.specs.declared.asking.Asking.{Asking}
+use Rattle.dfu_asks.specs.Refused.{Fits}
+use Rattle.dfu_board.specs.Board.{Says, Nothing}
+use Rattle.dfu_board.specs.Happens.{Happens}
+use Rattle.dfu_device_c.specs.declared.config.DfuConfig.{DfuConfig}
+use Rattle.dfu_device_c.specs.declared.record.DfuRecord.{DfuRecord}
+use Rattle.dfu_device_c.specs.Config.{transfer_of, IsConfig}
+use Rattle.dfu_device_c.specs.Kept.{IsKept}
+use Rattle.dfu_device_c.specs.Calls.{Goes}
+use Rattle.dfu_device_c.specs.Board.{CoreBoard, CoreEvent}
+use Rattle.dfu_device_c.specs.Steps.{board_of, event_of, EventSays}
+use Rattle.dfu_device_c.proofs.Same.{one_device}
+
+-- A board in C is a board with this device, whose block is in the memory for it.
+pub record IsSound (b : CoreBoard) (a : Asking) : Type 0 where
+  pub config : IsConfig b.config
+  pub kept : IsKept b.config b.kept a
+  pub short : a.block_len ≤ length b.block
+
+-- A step of a board in C is one of a board, which leads to this device.
+pub record IsTurn (b : CoreBoard) (a : Asking) (e : CoreEvent) (n : ℤ) (out : List ℕ) (b' : CoreBoard) : Type 0 where
+  pub config : b'.config ≡ b.config
+  pub after : Asking
+  pub sound : IsSound b' after
+  pub says : Says
+  pub happens : Happens (board_of b a) (event_of b.config e) says (board_of b' after)
+  pub told : EventSays e n out says
+
+-- The memory has room for the block, if it has for the transfer size.
+pub fits_of : (b : CoreBoard) (a : Asking) → IsSound b a → transfer_of b.config ≤ length b.block → Fits a (length b.block)
+fits_of b a sound room = record {
+  block = sound.short;
+  transfer =
+      let size : a.config.functional.transfer ≡ transfer_of b.config =
+      ap (λ (s : Setting). s.functional.transfer) sound.kept.set_up.config_is in
+      omega (arith, size, room, sound.config.allowed.transfer.most);
+}
+
+-- Nothing changed.
+still : (b : CoreBoard) (a : Asking) (b' : CoreBoard) → IsSound b a → b'.config ≡ b.config → b'.flash ≡ b.flash → b'.kept ≡ b.kept
+    → b'.block ≡ b.block → IsSound b' a × (board_of b' a ≡ board_of b a)
+still b a b' sound config flash kept block = (
+  record {
+    config = subst (λ (c : DfuConfig). IsConfig c) (sym config) sound.config;
+    kept = subst (λ (c : DfuConfig). IsKept c b'.kept a) (sym config)
+        (subst (λ (r : DfuRecord). IsKept b.config r a) (sym kept) sound.kept);
+    short = omega (arith, sound.short, ap (λ (l : List ℕ). length l) block);
+  },
+  λ i. record { asking = a; block = block i; held = (kept i).held; flash = flash i },
+)
+
+-- A call that is refused changes nothing.
+pub unchanged : (b : CoreBoard) (a : Asking) (e : CoreEvent) (n : ℤ) (out' : List ℕ) (b' : CoreBoard) → IsSound b a
+    → b'.config ≡ b.config → b'.flash ≡ b.flash → b'.kept ≡ b.kept → b'.block ≡ b.block
+    → (board_of b' a ≡ board_of b a → Happens (board_of b a) (event_of b.config e) Nothing (board_of b' a))
+    → EventSays e n out' Nothing → IsTurn b a e n out' b'
+unchanged b a e n out' b' sound config flash kept block happens told =
+    let same = still b a b' sound config flash kept block in
+    record { config = config; after = a; sound = same.0; says = Nothing; happens = happens same.1; told = told }
+
+-- A call that goes on is of the device that the record is.
+pub goes_on : (b : CoreBoard) (a : Asking) (r' : DfuRecord) (block' : List ℕ) (Does : Asking → Asking → Type 0) → IsSound b a
+    → (g : Goes b.config b.kept b.block r' block' Does) → Does a g.after
+goes_on b a r' block' Does sound g =
+    subst (λ (x : Asking). Does x g.after) (one_device b.config b.kept g.before a g.was sound.kept) g.does
+
+-- Then the board is that device.
+pub sound_on : (b : CoreBoard) (a : Asking) (b' : CoreBoard) (block' : List ℕ) (Does : Asking → Asking → Type 0) → IsSound b a
+    → b'.config ≡ b.config → b'.block ≡ block' → (g : Goes b.config b.kept b.block b'.kept block' Does) → IsSound b' g.after
+sound_on b a b' block' Does sound config block g =
+    let same : g.before ≡ a = one_device b.config b.kept g.before a g.was sound.kept in
+    let short : g.after.block_len ≤ length block' =
+    (g.fits (subst (λ (x : Asking). Fits x (length b.block)) (sym same) (fits_of b a sound g.room))).block in
+    record {
+      config = subst (λ (c : DfuConfig). IsConfig c) (sym config) sound.config;
+      kept = subst (λ (c : DfuConfig). IsKept c b'.kept g.after) (sym config) g.is;
+      short = omega (arith, short, ap (λ (l : List ℕ). length l) block);
+    }
