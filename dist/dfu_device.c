@@ -86,10 +86,8 @@ _Static_assert(offsetof(struct dfu_place, length) == 4, "another layout");
 _Static_assert(sizeof(struct dfu_place) == 8, "another layout");
 _Static_assert(_Alignof(struct dfu_place) == 4, "another layout");
 
-struct i32_i32 { uint32_t a; uint32_t b; };
 struct i64_i8 { uint64_t a; uint8_t b; };
 struct i8_i64 { uint8_t a; uint64_t b; };
-struct i8_i8 { uint8_t a; uint8_t b; };
 
 static inline uint16_t load16(const unsigned char *p) { uint16_t x = 0; memcpy(&x, ALIGNED(p, 2), 2); return x; }
 static inline uint32_t load32(const unsigned char *p) { uint32_t x = 0; memcpy(&x, ALIGNED(p, 4), 4); return x; }
@@ -115,7 +113,7 @@ static inline uint64_t usub_sat64(uint64_t x, uint64_t y) { return x < y ? 0 : (
 static _Alignas(1) const uint8_t static_0[1] = {
     0
 };
-static _Alignas(4) const uint8_t static_3[64] = {
+static _Alignas(4) const uint8_t static_2[64] = {
     0, 0, 0, 0, 0x64, 0x10, 0xb7, 0x1d, 0xc8, 0x20, 0x6e, 0x3b, 0xac, 0x30, 0xd9, 0x26, 0x90, 0x41, 0xdc, 0x76,
     0xf4, 0x51, 0x6b, 0x6b, 0x58, 0x61, 0xb2, 0x4d, 0x3c, 0x71, 5, 0x50, 0x20, 0x83, 0xb8, 0xed, 0x44, 0x93, 0xf, 0xf0,
     0xe8, 0xa3, 0xd6, 0xd6, 0x8c, 0xb3, 0x61, 0xcb, 0xb0, 0xc2, 0x64, 0x9b, 0xd4, 0xd2, 0xd3, 0x86, 0x78, 0xe2, 0xa, 0xa0,
@@ -168,7 +166,6 @@ static uint8_t dfu_asks_formatting_Formatting_due(unsigned char *a0, uint64_t a2
 static uint8_t dfu_asks_format_piece_part_piece(unsigned char *a0, uint64_t a1, unsigned char *a2);
 static uint8_t dfu_asks_next_piece_sequence_piece(unsigned char *a0, unsigned char *a1);
 static uint8_t dfu_asks_next_piece_numbered_piece(unsigned char *a0, uint64_t a1, unsigned char *a2);
-static void dfu_slots_sequence_Sequence_operation(unsigned char *a0, unsigned char *a1, uint8_t a2, uint32_t a3, uint64_t a4);
 static void dfu_asks_located_locate(unsigned char *a0, uint32_t a1, uint64_t a2, uint64_t a3, uint64_t a4);
 static uint8_t dfu_asks_format_piece_open_piece(uint64_t a0, uint32_t a1, unsigned char *a2);
 static uint8_t dfu_asks_asks_is_sound(uint32_t a0, unsigned char *a1);
@@ -176,23 +173,18 @@ static void dfu_asks_cut_fill(unsigned char *a0, unsigned char *a1);
 static uint8_t dfu_asks_cut_byte_of(unsigned char *a0, uint64_t a1);
 static uint8_t dfu_slots_open_is_sized(unsigned char *a0);
 static uint32_t dfu_slots_read_capacity_of(unsigned char *a0);
-static uint8_t dfu_slots_gates_close_gate(unsigned char *a0, uint32_t a1);
-static uint8_t dfu_slots_carry_carry_out(unsigned char *a0, unsigned char *a1);
-static void core_slice_edits_slice_T_copy_from_slice_i8_core_clone_U8Clone(unsigned char *a0, unsigned char *a2, uint64_t a3);
-static uint8_t dfu_slots_writes_write_filled(unsigned char *a0, unsigned char *a2, uint64_t a3);
 static void dfu_suffix_crc_Crc_update_small(unsigned char *a0, unsigned char *a1, uint64_t a2);
-static struct i8_i8 dfu_slots_places_count_slots(unsigned char *a0);
-static uint8_t dfu_slots_read_counts(unsigned char *a0, uint32_t a1);
-static uint8_t dfu_slots_read_is_open(unsigned char *a0, uint32_t a1);
-static uint8_t dfu_slots_read_byte_at(unsigned char *a0, uint32_t a1);
-static void dfu_slots_read_header_of(unsigned char *a0, unsigned char *a1, uint32_t a2);
-static void dfu_slots_read_read_data(unsigned char *a0, uint32_t a1, uint32_t a2, unsigned char *a3, uint64_t a4);
-static struct i32_i32 dfu_slots_places_find_places(unsigned char *a0, uint8_t a1, uint8_t a2);
-static uint8_t dfu_slots_places_is_newest(unsigned char *a0, uint32_t a1, uint32_t a2, uint8_t a3, uint8_t a4);
-static uint8_t dfu_slots_read_generation(unsigned char *a0, uint32_t a1);
 static uint8_t dfu_asks_cut_stands(unsigned char *a0, uint64_t a1, unsigned char *a2);
 static void dfu_asks_noted_Noted_find(unsigned char *a0, unsigned char *a1, uint64_t a2, uint8_t a3, uint32_t a4);
 static void dfu_slots_open_check(unsigned char *a0, unsigned char *a1);
+static uint8_t dfu_slots_read_counts(unsigned char *a0, uint32_t a1);
+static uint8_t dfu_slots_read_is_open(unsigned char *a0, uint32_t a1);
+static uint8_t dfu_slots_read_byte_at(unsigned char *a0, uint32_t a1);
+static void core_slice_edits_slice_T_copy_from_slice_i8_core_clone_U8Clone(unsigned char *a0, unsigned char *a2, uint64_t a3);
+static void dfu_slots_read_read_data(unsigned char *a0, uint32_t a1, uint32_t a2, unsigned char *a3, uint64_t a4);
+static uint8_t dfu_slots_places_is_newest(unsigned char *a0, uint32_t a1, uint32_t a2, uint8_t a3, uint8_t a4);
+static uint8_t dfu_slots_read_generation(unsigned char *a0, uint32_t a1);
+static void dfu_slots_read_header_of(unsigned char *a0, unsigned char *a1, uint32_t a2);
 static uint8_t dfu_device_c_config_is_allowed(unsigned char *a0);
 static void dfu_wire_bytes_two_bytes(unsigned char *a0, uint16_t a1);
 static void dfu_device_c_idle_mode_in(unsigned char *a0, unsigned char *a1, unsigned char *a2);
@@ -685,102 +677,19 @@ common_ret:
 
 /* dfu_asks::next_piece::numbered_piece */
 static uint8_t dfu_asks_next_piece_numbered_piece(unsigned char *a0, uint64_t a1, unsigned char *a2) {
-    _Alignas(8) unsigned char r17[40];
     _Alignas(8) unsigned char r6[24];
-    _Alignas(4) unsigned char r1[16];
-    uint32_t r20_0_0_copyload, r49;
-    uint64_t r17_2, r19, r44, r56, r23;
-    unsigned char *r18, *r17_3;
-    uint8_t r14_0_0_copyload;
+    uint32_t v0, v1, r20_0_0_copyload, r31, spec_select, r25_2737_0, r25_35_0;
+    uint16_t v2;
+    uint8_t r18_0_0_copyload, r25_21_0;
+    uint64_t r1, r26, r1_4, r1_5, r17, r19, r25_15_0, r56, r23;
+    unsigned char *r18, *r17_2;
     uint8_t r9_0_off0, r21_0_shrunk;
     uint8_t r2 = *a0;
-    store32(r1, (uint32_t)r2);
-    uint32_t v0 = load32(a0 + 4);
-    store32(r1 + 4, v0);
-    uint32_t v1 = load32(a0 + 8);
-    store32(r1 + 8, v1);
-    uint16_t v2 = load16(a0 + 12);
-    store16(r1 + 12, v2);
-    uint16_t v3 = load16(a0 + 14);
-    store16(r1 + 14, v3);
-    uint8_t r18_0_0_copyload = *a2;
+    v0 = load32(a0 + 4);
+    v1 = load32(a0 + 8);
+    v2 = load16(a0 + 12);
+    r18_0_0_copyload = *a2;
     r20_0_0_copyload = load32(a2 + 4);
-    dfu_slots_sequence_Sequence_operation(r17, r1, r18_0_0_copyload, r20_0_0_copyload, a1);
-    uint8_t r31 = *r17;
-    if (r31 == 0) {
-        r21_0_shrunk = 0;
-        goto join_4;
-    }
-    uint8_t r34 = r17[8];
-    if (r34 != 0) goto arm_6;
-    r17_2 = (uint64_t)r20_0_0_copyload;
-    r18 = a2 + 48;
-    r19 = load64(r18);
-    if (r19 >= r17_2) goto join_3;
-    uint64_t r37 = load64(r17 + 16);
-    a2[72] = 1;
-    memset(a2 + 73, 0, 7);
-    store64(a2 + 80, r37 + r19);
-    store64(a2 + 88, r17_2 - r19);
-    r21_0_shrunk = 1;
-    goto join_4;
-join_3:
-    store64(r18, r19 - r17_2);
-    r21_0_shrunk = 0;
-    goto join_4;
-arm_6:
-    r44 = load64(r17 + 16);
-    r14_0_0_copyload = r17[24];
-    r49 = load32(r17 + 28);
-    uint32_t r52 = load32(r17 + 32);
-    r56 = (uint64_t)r52;
-    r17_3 = a2 + 48;
-    uint64_t r18_2 = load64(r17_3);
-    dfu_asks_located_locate(r6, r20_0_0_copyload, r44, r56, r18_2);
-    uint8_t r21 = *r6;
-    r23 = load64(r6 + 8);
-    switch (r21) {
-    case 0: goto arm_1;
-    case 1: goto arm_2;
-    case 2: goto arm_3;
-    default: never();
-    }
-arm_1:;
-    uint64_t r25 = load64(r6 + 16);
-    a2[72] = 1;
-    memset(a2 + 73, 0, 7);
-    store64(a2 + 80, r23);
-    store64(a2 + 88, r25);
-    r9_0_off0 = 1;
-    goto dfu_asks_next_piece_write_piece_exit;
-arm_2:
-    store64(a2 + 72, 0);
-    store64(a2 + 80, r23 + r44);
-    store64(a2 + 88, umin64(r56 - r23, 256));
-    a2[96] = r14_0_0_copyload;
-    store64(a2 + 104, r23 + (uint64_t)r49);
-    r9_0_off0 = 1;
-    goto dfu_asks_next_piece_write_piece_exit;
-arm_3:
-    store64(r17_3, r23);
-    r9_0_off0 = 0;
-    goto dfu_asks_next_piece_write_piece_exit;
-dfu_asks_next_piece_write_piece_exit:
-    r21_0_shrunk = r9_0_off0;
-join_4:
-    return r21_0_shrunk;
-}
-
-/* dfu_slots::sequence::Sequence::operation */
-static void dfu_slots_sequence_Sequence_operation(unsigned char *a0, unsigned char *a1, uint8_t a2, uint32_t a3, uint64_t a4) {
-    uint32_t r1_3_4_copyload, r1_8_8_copyload, r31, spec_select, r25_2738_0, r25_35_0;
-    uint16_t r1_12_12_copyload;
-    uint64_t r1, r26, r1_4, r1_5, r25_0_0_0, r25_9_0_0, r25_15_0;
-    uint8_t r25_21_0;
-    uint8_t r2 = *a1;
-    r1_3_4_copyload = load32(a1 + 4);
-    r1_8_8_copyload = load32(a1 + 8);
-    r1_12_12_copyload = load16(a1 + 12);
     switch (r2) {
     case 0: goto arm_1;
     case 1: goto arm_2;
@@ -789,122 +698,89 @@ static void dfu_slots_sequence_Sequence_operation(unsigned char *a0, unsigned ch
     default: never();
     }
 arm_1:
-    if (a4 != 0) {
-        r25_0_0_0 = 0;
-        r25_9_0_0 = 0;
-        r25_15_0 = 0;
-        r25_21_0 = 0;
-        r25_2738_0 = 0;
-        r25_35_0 = 0;
-        goto join_6;
+    if (a1 != 0) {
+        r21_0_shrunk = 0;
+        goto join_4;
     }
-    r1 = (uint64_t)r1_3_4_copyload;
-    if (a3 != 0) {
-        r25_0_0_0 = 1;
-        r25_9_0_0 = 0;
-        r25_15_0 = r1;
-        r25_21_0 = 0;
-        r25_2738_0 = 0;
-        r25_35_0 = 0;
-        goto join_6;
-    }
-    switch (a2) {
+    r1 = (uint64_t)v0;
+    if (r20_0_0_copyload != 0) goto arm_5;
+    switch (r18_0_0_copyload) {
     case 0:
-        r25_0_0_0 = 1;
-        r25_9_0_0 = 1;
         r25_15_0 = r1;
         r25_21_0 = 4;
-        r25_2738_0 = 0;
+        r25_2737_0 = 0;
         r25_35_0 = 16;
-        goto join_6;
+        goto arm_6;
     case 1:
-        r25_0_0_0 = 1;
-        r25_9_0_0 = 1;
         r25_15_0 = r1;
         r25_21_0 = 4;
-        r25_2738_0 = 0;
+        r25_2737_0 = 0;
         r25_35_0 = 16;
-        goto join_6;
+        goto arm_6;
     case 2: goto arm_3_2;
     case 3: goto arm_4_2;
     default: never();
     }
 arm_3_2:
-    r25_0_0_0 = 1;
-    r25_9_0_0 = 1;
     r25_15_0 = r1;
     r25_21_0 = 4;
-    r25_2738_0 = 0;
+    r25_2737_0 = 0;
     r25_35_0 = 64;
-    goto join_6;
+    goto arm_6;
 arm_4_2:
-    r25_0_0_0 = 1;
-    r25_9_0_0 = 1;
     r25_15_0 = r1;
     r25_21_0 = 4;
-    r25_2738_0 = 0;
+    r25_2737_0 = 0;
     r25_35_0 = 256;
-    goto join_6;
+    goto arm_6;
 arm_2:;
-    uint16_t r1_15_14_copyload = load16(a1 + 14);
-    uint64_t v0 = (uint64_t)a2;
-    uint32_t switch_load = load32(PLACE(switch_table_dfu_core_would_stall) + 4 * (size_t)v0);
-    uint32_t r1_2 = (uint32_t)r1_12_12_copyload;
-    r26 = ((uint64_t)usub_sat32(r1_8_8_copyload, r1_2) + (uint64_t)r1_3_4_copyload) + ((uint64_t)umax32(a3, switch_load) << 1);
-    uint32_t switch_load_2 = load32(PLACE(switch_table_dfu_slots_layout_fill_size) + 4 * (size_t)v0);
-    r31 = ((uint32_t)r1_15_14_copyload + r1_2) & ((uint32_t)0 - switch_load_2);
-    spec_select = (uint32_t)((r1_12_12_copyload == 0) ? 0 : umin32(r31, switch_load_2));
-    switch (a4) {
+    uint16_t v3 = load16(a0 + 14);
+    uint64_t v4 = (uint64_t)r18_0_0_copyload;
+    uint32_t switch_load = load32(PLACE(switch_table_dfu_core_would_stall) + 4 * (size_t)v4);
+    uint32_t r1_2 = (uint32_t)v2;
+    r26 = ((uint64_t)usub_sat32(v1, r1_2) + (uint64_t)v0) + ((uint64_t)umax32(r20_0_0_copyload, switch_load) << 1);
+    uint32_t switch_load_2 = load32(PLACE(switch_table_dfu_slots_layout_fill_size) + 4 * (size_t)v4);
+    r31 = ((uint32_t)v3 + r1_2) & ((uint32_t)0 - switch_load_2);
+    spec_select = (uint32_t)((v2 == 0) ? 0 : umin32(r31, switch_load_2));
+    switch (a1) {
     case 0:
-        r25_0_0_0 = 1;
-        r25_9_0_0 = 1;
         r25_15_0 = r26;
         r25_21_0 = 0;
-        r25_2738_0 = 0;
+        r25_2737_0 = 0;
         r25_35_0 = spec_select;
-        goto join_6;
+        goto arm_6;
     case 1: goto arm_7;
-    default: goto default_8;
+    default:
+        r21_0_shrunk = 0;
+        goto join_4;
     }
 arm_7:
-    r25_0_0_0 = 1;
-    r25_9_0_0 = 1;
     r25_15_0 = r26 + (uint64_t)spec_select;
     r25_21_0 = 0;
-    r25_2738_0 = spec_select;
+    r25_2737_0 = spec_select;
     r25_35_0 = r31 - spec_select;
-    goto join_6;
-default_8:
-    r25_0_0_0 = 0;
-    r25_9_0_0 = 0;
-    r25_15_0 = 0;
-    r25_21_0 = 0;
-    r25_2738_0 = 0;
-    r25_35_0 = 0;
-    goto join_6;
+    goto arm_6;
 arm_3:
-    switch (a4) {
+    switch (a1) {
     case 0: goto arm_1_2;
     case 1: goto arm_2_2;
     case 2: goto arm_3_3;
     default: never();
     }
 arm_1_2:;
-    uint64_t v1 = (uint64_t)a2;
-    uint32_t switch_load_3 = load32(PLACE(switch_table_dfu_core_would_stall) + 4 * (size_t)v1);
-    uint32_t r1_3 = (uint32_t)r1_12_12_copyload;
-    uint32_t switch_load_4 = load32(PLACE(switch_table_dfu_slots_layout_fill_size) + 4 * (size_t)v1);
-    uint32_t v2 = switch_load_4 + 0xffffffffU;
-    r25_0_0_0 = 1;
-    r25_9_0_0 = 1;
-    r25_15_0 = ((uint64_t)usub_sat32(r1_8_8_copyload, r1_3) + (uint64_t)r1_3_4_copyload) + ((uint64_t)umax32(a3, switch_load_3) << 1);
+    uint64_t v5 = (uint64_t)r18_0_0_copyload;
+    uint32_t switch_load_3 = load32(PLACE(switch_table_dfu_core_would_stall) + 4 * (size_t)v5);
+    uint32_t r1_3 = (uint32_t)v2;
+    uint32_t switch_load_4 = load32(PLACE(switch_table_dfu_slots_layout_fill_size) + 4 * (size_t)v5);
+    uint32_t v6 = switch_load_4 + 0xffffffffU;
+    r25_15_0 = ((uint64_t)usub_sat32(v1, r1_3) + (uint64_t)v0) + ((uint64_t)umax32(r20_0_0_copyload, switch_load_3) << 1);
     r25_21_0 = 1;
-    r25_2738_0 = 0;
-    r25_35_0 = ((switch_load_4 - (v2 & r1_3)) & v2) + r1_3;
-    goto join_6;
+    r25_2737_0 = 0;
+    r25_35_0 = ((switch_load_4 - (v6 & r1_3)) & v6) + r1_3;
+    goto arm_6;
 arm_2_2:
-    r1_4 = (uint64_t)r1_3_4_copyload;
-    switch (a2) {
+    r1_4 = (uint64_t)v0;
+    switch (r18_0_0_copyload) {
     case 0: goto dfu_slots_layout_gate_room_exit;
     case 1: goto dfu_slots_layout_gate_room_exit;
     case 2: goto dfu_slots_layout_gate_room_exit_thread;
@@ -912,99 +788,123 @@ arm_2_2:
     default: never();
     }
 dfu_slots_layout_gate_room_exit_thread:
-    r25_0_0_0 = 1;
-    r25_9_0_0 = 1;
-    r25_15_0 = r1_4 + (uint64_t)umax32(a3, 64);
+    r25_15_0 = (uint64_t)umax32(r20_0_0_copyload, 64) + r1_4;
     r25_21_0 = 2;
-    r25_2738_0 = 0;
+    r25_2737_0 = 0;
     r25_35_0 = 64;
-    goto join_6;
+    goto arm_6;
 dfu_slots_layout_gate_room_exit_thread33:
-    r25_0_0_0 = 1;
-    r25_9_0_0 = 1;
-    r25_15_0 = r1_4 + (uint64_t)umax32(a3, 256);
+    r25_15_0 = (uint64_t)umax32(r20_0_0_copyload, 256) + r1_4;
     r25_21_0 = 2;
-    r25_2738_0 = 0;
+    r25_2737_0 = 0;
     r25_35_0 = 256;
-    goto join_6;
+    goto arm_6;
 dfu_slots_layout_gate_room_exit:
-    r25_0_0_0 = 1;
-    r25_9_0_0 = 1;
-    r25_15_0 = r1_4 + (uint64_t)umax32(a3, 16);
+    r25_15_0 = (uint64_t)umax32(r20_0_0_copyload, 16) + r1_4;
     r25_21_0 = 2;
-    r25_2738_0 = 0;
+    r25_2737_0 = 0;
     r25_35_0 = 16;
-    goto join_6;
+    goto arm_6;
 arm_3_3:
-    r1_5 = (uint64_t)r1_3_4_copyload;
-    switch (a2) {
+    r1_5 = (uint64_t)v0;
+    switch (r18_0_0_copyload) {
     case 0:
-        r25_0_0_0 = 1;
-        r25_9_0_0 = 1;
         r25_15_0 = r1_5;
         r25_21_0 = 3;
-        r25_2738_0 = 0;
+        r25_2737_0 = 0;
         r25_35_0 = 16;
-        goto join_6;
+        goto arm_6;
     case 1:
-        r25_0_0_0 = 1;
-        r25_9_0_0 = 1;
         r25_15_0 = r1_5;
         r25_21_0 = 3;
-        r25_2738_0 = 0;
+        r25_2737_0 = 0;
         r25_35_0 = 16;
-        goto join_6;
+        goto arm_6;
     case 2: goto arm_3_4;
     case 3: goto arm_4_3;
     default: never();
     }
 arm_3_4:
-    r25_0_0_0 = 1;
-    r25_9_0_0 = 1;
     r25_15_0 = r1_5;
     r25_21_0 = 3;
-    r25_2738_0 = 0;
+    r25_2737_0 = 0;
     r25_35_0 = 64;
-    goto join_6;
+    goto arm_6;
 arm_4_3:
-    r25_0_0_0 = 1;
-    r25_9_0_0 = 1;
     r25_15_0 = r1_5;
     r25_21_0 = 3;
-    r25_2738_0 = 0;
+    r25_2737_0 = 0;
     r25_35_0 = 256;
-    goto join_6;
+    goto arm_6;
 arm_4:
-    if (a4 != 0) {
-        r25_0_0_0 = 0;
-        r25_9_0_0 = 0;
-        r25_15_0 = 0;
-        r25_21_0 = 0;
-        r25_2738_0 = 0;
-        r25_35_0 = 0;
-        goto join_6;
+    if (a1 != 0) {
+        r21_0_shrunk = 0;
+        goto join_4;
     }
-    uint64_t v3 = (uint64_t)a2;
-    uint32_t switch_load_5 = load32(PLACE(switch_table_dfu_slots_layout_fill_size) + 4 * (size_t)v3);
-    uint32_t v4 = switch_load_5 + 0xffffffffU;
-    uint64_t r41 = (uint64_t)((switch_load_5 - (v4 & r1_8_8_copyload)) & v4) + (uint64_t)r1_8_8_copyload;
-    uint64_t r1_6 = (uint64_t)r1_3_4_copyload;
-    uint64_t a1_a0 = umin64(r41, r1_6);
-    uint32_t switch_load52 = load32(PLACE(switch_table_dfu_core_would_stall) + 4 * (size_t)v3);
-    r25_0_0_0 = 1;
-    r25_9_0_0 = 1;
-    r25_15_0 = ((uint64_t)umax32(a3, switch_load52) << 1) + r1_6;
+    uint64_t v7 = (uint64_t)r18_0_0_copyload;
+    uint32_t switch_load_5 = load32(PLACE(switch_table_dfu_slots_layout_fill_size) + 4 * (size_t)v7);
+    uint32_t v8 = switch_load_5 + 0xffffffffU;
+    uint64_t r42 = (uint64_t)((switch_load_5 - (v8 & v1)) & v8) + (uint64_t)v1;
+    uint64_t r1_6 = (uint64_t)v0;
+    uint64_t a1_a0 = umin64(r42, r1_6);
+    uint32_t switch_load37 = load32(PLACE(switch_table_dfu_core_would_stall) + 4 * (size_t)v7);
+    r25_15_0 = ((uint64_t)umax32(r20_0_0_copyload, switch_load37) << 1) + r1_6;
     r25_21_0 = 0;
-    r25_2738_0 = (uint32_t)a1_a0;
-    r25_35_0 = (uint32_t)umin64(r41 - a1_a0, 4096);
-join_6:
-    store64(a0, r25_0_0_0);
-    store64(a0 + 8, r25_9_0_0);
-    store64(a0 + 16, r25_15_0);
-    a0[24] = r25_21_0;
-    store32(a0 + 28, r25_2738_0);
-    store32(a0 + 32, r25_35_0);
-    return;
+    r25_2737_0 = (uint32_t)a1_a0;
+    r25_35_0 = (uint32_t)umin64(r42 - a1_a0, 4096);
+    goto arm_6;
+arm_5:
+    r17 = (uint64_t)r20_0_0_copyload;
+    r18 = a2 + 48;
+    r19 = load64(r18);
+    if (r19 >= r17) goto join_3;
+    a2[72] = 1;
+    memset(a2 + 73, 0, 7);
+    store64(a2 + 80, r19 + r1);
+    store64(a2 + 88, r17 - r19);
+    r21_0_shrunk = 1;
+    goto join_4;
+join_3:
+    store64(r18, r19 - r17);
+    r21_0_shrunk = 0;
+    goto join_4;
+arm_6:
+    r56 = (uint64_t)r25_35_0;
+    r17_2 = a2 + 48;
+    uint64_t r18_2 = load64(r17_2);
+    dfu_asks_located_locate(r6, r20_0_0_copyload, r25_15_0, r56, r18_2);
+    uint8_t r21 = *r6;
+    r23 = load64(r6 + 8);
+    switch (r21) {
+    case 0: goto arm_1_3;
+    case 1: goto arm_2_3;
+    case 2: goto arm_3_5;
+    default: never();
+    }
+arm_1_3:;
+    uint64_t r25 = load64(r6 + 16);
+    a2[72] = 1;
+    memset(a2 + 73, 0, 7);
+    store64(a2 + 80, r23);
+    store64(a2 + 88, r25);
+    r9_0_off0 = 1;
+    goto dfu_asks_next_piece_write_piece_exit;
+arm_2_3:
+    store64(a2 + 72, 0);
+    store64(a2 + 80, r23 + r25_15_0);
+    store64(a2 + 88, umin64(r56 - r23, 256));
+    a2[96] = r25_21_0;
+    store64(a2 + 104, r23 + (uint64_t)r25_2737_0);
+    r9_0_off0 = 1;
+    goto dfu_asks_next_piece_write_piece_exit;
+arm_3_5:
+    store64(r17_2, r23);
+    r9_0_off0 = 0;
+    goto dfu_asks_next_piece_write_piece_exit;
+dfu_asks_next_piece_write_piece_exit:
+    r21_0_shrunk = r9_0_off0;
+join_4:
+    return r21_0_shrunk;
 }
 
 /* dfu_asks::located::locate */
@@ -1211,88 +1111,6 @@ static uint32_t dfu_slots_read_capacity_of(unsigned char *a0) {
     return ((uint32_t)r3 >> 1) - (umax32(r1_0_0_copyload, switch_load) << 1);
 }
 
-/* dfu_slots::gates::close_gate::<#c4c4734aca759fff> */
-static uint8_t dfu_slots_gates_close_gate(unsigned char *a0, uint32_t a1) {
-    _Alignas(4) unsigned char r2[16];
-    memset(r2, 0, 16);
-    store32(r2 + 4, a1);
-    uint8_t r25 = dfu_slots_carry_carry_out(a0, r2);
-    return r25;
-}
-
-/* dfu_slots::carry::carry_out::<#c4c4734aca759fff> */
-static uint8_t dfu_slots_carry_carry_out(unsigned char *a0, unsigned char *a1) {
-    _Alignas(8) unsigned char r24[40];
-    _Alignas(4) unsigned char r1[16];
-    uint8_t r0_0_0_copyload, r0_0_0;
-    uint32_t r1_0_0_copyload;
-    unsigned char *r41, *r51;
-    uint64_t r18_0;
-    uint8_t r2 = *a1;
-    store32(r1, (uint32_t)r2);
-    uint32_t v0 = load32(a1 + 4);
-    store32(r1 + 4, v0);
-    uint32_t v1 = load32(a1 + 8);
-    store32(r1 + 8, v1);
-    uint16_t v2 = load16(a1 + 12);
-    store16(r1 + 12, v2);
-    uint16_t v3 = load16(a1 + 14);
-    store16(r1 + 14, v3);
-    r0_0_0_copyload = a0[16];
-    r1_0_0_copyload = load32(a0 + 20);
-    r41 = r24 + 8;
-    r51 = r24 + 32;
-    r18_0 = 0;
-loop_2:
-    if (r18_0 == 3) {
-        r0_0_0 = 0;
-        goto return_10;
-    }
-    dfu_slots_sequence_Sequence_operation(r24, r1, r0_0_0_copyload, r1_0_0_copyload, r18_0);
-    uint8_t r39 = *r24;
-    if (r39 == 0) {
-        r0_0_0 = 0;
-        goto return_10;
-    }
-    uint8_t r42 = *r41;
-    uint32_t v6 = load32(r51);
-    if ((r42 != 0) ? (v6 == 0) : 0) {
-        r18_0 = r18_0 + 1;
-        goto loop_2;
-    }
-    r0_0_0 = 1;
-return_10:
-    return r0_0_0;
-}
-
-/* core::slice::edits::slice+T::copy_from_slice::<i8,20'core::clone::U8Clone{}> */
-static void core_slice_edits_slice_T_copy_from_slice_i8_core_clone_U8Clone(unsigned char *a0, unsigned char *a2, uint64_t a3) {
-    uint64_t r0_0;
-    if (((uint64_t)(uintptr_t)a0 - (uint64_t)(uintptr_t)a2) < a3) {
-        r0_0 = 0;
-        goto loop_4;
-    }
-    memmove(a0, a2, (size_t)a3);
-    return;
-loop_4:
-    if (r0_0 == a3) return;
-    uint8_t r26 = a2[(size_t)r0_0];
-    a0[(size_t)r0_0] = r26;
-    r0_0 = r0_0 + 1;
-    goto loop_4;
-}
-
-/* dfu_slots::writes::write_filled::<#c4c4734aca759fff> */
-static uint8_t dfu_slots_writes_write_filled(unsigned char *a0, unsigned char *a2, uint64_t a3) {
-    _Alignas(1) unsigned char r4[4096];
-    uint8_t r0_0_0_copyload = a0[16];
-    uint32_t switch_load = load32(PLACE(switch_table_dfu_slots_layout_fill_size) + 4 * (size_t)r0_0_0_copyload);
-    uint32_t v1 = switch_load + 0xffffffffU;
-    memset(r4, 0, 4096);
-    core_slice_edits_slice_T_copy_from_slice_i8_core_clone_U8Clone(r4, a2, a3);
-    return (a3 | (uint64_t)((switch_load - (v1 & (uint32_t)a3)) & v1)) != 0;
-}
-
 /* dfu_suffix::crc::Crc::update_small */
 static void dfu_suffix_crc_Crc_update_small(unsigned char *a0, unsigned char *a1, uint64_t a2) {
     uint64_t r4_0;
@@ -1304,9 +1122,9 @@ loop_3:
     if (r4_0 == a2) goto dfu_suffix_small_after_bytes_exit;
     uint8_t r23 = a1[(size_t)r4_0];
     uint32_t r6 = r3_0 ^ (uint32_t)r23;
-    uint32_t r20 = load32(PLACE(static_3) + (size_t)((r6 << 2) & 60));
+    uint32_t r20 = load32(PLACE(static_2) + (size_t)((r6 << 2) & 60));
     uint32_t r23_2 = (r6 >> 4) ^ r20;
-    uint32_t r20_2 = load32(PLACE(static_3) + (size_t)((r23_2 << 2) & 60));
+    uint32_t r20_2 = load32(PLACE(static_2) + (size_t)((r23_2 << 2) & 60));
     r4_0 = r4_0 + 1;
     r3_0 = (r23_2 >> 4) ^ r20_2;
     goto loop_3;
@@ -1315,16 +1133,153 @@ dfu_suffix_small_after_bytes_exit:
     return;
 }
 
-/* dfu_slots::places::count_slots::<#c4c4734aca759fff> */
-static struct i8_i8 dfu_slots_places_count_slots(unsigned char *a0) {
-    uint8_t r5 = dfu_slots_read_counts(a0, 0);
-    uint64_t r3 = load64(a0 + 8);
-    uint8_t r11 = dfu_slots_read_counts(a0, (uint32_t)r3 >> 1);
-    struct i8_i8 r20_half = (struct i8_i8){ 0, 0 };
-    r20_half.a = r5;
-    struct i8_i8 r20 = r20_half;
-    r20.b = r11;
-    return r20;
+/* dfu_asks::cut::stands */
+static uint8_t dfu_asks_cut_stands(unsigned char *a0, uint64_t a1, unsigned char *a2) {
+    uint64_t r3_2_0_copyload, r3_4_0_copyload, r3_0, r3_0_lcssa;
+    uint8_t common_ret_op;
+    unsigned char *r41;
+    r3_2_0_copyload = load64(a2 + 80);
+    r3_4_0_copyload = load64(a2 + 88);
+    if (a1 >= (r3_4_0_copyload + r3_2_0_copyload)) goto join_3;
+    common_ret_op = 0;
+common_ret:
+    return common_ret_op;
+join_3:
+    r41 = a0 + (size_t)r3_2_0_copyload;
+    r3_0 = 0;
+loop_2:
+    if (r3_0 == r3_4_0_copyload) {
+        r3_0_lcssa = r3_4_0_copyload;
+        goto dfu_asks_cut_are_those_exit;
+    }
+    uint8_t r21 = r41[(size_t)r3_0];
+    uint8_t r23 = dfu_asks_cut_byte_of(a2, r3_0);
+    if (r21 == r23) {
+        r3_0 = r3_0 + 1;
+        goto loop_2;
+    }
+    r3_0_lcssa = r3_0;
+dfu_asks_cut_are_those_exit:
+    common_ret_op = r3_0_lcssa >= r3_4_0_copyload;
+    goto common_ret;
+}
+
+/* dfu_asks::noted::Noted::find */
+static void dfu_asks_noted_Noted_find(unsigned char *a0, unsigned char *a1, uint64_t a2, uint8_t a3, uint32_t a4) {
+    _Alignas(8) unsigned char r5[24];
+    _Alignas(4) unsigned char r14_6[16];
+    _Alignas(4) unsigned char r12[12];
+    uint8_t r14_0_0, r14_4_0;
+    memset(r14_6, 0, 16);
+    if (a2 >= 0x100000000ULL) goto arm_2;
+    store64(r5, (uint64_t)(uintptr_t)a1);
+    store64(r5 + 8, a2);
+    r5[16] = a3;
+    store32(r5 + 20, a4);
+    dfu_slots_open_check(r12, r5);
+    uint8_t r30 = *r12;
+    if (r30 == 0) goto arm_5;
+    r14_0_0 = 0;
+    r14_4_0 = 0;
+    goto join_7;
+arm_2:
+    memset(a0, 0, 18);
+    return;
+arm_5:;
+    uint32_t r8_0_0_copyload = load32(r12 + 4);
+    dfu_slots_read_header_of(r14_6, r5, r8_0_0_copyload);
+    r14_0_0 = 1;
+    r14_4_0 = r8_0_0_copyload != 0;
+join_7:
+    *a0 = r14_0_0;
+    a0[1] = r14_4_0;
+    memcpy(a0 + 2, r14_6, 16);
+    return;
+}
+
+/* dfu_slots::open::check::<#c4c4734aca759fff> */
+static void dfu_slots_open_check(unsigned char *a0, unsigned char *a1) {
+    _Alignas(1) unsigned char r3_3[16];
+    uint8_t r5, r11;
+    unsigned char *r2;
+    uint32_t r93_2, r93_3, r1_9_0_copyload, v3, v4;
+    uint8_t r1_2_0_copyload, v51, v5;
+    uint8_t r12 = dfu_slots_open_is_sized(a1);
+    if (r12) goto join_3;
+    goto then_1;
+then_1:
+    *a0 = 1;
+    a0[1] = 0;
+    store32(a0 + 4, 0);
+    store32(a0 + 8, 0);
+    return;
+join_3:
+    r5 = dfu_slots_read_counts(a1, 0);
+    r2 = a1 + 8;
+    uint64_t r3 = load64(r2);
+    r11 = dfu_slots_read_counts(a1, (uint32_t)r3 >> 1);
+    if (r5 | r11) goto join_6;
+    *a0 = 1;
+    a0[1] = 1;
+    store32(a0 + 4, 0);
+    store32(a0 + 8, 0);
+    return;
+join_6:;
+    uint64_t r3_2 = load64(r2);
+    uint32_t r93 = (uint32_t)r3_2 >> 1;
+    uint8_t r16 = dfu_slots_places_is_newest(a1, 0, r93, r5, r11);
+    r93_2 = (uint32_t)(r16 ? 0 : r93);
+    r93_3 = (uint32_t)(r16 ? r93 : 0);
+    if (r93_2 != 0) goto dfu_slots_places_has_newest_exit;
+    uint8_t r24 = dfu_slots_places_is_newest(a1, 0, r93_3, r5, r11);
+    if (r24) goto join_9;
+    goto then_7;
+dfu_slots_places_has_newest_exit:;
+    uint8_t r33 = dfu_slots_places_is_newest(a1, r93_2, r93_3, r11, r5);
+    if (r33) goto join_9;
+then_7:
+    *a0 = 1;
+    a0[1] = 2;
+    store32(a0 + 4, 0);
+    store32(a0 + 8, 0);
+    return;
+join_9:
+    dfu_slots_read_header_of(r3_3, a1, r93_2);
+    r1_2_0_copyload = r3_3[1];
+    r1_9_0_copyload = load32u(r3_3 + 12);
+    if (r1_2_0_copyload != 2) goto join_3_2;
+    v51 = 0;
+    v3 = r93_3;
+    v4 = r93_2;
+    v5 = 0;
+    goto v2;
+join_3_2:;
+    uint32_t r1_6_0_copyload = load32u(r3_3 + 4);
+    uint32_t r1_8_0_copyload = load32u(r3_3 + 8);
+    uint8_t r1_5_0_copyload = r3_3[3];
+    uint8_t r1_4_0_copyload = r3_3[2];
+    uint32_t r26 = dfu_slots_read_capacity_of(a1);
+    if (((((r1_2_0_copyload == 1) & (r1_6_0_copyload <= r26)) ? (r1_4_0_copyload == 0) : 0) ? (r1_5_0_copyload == 0) : 0) ? (r1_8_0_copyload == 0) : 0) goto dfu_slots_read_header_len_exit;
+    goto v1;
+dfu_slots_read_header_len_exit:
+    if (r1_9_0_copyload == 0) {
+        v51 = 0;
+        v3 = r93_3;
+        v4 = r93_2;
+        v5 = 0;
+        goto v2;
+    }
+v1:
+    v51 = 1;
+    v3 = 0;
+    v4 = 0;
+    v5 = 3;
+v2:
+    *a0 = v51;
+    a0[1] = v5;
+    store32(a0 + 4, v4);
+    store32(a0 + 8, v3);
+    return;
 }
 
 /* dfu_slots::read::counts::<#c4c4734aca759fff> */
@@ -1395,17 +1350,21 @@ static uint8_t dfu_slots_read_byte_at(unsigned char *a0, uint32_t a1) {
     return r15;
 }
 
-/* dfu_slots::read::header_of::<#c4c4734aca759fff> */
-static void dfu_slots_read_header_of(unsigned char *a0, unsigned char *a1, uint32_t a2) {
-    _Alignas(1) unsigned char r1[16];
-    memset(r1, 0, 16);
-    uint8_t r0_0_0_copyload = a1[16];
-    uint32_t r1_0_0_copyload = load32(a1 + 20);
-    uint32_t switch_load = load32(PLACE(switch_table_dfu_core_would_stall) + 4 * (size_t)r0_0_0_copyload);
-    uint64_t r5_0_0_copyload = load64(a1);
-    core_slice_edits_slice_T_copy_from_slice_i8_core_clone_U8Clone(r1, (unsigned char *)(uintptr_t)r5_0_0_copyload + (size_t)(umax32(r1_0_0_copyload, switch_load) + a2), 16);
-    memcpy(a0, r1, 16);
+/* core::slice::edits::slice+T::copy_from_slice::<i8,20'core::clone::U8Clone{}> */
+static void core_slice_edits_slice_T_copy_from_slice_i8_core_clone_U8Clone(unsigned char *a0, unsigned char *a2, uint64_t a3) {
+    uint64_t r0_0;
+    if (((uint64_t)(uintptr_t)a0 - (uint64_t)(uintptr_t)a2) < a3) {
+        r0_0 = 0;
+        goto loop_4;
+    }
+    memmove(a0, a2, (size_t)a3);
     return;
+loop_4:
+    if (r0_0 == a3) return;
+    uint8_t r26 = a2[(size_t)r0_0];
+    a0[(size_t)r0_0] = r26;
+    r0_0 = r0_0 + 1;
+    goto loop_4;
 }
 
 /* dfu_slots::read::read_data::<#c4c4734aca759fff> */
@@ -1416,18 +1375,6 @@ static void dfu_slots_read_read_data(unsigned char *a0, uint32_t a1, uint32_t a2
     uint64_t r5_0_0_copyload = load64(a0);
     core_slice_edits_slice_T_copy_from_slice_i8_core_clone_U8Clone(a3, (unsigned char *)(uintptr_t)r5_0_0_copyload + (size_t)((a2 + a1) + (umax32(r1_0_0_copyload, switch_load) << 1)), a4);
     return;
-}
-
-/* dfu_slots::places::find_places::<#c4c4734aca759fff> */
-static struct i32_i32 dfu_slots_places_find_places(unsigned char *a0, uint8_t a1, uint8_t a2) {
-    uint64_t r3 = load64(a0 + 8);
-    uint32_t r93 = (uint32_t)r3 >> 1;
-    uint8_t r16 = dfu_slots_places_is_newest(a0, 0, r93, a1 & 1, a2 & 1);
-    struct i32_i32 r24_half = (struct i32_i32){ 0, 0 };
-    r24_half.a = (uint32_t)(r16 ? 0 : r93);
-    struct i32_i32 r24 = r24_half;
-    r24.b = (uint32_t)(r16 ? r93 : 0);
-    return r24;
 }
 
 /* dfu_slots::places::is_newest::<#c4c4734aca759fff> */
@@ -1453,147 +1400,16 @@ static uint8_t dfu_slots_read_generation(unsigned char *a0, uint32_t a1) {
     return r7;
 }
 
-/* dfu_asks::cut::stands */
-static uint8_t dfu_asks_cut_stands(unsigned char *a0, uint64_t a1, unsigned char *a2) {
-    uint64_t r3_2_0_copyload, r3_4_0_copyload, r3_0, r3_0_lcssa;
-    uint8_t common_ret_op;
-    unsigned char *r41;
-    r3_2_0_copyload = load64(a2 + 80);
-    r3_4_0_copyload = load64(a2 + 88);
-    if (a1 >= (r3_4_0_copyload + r3_2_0_copyload)) goto join_3;
-    common_ret_op = 0;
-common_ret:
-    return common_ret_op;
-join_3:
-    r41 = a0 + (size_t)r3_2_0_copyload;
-    r3_0 = 0;
-loop_2:
-    if (r3_0 == r3_4_0_copyload) {
-        r3_0_lcssa = r3_4_0_copyload;
-        goto dfu_asks_cut_are_those_exit;
-    }
-    uint8_t r21 = r41[(size_t)r3_0];
-    uint8_t r23 = dfu_asks_cut_byte_of(a2, r3_0);
-    if (r21 == r23) {
-        r3_0 = r3_0 + 1;
-        goto loop_2;
-    }
-    r3_0_lcssa = r3_0;
-dfu_asks_cut_are_those_exit:
-    common_ret_op = r3_0_lcssa >= r3_4_0_copyload;
-    goto common_ret;
-}
-
-/* dfu_asks::noted::Noted::find */
-static void dfu_asks_noted_Noted_find(unsigned char *a0, unsigned char *a1, uint64_t a2, uint8_t a3, uint32_t a4) {
-    _Alignas(8) unsigned char r5[24];
-    _Alignas(4) unsigned char r14_6[16];
-    _Alignas(4) unsigned char r12[12];
-    uint8_t r14_0_0, r14_4_0;
-    memset(r14_6, 0, 16);
-    if (a2 >= 0x100000000ULL) goto arm_2;
-    store64(r5, (uint64_t)(uintptr_t)a1);
-    store64(r5 + 8, a2);
-    r5[16] = a3;
-    store32(r5 + 20, a4);
-    dfu_slots_open_check(r12, r5);
-    uint8_t r30 = *r12;
-    if (r30 == 0) goto arm_5;
-    r14_0_0 = 0;
-    r14_4_0 = 0;
-    goto join_7;
-arm_2:
-    memset(a0, 0, 18);
-    return;
-arm_5:;
-    uint32_t r8_0_0_copyload = load32(r12 + 4);
-    dfu_slots_read_header_of(r14_6, r5, r8_0_0_copyload);
-    r14_0_0 = 1;
-    r14_4_0 = r8_0_0_copyload != 0;
-join_7:
-    *a0 = r14_0_0;
-    a0[1] = r14_4_0;
-    memcpy(a0 + 2, r14_6, 16);
-    return;
-}
-
-/* dfu_slots::open::check::<#c4c4734aca759fff> */
-static void dfu_slots_open_check(unsigned char *a0, unsigned char *a1) {
-    _Alignas(1) unsigned char r3[16];
-    uint8_t r26, r27, r1_2_0_copyload, v45, v5;
-    uint32_t r45, r46, r1_9_0_copyload, v3, v4;
-    uint8_t r12 = dfu_slots_open_is_sized(a1);
-    if (r12) goto join_3;
-    goto then_1;
-then_1:
-    *a0 = 1;
-    a0[1] = 0;
-    store32(a0 + 4, 0);
-    store32(a0 + 8, 0);
-    return;
-join_3:;
-    struct i8_i8 r25 = dfu_slots_places_count_slots(a1);
-    r26 = r25.a;
-    r27 = r25.b;
-    if ((r27 | r26) != 0) goto join_6;
-    *a0 = 1;
-    a0[1] = 1;
-    store32(a0 + 4, 0);
-    store32(a0 + 8, 0);
-    return;
-join_6:;
-    struct i32_i32 r44 = dfu_slots_places_find_places(a1, r26, r27);
-    r45 = r44.a;
-    r46 = r44.b;
-    if (r45 != 0) goto dfu_slots_places_has_newest_exit;
-    uint8_t r24 = dfu_slots_places_is_newest(a1, 0, r46, r26 & 1, r27 & 1);
-    if (r24) goto join_9;
-    goto then_7;
-dfu_slots_places_has_newest_exit:;
-    uint8_t r33 = dfu_slots_places_is_newest(a1, r45, r46, r27 & 1, r26 & 1);
-    if (r33) goto join_9;
-then_7:
-    *a0 = 1;
-    a0[1] = 2;
-    store32(a0 + 4, 0);
-    store32(a0 + 8, 0);
-    return;
-join_9:
-    dfu_slots_read_header_of(r3, a1, r45);
-    r1_2_0_copyload = r3[1];
-    r1_9_0_copyload = load32u(r3 + 12);
-    if (r1_2_0_copyload != 2) goto join_3_2;
-    v45 = 0;
-    v3 = r46;
-    v4 = r45;
-    v5 = 0;
-    goto v2;
-join_3_2:;
-    uint32_t r1_6_0_copyload = load32u(r3 + 4);
-    uint32_t r1_8_0_copyload = load32u(r3 + 8);
-    uint8_t r1_5_0_copyload = r3[3];
-    uint8_t r1_4_0_copyload = r3[2];
-    uint32_t r26_2 = dfu_slots_read_capacity_of(a1);
-    if (((((r1_2_0_copyload == 1) & (r1_6_0_copyload <= r26_2)) ? (r1_4_0_copyload == 0) : 0) ? (r1_5_0_copyload == 0) : 0) ? (r1_8_0_copyload == 0) : 0) goto dfu_slots_read_header_len_exit;
-    goto v1;
-dfu_slots_read_header_len_exit:
-    if (r1_9_0_copyload == 0) {
-        v45 = 0;
-        v3 = r46;
-        v4 = r45;
-        v5 = 0;
-        goto v2;
-    }
-v1:
-    v45 = 1;
-    v3 = 0;
-    v4 = 0;
-    v5 = 3;
-v2:
-    *a0 = v45;
-    a0[1] = v5;
-    store32(a0 + 4, v4);
-    store32(a0 + 8, v3);
+/* dfu_slots::read::header_of::<#c4c4734aca759fff> */
+static void dfu_slots_read_header_of(unsigned char *a0, unsigned char *a1, uint32_t a2) {
+    _Alignas(1) unsigned char r1[16];
+    memset(r1, 0, 16);
+    uint8_t r0_0_0_copyload = a1[16];
+    uint32_t r1_0_0_copyload = load32(a1 + 20);
+    uint32_t switch_load = load32(PLACE(switch_table_dfu_core_would_stall) + 4 * (size_t)r0_0_0_copyload);
+    uint64_t r5_0_0_copyload = load64(a1);
+    core_slice_edits_slice_T_copy_from_slice_i8_core_clone_U8Clone(r1, (unsigned char *)(uintptr_t)r5_0_0_copyload + (size_t)(umax32(r1_0_0_copyload, switch_load) + a2), 16);
+    memcpy(a0, r1, 16);
     return;
 }
 
@@ -3708,6 +3524,7 @@ static struct i64_i8 dfu_asks_asking_Asking_look_at(unsigned char *a0, unsigned 
     uint64_t r24 = load64(a0 + 56);
     uint32_t r19_2 = load32(a1 + 20);
     *r5 = r3_0_0_copyload;
+    memset(r5 + 1, 0, 3);
     store32(r5 + 4, r4_0_0_copyload);
     store32(r5 + 8, r17);
     store32(r5 + 12, 0);
@@ -4041,15 +3858,11 @@ int32_t dfu_core_format_start(const struct dfu_config *config, struct dfu_record
     unsigned char *a4 = (unsigned char *)(uintptr_t)image;
     uint64_t a5 = length;
     _Alignas(4) unsigned char r8[40];
-    _Alignas(8) unsigned char r4_2[24];
-    unsigned char *const r3_3 = r4_2;
-    _Alignas(8) unsigned char r5[24];
-    _Alignas(4) unsigned char r3_2[16];
-    unsigned char *const r3 = r3_2;
+    _Alignas(8) unsigned char r7[24];
+    unsigned char *const r3 = r7;
     unsigned char *r4, *r13;
-    uint32_t r5_31_0_copyload, r71, r12_5_0_neg, common_ret_op;
+    uint32_t r5_31_0_copyload, common_ret_op;
     uint8_t r5_2_0_copyload;
-    uint64_t wide_5768;
     r4 = (unsigned char *)((uintptr_t)a2 + (uintptr_t)(uint64_t)((a2 == NULL) ? 4096 : 0));
     r13 = (unsigned char *)((uintptr_t)a4 + (uintptr_t)(uint64_t)((a4 == NULL) ? 4096 : 0));
     store64a4(r8 + 32, 0);
@@ -4065,56 +3878,29 @@ int32_t dfu_core_format_start(const struct dfu_config *config, struct dfu_record
     }
     r5_31_0_copyload = load32(r8 + 36);
     r5_2_0_copyload = r8[32];
-    wide_5768 = (uint64_t)(uintptr_t)r4;
-    store64(r4_2, wide_5768);
-    store64(r4_2 + 8, a3);
-    r4_2[16] = r5_2_0_copyload;
-    memset(r4_2 + 17, 0, 3);
-    store32(r4_2 + 20, r5_31_0_copyload);
-    uint8_t r33 = dfu_slots_open_is_sized(r4_2);
-    if (!r33) {
-        r12_5_0_neg = 0xfffffffaU;
-        goto arm_9;
-    }
-    r71 = (uint32_t)a3 >> 1;
+    store64(r7, (uint64_t)(uintptr_t)r4);
+    store64(r7 + 8, a3);
+    r7[16] = r5_2_0_copyload;
+    memset(r7 + 17, 0, 3);
+    store32(r7 + 20, r5_31_0_copyload);
+    uint8_t r28 = dfu_slots_open_is_sized(r7);
+    if (r28) goto dfu_asks_format_fault_of_exit;
+    common_ret_op = 0xfffffffaU;
+    goto dfu_device_c_format_dfu_core_format_start_exit;
+dfu_asks_format_fault_of_exit:;
     uint32_t switch_load = load32(PLACE(switch_table_dfu_core_would_stall) + 4 * (size_t)r5_2_0_copyload);
-    if (a5 > (uint64_t)(r71 - (umax32(r5_31_0_copyload, switch_load) << 1))) {
-        r12_5_0_neg = 0xfffffff9U;
-        goto arm_9;
+    if (a5 > (uint64_t)(((uint32_t)a3 >> 1) - (umax32(r5_31_0_copyload, switch_load) << 1))) {
+        common_ret_op = 0xfffffff9U;
+        goto dfu_device_c_format_dfu_core_format_start_exit;
     }
-    store64(r5, wide_5768);
-    store64(r5 + 8, a3);
-    r5[16] = r5_2_0_copyload;
-    memset(r5 + 17, 0, 3);
-    store32(r5 + 20, r5_31_0_copyload);
-    uint8_t r15 = dfu_slots_gates_close_gate(r5, r71);
-    if (r15 != 0) goto arm_8;
-    uint8_t r23 = dfu_slots_gates_close_gate(r5, 0);
-    if ((r23 != 0) ? 1 : (a5 > 4096)) goto arm_8;
-    uint8_t r47 = dfu_slots_writes_write_filled(r5, r13, a5);
-    if (r47 != 0) goto arm_8;
     store32(r3, 0xffffffffU);
     dfu_suffix_crc_Crc_update_small(r3, r13, a5);
-    store32(r3_2 + 12, 0);
-    store32(r3_2, 2);
-    store32(r3_2 + 4, 0);
-    store32(r3_2 + 8, 0);
-    uint8_t r28 = dfu_slots_carry_carry_out(r5, r3_2);
-    if (r28 != 0) goto arm_8;
-    struct i8_i8 r2 = dfu_slots_places_count_slots(r5);
-    dfu_slots_places_find_places(r5, r2.a, r2.b);
-arm_8:
-    store32(r3_3, 0xffffffffU);
-    dfu_suffix_crc_Crc_update_small(r3_3, r13, a5);
-    uint32_t r1 = load32(r3_3);
+    uint32_t r1 = load32(r3);
     store32(a1, 300);
     memset(a1 + 4, 0, 320);
     store32(a1 + 44, 3);
     store32(a1 + 52, r1);
     common_ret_op = 0xfffffff5U;
-    goto dfu_device_c_format_dfu_core_format_start_exit;
-arm_9:
-    common_ret_op = r12_5_0_neg;
 dfu_device_c_format_dfu_core_format_start_exit:
     return signed32(common_ret_op);
 }
@@ -4134,7 +3920,7 @@ int32_t dfu_core_format_took(const struct dfu_config *config, struct dfu_record 
     _Alignas(4) unsigned char r8[28];
     _Alignas(4) unsigned char r6[24];
     unsigned char *r4, *r13, *r30;
-    uint64_t wide_2396;
+    uint64_t wide_2395;
     uint8_t r3_0_0_copyload, r7_0_0_0, r6_2;
     uint32_t r4_0_0_copyload, r31, r100, r7_8_0, r26, r3_3_4_copyload, common_ret_op;
     r4 = (unsigned char *)((uintptr_t)a2 + (uintptr_t)(uint64_t)((a2 == NULL) ? 4096 : 0));
@@ -4154,7 +3940,7 @@ int32_t dfu_core_format_took(const struct dfu_config *config, struct dfu_record 
     }
     unsigned char *r24 = r8 + 4;
     memcpy(r6, r24, 24);
-    wide_2396 = (uint64_t)(uintptr_t)r13;
+    wide_2395 = (uint64_t)(uintptr_t)r13;
     r3_0_0_copyload = *r6;
     r4_0_0_copyload = load32(r6 + 4);
     r30 = r6 + 20;
@@ -4166,7 +3952,7 @@ int32_t dfu_core_format_took(const struct dfu_config *config, struct dfu_record 
     store32(r5 + 12, 0);
     store64(r5 + 16, (uint64_t)(uintptr_t)static_0);
     store64(r5 + 24, 0);
-    store64(r5 + 32, wide_2396);
+    store64(r5 + 32, wide_2395);
     store64(r5 + 40, a5);
     store64(r5 + 48, (uint64_t)r31);
     memset(r5 + 56, 0, 40);
@@ -4187,7 +3973,7 @@ int32_t dfu_core_format_took(const struct dfu_config *config, struct dfu_record 
     store32(r3 + 12, 0);
     store64(r3 + 16, (uint64_t)(uintptr_t)static_0);
     store64(r3 + 24, 0);
-    store64(r3 + 32, wide_2396);
+    store64(r3 + 32, wide_2395);
     store64(r3 + 40, a5);
     store64(r3 + 48, (uint64_t)r100);
     memset(r3 + 56, 0, 40);
