@@ -7,6 +7,7 @@
 #include "session.h"
 #include "standard.h"
 
+#include <ctype.h>
 #include <dfu_host.h>
 #include <stdio.h>
 #include <string.h>
@@ -46,11 +47,41 @@ static void add_suffix(struct image *image, uint16_t vendor, uint16_t product)
         image->bytes[image->length++] = (uint8_t)(crc >> 8 * at & 0xff);
 }
 
-/* Whether it may be sent as it is: --device has to say for which device it is, since nothing else does. */
-static bool is_raw(const struct words *words, int32_t refusal)
+/* Whether so many bytes are hexadecimal digits. */
+static bool are_digits(const uint8_t *bytes, size_t count)
 {
+    while (count > 0 && isxdigit(bytes[count - 1]))
+        count--;
+    return count == 0;
+}
+
+/* How --format of `dfu add` names the format that the file looks to be of, by its front; or NULL. */
+static const char *format_of(const struct image *image)
+{
+    const uint8_t *bytes = image->bytes;
+    if (image->length < 11)
+        return NULL;
+    if (bytes[0] == ':' && are_digits(bytes + 1, 10))
+        return "ihex";
+    if (bytes[0] == 'S' && isdigit(bytes[1]) && are_digits(bytes + 2, 6))
+        return "srec";
+    if (memcmp(bytes, "UF2\n", 4) == 0)
+        return "uf2";
+    return memcmp(bytes, "\x7f" "ELF", 4) == 0 ? "elf" : NULL;
+}
+
+/* Whether it may be sent as it is: --device has to say for which device it is, since nothing else does; and what builds produce in a
+   format of its own isn't sent, since the device would get its text. */
+static bool is_raw(const struct image *image, const struct words *words, int32_t refusal)
+{
+    const char *format = format_of(image);
     if (refusal != DFU_FILE_NO_SIGNATURE && refusal != DFU_FILE_TOO_SHORT)
         return false;
+    if (format != NULL) {
+        fprintf(stderr, "dfu-flash: it looks like %s: `dfu add --format %s` takes the image out of it; --format raw takes it as it is\n",
+                format, format);
+        return false;
+    }
     if (words->has_address || (words->has_ids && words->vendor != ANY_ID && words->product != ANY_ID))
         return true;
     fputs("dfu-flash: an image without a suffix is taken with --device VID:PID, both not ffff\n", stderr);
@@ -111,7 +142,7 @@ int32_t image_read(struct image *image, const struct words *words)
         return IMAGE_WORDS;
     if (image->is_dfuse)
         return read_dfuse(image, words);
-    if (refusal == 0 || !is_raw(words, refusal))
+    if (refusal == 0 || !is_raw(image, words, refusal))
         return refusal;
     if (!words->quiet && words->has_address)
         fprintf(stderr, "dfu-flash: there is no suffix: all %zu bytes are written, from %08lx on\n", image->length,

@@ -59,6 +59,25 @@ row 1 old 'WrongTarget: ' '' --device 1209:0001 other.dfu
 head -c 16777201 /dev/zero > large
 row 1 old 'TooLarge: ' '' --device 1209:0001 large
 row 0 old 'dry-run: ' '' --device 1209:0001 --dry-run new
+# Nor is what builds produce: the device would get the text of it. What has a suffix is sent whatever it begins with.
+printf ':0400000041414141F8\n:00000001FF\n' > it.ihex
+printf 'S1070000414141414F4\nS9030000FC\n' > it.srec
+{ printf 'UF2\n'; head -c 508 /dev/zero; } > it.uf2
+{ printf '\177ELF'; head -c 100 /dev/zero; } > it.elf
+for format in ihex srec uf2 elf; do
+    for words in '--device 1209:0001' '--address 0x08000000' ''; do
+        # shellcheck disable=SC2086
+        row 1 old 'NoSignature: ' '' $words "it.$format"
+        says "it looks like $format: \`dfu add --format $format\`"
+        expect "$format: nothing is sent" is_silent
+    done
+    "$dfu" add "it.$format" it.dfu > /dev/null
+    row 0 "it.$format" 'verified: ' USB_CAPACITY=1000 it.dfu
+done
+for text in ':04000000x1414141' 'S10700x041414141' ':sensible text' 'Sensible text' 'UF2 is no format' ':04000000'; do
+    printf '%s' "$text" > likely
+    row 0 likely 'verified: ' USB_CAPACITY=1000 --device 1209:0001 likely
+done
 # The suffix that it gets is that of `dfu add`, for many sizes: the host refuses one with another check sum.
 for size in 1 15 16 17 255 1000 65537; do
     random "$size" > sized
