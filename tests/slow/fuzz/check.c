@@ -104,6 +104,8 @@ void check_request(const struct libusb_device_handle *handle, const uint8_t setu
         fault("the request %02x of type %02x is none of DFU", setup[1], setup[0]);
     if (index > 255 || !handle->claimed[index])
         fault("a request of DFU goes to interface %u, which isn't claimed", index);
+    if (asked.is_sound && asked.job == JOB_DOWNLOAD && firmware.has_format)
+        fault("a request of DFU is sent for a file that is no image");
     setting = face_setting(&handle->device->face, index, handle->alternates[index]);
     if (setting == NULL)
         fault("a request of DFU goes to interface %u in setting %u, where there is no DFU", index, handle->alternates[index]);
@@ -203,7 +205,8 @@ void check_status(int status)
         fault("the status is %d", status);
     if (status == 14)
         fault("the program says that it has a mistake");
-    if (asked.is_sound && status == 2)
+    /* Some words don't go with a DfuSe file. */
+    if (asked.is_sound && status == 2 && !firmware.is_dfuse)
         fault("words are refused that are sound");
     if (is_silent && chosen.requests + chosen.resets > 0)
         fault("requests are sent for a list or a dry run");

@@ -66,6 +66,20 @@ static void spoil(void)
         firmware.length = below(firmware.length);
 }
 
+/* What has no signature is a raw image, and is sent whole; but not what builds produce in a format of its own. */
+static void look(void)
+{
+    static const char *const fronts[] = {":0400000041", ":10FFFE00aB", "S1070000", "S9030000", "UF2\n", "\x7f" "ELF"};
+    const char *front = fronts[below(sizeof fronts / sizeof fronts[0])];
+    firmware.is_raw = firmware.length < 16 || memcmp(firmware.bytes + firmware.length - 8, "UFD", 3) != 0;
+    firmware.is_dfuse = !firmware.is_raw && memcmp(firmware.bytes + firmware.length - 10, "\x1a\1", 2) == 0;
+    firmware.has_format = firmware.is_raw && firmware.length > 11 && chance(4);
+    if (firmware.has_format)
+        memcpy(firmware.bytes, front, strlen(front));
+    if (firmware.is_raw)
+        firmware.payload = firmware.length;
+}
+
 /* What an earlier run left, whose words named other files. */
 static void clear_folder(void)
 {
@@ -96,10 +110,7 @@ void firmware_make(void)
     firmware.length = firmware.payload + (chance(15) ? 0 : size);
     if (chance(30))
         spoil();
-    /* What has no signature is a raw image, and is sent whole. */
-    firmware.is_raw = firmware.length < 16 || memcmp(firmware.bytes + firmware.length - 8, "UFD", 3) != 0;
-    if (firmware.is_raw)
-        firmware.payload = firmware.length;
+    look();
     clear_folder();
     write_file(FILE_NAME, firmware.bytes, firmware.length);
     make_out();

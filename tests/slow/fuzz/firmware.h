@@ -13,6 +13,8 @@ struct firmware {
     uint8_t bytes[MOST_FIRMWARE + 300];
     uint32_t payload, length; /* bytes of the image, and of the file */
     bool is_raw;              /* it has no suffix */
+    bool is_dfuse;            /* its suffix says that it is a DfuSe file */
+    bool has_format;          /* it has no suffix, and begins as a file of Intel HEX, S-records, UF2 or ELF */
     uint16_t vendor, product, release;
     enum { OUT_NONE, OUT_FILE, OUT_FOLDER, OUT_LINK } out; /* what stands at OUT; a link names the file `other` */
 };

@@ -134,7 +134,8 @@ static void check_harm(const char *line)
 static void check_out(const char *out, int status)
 {
     const char *line = last_line(out);
-    if (!asked.is_sound)
+    /* Words that are refused have no report and no record. */
+    if (!asked.is_sound || status == 2)
         return;
     check_harm(line);
     if (asked.job == JOB_LIST && status == 0) {

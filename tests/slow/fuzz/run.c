@@ -13,8 +13,10 @@
 
 #include <fcntl.h>
 #include <inttypes.h>
+#ifdef __SANITIZE_ADDRESS__
 #include <sanitizer/common_interface_defs.h>
 #include <sanitizer/lsan_interface.h>
+#endif
 #include <signal.h>
 #include <stdio.h>
 #include <stdlib.h>
@@ -52,7 +54,11 @@ static int stream(const char *name)
 /* Each is a file, or full, or closed. */
 static void streams_open(void)
 {
-    int full = stream("/dev/full");
+    int full = stream("/dev/full"), in = asked.is_piped ? open(FILE_NAME, O_RDONLY) : -1;
+    if (in >= 0)
+        dup2(in, 0);
+    if (in > 0)
+        close(in);
     streams.out = chance(40) ? -1 : stream(NULL);
     streams.err = chance(100) ? -1 : stream(NULL);
     dup2(streams.out >= 0 ? streams.out : full, 1);
@@ -78,8 +84,10 @@ static int files_open(void)
 static void play(uint64_t seed)
 {
     int files;
+#ifdef __SANITIZE_ADDRESS__
     /* Not that of the process that started it: it would be closed. */
     __sanitizer_set_report_fd((void *)(intptr_t)trace_stream);
+#endif
     random_begin(seed);
     temper_throw();
     outcome->is_fair = temper.is_fair;
@@ -99,8 +107,10 @@ static void play(uint64_t seed)
     check_status(outcome->status);
     check_printed(outcome->status);
     firmware_check(outcome->status);
+#ifdef __SANITIZE_ADDRESS__
     if (seed % LEAKS_EVERY == 0 && __lsan_do_recoverable_leak_check() != 0)
         fault("memory is lost");
+#endif
     outcome->is_done = true;
 }
 

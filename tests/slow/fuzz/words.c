@@ -174,7 +174,8 @@ static void say_job(void)
     } else {
         if (chance(3))
             say("-D");
-        say(!chance(60) ? FILE_NAME : chance(2) ? "nowhere" : "no\x1b[2Jwhere\xff");
+        asked.is_piped = chance(20);
+        say(asked.is_piped ? "-" : !chance(60) ? FILE_NAME : chance(2) ? "nowhere" : "no\x1b[2Jwhere\xff");
     }
 }
 

@@ -15,7 +15,7 @@ enum job { JOB_NONE, JOB_DOWNLOAD, JOB_UPLOAD, JOB_DETACH, JOB_LIST };
 struct asked {
     bool is_sound;
     enum job job;
-    bool has_ids, has_pair, is_forced, is_dry, is_json;
+    bool has_ids, has_pair, is_forced, is_dry, is_json, is_piped; /* is_piped: FILE is standard input */
     uint16_t vendor, product, dfu_vendor, dfu_product; /* the last two where there is a pair, RUN,DFU */
     uint32_t timeout;                    /* seconds, 0 where it wasn't given */
     bool is_patient;                     /* it waits for ever, or for as many seconds: */
