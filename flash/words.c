@@ -153,14 +153,21 @@ static bool is_fit(const struct words *words)
     return is_fit_for_dfuse(words) && is_fit_for_all(words);
 }
 
+/* The words that are no options: FILE, and one that may be too many. */
+struct plain {
+    const char *texts[2];
+    int count;
+};
+
 /* Whether the words go together. */
-static bool is_whole(struct words *words, int count, char **texts)
+static bool is_whole(struct words *words, const struct plain *plain)
 {
     bool has_file = words->job == JOB_DOWNLOAD || words->job == JOB_UPLOAD;
-    if (words->job == JOB_DOWNLOAD && words->file == NULL && optind < count)
-        words->file = texts[optind++];
-    if (optind < count)
-        return words_refuse("a word too many", texts[optind]);
+    int at = 0;
+    if (words->job == JOB_DOWNLOAD && words->file == NULL && plain->count > 0)
+        words->file = plain->texts[at++];
+    if (at < plain->count)
+        return words_refuse("a word too many", plain->texts[at]);
     if (words->job == JOB_DOWNLOAD && words->file == NULL)
         return words_refuse(words->patience == 0 ? "no FILE was given" : "no FILE was given; a number behind --wait is its seconds", "");
     if (has_file && words->file[0] == '\0')
@@ -168,17 +175,45 @@ static bool is_whole(struct words *words, int count, char **texts)
     return is_fit(words);
 }
 
+static void take_plain(struct plain *plain, const char *text)
+{
+    if (plain->count < 2)
+        plain->texts[plain->count++] = text;
+}
+
+/* Takes the words up to the next option, and whether there is one; behind "--" there is none. getopt_long isn't asked for words that are no
+   options, since it differs by system in when it moves them, and a second word of an option is looked for where it stands. */
+static bool is_option_next(struct plain *plain, int count, char **texts)
+{
+    while (optind < count && (texts[optind][0] != '-' || texts[optind][1] == '\0'))
+        take_plain(plain, texts[optind++]);
+    if (optind < count && strcmp(texts[optind], "--") != 0)
+        return true;
+    while (++optind < count)
+        take_plain(plain, texts[optind]);
+    return false;
+}
+
+/* The code of the next option; its value is in optarg, NULL where it has none: not every getopt_long sets it then. */
+static int next_option(int count, char **texts)
+{
+    optarg = NULL;
+    return getopt_long(count, texts, "+hV" DFU_UTIL_OPTIONS, options, NULL);
+}
+
 bool words_read(struct words *words, int count, char **texts)
 {
+    struct plain plain = {0};
     int code;
     memset(words, 0, sizeof *words);
     words->verify = true;
     words->interface = words->alternate = -1;
-    while ((code = getopt_long(count, texts, "hV" DFU_UTIL_OPTIONS, options, NULL)) != -1) {
+    while (is_option_next(&plain, count, texts)) {
+        code = next_option(count, texts);
         if (!dfu_util_is_same(code, optarg) || !take_option(words, code, count, texts))
             return false;
         if (words->job == JOB_HELP || words->job == JOB_VERSION)
             return true;
     }
-    return is_whole(words, count, texts);
+    return is_whole(words, &plain);
 }

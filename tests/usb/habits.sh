@@ -103,6 +103,17 @@ row 0 new 'verified: ' USB_ABSENT=3 -w 30 -D new.dfu
 row 4 old '' USB_ABSENT=100000 --wait 1 new.dfu
 cp new.dfu 5
 row 0 new 'verified: ' USB_ABSENT=3 --wait ./5
+# FILE may come before or between the options, whichever C library reads the words; behind -- there are no options.
+row 0 new 'verified: ' '' new.dfu --limits 1000 3
+row 0 new '{"status":0,"report":"verified",' '' --limits 1000 3 new.dfu --json --alt 0
+row 0 new 'verified: ' USB_ABSENT=3 -p 1-1 -w new.dfu
+row 0 new 'verified: ' USB_ABSENT=3 -a 0 new.dfu -Rw 30 -i 0
+row 0 new 'verified: ' '' - --limits 1000 3 < new.dfu
+row 0 new 'verified: ' '' --limits 1000 3 -- new.dfu
+for words in 'new.dfu -- --json' '-- new.dfu --limits 1 1' 'new.dfu --limits 1' '--limits 1 new.dfu 1' 'new.dfu --wait 30 5'; do
+    # shellcheck disable=SC2086
+    row 2 - '' '' $words
+done
 row 0 new 'verified: ' '' 5
 row 2 - '' '' --wait 5
 says 'a number behind --wait is its seconds'
