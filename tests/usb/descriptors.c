@@ -10,6 +10,7 @@
 #include <string.h>
 
 #define MOST_UNITS 126 /* of a string descriptor */
+#define MOST_EXTRA 512
 
 enum { NO_STRING, SERIAL_STRING, INTERFACE_STRING }; /* behind the last those of the settings, where there are several */
 
@@ -41,17 +42,34 @@ int describe_function(bool is_app, uint8_t out[9])
     return size;
 }
 
-/* What one configuration takes, in one piece of memory. */
+/* The bytes of a setting that is hexadecimal: how many there are. */
+static int raw_bytes(const char *hex, uint8_t *out, size_t room)
+{
+    size_t count = strlen(hex) / 2;
+    unsigned byte = 0;
+    if (strlen(hex) % 2 != 0 || count > room)
+        fail_loudly("bytes are two digits each, and at most %u: %s", (unsigned)room, hex);
+    for (size_t at = 0; at < count; at++) {
+        if (sscanf(hex + 2 * at, "%2x", &byte) != 1)
+            fail_loudly("no bytes: %s", hex);
+        out[at] = (uint8_t)byte;
+    }
+    return (int)count;
+}
+
+/* What one configuration takes, in one piece of memory, which ends with the last byte of the functional descriptor. */
 struct whole {
     struct libusb_config_descriptor configuration;
     struct libusb_interface interface;
     struct libusb_interface_descriptor alternates[MOST_ALTERNATES];
-    uint8_t function[9];
+    uint8_t function[];
 };
 
 struct libusb_config_descriptor *describe_configuration(bool is_app)
 {
-    struct whole *whole = calloc(1, sizeof *whole);
+    uint8_t extra[MOST_EXTRA];
+    const int length = settings.extra != NULL ? raw_bytes(settings.extra, extra, sizeof extra) : describe_function(is_app, extra);
+    struct whole *whole = calloc(1, sizeof *whole + (size_t)length);
     int count = is_app ? 1 : (int)settings.alternates;
     if (whole == NULL)
         fail_loudly("no memory for a descriptor");
@@ -67,7 +85,8 @@ struct libusb_config_descriptor *describe_configuration(bool is_app)
             .iInterface = (uint8_t)(INTERFACE_STRING + (count > 1 ? 1 + at : 0)),
         };
     whole->alternates[count - 1].extra = whole->function;
-    whole->alternates[count - 1].extra_length = describe_function(is_app, whole->function);
+    whole->alternates[count - 1].extra_length = length;
+    memcpy(whole->function, extra, (size_t)length);
     whole->interface = (struct libusb_interface){ whole->alternates, count };
     whole->configuration = (struct libusb_config_descriptor){
         .bLength = 9,
@@ -132,6 +151,11 @@ int describe_string(unsigned number, bool is_other, uint8_t *out, uint16_t room)
             : map_name(number == INTERFACE_STRING ? 0 : number - INTERFACE_STRING - 1);
     if (number == INTERFACE_STRING && bus_is_swapped() && settings.swapped_name != NULL)
         text = settings.swapped_name;
+    if (settings.string != NULL) {
+        const int given = raw_bytes(settings.string, bytes, sizeof bytes);
+        memcpy(out, bytes, given < room ? (size_t)given : room);
+        return given < room ? given : room;
+    }
     uint16_t units[MOST_UNITS];
     unsigned length = units_of(text, units);
     if (number != NO_STRING)

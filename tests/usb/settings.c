@@ -36,6 +36,8 @@
  * USB_CONFIGURATIONS  configurations; the device stands in the last, and the others have no interface (1)
  * USB_APP_ATTRIBUTES  bmAttributes of the descriptor in run-time mode (USB_ATTRIBUTES)
  * USB_DESCRIPTOR  bytes of the functional descriptor, 7 as in DFU 1.0, or 0 for none (9)
+ * USB_EXTRA       the bytes that stand in its place, hexadecimal, whatever they say (that descriptor)
+ * USB_STRING      the bytes of each string descriptor, hexadecimal, whatever they say (as they should be)
  * USB_VERSION     its bcdDFUVersion, hexadecimal (0110; for dfuse 011a)
  * USB_AWAY        for how many lists of devices it is away when its mode changes, or when it leaves (0)
  * USB_ABSENT      for how many lists of devices it is away at the start (0)
@@ -262,6 +264,8 @@ void settings_read(void)
     settings.swapped_name = kept("USB_SWAP_NAME");
     settings.configurations = (uint8_t)number("USB_CONFIGURATIONS", 1, 10);
     settings.descriptor = (uint8_t)number("USB_DESCRIPTOR", 9, 10);
+    settings.extra = kept("USB_EXTRA");
+    settings.string = kept("USB_STRING");
     read_app();
     read_dfuse();
     if (settings.descriptor > 9 || settings.app_descriptor > 9)

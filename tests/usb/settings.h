@@ -47,6 +47,7 @@ struct settings {
     uint8_t configurations;            /* how many there are; the last one has the interface */
     unsigned alternates;               /* settings of the interface in DFU mode */
     uint8_t descriptor;                /* bytes of the functional descriptor */
+    const char *extra, *string;        /* bytes in place of that one, and of each string, hexadecimal; NULL: as they should be */
     uint16_t version;                  /* bcdDFUVersion */
     int setting;                       /* the one that requests are to be made in, or -1: any */
     int denied, other_denied, claimed; /* the error of an open, of one of the other device, and of a claim, or 0 */
