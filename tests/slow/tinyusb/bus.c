@@ -14,6 +14,7 @@ static struct {
 } ends[2];
 static uint32_t clock_ms;
 bool bus_is_late;
+unsigned bus_packets;
 static bool is_owed; /* the end of a status stage to the host */
 
 static void die(const char *why)
@@ -67,6 +68,12 @@ static int status(int way, enum stop stop, int answer)
     return answer;
 }
 
+/* Whether the request breaks off in its data stage here, behind so many packets. */
+static bool breaks_off(enum stop stop, unsigned packets)
+{
+    return stop == WITHIN_DATA && (bus_packets == 0 ? rand() % 2 == 0 : packets == bus_packets);
+}
+
 static int read_data(unsigned wanted, uint8_t *in, enum stop stop)
 {
     unsigned got = 0, length = PACKET;
@@ -81,7 +88,7 @@ static int read_data(unsigned wanted, uint8_t *in, enum stop stop)
             memcpy(in + got, ends[IN].bytes, length);
         got += length;
         ends[IN].is_armed = false;
-        if (stop == WITHIN_DATA && rand() % 2 == 0)
+        if (breaks_off(stop, (got + PACKET - 1) / PACKET))
             return BUS_NOTHING;
         complete(0x80, length);
     }
@@ -95,7 +102,7 @@ static int write_data(unsigned length, const uint8_t *body, enum stop stop)
         const int now = waits(OUT);
         if (now != 0)
             return now;
-        if (stop == WITHIN_DATA && rand() % 2 == 0)
+        if (breaks_off(stop, sent / PACKET))
             return BUS_NOTHING;
         if (ends[OUT].length != packet)
             die("another length than the host sends");
@@ -113,6 +120,8 @@ int bus_request(const uint8_t setup[8], const uint8_t *body, uint8_t *in, enum s
     if (stop == TWO_SETUPS)
         post_setup(setup);
     post_setup(setup);
+    if (stop == BEFORE_TASK)
+        return BUS_NOTHING;
     tud_task();
     if (stop == AFTER_SETUP)
         return BUS_NOTHING;

@@ -4,8 +4,10 @@
 #include <stdbool.h>
 #include <stdint.h>
 
-/* Where a request breaks off. */
-enum stop { TO_THE_END, AFTER_SETUP, WITHIN_DATA, BEFORE_STATUS, TWO_SETUPS };
+/* Where a request breaks off. BEFORE_TASK: tud_task has not seen the setup when the next thing comes. */
+enum stop { TO_THE_END, AFTER_SETUP, WITHIN_DATA, BEFORE_STATUS, TWO_SETUPS, BEFORE_TASK };
+/* WITHIN_DATA: behind so many packets; 0: by dice. */
+extern unsigned bus_packets;
 /* What the host saw. Answers are 0 or more: how many bytes came, or 0 for an acknowledgment. */
 enum { BUS_STALL = -1, BUS_NOTHING = -2, BUS_HANGS = -3 };
 
