@@ -1,0 +1,72 @@
+/* SPDX-License-Identifier: MIT OR Apache-2.0 */
+#include "serve.h"
+
+/* Whether this setup closes a download whose image the device would put in place: 1 or 0; or a refusal of the library. */
+static int32_t closes(const struct dfu_device *device, const uint8_t setup[8]) {
+    int32_t stalls;
+    if (setup[0] != 0x21 || setup[1] != DFU_DNLOAD || setup[6] != 0 || setup[7] != 0
+        || dfu_device_state(device) != DFU_STATE_DNLOAD_IDLE)
+        return 0;
+    stalls = dfu_device_would_stall(device, setup);
+    return stalls < 0 ? stalls : stalls == 0;
+}
+
+/* The place of the image with which counters are compared. */
+static int32_t confirmed(const struct signed_board *board, struct dfu_place *place) {
+    struct dfu_standing standing;
+    int32_t refusal;
+    if (board->trial == NULL)
+        return dfu_device_image(board->device, place);
+    refusal = dfu_trial_look(board->trial, &standing);
+    if (refusal == 0)
+        *place = standing.base;
+    return refusal;
+}
+
+static struct signed_bytes bytes_at(const struct dfu_device *device, const struct dfu_place *place) {
+    return (struct signed_bytes){device->flash + place->at, place->length, NULL, 0};
+}
+
+/* Checks what was taken: 0, and `verdict` says what came of it; or a refusal of the library. */
+static int32_t check(struct signed_board *board) {
+    const struct dfu_device *device = board->device;
+    struct dfu_place place;
+    struct signed_bytes bytes;
+    struct signed_image told;
+    int32_t refusal = confirmed(board, &place);
+    if (refusal != 0)
+        return refusal;
+    bytes = bytes_at(device, &place);
+    board->rules.least = signed_counter(&bytes);
+    refusal = dfu_device_candidate(device, &place);
+    if (refusal != 0)
+        return refusal;
+    bytes = bytes_at(device, &place);
+    bytes.tail = device->record.held;
+    bytes.tail_length = device->record.held_length;
+    board->verdict = signed_check(&board->rules, &bytes, &told);
+    return 0;
+}
+
+/* The work comes before all else, as in dfu_device_serve: a host may be early. What can't be checked is not closed. */
+int32_t signed_serve(struct signed_board *board, const uint8_t setup[8], const uint8_t *body, uint8_t *out, size_t room) {
+    struct dfu_device *device = board->device;
+    int32_t n = dfu_device_work(device);
+    if (n == 0 && board->trial != NULL)
+        n = dfu_trial_download(board->trial, device, setup);
+    if (n == 0)
+        n = closes(device, setup);
+    if (n == 1) {
+        n = check(board);
+        if (n == 0 && board->verdict != SIGNED_TAKEN)
+            n = dfu_device_refuse_close(device, setup, signed_status(board->verdict));
+    }
+    return n < 0 ? n : dfu_device_serve(device, setup, body, out, room);
+}
+
+int signed_may_start(struct signed_board *board, const struct dfu_place *place, struct signed_image *told) {
+    const struct signed_bytes bytes = bytes_at(board->device, place);
+    board->rules.least = 0;
+    board->verdict = signed_check(&board->rules, &bytes, told);
+    return board->verdict == SIGNED_TAKEN;
+}
