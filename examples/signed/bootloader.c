@@ -1,0 +1,156 @@
+/* SPDX-License-Identifier: MIT OR Apache-2.0 */
+/* A bootloader that takes signed images alone, and runs a new one on trial. It is that of ../microcontroller with signed_serve in place of
+ * dfu_device_serve, and with a check before each start. The clock, the flash, the serial port and the start are those there. */
+#include "dfu_install.h"
+
+#include <string.h>
+
+#include "board.h"
+#include "clock.h"
+#include "flash.h"
+#include "frames.h"
+#include "serial.h"
+#include "serve.h"
+#include "start.h"
+
+#include "maker_key.h" /* ed25519_pub_key, as `imgtool getpub` prints it */
+
+static const struct dfu_driver driver = {(void *)MEDIUM, flash_erase, flash_program};
+static const struct dfu_driver run_driver = {(void *)RUN, flash_erase, flash_program};
+static struct dfu_device device;
+static struct dfu_trial trial;
+static struct signed_board board;
+static uint8_t block[TRANSFER], answer[TRANSFER];
+static struct frame request;
+static uint32_t running; /* where the image that runs begins in the medium */
+
+/* Whether the upgrade runs, or the image. */
+static int is_upgrading;
+
+enum { NO_ANSWER = -100 };
+
+/* What a call gives. If the record or the flash is not as it was left, the device gets power again. */
+static int32_t checked(int32_t result) {
+    if (result < 0 && result != DFU_STALL)
+        restart(NOTE_NONE);
+    return result;
+}
+
+/* A control transfer, but for its answer. A frame has the data stage that its setup says, or it is none. */
+static int32_t setup_came(void) {
+    const uint8_t *setup = request.bytes + FRAME_HEAD, *body = setup + 8;
+    size_t stage = setup[0] & 0x80 ? 0 : (size_t)(setup[6] | setup[7] << 8);
+    if (stage != (size_t)request.length - FRAME_HEAD - 8)
+        return NO_ANSWER;
+    return checked(signed_serve(&board, setup, body, answer, sizeof answer));
+}
+
+static int32_t about(void) {
+    const uint16_t ids[3] = {board_config.device, board_config.product, board_config.vendor};
+    for (size_t i = 0; i < 3; i++) {
+        answer[2 * i] = (uint8_t)ids[i];
+        answer[2 * i + 1] = (uint8_t)(ids[i] >> 8);
+    }
+    return dfu_device_functional(&board_config, answer + 6) == 9 ? FRAME_ABOUT_LENGTH : DFU_STALL;
+}
+
+static int32_t frame_came(void) {
+    switch (request.bytes[0]) {
+    case FRAME_SETUP: return request.length < FRAME_HEAD + 8 ? NO_ANSWER : setup_came();
+    case FRAME_RESET: return checked(dfu_device_reset(&device));
+    case FRAME_ABOUT: return about();
+    default: return NO_ANSWER;
+    }
+}
+
+/* The work, once an answer is out. Then what runs is as the state says: each change of it is a reset of the processor. */
+static void go_on(void) {
+    checked(dfu_device_work(&device));
+    int32_t state = dfu_device_state(&device);
+    if ((state > DFU_STATE_APP_DETACH) != is_upgrading)
+        restart(is_upgrading ? NOTE_NONE : NOTE_UPGRADE);
+    clock_wake_in(state == DFU_STATE_APP_DETACH ? (uint32_t)dfu_device_due(&device) : 0);
+}
+
+void on_serial(void) {
+    for (int byte = serial_get(); byte >= 0; byte = serial_get()) {
+        if (!frame_take(&request, (uint8_t)byte))
+            continue;
+        on_time();
+        int32_t count = frame_came();
+        if (count == NO_ANSWER)
+            continue;
+        frame_send(serial_put, count < 0 ? FRAME_STALL : FRAME_ANSWER, request.bytes[1], answer, count < 0 ? 0 : (size_t)count);
+        go_on();
+    }
+}
+
+void on_time(void) {
+    clock_is_due();
+    uint32_t ms = clock_passed();
+    if (dfu_device_state(&device) != DFU_STATE_APP_DETACH || ms == 0)
+        return;
+    checked(dfu_device_elapse(&device, ms));
+    go_on();
+}
+
+static void say(const char *text) {
+    frame_send(serial_put, FRAME_TEXT, 0, (const uint8_t *)text, strlen(text));
+}
+
+/* The image says something, or that it is well. */
+void on_text(const uint8_t *text, uint32_t length) {
+    if (length == 7 && memcmp(text, "confirm", 7) == 0)
+        say(dfu_trial_accept(&trial, running) == 0 ? "confirmed" : "not confirmed");
+    else
+        frame_send(serial_put, FRAME_TEXT, 0, text, length < 64 ? length : 64);
+}
+
+/* Whether the image at this place may start, and stands in the run area. */
+static int is_ready(const struct dfu_place *place, struct signed_image *told) {
+    struct dfu_install install = {.run = flash_run, .size = CAPACITY, .area = {PAGE, DFU_NOWHERE}, .driver = &run_driver};
+    return signed_may_start(&board, place, told) && told->program % 4 == 0
+        && dfu_install_settle(&install, flash_medium + place->at, place->length) == 0;
+}
+
+/* The image that is to run: one that may not start ends its trial, and a start on trial is marked once it is ready. */
+static int find_image(struct dfu_place *place, struct signed_image *told) {
+    struct dfu_standing standing;
+    if (dfu_trial_look(&trial, &standing) != 0)
+        return 0;
+    int is_active_ready = is_ready(&standing.active, told);
+    if (!is_active_ready && (!standing.on_trial || dfu_trial_give_up(&trial) != 0))
+        return 0;
+    if (dfu_trial_boot(&trial, place) != 0)
+        return 0;
+    return (is_active_ready && place->at == standing.active.at) || is_ready(place, told);
+}
+
+static void set_up(void) {
+    device.config = &board_config;
+    device.flash = flash_medium, device.size = MEDIUM_SIZE;
+    device.block = block, device.most = sizeof block;
+    device.driver = &driver;
+    trial = (struct dfu_trial){.flash = flash_medium, .size = MEDIUM_SIZE, .driver = &driver, .tries = board_tries};
+    board.device = &device, board.trial = &trial;
+    board.rules.keys = (const uint8_t (*)[SIGNED_KEY])ed25519_pub_key, board.rules.key_count = 1, board.rules.hardware = HARDWARE;
+}
+
+int main(void) {
+    enum note note = note_taken();
+    struct dfu_place place;
+    struct signed_image told;
+    serial_begin();
+    clock_begin();
+    set_up();
+    /* Without an active image this board was never made: it does nothing. One that may not start leaves the upgrade in dfuIDLE. */
+    int is_to_run = note == NOTE_NONE && find_image(&place, &told);
+    while ((is_to_run ? dfu_device_power_on(&device) : dfu_device_begin(&device)) != 0)
+        __asm__ volatile("wfi");
+    is_upgrading = dfu_device_state(&device) > DFU_STATE_APP_DETACH;
+    if (is_to_run) {
+        running = place.at;
+        image_start(flash_run + told.program, told.length);
+    }
+    return 0;
+}

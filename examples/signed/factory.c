@@ -1,0 +1,54 @@
+/* SPDX-License-Identifier: MIT OR Apache-2.0 */
+/* What a programmer writes into the flash of a new board: the bootloader, and the medium with a first image, which is confirmed. The
+ * bootloader brings the run area to it. */
+#include <stdio.h>
+#include <string.h>
+
+#include "board.h"
+#include "dfu_device_memory.h"
+
+static uint8_t flash[FLASH_SIZE], image[FLASH_SIZE];
+
+static int read_file(const char *path, uint8_t *to, size_t room, size_t *length) {
+    FILE *in = fopen(path, "rb");
+    if (!in)
+        return -1;
+    *length = fread(to, 1, room, in);
+    int is_wrong = ferror(in) || fgetc(in) != EOF;
+    fclose(in);
+    return is_wrong ? -1 : 0;
+}
+
+/* Nothing runs on trial before an image was confirmed once. */
+static int32_t confirm(void) {
+    const struct dfu_driver driver = DFU_MEMORY_DRIVER(flash + MEDIUM);
+    const struct dfu_trial trial = {.flash = flash + MEDIUM, .size = MEDIUM_SIZE, .driver = &driver, .tries = board_tries};
+    struct dfu_standing standing;
+    int32_t refusal = dfu_trial_look(&trial, &standing);
+    return refusal == 0 ? dfu_trial_accept(&trial, standing.active.at) : refusal;
+}
+
+int main(int count, char **words) {
+    size_t length;
+    if (count != 4) {
+        fprintf(stderr, "usage: factory BOOTLOADER IMAGE FLASH\n");
+        return 2;
+    }
+    memset(flash, 0xff, sizeof flash);
+    if (read_file(words[1], flash, MEDIUM, &length) != 0 || read_file(words[2], image, sizeof image, &length) != 0) {
+        fprintf(stderr, "factory: a file can't be read, or is too large\n");
+        return 1;
+    }
+    int32_t refusal = dfu_memory_format(&board_config, flash + MEDIUM, MEDIUM_SIZE, image, length);
+    if (refusal == 0)
+        refusal = confirm();
+    if (refusal != 0) {
+        fprintf(stderr, "factory: refused %d\n", (int)refusal);
+        return 1;
+    }
+    FILE *out = fopen(words[3], "wb");
+    if (!out)
+        return 1;
+    size_t written = fwrite(flash, 1, sizeof flash, out);
+    return fclose(out) != 0 || written != sizeof flash;
+}
