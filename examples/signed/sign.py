@@ -2,7 +2,9 @@
 """sign.py KEY IN OUT [--version 1.2.3+4] [--counter N] [--hardware N] [--header N]: signs a program as imgtool does.
 
 It is for the tests here, where imgtool may be missing: makers take imgtool. KEY is a private key of Ed25519 in PEM, as
-`openssl genpkey -algorithm ed25519` writes one; openssl makes the signature. --key-of NAME says in the image that another key did.
+`openssl genpkey -algorithm ed25519` writes one; openssl makes the signature. For images that are wrong: --key-of KEY says in the image
+that another key signed it, and --patch AT=HEX puts other bytes there before it is signed; a negative AT counts from the end of what is
+signed.
 """
 import argparse
 import hashlib
@@ -45,7 +47,11 @@ def signed(words, program):
         protected += tlv(0xa0, struct.pack("<H", words.hardware))
     protected = area(0x6908, protected) if protected else b""
     header = struct.pack("<IIHHIIBBHII", 0x96f3b83d, 0, words.header, len(protected), len(program), 0, major, minor, revision, int(build), 0)
-    front = header.ljust(words.header, b"\0") + program + protected
+    front = bytearray(header.ljust(words.header, b"\0") + program + protected)
+    for patch in words.patch:
+        at, _, other = patch.partition("=")
+        at, other = int(at) % len(front), bytes.fromhex(other)
+        front[at:at + len(other)] = other
     digest = hashlib.sha256(front).digest()
     public = openssl("pkey", "-in", words.key_of or words.key, "-pubout", "-outform", "DER")
     return front + area(0x6907, tlv(0x10, digest) + tlv(0x01, hashlib.sha256(public).digest()) + tlv(0x24, signature(words.key, digest)))
@@ -59,6 +65,7 @@ def main():
     words.add_argument("--counter", type=int, default=1, help="the security counter; -1: none")
     words.add_argument("--hardware", type=int, default=7, help="TLV 00a0h; -1: none")
     words.add_argument("--header", type=int, default=32)
+    words.add_argument("--patch", action="append", default=[])
     words.add_argument("--key-of", help="the key whose hash the image has")
     words = words.parse_args()
     with open(words.file, "rb") as file:
