@@ -37,9 +37,9 @@ static void expect(const char *row, const char *what, int is) {
                board.trial ? "on trial" : "no trial");
 }
 
-static int32_t ask(uint8_t kind, uint8_t what, uint16_t value, size_t count, const uint8_t *body) {
+static int32_t ask(uint8_t kind, uint8_t what, uint16_t value, size_t count, const uint8_t *data) {
     const uint8_t setup[8] = {kind, what, (uint8_t)value, (uint8_t)(value >> 8), 0, 0, (uint8_t)count, (uint8_t)(count >> 8)};
-    const int32_t n = signed_serve(&board, setup, body, out, sizeof out);
+    const int32_t n = signed_serve(&board, setup, data, out, sizeof out);
     const int32_t worked = dfu_device_work(&device);
     return worked < 0 ? worked : n;
 }
