@@ -6,8 +6,8 @@
  *
  * Numbers are stored with the low byte first. An image has, with nothing after it:
  *
- *     header        at 0: 96f3b83dh; at 8, in 2 bytes: its own size, 32 or more; at 10, in 2: bytes of protected TLVs; at 12, in 4: bytes of
- *                   the program; at 16: flags; at 20: the version, as major (1), minor (1), revision (2) and build (4)
+ *     header        at 0: 96f3b83dh; at 8, in 2 bytes: its own size, 32 or more; at 10, in 2: bytes of protected TLVs; at 12, in 4: bytes
+ *                   of the program; at 16: flags; at 20: the version, as major (1), minor (1), revision (2) and build (4)
  *     program
  *     protected     6908h (2) and the bytes of all of it (2); TLVs: type (2), length (2), value. 50h: the security counter (4);
  *                   00a0h: the hardware (2)

@@ -93,7 +93,8 @@ class Host:
 
     def request(self, kind, what, value=0, length=0, data=b""):
         """A control transfer."""
-        return self.ask(SETUP, bytes((kind, what)) + value.to_bytes(2, "little") + b"\0\0" + (len(data) or length).to_bytes(2, "little") + data)
+        count = len(data) or length
+        return self.ask(SETUP, bytes((kind, what)) + value.to_bytes(2, "little") + b"\0\0" + count.to_bytes(2, "little") + data)
 
     def status(self):
         """bStatus and bState."""

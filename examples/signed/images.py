@@ -70,8 +70,8 @@ class Images:
         yield "twice", good + good
         yield from self.flipped(good)
         # Signed, and a length of it lies: bytes of the program, of the header, and of the protected TLVs, as a whole and of each of two.
-        for patch in ("12=ffffffff", "12=00000000", f"12={len(program) + 1:02x}000000", "8=0000", "8=ffff", "10=0000", "10=ffff", "-16=ffff",
-                      "-16=0400", "-12=0300", "-12=ffff", "-4=ffff", "-4=0000"):
+        for patch in ("12=ffffffff", "12=00000000", f"12={len(program) + 1:02x}000000", "8=0000", "8=ffff", "10=0000", "10=ffff",
+                      "-16=ffff", "-16=0400", "-12=0300", "-12=ffff", "-4=ffff", "-4=0000"):
             yield f"signed with {patch}", self.make("second", counter=3, patches=[patch])
         yield "signed and encrypted, as it says", self.make("second", counter=3, patches=["16=04"])
         yield "signed without a counter", self.make("second", counter=-1)
