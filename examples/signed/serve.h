@@ -13,9 +13,9 @@ struct signed_board {
     enum signed_verdict verdict;   /* of the last image that was checked */
 };
 
-/* As dfu_device_serve, for a device that has a driver; a DNLOAD that begins while an image is on trial ends the trial first (dfu_trial_download). At the close of a
- * download the image is checked, and its security counter is compared with that of the confirmed image (the active one, if none runs on
- * trial). One that is refused is stalled, and the device is in dfuERROR with errTARGET or errFILE. */
+/* As dfu_device_serve, for a device that has a driver. A DNLOAD that begins while an image is on trial ends the trial first
+ * (dfu_trial_download). At the close of a download the image is checked, and its security counter is compared with that of the confirmed
+ * image: the active one, if none is on trial. One that is refused is stalled, and the device is in dfuERROR with errTARGET or errFILE. */
 int32_t signed_serve(struct signed_board *board, const uint8_t setup[8], const uint8_t *body, uint8_t *out, size_t room);
 
 /* Whether the image at this place may be started: it is signed, and for this board. No counter is compared: who can write flash can put

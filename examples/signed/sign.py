@@ -46,7 +46,8 @@ def signed(words, program):
     if words.hardware >= 0:
         protected += tlv(0xa0, struct.pack("<H", words.hardware))
     protected = area(0x6908, protected) if protected else b""
-    header = struct.pack("<IIHHIIBBHII", 0x96f3b83d, 0, words.header, len(protected), len(program), 0, major, minor, revision, int(build), 0)
+    header = struct.pack("<IIHHIIBBHII", 0x96f3b83d, 0, words.header, len(protected), len(program), 0, major, minor, revision,
+                         int(build), 0)
     front = bytearray(header.ljust(words.header, b"\0") + program + protected)
     for patch in words.patch:
         at, _, other = patch.partition("=")
