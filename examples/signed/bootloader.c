@@ -14,6 +14,7 @@
 #include "start.h"
 
 #include "maker_key.h" /* ed25519_pub_key, as `imgtool getpub` prints it */
+_Static_assert(sizeof ed25519_pub_key == SIGNED_KEY, "a public key of Ed25519 in DER");
 
 static const struct dfu_driver driver = {(void *)MEDIUM, flash_erase, flash_program};
 static const struct dfu_driver run_driver = {(void *)RUN, flash_erase, flash_program};
