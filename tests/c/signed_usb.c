@@ -1,5 +1,6 @@
 /* Makes of the proved device on the stand-in's bus (tests/usb) one that takes signed images alone: it is linked with
- * --wrap=dfu_core_handle, and hands each close to signed_serve of examples/signed. SIGNED_KEY_FILE names a public key in DER. */
+ * --wrap=dfu_core_handle, and hands each close to signed_serve of examples/signed. SIGNED_KEY_FILE names a public key in DER. With
+ * SIGNED_LATE each image is refused after the close, as by a check that takes longer than a transfer may. */
 #include <sodium.h>
 #include <stdio.h>
 #include <stdlib.h>
@@ -31,6 +32,10 @@ int32_t __wrap_dfu_core_handle(const struct dfu_config *config, struct dfu_recor
     static int is_within;
     if (is_within || setup[0] != 0x21 || setup[1] != DFU_DNLOAD || setup[6] != 0 || setup[7] != 0)
         return __real_dfu_core_handle(config, record, block, most, flash, size, setup, body, length, out, room);
+    if (getenv("SIGNED_LATE") != NULL) {
+        const int32_t closed = __real_dfu_core_handle(config, record, block, most, flash, size, setup, body, length, out, room);
+        return closed == 0 ? dfu_core_refuse(config, record, DFU_STATUS_ERR_FILE) : closed;
+    }
     /* (the record is that of the model's device, which has a driver) */
     struct signed_board board = {.device = (struct dfu_device *)(void *)((char *)record - offsetof(struct dfu_device, record)),
                                  .rules = {(const uint8_t (*)[SIGNED_KEY])key, 1, 7, 0}};
