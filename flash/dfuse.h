@@ -29,7 +29,7 @@ struct dfuse {
     uint64_t elements;             /* so many; their addresses ascend */
     struct dfuse_plan plan;
     struct dfuse_session host;     /* the host's record */
-    uint32_t short_waits;          /* waits of 0 ms in a row */
+    uint32_t short_waits;          /* waits of 0 ms for one command */
     uint8_t string;                /* iString of the last GETSTATUS that said dfuERROR, or 0 */
     uint32_t protections;          /* how often it said errVENDOR while it was read */
     struct dfuse_action done;      /* the report */

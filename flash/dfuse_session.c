@@ -8,7 +8,7 @@
 
 #define MOST_SILENT 24   /* transfers in a row without any answer, and the device is given up; */
 #define CLOSED_SILENT 3  /* so many once it was asked to leave, and it is taken as gone */
-#define SHORT_WAITS 3    /* waits of 0 ms in a row, and it is asked less often: */
+#define SHORT_WAITS 3    /* waits of 0 ms for one command, and it is asked less often: */
 #define SHORT_WAIT_MS 5
 #define ERASE_COMMAND 0x41
 #define STATE_ERROR 10
@@ -47,6 +47,8 @@ struct answer dfuse_send(struct session *session, const uint8_t setup[8], const 
         return answer;
     answer = answer_send(&session->wire, &action, body);
     note_string(session, setup, &answer);
+    if (!is_request(setup, KIND_IN, REQUEST_GETSTATUS))
+        session->dfuse.short_waits = 0;
     session->silent = answer.seen == DFU_SEEN_NOTHING ? session->silent + 1 : 0;
     return answer;
 }
