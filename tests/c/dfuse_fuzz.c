@@ -1,9 +1,10 @@
 /* Whole runs of dfu-flash with changed DfuSe files, over the stand-in's DfuSe device with changed settings and faults: dfuse_fuzz RUNS
- * SEED, in a folder with dfu-flash, the stand-in and the old memory `old`, 16 pages of 1,024 bytes from 08000000h on. Each run ends with a
- * status of dfu-flash's own and no report of a sanitizer, whose status is 99; a refusal sends nothing; a success is one by a second reader
- * of the file, and has its bytes in the memory; and if the device's map is true, no page without a byte of the file has changed. */
-#define _POSIX_C_SOURCE 200809L
-#include "dfuse_changed.h"
+ * SEED, in a folder with the old memory `old`, 16 pages of 1,024 bytes from 08000000h on. It is linked with dfu-flash, whose main is
+ * flash_main, and with the stand-in, and each run is a process of its own. Each ends with a status of dfu-flash's own and no report of a
+ * sanitizer, whose status is 99; a refusal sends nothing; a success is one by a second reader of the file, and has its bytes in the memory;
+ * and if the device's map is true, no page without a byte of the file has changed. */
+#define _GNU_SOURCE
+#include "dfuse_varied.h"
 
 #include <fcntl.h>
 #include <stdio.h>
@@ -11,122 +12,53 @@
 #include <sys/wait.h>
 #include <unistd.h>
 
-enum { PAGE = 1024, FIXED = 6, MOST_SETTINGS = 40 };
+enum { PAGE = 1024 };
 
-static const char true_maps[] = "@Internal Flash  /0x08000000/16*001Kg|@Bank 2 /0x08000000/16*001Kg";
-static char settings[MOST_SETTINGS][256];
-static int setting_count;
+int flash_main(int count, char **words);
+
 static uint8_t old[SIZE], saved[SIZE];
 static long counts[16];
-static int alternate, is_true;
-
-static void set(const char *name, const char *value)
-{
-    if (setting_count < MOST_SETTINGS)
-        snprintf(settings[setting_count++], sizeof settings[0], "%s=%s", name, value);
-}
-
-static void set_number(const char *name, unsigned number)
-{
-    char text[16];
-    snprintf(text, sizeof text, "%u", number);
-    set(name, text);
-}
-
-static void set_address(const char *name)
-{
-    char text[16];
-    snprintf(text, sizeof text, "%08x", BASE + below(SIZE));
-    set(name, text);
-}
-
-static void set_fates(void)
-{
-    static const char *const kinds[] = {"lost-out", "lost-back", "twice", "leave", "cut", "short", "short", "mute", "deaf", "swap"};
-    char text[200] = "";
-    for (unsigned fate = below(4), at = below(12); fate > 0; fate--, at += 1 + below(40)) {
-        unsigned kind = below(one_in(20) ? 10 : 7);
-        size_t end = strlen(text);
-        snprintf(text + end, sizeof text - end, kind == 5 || kind == 6 ? "%s%s %u %u" : "%s%s %u", end > 0 ? "," : "", kinds[kind], at,
-                 below(7));
-    }
-    set("USB_FATE", text);
-}
-
-static void set_maps(void)
-{
-    char maps[sizeof true_maps];
-    memcpy(maps, true_maps, sizeof maps);
-    is_true = !one_in(8);
-    if (!is_true)
-        maps[below(sizeof maps - 1)] = "0189,*/@KMa eg|x"[below(17)];
-    set("USB_MAPS", maps);
-}
-
-static void make_settings(void)
-{
-    static const char *const cells[] = {"and", "fail", "any"};
-    static const unsigned transfers[] = {2048, 1024, 512, 100, 64, 2048};
-    setting_count = FIXED;
-    set_maps();
-    set_fates();
-    set_number("USB_TRANSFER", transfers[below(6)]);
-    set("USB_CELLS", cells[below(3)]);
-    set_number("USB_BUSY", below(3));
-    set_number("USB_ERASE", below(3));
-    set_number("USB_AWAY", below(3));
-    set("USB_TOLD", one_in(4) ? "nothing" : "all");
-    set("USB_EARLY", one_in(4) ? "stall" : "busy");
-    set("USB_POINTER", one_in(4) ? "erase" : "set");
-    if (one_in(30))
-        set_number("USB_SAID", below(5000));
-    if (one_in(5)) {
-        set_number("USB_FAILS", below(40));
-        set_number("USB_CODE", below(16));
-    }
-    if (one_in(40))
-        set_number("USB_PROTECTED", 1);
-    if (one_in(5))
-        set_address("USB_PENDING");
-    if (one_in(6))
-        set_address("USB_LIES");
-}
+static int alternate;
 
 static int wanted_alternate(void)
 {
     return one_in(4) ? (int)below(2) : -1;
 }
 
-/* The status of a run; over 255 if a signal ended it. */
-static int run(int limits)
+/* dfu-flash, in a process of its own. */
+static void be_flash(int count, char **words)
 {
-    char *environment[MOST_SETTINGS + 1];
-    char number[4];
-    const char *words[12] = {"dfu-flash", "--quiet"};
-    int count = 2, status = 0;
-    pid_t child;
+    static char *environment[MOST_SETTINGS + 1];
     for (int at = 0; at < setting_count; at++)
         environment[at] = settings[at];
     environment[setting_count] = NULL;
+    environ = environment;
+    dup2(open("out", O_WRONLY | O_CREAT | O_TRUNC, 0666), 1);
+    dup2(open("err", O_WRONLY | O_CREAT | O_TRUNC, 0666), 2);
+    alarm(100);
+    exit(flash_main(count, words));
+}
+
+/* The status of a run; over 255 if a signal ended it. */
+static int run(int limits)
+{
+    static char texts[][12] = {"dfu-flash", "--quiet", "--alt", "--limits", "60", "1", "f.dfu"};
+    char number[4];
+    char *words[12] = {texts[0], texts[1]};
+    int count = 2, status = 0;
+    pid_t child;
     snprintf(number, sizeof number, "%d", alternate);
     if (alternate >= 0) {
-        words[count++] = "--alt";
+        words[count++] = texts[2];
         words[count++] = number;
     }
-    if (limits) {
-        words[count++] = "--limits";
-        words[count++] = "60";
-        words[count++] = "1";
-    }
-    words[count] = "f.dfu";
+    for (int at = 3; limits && at < 6; at++)
+        words[count++] = texts[at];
+    words[count++] = texts[6];
+    fflush(NULL);
     child = fork();
-    if (child == 0) {
-        dup2(open("out", O_WRONLY | O_CREAT | O_TRUNC, 0666), 1);
-        dup2(open("err", O_WRONLY | O_CREAT | O_TRUNC, 0666), 2);
-        alarm(100);
-        execve("./dfu-flash", (char *const *)words, environment);
-        _exit(98);
-    }
+    if (child == 0)
+        be_flash(count, words);
     if (child < 0 || waitpid(child, &status, 0) != child)
         exit(2);
     return WIFEXITED(status) ? WEXITSTATUS(status) : 256 + status;
@@ -195,6 +127,8 @@ static const char *fault_of(int status)
         return "another status";
     if (status == 1 && has_sent())
         return "refused, and something was sent";
+    if (!is_dfuse)
+        return second.answer == 0 && (status == 0 || has_sent()) ? "a DfuSe file for another device, and something was sent" : NULL;
     if (status == 0 && (second.answer != 0 || kept != SIZE))
         return "a success with a file that is none";
     if (status == 0 && !has_image(&second))
@@ -213,8 +147,8 @@ static void write_file(void)
 
 int main(int count, char **words)
 {
-    static const char *const fixed[FIXED][2] = {{"LD_LIBRARY_PATH", "."}, {"USB_DEVICE", "dfuse"}, {"USB_IMAGE", "old"},
-        {"USB_SAVE", "saved"}, {"USB_LOG", "log"}, {"ASAN_OPTIONS", "detect_leaks=0:exitcode=99"}};
+    static const char *const fixed[FIXED][2] = {{"USB_DEVICE", "dfuse"}, {"USB_IMAGE", "old"}, {"USB_SAVE", "saved"},
+        {"USB_LOG", "log"}, {"USB_PAGES", "@F/0x08000000/16*001Kg"}};
     long runs = count > 2 ? atol(words[1]) : 0, failed = 0;
     unsigned seed = count > 2 ? (unsigned)atol(words[2]) : 0;
     for (int at = 0; at < FIXED; at++)
@@ -224,11 +158,11 @@ int main(int count, char **words)
     for (long number = 0; number < runs; number++) {
         const char *fault;
         int status;
+        if (number > 0 && number % 5000 == 0)
+            printf("%ld runs, %ld wrong\n", number, failed);
         srand(seed + (unsigned)number);
         make_file();
         make_settings();
-        set("UBSAN_OPTIONS", "exitcode=99");
-        set("USB_PAGES", "@F/0x08000000/16*001Kg");
         alternate = wanted_alternate();
         write_file();
         remove("saved");

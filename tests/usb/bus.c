@@ -69,7 +69,7 @@ static const struct model *model_of(const char *device)
 {
     if (strcmp(device, "proved") == 0)
         return &proved_model;
-    return strcmp(device, "uboot") == 0 ? &uboot_model : strcmp(device, "small") == 0 ? &small_model : &dfuse_model;
+    return strcmp(device, "uboot") == 0 ? &uboot_model : strcmp(device, "small") == 0 ? &small_model : &USB_DFUSE_MODEL;
 }
 
 void bus_make(void)
@@ -155,6 +155,8 @@ static int meets(const struct fate *fate, const uint8_t setup[8], uint8_t *data,
     case FATE_CUT:
         handled(setup, data, length, fate);
         return leave();
+    case FATE_STALL:
+        return USB_ERROR_PIPE;
     case FATE_LOST_OUT:
     case FATE_DEAF:
         return wait_in_vain(timeout);
@@ -256,6 +258,11 @@ bool bus_is_there(void)
 bool bus_is_app(void)
 {
     return seen->is_app;
+}
+
+const uint8_t *bus_string(unsigned number, unsigned *length)
+{
+    return model->string == NULL ? NULL : model->string(number, length);
 }
 
 bool bus_is_swapped(void)

@@ -52,6 +52,9 @@ bool bus_is_app(void);
 /* Whether it is on the bus, or is about to be listed again. */
 bool bus_is_there(void);
 
+/* A string descriptor that the device has of its own, and its bytes; NULL if it has none. */
+const uint8_t *bus_string(unsigned number, unsigned *length);
+
 /* Whether another board stands in the device's place. */
 bool bus_is_swapped(void);
 

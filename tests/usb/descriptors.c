@@ -139,13 +139,24 @@ static unsigned units_of(const char *text, uint16_t units[MOST_UNITS])
     return count;
 }
 
+static int own_string(unsigned number, uint8_t *out, uint16_t room)
+{
+    unsigned length;
+    const uint8_t *bytes = bus_string(number, &length);
+    if (bytes == NULL)
+        return USB_ERROR_PIPE;
+    length = length < room ? length : room;
+    memcpy(out, bytes, length);
+    return (int)length;
+}
+
 int describe_string(unsigned number, bool is_other, uint8_t *out, uint16_t room)
 {
     static const char *const names[] = { "stand-in", "boot", "kernel", "data", "more" };
     const char *text = number < INTERFACE_STRING ? is_other || bus_is_swapped() ? "OTHER" : settings.serial : "";
     uint8_t bytes[2 + 2 * MOST_UNITS] = { 4, 3, 0x09, 0x04 };
     if (number > INTERFACE_STRING + MOST_ALTERNATES)
-        return USB_ERROR_PIPE;
+        return own_string(number, out, room);
     if (number >= INTERFACE_STRING)
         text = settings.maps == NULL ? names[number - INTERFACE_STRING]
             : map_name(number == INTERFACE_STRING ? 0 : number - INTERFACE_STRING - 1);

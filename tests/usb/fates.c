@@ -7,7 +7,7 @@
 static enum fate_kind kind_of(const char *word)
 {
     static const char *const words[] = { "pass", "lost-out", "lost-back", "twice", "short", "leave", "swap", "kill", "deaf", "mute",
-                                         "stuck", "cut" };
+                                         "stuck", "cut", "stall" };
     for (unsigned kind = 0; kind < sizeof words / sizeof *words; kind++)
         if (strcmp(word, words[kind]) == 0)
             return (enum fate_kind)kind;

@@ -22,7 +22,7 @@ static const char *const codes[] = { "OK", "errTARGET", "errFILE", "errWRITE", "
                                      "errSTALLEDPKT" };
 static const char *const requests[] = { "DETACH", "DNLOAD", "UPLOAD", "GETSTATUS", "CLRSTATUS", "GETSTATE", "ABORT" };
 static const char *const fates[] = { "", " lost-out", " lost-back", " twice", " short", " leave", " swap", " kill", " deaf", " mute",
-                                     " stuck", " cut" };
+                                     " stuck", " cut", " stall" };
 
 #define NAME(table, number) ((unsigned)(number) < sizeof(table) / sizeof *(table) ? (table)[number] : "?")
 

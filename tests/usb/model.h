@@ -29,9 +29,17 @@ struct model {
     int (*code)(void);                  /* bStatus */
     struct part (*image)(void);         /* the image that stands */
     struct part (*keeps)(unsigned);     /* by numbers from 0, the size 0 behind the last */
+    const uint8_t *(*string)(unsigned, unsigned *); /* a string descriptor of its own, and its bytes; it may have none */
 };
 
 extern const struct model proved_model, uboot_model, small_model, dfuse_model;
+
+/* A build of its own may have another DfuSe device (tests/slow/mboot). */
+#ifndef USB_DFUSE_MODEL
+#define USB_DFUSE_MODEL dfuse_model
+#else
+extern const struct model USB_DFUSE_MODEL;
+#endif
 
 /* A whole file, in memory that stays; where there is no name, one byte 00h. */
 struct part read_image(const char *name);

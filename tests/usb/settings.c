@@ -47,7 +47,7 @@
  *                 OTHER, stands in its place), `kill N` (the program is killed before it), `deaf N` (from N on
  *                 each is lost on its way out, and resets fail), `mute N` (from N on each answer is lost; resets work),
  *                 `stuck N` (the call never comes back, whatever time it was given), `cut N` (it is handled, and then the power
- *                 goes and comes back)
+ *                 goes and comes back), `stall N` (it is stalled, and nothing else is done with it)
  * USB_LOG         a file that gets a line for each transfer
  * USB_SAVE        a file that gets the active image at the end
  * USB_STATE       a file that keeps the device between runs: read at the start where it is there, written at the end

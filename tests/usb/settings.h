@@ -6,7 +6,7 @@
 #include <stdint.h>
 
 enum fate_kind { FATE_PASS, FATE_LOST_OUT, FATE_LOST_BACK, FATE_TWICE, FATE_SHORT, FATE_LEAVE, FATE_SWAP, FATE_KILL, FATE_DEAF, FATE_MUTE,
-                 FATE_STUCK, FATE_CUT };
+                 FATE_STUCK, FATE_CUT, FATE_STALL };
 
 /* What becomes of the transfer of one number, and, of FATE_DEAF and FATE_MUTE, of each behind it; `bytes` is for FATE_SHORT. */
 struct fate {
