@@ -18,6 +18,8 @@ static void is(int holds, const char *what)
 
 static const char f4[] = "@Internal Flash  /0x08000000/04*016Kg,01*064Kg,07*128Kg";
 
+#define EIGHT "1*1g,1*1g,1*1g,1*1g,1*1g,1*1g,1*1g,1*1g,"
+
 /* A string, and how it is read: a refusal, or 0 and its ranges. */
 static const struct {
     const char *text;
@@ -43,6 +45,9 @@ static const struct {
     {"@F/0x0/1*1Kh", DFUSE_BAD_TYPE, 0, 0, 0, 0, 0, 0},
     {"@F/0x0/1*1Gg", DFUSE_BAD_TYPE, 0, 0, 0, 0, 0, 0},
     {"@F/0xFFFFFC00/2*1Kg", DFUSE_PAST_THE_END, 0, 0, 0, 0, 0, 0},
+    {"@F/0xFFFFFC00/1*1Kg", 0, 1, 1, 0xfffffc00, 1024, 1, 7},
+    {"@F/0/" EIGHT EIGHT EIGHT EIGHT "1*1g", DFUSE_TOO_MANY_RANGES, 0, 0, 0, 0, 0, 0},
+    {"@F/0/" EIGHT EIGHT EIGHT "1*1g,1*1g,1*1g,1*1g,1*1g,1*1g,1*1g,1*1g", 0, 1, 32, 31, 1, 1, 7},
     {"@F/0x0/2*1Kg/0x400/1*1Kg", DFUSE_OVERLAPS, 0, 0, 0, 0, 0, 0},
     {"@F/0x0/1*1Kg;", DFUSE_TRAILING, 0, 0, 0, 0, 0, 0},
 };
