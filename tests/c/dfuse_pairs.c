@@ -1,5 +1,5 @@
 /* Each fault of the link at each transfer of a session of dfu-flash with the stand-in's DfuSe device, and each pair of them: dfuse_pairs
- * WORD.. runs dfu-flash with these words. It is linked with dfu-flash, whose main is flash_main, and with the stand-in, and each run is a
+ * WORD.. runs dfu-flash with these words, and dfuse_pairs --singles WORD.. leaves the pairs out. It is linked with dfu-flash, whose main is flash_main, and with the stand-in, and each run is a
  * process of its own. It runs in a folder with the memory before, `old`, and that which is wanted, `expected`, of up to 1 MiB; the settings
  * of the device are in the environment.
  *
@@ -162,8 +162,9 @@ int main(int count, char **words)
     static struct sent clean, single;
     char fate[32];
     long singles = 0;
-    flash_words = words;
-    flash_count = count;
+    int is_single = count > 1 && strcmp(words[1], "--singles") == 0;
+    flash_words = words + is_single;
+    flash_count = count -= is_single;
     size = read_file("old", old, MOST);
     if (count < 2 || size < PAGE || read_file("expected", expected, MOST) != size)
         return 2;
@@ -175,7 +176,8 @@ int main(int count, char **words)
             snprintf(fate, sizeof fate, kinds[kind], at);
             try(fate, &single);
             singles++;
-            try_behind(fate, at + 1, &single);
+            if (!is_single)
+                try_behind(fate, at + 1, &single);
         }
     printf("%u transfers, %ld single faults, %ld pairs:", clean.count, singles, runs - singles - 1);
     for (int status = 0; status < STATUSES; status++)
