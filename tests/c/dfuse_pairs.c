@@ -1,10 +1,10 @@
 /* Each fault of the link at each transfer of a session of dfu-flash with the stand-in's DfuSe device, and each pair of them: dfuse_pairs
- * WORD.. runs dfu-flash with these words, and dfuse_pairs --singles WORD.. leaves the pairs out. It is linked with dfu-flash, whose main is flash_main, and with the stand-in, and each run is a
- * process of its own. It runs in a folder with the memory before, `old`, and that which is wanted, `expected`, of up to 1 MiB; the settings
- * of the device are in the environment.
+ * WORD.. runs dfu-flash with these words, and dfuse_pairs --singles WORD.. leaves the pairs out. It is linked with dfu-flash, whose main is
+ * flash_main, and with the stand-in, and each run is a process of its own. It runs in a folder with the memory before, `old`, and that
+ * which is wanted, `expected`, of up to 1 MiB; the settings of the device are in the environment.
  *
- * A run ends as verified, and then the memory is the one that is wanted, and the application was started once; or it isn't, which is
- * counted by its status, and then no page of the memory that stays has changed, and the image's front stands only if all of it does. */
+ * A run ends as verified, and then the memory is the one that is wanted, and the application was started at most once; or it isn't, which
+ * is counted by its status, and then no page of the memory that stays has changed, and the image's front stands only if all of it does. */
 #define _POSIX_C_SOURCE 200809L
 #include <fcntl.h>
 #include <stdio.h>
