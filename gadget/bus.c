@@ -4,6 +4,8 @@
 #include "clock.h"
 #include "say.h"
 
+#include <string.h>
+
 /* What follows each change of the machine. */
 static void look(struct bus *bus)
 {
@@ -43,14 +45,26 @@ void bus_leave(struct bus *bus)
     bus->mode = NOWHERE;
 }
 
+void bus_name(const struct bus *bus, char name[FUNCTION_NAME])
+{
+    if (bus->machine.tries == 0)
+        memcpy(name, "Firmware", sizeof "Firmware");
+    else
+        trial_words(&bus->machine.trial, bus->machine.config.device, name);
+}
+
 /* To leave with the one gadget and come with the other is no reset of the machine's. */
 bool bus_settle(struct bus *bus)
 {
+    char name[FUNCTION_NAME];
     int wanted = machine_is_upgrade(&bus->machine) ? UPGRADE : APPLICATION;
     struct function *function = &bus->functions[wanted];
     if (wanted == bus->mode)
         return true;
     bus_leave(bus);
+    bus_name(bus, name);
+    if (!function_rename(function, name))
+        return false;
     function_begin(function);
     controller_is_new_state(&bus->controller);
     if (!controller_join(&bus->controller, function->gadget))

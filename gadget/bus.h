@@ -29,6 +29,9 @@ void bus_reset(struct bus *bus);
 
 /* The gadget that the state asks for comes to the bus. False where it can't. */
 bool bus_settle(struct bus *bus);
+
+/* What the interface is called: Firmware, or with images on trial the version, and the trial. */
+void bus_name(const struct bus *bus, char name[FUNCTION_NAME]);
 void bus_leave(struct bus *bus);
 
 /* A setup that stands there is answered, and what the answer announced is done. */

@@ -13,6 +13,7 @@
 #include <fcntl.h>
 #include <linux/usb/functionfs.h>
 #include <poll.h>
+#include <stdio.h>
 #include <string.h>
 #include <sys/eventfd.h>
 #include <unistd.h>
@@ -24,17 +25,19 @@ static int open_signals(void)
     return eventfd(0, EFD_CLOEXEC | EFD_NONBLOCK);
 }
 
-bool function_open(struct function *function, const char *gadget, uint8_t protocol, const uint8_t functional[9])
+bool function_open(struct function *function, const char *gadget, uint8_t protocol, const uint8_t functional[9], const char *name)
 {
     char path[MOST_PATH];
-    *function = (struct function){.gadget = gadget, .ep0 = -1, .signals = -1};
+    *function = (struct function){.gadget = gadget, .protocol = protocol, .ep0 = -1, .signals = -1};
+    memcpy(function->functional, functional, sizeof function->functional);
+    snprintf(function->name, sizeof function->name, "%s", name);
     if (!path_of_function(path, gadget))
         return say_wrong(gadget, "its path is too long");
     function->signals = open_signals();
     function->ep0 = open(path, O_RDWR | O_CLOEXEC);
     if (function->ep0 < 0 || function->signals < 0)
         return say_failed(path, "can't be opened");
-    if (descriptors_write(function->ep0, function->signals, protocol, functional))
+    if (descriptors_write(function->ep0, function->signals, protocol, functional, function->name))
         return true;
     say_failed(path, "takes no descriptors of DFU");
     return errno == EINVAL ? say_wrong(path, "Linux takes them from 6.11 on") : false;
@@ -48,6 +51,15 @@ void function_close(struct function *function)
     if (function->signals > 0)
         close(function->signals);
     function->ep0 = function->signals = -1;
+}
+
+bool function_rename(struct function *function, const char *name)
+{
+    const struct function before = *function;
+    if (strcmp(before.name, name) == 0)
+        return true;
+    function_close(function);
+    return function_open(function, before.gadget, before.protocol, before.functional, name);
 }
 
 static void count(struct function *function)

@@ -7,8 +7,12 @@
 #include <stddef.h>
 #include <stdint.h>
 
+#define FUNCTION_NAME 64 /* bytes of a name of an interface, with its NUL */
+
 struct function {
     const char *gadget;  /* whose function it is */
+    char name[FUNCTION_NAME]; /* of its interface */
+    uint8_t protocol, functional[9];
     int ep0;             /* events, and the transfers of endpoint 0 */
     int signals;         /* an eventfd: how many events there were */
     int64_t unread;      /* how many of these were not read, */
@@ -25,8 +29,12 @@ struct events {
 enum { PROTOCOL_RUN_TIME = 1, PROTOCOL_DFU = 2 };
 
 /* Opens endpoint 0 and hands in the descriptors. False where FunctionFS takes none of them, which is said. */
-bool function_open(struct function *function, const char *gadget, uint8_t protocol, const uint8_t functional[9]);
+bool function_open(struct function *function, const char *gadget, uint8_t protocol, const uint8_t functional[9], const char *name);
 void function_close(struct function *function);
+
+/* Its interface has this name from here on: where it had another one, it is opened anew, while its gadget isn't on the bus. False where
+   FunctionFS failed, which is said. */
+bool function_rename(struct function *function, const char *name);
 
 /* Its gadget is about to come to the bus: what stands unread is of the time before, and is dropped. */
 void function_begin(struct function *function);

@@ -95,12 +95,12 @@ static void look_at_gadget(const char *name)
         close(file);
 }
 
-static void look_at_medium(const char *name)
+static void look_at_medium(const char *name, uint32_t tries)
 {
     struct medium medium;
     struct dfu_place place;
     int32_t refusal;
-    if (!medium_map(&medium, name, MEDIUM_WRITE)) {
+    if (!medium_map(&medium, name, MEDIUM_WRITE, medium_head(tries))) {
         line("medium", name, "it can't be had, as said");
         return;
     }
@@ -123,7 +123,7 @@ int look_around(const struct words *words)
     look_at_controller(words->controller);
     look_at_gadget(words->application);
     look_at_gadget(words->upgrade);
-    look_at_medium(words->medium);
+    look_at_medium(words->medium, words->tries);
     if (words->command != NULL)
         look_at_command(words->command);
     if (fflush(stdout) != 0 || ferror(stdout)) {

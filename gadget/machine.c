@@ -3,15 +3,18 @@
    for, each on the disk before the next, and no other call is made meanwhile. */
 #include "machine.h"
 #include "dfu_device_memory.h"
+#include "driver.h"
 #include "say.h"
-#include "stop.h"
 
-#include <errno.h>
-#include <stdio.h>
+#include <string.h>
 
-/* For what is asked of a medium alone: of a configuration, its unit and its sector count there. A file is written over in place. */
-static const struct dfu_config layout = {
-    .version = DFU_VERSION, .transfer = 1, .attributes = DFU_MANIFESTATION_TOLERANT, .least = 1, .unit = MACHINE_UNIT, .sector = 0};
+/* For what is asked of a medium alone: of a configuration, its unit and its sector count there. A file is written over in place, but for
+   images on trial. */
+static struct dfu_config layout(uint32_t sector)
+{
+    return (struct dfu_config){.version = DFU_VERSION, .transfer = 1, .attributes = DFU_MANIFESTATION_TOLERANT, .least = 1,
+                               .unit = MACHINE_UNIT, .sector = sector};
+}
 
 static int32_t note(struct machine *machine, int32_t answer)
 {
@@ -20,27 +23,20 @@ static int32_t note(struct machine *machine, int32_t answer)
     return answer;
 }
 
-/* One write, and how it went: 0 where it is on the disk. Behind one that failed the library reads what the disk has. */
-static int program(void *own, uint32_t at, const uint8_t *bytes, uint32_t length)
+static const uint8_t *gate_of(const struct machine *machine)
 {
-    const struct medium *medium = ((const struct machine *)own)->medium;
-    bool is_sound = length <= MEDIUM_MOST_WRITE && at <= medium->size && length <= medium->size - at;
-    errno = EINVAL;
-    if (is_sound && medium_write(medium, at, bytes, length))
-        return 0;
-    say_failed(medium->name, "was not written");
-    if (is_sound && !medium_forget(medium, at, length)) {
-        fflush(NULL);
-        stop_lost();
-    }
-    return 1;
+    return machine->medium->bytes + machine->place.at - MEDIUM_TRIAL_HEAD;
 }
 
-/* Of a medium that is written over in place no erase is asked for. */
-static int erase(void *own, uint32_t at, uint32_t length)
+static void note_gate(struct machine *machine)
 {
-    (void)own, (void)at, (void)length;
-    return 1;
+    if (machine->tries != 0)
+        memcpy(machine->gate, gate_of(machine), sizeof machine->gate);
+}
+
+static bool is_gate_noted(const struct machine *machine)
+{
+    return memcmp(machine->gate, gate_of(machine), sizeof machine->gate) == 0;
 }
 
 /* Another image is in place where the active one begins somewhere else. */
@@ -51,6 +47,7 @@ static void look_for_image(struct machine *machine)
         return;
     machine->is_installed = machine->is_installed || place.at != machine->place.at;
     machine->place = place;
+    note_gate(machine);
 }
 
 /* The writes that are due, until the library has its answer. */
@@ -69,18 +66,48 @@ int32_t machine_power_on(struct machine *machine, const struct medium *medium, b
     struct dfu_device *device = &machine->device;
     machine->medium = medium;
     machine->refusal = 0;
-    machine->driver = (struct dfu_driver){.own = machine, .erase = erase, .program = program};
+    machine->driver = driver_of(medium);
     *device = (struct dfu_device){.config = &machine->config, .flash = medium->bytes, .size = medium->size, .block = machine->block,
                                   .most = sizeof machine->block, .driver = &machine->driver};
     if (note(machine, is_upgrade ? dfu_device_begin(device) : dfu_device_power_on(device)) == 0)
         note(machine, dfu_device_image(device, &machine->place));
+    machine->trial = trial_of(medium, &machine->driver, machine->tries);
+    if (machine->refusal == 0)
+        note_gate(machine);
     return machine->refusal;
+}
+
+void machine_again(struct machine *machine)
+{
+    if (machine->tries == 0 || is_gate_noted(machine))
+        return;
+    say_event("trial: ended by another program");
+    machine_power_on(machine, machine->medium, machine_is_upgrade(machine));
+}
+
+/* A download ends a trial first: it would write over the image that was confirmed. False if the setup is to be stalled. */
+static bool make_room(struct machine *machine, const uint8_t setup[8])
+{
+    int32_t answer = dfu_trial_download(&machine->trial, &machine->device, setup);
+    if (answer != 0) {
+        if (answer != DFU_NOT_WRITTEN)
+            note(machine, answer);
+        return false;
+    }
+    if (is_gate_noted(machine))
+        return true;
+    say_event("trial: ended by a download");
+    note(machine, dfu_device_image(&machine->device, &machine->place));
+    note_gate(machine);
+    return machine->refusal == 0;
 }
 
 /* A data stage that the host sends is acknowledged as it is taken, so the library is asked before. */
 enum plan machine_plan(struct machine *machine, const uint8_t setup[8])
 {
     size_t length = (size_t)(setup[6] | setup[7] << 8);
+    if (machine->tries != 0 && !make_room(machine, setup))
+        return PLAN_STALL;
     if ((setup[0] & 0x80) != 0 || length == 0)
         return PLAN_ANSWER;
     if (length > machine->config.transfer) {
@@ -150,12 +177,15 @@ int32_t machine_functional(const struct machine *machine, uint8_t out[9])
 
 int32_t machine_image(const struct medium *medium, struct dfu_place *place)
 {
-    return dfu_core_image(&layout, medium->bytes, medium->size, place);
+    const struct dfu_config config = layout(medium->head == MEDIUM_TRIAL_HEAD ? MEDIUM_TRIAL_SECTOR : 0);
+    return dfu_core_image(&config, medium->bytes, medium->size, place);
 }
 
-int32_t machine_format(uint8_t *memory, size_t size, const uint8_t *image, size_t length)
+int32_t machine_format(uint8_t *memory, size_t size, const uint8_t *image, size_t length, uint32_t tries)
 {
-    return dfu_memory_format(&layout, memory, size, image, length);
+    const struct dfu_config config = layout(tries == 0 ? 0 : MEDIUM_TRIAL_SECTOR);
+    const int32_t refusal = dfu_memory_format(&config, memory, size, image, length);
+    return refusal != 0 || tries == 0 ? refusal : trial_confirm_first(memory, size, tries);
 }
 
 const char *machine_words(int32_t refusal)

@@ -1,16 +1,18 @@
 /* SPDX-License-Identifier: MIT OR Apache-2.0 */
-/* The device, as the proved library decides it. All calls of that library are in machine.c; what it asks for is carried out there
-   before anything else is asked of it. */
+/* The device, as the proved library decides it. All calls of that library are in machine.c and trial.c; what it asks for is carried out
+   there before anything else is asked of it. */
 #ifndef DFU_GADGET_MACHINE_H
 #define DFU_GADGET_MACHINE_H
 
 #include "dfu_device.h"
 #include "medium.h"
+#include "trial.h"
 
 #include <stdbool.h>
 
 #define MOST_TRANSFER 4096 /* bytes of a block */
 #define MACHINE_UNIT 1     /* a file is written byte by byte, as far as its layout goes */
+#define MACHINE_GATE 16    /* bytes of the gate, at the begin of a slot */
 
 struct machine {
     struct dfu_config config;
@@ -20,13 +22,19 @@ struct machine {
     const struct medium *medium;
     struct dfu_place place;  /* of the active image */
     bool is_installed;       /* another image was put in place, and nobody has looked at this yet */
+    uint32_t tries;          /* how often a new image is started on trial, 0 for no trials, and then: */
+    struct dfu_trial trial;
+    uint8_t gate[MACHINE_GATE]; /* the gate of the active image, as it was last */
     int32_t refusal;         /* of the library; 0 where there was none. What follows one has no meaning */
 };
 
 /* The device gets power, and begins as the application or in DFU mode: 0, or the library's refusal. */
 int32_t machine_power_on(struct machine *machine, const struct medium *medium, bool is_upgrade);
 
-/* What is to be done with a setup before its data stage. */
+/* Another program may have ended a trial since: then the device gets power anew, in the mode that it is in. */
+void machine_again(struct machine *machine);
+
+/* What is to be done with a setup before its data stage. If it begins a download while an image is on trial, the trial ends. */
 enum plan { PLAN_ANSWER, PLAN_STALL, PLAN_TAKE };
 enum plan machine_plan(struct machine *machine, const uint8_t setup[8]);
 
@@ -54,7 +62,7 @@ int32_t machine_functional(const struct machine *machine, uint8_t out[9]);
 
 /* Of a medium that is mapped, where its image stands; and a new medium in memory: 0, or the library's refusal. */
 int32_t machine_image(const struct medium *medium, struct dfu_place *place);
-int32_t machine_format(uint8_t *memory, size_t size, const uint8_t *image, size_t length);
+int32_t machine_format(uint8_t *memory, size_t size, const uint8_t *image, size_t length, uint32_t tries);
 
 /* What a refusal of the library means. */
 const char *machine_words(int32_t refusal);

@@ -1,11 +1,12 @@
 /* SPDX-License-Identifier: MIT OR Apache-2.0 */
 /* dfu-gadget: a Linux board as a device of DFU. What is answered, when time matters and what is written, and in which order, is decided
-   by the proved device (dfu_device.h, called in machine.c alone); this program carries it out, by FunctionFS and on the medium. The rest
-   is proved by nobody. share/man/dfu-gadget.1 says how it is used.
+   by the proved device (dfu_device.h and dfu_trial.h, called in machine.c and trial.c alone); this program carries it out, by
+   FunctionFS and on the medium. The rest is proved by nobody. share/man/dfu-gadget.1 says how it is used.
 
    words, config, help     the command line, and the file of --config
    make, look, run         the work of format and image, of --dry-run, and of run
-   machine                 all calls of the library, and the writes that it asks for
+   machine, driver         the calls of the library, and the writes that it asks for
+   trial                   images on trial, and the work of start, confirm and end
    bus                     requests, time, resets, and which gadget is on the bus
    function, descriptors   FunctionFS: its events, transfers and descriptors
    controller, paths       the controller, and the files below /sys, /dev and /proc
@@ -16,6 +17,7 @@
 #include "paths.h"
 #include "run.h"
 #include "say.h"
+#include "trial.h"
 
 #include <stdio.h>
 
@@ -45,6 +47,9 @@ int main(int count, char **texts)
     case JOB_FORMAT: return make_medium(&words);
     case JOB_IMAGE: return write_image(&words);
     case JOB_RUN: return words.dry_run ? look_around(&words) : run_device(&words);
+    case JOB_START: return start_image(&words);
+    case JOB_CONFIRM: return confirm_image(&words);
+    case JOB_END: return end_trial(&words);
     default: return print_text(&words);
     }
 }

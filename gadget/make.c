@@ -46,7 +46,8 @@ static uint8_t *make_content(const struct words *words, size_t size, int *status
     if (image == NULL)
         return NULL;
     content = calloc(1, size);
-    refusal = content == NULL ? 0 : length > words->most ? DFU_TOO_LARGE : machine_format(content, size, image, length);
+    refusal = content == NULL ? 0 : length > words->most ? DFU_TOO_LARGE
+        : machine_format(content, size, image, length, words->tries);
     free(image);
     if (content == NULL)
         say_failed(words->image, "finds no memory");
@@ -85,10 +86,12 @@ static int overwrite(const struct words *words)
     size_t size;
     bool is_done;
     int status = STATUS_REFUSED;
-    if (!medium_open(&medium, words->medium, MEDIUM_WRITE))
+    if (!medium_open(&medium, words->medium, MEDIUM_WRITE, medium_head(words->tries)))
         return STATUS_REFUSED;
-    size = medium.is_device ? medium.size : medium_wanted(words->most, medium.sector);
-    if (size == 0 || words->most > medium_most(size))
+    size = medium.is_device ? medium.size : medium_wanted(words->most, medium.sector, medium.head);
+    if (!medium_turn(&medium))
+        status = STATUS_FILE;
+    else if (size == 0 || words->most > medium_most(size, medium.head))
         say_wrong(words->medium, "it has no room for two images of --most bytes");
     else if (!words->force && !is_blank(&medium, medium.is_device ? size : (size_t)lseek(medium.file, 0, SEEK_END)))
         say_wrong(words->medium, "something stands there already: --force overwrites it");
@@ -137,7 +140,7 @@ static bool sync_folder(const char *name)
 
 static int make_new(const struct words *words)
 {
-    size_t size = medium_wanted(words->most, NEW_SECTOR);
+    size_t size = medium_wanted(words->most, NEW_SECTOR, medium_head(words->tries));
     int status = STATUS_REFUSED;
     uint8_t *content = size == 0 ? NULL : make_content(words, size, &status);
     char *beside = content == NULL ? NULL : name_beside(words->medium);
@@ -168,22 +171,31 @@ int make_medium(const struct words *words)
     return STATUS_REFUSED;
 }
 
+static int print_image(const struct medium *medium, const struct dfu_place *place)
+{
+    if (fwrite(medium->bytes + place->at, 1, place->length, stdout) == place->length && fflush(stdout) == 0)
+        return STATUS_DONE;
+    say_failed("standard output", "failed");
+    return STATUS_FILE;
+}
+
+/* No medium has an image by both layouts, with trials and without: where the one has its header, the other has none. */
 int write_image(const struct words *words)
 {
+    static const size_t heads[] = {MEDIUM_HEAD, MEDIUM_TRIAL_HEAD};
     struct medium medium;
     struct dfu_place place;
-    int32_t refusal;
-    int status = STATUS_DONE;
-    if (!medium_map(&medium, words->medium, MEDIUM_READ))
-        return STATUS_REFUSED;
-    refusal = machine_image(&medium, &place);
-    if (refusal != 0) {
-        say_wrong(words->medium, machine_words(refusal));
-        status = STATUS_REFUSED;
-    } else if (fwrite(medium.bytes + place.at, 1, place.length, stdout) != place.length || fflush(stdout) != 0) {
-        say_failed("standard output", "failed");
-        status = STATUS_FILE;
+    int32_t refusal = DFU_NO_MEDIUM;
+    int status = STATUS_REFUSED;
+    for (size_t at = 0; at < 2 && refusal != 0; at++) {
+        if (!medium_map(&medium, words->medium, MEDIUM_READ, heads[at]))
+            return STATUS_REFUSED;
+        refusal = machine_image(&medium, &place);
+        if (refusal == 0)
+            status = print_image(&medium, &place);
+        medium_close(&medium);
     }
-    medium_close(&medium);
+    if (refusal != 0)
+        say_wrong(words->medium, machine_words(DFU_NO_MEDIUM));
     return status;
 }

@@ -14,25 +14,29 @@
 #include <unistd.h>
 
 #define SECTOR 4096         /* bytes, the largest sector of common disks and cards */
-#define HEADER 32           /* bytes of a slot that are not its image's */
 #define MOST_IMAGE 16777216 /* bytes, the library's limit */
 
 /* The largest slot is a whole number of sectors too. */
-size_t medium_slots(size_t size, size_t sector)
+size_t medium_slots(size_t size, size_t sector, size_t head)
 {
-    size_t slot = size / 2 / sector * sector, largest = (HEADER + MOST_IMAGE) / sector * sector;
+    size_t slot = size / 2 / sector * sector, largest = (head + MOST_IMAGE) / sector * sector;
     return 2 * (slot < largest ? slot : largest);
 }
 
-size_t medium_wanted(size_t most, size_t sector)
+size_t medium_wanted(size_t most, size_t sector, size_t head)
 {
-    size_t slot = most > MOST_IMAGE ? 0 : (HEADER + most + sector - 1) / sector * sector;
-    return slot == 0 || slot > HEADER + MOST_IMAGE ? 0 : 2 * slot;
+    size_t slot = most > MOST_IMAGE ? 0 : (head + most + sector - 1) / sector * sector;
+    return slot == 0 || slot > head + MOST_IMAGE ? 0 : 2 * slot;
 }
 
-size_t medium_most(size_t size)
+size_t medium_most(size_t size, size_t head)
 {
-    return size / 2 < HEADER ? 0 : size / 2 - HEADER;
+    return size / 2 < head ? 0 : size / 2 - head;
+}
+
+size_t medium_head(uint32_t tries)
+{
+    return tries == 0 ? MEDIUM_HEAD : MEDIUM_TRIAL_HEAD;
 }
 
 /* A link is followed to a block device alone, as those of /dev/disk are: a link to a file may be someone else's. What would block,
@@ -62,13 +66,13 @@ static bool take_size(struct medium *medium, const struct stat *is)
         medium->sector = physical;
     if (end < 0)
         return say_failed(medium->name, "has no size");
-    medium->size = medium_slots((size_t)end, medium->sector);
+    medium->size = medium_slots((size_t)end, medium->sector, medium->head);
     return true;
 }
 
 static bool take_alone(const struct medium *medium, enum medium_use use)
 {
-    return use == MEDIUM_READ || flock(medium->file, LOCK_EX | LOCK_NB) == 0
+    return use != MEDIUM_WRITE || flock(medium->file, LOCK_EX | LOCK_NB) == 0
         || say_failed(medium->name, "is in use by another dfu-gadget");
 }
 
@@ -85,14 +89,15 @@ static bool look(struct medium *medium, enum medium_use use)
         return say_failed(medium->name, "can't be looked at");
     if (!S_ISREG(is.st_mode) && !S_ISBLK(is.st_mode))
         return say_wrong(medium->name, "it is neither a regular file nor a block device");
-    if (use == MEDIUM_WRITE && is_shared(&is))
+    if (use != MEDIUM_READ && is_shared(&is))
         say_wrong(medium->name, "warning: other users may write it");
     return take_size(medium, &is) && take_alone(medium, use);
 }
 
-bool medium_open(struct medium *medium, const char *name, enum medium_use use)
+bool medium_open(struct medium *medium, const char *name, enum medium_use use, size_t head)
 {
-    *medium = (struct medium){.name = name, .file = open_there(name, use == MEDIUM_WRITE ? O_RDWR | O_EXCL : O_RDONLY)};
+    static const int flags[] = {[MEDIUM_READ] = O_RDONLY, [MEDIUM_WRITE] = O_RDWR | O_EXCL, [MEDIUM_MARK] = O_RDWR};
+    *medium = (struct medium){.name = name, .file = open_there(name, flags[use]), .head = head, .is_shared = use == MEDIUM_MARK};
     if (medium->file < 0 && errno == EBUSY)
         return say_wrong(name, "it is in use, by a file system that is mounted or by another program");
     if (medium->file < 0)
@@ -103,10 +108,10 @@ bool medium_open(struct medium *medium, const char *name, enum medium_use use)
     return false;
 }
 
-bool medium_map(struct medium *medium, const char *name, enum medium_use use)
+bool medium_map(struct medium *medium, const char *name, enum medium_use use, size_t head)
 {
     void *bytes;
-    if (!medium_open(medium, name, use))
+    if (!medium_open(medium, name, use, head))
         return false;
     if (medium->size == 0) {
         medium_close(medium);
@@ -132,6 +137,26 @@ void medium_close(struct medium *medium)
     if (medium->file >= 0)
         close(medium->file);
     medium->file = -1;
+}
+
+/* A lock of the open file, beside that of flock, which one `run` keeps. */
+static bool set_turn(const struct medium *medium, short kind)
+{
+    struct flock lock = {.l_type = kind, .l_whence = SEEK_SET, .l_start = 0, .l_len = 1};
+    int taken;
+    while ((taken = fcntl(medium->file, F_OFD_SETLKW, &lock)) != 0 && errno == EINTR)
+        continue;
+    return taken == 0;
+}
+
+bool medium_turn(const struct medium *medium)
+{
+    return set_turn(medium, F_WRLCK) || say_failed(medium->name, "can't be locked");
+}
+
+void medium_give_turn(const struct medium *medium)
+{
+    (void)set_turn(medium, F_UNLCK);
 }
 
 bool medium_write(const struct medium *medium, size_t at, const uint8_t *bytes, size_t length)

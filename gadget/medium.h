@@ -15,26 +15,38 @@ struct medium {
     const uint8_t *bytes;  /* NULL before it is mapped */
     size_t size;           /* of both slots */
     size_t sector;         /* no sector of so many bytes has bytes of both */
+    size_t head;           /* bytes of a slot before its image */
+    bool is_shared;        /* opened by MEDIUM_MARK: others may have it mapped */
 };
 
-enum medium_use { MEDIUM_READ, MEDIUM_WRITE };
+/* MEDIUM_MARK: for a mark of a trial, while `run` has it. */
+enum medium_use { MEDIUM_READ, MEDIUM_WRITE, MEDIUM_MARK };
+
+/* What stands before the image in a slot: gate and header, which are in sectors of their own if images run on trial. */
+enum { MEDIUM_HEAD = 32, MEDIUM_TRIAL_SECTOR = 4096, MEDIUM_TRIAL_HEAD = 2 * MEDIUM_TRIAL_SECTOR };
+size_t medium_head(uint32_t tries);
 
 /* Opens what is there: a regular file that is no link, or a block device. For writing, nobody else may have it: no other
    dfu-gadget, and of a device no file system that is mounted. False, which is said. */
-bool medium_open(struct medium *medium, const char *name, enum medium_use use);
+bool medium_open(struct medium *medium, const char *name, enum medium_use use, size_t head);
 
 /* The same, and maps it. */
-bool medium_map(struct medium *medium, const char *name, enum medium_use use);
+bool medium_map(struct medium *medium, const char *name, enum medium_use use, size_t head);
 void medium_close(struct medium *medium);
 
+/* With images on trial several programs write the medium in turn. Waits for the turn, and gives it back, as its end does too. False, which
+   is said. */
+bool medium_turn(const struct medium *medium);
+void medium_give_turn(const struct medium *medium);
+
 /* How many bytes the two slots take of `size`, 0 where there is too little: the most that no sector holds bytes of both. */
-size_t medium_slots(size_t size, size_t sector);
+size_t medium_slots(size_t size, size_t sector, size_t head);
 
 /* How many bytes a medium for images of up to `most` bytes has, 0 where none can. */
-size_t medium_wanted(size_t most, size_t sector);
+size_t medium_wanted(size_t most, size_t sector, size_t head);
 
 /* The most bytes of an image of a medium with `size` bytes. */
-size_t medium_most(size_t size);
+size_t medium_most(size_t size, size_t head);
 
 /* Puts bytes at their place, and on the disk. False where that failed, with errno. */
 bool medium_write(const struct medium *medium, size_t at, const uint8_t *bytes, size_t length);
@@ -42,7 +54,7 @@ bool medium_write(const struct medium *medium, size_t at, const uint8_t *bytes, 
 /* After a write that failed: Linux keeps the bytes in its memory, and gives them to whoever reads, though the disk hasn't got them. They
    are dropped, so that what is read comes from the disk. False where they stay; of a medium that is mapped, `length` is at most
    MEDIUM_MOST_WRITE. */
-#define MEDIUM_MOST_WRITE 256
+#define MEDIUM_MOST_WRITE 4096
 bool medium_forget(const struct medium *medium, size_t at, size_t length);
 
 #endif

@@ -16,7 +16,8 @@ static bool take_numbers(struct dfu_config *config, const struct words *words)
 {
     *config = (struct dfu_config){.version = DFU_VERSION, .detach_ms = words->detach_ms, .transfer = words->transfer,
                                   .attributes = words->attributes, .busy_ms = words->busy_ms, .manifest_ms = words->manifest_ms,
-                                  .least = words->least, .unit = MACHINE_UNIT};
+                                  .least = words->least, .unit = MACHINE_UNIT,
+                                  .sector = words->tries == 0 ? 0 : MEDIUM_TRIAL_SECTOR};
     return controller_number(words->upgrade, "idVendor", &config->vendor)
         && controller_number(words->upgrade, "idProduct", &config->product)
         && controller_number(words->upgrade, "bcdDevice", &config->device);
@@ -25,9 +26,13 @@ static bool take_numbers(struct dfu_config *config, const struct words *words)
 static int set_up(struct bus *bus, struct medium *medium, const struct words *words)
 {
     uint8_t functional[9];
+    char name[FUNCTION_NAME];
     int32_t refusal;
-    if (!medium_map(medium, words->medium, MEDIUM_WRITE))
+    if (!medium_map(medium, words->medium, MEDIUM_WRITE, medium_head(words->tries)))
         return STATUS_REFUSED;
+    if (words->tries != 0 && !medium_turn(medium))
+        return STATUS_FILE;
+    bus->machine.tries = words->tries;
     if (!take_numbers(&bus->machine.config, words) || !controller_open(&bus->controller, words->controller))
         return STATUS_MISSING;
     refusal = machine_power_on(&bus->machine, medium, words->dfu_mode);
@@ -35,13 +40,14 @@ static int set_up(struct bus *bus, struct medium *medium, const struct words *wo
         say_wrong(words->medium, machine_words(refusal));
         return refusal == DFU_NO_MEDIUM || refusal == DFU_NO_CONFIG ? STATUS_REFUSED : STATUS_BROKEN;
     }
-    if (words->least > medium_most(medium->size)) {
+    if (words->least > medium_most(medium->size, medium->head)) {
         say_wrong(words->medium, "has no room for an image of --least bytes: no download could end");
         return STATUS_REFUSED;
     }
     machine_functional(&bus->machine, functional);
-    return function_open(&bus->functions[APPLICATION], words->application, PROTOCOL_RUN_TIME, functional)
-            && function_open(&bus->functions[UPGRADE], words->upgrade, PROTOCOL_DFU, functional)
+    bus_name(bus, name);
+    return function_open(&bus->functions[APPLICATION], words->application, PROTOCOL_RUN_TIME, functional, name)
+            && function_open(&bus->functions[UPGRADE], words->upgrade, PROTOCOL_DFU, functional, name)
         ? STATUS_DONE : STATUS_MISSING;
 }
 
@@ -68,33 +74,47 @@ static int take_events(struct bus *bus)
     return STATUS_DONE;
 }
 
-/* Where nothing stands to be read, what the controller's state reports belongs to an event that was read. */
-static int wait_once(struct bus *bus)
+/* What a wait reports. Where nothing stands to be read, what the controller's state reports belongs to an event that was read. */
+static int take_what_came(struct bus *bus, const struct pollfd waits[WAITS])
 {
-    struct function *function = &bus->functions[bus->mode];
-    struct pollfd waits[WAITS] = {[EVENTS] = {.fd = function->ep0, .events = POLLIN},
-                                  [STOP] = {.fd = stop_descriptor(), .events = POLLIN},
-                                  [CHILD] = {.fd = bus->installed.child, .events = POLLIN},
-                                  [CONTROLLER_STATE] = {.fd = bus->controller.state, .events = POLLPRI}};
-    function_rest(function);
-    if (poll(waits, WAITS, bus_pause(bus)) < 0 && errno != EINTR) {
-        say_failed("poll", "failed");
-        return STATUS_BUS;
-    }
-    if (stop_signal() != 0)
-        return STATUS_DONE;
     if (waits[CHILD].revents != 0)
         installed_end(&bus->installed);
     if ((waits[EVENTS].revents & POLLIN) != 0)
         return take_events(bus);
     if (waits[EVENTS].revents != 0) {
-        say_wrong(function->gadget, "its FunctionFS is gone");
+        say_wrong(bus->functions[bus->mode].gadget, "its FunctionFS is gone");
         return STATUS_BUS;
     }
     if (waits[CONTROLLER_STATE].revents != 0)
         controller_is_new_state(&bus->controller);
     bus_pass(bus);
     return STATUS_DONE;
+}
+
+/* With images on trial other programs have their turn at the medium while this waits. */
+static int wait_once(struct bus *bus)
+{
+    struct function *function = &bus->functions[bus->mode];
+    bool has_turns = bus->machine.tries != 0;
+    int ready;
+    struct pollfd waits[WAITS] = {[EVENTS] = {.fd = function->ep0, .events = POLLIN},
+                                  [STOP] = {.fd = stop_descriptor(), .events = POLLIN},
+                                  [CHILD] = {.fd = bus->installed.child, .events = POLLIN},
+                                  [CONTROLLER_STATE] = {.fd = bus->controller.state, .events = POLLPRI}};
+    function_rest(function);
+    if (has_turns)
+        medium_give_turn(bus->machine.medium);
+    ready = poll(waits, WAITS, bus_pause(bus));
+    if (ready < 0 && errno != EINTR) {
+        say_failed("poll", "failed");
+        return STATUS_BUS;
+    }
+    if (stop_signal() != 0)
+        return STATUS_DONE;
+    if (has_turns && !medium_turn(bus->machine.medium))
+        return STATUS_FILE;
+    machine_again(&bus->machine);
+    return bus_is_sound(bus) ? take_what_came(bus, waits) : STATUS_DONE;
 }
 
 static int serve(struct bus *bus)

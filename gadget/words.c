@@ -9,7 +9,7 @@
 #include <stdlib.h>
 #include <string.h>
 
-enum { MOST = 256, FORCE, CONTROLLER, CONFIG, APPLICATION, UPGRADE, CHECK, ON_INSTALLED, DFU_MODE, DETACH_TIMEOUT, TRANSFER_SIZE,
+enum { MOST = 256, FORCE, CONTROLLER, CONFIG, APPLICATION, UPGRADE, CHECK, TRIES, ON_INSTALLED, DFU_MODE, DETACH_TIMEOUT, TRANSFER_SIZE,
        ATTRIBUTES, BUSY, MANIFEST, LEAST, DRY_RUN, VERBOSE, ROOT, HELP, VERSION };
 
 static const struct option options[] = {
@@ -20,6 +20,7 @@ static const struct option options[] = {
     {"application", required_argument, NULL, APPLICATION},
     {"upgrade", required_argument, NULL, UPGRADE},
     {"check", required_argument, NULL, CHECK},
+    {"tries", required_argument, NULL, TRIES},
     {"on-installed", required_argument, NULL, ON_INSTALLED},
     {"dfu-mode", no_argument, NULL, DFU_MODE},
     {"detach-timeout", required_argument, NULL, DETACH_TIMEOUT},
@@ -38,6 +39,7 @@ static const struct option options[] = {
 
 #define MOST_IMAGE 16777216 /* bytes */
 #define MOST_MS 16777215
+#define MOST_TRIES 254 /* what a sector has marks for */
 #define BY_ATTRIBUTES UINT32_MAX /* of --manifest that isn't given */
 
 static bool refuse(const char *name, const char *why)
@@ -117,6 +119,8 @@ static bool take(struct words *words, int code, const char *value)
     case APPLICATION: return take_text(value, &words->application);
     case UPGRADE: return take_text(value, &words->upgrade);
     case CHECK: return take_text(value, &words->check);
+    case TRIES: return take_number(value, false, 2, MOST_TRIES, &words->tries)
+        || refuse(value, "it is no number of starts, from 2 to 254: a download that is verified starts a new image twice");
     case ON_INSTALLED: return take_text(value, &words->command);
     case DFU_MODE: return words->dfu_mode = true;
     case DETACH_TIMEOUT: return take_short(value, 0, 65535, "it is no number of milliseconds, from 0 to 65535", &words->detach_ms);
@@ -152,28 +156,35 @@ bool words_option(struct words *words, const char *name, const char *value)
 
 static bool take_job(struct words *words, const char *text)
 {
-    static const char *const names[] = {"format", "image", "run"};
-    for (int at = 0; at < 3; at++)
+    static const char *const names[] = {"format", "image", "run", "start", "confirm", "end"};
+    for (int at = 0; at < 6; at++)
         if (strcmp(text, names[at]) == 0)
             words->job = (enum job)(JOB_FORMAT + at);
-    return words->job != JOB_NONE || refuse(text, "it is none of format, image and run");
+    return words->job != JOB_NONE || refuse(text, "it is none of format, image, run, start, confirm and end");
 }
 
 /* Whether the words go together. */
 static bool is_whole(const struct words *words, bool has_more)
 {
     if (words->job == JOB_NONE || words->medium == NULL || *words->medium == '\0')
-        return refuse("usage", "dfu-gadget format|image|run MEDIUM ..");
+        return refuse("usage", "dfu-gadget format|image|run|start|confirm|end MEDIUM ..");
     if (has_more)
         return refuse(words->medium, "there is a word too many");
     if (words->job == JOB_FORMAT ? words->image == NULL || words->most == 0 : words->force || words->most != 0)
         return refuse("usage", "dfu-gadget format MEDIUM --most BYTES IMAGE; --most and --force go with it alone");
+    if (words->job >= JOB_START ? words->tries == 0 : words->job == JOB_IMAGE && words->tries != 0)
+        return refuse("usage", "dfu-gadget start|confirm|end MEDIUM .. --tries N; --tries goes with these, format and run");
     if (words->job == JOB_RUN && words->controller == NULL)
         return refuse("usage", "dfu-gadget run MEDIUM --controller UDC");
     if (words->job == JOB_RUN && (words->attributes & 4) == 0 && words->manifest_ms == 0)
         return refuse("--manifest", "it is at least 1 for a device that isn't tolerant");
     return words->job == JOB_RUN || (words->controller == NULL && words->config == NULL && !words->dry_run)
         || refuse("usage", "--controller, --config and --dry-run go with run alone");
+}
+
+static bool take_at(struct words *words, const char *text)
+{
+    return take_number(text, false, 0, UINT32_MAX, &words->at) || refuse(text, "confirm takes AT, a number of bytes as start prints it");
 }
 
 /* All options, and the words that aren't one. */
@@ -194,6 +205,8 @@ static int take_all(struct words *words, int count, char **texts)
         words->medium = texts[optind++];
     if (words->job == JOB_FORMAT && optind < count)
         words->image = texts[optind++];
+    if (words->job == JOB_CONFIRM && !take_at(words, optind < count ? texts[optind++] : ""))
+        return STATUS_WORDS;
     return STATUS_DONE;
 }
 

@@ -7,13 +7,15 @@
 #include <stddef.h>
 #include <stdint.h>
 
-enum job { JOB_NONE, JOB_FORMAT, JOB_IMAGE, JOB_RUN, JOB_HELP, JOB_VERSION };
+enum job { JOB_NONE, JOB_FORMAT, JOB_IMAGE, JOB_RUN, JOB_START, JOB_CONFIRM, JOB_END, JOB_HELP, JOB_VERSION };
 
 struct words {
     enum job job;
     const char *medium;       /* MEDIUM */
     const char *image;        /* IMAGE of format */
     uint32_t most;            /* --most, 0 where it wasn't given */
+    uint32_t tries;           /* --tries, 0 if it wasn't given: then no image runs on trial */
+    uint32_t at;              /* AT of confirm */
     bool force;
     const char *controller;   /* NULL where it wasn't given */
     const char *config;       /* NULL where it wasn't given */

@@ -8,8 +8,8 @@ _dfu_gadget() {
     # for a word.
     while [ "$at" -lt "$COMP_CWORD" ]; do
         case ${COMP_WORDS[at]} in
-        --most | --controller | --config | --application | --upgrade | --check | --on-installed | --detach-timeout | --transfer-size | \
-            --attributes | --busy | --manifest | --least | --root)
+        --most | --controller | --config | --application | --upgrade | --check | --tries | --on-installed | --detach-timeout | \
+            --transfer-size | --attributes | --busy | --manifest | --least | --root)
             value=${COMP_WORDS[at]}
             at=$((at + 1))
             [ "${COMP_WORDS[at]}" != = ] || [ "$at" -eq "$COMP_CWORD" ] || at=$((at + 1))
@@ -31,17 +31,18 @@ _dfu_gadget() {
     esac
     [ -z "$value" ] || return
     case $command in
-    format) options='--most --force -h --help' ;;
+    format) options='--most --tries --force -h --help' ;;
     image) options='-h --help' ;;
     run)
-        options='--controller --config --application --upgrade --check --on-installed --dfu-mode --detach-timeout --transfer-size
+        options='--controller --config --application --upgrade --check --tries --on-installed --dfu-mode --detach-timeout --transfer-size
             --attributes --busy --manifest --least --dry-run --verbose --root -h --help'
         ;;
+    start | confirm | end) options='--tries -h --help' ;;
     esac
     case $command:$place:$word in
     *:*:-*) COMPREPLY=($(compgen -W "$options" -- "$word")) ;;
-    :0:*) COMPREPLY=($(compgen -W 'format image run' -- "$word")) ;;
-    format:[12]:* | image:1:* | run:1:*) compopt -o default ;;
+    :0:*) COMPREPLY=($(compgen -W 'format image run start confirm end' -- "$word")) ;;
+    format:[12]:* | image:1:* | run:1:* | start:1:* | confirm:1:* | end:1:*) compopt -o default ;;
     esac
 }
 complete -F _dfu_gadget dfu-gadget

@@ -7,8 +7,8 @@ function __dfu_gadget_at
     for word in (commandline -opc)[2..]
         if test $is_value -eq 1
             set is_value 0
-        else if contains -- $word --most --controller --config --application --upgrade --check --on-installed --detach-timeout \
-                --transfer-size --attributes --busy --manifest --least --root
+        else if contains -- $word --most --controller --config --application --upgrade --check --tries --on-installed \
+                --detach-timeout --transfer-size --attributes --busy --manifest --least --root
             set is_value 1
         else if not string match -q -- '-?*' $word
             set -a words $word
@@ -24,6 +24,10 @@ complete -c dfu-gadget -n __dfu_gadget_at -s V -l version -d 'Print the version'
 complete -c dfu-gadget -n __dfu_gadget_at -a format -d 'Make a medium, a file or a block device, with an image active'
 complete -c dfu-gadget -n __dfu_gadget_at -a image -d 'Write the active image to standard output'
 complete -c dfu-gadget -n __dfu_gadget_at -a run -d 'Be the device, until a signal ends it'
+complete -c dfu-gadget -n __dfu_gadget_at -a start -d 'Mark a start, and print the place of the image to start'
+complete -c dfu-gadget -n __dfu_gadget_at -a confirm -d 'Keep the image at AT'
+complete -c dfu-gadget -n __dfu_gadget_at -a end -d 'Bring the image before back'
+complete -c dfu-gadget -n '__dfu_gadget_at start; or __dfu_gadget_at confirm; or __dfu_gadget_at end' -F
 complete -c dfu-gadget -n '__dfu_gadget_at format; or __dfu_gadget_at format MEDIUM; or __dfu_gadget_at image; or __dfu_gadget_at run' -F
 set -l with_format '__fish_seen_subcommand_from format'
 complete -c dfu-gadget -x -n $with_format -l most -d 'Make room for images of up to so many bytes, as 8M'
@@ -34,6 +38,7 @@ complete -c dfu-gadget -r -F -n $with_run -l config -d 'Read options from FILE, 
 complete -c dfu-gadget -x -n $with_run -l application -d 'The gadget of run-time mode, else application'
 complete -c dfu-gadget -x -n $with_run -l upgrade -d 'The gadget of DFU mode, else upgrade'
 complete -c dfu-gadget -r -F -n $with_run -l check -d 'Take an image only if PROGRAM MEDIUM AT LENGTH ends with 0'
+complete -c dfu-gadget -x -n '__fish_seen_subcommand_from format run start confirm end' -l tries -d 'Start a new image so often at most, until it is confirmed'
 complete -c dfu-gadget -r -F -n $with_run -l on-installed -d 'Run PROGRAM MEDIUM AT LENGTH once an image is in place'
 complete -c dfu-gadget -n $with_run -l dfu-mode -d 'Begin in DFU mode'
 complete -c dfu-gadget -x -n $with_run -l detach-timeout -d 'Wait so long for the reset after a DETACH, else 1000'

@@ -70,8 +70,10 @@ int __wrap_open(const char *path, int flags, ...)
 int __wrap_close(int file)
 {
     for (int at = 0; at < 2; at++) {
-        if (endpoints[at].file == file)
+        if (file >= 0 && endpoints[at].file == file) {
             endpoints[at].file = -1;
+            endpoints[at].written = 0;
+        }
         if (controller_files[at] == file)
             controller_files[at] = -1;
     }
@@ -104,7 +106,7 @@ static ssize_t write_controller(struct endpoint *endpoint, const char *bytes, si
 static ssize_t write_descriptors(struct endpoint *endpoint, const uint8_t *bytes, size_t length)
 {
     static const uint8_t head[12] = {3, 0, 0, 0, 82, 0, 0, 0, 39, 0, 0, 0};
-    bool is_right = endpoint->written == 1 ? length == 27 && bytes[0] == 2 && bytes[4] == 27
+    bool is_right = endpoint->written == 1 ? length >= 20 && bytes[0] == 2 && bytes[4] == length && bytes[length - 1] == 0
                                            : length == 82 && memcmp(bytes, head, 12) == 0 && bytes[28] == 9 && bytes[29] == 4
             && bytes[33] == 0xfe && bytes[34] == 1 && bytes[37] == 9 && bytes[38] == 0x21;
     if (!is_right || getenv("GADGET_OLD_KERNEL") != NULL) {
@@ -115,7 +117,8 @@ static ssize_t write_descriptors(struct endpoint *endpoint, const uint8_t *bytes
         memcpy(&endpoint->signals, bytes + 12, 4);
         host_note("%s protocol %d, functional %02x%02x%02x%02x%02x%02x%02x%02x%02x", endpoint->gadget, bytes[35], bytes[37], bytes[38],
                   bytes[39], bytes[40], bytes[41], bytes[42], bytes[43], bytes[44], bytes[45]);
-    }
+    } else if (strcmp((const char *)bytes + 18, "Firmware") != 0)
+        host_note("%s is named %s", endpoint->gadget, (const char *)bytes + 18);
     return (ssize_t)length;
 }
 

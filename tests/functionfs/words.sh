@@ -118,13 +118,13 @@ unset GADGET_ROOT
 # The manual: each option with its text, each status, and the version.
 manual=$(sed 's/^\.[A-Za-z]* *//; s/\\-/-/g; s/\\f[A-Z]//g; s/"//g' "$top/share/man/dfu-gadget.1" | tr '\n' ' ' | tr -s ' ')
 sed -n 's/^  \(-[hV], \)*--\([a-z-]*\).*/\2/p' help > options
-is 'the options of the help' test "$(wc -l < options)" -eq 20
+is 'the options of the help' test "$(wc -l < options)" -eq 21
 while read -r option; do
     case $manual in *"--$option"*) right ;; *) wrong "the manual lacks --$option" ;; esac
 done < options
 # The completions, with the same texts; in zsh they begin with a small letter.
 sed ':a; N; $!ba; s/>\n  */> /g' help | sed -n 's/^  *\(-[hV], \)*--\([a-z-]*\)\( <[^>]*>\)*  *\([A-Z].*\)/\2	\4/p' > texts
-equal 'the texts of the help' 20 "$(wc -l < texts)"
+equal 'the texts of the help' 21 "$(wc -l < texts)"
 while IFS='	' read -r option text; do
     is "bash: $option" grep -q -e "--$option\>" "$top/share/completions/dfu-gadget.bash"
     is "fish: $option" grep -q -F -e "-l $option" "$top/share/completions/dfu-gadget.fish"
