@@ -88,10 +88,27 @@ static bool is_same_text(const char *first, const char *now)
     return first[0] == '\0' || now[0] == '\0' || strcmp(first, now) == 0;
 }
 
+size_t version_of(const char *name)
+{
+    const char *at = name;
+    size_t digits, parts = 1;
+    while ((digits = strspn(at, "0123456789")) > 0 && at[digits] == '.') {
+        at += digits + 1;
+        parts++;
+    }
+    return parts > 1 && digits > 0 && (at[digits] == '\0' || at[digits] == ',') ? (size_t)(at - name) + digits : 0;
+}
+
+/* A name that is a version is another one with another image. */
+static bool is_same_name(const char *first, const char *now)
+{
+    return is_same_text(first, now) || (version_of(first) > 0 && version_of(now) > 0);
+}
+
 bool is_again(const struct found *first, const struct found *now)
 {
     return first->vendor == now->vendor && first->product == now->product && first->interface == now->interface
-        && first->alternate == now->alternate && is_same_text(first->serial, now->serial) && is_same_text(first->name, now->name);
+        && first->alternate == now->alternate && is_same_text(first->serial, now->serial) && is_same_name(first->name, now->name);
 }
 
 /* What is going on in one look at the bus. */

@@ -63,8 +63,12 @@ bool has_dfu(const struct libusb_config_descriptor *configuration);
 /* Whether what was found is wanted. */
 bool is_wanted(const struct wanted *wanted, const struct found *found);
 
+/* How many bytes of a setting's name are a version, as 1.1.0 is one by itself and in `1.1.0, on trial, 2 starts left`; 0 if it begins
+   with none. */
+size_t version_of(const char *name);
+
 /* Whether two looks at a device in one mode saw the same: its identifiers, interface and setting, and, where both looks could read
-   them, its serial number and the setting's name. */
+   them, its serial number and the setting's name, but for one that is a version. */
 bool is_again(const struct found *first, const struct found *now);
 
 /* Writes those that are on the bus and are wanted to `list`, up to `room`. How many they are, or an error of libusb. */

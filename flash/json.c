@@ -5,6 +5,7 @@
 
 #include <inttypes.h>
 #include <stdio.h>
+#include <string.h>
 
 /* Bytes that aren't UTF-8 have no place in JSON, and become the character that stands for such. */
 static void print_quoted(const char *text)
@@ -42,12 +43,26 @@ void json_truth(const char *name, bool is)
     printf(",\"%s\":%s", name, is ? "true" : "false");
 }
 
+/* What a name tells that begins with a version: the version, and what stands behind it, as `on trial, 2 starts left`. */
+static void json_version(const struct found *found)
+{
+    size_t length = version_of(found->name);
+    char version[TEXT_ROOM] = "";
+    if (length == 0)
+        return;
+    memcpy(version, found->name, length);
+    json_text("version", version);
+    if (strncmp(found->name + length, ", ", 2) == 0)
+        json_text("trial", found->name + length + 2);
+}
+
 void json_setting(const struct found *found)
 {
     json_number("interface", found->interface);
     json_number("alt", found->alternate);
     if (found->name[0] != '\0')
         json_text("name", found->name);
+    json_version(found);
 }
 
 void json_address(uint32_t address)

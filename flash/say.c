@@ -48,6 +48,8 @@ void say_found(FILE *out, const struct found *found)
     if (is_dfuse(found))
         fputs(", DfuSe", out);
     say_descriptor(out, found);
+    if (version_of(found->name) > 0)
+        fprintf(out, ", release %04x", found->release);
     fprintf(out, "%s\n", access_words(found->access));
 }
 

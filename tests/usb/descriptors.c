@@ -160,6 +160,8 @@ int describe_string(unsigned number, bool is_other, uint8_t *out, uint16_t room)
     if (number >= INTERFACE_STRING)
         text = settings.maps == NULL ? names[number - INTERFACE_STRING]
             : map_name(number == INTERFACE_STRING ? 0 : number - INTERFACE_STRING - 1);
+    if (number == INTERFACE_STRING && settings.name != NULL)
+        text = bus_generation() > 1 && settings.next_name != NULL ? settings.next_name : settings.name;
     if (number == INTERFACE_STRING && bus_is_swapped() && settings.swapped_name != NULL)
         text = settings.swapped_name;
     if (settings.string != NULL) {

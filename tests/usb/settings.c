@@ -10,6 +10,7 @@
  * USB_IMAGE       a file with the old image (one byte, 00h)
  * USB_IDS         vendor:product:release in run-time mode (1209:0001:0100); USB_DFU_IDS in DFU mode (the same)
  * USB_SERIAL      serial number, with \uXXXX for any unit of UTF-16 (F1)
+ * USB_NAME        name of the first setting, as USB_SERIAL (stand-in); USB_NEXT_NAME  the same once its mode has changed (USB_NAME)
  * USB_PATH        bus and ports, as 1-2.3, or a bus alone (1-1)
  * USB_SWAP_IDS    of the board that stands in the device's place once it was swapped: its ids, in either mode, its
  * USB_SWAP_INTERFACE  interface, and the name of its first setting in DFU mode (those of the device)
@@ -262,6 +263,8 @@ void settings_read(void)
     settings.interface = (uint8_t)number("USB_INTERFACE", 0, 10);
     settings.swapped_interface = (uint8_t)number("USB_SWAP_INTERFACE", settings.interface, 10);
     settings.swapped_name = kept("USB_SWAP_NAME");
+    settings.name = kept("USB_NAME");
+    settings.next_name = kept("USB_NEXT_NAME");
     settings.configurations = (uint8_t)number("USB_CONFIGURATIONS", 1, 10);
     settings.descriptor = (uint8_t)number("USB_DESCRIPTOR", 9, 10);
     settings.extra = kept("USB_EXTRA");

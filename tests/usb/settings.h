@@ -43,6 +43,7 @@ struct settings {
     uint32_t detaches_ms;              /* and how long it takes to DFU mode */
     uint8_t interface;                 /* its number; */
     uint8_t swapped_interface;         /* that of another board in its place, */
+    const char *name, *next_name;      /* of the first setting, and once the mode has changed, or NULL */
     const char *swapped_name;          /* and the name of that one's first setting, or NULL: the same */
     uint8_t configurations;            /* how many there are; the last one has the interface */
     unsigned alternates;               /* settings of the interface in DFU mode */
