@@ -5,14 +5,19 @@
 #define BOARD_H
 #include "dfu_device.h"
 
+/* How often a new image is started on trial, until it confirms itself; with 0 none is on trial. */
+#ifndef TRIES
+#define TRIES 0
+#endif
+
 #define FLASH_SIZE 0x40000u
 #define PAGE 1024u
 #define TRANSFER 256 /* wTransferSize */
 
 /* The flash after the bootloader is the device's medium: two slots, each with a page for its gate, one for its header, and the rest for
  * the image. After it comes the run area, to which images are linked, and the last two pages are the application's own. */
-#define CAPACITY (78 * PAGE)
-#define MEDIUM 0x4000u
+#define CAPACITY ((TRIES ? 76 : 78) * PAGE)
+#define MEDIUM (TRIES ? 0x5000u : 0x4000u)
 #define MEDIUM_SIZE DFU_MEDIUM_SIZE(16, PAGE, CAPACITY)
 #define RUN (MEDIUM + MEDIUM_SIZE)
 

@@ -11,12 +11,18 @@
 #include <stdint.h>
 
 enum { IMAGE_WORDS = 48, IMAGE_HANDLER_STACK = 256 };
+#define IMAGE_CONFIRMS 0xffffffffu
 
 /* Says something over the serial port: at most 64 bytes of it. */
 static inline void image_say(const char *text, uint32_t length) {
     register const char *first __asm__("r0") = text;
     register uint32_t second __asm__("r1") = length;
     __asm__ volatile("svc 0" : "+r"(first), "+r"(second) : : "r2", "r3", "r12", "memory");
+}
+
+/* It works: if it is on trial, that ends here, and it stays. */
+static inline void image_confirm(void) {
+    image_say((const char *)0, IMAGE_CONFIRMS);
 }
 
 #endif

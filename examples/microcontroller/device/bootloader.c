@@ -9,8 +9,10 @@
 #include "clock.h"
 #include "flash.h"
 #include "frames.h"
+#include "image.h"
 #include "serial.h"
 #include "start.h"
+#include "trials.h"
 
 static const struct dfu_driver driver = {(void *)MEDIUM, flash_erase, flash_program};
 static const struct dfu_driver run_driver = {(void *)RUN, flash_erase, flash_program};
@@ -36,6 +38,8 @@ static int32_t setup_came(void) {
     size_t stage = setup[0] & 0x80 ? 0 : (size_t)(setup[6] | setup[7] << 8);
     if (stage != (size_t)request.length - FRAME_HEAD - 8)
         return NO_ANSWER;
+    if (TRIES > 0 && trials_download(&device, setup) != 0)
+        return DFU_STALL;
     return checked(dfu_device_serve(&device, setup, body, answer, sizeof answer));
 }
 
@@ -90,13 +94,23 @@ void on_time(void) {
 }
 
 void on_text(const uint8_t *text, uint32_t length) {
-    frame_send(serial_put, FRAME_TEXT, 0, text, length < 64 ? length : 64);
+    if (TRIES > 0 && length == IMAGE_CONFIRMS)
+        trials_confirm();
+    else
+        frame_send(serial_put, FRAME_TEXT, 0, text, length < 64 ? length : 64);
 }
 
 /* The run area is brought to the image: whether it holds all of it now, whatever happened to it before. */
 static int is_installed(const struct dfu_place *place) {
     struct dfu_install install = {.run = flash_run, .size = CAPACITY, .area = {PAGE, DFU_NOWHERE}, .driver = &run_driver};
     return dfu_install_settle(&install, flash_medium + place->at, place->length) == 0;
+}
+
+/* What is to run stands in the run area. After a fault no image is started, but for one on trial, as often as it may be. */
+static int is_ready(enum note note, struct dfu_place *place) {
+    if (TRIES == 0)
+        return note != NOTE_FAULT && dfu_device_image(&device, place) == 0 && is_installed(place);
+    return trials_active(note == NOTE_FAULT, place) && is_installed(place) && (trials_boot(place) || is_installed(place));
 }
 
 int main(void) {
@@ -112,7 +126,7 @@ int main(void) {
     while ((note == NOTE_UPGRADE ? dfu_device_begin(&device) : dfu_device_power_on(&device)) != 0)
         __asm__ volatile("wfi");
     is_upgrading = dfu_device_state(&device) > DFU_STATE_APP_DETACH;
-    if (!is_upgrading && note != NOTE_FAULT && dfu_device_image(&device, &place) == 0 && is_installed(&place))
+    if (!is_upgrading && is_ready(note, &place))
         image_start(flash_run, place.length);
     return 0;
 }

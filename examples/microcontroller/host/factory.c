@@ -6,6 +6,7 @@
 #include "board.h"
 #include "dfu_device_memory.h"
 #include "dfu_install.h"
+#include "dfu_trial.h"
 
 static uint8_t flash[FLASH_SIZE], image[FLASH_SIZE];
 
@@ -17,6 +18,15 @@ static int read_file(const char *path, uint8_t *to, size_t room, size_t *length)
     int is_wrong = ferror(in) || fgetc(in) != EOF;
     fclose(in);
     return is_wrong ? -1 : 0;
+}
+
+/* The first image counts as confirmed, so that the next one is on trial. */
+static int32_t confirm(void) {
+    const struct dfu_driver driver = DFU_MEMORY_DRIVER(flash + MEDIUM);
+    const struct dfu_trial trial = {.flash = flash + MEDIUM, .size = MEDIUM_SIZE, .driver = &driver, .tries = {16, PAGE, TRIES}};
+    struct dfu_standing standing;
+    const int32_t refusal = dfu_trial_look(&trial, &standing);
+    return refusal != 0 ? refusal : dfu_trial_accept(&trial, standing.active.at);
 }
 
 int main(int count, char **words) {
@@ -35,6 +45,8 @@ int main(int count, char **words) {
     int32_t refusal = dfu_memory_format(&board_config, flash + MEDIUM, MEDIUM_SIZE, image, length);
     if (refusal == 0)
         refusal = dfu_install_settle(&install, image, length);
+    if (refusal == 0 && TRIES > 0)
+        refusal = confirm();
     if (refusal != 0) {
         fprintf(stderr, "factory: refused %d\n", (int)refusal);
         return 1;

@@ -3,6 +3,13 @@
  * bytes it has, with what the build puts behind the program; all words of it together are 0. */
 #include "image.h"
 
+#ifndef CONFIRMS
+#define CONFIRMS 0 /* whether it confirms itself once its interrupts have come */
+#endif
+#ifndef FAULTS
+#define FAULTS 0 /* whether it comes to a fault once it has begun */
+#endif
+
 #define TIMER1(at) (*(volatile uint32_t *)(0x40009000 + (at)))
 #define NVIC_ENABLE (*(volatile uint32_t *)0xe000e100)
 enum { TICK_US = 10000, OF_COMPARE0 = 1 << 16 };
@@ -65,9 +72,13 @@ void begin(void) {
     for (uint32_t *at = __bss; at < __bss_end; at++)
         *at = 0;
     introduce();
+    if (FAULTS)
+        __asm__ volatile("udf #0");
     start_timer();
     while (ticks < wanted)
         __asm__ volatile("wfi");
+    if (CONFIRMS)
+        image_confirm();
     image_say("image " NUMBER " ticks", sizeof "image " NUMBER " ticks" - 1);
     for (;;)
         __asm__ volatile("wfi");

@@ -1,0 +1,51 @@
+/* SPDX-License-Identifier: MIT OR Apache-2.0 */
+#include "trials.h"
+
+#include <string.h>
+
+#include "board.h"
+#include "flash.h"
+#include "frames.h"
+#include "serial.h"
+
+static const struct dfu_driver driver = {(void *)MEDIUM, flash_erase, flash_program};
+static const struct dfu_trial trial = {
+    .flash = (const uint8_t *)MEDIUM, .size = MEDIUM_SIZE, .driver = &driver, .tries = {16, PAGE, TRIES},
+};
+
+/* Where the image begins in the medium that was started last: it runs elsewhere, so that it can't tell by itself. */
+static uint32_t started;
+
+int32_t trials_download(struct dfu_device *device, const uint8_t setup[8]) {
+    return dfu_trial_download(&trial, device, setup);
+}
+
+int trials_active(int is_trial_wanted, struct dfu_place *place) {
+    struct dfu_standing standing;
+    if (dfu_trial_look(&trial, &standing) != 0 || (is_trial_wanted && standing.on_trial == 0))
+        return 0;
+    *place = standing.active;
+    return 1;
+}
+
+static void say_trial(void) {
+    struct dfu_standing standing;
+    char text[] = "trial, 0 starts left";
+    if (dfu_trial_look(&trial, &standing) != 0 || standing.on_trial == 0)
+        return;
+    text[7] = (char)('0' + standing.left % 10);
+    frame_send(serial_put, FRAME_TEXT, 0, (const uint8_t *)text, sizeof text - 1);
+}
+
+int trials_boot(struct dfu_place *place) {
+    const uint32_t active = place->at;
+    if (dfu_trial_boot(&trial, place) != 0)
+        return 0;
+    started = place->at;
+    say_trial();
+    return started == active;
+}
+
+void trials_confirm(void) {
+    (void)dfu_trial_accept(&trial, started);
+}
