@@ -3,7 +3,8 @@
 
 # Bytes behind the interface descriptor that are no functional descriptor, as a whole: lengths of 0 and 1, too long, cut off, and of none.
 good=092107e80308001001
-for extra in '' 00 21 0021 0121 0921 092107e803 09210700000800 ff2107e80308001001 082107e803080010 0a2107e8030800100100 0021$good 0121$good \
+for extra in '' 00 21 0021 0121 0921 092107e803 09210700000800 ff2107e80308001001 082107e803080010 \
+    0a2107e8030800100100 0021$good 0121$good \
     ffff$good; do
     row 1 old 'Short: ' "USB_EXTRA=$extra" new.dfu
     expect "$extra: nothing is sent" is_silent
@@ -12,7 +13,8 @@ done
 row 0 new 'verified: ' 'USB_DEVICE=uboot USB_EXTRA=0021' new.dfu
 
 # The first whole one counts, wherever it is among others.
-for extra in 0221$good 09240700000000000a$good ${good}092105e80308001001 "$(printf '0200%.0s' 1 2 3 4 5 6 7 8 9)$good" 072107e80308001001; do
+for extra in 0221$good 09240700000000000a$good ${good}092105e80308001001 \
+    "$(printf '0200%.0s' 1 2 3 4 5 6 7 8 9)$good" 072107e80308001001; do
     row 0 new 'verified: ' "USB_EXTRA=$extra" new.dfu
 done
 
