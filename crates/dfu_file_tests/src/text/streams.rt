@@ -1,7 +1,7 @@
 //! Readers and writers that fail: what is answered, and what is out.
 
-use crate::tests::readers::{Failing, Refusing};
-use crate::tests::{DIGITS, DIGITS_IDS, FOUR_ONES};
+use crate::text::readers::{Failing, Refusing};
+use crate::text::{DIGITS, DIGITS_IDS, FOUR_ONES};
 use dfu_text::{Exit, add_text, check_text, show_text};
 use std::alloc::Global;
 use std::io::Write;

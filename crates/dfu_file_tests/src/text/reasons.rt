@@ -1,6 +1,6 @@
 //! Why an answer is given: the lines of reasons, and the fault beside an end.
 
-use crate::tests::DIGITS;
+use crate::text::DIGITS;
 use dfu_suffix::SuffixFault;
 use dfu_text::{add_with_fault, check_with_fault, reason_line};
 use dfu_wire::Ids;
