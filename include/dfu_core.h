@@ -93,8 +93,8 @@ enum dfu_attribute {
 enum dfu_result {
     DFU_STALL = -1,       /**< stall the request; the device may be in another state now */
     DFU_NO_CONFIG = -2,   /**< the configuration has another version, or a number that is out of its range */
-    DFU_NO_MEDIUM = -3,   /**< the flash has no active image, not the noted one, or 2^32 bytes or more */
-    DFU_NO_DEVICE = -4,   /**< the record is none of a device on that flash with that block, or of another version */
+    DFU_NO_MEDIUM = -3,   /**< the flash has no active image, another than the record's, or 2^32 bytes or more */
+    DFU_NO_DEVICE = -4,   /**< the record is not of a device on that flash with that block, or of another version */
     DFU_NO_ROOM = -5,     /**< out has less room than an answer may need: 6 bytes, or the transfer size if that is more */
     DFU_WRONG_SIZE = -6,  /**< the flash has no length that two slots can have */
     DFU_TOO_LARGE = -7,   /**< the image is longer than a slot's data */
@@ -131,7 +131,7 @@ struct dfu_config {
     uint32_t sector;          /**< bytes erased at a time: a multiple of 256 up to 131,072; 0: the flash is written over in place */
 };
 
-/** @brief What is kept of a device between two calls. A program reads it by dfu_core_state and dfu_core_code, and writes none of it.
+/** @brief What is kept of a device. A program reads it by dfu_core_state, dfu_core_code and dfu_core_candidate, and writes none of it.
  *
  * | mode | state                                 | first         | second   | number            |
  * |------|---------------------------------------|---------------|----------|-------------------|
@@ -199,8 +199,8 @@ int32_t dfu_core_begin(const struct dfu_config *config, struct dfu_record *recor
  * @param body   the whole data stage, `length` bytes; of length 0 if the host reads
  * @param out    room for the answer: at least 6 bytes and the transfer size. It is not body, and not block
  * @return how many bytes of out are the answer, 0 if it is acknowledged or has none; DFU_STALL; DFU_ASKS;
- *         DFU_NO_ROOM, DFU_NO_CONFIG, DFU_NO_BLOCK, DFU_NO_DEVICE (none whatever the flash), DFU_ASKED,
- *         DFU_NO_MEDIUM (the noted header is not in an open slot of the flash), DFU_NO_DEVICE */
+ *         DFU_NO_ROOM, DFU_NO_CONFIG, DFU_NO_BLOCK, DFU_NO_DEVICE (not with any flash), DFU_ASKED,
+ *         DFU_NO_MEDIUM (the record's header is not in an open slot of the flash), DFU_NO_DEVICE (not with this flash) */
 int32_t dfu_core_handle(const struct dfu_config *config, struct dfu_record *record, uint8_t *block, size_t most,
                         const uint8_t *flash, size_t size, const uint8_t setup[8], const uint8_t *body, size_t length,
                         uint8_t *out, size_t room);
@@ -251,7 +251,7 @@ int32_t dfu_core_refuse(const struct dfu_config *config, struct dfu_record *reco
 
 /** @brief Where the image is that was taken and may be refused: in dfuDNLOAD-IDLE, in dfuMANIFEST-SYNC before it is in place, and in
  *         dfuMANIFEST. Its bytes are those of the place, and after them the first held_length bytes of the record's `held`.
- * @return 0; DFU_NO_CONFIG, DFU_NO_DEVICE (none whatever the flash), DFU_ASKED, DFU_NO_MEDIUM, DFU_NO_DEVICE, DFU_NO_CANDIDATE */
+ * @return 0; DFU_NO_CONFIG, DFU_NO_DEVICE, DFU_ASKED, DFU_NO_MEDIUM, DFU_NO_DEVICE, as dfu_core_handle; DFU_NO_CANDIDATE */
 int32_t dfu_core_candidate(const struct dfu_config *config, const struct dfu_record *record, const uint8_t *flash, size_t size,
                            struct dfu_place *place);
 

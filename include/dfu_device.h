@@ -67,10 +67,10 @@
  * - DFU_NOT_LONG, DFU_NO_CLOSE: it is a request for dfu_device_handle.
  * - DFU_NO_STATUS: a mistake of the program. DFU_NO_CANDIDATE: there is nothing to check.
  *
- * A check of images. The program that is to take no other image than its maker's looks at each one before it lets the close go by: where
- * dfu_device_would_stall says 0 of a DNLOAD with wLength 0 in dfuDNLOAD-IDLE, it checks the bytes of dfu_device_candidate, and calls
- * dfu_device_refuse_close if they fail, or else dfu_device_handle. A program that never asks takes every image. And such a check is no
- * secure boot: who can write the flash can write an image. So check it again before it is started.
+ * A check of images. A program that takes its maker's images alone checks each one before its close: if dfu_device_would_stall says 0
+ * of a DNLOAD with wLength 0 in dfuDNLOAD-IDLE, it checks the bytes of dfu_device_candidate, of which the last may be in record.held, and
+ * calls dfu_device_refuse_close if they fail, or else dfu_device_handle. A program that never asks takes every image. And such a check
+ * is no secure boot: who can write the flash can write an image. So check it again before it is started.
  *
  * Images are read by power_on, begin, image and format_start, at the start and the end of the work that puts one in place, and by the
  * first operation of a download. No other call reads one. So an image that fades under its standing header while the device runs is
@@ -107,8 +107,8 @@ extern "C" {
  *     128 KiB, erased by 2,048, programmed by  64: DFU_MEDIUM_SIZE( 64, 2048,  61440): images of up to  60 KiB
  *     256 KiB, erased by 4,096, programmed by 256: DFU_MEDIUM_SIZE(256, 4096, 122880): images of up to 120 KiB
  *
- *  A microcontroller's own flash has so much less as its bootloader takes. An image runs at either slot: link it for both places,
- *  or bring it to one place by dfu_install.h. */
+ *  A microcontroller's own flash has so much less as its bootloader takes. An image stands in either slot, and no host can choose
+ *  which: bring it to the one place for which it is linked by dfu_install.h. */
 #define DFU_MEDIUM_SIZE(unit, sector, capacity) (2 * (2 * DFU_GATE(unit, sector) + (capacity)))
 
 /** @brief Erases that a block costs at most: the gate's, and each sector's that begins in it. */
@@ -137,7 +137,7 @@ struct dfu_device {
     uint8_t *block;                  /**< memory in which a block waits to be written */
     size_t most;                     /**< bytes of it, at least the transfer size */
     const struct dfu_driver *driver; /**< NULL for a program that carries out what is asked by itself */
-    struct dfu_record record;        /**< private */
+    struct dfu_record record;        /**< private, but for held and held_length of a candidate */
     uint32_t unused;                 /**< fills the struct up to a multiple of 8 bytes */
 };
 

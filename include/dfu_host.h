@@ -24,8 +24,8 @@
  *     }
  *
  * What came of a transfer, by its outcome:
- *     acknowledged, where a.setup[0] is 21h (the host sends)   DFU_SEEN_ACK
- *     answered, where a.setup[0] is A1h (the device answers)   DFU_SEEN_BYTES, with the bytes, of any count from 0 on
+ *     acknowledged, if a.setup[0] is 21h (the host sends)      DFU_SEEN_ACK
+ *     answered, if a.setup[0] is A1h (the device answers)      DFU_SEEN_BYTES, with the bytes, of any count from 0 on
  *     stalled                                                  DFU_SEEN_STALL
  *     not finished for any other reason, as a timeout          DFU_SEEN_NOTHING
  *     the device left unasked, or somebody else reset it       DFU_SEEN_RESTART, once it is back, before all else
@@ -33,7 +33,7 @@
  * - A device that leaves because of DFU_RESET, or of a DETACH that it acknowledged, does what it was asked to: that is no
  *   restart. The next action is for the device once it is open again. DFU_SEEN_RESET is the answer to DFU_RESET then too.
  * - Each DFU_SEEN_RESTART spends one of the session's restarts, and the host asks for the device's state again.
- * - DFU_SEEN_LEFT is for a device that starts its new image by itself. Report it once, and only where all three hold: the
+ * - DFU_SEEN_LEFT is for a device that starts its new image by itself. Report it once, and only if all three hold: the
  *   device acknowledged the DNLOAD of no bytes that closes the download; it answered a later GETSTATUS with
  *   dfuMANIFEST-SYNC or dfuMANIFEST; then it left, or came back reset, though nobody reset it or asked it to leave.
  * - DFU_SEEN_LEFT takes the place of the last reset and spends no restart. A session of dfu_host_download is over with
@@ -41,7 +41,7 @@
  *   phase it is as DFU_SEEN_RESTART.
  *
  * What the program owes, always:
- * - No pointer is NULL, also where its length is 0. Each points to as many bytes as its length says.
+ * - No pointer is NULL, also if its length is 0. Each points to as many bytes as its length says.
  * - Nothing that is handed in overlaps anything else that is.
  * - answer has room for as many bytes as a.setup[6] and a.setup[7] ask for (the low byte first).
  * - Calls of one session come from one thread at a time.
@@ -57,7 +57,7 @@
  * - Each dfu_host_take is a row of Fustrelan's host table. Each action is the one of its phase, with its body cut from the
  *   payload. A session is over after as many calls of dfu_host_take as it had actions.
  * - DFU_INSTALLED, DFU_VERIFIED and DFU_UPLOADED come only as the laws of dfu_host say.
- * - An upload ends as DFU_NO_MEMORY exactly where dfu_host_take says. No byte of the buffer changes but where a part is stored.
+ * - An upload ends as DFU_NO_MEMORY exactly if dfu_host_take says so. No byte of the buffer changes but where a part is stored.
  * Proved also of any other record, payload or buffer: a call answers or refuses, it ends, and it touches nothing but what
  * its pointers say. */
 #ifndef DFU_HOST_H
@@ -79,7 +79,7 @@
 #define DFU_VERSION_TEXT "0.3.0"
 #endif
 
-/* Before a member of 8 bytes: it stands at a multiple of 8, also where the processor's ABI asks for less. */
+/* Before a member of 8 bytes: it stands at a multiple of 8, also if the processor's ABI asks for less. */
 #if defined(__cplusplus)
 #define DFU_ALIGNED_8 alignas(8)
 #elif defined(__STDC_VERSION__) && __STDC_VERSION__ >= 201112L
@@ -122,7 +122,7 @@ struct dfu_action {
     uint32_t what;                 /* DFU_SEND, DFU_WAIT, DFU_RESET or DFU_DONE */
     uint32_t value;                /* DFU_WAIT: how many milliseconds; DFU_DONE: the report */
     DFU_ALIGNED_8 uint64_t from;   /* DFU_SEND: where in the payload the body begins */
-    DFU_ALIGNED_8 uint64_t length; /* DFU_SEND: how many bytes the body has, 0 to 65,535; 0 where the device answers */
+    DFU_ALIGNED_8 uint64_t length; /* DFU_SEND: how many bytes the body has, 0 to 65,535; 0 if the device answers */
     uint32_t code;                 /* DFU_DONE with DFU_REFUSED: the device's bStatus, 0 to 15 */
     uint8_t setup[8];              /* DFU_SEND: the setup of a control transfer; its wIndex, bytes 4 and 5, is 0: send the number of
                                     * the device's DFU interface there, and change nothing else */
@@ -222,7 +222,7 @@ int32_t dfu_host_next(const struct dfu_session *session, const uint8_t *payload,
 /* Reports to the session what came of its action: 0; or DFU_NO_SESSION; or DFU_NO_SEEN. kept with room is the buffer of an
  * upload, and any pointer with 0 for a download. bytes with count is what came with DFU_SEEN_BYTES. The parts of an
  * upload that have wTransferSize bytes or fewer are stored one after the other, from the buffer's first byte on, but for the
- * 65,535th full one. Exactly where one of these has, with those before it, more bytes than room, it is not stored, and the
+ * 65,535th full one. Exactly if one of these has, with those before it, more bytes than room, it is not stored, and the
  * report is DFU_NO_MEMORY. */
 int32_t dfu_host_take(struct dfu_session *session, const uint8_t *payload, size_t length, uint8_t *kept, size_t room,
                       uint32_t seen, const uint8_t *bytes, size_t count);
@@ -231,11 +231,11 @@ int32_t dfu_host_take(struct dfu_session *session, const uint8_t *payload, size_
  * stays as it is. */
 int32_t dfu_host_abort(struct dfu_session *session, const uint8_t *payload, size_t length);
 
-/* Writes a report's name, as gave-up, with no end mark: how many bytes it has, at most 15. The number is 0 where there is
+/* Writes a report's name, as gave-up, with no end mark: how many bytes it has, at most 15. The number is 0 if there is
  * no such report, or out has no room for it. */
 int32_t dfu_host_name(uint32_t report, uint8_t *out, size_t room);
 
-/* The version of the archive: DFU_VERSION, where header and archive belong together. */
+/* The version of the archive: DFU_VERSION, if header and archive belong together. */
 int32_t dfu_host_version(void);
 
 #ifdef __cplusplus

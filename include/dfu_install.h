@@ -1,10 +1,10 @@
 /* SPDX-License-Identifier: MIT OR Apache-2.0 */
 /**
  * @file dfu_install.h
- * @brief A run area beside the slots of dfu_device.h: flash of its own, to which images are linked, so for one address.
+ * @brief A run area, apart from the slots of dfu_device.h: flash of its own, to which images are linked, so for one address.
  *
- * Before each start the run area is compared with the image that is to be started, and brought to it. It holds the image from its first
- * byte on and nothing else, no header and no seal. It may be part of the same flash as the slots, or of another, with other sectors.
+ * Before each start the run area is compared with the image that is to be started, and what differs is copied. It holds the image from
+ * its first byte on and nothing else, no header and no seal. It may be part of the slots' flash, or of another, with other sectors.
  *
  *     static struct dfu_install install = {.run = run, .size = size, .area = {4096, DFU_NOWHERE}, .driver = &driver};
  *     struct dfu_place place;                        // after dfu_device_power_on, once the device is in appIDLE

@@ -11,7 +11,7 @@
  *
  *     the bootloader, before it starts an image:     if (dfu_trial_boot(&trial, &place) == 0) start what place says
  *     the bootloader, before each dfu_device_serve:  if (dfu_trial_download(&trial, &dfu, setup) != 0) stall the setup
- *     the application, once it knows that it works:  dfu_trial_accept(&trial, its own first byte in flash)
+ *     the application, once it knows that it works:  dfu_trial_accept(&trial, the offset of its first byte in flash)
  *     the bootloader, if the image must not run:     dfu_trial_give_up(&trial)
  *
  * - An image is on trial if both slots have one, it is the newer, it is not confirmed, and the other one is. It is started at most
@@ -19,8 +19,8 @@
  * - A start is marked before it, and read back: if the mark does not read set, the confirmed image runs, and no start is lost.
  * - A download ends a trial first: until then the spare slot is that of the confirmed image, which would be written over.
  * - A host that verifies resets the board twice, so it starts the new image twice: with one try it would end with the old image.
- * - With a run area (dfu_install.h) the image of dfu_trial_look's `active` is settled before dfu_trial_boot, so that losses of power in
- *   the copy use up no start. If place is another one then, that is settled, and started.
+ * - With a run area (dfu_install.h) settle the image that dfu_trial_look gives as `active` before dfu_trial_boot, so that losses of power
+ *   in the copy use up no start. If dfu_trial_boot gives another place, settle and start that.
  * - An application that has no linker symbol for its place takes the one that the bootloader started.
  *
  * What the program owes:

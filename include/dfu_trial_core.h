@@ -16,7 +16,7 @@
 extern "C" {
 #endif
 
-/** @brief Results beside those of enum dfu_result. */
+/** @brief Results, with those of enum dfu_result. */
 enum dfu_trial_result {
     DFU_NO_SECTORS = -16, /**< the flash has no sectors, so no room for marks */
     DFU_FEW_TRIES = -17,  /**< fewer than two tries: a download that is verified starts the new image twice */

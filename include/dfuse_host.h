@@ -80,7 +80,7 @@ struct dfuse_element {
 #endif
 };
 
-/* What a session is to do, beside the map and the image. */
+/* What a session is to do, apart from the map and the image. */
 struct dfuse_plan {
     uint32_t start;    /* the address at which the device is to start its application */
     uint32_t actions;  /* how many calls of dfuse_take the session may take; 0 counts as 1 */
@@ -141,7 +141,7 @@ enum {
     DFUSE_UNKNOWN = 2 /* it was asked to, and what came of it isn't known */
 };
 
-/* Negative return values, beside DFU_NO_SESSION (the string is no map, or the record is no session's, or of another version) and
+/* Negative return values, apart from DFU_NO_SESSION (the string is no map, or the record is no session's, or of another version) and
  * DFU_NO_SEEN (seen is none of the six). */
 enum {
     DFUSE_NO_ROOM = -43,         /* the buffer has fewer bytes than the body */
