@@ -117,7 +117,7 @@ enum dfu_operation {
 /** @brief What a device is set up with; the same in every call. */
 struct dfu_config {
     uint32_t version;         /**< DFU_VERSION: an archive of another version refuses */
-    uint16_t device;          /**< bcdDevice */
+    uint16_t device;          /**< bcdDevice: this and the next two are for the program's descriptors, and no call goes by them */
     uint16_t product;         /**< idProduct */
     uint16_t vendor;          /**< idVendor */
     uint16_t detach_ms;       /**< wDetachTimeOut, milliseconds */
