@@ -105,7 +105,7 @@ enum dfu_result {
     DFU_ASKED = -12,      /**< operations are due, and come first */
     DFU_NO_CLOSE = -13,   /**< the setup closes no download */
     DFU_NO_STATUS = -14,  /**< the status is neither DFU_STATUS_ERR_TARGET nor DFU_STATUS_ERR_FILE */
-    DFU_NO_CANDIDATE = -15 /**< no image was taken that may be refused */
+    DFU_NO_CANDIDATE = -20 /**< no image was taken that may be refused */
 };
 
 /** @brief Kinds of operations of the flash. */

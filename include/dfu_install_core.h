@@ -19,7 +19,7 @@ extern "C" {
 /** @brief No operation that worked is known since the power came: what dfu_run_area.last begins with. */
 #define DFU_NOWHERE 0xffffffffu
 
-/** @brief A refusal, with those of enum dfu_result. Its number is that of DFU_NO_CANDIDATE, which no call here gives. */
+/** @brief A refusal, with those of enum dfu_result. */
 enum dfu_install_result {
     DFU_NO_IMAGE = -15 /**< the image has no bytes */
 };
