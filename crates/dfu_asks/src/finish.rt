@@ -7,7 +7,7 @@ ghost use Rattle.dfu_asks.specs.Noted.{IsNoted};
 ghost use Rattle.dfu_asks.specs.Lent.{lent, IsSetUpAs};
 ghost use Rattle.dfu_asks.specs.Asks.{is_block, capped, done_mode, failed_mode, IsFinished, IsBrokenOff, NotesAfter, IsAnswered, Gives};
 
-use crate::{Asking, Noted};
+use crate::{Asking, Noted, Sector};
 use dfu_device::{Answer, Config, Mode, Reply};
 use dfu_slots::{Unit, WriteFault};
 use dfu_wire::Code;
@@ -85,6 +85,19 @@ fn keep_rest(unit: Unit, held: &mut [u8; 256], held_len: usize, block: &[u8]) ->
     rest
 }
 
+// Notes the active image after a row in this mode: after a commit the images are read, and after a block it stays the one that was noted.
+fn note(noted: &mut Noted, mode: Mode, flash: &[u8], unit: Unit, sector: Sector)
+    ensures of_block { is_block mode ≡ true → noted.new ≡ noted.old }
+    ensures of_commit { let m = mapped (grain_of unit sector) flash.now in is_block mode ≡ false → HasImage m → IsNoted noted.new m }
+{
+    if is_block(mode) {
+        return;
+    }
+    if let Some(found) = Noted::find(flash, unit, sector) {
+        *noted = found;
+    }
+}
+
 impl Asking {
     // How many bytes are held back after a row whose writes worked, and where the puts end. These bytes are kept in their memory.
     fn rest_after(&self, block: &[u8], held: &mut [u8; 256]) -> (usize, u32)
@@ -102,21 +115,6 @@ impl Asking {
         (rest, self.put_end.saturating_add(len as u32))
     }
 
-    // What is noted after a row. After a commit the images are read.
-    fn noted_after(&self, flash: &[u8]) -> Noted
-        ensures of_block { is_block self.now.mode ≡ true → result ≡ self.now.noted }
-        ensures of_commit { let m = mapped (grain_of self.now.unit self.now.sector) flash.now in
-            is_block self.now.mode ≡ false → HasImage m → IsNoted result m }
-    {
-        if is_block(self.mode) {
-            return self.noted;
-        }
-        match Noted::find(flash, self.unit, self.sector) {
-            Some(noted) => noted,
-            None => self.noted,
-        }
-    }
-
     /// All is written.
     pub(crate) fn finish(&mut self, block: &[u8], held: &mut [u8; 256], flash: &[u8])
         ensures finished { IsFinished (lent self.old block.now held.old) (lent self.new block.now held.new) }
@@ -124,8 +122,8 @@ impl Asking {
         ensures same { IsSetUpAs self.old self.new }
         ensures block { self.new.block_len ≡ self.old.block_len }
     {
+        note(&mut self.noted, self.mode, flash, self.unit, self.sector);
         let (held_len, put_end) = self.rest_after(block, held);
-        self.noted = self.noted_after(flash);
         self.held_len = held_len;
         self.put_end = put_end;
         let len = self.block_len.min(block.len());
@@ -140,7 +138,7 @@ impl Asking {
         ensures same { IsSetUpAs self.old self.new }
         ensures block { self.new.block_len ≡ self.old.block_len }
     {
-        self.noted = self.noted_after(flash);
+        note(&mut self.noted, self.mode, flash, self.unit, self.sector);
         self.held_len = 0;
         self.put_end = 0;
         self.mode = failed_mode(self.mode, fault);

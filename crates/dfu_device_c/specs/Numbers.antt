@@ -57,7 +57,7 @@ NO_STATUS = negsuc 13
 
 -- DFU_NO_CANDIDATE.
 abbrev pub NO_CANDIDATE : ℤ
-NO_CANDIDATE = negsuc 14
+NO_CANDIDATE = negsuc 19
 
 -- The number of a refusal.
 abbrev pub refusal_number : Refusal → ℤ

@@ -11,7 +11,7 @@ use crate::record::DfuRecord;
 /// Where the image is that was taken, as `Device::candidate`: 0, and `place` has its bytes in the flash, after which come the `held_length`
 /// ones that the record holds back.
 ///
-/// Refused as `dfu_core_elapse` with memory of 4,096 bytes for the block; then with -15 if no image was taken that may be refused.
+/// Refused as `dfu_core_elapse` with memory of 4,096 bytes for the block; then with -20 if no image was taken that may be refused.
 #[unsafe(no_mangle)]
 pub extern "C" fn dfu_core_candidate(
     config: &DfuConfig,
@@ -23,7 +23,8 @@ pub extern "C" fn dfu_core_candidate(
         ⊎ ((place.new ≡ place.old) × (HasNone config.now device.now flash.now result
         ⊎ RefusesCandidate config.now device.now flash.now result)) }
 {
-    let asking = match found(config, device, 4096) {
+    let read = found(config, device, 4096);
+    let asking = match &read {
         Ok(asking) => asking,
         Err(refusal) => return refusal.number(),
     };
@@ -33,7 +34,7 @@ pub extern "C" fn dfu_core_candidate(
             place.length = found.stored;
             0
         }
-        Ok(None) => -15,
+        Ok(None) => -20,
         Err(refusal) => refused(refusal).number(),
     }
 }

@@ -55,18 +55,19 @@ pub extern "C" fn dfu_core_handle(
     if out.len() < numbers::room_for(config) {
         return numbers::NO_ROOM;
     }
-    let mut asking = match found(config, device, block.len()) {
+    let mut read = found(config, device, block.len());
+    let asking = match &mut read {
         Ok(asking) => asking,
         Err(refusal) => return refusal.number(),
     };
     let setup = addressed(config.interface, setup);
     match asking.handle(block, &mut device.held, flash, &setup, body, out) {
         Ok(Reply::Asks) => {
-            keep(&asking, device);
+            keep(asking, device);
             numbers::ASKS
         }
         Ok(Reply::Answered(answer, count)) => {
-            keep(&asking, device);
+            keep(asking, device);
             numbers::number_of(answer, count)
         }
         Err(refusal) => refused(refusal).number(),
@@ -88,17 +89,18 @@ pub extern "C" fn dfu_core_elapse(
         (with_memory device.new block.new a'))
         ⊎ Refuses config.now device.old block.old flash.now result device.new block.new }
 {
-    let mut asking = match found(config, device, block.len()) {
+    let mut read = found(config, device, block.len());
+    let asking = match &mut read {
         Ok(asking) => asking,
         Err(refusal) => return refusal.number(),
     };
     match asking.elapse(block, &mut device.held, flash, ms) {
         Ok(Reply::Asks) => {
-            keep(&asking, device);
+            keep(asking, device);
             numbers::ASKS
         }
         Ok(Reply::Answered(_, _)) => {
-            keep(&asking, device);
+            keep(asking, device);
             0
         }
         Err(refusal) => refused(refusal).number(),
@@ -119,13 +121,14 @@ pub extern "C" fn dfu_core_usb_reset(
         × (IsIntact device.old block.old flash.now a → IsIntact device.new block.new flash.now a'))
         ⊎ Refuses config.now device.old block.old flash.now result device.new block.new }
 {
-    let mut asking = match found(config, device, block.len()) {
+    let mut read = found(config, device, block.len());
+    let asking = match &mut read {
         Ok(asking) => asking,
         Err(refusal) => return refusal.number(),
     };
     match asking.usb_reset(block, &device.held, flash) {
         Ok(_) => {
-            keep(&asking, device);
+            keep(asking, device);
             0
         }
         Err(refusal) => refused(refusal).number(),

@@ -40,7 +40,8 @@ pub extern "C" fn dfu_core_next(
         ⊎ (RefusesPiece config.now device.now block.now (λ a. IsHeldBack (with_memory device.now block.now a) flash.now) result
         × (ask.new ≡ ask.old)) }
 {
-    let asking = match found(config, device, block.len()) {
+    let read = found(config, device, block.len());
+    let asking = match &read {
         Ok(asking) => asking,
         Err(refusal) => return refusal.number(),
     };
@@ -80,17 +81,18 @@ pub extern "C" fn dfu_core_took(
     if out.len() < 6 {
         return numbers::NO_ROOM;
     }
-    let mut asking = match found(config, device, block.len()) {
+    let mut read = found(config, device, block.len());
+    let asking = match &mut read {
         Ok(asking) => asking,
         Err(refusal) => return refusal.number(),
     };
     match asking.took(block, &mut device.held, flash, failed != 0, out) {
         Ok(Reply::Asks) => {
-            keep(&asking, device);
+            keep(asking, device);
             numbers::ASKS
         }
         Ok(Reply::Answered(answer, count)) => {
-            keep(&asking, device);
+            keep(asking, device);
             numbers::number_of(answer, count)
         }
         Err(_) => Refusal::NoDevice.number(),

@@ -10,12 +10,12 @@ use Rattle.dfu_device_c.specs.Kept.{with_memory}
 use Rattle.dfu_device_c.specs.Numbers.{passed_number}
 use Rattle.dfu_device_c.specs.Calls.{Passed, IsIntact, IsRefusedAsking}
 use Rattle.dfu_device_c.proofs.Kept.{goes, refuses, same_record}
-use Rattle.dfu_device_c.proofs.Found.{cause_of}
+use Rattle.dfu_device_c.proofs.Found.{cause_of, is_found}
 use Rattle.dfu_device_c.proofs.exports.dfu_core_elapse.Goals as goal
 
 pub returns-in-Ok-Asks : goal.returns-in-Ok-Asks
 returns-in-Ok-Asks c =
-    let found = c.in-Ok.ensures in
+    let found = is_found _ _ _ _ _ c.in-Ok.is c.found-read.ensures.ok c.found-read.ensures.config c.found-read.ensures.room in
     let r = c.args.device.now in
     let block = c.args.block.now in
     let flash = c.args.flash.now in
@@ -46,7 +46,7 @@ returns-in-Ok-Asks c =
 
 pub returns-in-Ok-Answered : goal.returns-in-Ok-Answered
 returns-in-Ok-Answered c =
-    let found = c.in-Ok.ensures in
+    let found = is_found _ _ _ _ _ c.in-Ok.is c.found-read.ensures.ok c.found-read.ensures.config c.found-read.ensures.room in
     let r = c.args.device.now in
     let block = c.args.block.now in
     let flash = c.args.flash.now in
@@ -77,7 +77,7 @@ returns-in-Ok-Answered c =
 
 pub returns-in-Err-elapse : goal.returns-in-Err-elapse
 returns-in-Err-elapse c =
-    let found = c.in-Ok.ensures in
+    let found = is_found _ _ _ _ _ c.in-Ok.is c.found-read.ensures.ok c.found-read.ensures.config c.found-read.ensures.room in
     let r = c.args.device.now in
     let block = c.args.block.now in
     let a = c.in-Ok.asking in

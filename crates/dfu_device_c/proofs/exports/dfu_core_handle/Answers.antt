@@ -11,12 +11,12 @@ use Rattle.dfu_device_c.specs.Kept.{with_memory}
 use Rattle.dfu_device_c.specs.Numbers.{reply_number}
 use Rattle.dfu_device_c.specs.Calls.{Replied, IsIntact, IsRefusedAsking}
 use Rattle.dfu_device_c.proofs.Kept.{goes, refuses, same_record}
-use Rattle.dfu_device_c.proofs.Found.{cause_of}
+use Rattle.dfu_device_c.proofs.Found.{cause_of, is_found}
 use Rattle.dfu_device_c.proofs.exports.dfu_core_handle.Goals as goal
 
 pub returns-in-Ok-Asks-clause-outcome : goal.returns-in-Ok-Asks-clause-outcome
 returns-in-Ok-Asks-clause-outcome c =
-    let found = c.in-Ok.ensures in
+    let found = is_found _ _ _ _ _ c.in-Ok.is c.found-read.ensures.ok c.found-read.ensures.config c.found-read.ensures.room in
     let r = c.args.device.now in
     let block = c.args.block.now in
     let flash = c.args.flash.now in
@@ -43,7 +43,7 @@ returns-in-Ok-Asks-clause-outcome c =
 
 pub returns-in-Ok-Answered-clause-outcome : goal.returns-in-Ok-Answered-clause-outcome
 returns-in-Ok-Answered-clause-outcome c =
-    let found = c.in-Ok.ensures in
+    let found = is_found _ _ _ _ _ c.in-Ok.is c.found-read.ensures.ok c.found-read.ensures.config c.found-read.ensures.room in
     let r = c.args.device.now in
     let block = c.args.block.now in
     let flash = c.args.flash.now in
@@ -72,7 +72,7 @@ returns-in-Ok-Answered-clause-outcome c =
 
 pub returns-in-Err-handle-clause-outcome : goal.returns-in-Err-handle-clause-outcome
 returns-in-Err-handle-clause-outcome c =
-    let found = c.in-Ok.ensures in
+    let found = is_found _ _ _ _ _ c.in-Ok.is c.found-read.ensures.ok c.found-read.ensures.config c.found-read.ensures.room in
     let r = c.args.device.now in
     let block = c.args.block.now in
     let a = c.in-Ok.asking in

@@ -9,12 +9,12 @@ use Rattle.dfu_device_c.specs.declared.refusal.Refusal.{Refusal}
 use Rattle.dfu_device_c.specs.Kept.{with_memory}
 use Rattle.dfu_device_c.specs.Calls.{IsIntact, IsRefusedAsking}
 use Rattle.dfu_device_c.proofs.Kept.{goes, refuses}
-use Rattle.dfu_device_c.proofs.Found.{cause_of}
+use Rattle.dfu_device_c.proofs.Found.{cause_of, is_found}
 use Rattle.dfu_device_c.proofs.exports.dfu_core_usb_reset.Goals as goal
 
 pub returns-in-Ok-usb_reset : goal.returns-in-Ok-usb_reset
 returns-in-Ok-usb_reset c =
-    let found = c.in-Ok.ensures in
+    let found = is_found _ _ _ _ _ c.in-Ok.is c.found-read.ensures.ok c.found-read.ensures.config c.found-read.ensures.room in
     let r = c.args.device.now in
     let block = c.args.block.now in
     let flash = c.args.flash.now in
@@ -41,7 +41,7 @@ returns-in-Ok-usb_reset c =
 
 pub returns-in-Err-usb_reset : goal.returns-in-Err-usb_reset
 returns-in-Err-usb_reset c =
-    let found = c.in-Ok.ensures in
+    let found = is_found _ _ _ _ _ c.in-Ok.is c.found-read.ensures.ok c.found-read.ensures.config c.found-read.ensures.room in
     let r = c.args.device.now in
     let block = c.args.block.now in
     let a = c.in-Ok.asking in

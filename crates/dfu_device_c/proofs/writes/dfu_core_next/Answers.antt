@@ -6,19 +6,20 @@ use Rattle.dfu_asks.specs.Asks.{steps_in}
 use Rattle.dfu_device_c.specs.Kept.{with_memory}
 use Rattle.dfu_device_c.specs.Writes.{refuses_unfound, refuses_piece}
 use Rattle.dfu_device_c.proofs.Handed.{is_kind, programs, by_number, same_step}
+use Rattle.dfu_device_c.proofs.Found.{is_found, is_unfound}
 use Rattle.dfu_device_c.proofs.writes.dfu_core_next.Goals as goal
 
 pub returns-in-Err : goal.returns-in-Err
 returns-in-Err c = record {
   outcome = inr (
-    refuses_unfound c.in-Err.refusal (to_z-of_z w32 _ (omega (arith, c.number.type_inv)) ∙ c.number.ensures) c.in-Err.ensures.err,
+    refuses_unfound c.in-Err.refusal (to_z-of_z w32 _ (omega (arith, c.number.type_inv)) ∙ c.number.ensures) (is_unfound _ _ _ _ _ c.in-Err.is c.found-read.ensures.err),
     refl,
   );
 }
 
 pub returns-in_default : goal.returns-in_default
 returns-in_default c =
-    let found = c.in-Ok.ensures in
+    let found = is_found _ _ _ _ _ c.in-Ok.is c.found-read.ensures.ok c.found-read.ensures.config c.found-read.ensures.room in
     record {
       outcome = inr (
         refuses_piece c.in-Ok.asking
@@ -30,7 +31,7 @@ returns-in_default c =
 
 pub returns-then-flash-gt4294967295 : goal.returns-then-flash-gt4294967295
 returns-then-flash-gt4294967295 c =
-    let found = c.in-Ok.ensures in
+    let found = is_found _ _ _ _ _ c.in-Ok.is c.found-read.ensures.ok c.found-read.ensures.config c.found-read.ensures.room in
     record {
       outcome = inr (
         refuses_piece c.in-Ok.asking
@@ -42,7 +43,7 @@ returns-then-flash-gt4294967295 c =
 
 pub returns : goal.returns
 returns c =
-    let found = c.in-Ok.ensures in
+    let found = is_found _ _ _ _ _ c.in-Ok.is c.found-read.ensures.ok c.found-read.ensures.config c.found-read.ensures.room in
     let r = c.args.device.now in
     let says = c.in-Some.ensures in
     let due = says.due in

@@ -9,13 +9,13 @@ use Rattle.dfu_device_c.specs.Numbers.{reply_number}
 use Rattle.dfu_device_c.specs.Calls.{Went}
 use Rattle.dfu_device_c.specs.Writes.{refuses_unfound, refuses_piece}
 use Rattle.dfu_device_c.proofs.Kept.{goes, same_record}
-use Rattle.dfu_device_c.proofs.Found.{not_taken}
+use Rattle.dfu_device_c.proofs.Found.{not_taken, is_found, is_unfound}
 use Rattle.dfu_device_c.proofs.writes.dfu_core_took.Goals as goal
 
 pub returns-in-Err : goal.returns-in-Err
 returns-in-Err c = record {
   outcome = inr (inl (
-    refuses_unfound c.in-Err.refusal (to_z-of_z w32 _ (omega (arith, c.number.type_inv)) ∙ c.number.ensures) c.in-Err.ensures.err,
+    refuses_unfound c.in-Err.refusal (to_z-of_z w32 _ (omega (arith, c.number.type_inv)) ∙ c.number.ensures) (is_unfound _ _ _ _ _ c.in-Err.is c.found-read.ensures.err),
     refl,
     refl,
   ));
@@ -24,7 +24,7 @@ returns-in-Err c = record {
 
 pub returns-in-Ok-Asks : goal.returns-in-Ok-Asks
 returns-in-Ok-Asks c =
-    let found = c.in-Ok.ensures in
+    let found = is_found _ _ _ _ _ c.in-Ok.is c.found-read.ensures.ok c.found-read.ensures.config c.found-read.ensures.room in
     let r = c.args.device.now in
     let block = c.args.block.now in
     let a = c.in-Ok.asking in
@@ -54,7 +54,7 @@ returns-in-Ok-Asks c =
 
 pub returns-in-Ok-Answered : goal.returns-in-Ok-Answered
 returns-in-Ok-Answered c =
-    let found = c.in-Ok.ensures in
+    let found = is_found _ _ _ _ _ c.in-Ok.is c.found-read.ensures.ok c.found-read.ensures.config c.found-read.ensures.room in
     let r = c.args.device.now in
     let block = c.args.block.now in
     let a = c.in-Ok.asking in
@@ -85,7 +85,7 @@ returns-in-Ok-Answered c =
 
 pub returns-in-Err-took : goal.returns-in-Err-took
 returns-in-Err-took c =
-    let found = c.in-Ok.ensures in
+    let found = is_found _ _ _ _ _ c.in-Ok.is c.found-read.ensures.ok c.found-read.ensures.config c.found-read.ensures.room in
     let r = c.args.device.now in
     let done = c.in-Err-took.ensures in
     record {
