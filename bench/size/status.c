@@ -1,6 +1,6 @@
 /* SPDX-License-Identifier: MIT OR Apache-2.0 */
 /* Asks the device for its status TURNS times, for a tool that counts instructions: BYTES TURNS. The active image has so many bytes, and the
- * device is in dfuIDLE. */
+ * device is in dfuIDLE. With a third word it gets power so often. */
 #include <stdlib.h>
 
 #include "dfu_device_memory.h"
@@ -13,12 +13,17 @@ static struct dfu_device device = {.config = &config, .flash = flash, .size = si
 
 int main(int count, char **words) {
     static const uint8_t setup[8] = {0xa1, DFU_GETSTATUS, 0, 0, 0, 0, 6, 0};
-    size_t bytes = count == 3 ? (size_t)atol(words[1]) : 0, turns = count == 3 ? (size_t)atol(words[2]) : 0;
+    size_t bytes = count >= 3 ? (size_t)atol(words[1]) : 0, turns = count >= 3 ? (size_t)atol(words[2]) : 0;
     if (bytes < 1 || bytes > sizeof image || dfu_device_format(&device, image, bytes) != 0)
         return 2;
     if (dfu_device_begin(&device) != 0)
         return 1;
     for (size_t turn = 0; turn < turns; turn++) {
+        if (count == 4) {
+            if (dfu_device_begin(&device) != 0)
+                return 1;
+            continue;
+        }
         if (dfu_device_handle(&device, setup, image, out, sizeof out) != 6 || out[4] != DFU_STATE_IDLE)
             return 1;
     }
