@@ -5,6 +5,9 @@ import { Library } from './library.js'
 
 const STALL = -1
 const ASKS = -11
+const NO_CLOSE = -13
+const NO_CANDIDATE = -15
+const ERR_FILE = 2
 const ERASE = 1
 const ERASED = 0xff
 const MOST_BODY = 65536
@@ -98,6 +101,31 @@ export class Device extends Library {
     const rest = [this.setup, this.body, body.length, this.out, MOST_ANSWER].map(BigInt)
     const count = this.work(this.calls.dfu_core_handle(...this.words(), ...rest))
     return count === STALL ? null : this.copy(this.out, taken(count))
+  }
+
+  // The bytes of an image that was taken: what is on the medium, and what is held back; null if there is none that may be refused.
+  candidate() {
+    const words = [this.config, this.kept, this.medium, this.size, this.place].map(BigInt)
+    const number = this.calls.dfu_core_candidate(...words)
+    if (number === NO_CANDIDATE) return null
+    taken(number)
+    const { at, length } = this.read('dfu_place', this.place)
+    const { held_length: count } = this.read('dfu_record', this.kept)
+    return [...this.copy(this.medium + at, length), ...this.copy(this.kept + LAYOUT.dfu_record.fields.held.at, count)]
+  }
+
+  // A program that takes only images that begin with these bytes: whether it refuses the image that this setup closes.
+  refuses(setup, front) {
+    const image = this.candidate()
+    if (image === null || front.every((byte, at) => image[at] === byte)) return false
+    this.bytes(this.setup, 8).set(setup)
+    const number = this.calls.dfu_core_refuse_close(...[this.config, this.kept, this.setup].map(BigInt), ERR_FILE)
+    return number === STALL || (number !== NO_CLOSE && taken(number) !== 0)
+  }
+
+  // The program refuses the image that was closed, if one was.
+  refuse(objection) {
+    taken(this.calls.dfu_core_refuse(...[this.config, this.kept].map(BigInt), objection))
   }
 
   elapse(ms) {

@@ -13,7 +13,7 @@ import { ScriptEnd, World } from './world.js'
 const MOST_ROWS = 500
 const MOST_AT_ONCE = 10000
 const MOST_PASSES = 1000000 // of a line
-const SETUP = ['blank', 'ids', 'device', 'unit', 'erase', 'capacity', 'image', 'limits']
+const SETUP = ['blank', 'ids', 'device', 'unit', 'erase', 'capacity', 'image', 'check', 'limits']
 export class PlayView {
   constructor(modules, examples) {
     Object.assign(this, { modules, examples, diagram: new Diagram(by('diagram')) })

@@ -7,6 +7,7 @@ const FOUR = /^[0-9a-f]{4}$/i
 const UNITS = [1, 16, 64, 256]
 const FATES = { lostout: 'lost out', lostback: 'lost back', twice: 'twice', twicelostback: 'twice, lost back' }
 const HARMS = ['cut', 'fail', 'lie']
+const OBJECTIONS = { errTARGET: 1, errFILE: 2 }
 
 // A number of at most `most`, and of at least `least`; undefined where the word is none.
 function number(word, most = 4294967295, least = 0) {
@@ -39,6 +40,7 @@ const FORMS = {
   erase: [1, word => ({ what: 'erase', sector: number(word, 131072) % 256 === 0 ? number(word) : undefined })],
   capacity: [1, word => ({ what: 'capacity', capacity: number(word, 1048576, 1) })],
   image: [1, word => ({ what: 'image', image: bytesOf(word) })],
+  check: [1, word => ({ what: 'check', check: bytesOf(word) })],
   limits: [2, (actions, restarts) => ({ what: 'limits', actions: number(actions), restarts: number(restarts, 65535) })],
   offer: [1, word => ({ what: 'offer', goal: 'download', file: bytesOf(word) })],
   verify: [1, word => ({ what: 'offer', goal: 'verified', file: bytesOf(word) })],
@@ -47,6 +49,7 @@ const FORMS = {
   time: [1, word => ({ what: 'time', ms: number(word) })],
   reset: [0, () => ({ what: 'reset' })],
   cut: [0, () => ({ what: 'cut' })],
+  refuse: [1, word => ({ what: 'refuse', objection: Object.hasOwn(OBJECTIONS, word) ? OBJECTIONS[word] : undefined })],
   show: [0, () => ({ what: 'show' })],
 }
 

@@ -9,7 +9,7 @@ import { refusalOf } from './refusals.js'
 import { lineOf } from './script.js'
 
 const NONE = new Uint8Array(0)
-const SETTINGS = ['ids', 'device', 'unit', 'erase', 'capacity', 'image']
+const SETTINGS = ['ids', 'device', 'unit', 'erase', 'capacity', 'image', 'check']
 const textOf = bytes => (bytes.length === 0 ? '-' : hexOf(bytes))
 
 // A script ends here: what is printed last.
@@ -21,7 +21,8 @@ export class World {
     Object.assign(this, { modules, onAction, device: null, host: null, number: 0, actions: 0, printed: [] })
     const functional = { attributes: 7, detach_ms: 255, transfer: 8 }
     this.config = { device: 0x0100, product: 1, vendor: 0x1209, ...functional, least: 1, busy_ms: 5, manifest_ms: 10 }
-    Object.assign(this, { capacity: 64, image: new Uint8Array(1), unit: 1, sector: 0, limits: { actions: 1000000, restarts: 0 } })
+    Object.assign(this, { capacity: 64, image: new Uint8Array(1), check: NONE, unit: 1, sector: 0 })
+    this.limits = { actions: 1000000, restarts: 0 }
   }
 
   print(line) {
@@ -68,6 +69,7 @@ export class World {
     else if (line.what === 'go') for (let turn = 0; turn < line.times; turn++) this.go(line)
     else if (line.what === 'until') this.passOn()
     else if (line.what === 'time') device.elapse(line.ms)
+    else if (line.what === 'refuse') device.refuse(line.objection)
     else if (line.what === 'reset') this.outside(() => device.reset())
     else this.outside(() => device.power())
   }
@@ -143,7 +145,7 @@ export class World {
     const { device } = this
     if (line.fate === 'lostout') return { seen: SEEN.NOTHING }
     let bytes = null
-    this.call(line, () => { bytes = device.handle(setup, body) })
+    this.call(line, () => { bytes = device.refuses(setup, this.check) ? null : device.handle(setup, body) })
     if (line.fate === 'cut') return { seen: SEEN.RESTART }
     if (line.fate === 'twice' || line.fate === 'twicelostback') bytes = device.handle(setup, body)
     if (line.fate === 'slip') device.elapse(line.ms)

@@ -67,8 +67,24 @@ def tear(choice):
     return choice.choice(['-', 'a5', 'a5' + 'ff' * 40, '00', 'ff' * choice.randint(1, 1100), some])
 
 
-def script_of(choice):
-    """A device with blocks of up to 1,024 bytes, any unit and sectors, and sessions with losses and harmed writes."""
+def refusing(choice, lines):
+    """The same script on a device whose program refuses images: at their close, or between two actions."""
+    offered = [line.split()[1] for line in lines if line.startswith(('offer ', 'verify '))]
+    fronts = [file[:2 * choice.choice([1, 1, 2, 3])] for file in offered] or ['00']
+    whole = choice.choice(offered or ['00'])[:-32] or '-'
+    check = choice.choice([choice.choice(fronts), choice.choice(fronts), whole, '-', ''])
+    longer = [line for line in lines if line.startswith('go pass ')]
+    found = [f'check {check}'] if check else []
+    for line in lines:
+        found.append(line)
+        if choice.random() < (0.5 if line in longer else 0.05):
+            found.append(f'refuse {choice.choice(["errFILE", "errTARGET"])}')
+    return found
+
+
+def script_of(choice, refuses=False):
+    """A device with blocks of up to 1,024 bytes, any unit and sectors, and sessions with losses and harmed writes. Where it `refuses`, its
+    program refuses images."""
     unit, sector = choice.choice([1, 16, 64, 256, 256]), choice.choice([0, 0, 0, 256, 512])
     step = max(unit, sector)
     lines = [f'device {choice.choice(["07", "03", "0f"])} 255 {choice.choice([8, 64, 100, 700, 700, 1024])} 1 {choice.choice([0, 5])} '
@@ -80,7 +96,7 @@ def script_of(choice):
             [f'go {choice.choice(["cut", "fail", "lie"])} {choice.choice([0, 1, 1, 2, 4])} {tear(choice)}'],
             [choice.choice(['go lostout', 'go lostback', 'go twice', 'go slip 3', 'time 20', 'reset', 'cut', 'upload', 'abort'])],
             [f'go pass {choice.randint(1, 12)}'], ['show']], [3, 6, 2, 9, 1])[0]
-    return '\n'.join(lines) + '\n'
+    return '\n'.join(refusing(choice, lines) if refuses else lines) + '\n'
 
 
 def held_back(passes):
@@ -93,6 +109,7 @@ def held_back(passes):
 def at_random(browser):
     if not PROGRAM.exists():
         return
-    scripts = [script_of(random.Random(seed)) for seed in range(400)] + [held_back(passes) for passes in range(1, 20)]
+    scripts = [script_of(random.Random(seed), refuses) for refuses in (False, True) for seed in range(300)]
+    scripts += [held_back(passes) for passes in range(1, 20)]
     for script, found in zip(scripts, browser.run('return runs.scripts(arguments[0])', scripts)):
         check(f'a script at random\n{script}', found + '\n', by_program(script))

@@ -5,7 +5,7 @@ use Rattle.dfu_slots.specs.Seen.{image_of}
 use Rattle.dfu_device.specs.Stage.{Profile, InAppIdle}
 use Rattle.dfu_device.specs.Outcome.{Situation, Outcome, elapsed}
 use Rattle.dfu_device.specs.Shown.{Shown, profile, situation}
-use Rattle.dfu_device.specs.Rows.{Cause, Transfer, Passing, BusReset}
+use Rattle.dfu_device.specs.Rows.{Cause, Transfer, Passing, BusReset, Refusing}
 use Rattle.dfu_device.specs.Came.{time_came}
 use Rattle.dfu_host.specs.Phases.{Send, Deed, Nothing as NothingHeard, Waited, WasReset}
 use Rattle.dfu_sim.specs.Session.{Loading, IsOneOf, SaysInPlace}
@@ -18,17 +18,18 @@ use Rattle.dfu_sim.specs.Agreement.{live_of, IsLiveOffer}
 use Rattle.dfu_sim.specs.LinkAgreement.{IsSound}
 use Rattle.dfu_sim.specs.Fact.{SessionFact}
 use Rattle.dfu_sim.specs.Simulation.{Simulation, OnlyOffered}
-use Rattle.dfu_board.specs.Board.{Board, Handle, Elapse, UsbReset, Event, Says, BoardStep}
+use Rattle.dfu_sim.proofs.Objecting.{refusal_sound, refusal_fact}
+use Rattle.dfu_board.specs.Board.{Board, Handle, Elapse, UsbReset, Refuse, Event, Says, BoardStep}
 use Rattle.dfu_board.specs.Refines.{IsIdle, IdleRefines}
 use Rattle.dfu_board_play.specs.Calls.{Reaches}
-use Rattle.dfu_board_play.specs.Comes.{BoardLink, IsUnderWay, left, Comes, passes, sends, waits, resets, is_reset, restarts}
+use Rattle.dfu_board_play.specs.Comes.{BoardLink, IsUnderWay, left, Comes, passes, sends, objects, refuses, waits, resets, is_reset, restarts}
 use Rattle.dfu_board_play.proofs.Served.{IsOf, served}
 use Rattle.dfu_board_play.proofs.Fixed.{row_profile}
 use Rattle.dfu_board_play.proofs.Timed.{DeviceWell, timed}
 use Rattle.dfu_board_play.proofs.Acted.{ActedWell, acted_well, told_well, no_time}
 use Rattle.dfu_board_play.proofs.Became.{Became, then_well, resets_well, reaches_well, elapses_well}
 use Rattle.dfu_board_play.proofs.Stopped.{stops_by}
-use Rattle.dfu_board_play.proofs.Sent.{hears_nothing, sent_well}
+use Rattle.dfu_board_play.proofs.Sent.{hears_nothing, sent_well, objected_well}
 
 -- No writes are due on a board, it is this device, and what has to hold of it and of the live session holds: its image is the first one or
 -- one of those offered, bytes that were closed are one of these, and so is the payload of the live session, which is the last one.
@@ -131,6 +132,31 @@ module _ (refines : IdleRefines) (simulation : Simulation) (only : OnlyOffered) 
       let x = sent_well refines simulation only c sized past h q setup body is asked d s.profile_is s.sound o f l.board b' steps says heard s.idle reaches hears room in
       took_on c first past last l d x.device b' (took h heard) s x.idle x.profile_is
       (subst (λ (y : Session). ActedWell c past y (situation d) (situation x.device) (took h heard)) (sym live) x.acted)
+  went_on first last l _ d steps _ s (objects {h = h} {q = q} {setup = setup} {body = body} {why = why} {says = says} {b' = b'}
+      {heard = heard} live is asked refused hears room) =
+      let f = subst (λ (x : Session). SessionFact c (situation d) x) live s.fact in
+      let o = subst (λ (x : Session). IsLiveOffer past (live_of x)) live s.offered in
+      let x = objected_well refines simulation only c sized past h q setup body is asked d s.profile_is s.sound o f why l.board b' steps says
+      heard s.idle refused hears room in
+      took_on c first past last l d x.device b' (took h heard) s x.idle x.profile_is
+      (subst (λ (y : Session). ActedWell c past y (situation d) (situation x.device) (took h heard)) (sym live) x.acted)
+  went_on first last l _ d steps _ s (refuses {why = why} {a = a} {out = out} {b' = b'} serves) =
+      let x = served refines l.board b' d (Refuse why) (Refusing why) steps a out refl s.idle serves in
+      let same = x.row.2 in
+      record {
+        device = x.device;
+        stands = record {
+          idle = x.idle;
+          profile_is = row_profile d x.device (Refusing why) a out x.row ∙ s.profile_is;
+          fact = subst (λ (z : Shown). SessionFact c (situation z) l.session) (sym same) (refusal_fact c why (situation d) l.session s.fact);
+          live = s.live;
+          offered = s.offered;
+          sound = subst (λ (z : Shown). IsSound past z.stage) (sym same) (refusal_sound why past d.stage s.sound);
+          known = subst (λ (z : Shown). (image_of z.slots ≡ first) ⊎ IsOneOf (image_of z.slots) past) (sym same) s.known;
+        };
+        done = λ e. elim e [ ];
+        gives = λ bytes e. absurd (cc);
+      }
   went_on first last l _ d _ _ s (waits {h = h} {ms = ms} live is) =
       let f = subst (λ (x : Session). SessionFact c (situation d) x) live s.fact in
       let o = subst (λ (x : Session). IsLiveOffer past (live_of x)) live s.offered in

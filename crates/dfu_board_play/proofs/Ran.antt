@@ -1,11 +1,12 @@
 -- All that comes to a board is a run of it.
-use Rattle.std.specs.Prelude.{◌≡◌, List, [], ◌∷◌, ◌++◌}
+use Rattle.std.specs.Prelude.{◌≡◌, ℕ, List, [], ◌∷◌, ◌++◌}
 use Rattle.std.proofs.Common.{refl, sym, ◌∙◌, subst}
+use Rattle.dfu_device.specs.declared.objection.Objection.{Objection}
 use Rattle.dfu_sim.specs.Play.{Answered}
 use Rattle.dfu_board.specs.Board.{Board, Event, Handle, Says, BoardStep}
 use Rattle.dfu_board.specs.Happens.{IsRun}
-use Rattle.dfu_board_play.specs.Calls.{Reaches, lost, once, twice, Stops, behind, within, within_second}
-use Rattle.dfu_board_play.specs.Comes.{BoardLink, Comes, passes, sends, waits, resets, is_reset, restarts}
+use Rattle.dfu_board_play.specs.Calls.{Reaches, lost, once, twice, Objects, refused_once, refused_twice, Stops, behind, within, within_second}
+use Rattle.dfu_board_play.specs.Comes.{BoardLink, Comes, passes, sends, objects, refuses, waits, resets, is_reset, restarts}
 use Rattle.dfu_board_play.specs.Plays.{starts, offers, uploads, aborts as gives_up, goes_on, PlaysRun}
 
 run_append : (b mid b' : Board) (xs ys : List BoardStep) → IsRun b xs mid → IsRun mid ys b' → IsRun b (xs ++ ys) b'
@@ -37,6 +38,12 @@ reaches_run call b _ steps _ (once serves) = serves.run
 reaches_run call b b' _ _ (twice {first = first} {second = second} {mid = mid} serves more) =
     run_append b mid b' first second serves.run more.run
 
+objects_run : (setup body : List ℕ) (why : Objection) (b b' : Board) (steps : List BoardStep) (says : Says)
+    → Objects setup body why b steps says b' → IsRun b steps b'
+objects_run setup body why b _ steps _ (refused_once serves) = serves.run
+objects_run setup body why b b' _ _ (refused_twice {first = first} {second = second} {mid = mid} serves more) =
+    run_append b mid b' first second serves.run more.run
+
 stops_run : (call : Event) (b b' : Board) (steps : List BoardStep) → Stops call b steps b' → IsRun b steps b'
 stops_run call b b' _ (behind {steps = steps} {says = says} {mid = mid} power begins reaches run e) =
     run_append b mid b' steps (power ∷ []) (reaches_run call b mid steps says reaches) run
@@ -49,6 +56,9 @@ pub comes_run : (l l' : BoardLink) (steps : List BoardStep) (answer : Answered) 
 comes_run l _ steps _ (passes serves) = serves.run
 comes_run l _ steps _ (sends {setup = setup} {body = body} {says = says} {b' = b'} live is asked reaches hears room) =
     reaches_run (Handle setup body) l.board b' steps says reaches
+comes_run l _ steps _ (objects {setup = setup} {body = body} {why = why} {says = says} {b' = b'} live is asked refused hears room) =
+    objects_run setup body why l.board b' steps says refused
+comes_run l _ steps _ (refuses serves) = serves.run
 comes_run l _ _ _ (waits live is) = refl
 comes_run l _ steps _ (resets live is serves) = serves.run
 comes_run l _ _ _ (is_reset {call = call} {steps = steps} {more = more} {says = says} {mid = mid} {b' = b'} way reaches serves) =

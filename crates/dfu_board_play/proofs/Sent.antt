@@ -3,15 +3,16 @@ use Rattle.std.specs.Prelude.{◌≡◌, ℕ, ◌<◌, IsTrue, List, []}
 use Rattle.std.proofs.Common.{inl, inr, refl, sym, ◌∙◌, subst}
 use Rattle.dfu_wire.specs.declared.requests.Request.{Request}
 use Rattle.dfu_device.specs.declared.answer.Answer.{Answer}
+use Rattle.dfu_device.specs.declared.objection.Objection.{Objection}
 use Rattle.dfu_device.specs.Stage.{Profile}
 use Rattle.dfu_device.specs.Shown.{Shown, profile, situation}
-use Rattle.dfu_device.specs.Rows.{Transfer, Handles}
+use Rattle.dfu_device.specs.Rows.{Transfer, RefusingClose, Handles, Row}
 use Rattle.dfu_host.specs.Phases.{Send, Deed, Heard, NoRoom, Nothing as NothingHeard}
 use Rattle.dfu_host.specs.Table.{deed}
 use Rattle.dfu_host.specs.Host.{HostState, wants_memory}
 use Rattle.dfu_host.specs.Wire.{IsAsked}
 use Rattle.dfu_sim.specs.declared.back.Back.TheVariants as back
-use Rattle.dfu_sim.specs.Happening.{Pass, LostOut, LostBack, Twice, TwiceLostBack}
+use Rattle.dfu_sim.specs.Happening.{Pass, LostOut, LostBack, Twice, TwiceLostBack, Refusing}
 use Rattle.dfu_sim.specs.Course.{course_of}
 use Rattle.dfu_sim.specs.Play.{took}
 use Rattle.dfu_sim.specs.Bench.{Hosted}
@@ -20,9 +21,9 @@ use Rattle.dfu_sim.specs.Agreement.{live_of, IsLiveOffer}
 use Rattle.dfu_sim.specs.LinkAgreement.{IsSound}
 use Rattle.dfu_sim.specs.Fact.{SessionFact}
 use Rattle.dfu_sim.specs.Simulation.{Simulation, OnlyOffered}
-use Rattle.dfu_board.specs.Board.{Board, Handle, Says, Answers, BoardStep}
+use Rattle.dfu_board.specs.Board.{Board, Handle, RefuseClose, Says, Answers, BoardStep}
 use Rattle.dfu_board.specs.Refines.{IsIdle, IdleRefines}
-use Rattle.dfu_board_play.specs.Calls.{Reaches, lost, once, twice}
+use Rattle.dfu_board_play.specs.Calls.{Reaches, lost, once, twice, Objects, refused_once, refused_twice}
 use Rattle.dfu_board_play.specs.Comes.{HearsBack}
 use Rattle.dfu_board_play.proofs.Served.{served}
 use Rattle.dfu_board_play.proofs.Fixed.{row_profile}
@@ -66,10 +67,36 @@ module _ (refines : IdleRefines) (simulation : Simulation) (only : OnlyOffered) 
   twice_well mid d' a x out said heard row more hears room = elim hears [
     | inl none ↦ acted_well simulation only c sized past d d' h heard TwiceLostBack e sound offered f refl
         (subst (λ (y : Deed). Acts y (course_of TwiceLostBack) d d' heard) (sym is)
-        (setup, asked, record { came = back.Answered a; out = out; reaches = again row more; hears = none })) room
+        (setup, asked, record { came = back.Answered a; out = out; reaches = again mid x said row more; hears = none })) room
     | inr some ↦ acted_well simulation only c sized past d d' h heard Twice e sound offered f refl
         (subst (λ (y : Deed). Acts y (course_of Twice) d d' heard) (sym is)
-        (setup, asked, record { came = back.Answered a; out = out; reaches = again row more; hears = some })) room
+        (setup, asked, record { came = back.Answered a; out = out; reaches = again mid x said row more; hears = some })) room
+  ]
+
+  -- It came once, and the program refused the image that it closes.
+  refused_well : (why : Objection) (d' : Shown) (a : Answer) (out : List ℕ) (heard : Heard) → Row d (RefusingClose setup why) a out d'
+      → HearsBack (Send q body) (Answers a out) heard → (heard ≡ NoRoom → IsTrue (wants_memory h.phase)) → Acted d' heard
+  refused_well why d' a out heard row hears room = elim hears [
+    | inl none ↦ acted_well simulation only c sized past d d' h heard (Refusing why LostBack) e sound offered f refl
+        (subst (λ (y : Deed). Acts y (course_of (Refusing why LostBack)) d d' heard) (sym is)
+        (setup, asked, record { came = back.Answered a; out = out; reaches = once_there (inl row); hears = none })) room
+    | inr some ↦ acted_well simulation only c sized past d d' h heard (Refusing why Pass) e sound offered f refl
+        (subst (λ (y : Deed). Acts y (course_of (Refusing why Pass)) d d' heard) (sym is)
+        (setup, asked, record { came = back.Answered a; out = out; reaches = once_there (inl row); hears = some })) room
+  ]
+
+  -- It came a second time then.
+  refused_again : (why : Objection) (mid d' : Shown) (a x : Answer) (out said : List ℕ) (heard : Heard)
+      → Row d (RefusingClose setup why) x said mid
+      → Handles setup body mid a out d' → HearsBack (Send q body) (Answers a out) heard
+      → (heard ≡ NoRoom → IsTrue (wants_memory h.phase)) → Acted d' heard
+  refused_again why mid d' a x out said heard row more hears room = elim hears [
+    | inl none ↦ acted_well simulation only c sized past d d' h heard (Refusing why TwiceLostBack) e sound offered f refl
+        (subst (λ (y : Deed). Acts y (course_of (Refusing why TwiceLostBack)) d d' heard) (sym is)
+        (setup, asked, record { came = back.Answered a; out = out; reaches = again mid x said (inl row) more; hears = none })) room
+    | inr some ↦ acted_well simulation only c sized past d d' h heard (Refusing why Twice) e sound offered f refl
+        (subst (λ (y : Deed). Acts y (course_of (Refusing why Twice)) d d' heard) (sym is)
+        (setup, asked, record { came = back.Answered a; out = out; reaches = again mid x said (inl row) more; hears = some })) room
   ]
 
   -- What was heard of it, and what the board became.
@@ -102,4 +129,28 @@ module _ (refines : IdleRefines) (simulation : Simulation) (only : OnlyOffered) 
         profile_is = row_profile x.device y.device (Transfer setup body) a out y.row
             ∙ row_profile d x.device (Transfer setup body) a0 out0 x.row ∙ e;
         acted = twice_well x.device y.device a a0 out out0 heard x.row y.row hears room;
+      }
+
+  -- And where the program refused the image that it closes.
+  pub objected_well : (why : Objection) (b b' : Board) (steps : List BoardStep) (says : Says) (heard : Heard) → IsIdle b d
+      → Objects setup body why b steps says b' → HearsBack (Send q body) says heard
+      → (heard ≡ NoRoom → IsTrue (wants_memory h.phase)) → Sent b' heard
+  objected_well why b b' steps _ heard k (refused_once {a = a} {out = out} serves) hears room =
+      let x = served refines b b' d (RefuseClose setup why) (RefusingClose setup why) steps a out refl k serves in
+      record {
+        device = x.device;
+        idle = x.idle;
+        profile_is = row_profile d x.device (RefusingClose setup why) a out x.row ∙ e;
+        acted = refused_well why x.device a out heard x.row hears room;
+      }
+  objected_well why b b' _ _ heard k (refused_twice {first = first} {second = second} {a = a} {x = a0} {out = out} {said = out0} {mid = mid}
+      serves more) hears room =
+      let x = served refines b mid d (RefuseClose setup why) (RefusingClose setup why) first a0 out0 refl k serves in
+      let y = served refines mid b' x.device (Handle setup body) (Transfer setup body) second a out refl x.idle more in
+      record {
+        device = y.device;
+        idle = y.idle;
+        profile_is = row_profile x.device y.device (Transfer setup body) a out y.row
+            ∙ row_profile d x.device (RefusingClose setup why) a0 out0 x.row ∙ e;
+        acted = refused_again why x.device y.device a a0 out out0 heard x.row y.row hears room;
       }

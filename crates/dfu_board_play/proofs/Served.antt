@@ -15,6 +15,8 @@ abbrev pub IsOf : Event → Cause → Type 0
 IsOf (Handle setup body) cause = cause ≡ Transfer setup body
 IsOf (Elapse ms) cause = cause ≡ Passing ms
 IsOf UsbReset cause = cause ≡ BusReset
+IsOf (RefuseClose setup why) cause = cause ≡ RefusingClose setup why
+IsOf (Refuse why) cause = cause ≡ Refusing why
 IsOf event cause = ⊥
 
 -- Its event tells of its rows.
@@ -23,6 +25,8 @@ pub tells_of : (call : Event) (cause : Cause) (due due' : Option Cause) (says : 
 tells_of (Handle setup body) cause due due' says rows is t = subst (λ (x : Cause). TellsCall x due says rows due') (sym is) t
 tells_of (Elapse ms) cause due due' says rows is t = subst (λ (x : Cause). TellsCall x due says rows due') (sym is) t
 tells_of UsbReset cause due due' says rows is t = subst (λ (x : Cause). TellsCall x due says rows due') (sym is) t
+tells_of (RefuseClose setup why) cause due due' says rows is t = subst (λ (x : Cause). TellsCall x due says rows due') (sym is) t
+tells_of (Refuse why) cause due due' says rows is t = subst (λ (x : Cause). TellsCall x due says rows due') (sym is) t
 tells_of event cause due due' says rows is t = elim is [ ]
 
 -- A call that is refused has no row, and what is due stays due.

@@ -1,7 +1,8 @@
 -- A call of a board with the writes that it asks for.
 use Rattle.std.specs.Prelude.{◌≡◌, ℕ, Bool, List, [], ◌∷◌, ◌++◌}
 use Rattle.dfu_device.specs.declared.answer.Answer.{Answer}
-use Rattle.dfu_board.specs.Board.{Board, Event, Write, Report, Restart, Says, Nothing, WritesDue, Answers, BoardStep}
+use Rattle.dfu_device.specs.declared.objection.Objection.{Objection}
+use Rattle.dfu_board.specs.Board.{Board, Event, Handle, RefuseClose, Write, Report, Restart, Says, Nothing, WritesDue, Answers, BoardStep}
 use Rattle.dfu_board.specs.Happens.{IsRun}
 
 -- What may come to a board while writes are due: the flash is written, or the program says how that went and is not answered yet, or any
@@ -45,6 +46,14 @@ pub data Reaches (call : Event) (b : Board) : List BoardStep → Says → Board 
       → Reaches call b steps (Answers a out) b'
   twice : {first second : List BoardStep} {a x : Answer} {out said : List ℕ} {mid b' : Board} → Serves b call first x said mid
       → Serves mid call second a out b' → Reaches call b (first ++ second) (Answers a out) b'
+
+-- A request that closes a download comes to a board, and its program refuses the image; the same request may come a second time then.
+pub data Objects (setup body : List ℕ) (why : Objection) (b : Board) : List BoardStep → Says → Board → Type 0 where
+  refused_once : {steps : List BoardStep} {a : Answer} {out : List ℕ} {b' : Board} → Serves b (RefuseClose setup why) steps a out b'
+      → Objects setup body why b steps (Answers a out) b'
+  refused_twice : {first second : List BoardStep} {a x : Answer} {out said : List ℕ} {mid b' : Board}
+      → Serves b (RefuseClose setup why) first x said mid → Serves mid (Handle setup body) second a out b'
+      → Objects setup body why b (first ++ second) (Answers a out) b'
 
 -- A call goes to a board over a link, and the power goes: before it is handed in or behind its answers, within it, or within the second one.
 pub data Stops (call : Event) (b : Board) : List BoardStep → Board → Type 0 where

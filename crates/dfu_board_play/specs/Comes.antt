@@ -2,6 +2,7 @@
 use Rattle.std.specs.Prelude.{◌≡◌, ◌⊎◌, ℕ, List, [], ◌++◌, IsTrue}
 use Rattle.dfu_wire.specs.declared.requests.Request.{Request}
 use Rattle.dfu_device.specs.declared.answer.Answer.{Answer}
+use Rattle.dfu_device.specs.declared.objection.Objection.{Objection}
 use Rattle.dfu_host.specs.Phases.{Deed, Send, Wait, Reset, Heard, NoRoom, Nothing as NothingHeard, Waited, WasReset}
 use Rattle.dfu_host.specs.Table.{deed}
 use Rattle.dfu_host.specs.Host.{HostState, wants_memory}
@@ -9,8 +10,8 @@ use Rattle.dfu_host.specs.Wire.{IsAsked}
 use Rattle.dfu_sim.specs.Bench.{Session, Hosted}
 use Rattle.dfu_sim.specs.Bytes.{HearsAnswer}
 use Rattle.dfu_sim.specs.Play.{Answered, silent, Took, took, told}
-use Rattle.dfu_board.specs.Board.{Board, Event, Handle, Elapse, UsbReset, Says, Answers, BoardStep}
-use Rattle.dfu_board_play.specs.Calls.{Serves, Reaches, Stops}
+use Rattle.dfu_board.specs.Board.{Board, Event, Handle, Elapse, UsbReset, Refuse, Says, Answers, BoardStep}
+use Rattle.dfu_board_play.specs.Calls.{Serves, Reaches, Objects, Stops}
 
 -- A board, and the session that is live.
 pub record BoardLink : Type 0 where
@@ -44,6 +45,15 @@ pub data Comes (l : BoardLink) : List BoardStep → Answered → BoardLink → T
       → l.session ≡ Hosted h → deed h.task h.phase ≡ Send q body → IsAsked q setup
       → Reaches (Handle setup body) l.board steps says b' → HearsBack (Send q body) says heard
       → (heard ≡ NoRoom → IsTrue (wants_memory h.phase)) → Comes l steps (took h heard).answer (left b' (took h heard))
+  -- The host sends a request that closes a download, and the board's program refuses the image.
+  objects : {h : HostState} {q : Request} {setup body : List ℕ} {why : Objection} {steps : List BoardStep} {says : Says} {b' : Board}
+      {heard : Heard}
+      → l.session ≡ Hosted h → deed h.task h.phase ≡ Send q body → IsAsked q setup
+      → Objects setup body why l.board steps says b' → HearsBack (Send q body) says heard
+      → (heard ≡ NoRoom → IsTrue (wants_memory h.phase)) → Comes l steps (took h heard).answer (left b' (took h heard))
+  -- The board's program refuses the image that was closed, if one was.
+  refuses : {why : Objection} {steps : List BoardStep} {a : Answer} {out : List ℕ} {b' : Board} → Serves l.board (Refuse why) steps a out b'
+      → Comes l steps silent (record { board = b'; session = l.session })
   -- The host's wait is over, whatever time passed at the board.
   waits : {h : HostState} {ms : ℕ} → l.session ≡ Hosted h → deed h.task h.phase ≡ Wait ms
       → Comes l [] (took h Waited).answer (left l.board (took h Waited))

@@ -1,16 +1,20 @@
 -- What the code does as an action of a host is that action.
-use Rattle.std.specs.Prelude.{◌≡◌, ℕ, max, Bool, true, false, if◌then◌else◌, List}
-use Rattle.std.proofs.Common.{subst, Bor}
+use Rattle.std.specs.Prelude.{◌≡◌, ℕ, max, Bool, true, false, if◌then◌else◌, List, []}
+use Rattle.std.proofs.Common.{sym, ap, ◌∙◌, subst, Bor}
+use Rattle.dfu_device.specs.declared.answer.Answer.TheVariants as answer
+use Rattle.dfu_device.specs.declared.objection.Objection.{Objection}
 use Rattle.dfu_host.specs.declared.action.Action.TheVariants as action
 use Rattle.dfu_host.specs.declared.report.Report.{Report}
 use Rattle.dfu_host.specs.Phases.{Task, Phase, Enter, Over, OverUploaded, Deed, Send, Wait, Reset, Restarted}
 use Rattle.dfu_host.specs.Table.{deed}
 use Rattle.dfu_host.specs.Host.{HostState, IsOn, after}
 use Rattle.dfu_host.specs.Wire.{Spells}
-use Rattle.dfu_sim.specs.Happening.{Fate}
-use Rattle.dfu_board.specs.Board.{Board, Handle, Elapse}
-use Rattle.dfu_board_sim.specs.Served.{IsCut}
-use Rattle.dfu_board_sim.specs.Acts.{HasSent, HasWaited, HasReset, Acts}
+use Rattle.dfu_sim.specs.declared.fate.Fate.{Fate as GivenFate}
+use Rattle.dfu_sim.specs.declared.fate.Fate.TheVariants as given
+use Rattle.dfu_sim.specs.Happening.{Fate, fate_of}
+use Rattle.dfu_board.specs.Board.{Board, Handle, Elapse, RefuseClose, Answers}
+use Rattle.dfu_board_sim.specs.Served.{HasServed, IsCut}
+use Rattle.dfu_board_sim.specs.Acts.{HasSent, HasWaited, HasReset, Acts, HasEnded, HasActed, HasObjected, HasGone}
 
 -- A host that is not done asks for something.
 pub not_done : (task : Task) (phase : Phase) (report : Report) → IsOn phase → Spells (deed task phase) (action.Done report) → ⊥
@@ -51,3 +55,32 @@ module _ (fate : Fate) (h : HostState) (b b' : Board) (h' : HostState) where
   pub cuts_reset : (d : Deed) → Spells d action.Reset → IsCut (Elapse 0) b b' → h' ≡ after h Restarted → Acts true fate h d b b' h'
   cuts_reset Reset e s told = (s, told)
   cuts_reset d e s told = elim e [ ]
+
+  -- The program refused the image that a request closes.
+  pub objects_send : (why : Objection) (mid : Board) (d : Deed) (setup : List ℕ) (given : Bor (List ℕ)) → deed h.task h.phase ≡ d
+      → Spells d (action.Send setup given) → HasServed b (RefuseClose setup why) (Answers answer.Stall []) mid
+      → HasEnded fate h setup given.now mid b' h' → HasObjected why fate h b b' h'
+  objects_send why mid (Send q body) setup given is e served ends = record {
+    q = q;
+    setup = setup;
+    body = given.now;
+    is = is ∙ ap (λ (x : List ℕ). Send q x) (sym e.1);
+    asked = e.0;
+    mid = mid;
+    refused = served;
+    ends = ends;
+  }
+  objects_send why mid d setup given is e served ends = elim e [ ]
+
+-- An action of which the program refuses nothing.
+pub plain_gone : (f : GivenFate) (h : HostState) (b b' : Board) (h' : HostState) → HasActed (fate_of f) h b b' h'
+    → HasGone (fate_of f) h b b' h'
+plain_gone given.Pass h b b' h' acted = acted
+plain_gone given.LostOut h b b' h' acted = acted
+plain_gone given.LostBack h b b' h' acted = acted
+plain_gone given.Twice h b b' h' acted = acted
+plain_gone given.TwiceLostBack h b b' h' acted = acted
+plain_gone (given.Slip ms) h b b' h' acted = acted
+plain_gone (given.Cut writes tear) h b b' h' acted = acted
+plain_gone (given.Fail writes tear) h b b' h' acted = acted
+plain_gone (given.Lie writes tear) h b b' h' acted = acted

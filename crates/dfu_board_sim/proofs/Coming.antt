@@ -1,6 +1,7 @@
 -- What comes of each event on a link.
 use Rattle.std.specs.Prelude.{◌≡◌, ℕ, List, true, false, Option, Some, None, is_some, Ok, Err}
 use Rattle.std.proofs.Common.{refl, sym, subst}
+use Rattle.dfu_device.specs.declared.objection.Objection.{Objection}
 use Rattle.dfu_host.specs.declared.limits.Limits.{Limits}
 use Rattle.dfu_host.specs.declared.report.Report.{Report}
 use Rattle.dfu_host.specs.Phases.{Phase, Over, OverUploaded, ToFetch, Restarted}
@@ -9,16 +10,16 @@ use Rattle.dfu_sim.specs.declared.aim.Aim.{Aim}
 use Rattle.dfu_sim.specs.declared.fault.LinkFault.{LinkFault}
 use Rattle.dfu_sim.specs.declared.fault.LinkFault.TheVariants as fault
 use Rattle.dfu_sim.specs.Bench.{Session, Nobody, Hosted}
-use Rattle.dfu_sim.specs.Happening.{Fate, Harm, Happening, Offers, Uploads, Aborts, Goes, Passes, Resets, Cuts}
+use Rattle.dfu_sim.specs.Happening.{Fate, Harm, Happening, Offers, Uploads, Aborts, Goes, Passes, Resets, Cuts, Refuses}
 use Rattle.dfu_sim.specs.Play.{silent, settled, told, given}
 use Rattle.dfu_sim.specs.Refusing.{IsRefused, CanGive}
 use Rattle.dfu_sim.specs.Standing.{session_of, given_by, IsOnIn}
 use Rattle.dfu_sim.specs.inside.Acting.{HasBegun}
 use Rattle.dfu_sim.proofs.Events.{bytes_of}
-use Rattle.dfu_board.specs.Board.{Board, Elapse, UsbReset, Says}
+use Rattle.dfu_board.specs.Board.{Board, Elapse, UsbReset, Refuse, Says}
 use Rattle.dfu_board_sim.specs.Standing.{IsRestarted}
 use Rattle.dfu_board_sim.specs.Served.{HasServed}
-use Rattle.dfu_board_sim.specs.Acts.{HasActed}
+use Rattle.dfu_board_sim.specs.Acts.{HasGone}
 use Rattle.dfu_board_sim.specs.Link.{link_on, bench_on, HasCome, was_refused, has_happened}
 
 -- A session goes on or is over, and one that goes on is not done.
@@ -74,6 +75,11 @@ module _ (b : Board) (gave : Option HostState) where
       → HasCome (link_on b live gave) (Passes ms) (link_on b' live gave) (Ok None)
   time_comes b' live ms says served = has_happened (Passes ms) silent refl (says, served, refl, refl) refl
 
+  -- The program refuses the image that was closed, if one was.
+  pub refusal_comes : (b' : Board) (live : Option HostState) (why : Objection) (says : Says) → HasServed b (Refuse why) says b'
+      → HasCome (link_on b live gave) (Refuses why) (link_on b' live gave) (Ok None)
+  refusal_comes b' live why says served = has_happened (Refuses why) silent refl (says, served, refl, refl) refl
+
   module _ (b' : Board) (live live' gave' : Option HostState) (r : Option Report)
       (session : session_of live' ≡ (told (session_of live)).session)
       (up : given_by gave' ≡ given (told (session_of live)).answer.gave (given_by gave))
@@ -92,7 +98,7 @@ module _ (b : Board) (gave : Option HostState) where
 
   -- The host acts.
   pub go_comes : (fate : Fate) (harm : Harm) (b' : Board) (h h' : HostState) (live' gave' : Option HostState) (r : Option Report)
-      → HasActed fate h b b' h' → session_of live' ≡ (settled h' h'.phase).session
+      → HasGone fate h b b' h' → session_of live' ≡ (settled h' h'.phase).session
       → given_by gave' ≡ given (settled h' h'.phase).answer.gave (given_by gave) → r ≡ (settled h' h'.phase).answer.report
       → HasCome (link_on b (Some h) gave) (Goes fate harm) (link_on b' live' gave') (Ok r)
   go_comes fate harm b' h h' live' gave' r acted session up report =

@@ -1,6 +1,8 @@
 -- All that comes on a link is a play, so that the headline is kept event by event.
-use Rattle.std.specs.Prelude.{◌≡◌, ◌≢◌, ℕ, ◌<◌, Bool, true, false, List, [], ◌∷◌, ◌++◌, length, Option, Some, None, Result}
-use Rattle.std.proofs.Common.{inl, inr, refl, sym, subst}
+use Rattle.std.specs.Prelude.{◌≡◌, ◌≢◌, ◌⊎◌, ℕ, ◌<◌, Bool, true, false, List, [], ◌∷◌, ◌++◌, length, Option, Some, None, Result}
+use Rattle.std.proofs.Common.{inl, inr, refl, sym, ◌∙◌, subst}
+use Rattle.dfu_device.specs.declared.answer.Answer.TheVariants as answer
+use Rattle.dfu_device.specs.declared.objection.Objection.{Objection}
 use Rattle.dfu_wire.specs.declared.states.State.TheVariants.{AppIdle}
 use Rattle.dfu_slots.specs.Image.{Active}
 use Rattle.dfu_device.specs.declared.mode.Mode.{Mode}
@@ -23,22 +25,22 @@ use Rattle.dfu_host.specs.Phases.{ToFetch}
 use Rattle.dfu_sim.specs.Opening.{goal_of}
 use Rattle.dfu_sim.specs.Refusing.{IsOffered}
 use Rattle.dfu_sim.specs.Comes.{Means}
-use Rattle.dfu_sim.specs.Happening.{Fate, Happening, happening, fate_of}
+use Rattle.dfu_sim.specs.Happening.{Fate, Refusing, Happening, happening, fate_of}
 use Rattle.dfu_device.specs.Setting.{Setting}
 use Rattle.dfu_sim.specs.Headline.{Begun, begun, WithOffer, AsUpload, IsPayload, WasOffered, IsLastPayload, HeadlineSays}
 use Rattle.dfu_sim.specs.Play.{Answered as LinkAnswered, silent, settled, told}
 use Rattle.dfu_sim.specs.Session.{IsOneOf, SaysInPlace}
 use Rattle.dfu_board.specs.Board.{Event as CallEvent}
-use Rattle.dfu_board.specs.Board.{Board, medium_on, state_on, Handle, Elapse, Says, Nothing, WritesDue, Answers, BoardStep}
+use Rattle.dfu_board.specs.Board.{Board, medium_on, state_on, Handle, Elapse, RefuseClose, Says, Nothing, WritesDue, Answers, BoardStep}
 use Rattle.dfu_board.specs.Happens.{IsOn}
-use Rattle.dfu_board_play.specs.Calls.{Reaches, lost, once, twice, behind}
-use Rattle.dfu_board_play.specs.Comes.{BoardLink, left, IsUnderWay, Comes, passes, sends, waits, resets, is_reset, restarts, HearsBack}
+use Rattle.dfu_board_play.specs.Calls.{Reaches, lost, once, twice, Objects, refused_once, refused_twice, behind}
+use Rattle.dfu_board_play.specs.Comes.{BoardLink, left, IsUnderWay, Comes, passes, sends, objects, refuses, waits, resets, is_reset, restarts, HearsBack}
 use Rattle.dfu_board_play.specs.Plays.{Plays, starts, offers, uploads, aborts as gives_up, goes_on, opened_on, IsInPlace, PlaysInstall, PlaysKnow}
 use Rattle.dfu_board_sim.specs.declared.fates.Handling.{Handling}
 use Rattle.dfu_board_sim.specs.declared.fates.Handling.TheVariants.{Unseen, Once, Again, Late}
 use Rattle.dfu_board_sim.specs.Fates.{handling_of, comes_back, is_cut}
 use Rattle.dfu_board_sim.specs.Served.{HasServed, IsHandled, Slips, IsCut}
-use Rattle.dfu_board_sim.specs.Acts.{HearsOf, Acts}
+use Rattle.dfu_board_sim.specs.Acts.{HearsOf, Acts, ComesAgain, HasActed, HasObjected, HasGone}
 use Rattle.dfu_board_sim.specs.Link.{LinkOn, bench_on, GoesOn, Happens, HasCome, was_refused, has_happened}
 use Rattle.dfu_board_sim.specs.Headline.{HoldsSince, StepKeeps, HoldsAtPower}
 
@@ -218,12 +220,51 @@ module _ (installs : PlaysInstall) (knows : PlaysKnow) where
           acts.slips)
       acts_keep false fate (Done report) b' h' e acts = elim acts [ ]
 
+      -- The program refused the image that the host's request closes.
+      refused_at : (setup body : List ℕ) (why : Objection) (at : Board) (says : Says) (mid : Board)
+          → (served : HasServed b (RefuseClose setup why) (Answers answer.Stall []) at)
+          → (says ≡ Answers answer.Stall []) × (mid ≡ at) → (steps : List BoardStep) × Objects setup body why b steps says mid
+      refused_at setup body why at says mid served (e, same) = (
+        served.steps,
+        subst (λ (x : Board). Objects setup body why b served.steps says x) (sym same)
+            (subst (λ (x : Says). Objects setup body why b served.steps x at) (sym (e ∙ served.says_is)) (refused_once served.serves)),
+      )
+
+      objected : (handling : Handling) (setup body : List ℕ) (why : Objection) (at : Board) (says : Says) (mid : Board)
+          → HasServed b (RefuseClose setup why) (Answers answer.Stall []) at → ComesAgain handling setup body at says mid
+          → (steps : List BoardStep) × Objects setup body why b steps says mid
+      objected Unseen setup body why at says mid served again = elim again [ ]
+      objected Once setup body why at says mid served again = refused_at setup body why at says mid served again
+      objected Again setup body why at says mid served again = (
+        served.steps ++ again.steps,
+        subst (λ (x : Says). Objects setup body why b (served.steps ++ again.steps) x mid) (sym again.says_is)
+            (refused_twice served.serves again.serves),
+      )
+      objected (Late ms) setup body why at says mid served again = refused_at setup body why at says mid served again
+
+      objected_keeps : (why : Objection) (fate : Fate) (b' : Board) (h' : HostState) → HasObjected why fate h b b' h' → Held b' h'
+      objected_keeps why fate b' h' o =
+          let heard = o.ends.heard in
+          let hears = subst (λ (d : Deed). HearsOf (comes_back fate) d o.ends.says heard.heard) o.is heard.hears in
+          let way = objected (handling_of fate) o.setup o.body why o.mid o.ends.says o.ends.mid o.refused o.ends.again in
+          let next = after h heard.heard in
+          same_host b' h' next heard.same
+          (slips_keep (settled next next.phase).answer.report (at o.ends.mid next) (handling_of fate) b'
+          (comes_keep (at o.ends.mid next) way.0 (settled next next.phase).answer k
+          (objects refl o.is o.asked way.1 (hears_back (comes_back fate) (Send o.q o.body) o.ends.says heard.heard hears) heard.room))
+          o.ends.slips)
+
+      gone_keeps : (fate : Fate) (b' : Board) (h' : HostState) → HasGone fate h b b' h' → Held b' h'
+      gone_keeps (Refusing why fate) b' h' (inl acted) = acts_keep (is_cut fate) fate (deed h.task h.phase) b' h' refl acted
+      gone_keeps (Refusing why fate) b' h' (inr o) = objected_keeps why fate b' h' o
+      gone_keeps fate b' h' acted = acts_keep (is_cut fate) fate (deed h.task h.phase) b' h' refl acted
+
     pub go_keeps : {before : Option Report} (fate : Fate) (l l' : BoardLink) (answer : LinkAnswered) → HoldsSince factory past before l
         → GoesOn fate l l' answer → HoldsSince factory past answer.report l'
     go_keeps {before = before} fate l l' answer k g =
         let start : HoldsSince factory past before (record { board = l.board; session = Hosted g.host }) =
         subst (λ (s : Session). HoldsSince factory past before (record { board = l.board; session = s })) g.live k in
-        let held = acts_keep l.board g.host start (is_cut fate) fate (deed g.host.task g.host.phase) l'.board g.next refl g.acted in
+        let held = gone_keeps l.board g.host start fate l'.board g.next g.acted in
         subst (λ (a : LinkAnswered). HoldsSince factory past a.report l') (sym g.answered)
         (subst (λ (s : Session). HoldsSince factory past (settled g.next g.next.phase).answer.report (record { board = l'.board; session = s }))
         (sym g.session) held)
@@ -278,6 +319,12 @@ module _ (installs : PlaysInstall) (knows : PlaysKnow) where
         became h.2 h.3 (abort_keeps w.link h.0 k h.1)
     event_keeps w w' (event.Go fate) e answer means happens k =
         go_keeps (fate_of fate) w.link w'.link answer k (subst (λ (x : Happening). Happens x w.link w'.link answer) means happens)
+    event_keeps w w' (event.GoRefused fate why) e answer means happens k =
+        go_keeps (Refusing why (fate_of fate)) w.link w'.link answer k
+        (subst (λ (x : Happening). Happens x w.link w'.link answer) means happens)
+    event_keeps w w' (event.Refuse why) e answer means happens k =
+        let h = subst (λ (x : Happening). Happens x w.link w'.link answer) means happens in
+        left_keeps h.2 h.3 (comes_keep (record { board = w'.link.board; session = w.link.session }) h.1.steps silent k (refuses h.1.serves))
     event_keeps w w' (event.Time ms) e answer means happens k =
         let h = subst (λ (x : Happening). Happens x w.link w'.link answer) means happens in
         left_keeps h.2 h.3 (comes_keep (record { board = w'.link.board; session = w.link.session }) h.1.steps silent k (passes h.1.serves))

@@ -45,7 +45,7 @@ noted_stands n m noted has =
       fits = omega (arith, len, head.fits, room);
     }
 
-no_work : (x : Option Work) → x ≡ None → IsSome x → ⊥
+pub no_work : (x : Option Work) → x ≡ None → IsSome x → ⊥
 no_work (Some w) none some = absurd (cc)
 no_work None none some = absurd (cc)
 

@@ -1,5 +1,5 @@
 -- The writes that a call asks for, piece after piece, as steps of a board.
-use Rattle.std.specs.Prelude.{◌≡◌, ℕ, ◌-◌, ◌≤◌, ◌<◌, Bool, false, List, [], ◌∷◌, ◌++◌, length, take, Option, Some}
+use Rattle.std.specs.Prelude.{◌≡◌, ℕ, ◌-◌, ◌≤◌, ◌<◌, Bool, true, false, List, [], ◌∷◌, ◌++◌, length, take, Option, Some, Ok}
 use Rattle.std.proofs.Common.{refl, sym, ap, ◌∙◌, subst, arith}
 use Rattle.dfu_slots.specs.Medium.{Torn}
 use Rattle.dfu_device.specs.declared.answer.Answer.{Answer}
@@ -11,10 +11,13 @@ use Rattle.dfu_asks.specs.Calls.{Asks}
 use Rattle.dfu_asks.specs.Steps.{Step}
 use Rattle.dfu_asks.specs.Carried.{IsPiece}
 use Rattle.dfu_asks.specs.Asks.{steps_in}
-use Rattle.dfu_board.specs.Board.{Board, lent_on, Event, UsbReset, Write, Report, Restart, Says, Nothing, WritesDue, Answers, BoardStep}
-use Rattle.dfu_board.specs.Happens.{Happens, IsHanded, Starts, IsRun}
+use Rattle.dfu_board.specs.Board.{Board, lent_on, Event, UsbReset, RefuseClose, Write, Report, Restart, Says, Nothing, WritesDue, Answers, BoardStep}
+use Rattle.dfu_device.specs.declared.objection.Objection.{Objection}
+use Rattle.dfu_device.specs.Rows.{Cause, RefusingClose}
+use Rattle.dfu_board.specs.Happens.{Happens, IsObjected, IsHanded, Starts, IsRun}
+use Rattle.dfu_board.specs.Steps.{said_of_close}
 use Rattle.dfu_board_play.specs.Calls.{WorksOff, ends, carries_on, at_once, with_writes, IsCutOff, power_goes, still_due, broken, Serves, behind, within, lost, once}
-use Rattle.dfu_board_sim.specs.Standing.{board_of, HasRun, IsAtRest, IsDue, IsTried, Holds, Stands, IsRestarted}
+use Rattle.dfu_board_sim.specs.Standing.{board_of, HasRoom, HasRun, IsAtRest, IsDue, IsTried, Holds, Stands, IsRestarted}
 use Rattle.dfu_board_sim.specs.declared.chip.Chip.{Chip}
 use Rattle.dfu_board_sim.specs.Served.{done_in, AreDue, HasTried, IsTakenAs, HasWorked, HasCalled, HasServed, IsCut, says_of}
 use Rattle.dfu_board_sim.specs.declared.came.Came.{Came}
@@ -224,6 +227,38 @@ module _ (b b' : Board) (same : IsSetUpAs b.asking b'.asking) (step : Happens b 
 
   pub reset_rests : IsAtRest b → IsAtRest b'
   reset_rests rest = record { kept = step.is rest.kept; idle = step.work }
+
+-- A call by which the program refuses an image.
+module _ (b b' : Board) (call : Event) (cause : Cause) (a : Answer) (same : IsSetUpAs b.asking b'.asking)
+    (step : Happens b call (Answers a []) b') (is : IsObjected b cause a (Answers a []) b') where
+  pub objected_served : HasServed b call (Answers a []) b'
+  objected_served =
+      let one = called_once b b' call same a [] step in
+      record { steps = one.0; answer = a; out = []; serves = one.1; says_is = refl }
+
+  pub objected_ran : HasRun b → HasRun b'
+  objected_ran ran = let one = called_once b b' call same a [] step in ran_on b b' one.0 ran one.1.run
+
+  pub objected_rests : HasRoom b' → IsAtRest b → IsAtRest b'
+  objected_rests room rest = record {
+    kept = record {
+      fits = room.fits;
+      is = (is.row rest.kept.is).0;
+    };
+    idle = is.work;
+  }
+
+-- The program refuses the image that this setup closes, or it closes none, and nothing has changed.
+module _ (b b' : Board) (setup : List ℕ) (why : Objection) (same : IsSetUpAs b.asking b'.asking) where
+  pub closed_ran : (closes : Bool) → Happens b (RefuseClose setup why) (said_of_close (Ok closes)) b' → HasRun b → HasRun b'
+  closed_ran true step ran = objected_ran b b' (RefuseClose setup why) (RefusingClose setup why) answer.Stall same step step ran
+  closed_ran false step ran = subst (λ (x : Board). HasRun x) (sym step) ran
+
+  pub closed_rests : (closes : Bool) → Happens b (RefuseClose setup why) (said_of_close (Ok closes)) b' → HasRoom b' → IsAtRest b
+      → IsAtRest b'
+  closed_rests true step room rest =
+      objected_rests b b' (RefuseClose setup why) (RefusingClose setup why) answer.Stall same step step room rest
+  closed_rests false step room rest = subst (λ (x : Board). IsAtRest x) (sym step) rest
 
 -- The power.
 

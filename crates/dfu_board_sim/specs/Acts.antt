@@ -1,12 +1,17 @@
 -- One action of a host on a board, by its fate.
-use Rattle.std.specs.Prelude.{◌≡◌, ℕ, Bool, true, false, IsTrue, List}
+use Rattle.std.specs.Prelude.{◌≡◌, ◌⊎◌, ℕ, Bool, true, false, IsTrue, List, []}
+use Rattle.dfu_wire.specs.declared.requests.Request.{Request}
+use Rattle.dfu_device.specs.declared.answer.Answer.TheVariants as answer
+use Rattle.dfu_device.specs.declared.objection.Objection.{Objection}
 use Rattle.dfu_host.specs.Phases.{Deed, Send, Wait, Reset, Done, Heard, NoRoom, Nothing as NothingHeard, Waited, WasReset, Restarted}
 use Rattle.dfu_host.specs.Table.{deed}
 use Rattle.dfu_host.specs.Host.{HostState, after, wants_memory}
 use Rattle.dfu_host.specs.Wire.{IsAsked}
 use Rattle.dfu_sim.specs.Bytes.{HearsAnswer}
-use Rattle.dfu_sim.specs.Happening.{Fate}
-use Rattle.dfu_board.specs.Board.{Board, Handle, Elapse, UsbReset, Says, Answers}
+use Rattle.dfu_sim.specs.Happening.{Fate, Refusing}
+use Rattle.dfu_board.specs.Board.{Board, Handle, Elapse, UsbReset, RefuseClose, Says, Answers}
+use Rattle.dfu_board_sim.specs.declared.fates.Handling.{Handling}
+use Rattle.dfu_board_sim.specs.declared.fates.Handling.TheVariants.{Unseen, Once, Again, Late}
 use Rattle.dfu_board_sim.specs.Fates.{handling_of, comes_back, is_cut, waits_for}
 use Rattle.dfu_board_sim.specs.Served.{HasServed, IsHandled, Slips, IsCut}
 
@@ -59,3 +64,35 @@ Acts false fate h (Done report) b b' h' = ⊥
 -- The same of any action, as the host asked for it.
 abbrev pub HasActed : Fate → HostState → Board → Board → HostState → Type 0
 HasActed fate h b b' h' = Acts (is_cut fate) fate h (deed h.task h.phase) b b' h'
+
+-- The same request comes a second time once the program has refused its image, or it does not. What the board says at last.
+abbrev pub ComesAgain : Handling → (setup body : List ℕ) → Board → Says → Board → Type 0
+ComesAgain Unseen setup body b says b' = ⊥
+ComesAgain Once setup body b says b' = (says ≡ Answers answer.Stall []) × (b' ≡ b)
+ComesAgain Again setup body b says b' = HasServed b (Handle setup body) says b'
+ComesAgain (Late ms) setup body b says b' = (says ≡ Answers answer.Stall []) × (b' ≡ b)
+
+-- What is left of a request of this fate, in which the power does not go, once the program has refused its image.
+pub record HasEnded (fate : Fate) (h : HostState) (setup body : List ℕ) (b b' : Board) (h' : HostState) : Type 0 where
+  pub says : Says
+  pub mid : Board
+  pub again : ComesAgain (handling_of fate) setup body b says mid
+  pub heard : HasHeard h (comes_back fate) says h'
+  pub slips : Slips (handling_of fate) mid b'
+
+-- The host sends a request that closes a download, and the board's program refuses the image.
+pub record HasObjected (why : Objection) (fate : Fate) (h : HostState) (b b' : Board) (h' : HostState) : Type 0 where
+  pub q : Request
+  pub setup : List ℕ
+  pub body : List ℕ
+  pub is : deed h.task h.phase ≡ Send q body
+  pub asked : IsAsked q setup
+  pub mid : Board
+  pub refused : HasServed b (RefuseClose setup why) (Answers answer.Stall []) mid
+  pub ends : HasEnded fate h setup body mid b' h'
+
+-- The next action of a host, by its fate: if the program is to refuse an image, it did, or the action went as any other. If the power goes
+-- in a request that closes a download, nothing is left of the refusal.
+abbrev pub HasGone : Fate → HostState → Board → Board → HostState → Type 0
+HasGone (Refusing why fate) h b b' h' = HasActed fate h b b' h' ⊎ HasObjected why fate h b b' h'
+HasGone fate h b b' h' = HasActed fate h b b' h'

@@ -6,18 +6,18 @@ use Rattle.dfu_host.specs.Host.{HostState, aborted}
 use Rattle.dfu_sim.specs.declared.fault.LinkFault.{LinkFault}
 use Rattle.dfu_sim.specs.Bench.{Bench, Nobody, Hosted}
 use Rattle.dfu_sim.specs.Opening.{goal_of}
-use Rattle.dfu_sim.specs.Happening.{Fate, Happening, Offers, Uploads, Aborts, Goes, Passes, Resets, Cuts}
+use Rattle.dfu_sim.specs.Happening.{Fate, Happening, Offers, Uploads, Aborts, Goes, Passes, Resets, Cuts, Refuses}
 use Rattle.dfu_sim.specs.Play.{Answered, silent, settled, told, given}
 use Rattle.dfu_sim.specs.Comes.{Means}
 use Rattle.dfu_sim.specs.Refusing.{IsRefused}
 use Rattle.dfu_sim.specs.Standing.{session_of, given_by, IsOnIn}
-use Rattle.dfu_board.specs.Board.{Board, device_on, Elapse, UsbReset, Says}
+use Rattle.dfu_board.specs.Board.{Board, device_on, Elapse, UsbReset, Refuse, Says}
 use Rattle.dfu_board_play.specs.Comes.{BoardLink}
 use Rattle.dfu_board_play.specs.Plays.{opened_on}
 use Rattle.dfu_board_sim.specs.declared.chip.Chip.{Chip}
 use Rattle.dfu_board_sim.specs.Standing.{Stands, IsRestarted}
 use Rattle.dfu_board_sim.specs.Served.{HasServed}
-use Rattle.dfu_board_sim.specs.Acts.{HasActed}
+use Rattle.dfu_board_sim.specs.Acts.{HasGone}
 
 -- A link to a board between events: the board with the session that is live, and what the last reported upload gave.
 pub record LinkOn : Type 0 where
@@ -37,7 +37,7 @@ pub record GoesOn (fate : Fate) (l l' : BoardLink) (answer : Answered) : Type 0 
   pub host : HostState
   pub live : l.session ≡ Hosted host
   pub next : HostState
-  pub acted : HasActed fate host l.board l'.board next
+  pub acted : HasGone fate host l.board l'.board next
   pub session : l'.session ≡ (settled next next.phase).session
   pub answered : answer ≡ (settled next next.phase).answer
 
@@ -54,6 +54,8 @@ Happens (Passes ms) l l' answer = (says : Says) × HasServed l.board (Elapse ms)
 Happens Resets l l' answer = (says : Says) × HasServed l.board UsbReset says l'.board × (l'.session ≡ (told l.session).session)
     × (answer ≡ (told l.session).answer)
 Happens Cuts l l' answer = IsRestarted l.board l'.board × (l'.session ≡ (told l.session).session) × (answer ≡ (told l.session).answer)
+Happens (Refuses why) l l' answer = (says : Says) × HasServed l.board (Refuse why) says l'.board × (l'.session ≡ l.session)
+    × (answer ≡ silent)
 
 -- What comes of an event: it is refused and nothing changes, or it happens; and what its caller is told.
 pub data HasCome (w : LinkOn) (h : Happening) : LinkOn → Result (Option Report) LinkFault → Type 0 where

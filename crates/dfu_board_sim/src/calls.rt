@@ -1,10 +1,10 @@
 //! The calls of a board, with the writes that they ask for.
 
-ghost use Rattle.std.specs.Prelude.{◌≡◌, ◌+◌, ◌≤◌, ℕ, List, [], length};
+ghost use Rattle.std.specs.Prelude.{◌≡◌, ◌+◌, ◌≤◌, ℕ, List, [], length, true, false};
 ghost use Rattle.dfu_device.specs.declared.answer.Answer.TheVariants as answer;
 ghost use Rattle.dfu_asks.specs.Jobs.{asked};
 ghost use Rattle.dfu_asks.specs.Steps.{Step};
-ghost use Rattle.dfu_board.specs.Board.{Handle, Elapse, UsbReset, Answers};
+ghost use Rattle.dfu_board.specs.Board.{Handle, Elapse, UsbReset, RefuseClose, Refuse, Answers};
 ghost use Rattle.dfu_board.specs.Happens.{IsHanded};
 ghost use Rattle.dfu_board_sim.specs.Standing.{board_of, Holds, Stands, IsDue, IsTried};
 ghost use Rattle.dfu_board_sim.specs.Served.{done_in, HasTried, IsTakenAs, HasWorked, HasCalled, HasServed};
@@ -15,6 +15,7 @@ use crate::harm::{Harm, Kind};
 use crate::pieces::{Turn, carry_out};
 use dfu_asks::{Piece, Reply};
 use dfu_board::steps;
+use dfu_device::Objection;
 
 /// The next piece of the writes that are due, with its bytes.
 fn next(chip: &Chip, bytes: &mut [u8; 256]) -> Piece
@@ -159,6 +160,32 @@ pub(crate) fn usb_reset(chip: &mut Chip)
     ensures stands { Stands chip.new }
 {
     match steps::usb_reset(&mut chip.asking, &chip.block, &chip.held, &chip.flash) {
+        Ok(()) => {}
+        Err(_) => unreachable!(),
+    }
+}
+
+/// The program refuses the image that this setup closes. False, with nothing changed, if it closes none.
+pub(crate) fn refuse_close(chip: &mut Chip, setup: &[u8; 8], objection: Objection) -> bool
+    requires { Stands chip.old }
+    ensures refused { result ≡ true →
+        HasServed (board_of chip.old) (RefuseClose setup.now objection) (Answers answer.Stall []) (board_of chip.new) }
+    ensures unchanged { result ≡ false → board_of chip.new ≡ board_of chip.old }
+    ensures stands { Stands chip.new }
+{
+    match steps::refuse_close(&mut chip.asking, setup, objection) {
+        Ok(closes) => closes,
+        Err(_) => unreachable!(),
+    }
+}
+
+/// The program refuses the image that was closed, if one was.
+pub(crate) fn refuse(chip: &mut Chip, objection: Objection)
+    requires { Stands chip.old }
+    ensures served { HasServed (board_of chip.old) (Refuse objection) (Answers answer.Ack []) (board_of chip.new) }
+    ensures stands { Stands chip.new }
+{
+    match steps::refuse(&mut chip.asking, objection) {
         Ok(()) => {}
         Err(_) => unreachable!(),
     }

@@ -12,6 +12,7 @@ mod fates;
 mod harm;
 mod hosting;
 pub mod laws;
+mod objecting;
 mod offering;
 mod pieces;
 mod play;

@@ -1,19 +1,20 @@
 //! What each event makes of a board and a host.
 
 ghost use Rattle.std.specs.Prelude.{◌≡◌};
-ghost use Rattle.dfu_sim.specs.Happening.{Offers, Uploads, Aborts, Goes, fate_of, harm_in, happening};
+ghost use Rattle.dfu_sim.specs.Happening.{Offers, Uploads, Aborts, Goes, fate_of, harm_in, refused_in, happening};
 ghost use Rattle.dfu_sim.specs.Standing.{IsOnIn, session_of};
 ghost use Rattle.dfu_board_sim.specs.Standing.{board_of};
 ghost use Rattle.dfu_board_sim.specs.Link.{link_on, HasCome, HoldsOn};
 
-use crate::acting::act;
-use crate::calls::usb_reset;
+use crate::calls::{refuse, usb_reset};
 use crate::chip::Chip;
 use crate::cuts::pass;
 use crate::harm::Harm;
 use crate::hosting::{end, restart};
+use crate::objecting::act_by;
 use crate::offering::{begin, fetch};
 use crate::power::power_cycle;
+use dfu_device::Objection;
 use dfu_host::{Host, Limits, Report};
 use dfu_sim::{Aim, Event, Fate, LinkFault};
 use std::alloc::Global;
@@ -88,21 +89,22 @@ fn abort<'f>(
     }
 }
 
-/// The host takes its next action.
+/// The host takes its next action. The program refuses the image that it closes, or refuses none.
 fn go<'f>(
     chip: &mut Chip,
     host: &mut Option<Host<'f>>,
     gave: &mut Option<Host<'f>>,
     fate: Fate<'_>,
+    refusing: Option<Objection>,
 ) -> Result<Option<Report>, LinkFault>
     requires { HoldsOn chip.old host.old }
-    ensures come { HasCome (link_on (board_of chip.old) host.old gave.old) (Goes (fate_of fate.entry) (harm_in fate.entry))
-        (link_on (board_of chip.new) host.new gave.new) result }
+    ensures come { HasCome (link_on (board_of chip.old) host.old gave.old)
+        (Goes (refused_in refusing (fate_of fate.entry)) (harm_in fate.entry)) (link_on (board_of chip.new) host.new gave.new) result }
     ensures holds { HoldsOn chip.new host.new }
 {
     match host {
         None => return Err(LinkFault::NoHost),
-        Some(live) => act(chip, live, fate),
+        Some(live) => act_by(chip, live, fate, refusing),
     }
     Ok(end(host, gave))
 }
@@ -127,7 +129,8 @@ pub(crate) fn come<'f>(
         }
         Event::Upload { limits } => upload(alloc, chip, host, gave, limits),
         Event::Abort => abort(chip, host, gave),
-        Event::Go(fate) => go(chip, host, gave, fate),
+        Event::Go(fate) => go(chip, host, gave, fate, None),
+        Event::GoRefused { fate, objection } => go(chip, host, gave, fate, Some(objection)),
         Event::Time(ms) => {
             pass(chip, &mut Harm::none(), ms);
             Ok(None)
@@ -139,6 +142,10 @@ pub(crate) fn come<'f>(
         Event::Cut => {
             power_cycle(chip);
             Ok(restart(host, gave))
+        }
+        Event::Refuse(objection) => {
+            refuse(chip, objection);
+            Ok(None)
         }
     }
 }

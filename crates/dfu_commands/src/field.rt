@@ -23,6 +23,8 @@ pub(crate) enum Field {
     Times,
     /// The word `report`.
     Report,
+    /// Why a device's program refuses an image.
+    Objection,
     /// Bytes.
     Hex,
     /// The bytes of a file that is offered, or the word `FILE`.
@@ -79,6 +81,7 @@ impl Field {
             Field::Capacity => is_number(word, 1, 1_048_576),
             Field::Times => is_number(word, 1, 1_000_000),
             Field::Report => word == "report",
+            Field::Objection => word == "errTARGET" || word == "errFILE",
             Field::Hex => is_hex(bytes),
             Field::Offered => word == "FILE" || is_hex(bytes),
         }
@@ -96,6 +99,7 @@ impl Field {
             Field::Capacity => "a number from 1 to 1,048,576",
             Field::Times => "a number from 1 to 1,000,000",
             Field::Report => "report",
+            Field::Objection => "errTARGET or errFILE",
             Field::Hex | Field::Offered => "an even count of hexadecimal digits, or - for no bytes",
         }
     }

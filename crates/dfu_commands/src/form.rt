@@ -29,6 +29,8 @@ static LIMITS: [Field; 2] = [Field::Number, Field::Short];
 
 static REPORT: [Field; 1] = [Field::Report];
 
+static OBJECTION: [Field; 1] = [Field::Objection];
+
 static HARM: [Field; 2] = [Field::Number, Field::Hex];
 
 static IDS: [Field; 3] = [Field::Four, Field::Four, Field::Four];
@@ -51,7 +53,8 @@ fn fields_of(keyword: &str) -> Option<&'static [Field]> {
         "erase" => Some(&ERASE),
         "capacity" => Some(&CAPACITY),
         "limits" => Some(&LIMITS),
-        "image" => Some(&HEX),
+        "image" | "check" => Some(&HEX),
+        "refuse" => Some(&OBJECTION),
         "offer" | "verify" => Some(&OFFER),
         "time" => Some(&NUMBER),
         "upload" | "abort" | "reset" | "cut" | "show" => Some(&NONE),

@@ -24,12 +24,12 @@ use Rattle.dfu_sim.specs.BegunBy.{begun_by}
 use Rattle.dfu_link.specs.Texts.{uploaded_line, told_line, answer_line, refusal_line}
 use Rattle.dfu_link.specs.Said.{Said, Does, Go, GoesOn, Show}
 use Rattle.dfu_link.specs.Lines.{line_of}
-use Rattle.dfu_link.specs.ScriptRun.{Settings, beginning, at_rest, Point, point, AllCome, none_comes, then_comes, LineActs, skips, limits_to, plays, goes_on, shows, expects, LinesRun, stays, then_runs, SetsUp, Starts, WroteRun, blank}
+use Rattle.dfu_link.specs.ScriptRun.{Settings, beginning, at_rest, Point, point, checked, AllCome, none_comes, then_comes, LineActs, skips, limits_to, plays, goes_on, shows, expects, LinesRun, stays, then_runs, SetsUp, Starts, WroteRun, blank}
 use Rattle.dfu_link.specs.Falls.{BreaksIn, in_events as breaks_in_events, in_passes as breaks_in_passes, in_show as breaks_in_show, NextFalls, Falls, no_memory, in_setting, at_start, in_run, Ended}
 use Rattle.dfu_link.specs.Printed.{IsKnownImage, Brings, Events, brought, report_text, EventsPrint, no_event, then_refused, LinePrints, prints_nothing, prints_events, prints_passes, prints_image, LinesPrint, no_line, then_line, StartsWith, TextPrints, WrotePrinted, PartPrints, nothing_out, in_events, in_line, in_image, StopsPrinted, before_start, after_start, HasPrinted}
 use Rattle.dfu_link.proofs.LineBrings.{said_brings, line_brings}
 use Rattle.dfu_link.proofs.PrintedTexts.{Refusal, refusal, state_words, state_words_endless}
-use Rattle.dfu_link.proofs.Printing.{session_by, same_events, one_prints, prepares_keep, prepares_start, ready_starts}
+use Rattle.dfu_link.proofs.Printing.{session_by, session_checked, same_events, one_prints, prepares_keep, prepares_start, ready_starts}
 use Rattle.dfu_link.proofs.PlayLaws.{replicate_more}
 use Rattle.dfu_sim.proofs.Steady.{comes_follow, uploads_give, rest_is_steady}
 use Rattle.dfu_sim.proofs.HeadlineKept.{keeps_on, holds_at_rest}
@@ -96,10 +96,19 @@ event_kept shown {factory = factory} {past = past} {b = b} {c = c} {c' = c'} {hs
           (one_prints h rest.prints k));
     }
 
-events_kept : ImageShown → {factory : List ℕ} {past : List Begun} {b b' : Bench} {hs : List Happening} {out : List ℕ}
-    → Keeps factory past b → AllCome b hs out b' → EventsKept factory past b hs out b'
+events_kept : ImageShown → {factory : List ℕ} {past : List Begun} {check : List ℕ} {b b' : Bench} {hs : List Happening} {out : List ℕ}
+    → Keeps factory past b → AllCome check b hs out b' → EventsKept factory past b hs out b'
 events_kept shown {past = past} keeps none_comes = record { past' = past; keeps = keeps; prints = no_event }
-events_kept shown keeps (then_comes more one active) = event_kept shown (events_kept shown keeps more) one active
+events_kept shown {factory = factory} {past = past} {check = check} {b = b} {b' = b'} keeps
+    (then_comes {c = c} {events = hs} {out = out} {answer = answer} h more one active) =
+    let kept = event_kept shown (events_kept shown keeps more) one active in
+    record {
+      past' = kept.past';
+      keeps = kept.keeps;
+      prints = subst (λ (events : List (Option Begun)). EventsPrint factory past b events (out ++ answer_line answer) kept.past' b')
+          (map-append session_by hs (checked check c h ∷ []) ∙ ap (λ (x : Option Begun). map session_by hs ++ x ∷ [])
+          (session_checked check c h) ∙ sym (map-append session_by hs (h ∷ []))) kept.prints;
+    }
 
 -- Lines.
 
@@ -123,9 +132,9 @@ line_kept shown {factory = factory} {past = past} {p = p} keeps (plays {events =
       given = refl;
     }
 line_kept shown {factory = factory} {past = past} {p = p} keeps (goes_on {b = b} {answer = answer} times silent last active some meets) =
-    let come : AllCome p.at (replicate (times + 1) (Goes Pass unharmed)) (answer_line answer) b = subst
-    (λ (hs : List Happening). AllCome p.at hs (answer_line answer) b) (sym (replicate_more times (Goes Pass unharmed)))
-    (then_comes silent last active) in
+    let come : AllCome p.check p.at (replicate (times + 1) (Goes Pass unharmed)) (answer_line answer) b = subst
+    (λ (hs : List Happening). AllCome p.check p.at hs (answer_line answer) b) (sym (replicate_more times (Goes Pass unharmed)))
+    (then_comes (Goes Pass unharmed) silent last active) in
     let all = events_kept shown keeps come in
     record {
       past' = all.past';

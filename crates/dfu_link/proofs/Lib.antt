@@ -7,6 +7,7 @@ pub mod HexLaws
 pub mod SourceLaws
 pub mod GivenLaws
 pub mod ToldLines
+pub mod Checking
 pub mod PlayLaws
 pub mod StepLaws
 pub mod MoveLaws

@@ -9,8 +9,8 @@ use Rattle.dfu_sim.specs.declared.aim.Aim.TheVariants.{Install, Verify}
 use Rattle.dfu_link.specs.Words.{◌>>=◌, guard, bytes_of, number_of, first, text_behind, ends, words_of}
 use Rattle.dfu_link.specs.Keywords.{keyword_of, fate_keyword_of}
 use Rattle.dfu_sim.specs.Happening.{Fate}
-use Rattle.dfu_link.specs.Said.{ConfigLine, TheIds, TheDevice, TheUnit, TheSector, TheCapacity, TheImage, EventLine, Offer, Upload, Abort, Go, Time, Reset, Cut, Said, Blank, Sets, LimitsTo, Does, GoesOn, Show, Expects}
-use Rattle.dfu_link.specs.Lines.{number_at, small_at, hex_at, named_bytes, file_at, identifier_at, attributes_at, ids_of, device_of, unit_named, unit_of, erase_of, capacity_of, image_of, limits_of, offer_of, time_of, pass_of, slip_of, harmed_of, until_of, go_of, expect_of, by_keyword, is_comment, says, line_of}
+use Rattle.dfu_link.specs.Said.{ConfigLine, TheIds, TheDevice, TheUnit, TheSector, TheCapacity, TheImage, TheCheck, EventLine, Offer, Upload, Abort, Go, Time, Reset, Cut, Refuse, Said, Blank, Sets, LimitsTo, Does, GoesOn, Show, Expects}
+use Rattle.dfu_link.specs.Lines.{number_at, small_at, hex_at, named_bytes, file_at, identifier_at, attributes_at, ids_of, device_of, unit_named, unit_of, erase_of, capacity_of, image_of, check_of, limits_of, offer_of, time_of, objection_named, refuse_of, pass_of, slip_of, harmed_of, until_of, go_of, expect_of, by_keyword, is_comment, says, line_of}
 use Rattle.dfu_sim.specs.Headline.{Begun, WithOffer, AsUpload}
 use Rattle.dfu_link.specs.Printed.{Brings, Nothing, AnImage, Events, SomePasses, AShow, bytes_in, file_in, count_in, go_brings, words_bring, brought}
 
@@ -25,6 +25,7 @@ sessions_in (Go f harm times) = replicate times None
 sessions_in (Time ms) = None ∷ []
 sessions_in Reset = None ∷ []
 sessions_in Cut = None ∷ []
+sessions_in (Refuse why) = None ∷ []
 
 -- What a configuration line brings.
 abbrev pub set_brings : ConfigLine → Brings
@@ -34,6 +35,7 @@ set_brings (TheUnit unit) = Nothing
 set_brings (TheSector n) = Nothing
 set_brings (TheCapacity n) = Nothing
 set_brings (TheImage image) = AnImage image
+set_brings (TheCheck front) = Nothing
 
 -- What a line brings by what it says.
 abbrev pub said_brings : Said → Brings
@@ -135,6 +137,10 @@ unfolding image_of
 image_brings words said h = bind_some (hex_at words) _ said h (λ x is hx. ends_bring (Sets (TheImage x.0)) x.1 said hx
     ∙ ap AnImage (hex_in words x is))
 
+check_brings : (words : List (List ℕ)) (said : Said) → check_of words ≡ Some said → said_brings said ≡ Nothing
+unfolding check_of
+check_brings words said h = bind_some (hex_at words) _ said h (λ x is hx. ends_bring (Sets (TheCheck x.0)) x.1 said hx)
+
 limits_bring : (words : List (List ℕ)) (said : Said) → limits_of words ≡ Some said → said_brings said ≡ Nothing
 unfolding limits_of
 limits_bring words said h = bind_some (number_at words) _ said h (λ a ia ha. bind_some (small_at 65535 a.1) _ said ha
@@ -151,6 +157,11 @@ offer_brings given aim words said h = bind_some (file_at given words) _ said h (
 time_brings : (words : List (List ℕ)) (said : Said) → time_of words ≡ Some said → said_brings said ≡ Events (None ∷ [])
 unfolding time_of
 time_brings words said h = bind_some (number_at words) _ said h (λ n is hn. ends_bring (Does (Time n.0)) n.1 said hn)
+
+refuse_brings : (words : List (List ℕ)) (said : Said) → refuse_of words ≡ Some said → said_brings said ≡ Events (None ∷ [])
+unfolding refuse_of
+refuse_brings words said h = bind_some (first words) _ said h (λ w is hw. bind_some (objection_named w.0) _ said hw
+    (λ why named hn. ends_bring (Does (Refuse why)) w.1 said hn))
 
 pass_brings : (words : List (List ℕ)) (said : Said) → pass_of words ≡ Some said
     → said_brings said ≡ Events (replicate (count_in words) None)
@@ -226,7 +237,9 @@ keyword_says given line word words said h =
     word_case (words_bring given) (codes "reset") _ _ _ word words said h (ends_bring (Does Reset) words said) (λ h.
     word_case (words_bring given) (codes "cut") _ _ _ word words said h (ends_bring (Does Cut) words said) (λ h.
     word_case (words_bring given) (codes "show") _ _ _ word words said h (ends_bring Show words said) (λ h.
-    word_case (words_bring given) (codes "expect") _ _ _ word words said h (expect_brings line said) (λ h. absurd cc)))))))))))))))))
+    word_case (words_bring given) (codes "expect") _ _ _ word words said h (expect_brings line said) (λ h.
+    word_case (words_bring given) (codes "check") _ _ _ word words said h (check_brings words said) (λ h.
+    word_case (words_bring given) (codes "refuse") _ _ _ word words said h (refuse_brings words said) (λ h. absurd cc)))))))))))))))))))
 
 -- A comment brings nothing.
 comment_brings : (given : Option (List ℕ)) (word : List ℕ) (words : List (List ℕ)) → is_comment word ≡ true

@@ -12,7 +12,7 @@ use Rattle.dfu_sim.specs.Happening.{Happening, Goes, Pass, unharmed}
 use Rattle.dfu_sim.specs.Comes.{HasCome}
 use Rattle.dfu_link.specs.Texts.{told_line, answer_line}
 use Rattle.dfu_link.specs.Said.{GoesOn}
-use Rattle.dfu_link.specs.ScriptRun.{AllCome, none_comes, LineActs, goes_on}
+use Rattle.dfu_link.specs.ScriptRun.{checked, AllCome, none_comes, LineActs, goes_on}
 use Rattle.dfu_link.specs.Expecting.{Expectation, Meets, still}
 use Rattle.dfu_link.specs.inside.Expected.{point_at, Prints, PrintsNext}
 use Rattle.dfu_link.specs.declared.scripting.fault.ScriptFault.{ScriptFault}
@@ -27,28 +27,28 @@ abbrev passes : Happening
 passes = Goes Pass unharmed
 
 -- At first it has not passed.
-pub silent_none : (b : Bench) (e : Option Expectation) (old : Option (List ℕ)) → IsSilent b e old b e old
-silent_none b e old = record {
+pub silent_none : (z : List ℕ) (b : Bench) (e : Option Expectation) (old : Option (List ℕ)) → IsSilent z b e old b e old
+silent_none z b e old = record {
   times = 0;
   plays = none_comes;
   prints = prints_none e old;
 }
 
 -- It passed once more, and again nothing is printed.
-pub silent_more : {b : Bench} {c c' : LinkState} (r : Result (Option Report) LinkFault) {old mid new : Option (List ℕ)}
-    {x y z : Option Expectation} → IsSilent b x old c.bench y mid → HasCome c passes c' r
+pub silent_more : {check : List ℕ} {b : Bench} {c c' : LinkState} (r : Result (Option Report) LinkFault) {old mid new : Option (List ℕ)}
+    {x y z : Option Expectation} → IsSilent check b x old c.bench y mid → HasCome c (checked check c.bench passes) c' r
     → ShowsActive c'.bench → r ≡ Ok None
-    → Prints y mid (told_line r c'.up) z new → IsSilent b x old c'.bench z new
-silent_more {b = b} {c = c} {c' = c'} r {mid = mid} {new = new} {y = y} {z = z} before come active e prints =
+    → Prints y mid (told_line r c'.up) z new → IsSilent check b x old c'.bench z new
+silent_more {check = check} {b = b} {c = c} {c' = c'} r {mid = mid} {new = new} {y = y} {z = z} before come active e prints =
     let n = before.times in
-    let more : AllCome b (replicate n passes ++ passes ∷ []) (told_line r c'.up) c'.bench =
-    plays_one b c c' (replicate n passes) passes [] r
+    let more : AllCome check b (replicate n passes ++ passes ∷ []) (told_line r c'.up) c'.bench =
+    plays_one check b c c' (replicate n passes) passes [] r
     before.plays come active in
     let text : told_line r c'.up ≡ [] = ap (λ (x : Result (Option Report) LinkFault). told_line x c'.up) e in
     record {
       times = n + 1;
-      plays = subst (λ (hs : List Happening). AllCome b hs [] c'.bench) (sym (replicate_more n passes))
-          (subst (λ (out : List ℕ). AllCome b (replicate n passes ++ passes ∷ []) out c'.bench) text more);
+      plays = subst (λ (hs : List Happening). AllCome check b hs [] c'.bench) (sym (replicate_more n passes))
+          (subst (λ (out : List ℕ). AllCome check b (replicate n passes ++ passes ∷ []) out c'.bench) text more);
       prints = prints_more before.prints (subst (λ (out : List ℕ). Prints y mid out z new) text prints);
     }
 
@@ -81,38 +81,38 @@ part_some : {old new : Option (List ℕ)} {text : List ℕ} → IsOutInPart old 
 part_some part = λ e. absurd (part_none part.front part.rest (sym part.whole ∙ e) part.left)
 
 -- Something is printed of one action more, which is as expected.
-goes_on_by : {b : Bench} {c c' : LinkState} (g : Option (List ℕ)) (limits : Limits) (r : Result (Option Report) LinkFault) {old mid : Option (List ℕ)}
+goes_on_by : {b : Bench} {c c' : LinkState} (g : Option (List ℕ)) (check : List ℕ) (limits : Limits) (r : Result (Option Report) LinkFault) {old mid : Option (List ℕ)}
     {x y : Option Expectation} (k : ℕ) (next : Option Expectation) → Meets next (told_line r c'.up)
-    → IsSilent b x old c.bench y mid → HasCome c (Goes Pass unharmed) c' r → ShowsActive c'.bench → told_line r c'.up ≢ []
-    → LineActs k (point_at g limits next b) GoesOn (told_line r c'.up) (point_at g limits (still next (told_line r c'.up)) c'.bench)
-goes_on_by {b = b} {c = c} {c' = c'} g limits r k next meets silent come active some =
+    → IsSilent check b x old c.bench y mid → HasCome c (checked check c.bench passes) c' r → ShowsActive c'.bench → told_line r c'.up ≢ []
+    → LineActs k (point_at g check limits next b) GoesOn (told_line r c'.up) (point_at g check limits (still next (told_line r c'.up)) c'.bench)
+goes_on_by {b = b} {c = c} {c' = c'} g check limits r k next meets silent come active some =
     let same : told_line r c'.up ≡ answer_line come.answer = told_line_is c c' r come in
-    subst (λ (text : List ℕ). LineActs k (point_at g limits next b) GoesOn text (point_at g limits (still next text) c'.bench)) (sym same)
+    subst (λ (text : List ℕ). LineActs k (point_at g check limits next b) GoesOn text (point_at g check limits (still next text) c'.bench)) (sym same)
     (goes_on silent.times silent.plays come.comes active (λ e. some (same ∙ e)) (subst (λ (text : List ℕ). Meets next text) same meets))
 
 -- It is out.
-pub passed_on : {b : Bench} {c c' : LinkState} (g : Option (List ℕ)) (limits : Limits) (r : Result (Option Report) LinkFault)
-    {old mid new : Option (List ℕ)} {x y z : Option Expectation} → IsSilent b x old c.bench y mid
-    → HasCome c passes c' r → ShowsActive c'.bench → r ≢ Ok None
+pub passed_on : {b : Bench} {c c' : LinkState} (g : Option (List ℕ)) (check : List ℕ) (limits : Limits) (r : Result (Option Report) LinkFault)
+    {old mid new : Option (List ℕ)} {x y z : Option Expectation} → IsSilent check b x old c.bench y mid
+    → HasCome c (checked check c.bench passes) c' r → ShowsActive c'.bench → r ≢ Ok None
     → Prints y mid (told_line r c'.up) z new
-    → HasActed (point_at g limits x b) GoesOn old (point_at g limits z c'.bench) new
-passed_on {b = b} {c' = c'} g limits r {x = x} silent come active other prints =
+    → HasActed (point_at g check limits x b) GoesOn old (point_at g check limits z c'.bench) new
+passed_on {b = b} {c' = c'} g check limits r {x = x} silent come active other prints =
     let all = prints_more silent.prints prints in
     record {
       out = told_line r c'.up;
-      acts = λ k. subst (λ (e : Option Expectation). LineActs k (point_at g limits x b) GoesOn (told_line r c'.up)
-          (point_at g limits e c'.bench))
-          (sym all.left) (goes_on_by g limits r k x all.meets silent come active (something r c'.up other));
+      acts = λ k. subst (λ (e : Option Expectation). LineActs k (point_at g check limits x b) GoesOn (told_line r c'.up)
+          (point_at g check limits e c'.bench))
+          (sym all.left) (goes_on_by g check limits r k x all.meets silent come active (something r c'.up other));
       told = all.told;
     }
 
 -- Or it stopped in it.
-pub stopped_on : {b : Bench} {c c' : LinkState} (g : Option (List ℕ)) (limits : Limits) (r : Result (Option Report) LinkFault)
-    {old mid new : Option (List ℕ)} {x y z : Option Expectation} {f : ScriptFault} → IsSilent b x old c.bench y mid
-    → HasCome c passes c' r → ShowsActive c'.bench → PrintsNext y mid (told_line r c'.up) z new (Err f)
-    → HasStopped (point_at g limits x b) GoesOn old new f
-stopped_on {c' = c'} g limits r {old = old} {mid = mid} {new = new} {f = f} silent come active prints line e =
+pub stopped_on : {b : Bench} {c c' : LinkState} (g : Option (List ℕ)) (check : List ℕ) (limits : Limits) (r : Result (Option Report) LinkFault)
+    {old mid new : Option (List ℕ)} {x y z : Option Expectation} {f : ScriptFault} → IsSilent check b x old c.bench y mid
+    → HasCome c (checked check c.bench passes) c' r → ShowsActive c'.bench → PrintsNext y mid (told_line r c'.up) z new (Err f)
+    → HasStopped (point_at g check limits x b) GoesOn old new f
+stopped_on {c' = c'} g check limits r {old = old} {mid = mid} {new = new} {f = f} silent come active prints line e =
     let before = silent.prints in
-    in_passes e (goes_on_by g limits r 0 None tt silent come active (part_some prints.err))
+    in_passes e (goes_on_by g check limits r 0 None tt silent come active (part_some prints.err))
     (broke_after old mid new [] (told_line r c'.up) before.told prints.err)
     (fails_after (told_line r c'.up) new f before prints.fault)

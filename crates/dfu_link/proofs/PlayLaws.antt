@@ -14,7 +14,7 @@ use Rattle.dfu_sim.specs.declared.fault.LinkFault.{LinkFault}
 use Rattle.dfu_sim.specs.declared.fault.LinkFault.TheVariants.{HostBusy}
 use Rattle.dfu_link.specs.declared.scripting.fault.ScriptFault.{ScriptFault}
 use Rattle.dfu_link.specs.Texts.{told_line, answer_line}
-use Rattle.dfu_link.specs.ScriptRun.{AllCome, none_comes, then_comes}
+use Rattle.dfu_link.specs.ScriptRun.{checked, AllCome, none_comes, then_comes}
 use Rattle.dfu_link.specs.Expecting.{Expectation}
 use Rattle.dfu_link.specs.Falls.{HasBroken}
 use Rattle.dfu_link.specs.inside.Expected.{PrintsNext}
@@ -32,33 +32,34 @@ pub replicate_more : {A : Type 0} (n : ℕ) (x : A) → replicate (n + 1) x ≡ 
 replicate_more n x = ap (λ (k : ℕ). replicate k x) (add-one n) ∙ suc_more n x
 
 -- One event more.
-pub plays_one : (b : Bench) (c c' : LinkState) (events : List Happening) (e : Happening) (out : List ℕ)
-    (r : Result (Option Report) LinkFault) → AllCome b events out c.bench → HasCome c e c' r → ShowsActive c'.bench
-    → AllCome b (events ++ e ∷ []) (out ++ told_line r c'.up) c'.bench
-plays_one b c c' events e out r p h active =
-    subst (λ (text : List ℕ). AllCome b (events ++ e ∷ []) (out ++ text) c'.bench) (sym (told_line_is c c' r h))
-    (then_comes p h.comes active)
+pub plays_one : (z : List ℕ) (b : Bench) (c c' : LinkState) (events : List Happening) (e : Happening) (out : List ℕ)
+    (r : Result (Option Report) LinkFault) → AllCome z b events out c.bench → HasCome c (checked z c.bench e) c' r → ShowsActive c'.bench
+    → AllCome z b (events ++ e ∷ []) (out ++ told_line r c'.up) c'.bench
+plays_one z b c c' events e out r p h active =
+    subst (λ (text : List ℕ). AllCome z b (events ++ e ∷ []) (out ++ text) c'.bench) (sym (told_line_is c c' r h))
+    (then_comes e p h.comes active)
 
 -- Nothing was played.
-pub played_none : (b : Bench) (x : Option Expectation) (h : Option (List ℕ)) → HasPlayed b x [] h b x h
-played_none b x h = record {
+pub played_none : (z : List ℕ) (b : Bench) (x : Option Expectation) (h : Option (List ℕ)) → HasPlayed z b x [] h b x h
+played_none z b x h = record {
   out = [];
   plays = none_comes;
   prints = prints_none x h;
 }
 
-played_then : (done : Result Unit ScriptFault) {b c c' : Bench} {events : List Happening} {e : Happening}
-    {answer : Result Answered LinkFault} {x y z : Option Expectation} {old mid new : Option (List ℕ)} → HasPlayed b x events old c y mid → Comes c e c' answer
-    → ShowsActive c' → PrintsNext y mid (answer_line answer) z new done → Plays b x (events ++ e ∷ []) old c' z new done
-played_then (Ok it) {answer = answer} before come active prints = record {
+played_then : (done : Result Unit ScriptFault) (e : Happening) {check : List ℕ} {b c c' : Bench} {events : List Happening}
+    {answer : Result Answered LinkFault} {x y z : Option Expectation} {old mid new : Option (List ℕ)}
+    → HasPlayed check b x events old c y mid → Comes c (checked check c e) c' answer
+    → ShowsActive c' → PrintsNext y mid (answer_line answer) z new done → Plays check b x (events ++ e ∷ []) old c' z new done
+played_then (Ok it) e {answer = answer} before come active prints = record {
   ok = record {
     out = before.out ++ answer_line answer;
-    plays = then_comes before.plays come active;
+    plays = then_comes e before.plays come active;
     prints = prints_more before.prints prints.ok;
   };
   fault = tt;
 }
-played_then (Err f) {c' = c'} {events = events} {e = e} {answer = answer} {old = old} {mid = mid} {new = new} before come active
+played_then (Err f) e {c' = c'} {events = events} {answer = answer} {old = old} {mid = mid} {new = new} before come active
     prints = record {
       ok = tt;
       fault = record {
@@ -67,19 +68,20 @@ played_then (Err f) {c' = c'} {events = events} {e = e} {answer = answer} {old =
         split = sym (append-nil (events ++ e ∷ []));
         after = c';
         out = before.out ++ answer_line answer;
-        plays = then_comes before.plays come active;
+        plays = then_comes e before.plays come active;
         broke = broke_after old mid new before.out (answer_line answer) before.prints.told prints.err;
         fails = fails_after (answer_line answer) new f before.prints prints.fault;
       };
     }
 
 -- Events were played, and one more comes.
-pub plays_next : {b : Bench} {c c' : LinkState} {events : List Happening} {e : Happening} (r : Result (Option Report) LinkFault)
-    {x y z : Option Expectation} {old mid new : Option (List ℕ)} {done : Result Unit ScriptFault} → HasPlayed b x events old c.bench y mid
-    → HasCome c e c' r → ShowsActive c'.bench → PrintsNext y mid (told_line r c'.up) z new done
-    → Plays b x (events ++ e ∷ []) old c'.bench z new done
-plays_next {c = c} {c' = c'} r {y = y} {z = z} {mid = mid} {new = new} {done = done} before come active prints =
-    played_then done before come.comes active
+pub plays_next : (e : Happening) {check : List ℕ} {b : Bench} {c c' : LinkState} {events : List Happening}
+    (r : Result (Option Report) LinkFault) {x y z : Option Expectation} {old mid new : Option (List ℕ)} {done : Result Unit ScriptFault}
+    → HasPlayed check b x events old c.bench y mid → HasCome c (checked check c.bench e) c' r → ShowsActive c'.bench
+    → PrintsNext y mid (told_line r c'.up) z new done
+    → Plays check b x (events ++ e ∷ []) old c'.bench z new done
+plays_next e {c = c} {c' = c'} r {y = y} {z = z} {mid = mid} {new = new} {done = done} before come active prints =
+    played_then done e before come.comes active
     (subst (λ (text : List ℕ). PrintsNext y mid text z new done) (told_line_is c c' r come) prints)
 
 -- An offer while a session is live.
@@ -88,11 +90,11 @@ busy_offer : (b : Bench) (aim : Aim) (file : List ℕ) (limits : Limits) → IsL
 busy_offer b aim file limits live = refuses live
 
 -- An offer while a session is live is refused, whatever its file is, and that is printed.
-pub busy_plays : {b : Bench} (aim : Aim) (file : List ℕ) (limits : Limits) {e e' : Option Expectation} {old new : Option (List ℕ)}
+pub busy_plays : (check : List ℕ) {b : Bench} (aim : Aim) (file : List ℕ) (limits : Limits) {e e' : Option Expectation} {old new : Option (List ℕ)}
     {done : Result Unit ScriptFault} → IsLive b.session → ShowsActive b → PrintsNext e old (answer_line (Err HostBusy)) e' new done
-    → Plays b e (Offers aim file limits ∷ []) old b e' new done
-busy_plays {b = b} aim file limits {e = e} {old = old} {done = done} live active prints =
-    played_then done (played_none b e old) (busy_offer b aim file limits live) active prints
+    → Plays check b e (Offers aim file limits ∷ []) old b e' new done
+busy_plays check {b = b} aim file limits {e = e} {old = old} {done = done} live active prints =
+    played_then done (Offers aim file limits) (played_none check b e old) (busy_offer b aim file limits live) active prints
 
 -- What is played before another event is a front of what is played in all.
 replicate_front : {A : Type 0} (k n : ℕ) (x : A) → k < n → (left : List A) × (replicate n x ≡ (replicate k x ++ x ∷ []) ++ left)
@@ -103,8 +105,8 @@ replicate_front (suc k) (suc n) x h =
     (rest.0, ap (λ (xs : List _). x ∷ xs) rest.1)
 
 -- It stopped at one of so many turns of the same event.
-pub broken : (k n : ℕ) (e : Happening) {b : Bench} {x : Option Expectation} {old new : Option (List ℕ)} {f : ScriptFault} → k < n
-    → HasBroken b x (replicate k e ++ e ∷ []) old new f → HasBroken b x (replicate n e) old new f
+pub broken : (k n : ℕ) (e : Happening) {check : List ℕ} {b : Bench} {x : Option Expectation} {old new : Option (List ℕ)} {f : ScriptFault} → k < n
+    → HasBroken check b x (replicate k e ++ e ∷ []) old new f → HasBroken check b x (replicate n e) old new f
 broken k n e lt stopped =
     let rest = replicate_front k n e lt in
     record {
@@ -117,3 +119,8 @@ broken k n e lt stopped =
       broke = stopped.broke;
       fails = stopped.fails;
     }
+
+-- An offer goes as it is, whatever the program checks.
+pub offer_unchecked : (check : List ℕ) (b : Bench) {event : Happening} {aim : Aim} {file : List ℕ} {limits : Limits}
+    → event ≡ Offers aim file limits → checked check b event ≡ event
+offer_unchecked check b is = ap (λ (e : Happening). checked check b e) is ∙ sym is

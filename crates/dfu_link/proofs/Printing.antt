@@ -3,12 +3,12 @@ use Rattle.std.proofs.Common.{◌≡◌, ℕ, zero, suc, List, [], ◌∷◌, �
 use Rattle.std.specs.Prelude.{replicate}
 use Rattle.dfu_host.specs.declared.report.Report.{Report}
 use Rattle.dfu_host.specs.declared.limits.Limits.{Limits}
-use Rattle.dfu_sim.specs.Happening.{Happening, Offers, Uploads, Aborts, Goes, Passes, Resets, Cuts}
+use Rattle.dfu_sim.specs.Happening.{Happening, Offers, Uploads, Aborts, Goes, Passes, Resets, Cuts, Refuses}
 use Rattle.dfu_sim.specs.Bench.{Bench}
 use Rattle.dfu_link.specs.Texts.{told_line}
-use Rattle.dfu_link.specs.Said.{ConfigLine, TheIds, TheDevice, TheUnit, TheSector, TheCapacity, TheImage, EventLine, Offer, Upload, Abort, Go, Time, Reset, Cut, Said, Blank, Sets, LimitsTo, Does, GoesOn, Show, Expects}
+use Rattle.dfu_link.specs.Said.{ConfigLine, TheIds, TheDevice, TheUnit, TheSector, TheCapacity, TheImage, TheCheck, EventLine, Offer, Upload, Abort, Go, Time, Reset, Cut, Refuse, Said, Blank, Sets, LimitsTo, Does, GoesOn, Show, Expects}
 use Rattle.dfu_link.specs.Lines.{line_of}
-use Rattle.dfu_link.specs.ScriptRun.{Settings, set as set_by, events_of, Prepares, prepared, nothing, then_prepares, IsReady, HasToAct}
+use Rattle.dfu_link.specs.ScriptRun.{Settings, set as set_by, checked, events_of, Prepares, prepared, nothing, then_prepares, IsReady, HasToAct}
 use Rattle.dfu_sim.specs.Headline.{Begun, WithOffer, AsUpload, HeadlineHolds}
 use Rattle.dfu_sim.specs.BegunBy.{begun_by}
 use Rattle.dfu_link.specs.Printed.{brought, report_text, EventsPrint, then_prints, NeedsDevice, StartsWith, at_end, at_line, after_nothing, after_image}
@@ -25,6 +25,12 @@ session_by (Goes fate harm) = None
 session_by (Passes ms) = None
 session_by Resets = None
 session_by Cuts = None
+session_by (Refuses why) = None
+
+-- A check changes none of that.
+pub session_checked : (check : List ℕ) (b : Bench) (h : Happening) → session_by (checked check b h) ≡ session_by h
+session_checked check b (Goes fate harm) = refl
+session_checked check b h = refl
 
 same_each : (times : ℕ) (h : Happening) → map session_by (replicate times h) ≡ replicate times (session_by h)
 same_each zero h = refl
@@ -38,6 +44,7 @@ same_events limits (Go f harm times) = same_each times (Goes f harm)
 same_events limits (Time ms) = refl
 same_events limits Reset = refl
 same_events limits Cut = refl
+same_events limits (Refuse why) = refl
 
 pub same_text : (report : Option Report) (image : List ℕ) → report_text report image ≡ told_line (Ok report) image
 same_text None image = refl
@@ -55,6 +62,7 @@ one_prints (Goes fate harm) prints holds = then_prints None prints holds
 one_prints (Passes ms) prints holds = then_prints None prints holds
 one_prints Resets prints holds = then_prints None prints holds
 one_prints Cuts prints holds = then_prints None prints holds
+one_prints (Refuses why) prints holds = then_prints None prints holds
 
 -- The start.
 
@@ -73,6 +81,7 @@ line_sets s (TheUnit unit) is starts = after_nothing is starts
 line_sets s (TheSector n) is starts = after_nothing is starts
 line_sets s (TheCapacity n) is starts = after_nothing is starts
 line_sets s (TheImage image) is starts = after_image is starts
+line_sets s (TheCheck front) is starts = after_nothing is starts
 
 line_starts : {g : Option (List ℕ)} {t : Settings} {factory : List ℕ} {lines after : List (List ℕ)} (line : List ℕ) (s : Settings)
     (said : Said)
@@ -94,6 +103,7 @@ set_keeps s (TheUnit unit) = refl
 set_keeps s (TheSector n) = refl
 set_keeps s (TheCapacity n) = refl
 set_keeps s (TheImage image) = refl
+set_keeps s (TheCheck front) = refl
 
 -- A line that sets something leaves the bytes that are given.
 said_keeps : {t : Settings} (s : Settings) (said : Said) → prepared s said ≡ Some t → t.given ≡ s.given

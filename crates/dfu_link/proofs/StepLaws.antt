@@ -41,13 +41,13 @@ pub step_acts : {k : ℕ} {p p' : Point} {line : List ℕ} {old new : Option (Li
     → HasActed p said old p' new → Steps k p line old p' new
 step_acts {k = k} {said = said} e a = record { said = said; is = e; out = a.out; acts = a.acts k; told = a.told }
 
-events_act : (r : Result Unit ScriptFault) {g : Option (List ℕ)} {l : Limits} {x x' : Option Expectation} {b b' : Bench}
-    {old new : Option (List ℕ)} (d : EventLine) → Plays b x (events_of l d) old b' x' new r
-    → Acts (point_at g l x b) (Does d) old (point_at g l x' b') new r
-events_act (Ok done) {g = g} {l = l} {x = x} {b = b} {b' = b'} d p = record {
+events_act : (r : Result Unit ScriptFault) {g : Option (List ℕ)} {check : List ℕ} {l : Limits} {x x' : Option Expectation} {b b' : Bench}
+    {old new : Option (List ℕ)} (d : EventLine) → Plays check b x (events_of l d) old b' x' new r
+    → Acts (point_at g check l x b) (Does d) old (point_at g check l x' b') new r
+events_act (Ok done) {g = g} {check = check} {l = l} {x = x} {b = b} {b' = b'} d p = record {
   ok = record {
     out = p.ok.out;
-    acts = λ k. subst (λ (y : Option Expectation). LineActs k (point_at g l x b) (Does d) p.ok.out (point_at g l y b'))
+    acts = λ k. subst (λ (y : Option Expectation). LineActs k (point_at g check l x b) (Does d) p.ok.out (point_at g check l y b'))
         (sym p.ok.prints.left) (plays p.ok.plays p.ok.prints.meets);
     told = p.ok.prints.told;
   };
@@ -56,33 +56,33 @@ events_act (Ok done) {g = g} {l = l} {x = x} {b = b} {b' = b'} d p = record {
 events_act (Err f) d p = record { ok = tt; fault = λ line e. in_events e p.fault }
 
 -- What an event line says is done by its events.
-pub line_acts : {r : Result Unit ScriptFault} {g : Option (List ℕ)} {l : Limits} {x x' : Option Expectation} {b b' : Bench}
+pub line_acts : {r : Result Unit ScriptFault} {g : Option (List ℕ)} {check : List ℕ} {l : Limits} {x x' : Option Expectation} {b b' : Bench}
     {old new : Option (List ℕ)} {said : Said} {events : List Happening} (d : EventLine) → said ≡ Does d → events ≡ events_of l d
-    → Plays b x events old b' x' new r → Acts (point_at g l x b) said old (point_at g l x' b') new r
-line_acts {r = r} {g = g} {l = l} {x = x} {x' = x'} {b = b} {b' = b'} {old = old} {new = new} d is same played =
-    subst (λ (y : Said). Acts (point_at g l x b) y old (point_at g l x' b') new r) (sym is)
-    (events_act r d (subst (λ (es : List Happening). Plays b x es old b' x' new r) same played))
+    → Plays check b x events old b' x' new r → Acts (point_at g check l x b) said old (point_at g check l x' b') new r
+line_acts {r = r} {g = g} {check = check} {l = l} {x = x} {x' = x'} {b = b} {b' = b'} {old = old} {new = new} d is same played =
+    subst (λ (y : Said). Acts (point_at g check l x b) y old (point_at g check l x' b') new r) (sym is)
+    (events_act r d (subst (λ (es : List Happening). Plays check b x es old b' x' new r) same played))
 
 -- A line that shows prints the line of the device.
-pub step_shows : {k : ℕ} {g : Option (List ℕ)} {l : Limits} {x x' : Option Expectation} {b : Bench} {line : List ℕ}
-    {old new : Option (List ℕ)} → line_of g line ≡ Some Show → Prints x old (show_line b.device) x' new → Steps k (point_at g l x b) line old (point_at g l x' b) new
-step_shows {k = k} {g = g} {l = l} {x = x} {b = b} e prints = record {
+pub step_shows : {k : ℕ} {g : Option (List ℕ)} {check : List ℕ} {l : Limits} {x x' : Option Expectation} {b : Bench} {line : List ℕ}
+    {old new : Option (List ℕ)} → line_of g line ≡ Some Show → Prints x old (show_line b.device) x' new → Steps k (point_at g check l x b) line old (point_at g check l x' b) new
+step_shows {k = k} {g = g} {check = check} {l = l} {x = x} {b = b} e prints = record {
   said = Show;
   is = e;
   out = show_line b.device;
-  acts = subst (λ (y : Option Expectation). LineActs k (point_at g l x b) Show (show_line b.device) (point_at g l y b)) (sym prints.left)
+  acts = subst (λ (y : Option Expectation). LineActs k (point_at g check l x b) Show (show_line b.device) (point_at g check l y b)) (sym prints.left)
       (shows prints.meets);
   told = prints.told;
 }
 
 -- A line that expects another has it expected.
-pub step_expects : {k : ℕ} {g : Option (List ℕ)} {l : Limits} {x x' : Option Expectation} {b : Bench} {line text : List ℕ}
+pub step_expects : {k : ℕ} {g : Option (List ℕ)} {check : List ℕ} {l : Limits} {x x' : Option Expectation} {b : Bench} {line text : List ℕ}
     {old : Option (List ℕ)} → line_of g line ≡ Some (Expects text) → x ≡ None → x' ≡ Some (record { number = k; text = text })
-    → Steps k (point_at g l x b) line old (point_at g l x' b) old
-step_expects {k = k} {g = g} {l = l} {x = x} {b = b} {text = text} {old = old} e free is = record {
+    → Steps k (point_at g check l x b) line old (point_at g check l x' b) old
+step_expects {k = k} {g = g} {check = check} {l = l} {x = x} {b = b} {text = text} {old = old} e free is = record {
   said = Expects text;
   is = e;
   out = [];
-  acts = subst (λ (y : Option Expectation). LineActs k (point_at g l x b) (Expects text) [] (point_at g l y b)) (sym is) (expects free);
+  acts = subst (λ (y : Option Expectation). LineActs k (point_at g check l x b) (Expects text) [] (point_at g check l y b)) (sym is) (expects free);
   told = appends_none old;
 }

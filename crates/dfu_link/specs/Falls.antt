@@ -19,22 +19,23 @@ use Rattle.dfu_link.specs.ScriptRun.{Settings, beginning, Prepares, Starts, at_r
 use Rattle.dfu_link.specs.declared.scripting.fault.ScriptFault.{ScriptFault}
 use Rattle.dfu_link.specs.declared.scripting.fault.ScriptFault.TheVariants.{BadLine, LateConfig, BadConfig, Expected, NonePrinted, TooLarge, NoMemory, Read, Write}
 
--- It stopped among events, where this is expected: some were played, and a front of their text is out, and not all of it.
-pub record HasBroken (b : Bench) (next : Option Expectation) (events : List Happening) (old new : Option (List ℕ)) (fault : ScriptFault)
+-- It stopped among events, where the program takes only images that begin with these bytes, and this is expected: some were played, and a
+-- front of their text is out, and not all of it.
+pub record HasBroken (check : List ℕ) (b : Bench) (next : Option Expectation) (events : List Happening) (old new : Option (List ℕ)) (fault : ScriptFault)
     : Type 0 where
   pub played : List Happening
   pub left : List Happening
   pub split : events ≡ played ++ left
   pub after : Bench
   pub out : List ℕ
-  pub plays : AllCome b played out after
+  pub plays : AllCome check b played out after
   pub broke : IsOutInPart old new out
   pub fails : Fails next out old new fault
 
 -- It stopped in what a line prints: among its events, in what `go until report` prints, or in the line of `show`.
 pub data BreaksIn (p : Point) (line : List ℕ) (old new : Option (List ℕ)) (fault : ScriptFault) : Type 0 where
   in_events : {events : EventLine} → line_of p.given line ≡ Some (Does events)
-      → HasBroken p.at p.next (events_of p.limits events) old new fault
+      → HasBroken p.check p.at p.next (events_of p.limits events) old new fault
       → BreaksIn p line old new fault
   in_passes : {out : List ℕ} {q : Point} → line_of p.given line ≡ Some GoesOn → LineActs 0 (record p { next = None }) GoesOn out q
       → IsOutInPart old new out → Fails p.next out old new fault → BreaksIn p line old new fault

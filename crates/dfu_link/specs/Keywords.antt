@@ -26,6 +26,8 @@ keyword_of w =
     else if bytes_eq w (codes "cut") then Some key.Cut
     else if bytes_eq w (codes "show") then Some key.Show
     else if bytes_eq w (codes "expect") then Some key.Expect
+    else if bytes_eq w (codes "check") then Some key.Check
+    else if bytes_eq w (codes "refuse") then Some key.Refuse
     else None
 
 -- The word after `go`: that of a fate, or `until`.

@@ -5,11 +5,13 @@ use Rattle.dfu_wire.specs.Functional.{functional_of}
 use Rattle.dfu_slots.specs.declared.unit.Unit.{Unit as WriteUnit}
 use Rattle.dfu_slots.specs.declared.unit.Unit.TheVariants.{Byte, U16, U64, U256}
 use Rattle.dfu_wire.specs.Identifier.{identifier_in}
+use Rattle.dfu_device.specs.declared.objection.Objection.{Objection}
+use Rattle.dfu_device.specs.declared.objection.Objection.TheVariants.{Target, File}
 use Rattle.dfu_sim.specs.declared.aim.Aim.{Aim}
 use Rattle.dfu_sim.specs.declared.aim.Aim.TheVariants.{Install, Verify}
 use Rattle.dfu_link.specs.Words.{◌>>=◌, guard, bytes_of, number_of, pair_of, first, text_behind, ends, words_of}
 use Rattle.dfu_sim.specs.Happening.{Fate, Pass, LostOut, LostBack, Twice, TwiceLostBack, Slip, CutIn, Fail, Lie, unharmed, harmed}
-use Rattle.dfu_link.specs.Said.{Said, Blank, Sets, LimitsTo, Does, GoesOn, Show, Expects, TheIds, TheDevice, TheUnit, TheSector, TheCapacity, TheImage, Offer, Upload, Abort, Go, Time, Reset, Cut}
+use Rattle.dfu_link.specs.Said.{Said, Blank, Sets, LimitsTo, Does, GoesOn, Show, Expects, TheIds, TheDevice, TheUnit, TheSector, TheCapacity, TheImage, TheCheck, Offer, Upload, Abort, Go, Time, Reset, Cut, Refuse}
 use Rattle.dfu_link.specs.Keywords.{keyword_of, fate_keyword_of}
 use Rattle.dfu_link.specs.declared.scripting.keywords.Keyword.{Keyword}
 use Rattle.dfu_link.specs.declared.scripting.keywords.Keyword.TheVariants as key
@@ -105,6 +107,12 @@ image_of words = do
   image ← hex_at words
   ends (Sets (TheImage image.0)) image.1
 
+-- After `check`: the bytes.
+unfoldable pub check_of : List (List ℕ) → Option Said
+check_of words = do
+  front ← hex_at words
+  ends (Sets (TheCheck front.0)) front.1
+
 -- After `limits`: the actions, and the restarts.
 unfoldable pub limits_of : List (List ℕ) → Option Said
 limits_of words = do
@@ -123,6 +131,20 @@ unfoldable pub time_of : List (List ℕ) → Option Said
 time_of words = do
   ms ← number_at words
   ends (Does (Time ms.0)) ms.1
+
+-- The word of why a program refuses an image: the status code that tells of it.
+abbrev pub objection_named : List ℕ → Option Objection
+objection_named w =
+    if bytes_eq w (codes "errTARGET") then Some Target
+    else if bytes_eq w (codes "errFILE") then Some File
+    else None
+
+-- After `refuse`: why.
+unfoldable pub refuse_of : List (List ℕ) → Option Said
+refuse_of words = do
+  word ← first words
+  why ← objection_named word.0
+  ends (Does (Refuse why)) word.1
 
 -- After `go pass`: how often, 1 to 1,000,000 times.
 unfoldable pub pass_of : List (List ℕ) → Option Said
@@ -194,6 +216,8 @@ by_keyword given key.Reset line words = ends (Does Reset) words
 by_keyword given key.Cut line words = ends (Does Cut) words
 by_keyword given key.Show line words = ends Show words
 by_keyword given key.Expect line words = expect_of line
+by_keyword given key.Check line words = check_of words
+by_keyword given key.Refuse line words = refuse_of words
 
 -- A line is a comment where its first word begins with `#`.
 abbrev pub is_comment : List ℕ → Bool

@@ -47,8 +47,8 @@ go_brings (word ∷ words) =
     else if bytes_eq word (codes "pass") then Events (replicate (count_in words) None)
     else Events (None ∷ [])
 
--- What a line of these words brings. An offer and an upload may begin a session. An abort, a time, a reset and a cut are one event
--- each, and `expect` is none.
+-- What a line of these words brings. An offer and an upload may begin a session. An abort, a time, a reset, a cut and a refusal are one
+-- event each, and `expect` is none.
 abbrev pub words_bring : (given : Option (List ℕ)) → List (List ℕ) → Brings
 words_bring given [] = Nothing
 words_bring given (word ∷ words) =
@@ -61,6 +61,7 @@ words_bring given (word ∷ words) =
     else if bytes_eq word (codes "time") then Events (None ∷ [])
     else if bytes_eq word (codes "reset") then Events (None ∷ [])
     else if bytes_eq word (codes "cut") then Events (None ∷ [])
+    else if bytes_eq word (codes "refuse") then Events (None ∷ [])
     else if bytes_eq word (codes "show") then AShow
     else if bytes_eq word (codes "expect") then Events []
     else Nothing

@@ -4,6 +4,7 @@ use Rattle.std.specs.Prelude.{ℕ, List, [], Option, Some, None, unwrap_or}
 use Rattle.dfu_wire.specs.declared.ids.Ids.{Ids}
 use Rattle.dfu_wire.specs.declared.functionals.Functional.{Functional}
 use Rattle.dfu_slots.specs.declared.unit.Unit.{Unit as WriteUnit}
+use Rattle.dfu_device.specs.declared.objection.Objection.{Objection}
 use Rattle.dfu_link.specs.Words.{bytes_of}
 use Rattle.dfu_sim.specs.Happening.{Fate, CutIn, Fail, Lie, Harm, harmed, fate_of, harm_in}
 use Rattle.dfu_sim.specs.declared.aim.Aim.{Aim}
@@ -34,7 +35,7 @@ offered_bytes (offered.Spelled text) = hex_bytes text
 offered_bytes (offered.Given bytes) = bytes.now
 
 -- What a configuration line sets: who the device is, what it is like, how its medium is written and erased, how many bytes an image may
--- have, or the image that it has at first.
+-- have, the image that it has at first, or with which bytes an image begins that its program takes.
 pub data ConfigLine : Type 0 where
   TheIds : Ids → ConfigLine
   TheDevice : Functional → (least busy manifest : ℕ) → ConfigLine
@@ -42,9 +43,11 @@ pub data ConfigLine : Type 0 where
   TheSector : ℕ → ConfigLine
   TheCapacity : ℕ → ConfigLine
   TheImage : List ℕ → ConfigLine
+  TheCheck : List ℕ → ConfigLine
 
 -- The events of a line: a file is offered, to be installed or to be verified too, an upload begins, the session is given up, the host
--- takes so many actions of one fate, which harm a write alike, time passes, the bus is reset, or the power is cut.
+-- takes so many actions of one fate, which harm a write alike, time passes, the bus is reset, the power is cut, or the device's program
+-- refuses the image that was closed.
 pub data EventLine : Type 0 where
   Offer : Aim → (file : List ℕ) → EventLine
   Upload : EventLine
@@ -53,6 +56,7 @@ pub data EventLine : Type 0 where
   Time : (ms : ℕ) → EventLine
   Reset : EventLine
   Cut : EventLine
+  Refuse : (why : Objection) → EventLine
 
 -- A line harms a write, and so brings a tear.
 abbrev pub HasTear : EventLine → Type 0
@@ -80,6 +84,7 @@ config_line_of (config.Unit unit) = TheUnit unit
 config_line_of (config.Erase sector) = TheSector sector.bytes
 config_line_of (config.Capacity room) = TheCapacity room.bytes
 config_line_of (config.Image text) = TheImage (hex_bytes text)
+config_line_of (config.Check text) = TheCheck (hex_bytes text)
 
 -- The fate of an action in which a write is harmed like this.
 abbrev pub harm_fate : kinds.HarmKind → Fate
@@ -98,6 +103,7 @@ said_by events.GoOn = GoesOn
 said_by (events.Time ms) = Does (Time ms)
 said_by events.Reset = Does Reset
 said_by events.Cut = Does Cut
+said_by (events.Refuse why) = Does (Refuse why)
 
 -- The tear that a line as the code has it brings; others bring none.
 abbrev pub tear_bytes : event_lines.EventLine → List ℕ

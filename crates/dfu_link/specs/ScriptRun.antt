@@ -1,5 +1,5 @@
 -- What a script does, and what it prints.
-use Rattle.std.specs.Prelude.{◌≡◌, ◌≢◌, ℕ, ◌+◌, ◌*◌, ◌≤◌, List, [], ◌∷◌, ◌++◌, length, Option, Some, None, Result, replicate}
+use Rattle.std.specs.Prelude.{◌≡◌, ◌≢◌, ℕ, ◌+◌, ◌*◌, ◌≤◌, ◌==◌, Bool, true, false, if◌then◌else◌, List, [], ◌∷◌, ◌++◌, length, Option, Some, None, Result, replicate}
 use Rattle.std.specs.Io.KnownBytes.{Appends}
 use Rattle.dfu_wire.specs.Functional.{functional_of}
 use Rattle.dfu_host.specs.declared.limits.Limits.{Limits}
@@ -8,27 +8,31 @@ use Rattle.dfu_slots.specs.Units.{Grain, in_place, gate_room, IsWhole}
 use Rattle.dfu_slots.specs.Medium.{MediumState, AllWrites, blank_medium}
 use Rattle.dfu_slots.specs.Image.{Active}
 use Rattle.dfu_slots.specs.Seen.{image_of, format_series}
+use Rattle.dfu_device.specs.declared.objection.Objection.TheVariants.{File as FailsCheck}
+use Rattle.dfu_device.specs.Candidate.{candidate_in}
 use Rattle.dfu_device.specs.Stage.{InAppIdle}
 use Rattle.dfu_device.specs.Setting.{Setting, IsAllowed, of_this_version}
 use Rattle.dfu_device.specs.Shown.{Shown}
 use Rattle.dfu_sim.specs.Bench.{Nobody, Bench, ShowsActive}
 use Rattle.dfu_sim.specs.Play.{Answered}
-use Rattle.dfu_sim.specs.Happening.{Happening, Offers, Uploads, Aborts, Goes, Passes, Resets, Cuts, Pass, unharmed}
+use Rattle.dfu_sim.specs.Happening.{Happening, Offers, Uploads, Aborts, Goes, Passes, Resets, Cuts, Refuses, Fate, Pass, Refusing, unharmed}
 use Rattle.dfu_sim.specs.Comes.{Comes}
 use Rattle.dfu_sim.specs.declared.fault.LinkFault.{LinkFault}
 use Rattle.dfu_link.specs.Texts.{answer_line, image_line, show_line}
 use Rattle.dfu_link.specs.Words.{lines_of}
-use Rattle.dfu_link.specs.Said.{ConfigLine, TheIds, TheDevice, TheUnit, TheSector, TheCapacity, TheImage, EventLine, Offer, Upload, Abort, Go, Time, Reset, Cut, Said, Blank, Sets, LimitsTo, Does, GoesOn, Show, Expects}
+use Rattle.dfu_link.specs.Said.{ConfigLine, TheIds, TheDevice, TheUnit, TheSector, TheCapacity, TheImage, TheCheck, EventLine, Offer, Upload, Abort, Go, Time, Reset, Cut, Refuse, Said, Blank, Sets, LimitsTo, Does, GoesOn, Show, Expects}
 use Rattle.dfu_link.specs.Lines.{line_of}
 use Rattle.dfu_link.specs.Expecting.{Expectation, Meets, still}
 
 -- What is set before the first event line or `show`: the device, how its medium is written and erased, how many bytes an image may have,
--- the image at first, and the limits of sessions. The bytes that FILE stands for are given, if any are, and no line sets them.
+-- the image at first, with which bytes an image begins that the device's program takes, and the limits of sessions. The bytes that FILE
+-- stands for are given, if any are, and no line sets them.
 pub record Settings : Type 0 where
   pub device : Setting
   pub grain : Grain
   pub capacity : ℕ
   pub image : List ℕ
+  pub check : List ℕ
   pub limits : Limits
   pub given : Option (List ℕ)
 
@@ -45,6 +49,7 @@ beginning given = record {
   grain = in_place Byte;
   capacity = 64;
   image = 0 ∷ [];
+  check = [];
   limits = record { actions = 1000000; restarts = 0 };
   given = given;
 }
@@ -58,6 +63,7 @@ set s (TheUnit unit) = record s { grain = record s.grain { unit = unit } }
 set s (TheSector n) = record s { grain = record s.grain { sector = n } }
 set s (TheCapacity n) = record s { capacity = n }
 set s (TheImage bytes) = record s { image = bytes }
+set s (TheCheck bytes) = record s { check = bytes }
 
 -- What a line before the first event line or `show` sets.
 abbrev pub prepared : Settings → Said → Option Settings
@@ -105,23 +111,46 @@ pub record Starts (s : Settings) (d : Shown) : Type 0 where
 abbrev pub at_rest : Shown → Bench
 at_rest d = record { device = d; session = Nobody }
 
--- Events one after the other, with what they print; after each the image that the bench shows is the active one of its medium's bytes.
-pub data AllCome : Bench → List Happening → List ℕ → Bench → Type 0 where
-  none_comes : {b : Bench} → AllCome b [] [] b
-  then_comes : {b c c' : Bench} {events : List Happening} {event : Happening} {out : List ℕ} {answer : Result Answered LinkFault} →
-      AllCome b events out c → Comes c event c' answer → ShowsActive c' → AllCome b (events ++ event ∷ []) (out ++ answer_line answer) c'
+-- Bytes begin with these.
+abbrev pub begins_with : (front bytes : List ℕ) → Bool
+begins_with [] bytes = true
+begins_with (x ∷ front) [] = false
+begins_with (x ∷ front) (byte ∷ bytes) = if x == byte then begins_with front bytes else false
 
--- Where a script is once the device is started: the bytes that FILE stands for, the limits of the next session, which line is expected
--- next, and the link.
+-- A program that takes only images that begin with these bytes has nothing against the image that was taken, or none was.
+abbrev pub is_accepted : (check : List ℕ) → Option (List ℕ) → Bool
+is_accepted check None = true
+is_accepted check (Some taken) = begins_with check taken
+
+-- An action of this fate on a device with such a program: it refuses an image that begins otherwise, if the action closes it.
+abbrev pub checked_fate : (check : List ℕ) → Shown → Fate → Fate
+checked_fate check d fate = if is_accepted check (candidate_in d.stage) then fate else Refusing FailsCheck fate
+
+-- An event on such a device.
+abbrev pub checked : (check : List ℕ) → Bench → Happening → Happening
+checked check b (Goes fate harm) = Goes (checked_fate check b.device fate) harm
+checked check b event = event
+
+-- Events one after the other, where the program takes only images that begin with these bytes, with what they print; after each the image
+-- that the bench shows is the active one of its medium's bytes.
+pub data AllCome (check : List ℕ) : Bench → List Happening → List ℕ → Bench → Type 0 where
+  none_comes : {b : Bench} → AllCome check b [] [] b
+  then_comes : {b c c' : Bench} {events : List Happening} {out : List ℕ} {answer : Result Answered LinkFault} (event : Happening) →
+      AllCome check b events out c → Comes c (checked check c event) c' answer → ShowsActive c'
+      → AllCome check b (events ++ event ∷ []) (out ++ answer_line answer) c'
+
+-- Where a script is once the device is started: the bytes that FILE stands for, those with which an image begins that the program takes,
+-- the limits of the next session, which line is expected next, and the link.
 pub record Point : Type 0 where
   pub given : Option (List ℕ)
+  pub check : List ℕ
   pub limits : Limits
   pub next : Option Expectation
   pub at : Bench
 
 -- Where it is with these settings and this link, and no line is expected.
 abbrev pub point : Settings → Bench → Point
-point s at = record { given = s.given; limits = s.limits; next = None; at = at }
+point s at = record { given = s.given; check = s.check; limits = s.limits; next = None; at = at }
 
 -- This was printed, and the link is this now.
 abbrev pub printed : Point → (text : List ℕ) → Bench → Point
@@ -136,6 +165,7 @@ events_of limits (Go fate harm times) = replicate times (Goes fate harm)
 events_of limits (Time ms) = Passes ms ∷ []
 events_of limits Reset = Resets ∷ []
 events_of limits Cut = Cuts ∷ []
+events_of limits (Refuse why) = Refuses why ∷ []
 
 -- What line k does once the device is started, and what it prints, which is as expected. A configuration line has no place there.
 -- `go until report` lets so many actions pass of which nothing is printed, and one of which something is. `expect` has no place where a
@@ -144,10 +174,11 @@ pub data LineActs (k : ℕ) : Point → Said → List ℕ → Point → Type 0 w
   skips : {p : Point} → LineActs k p Blank [] p
   limits_to : {p : Point} {actions restarts : ℕ} → LineActs k p (LimitsTo actions restarts) []
       (record p { limits = record { actions = actions; restarts = restarts } })
-  plays : {p : Point} {events : EventLine} {b : Bench} {out : List ℕ} → AllCome p.at (events_of p.limits events) out b
+  plays : {p : Point} {events : EventLine} {b : Bench} {out : List ℕ} → AllCome p.check p.at (events_of p.limits events) out b
       → Meets p.next out → LineActs k p (Does events) out (printed p out b)
   goes_on : {p : Point} {mid b : Bench} {answer : Result Answered LinkFault} (times : ℕ)
-      → AllCome p.at (replicate times (Goes Pass unharmed)) [] mid → Comes mid (Goes Pass unharmed) b answer → ShowsActive b
+      → AllCome p.check p.at (replicate times (Goes Pass unharmed)) [] mid → Comes mid (checked p.check mid (Goes Pass unharmed)) b answer
+      → ShowsActive b
       → answer_line answer ≢ [] → Meets p.next (answer_line answer)
       → LineActs k p GoesOn (answer_line answer) (printed p (answer_line answer) b)
   shows : {p : Point} → Meets p.next (show_line p.at.device)

@@ -3,3 +3,4 @@ pub mod SetupView
 pub mod Expected
 pub mod Moving
 pub mod Forming
+pub mod Taken

@@ -3,6 +3,7 @@
 
 mod after_start;
 mod alone;
+mod checking;
 mod digits;
 pub(crate) mod expectation;
 pub(crate) mod fault;

@@ -1,16 +1,22 @@
 -- An action with its bytes is an action of the table of fates.
-use Rattle.std.proofs.Common.{◌≡◌, ℕ, Bool, true, false, List, refl, sym, ap, ◌∙◌, subst}
+use Rattle.std.proofs.Common.{◌≡◌, ℕ, Bool, true, false, List, Option, Some, None, refl, sym, ap, ◌∙◌, subst, inl, inr}
+use Rattle.dfu_wire.specs.declared.setups.Setup.{Setup}
 use Rattle.dfu_wire.specs.declared.requests.Request.{Request as Asked}
+use Rattle.dfu_wire.specs.Setup.{IsSetup}
+use Rattle.dfu_wire.specs.Request.{Asks}
+use Rattle.dfu_wire.specs.OneRequest.{Asks-one}
+use Rattle.dfu_wire.specs.OneSetup.{IsSetup-one}
 use Rattle.dfu_slots.specs.Medium.{Fuse}
 use Rattle.dfu_slots.specs.Medium.Fuse.{Whole}
 use Rattle.dfu_slots.specs.Seen.{image_of, image_fused, room_fused}
 use Rattle.dfu_device.specs.declared.answer.Answer.{Answer}
+use Rattle.dfu_device.specs.declared.objection.Objection.{Objection}
 use Rattle.dfu_device.specs.Stage.{Profile, Reply}
-use Rattle.dfu_device.specs.Table.{plan}
-use Rattle.dfu_device.specs.Outcome.{Situation, Luck, Works, Outcome, handled, elapsed}
+use Rattle.dfu_device.specs.Table.{Plan, error, plan, objection_code}
+use Rattle.dfu_device.specs.Outcome.{Situation, Luck, Works, Outcome, outcome, handled, elapsed}
 use Rattle.dfu_device.specs.Shown.{Shown, profile, situation}
-use Rattle.dfu_device.specs.Rows.{meant, asked_length, Answers, Handles}
-use Rattle.dfu_device.specs.Came.{Came, asked_came, time_came}
+use Rattle.dfu_device.specs.Rows.{meant, asked_length, Answers, Done as RowDone, is_close, IsCloseSetup, ClosesDownload, Handles}
+use Rattle.dfu_device.specs.Came.{Came, came, row_of, time_came}
 use Rattle.dfu_host.specs.Phases.{Deed, Send, Wait, Reset, Done, Heard, Waited, WasReset}
 use Rattle.dfu_host.specs.Wire.{IsAsked}
 use Rattle.dfu_sim.specs.declared.back.Back.{Back}
@@ -19,10 +25,11 @@ use Rattle.dfu_sim.specs.declared.course.Handling.TheVariants.{Late}
 use Rattle.dfu_sim.specs.declared.course.Harming.{Harming}
 use Rattle.dfu_sim.specs.declared.course.Harming.TheVariants.{CutsPower}
 use Rattle.dfu_sim.specs.Course.{Course}
-use Rattle.dfu_sim.specs.Play.{heard_as, remembered, reached, heard_back, heard_over, over, waits_for, slipped, acted}
-use Rattle.dfu_sim.specs.Bytes.{armed, bus_was_reset, HearsAnswer, HearsBack, Reaches, unseen, once, again, late, came_back, ended_back, Sends, Waits, Slips, ResetsBus, Acts}
+use Rattle.dfu_sim.specs.Play.{heard_as, remembered, reached, heard_back, heard_over, over, waits_for, slipped, plan_by, acted}
+use Rattle.dfu_sim.specs.Bytes.{armed, bus_was_reset, HearsAnswer, HearsBack, Takes, Reaches, unseen, once, again, late, came_back, ended_back, Sends, Waits, Slips, ResetsBus, Acts}
 use Rattle.dfu_sim.proofs.Fates.{all_remembered}
 use Rattle.dfu_sim.proofs.Replies.{IsHosts, HostsDeed, plan_heard, served}
+use Rattle.dfu_sim.proofs.Closing.{by_table, by_objection, host_closes, host_open}
 
 -- The fuse of the medium is no part of what is shown.
 pub armed_profile : (w : Shown) (fuse : Fuse) → profile (armed w fuse) ≡ profile w
@@ -51,33 +58,68 @@ heard_by_course d CutsPower back came out heard x f h = (true, h)
 heard_by_course d harming true came out heard x f h = f heard h
 heard_by_course d harming false came out heard x f h = (true, h)
 
+-- A setup that closes a download asks for a DNLOAD of no bytes, whatever it is read as.
+close_read : (setup : List ℕ) (p : Setup) (q : Asked) → IsSetup p setup → Asks p q → IsCloseSetup setup → is_close q ≡ true
+close_read setup p q reads asks (p2, q2, reads2, asks2, close) =
+    let same : p2 ≡ p = IsSetup-one p2 p setup reads2 reads in
+    subst (λ (r : Asked). is_close r ≡ true) (Asks-one p q2 q (subst (λ (x : Setup). Asks x q2) same asks2) asks) close
+
+-- The plan of a request on a device whose program refuses the image that it closes, or refuses none.
+abbrev pub plan_on : Asked → (body : List ℕ) → Option Objection → Shown → Plan
+plan_on q body x w = plan_by x (profile w) (image_of w.slots) w.stage (meant q body)
+
 module _ (q : Asked) (setup body : List ℕ) (is : IsHosts q body) (asked : IsAsked q setup) where
-  came_by : (w w' : Shown) (a : Answer) (out : List ℕ) → Handles setup body w a out w'
-      → Came (plan (profile w) (image_of w.slots) w.stage (meant q body)) (asked_length q) w a out w'
-  came_by w w' a out h = asked_came asked.setup q setup body w a out w' asked.fields asked.asks (served asked.setup q body is asked.asks) h
+  closed_plan : (why : Objection) (w : Shown) → ClosesDownload setup w → plan_on q body (Some why) w ≡ error (objection_code why)
+  closed_plan why w (close, may) =
+      by_objection why (profile w) (image_of w.slots) w.stage (meant q body)
+      (host_closes q body w.config.least w.stage is (close_read setup asked.setup q asked.fields asked.asks close) may)
+
+  open_plan : (why : Objection) (w : Shown) → (ClosesDownload setup w → ⊥)
+      → plan_on q body (Some why) w ≡ plan (profile w) (image_of w.slots) w.stage (meant q body)
+  open_plan why w other =
+      by_table (Some why) (profile w) (image_of w.slots) w.stage (meant q body)
+      (host_open q body w.config.least w.stage is (λ close may. other ((asked.setup, q, asked.fields, asked.asks, close), may)))
+
+  -- A request goes by its plan, whatever bytes ask for it.
+  goes_by : (w w' : Shown) (a : Answer) (out : List ℕ) → Handles setup body w a out w'
+      → RowDone (plan (profile w) (image_of w.slots) w.stage (meant q body)) (asked_length q) w a out w'
+  goes_by w w' a out h =
+      rw (served asked.setup q body is asked.asks) at (row_of asked.setup q setup body w a out w' asked.fields asked.asks h)
+
+  -- And so does one that the program of the device may refuse.
+  pub takes_by : (x : Option Objection) (w w' : Shown) (a : Answer) (out : List ℕ) → Takes x setup body w a out w'
+      → RowDone (plan_on q body x w) (asked_length q) w a out w'
+  takes_by None w w' a out h = goes_by w w' a out h
+  takes_by (Some why) w w' a out (inl (stalls, none, closing, same)) =
+      subst (λ (p : Plan). RowDone p (asked_length q) w a out w') (sym (closed_plan why w closing)) ((stalls, none), same)
+  takes_by (Some why) w w' a out (inr (other, h)) =
+      subst (λ (p : Plan). RowDone p (asked_length q) w a out w') (sym (open_plan why w other)) (goes_by w w' a out h)
+
+  takes_came : (x : Option Objection) (w w' : Shown) (a : Answer) (out : List ℕ) → Takes x setup body w a out w'
+      → Came (plan_on q body x w) (asked_length q) w a out w'
+  takes_came x w w' a out h = came (plan_on q body x w) (asked_length q) w a out w' (takes_by x w w' a out h)
 
   -- What was heard of a row.
-  heard_by : (w w' : Shown) (a : Answer) (out : List ℕ) (heard : Heard)
-      (x : Came (plan (profile w) (image_of w.slots) w.stage (meant q body)) (asked_length q) w a out w')
+  heard_by : (x : Option Objection) (w w' : Shown) (a : Answer) (out : List ℕ) (heard : Heard)
+      (y : Came (plan_on q body x w) (asked_length q) w a out w')
       → HearsAnswer (Send q body) a out heard
-      → (room : Bool) × (heard ≡ remembered (heard_as (handled (profile w) (situation w) (meant q body) x.luck).reply) room)
-  heard_by w w' a out heard x h =
-      plan_heard q body (profile w) (image_of w.slots) w.stage x.luck a out heard is
-      (subst (λ (r : Reply). Answers (asked_length q) r a out) (sym (ap (λ (o : Outcome). o.reply) x.same)) x.answers) h
+      → (room : Bool) × (heard ≡ remembered (heard_as (outcome (image_of w.slots) (plan_on q body x w) y.luck).reply) room)
+  heard_by x w w' a out heard y h =
+      plan_heard x q body (profile w) (image_of w.slots) w.stage y.luck a out heard is
+      (subst (λ (r : Reply). Answers (asked_length q) r a out) (sym (ap (λ (o : Outcome). o.reply) y.same)) y.answers) h
 
   -- What a device makes of a request is what its situation makes of it.
-  record Arrives (w w' : Shown) (how : Handling) (came : Back) (out : List ℕ) : Type 0 where
+  record Arrives (x : Option Objection) (w w' : Shown) (how : Handling) (came : Back) (out : List ℕ) : Type 0 where
     first : Luck
     second : Luck
-    device : (reached (profile w) (situation w) (meant q body) (plan (profile w) (image_of w.slots) w.stage (meant q body)) how first
-        second).device ≡ situation w'
+    device : (reached (profile w) (situation w) (meant q body) (plan_on q body x w) how first second).device ≡ situation w'
     hears : (heard : Heard) → HearsBack (Send q body) came out heard → (room : Bool) × (heard ≡ remembered (reached (profile w)
-        (situation w) (meant q body) (plan (profile w) (image_of w.slots) w.stage (meant q body)) how first second).heard room)
+        (situation w) (meant q body) (plan_on q body x w) how first second).heard room)
     fixed : profile w' ≡ profile w
     lucky : w.slots.medium.fuse ≡ Whole → (first ≡ Works) × (second ≡ Works)
 
-  reaches_go : {w w' : Shown} {how : Handling} {came : Back} {out : List ℕ} → Reaches setup body how w came out w'
-      → Arrives w w' how came out
+  reaches_go : {x : Option Objection} {w w' : Shown} {how : Handling} {came : Back} {out : List ℕ}
+      → Reaches x setup body how w came out w' → Arrives x w w' how came out
   reaches_go unseen = record {
     first = Works;
     second = Works;
@@ -86,41 +128,41 @@ module _ (q : Asked) (setup body : List ℕ) (is : IsHosts q body) (asked : IsAs
     fixed = refl;
     lucky = λ e. (refl, refl);
   }
-  reaches_go (once {w = w} {w' = w'} {a = a} {out = out} h) =
-      let x = came_by w w' a out h in
+  reaches_go {x = x} (once {w = w} {w' = w'} {a = a} {out = out} h) =
+      let y = takes_came x w w' a out h in
       record {
-        first = x.luck;
+        first = y.luck;
         second = Works;
-        device = ap (λ (o : Outcome). o.after) x.same;
-        hears = λ heard r. heard_by w w' a out heard x r;
-        fixed = x.fixed;
-        lucky = λ e. ((x.unarmed e).0, refl);
+        device = ap (λ (o : Outcome). o.after) y.same;
+        hears = λ heard r. heard_by x w w' a out heard y r;
+        fixed = y.fixed;
+        lucky = λ e. ((y.unarmed e).0, refl);
       }
-  reaches_go (again {w = w} {mid = mid} {w' = w'} {a = a} {b = b} {out = out} {last = last} h k) =
-      let x = came_by w mid a out h in
-      let y = came_by mid w' b last k in
-      let again : handled (profile w) (handled (profile w) (situation w) (meant q body) x.luck).after (meant q body) y.luck
-      ≡ handled (profile mid) (situation mid) (meant q body) y.luck =
-      λ j. handled (sym x.fixed j) (x.same j).after (meant q body) y.luck in
+  reaches_go {x = x} (again {w = w} {w' = w'} {b = b} {last = last} mid a out h k) =
+      let y = takes_came x w mid a out h in
+      let z = takes_came None mid w' b last k in
+      let again : handled (profile w) (outcome (image_of w.slots) (plan_on q body x w) y.luck).after (meant q body) z.luck
+      ≡ handled (profile mid) (situation mid) (meant q body) z.luck =
+      λ j. handled (sym y.fixed j) (y.same j).after (meant q body) z.luck in
       record {
-        first = x.luck;
-        second = y.luck;
-        device = ap (λ (o : Outcome). o.after) again ∙ ap (λ (o : Outcome). o.after) y.same;
-        hears = λ heard r. let z = heard_by mid w' b last heard y r in
-            (z.0, z.1 ∙ sym (ap (λ (o : Outcome). remembered (heard_as o.reply) z.0) again));
-        fixed = y.fixed ∙ x.fixed;
-        lucky = λ e. let k = x.unarmed e in (k.0, (y.unarmed k.1).0);
+        first = y.luck;
+        second = z.luck;
+        device = ap (λ (o : Outcome). o.after) again ∙ ap (λ (o : Outcome). o.after) z.same;
+        hears = λ heard r. let said = heard_by None mid w' b last heard z r in
+            (said.0, said.1 ∙ sym (ap (λ (o : Outcome). remembered (heard_as o.reply) said.0) again));
+        fixed = z.fixed ∙ y.fixed;
+        lucky = λ e. let k = y.unarmed e in (k.0, (z.unarmed k.1).0);
       }
-  reaches_go (late {w = w} {mid = mid} {w' = w'} {a = a} {out = out} {ms = ms} h e) =
-      let x = came_by w mid a out h in
-      let y = time_came ms mid w' e in
+  reaches_go {x = x} (late {w = w} {w' = w'} {a = a} {out = out} {ms = ms} mid h e) =
+      let y = takes_came x w mid a out h in
+      let z = time_came ms mid w' e in
       record {
-        first = x.luck;
-        second = y.luck;
-        device = (λ j. elapsed (sym x.fixed j) (x.same j).after ms y.luck) ∙ ap (λ (o : Outcome). o.after) y.same;
-        hears = λ heard r. heard_by w mid a out heard x r;
-        fixed = y.fixed ∙ x.fixed;
-        lucky = λ e. let k = x.unarmed e in (k.0, (y.unarmed k.1).0);
+        first = y.luck;
+        second = z.luck;
+        device = (λ j. elapsed (sym y.fixed j) (y.same j).after ms z.luck) ∙ ap (λ (o : Outcome). o.after) z.same;
+        hears = λ heard r. heard_by x w mid a out heard y r;
+        fixed = z.fixed ∙ y.fixed;
+        lucky = λ e. let k = y.unarmed e in (k.0, (z.unarmed k.1).0);
       }
 
   sends_go : (course : Course) (w w' : Shown) (heard : Heard) → Sends q setup body course w w' heard

@@ -21,7 +21,7 @@ use Rattle.dfu_sim.specs.Bytes.{fuse_of, armed, bus_was_reset, HearsBack, Reache
 use Rattle.dfu_sim.specs.inside.Acting.{seen_over}
 
 -- A request whose rows these are, and of which this comes back.
-pub sends_by : {setup body out : List ℕ} {w w' : Shown} (course : Course) {came b : Back} → Reaches setup body course.handling w came out w'
+pub sends_by : {setup body out : List ℕ} {w w' : Shown} (course : Course) {came b : Back} → Reaches course.refusing setup body course.handling w came out w'
     → b ≡ ended_back course.harming (came_back course.back came) → (q : Asked) (heard : Heard) → HearsBack (Send q body) b out heard
     → Sends q setup body course w w' heard
 sends_by {body = body} {out = out} course {came = came} h e q heard r = record {

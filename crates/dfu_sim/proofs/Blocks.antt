@@ -3,7 +3,7 @@ use Rattle.std.proofs.Common.{◌≡◌, ℕ, suc, ◌+◌, ◌%◌, ◌<◌, �
 use Rattle.dfu_wire.specs.declared.codes.Code.{Code}
 use Rattle.dfu_wire.specs.declared.codes.Code.TheVariants.{StalledPkt as ErrStalledPkt, Address as ErrAddress, NotDone as ErrNotDone}
 use Rattle.dfu_device.specs.Stage.{Dnload, Ack, Profile, Stage, InDfuIdle, InDownloadSync, InDownloadIdle, InManifestSync}
-use Rattle.dfu_device.specs.Table.{Plan, Sure, error, block_plan, first_plan, further_plan, is_empty, next_number}
+use Rattle.dfu_device.specs.Table.{Plan, Sure, error, plan, block_plan, first_plan, further_plan, is_empty, next_number}
 use Rattle.dfu_device.specs.Outcome.{Situation, Luck}
 use Rattle.dfu_device.specs.Cases.{either_way}
 use Rattle.dfu_host.specs.Blocks.{blocks, first}
@@ -17,10 +17,11 @@ use Rattle.dfu_sim.specs.declared.course.Harming.{Harming}
 use Rattle.dfu_sim.specs.declared.course.Harming.TheVariants.{CutsPower}
 use Rattle.dfu_sim.specs.Course.{Course}
 use Rattle.dfu_sim.specs.Opening.{task_for}
-use Rattle.dfu_sim.specs.Play.{Passed, reached, heard_back, ends_by, sent}
+use Rattle.dfu_sim.specs.Play.{Passed, reached, heard_back, ends_by, sent_by, sent}
 use Rattle.dfu_sim.specs.LinkAgreement.{pending_of, IsSound}
 use Rattle.dfu_sim.specs.Fact.{Begun, AllTaken, Fact}
 use Rattle.dfu_sim.proofs.Quiet.{Quiet, stays, forgets, quiet_on}
+use Rattle.dfu_sim.proofs.Closing.{by_table, block_closes, close_cases}
 use Rattle.dfu_sim.proofs.Fates.{IfHeard, if_some}
 
 -- What an action does to the image and the pending bytes.
@@ -127,18 +128,18 @@ module _ (c : Profile) (sized : 0 < c.transfer) (offers : List (List ℕ)) (p : 
       → [] ++ slice_index_or (blocks p c.transfer) n [] ≡ first p c.transfer (suc n)
   first_body n b e = sym (first_suc p c.transfer n b ∙ ap (λ m. first p c.transfer m ++ slice_index_or (blocks p c.transfer) n []) e)
 
-  -- The phase that sends block n goes well by each course.
-  pub go_block : (n : ℕ) (i : List ℕ) (stage : Stage) → n < length (blocks p c.transfer) → Begun p c.transfer n stage → IsSound offers stage
+  block_goes : (n : ℕ) (i : List ℕ) (stage : Stage) → n < length (blocks p c.transfer) → Begun p c.transfer n stage → IsSound offers stage
       → (course : Course) (l k : Luck) → let s : Situation = record { image = i; stage = stage } in
-      GoesWell c offers p (Block n) s (sent c s (Dnload (n % 65536) (slice_index_or (blocks p c.transfer) n [])) course l k)
-  go_block n i InDfuIdle b g h course l k =
+      let r = Dnload (n % 65536) (slice_index_or (blocks p c.transfer) n []) in
+      GoesWell c offers p (Block n) s (sent_by c s r (plan c i stage r) course l k)
+  block_goes n i InDfuIdle b g h course l k =
       let body = slice_index_or (blocks p c.transfer) n [] in
       let s : Situation = record { image = i; stage = InDfuIdle } in
       let P : Plan → Type 0 = λ q. Reached c offers p (Block n) s (reached c s (Dnload (n % 65536) body) q course.handling l k) in
       goes_well c offers p (Block n) s course.harming course.back _ (first_cases P c (n % 65536) body
       (λ code. block_fault c offers p n (n % 65536) body s code b (b, g) h course.handling l k)
       (block_taken c offers p n (n % 65536) [] body _ s b (b, g) h g (first_body n b g) course.handling l k))
-  go_block n i (InDownloadIdle taken number) b g h course l k =
+  block_goes n i (InDownloadIdle taken number) b g h course l k =
       let body = slice_index_or (blocks p c.transfer) n [] in
       let s : Situation = record { image = i; stage = InDownloadIdle taken number } in
       let P : Plan → Type 0 = λ q. Reached c offers p (Block n) s (reached c s (Dnload (n % 65536) body) q course.handling l k) in
@@ -147,7 +148,19 @@ module _ (c : Profile) (sized : 0 < c.transfer) (offers : List (List ℕ)) (p : 
       (λ code. block_fault c offers p n (n % 65536) body s code b (b, g) h course.handling l k)
       (block_taken c offers p n (n % 65536) taken body _ s b (b, g) h g (ap (λ x. x ++ body) g.1 ∙ sym (first_suc p c.transfer n b))
       course.handling l k))
-  go_block n i stage b g h course l k = elim g [ ]
+  block_goes n i stage b g h course l k = elim g [ ]
+
+  -- The phase that sends block n goes well by each course.
+  pub go_block : (n : ℕ) (i : List ℕ) (stage : Stage) → n < length (blocks p c.transfer) → Begun p c.transfer n stage → IsSound offers stage
+      → (course : Course) (l k : Luck) → let s : Situation = record { image = i; stage = stage } in
+      GoesWell c offers p (Block n) s (sent c s (Dnload (n % 65536) (slice_index_or (blocks p c.transfer) n [])) course l k)
+  go_block n i stage b g h course l k =
+      let s : Situation = record { image = i; stage = stage } in
+      let body = slice_index_or (blocks p c.transfer) n [] in
+      subst (λ (x : Plan). GoesWell c offers p (Block n) s (sent_by c s (Dnload (n % 65536) body) x course l k))
+      (sym (by_table course.refusing c i stage (Dnload (n % 65536) body)
+      (block_closes c.least stage (n % 65536) body (not_empty body (full_block p c.transfer n sized b)))))
+      (block_goes n i stage b g h course l k)
 
   -- The phase that closes the download goes well by each course.
   pub go_close : (num : ℕ) (i : List ℕ) (stage : Stage) → AllTaken p stage → IsSound offers stage → IsOneOf p offers
@@ -156,7 +169,7 @@ module _ (c : Profile) (sized : 0 < c.transfer) (offers : List (List ℕ)) (p : 
   go_close num i (InDownloadIdle taken number) w h o course l k =
       let s : Situation = record { image = i; stage = InDownloadIdle taken number } in
       let P : Plan → Type 0 = λ q. Reached c offers p Close s (reached c s (Dnload num []) q course.handling l k) in
-      goes_well c offers p Close s course.harming course.back _ (either_way P (nat_le c.least (length taken)) _ _
-      (close_taken c offers p num i taken number w (is_one offers w o) course.handling l k)
-      (close_fault c offers p num s ErrNotDone w h course.handling l k))
+      goes_well c offers p Close s course.harming course.back _ (close_cases P course.refusing c i taken number num
+      (λ code. close_fault c offers p num s code w h course.handling l k)
+      (close_taken c offers p num i taken number w (is_one offers w o) course.handling l k))
   go_close num i stage w h o course l k = elim w [ ]

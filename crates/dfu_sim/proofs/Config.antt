@@ -1,5 +1,6 @@
 -- A device stays what it is set up as, whatever happens to it.
-use Rattle.std.proofs.Common.{◌≡◌, ℕ, List, [], refl, ap, ◌∙◌}
+use Rattle.std.proofs.Common.{◌≡◌, ℕ, List, [], Option, Some, None, inl, inr, refl, ap, ◌∙◌}
+use Rattle.dfu_device.specs.declared.objection.Objection.{Objection}
 use Rattle.dfu_device.specs.declared.answer.Answer.{Answer}
 use Rattle.dfu_device.specs.declared.answer.Answer.TheVariants as answer
 use Rattle.dfu_device.specs.Table.{time_plan}
@@ -15,7 +16,7 @@ use Rattle.dfu_sim.specs.declared.course.Harming.TheVariants.{CutsPower}
 use Rattle.dfu_sim.specs.Course.{Course, course_of}
 use Rattle.dfu_sim.specs.Happening.{Happening, Goes, Passes}
 use Rattle.dfu_sim.specs.Play.{waits_for, Answered}
-use Rattle.dfu_sim.specs.Bytes.{fuse_of, armed, bus_was_reset, Reaches, unseen, once, again, late, Slips, Acts, left_by, Happens}
+use Rattle.dfu_sim.specs.Bytes.{fuse_of, armed, bus_was_reset, Takes, Reaches, unseen, once, again, late, Slips, Acts, left_by, Happens}
 use Rattle.dfu_sim.specs.Bench.{Bench}
 use Rattle.dfu_sim.proofs.DoneOnce.{done_ends}
 
@@ -26,12 +27,18 @@ handles_config {body = body} {out = out} {w = w} {w' = w'} {a = a} (handled_as p
 elapses_config : (ms : ℕ) (w w' : Shown) → Elapses ms w w' → w'.config ≡ w.config
 elapses_config ms w w' h = (done_ends (time_plan (profile w) w.stage ms) 0 w answer.Ack [] w' h).config
 
-reaches_config : {setup body : List ℕ} {how : Handling} {w w' : Shown} {came : Back} {out : List ℕ}
-    → Reaches setup body how w came out w' → w'.config ≡ w.config
+takes_config : (x : Option Objection) (setup body out : List ℕ) (w w' : Shown) (a : Answer) → Takes x setup body w a out w'
+    → w'.config ≡ w.config
+takes_config None setup body out w w' a h = handles_config h
+takes_config (Some why) setup body out w w' a (inl (stalls, none, closing, same)) = ap (λ (x : Shown). x.config) same
+takes_config (Some why) setup body out w w' a (inr (other, h)) = handles_config h
+
+reaches_config : {x : Option Objection} {setup body : List ℕ} {how : Handling} {w w' : Shown} {came : Back} {out : List ℕ}
+    → Reaches x setup body how w came out w' → w'.config ≡ w.config
 reaches_config unseen = refl
-reaches_config (once h) = handles_config h
-reaches_config (again h k) = handles_config k ∙ handles_config h
-reaches_config {w' = w'} (late {mid = mid} {ms = ms} h k) = elapses_config ms mid w' k ∙ handles_config h
+reaches_config {x = x} (once h) = takes_config x _ _ _ _ _ _ h
+reaches_config {x = x} (again mid a out h k) = handles_config k ∙ takes_config x _ _ _ _ _ _ h
+reaches_config {x = x} {w' = w'} (late {ms = ms} mid h k) = elapses_config ms mid w' k ∙ takes_config x _ _ _ _ _ _ h
 
 slips_config : (how : Handling) (w w' : Shown) → Slips how w w' → w'.config ≡ w.config
 slips_config (Late ms) w w' h = elapses_config ms w w' h

@@ -10,7 +10,7 @@ use Rattle.dfu_host.specs.TaskLaws.{after_same_device}
 use Rattle.dfu_device.specs.Stage.{Profile}
 use Rattle.dfu_device.specs.Outcome.{Situation}
 use Rattle.dfu_sim.specs.Course.{Course}
-use Rattle.dfu_sim.specs.Happening.{Happening, Aborts, Goes, Passes, Resets, Cuts}
+use Rattle.dfu_sim.specs.Happening.{Happening, Aborts, Goes, Passes, Resets, Cuts, Refuses}
 use Rattle.dfu_sim.specs.Play.{Answered, settled, took, told, aborted}
 use Rattle.dfu_sim.specs.Bench.{Session, Nobody, Hosted, Bench}
 use Rattle.dfu_sim.specs.Fact.{SessionFact}
@@ -111,6 +111,7 @@ happens_counted (Passes ms) b b' answer some c (e, s, n) = subst IsCountedIn (sy
 happens_counted Resets b b' answer some c (e, f) = subst (λ (x : Bench). IsCountedIn x.session) (sym e)
     (told_counted b.session some c)
 happens_counted Cuts b b' answer some c (e, f) = subst (λ (x : Bench). IsCountedIn x.session) (sym e) (told_counted b.session some c)
+happens_counted (Refuses why) b b' answer some c (e, f) = subst (λ (x : Bench). IsCountedIn x.session) (sym e) c
 happens_counted event b b' answer some c h = subst (λ (x : Bench). IsCountedIn x.session) (sym h.0) tt
 
 -- What an answer gives, by the device's transfer size.

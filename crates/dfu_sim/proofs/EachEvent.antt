@@ -9,8 +9,8 @@ use Rattle.dfu_host.specs.Phases.{ToFetch, Phase, Find, GiveUp, Over, OverUpload
 use Rattle.dfu_host.specs.Host.{HostState, IsOn, aborted_in}
 use Rattle.dfu_sim.specs.declared.aim.Aim.{Aim}
 use Rattle.dfu_sim.specs.declared.aim.Aim.TheVariants.{Install, Verify}
-use Rattle.dfu_sim.specs.Session.{Machine, Live, NoOne, Loading, Says, says_not, AnOffer, ARestart, Step, offered, uploads, aborts, restarts}
-use Rattle.dfu_sim.specs.Happening.{Happening, Offers, Uploads, Aborts, Goes, Passes, Resets, Cuts}
+use Rattle.dfu_sim.specs.Session.{Machine, Live, NoOne, Loading, Says, says_not, AnOffer, ARestart, Step, offered, uploads, aborts, restarts, refuses}
+use Rattle.dfu_sim.specs.Happening.{Happening, Offers, Uploads, Aborts, Goes, Passes, Resets, Cuts, Refuses}
 use Rattle.dfu_sim.specs.Opening.{goal_of}
 use Rattle.dfu_sim.specs.Play.{kind_of, Link, Answered, silent, given, Played, took, restarted_to, played, IsAllowed, Play}
 use Rattle.dfu_sim.specs.Bench.{Session, Nobody, Hosted}
@@ -22,6 +22,7 @@ use Rattle.dfu_sim.proofs.CommonFacts.{goal_anywhere}
 use Rattle.dfu_sim.proofs.Taking.{shown, restart_taken, restart_plain, goes_by}
 use Rattle.dfu_sim.proofs.Saying.{step_live}
 use Rattle.dfu_sim.proofs.PassingTime.{time_steps, time_fact}
+use Rattle.dfu_sim.proofs.Objecting.{refusal_ends, refusal_sound, refusal_fact}
 use Rattle.dfu_sim.proofs.ActionSteps.{Simulated, go_simulated}
 
 module _ (c : Profile) (offers : List (List ℕ)) where
@@ -150,6 +151,13 @@ module _ (c : Profile) where
   simulated offers s session up Resets l k room z a q o f =
       restart_simulated c offers s (reset_stage s.stage) session up (nothing_pends c offers s.stage) (nothing_closed c offers s.stage) o f
   simulated offers s session up Cuts l k room z a q o f = restart_simulated c offers s InAppIdle session up refl tt o f
+  simulated offers s session up (Refuses why) l k room z a q o f = record {
+    step = refuses (refusal_ends why offers s.image s.stage (live_of session) up);
+    sound = refusal_sound why offers s.stage q;
+    offer = o;
+    fact = refusal_fact c why s session f;
+    done = λ e. elim e [ ];
+  }
   simulated offers s session up event l k room z a q o f = elim a [ ]
 
   -- A machine that agrees is the one that is shown.

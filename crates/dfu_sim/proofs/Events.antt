@@ -6,6 +6,7 @@ use Rattle.dfu_suffix.specs.Grammar.{Content, IsFile}
 use Rattle.dfu_device.specs.Setting.{Setting}
 use Rattle.dfu_device.specs.Shown.{Shown}
 use Rattle.dfu_device.specs.Rows.{Elapses}
+use Rattle.dfu_device.specs.declared.objection.Objection.{Objection}
 use Rattle.dfu_wire.specs.declared.functionals.Functional.{Functional}
 use Rattle.dfu_wire.specs.declared.ids.Ids.{Ids}
 use Rattle.dfu_host.specs.Download.{is_for, first_download_fault, first_verify_fault}
@@ -19,11 +20,11 @@ use Rattle.dfu_sim.specs.declared.fault.LinkFault.{LinkFault}
 use Rattle.dfu_sim.specs.declared.fault.LinkFault.TheVariants as fault
 use Rattle.dfu_sim.specs.declared.fault.OfferFault.TheVariants as offer_fault
 use Rattle.dfu_sim.specs.Course.{course_of}
-use Rattle.dfu_sim.specs.Happening.{Fate, Harm, Happening, Offers, Goes, Passes}
+use Rattle.dfu_sim.specs.Happening.{Fate, Harm, Happening, Offers, Goes, Passes, Refuses}
 use Rattle.dfu_sim.specs.Opening.{goal_of}
 use Rattle.dfu_sim.specs.Play.{Answered, given, silent, Took, told, took, settled, IsAllowed}
 use Rattle.dfu_sim.specs.Bench.{Session, Nobody, Hosted, Bench, linked}
-use Rattle.dfu_sim.specs.Bytes.{HostActsArmed, Happens, BytePlay}
+use Rattle.dfu_sim.specs.Bytes.{was_refused, HostActsArmed, Happens, BytePlay}
 use Rattle.dfu_sim.specs.Refusing.{first_offer_fault, IsOffered, IsBadOffer, IsRefused}
 use Rattle.dfu_sim.specs.Comes.{Means, refuses, happens, GivesWithUploaded, HasCome, HasComeAlone}
 use Rattle.dfu_sim.specs.Standing.{session_of, given_by, bench_of, link_state, SendsBytes, IsCountedIn}
@@ -53,6 +54,15 @@ time_comes ms w w' host gave e row = event_comes (Passes ms) silent refl (record
   allowed = any_session (session_of host) (Passes ms) tt (λ k. tt);
   unarmed = e;
   happens = (row, refl, refl);
+}) tt refl refl
+
+-- The program refuses the image that was closed, if one was.
+pub refusal_comes : (why : Objection) (w w' : Shown) (host gave : Option HostState) → w.slots.medium.fuse ≡ Whole → w' ≡ was_refused why w
+    → HasCome (link_state w host gave) (Refuses why) (link_state w' host gave) (Ok None)
+refusal_comes why w w' host gave e row = event_comes (Refuses why) silent refl (record {
+  allowed = any_session (session_of host) (Refuses why) tt (λ k. tt);
+  unarmed = e;
+  happens = ((λ i. record { device = row i; session = session_of host }), refl);
 }) tt refl refl
 
 -- A restart that comes from outside: a reset of the bus, or a cut of the power.

@@ -1,7 +1,7 @@
 -- What an action that asks, waits or resets does to the device, whatever its fate.
-use Rattle.std.proofs.Common.{◌≡◌, ℕ, Bool, true, false, List, refl}
+use Rattle.std.proofs.Common.{◌≡◌, ℕ, Bool, true, false, List, refl, sym, subst}
 use Rattle.dfu_device.specs.Stage.{Request, Profile}
-use Rattle.dfu_device.specs.Table.{plan, reset_stage}
+use Rattle.dfu_device.specs.Table.{Plan, plan, reset_stage}
 use Rattle.dfu_device.specs.Outcome.{Situation, Luck, handled, was_reset, powered}
 use Rattle.dfu_host.specs.Phases.{Phase, Heard, Part, Nothing, Restarted}
 use Rattle.dfu_sim.specs.declared.course.Handling.{Handling}
@@ -9,12 +9,13 @@ use Rattle.dfu_sim.specs.declared.course.Handling.TheVariants.{Unseen, Once, Aga
 use Rattle.dfu_sim.specs.declared.course.Harming.{Harming}
 use Rattle.dfu_sim.specs.declared.course.Harming.TheVariants.{CutsPower}
 use Rattle.dfu_sim.specs.Course.{Course}
-use Rattle.dfu_sim.specs.Play.{heard_as, remembered, Passed, reached, heard_back, over, ends_by, slipped, waits_for, sent, waited, bus_reset}
+use Rattle.dfu_sim.specs.Play.{heard_as, remembered, Passed, reached, heard_back, over, ends_by, slipped, waits_for, sent_by, sent, waited, bus_reset}
 use Rattle.dfu_sim.specs.LinkAgreement.{IsSound}
 use Rattle.dfu_sim.specs.Fact.{Fact}
 use Rattle.dfu_sim.proofs.Quiet.{stays, forgets, IsQuiet, IsPolite, quiet_polite, quiet_time, quiet_reset, quiet_then}
 use Rattle.dfu_sim.proofs.Tells.{ToldBy, Asks, told_time, told_asked}
 use Rattle.dfu_sim.proofs.Kept.{fact_asked, fact_time}
+use Rattle.dfu_sim.proofs.Closing.{by_table, polite_closes}
 
 -- Where the host hears anything but a restart.
 abbrev pub IfHeard : Heard → (Heard → Type 0) → Type 0
@@ -78,7 +79,10 @@ module _ (c : Profile) (offers : List (List ℕ)) where
   -- A request that is polite is quiet by each course.
   pub sent_quiet : (s : Situation) (r : Request) (course : Course) (l k : Luck) → IsPolite r → IsSound offers s.stage
       → IsQuiet offers s (sent c s r course l k).device
-  sent_quiet s r course l k p h = ended_quiet s _ course.harming (reached_quiet s r course.handling l k p h)
+  sent_quiet s r course l k p h =
+      subst (λ (x : Plan). IsQuiet offers s (sent_by c s r x course l k).device)
+      (sym (by_table course.refusing c s.image s.stage r (polite_closes c.least s.stage r p)))
+      (ended_quiet s _ course.harming (reached_quiet s r course.handling l k p h))
 
   -- A wait is quiet by each course.
   pub waited_quiet : (s : Situation) (ms : ℕ) (course : Course) (l : Luck) → IsSound offers s.stage
@@ -124,10 +128,12 @@ module _ (c : Profile) (offers : List (List ℕ)) where
       }
 
   -- What a phase asks for keeps what is known, by each course.
-  pub asked_knows : (r : Request) (p : List ℕ) (phase : Phase) (s : Situation) (course : Course) (l k : Luck) → Asks r phase
-      → Fact c p phase s → KnowsIf p phase (sent c s r course l k)
-  asked_knows r p phase s course l k a h =
-      sent_knows p phase course.harming course.back _ (asked_reached r p phase s course.handling l k a h)
+  pub asked_knows : (r : Request) (p : List ℕ) (phase : Phase) (s : Situation) (course : Course) (l k : Luck) → IsPolite r
+      → Asks r phase → Fact c p phase s → KnowsIf p phase (sent c s r course l k)
+  asked_knows r p phase s course l k polite a h =
+      subst (λ (x : Plan). KnowsIf p phase (sent_by c s r x course l k))
+      (sym (by_table course.refusing c s.image s.stage r (polite_closes c.least s.stage r polite)))
+      (sent_knows p phase course.harming course.back _ (asked_reached r p phase s course.handling l k a h))
 
   -- After a reset of the bus.
   pub slipped_fact : (p : List ℕ) (phase : Phase) (s : Situation) (how : Handling) (l : Luck) → Fact c p phase (was_reset s)

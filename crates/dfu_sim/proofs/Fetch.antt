@@ -1,5 +1,5 @@
 -- The phase that fetches a part of the active image.
-use Rattle.std.proofs.Common.{◌≡◌, ℕ, suc, ◌+◌, ◌%◌, ◌<◌, ◌≤◌, ◌==◌, nat_lt, not, Bool, true, false, List, [], ◌++◌, length, take, drop, None, sym, ap, ◌∙◌, arith, take-append-drop, length-take, take_all, take-add}
+use Rattle.std.proofs.Common.{◌≡◌, ℕ, suc, ◌+◌, ◌%◌, ◌<◌, ◌≤◌, ◌==◌, nat_lt, not, Bool, true, false, List, [], ◌++◌, length, take, drop, None, refl, sym, ap, ◌∙◌, subst, arith, take-append-drop, length-take, take_all, take-add}
 use Rattle.std.proofs.lemmas.Bool.Decides.{nat_tests}
 use Rattle.dfu_wire.specs.declared.codes.Code.{Code}
 use Rattle.dfu_wire.specs.declared.codes.Code.TheVariants.{StalledPkt as ErrStalledPkt, Address as ErrAddress}
@@ -14,11 +14,12 @@ use Rattle.dfu_sim.specs.declared.course.Handling.TheVariants.{Unseen, Again}
 use Rattle.dfu_sim.specs.declared.course.Harming.{Harming}
 use Rattle.dfu_sim.specs.declared.course.Harming.TheVariants.{CutsPower}
 use Rattle.dfu_sim.specs.Course.{Course}
-use Rattle.dfu_sim.specs.Play.{heard_as, Passed, reached, heard_back, ends_by, sent}
+use Rattle.dfu_sim.specs.Play.{heard_as, Passed, reached, heard_back, ends_by, sent_by, sent}
 use Rattle.dfu_sim.specs.LinkAgreement.{pending_of, IsSound}
 use Rattle.dfu_sim.specs.Fact.{Fetches, FetchFact}
 use Rattle.dfu_sim.proofs.Quiet.{Quiet, stays, forgets, quiet_on}
 use Rattle.dfu_sim.proofs.Choices.{on_test}
+use Rattle.dfu_sim.proofs.Closing.{by_table}
 use Rattle.dfu_sim.proofs.Fates.{if_some}
 use Rattle.dfu_sim.proofs.GoCommon.{GoesQuietly}
 
@@ -151,19 +152,28 @@ module _ (c : Profile) (offers : List (List ℕ)) (k : ℕ) (kept : List ℕ) wh
       (ap (λ x. x ++ take c.transfer (drop place s.image)) e ∙ sym (take-add place c.transfer s.image)))
       (past s.image _ expected (sym n)) how l r)
 
-  -- The phase that fetches part k goes well by each course.
-  pub go_fetch : (image : List ℕ) (stage : Stage) → k < 65535 → Fetches k kept image stage → IsSound offers stage
+  fetch_goes : (image : List ℕ) (stage : Stage) → k < 65535 → Fetches k kept image stage → IsSound offers stage
       → (course : Course) (l r : Luck) → let s : Situation = record { image = image; stage = stage } in
-      Fetched s (sent c s (Upload (k % 65536) c.transfer) course l r)
-  go_fetch image InDfuIdle b f h course l r =
+      Fetched s (sent_by c s (Upload (k % 65536) c.transfer) (plan c image stage (Upload (k % 65536) c.transfer)) course l r)
+  fetch_goes image InDfuIdle b f h course l r =
       let s : Situation = record { image = image; stage = InDfuIdle } in
       let how = course.handling in
       fetched_by s course.harming course.back _
       (either_way (λ p. Reached s (reached c s (Upload (k % 65536) c.transfer) p how l r)) c.can_upload _ _
       (goes_on s 0 0 b (omega (arith, f.0)) f.1 (λ e. f.1) h how l r)
       (fetch_fault (k % 65536) c.transfer s ErrStalledPkt h how l r))
-  go_fetch image (InUploadIdle place number) b f h course l r =
+  fetch_goes image (InUploadIdle place number) b f h course l r =
       fetched_by _ course.harming course.back _
       (goes_on (record { image = image; stage = InUploadIdle place number }) place number b f.1 f.2 (λ e. absurd (omega (arith, f.0))) h
       course.handling l r)
-  go_fetch image stage b f h course l r = elim f [ ]
+  fetch_goes image stage b f h course l r = elim f [ ]
+
+  -- The phase that fetches part k goes well by each course.
+  pub go_fetch : (image : List ℕ) (stage : Stage) → k < 65535 → Fetches k kept image stage → IsSound offers stage
+      → (course : Course) (l r : Luck) → let s : Situation = record { image = image; stage = stage } in
+      Fetched s (sent c s (Upload (k % 65536) c.transfer) course l r)
+  go_fetch image stage b f h course l r =
+      let s : Situation = record { image = image; stage = stage } in
+      subst (λ (x : Plan). Fetched s (sent_by c s (Upload (k % 65536) c.transfer) x course l r))
+      (sym (by_table course.refusing c image stage (Upload (k % 65536) c.transfer) refl))
+      (fetch_goes image stage b f h course l r)

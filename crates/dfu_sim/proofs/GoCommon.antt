@@ -50,7 +50,7 @@ module _ (c : Profile) (offers : List (List ℕ)) (g : Goal) where
       record {
         quiet = sent_quiet c offers s r course l k polite q;
         next = if_heard {P = Knows c offers p phase d.device} {Q = λ heard. GoalFact c g (follows heard) d.device} d.heard
-            (f d.device) (asked_knows c offers r p phase s course l k a h);
+            (f d.device) (asked_knows c offers r p phase s course l k polite a h);
       }
 
   module _ (some : HasBlocks c g) where

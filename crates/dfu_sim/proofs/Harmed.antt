@@ -1,15 +1,15 @@
 -- An action in which a write is harmed has one result.
-use Rattle.std.proofs.Common.{◌≡◌, ℕ, Bool, true, List, [], refl, sym, ap, ◌∙◌, subst}
+use Rattle.std.proofs.Common.{◌≡◌, ℕ, Bool, true, List, [], Option, refl, sym, ap, ◌∙◌, subst}
 use Rattle.dfu_wire.specs.declared.requests.Request.{Request as Asked}
 use Rattle.dfu_slots.specs.Seen.{image_of}
 use Rattle.dfu_slots.specs.OneWrite.{IsKnown}
 use Rattle.dfu_device.specs.declared.answer.Answer.{Answer}
 use Rattle.dfu_device.specs.declared.answer.Answer.TheVariants as answer
-use Rattle.dfu_device.specs.Table.{plan, time_plan}
+use Rattle.dfu_device.specs.declared.objection.Objection.{Objection}
+use Rattle.dfu_device.specs.Table.{time_plan}
 use Rattle.dfu_device.specs.Outcome.{outcome}
 use Rattle.dfu_device.specs.Shown.{Shown, profile}
-use Rattle.dfu_device.specs.Rows.{meant, asked_length, Done, Handles}
-use Rattle.dfu_device.specs.Came.{row_of}
+use Rattle.dfu_device.specs.Rows.{asked_length}
 use Rattle.dfu_host.specs.Phases.{Deed, Send, Wait, Reset, Done as IsDone, Heard, Waited, WasReset, Restarted}
 use Rattle.dfu_host.specs.Table.{deed}
 use Rattle.dfu_host.specs.Host.{HostState}
@@ -21,15 +21,16 @@ use Rattle.dfu_sim.specs.declared.course.Handling.TheVariants.{Once, Late}
 use Rattle.dfu_sim.specs.declared.course.Harming.{Harming}
 use Rattle.dfu_sim.specs.declared.course.Harming.TheVariants.{NoWrite, CutsPower}
 use Rattle.dfu_sim.specs.Course.{course_of}
-use Rattle.dfu_sim.specs.Happening.{Fate, CutIn, Fail, Lie, Harm, Happening}
+use Rattle.dfu_sim.specs.Happening.{Fate, CutIn, Fail, Lie, Refusing, Harm, Happening}
 use Rattle.dfu_sim.specs.Bench.{Hosted, Bench}
 use Rattle.dfu_sim.specs.Play.{Answered, took, heard_as, remembered, heard_over, waits_for}
-use Rattle.dfu_sim.specs.Bytes.{fuse_of, armed, bus_was_reset, HearsBack, Reaches, once, Sends, Slips, Acts, left_by, NextAction, Happens}
+use Rattle.dfu_sim.specs.Bytes.{fuse_of, armed, bus_was_reset, HearsBack, Takes, Reaches, once, Sends, Slips, Acts, left_by, NextAction, Happens}
 use Rattle.dfu_sim.specs.Comes.{happens}
 use Rattle.dfu_sim.specs.OneResult.{SameDevice, AreOne, HarmsAWrite, OneResult}
 use Rattle.dfu_sim.proofs.Fates.{all_remembered}
 use Rattle.dfu_sim.proofs.DoneOnce.{same_device, powered_same, disarmed_same, DoneOnce, done_once}
-use Rattle.dfu_sim.proofs.Replies.{IsHosts, HostsDeed, hosts_deed, plan_heard, served}
+use Rattle.dfu_sim.proofs.Replies.{IsHosts, HostsDeed, hosts_deed, plan_heard}
+use Rattle.dfu_sim.proofs.Actions.{plan_on, takes_by}
 
 -- What two results of an action have in common: the devices are the same, and one thing is heard, but for want of memory.
 record ActedOnce (w' v' : Shown) (heard other : Heard) : Type 0 where
@@ -42,57 +43,52 @@ one_heard : {w' v' : Shown} {heard other : Heard} (x : Heard) → SameDevice w' 
 one_heard x same e f =
     record { device = same; hears = x; first = (true, e ∙ all_remembered x); second = (true, f ∙ all_remembered x) }
 
--- A request that is handled once: there is one answer.
-reached_once : {setup body : List ℕ} {w w' : Shown} {came : Back} {out : List ℕ} → Reaches setup body Once w came out w'
-    → (a : Answer) × (came ≡ back.Answered a) × Handles setup body w a out w'
+-- A request that comes once: there is one answer.
+reached_once : {x : Option Objection} {setup body : List ℕ} {w w' : Shown} {came : Back} {out : List ℕ}
+    → Reaches x setup body Once w came out w' → (a : Answer) × (came ≡ back.Answered a) × Takes x setup body w a out w'
 reached_once (once {a = a} h) = (a, refl, h)
 
-module _ (q : Asked) (body : List ℕ) (is : IsHosts q body) (w : Shown) (known : IsKnown w.slots.medium.fuse) where
-  -- A request goes by its plan, whatever bytes ask for it.
-  goes_by : (setup : List ℕ) (w' : Shown) (a : Answer) (out : List ℕ) → IsAsked q setup → Handles setup body w a out w'
-      → Done (plan (profile w) (image_of w.slots) w.stage (meant q body)) (asked_length q) w a out w'
-  goes_by setup w' a out asked h =
-      rw (served asked.setup q body is asked.asks) at (row_of asked.setup q setup body w a out w' asked.fields asked.asks h)
-
-  handled_once : (setup setup2 : List ℕ) (w' v' : Shown) (a b : Answer) (out other : List ℕ) → IsAsked q setup → IsAsked q setup2
-      → Handles setup body w a out w' → Handles setup2 body w b other v'
-      → DoneOnce (plan (profile w) (image_of w.slots) w.stage (meant q body)) (asked_length q) w w' v' a b out other
-  handled_once setup setup2 w' v' a b out other asked asked2 h k =
-      done_once (plan (profile w) (image_of w.slots) w.stage (meant q body)) (asked_length q) w w' v' a b out other known
-      (goes_by setup w' a out asked h) (goes_by setup2 v' b other asked2 k)
+module _ (q : Asked) (body : List ℕ) (is : IsHosts q body) (w : Shown) (known : IsKnown w.slots.medium.fuse) (x : Option Objection) where
+  taken_once : (setup setup2 : List ℕ) (w' v' : Shown) (a b : Answer) (out other : List ℕ) → IsAsked q setup → IsAsked q setup2
+      → Takes x setup body w a out w' → Takes x setup2 body w b other v'
+      → DoneOnce (plan_on q body x w) (asked_length q) w w' v' a b out other
+  taken_once setup setup2 w' v' a b out other asked asked2 h k =
+      done_once (plan_on q body x w) (asked_length q) w w' v' a b out other known
+      (takes_by q setup body is asked x w w' a out h) (takes_by q setup2 body is asked2 x w v' b other k)
 
   -- A request whose answer comes back: one thing is heard of it.
   answered_once : (setup setup2 : List ℕ) (w' v' : Shown) (heard heard2 : Heard) (came came2 : Back) (out out2 : List ℕ)
-      → IsAsked q setup → IsAsked q setup2 → Reaches setup body Once w came out w' → Reaches setup2 body Once w came2 out2 v'
+      → IsAsked q setup → IsAsked q setup2 → Reaches x setup body Once w came out w' → Reaches x setup2 body Once w came2 out2 v'
       → HearsBack (Send q body) came out heard → HearsBack (Send q body) came2 out2 heard2 → ActedOnce w' v' heard heard2
   answered_once setup setup2 w' v' heard heard2 came came2 out out2 asked asked2 h k says says2 =
       let a = reached_once h in
       let b = reached_once k in
-      let x = handled_once setup setup2 w' v' a.0 b.0 out out2 asked asked2 a.2 b.2 in
-      let p = plan (profile w) (image_of w.slots) w.stage (meant q body) in
+      let y = taken_once setup setup2 w' v' a.0 b.0 out out2 asked asked2 a.2 b.2 in
       record {
-        device = x.device;
-        hears = heard_as (outcome (image_of w.slots) p x.luck).reply;
-        first = plan_heard q body (profile w) (image_of w.slots) w.stage x.luck a.0 out heard is x.first
+        device = y.device;
+        hears = heard_as (outcome (image_of w.slots) (plan_on q body x w) y.luck).reply;
+        first = plan_heard x q body (profile w) (image_of w.slots) w.stage y.luck a.0 out heard is y.first
             (subst (λ (c : Back). HearsBack (Send q body) c out heard) a.1 says);
-        second = plan_heard q body (profile w) (image_of w.slots) w.stage x.luck b.0 out2 heard2 is x.second
+        second = plan_heard x q body (profile w) (image_of w.slots) w.stage y.luck b.0 out2 heard2 is y.second
             (subst (λ (c : Back). HearsBack (Send q body) c out2 heard2) b.1 says2);
       }
 
-  sends_once : (fate : Fate) (setup setup2 : List ℕ) (w' v' : Shown) (heard heard2 : Heard) → HarmsAWrite (course_of fate).harming
-      → IsAsked q setup → IsAsked q setup2 → Sends q setup body (course_of fate) w w' heard
-      → Sends q setup2 body (course_of fate) w v' heard2
+  sends_as : (fate : Fate) (setup setup2 : List ℕ) (w' v' : Shown) (heard heard2 : Heard) → HarmsAWrite (course_of fate).harming
+      → IsAsked q setup → IsAsked q setup2 → Sends q setup body (record (course_of fate) { refusing = x }) w w' heard
+      → Sends q setup2 body (record (course_of fate) { refusing = x }) w v' heard2
       → ActedOnce w' v' heard heard2
-  sends_once CutIn setup setup2 w' v' heard heard2 harms asked asked2 h k =
+  sends_as CutIn setup setup2 w' v' heard heard2 harms asked asked2 h k =
       let a = reached_once h.reaches in
       let b = reached_once k.reaches in
-      let x = handled_once setup setup2 w' v' a.0 b.0 h.out k.out asked asked2 a.2 b.2 in
-      one_heard Restarted x.device h.hears k.hears
-  sends_once Fail setup setup2 w' v' heard heard2 harms asked asked2 h k =
+      let y = taken_once setup setup2 w' v' a.0 b.0 h.out k.out asked asked2 a.2 b.2 in
+      one_heard Restarted y.device h.hears k.hears
+  sends_as Fail setup setup2 w' v' heard heard2 harms asked asked2 h k =
       answered_once setup setup2 w' v' heard heard2 h.came k.came h.out k.out asked asked2 h.reaches k.reaches h.hears k.hears
-  sends_once Lie setup setup2 w' v' heard heard2 harms asked asked2 h k =
+  sends_as Lie setup setup2 w' v' heard heard2 harms asked asked2 h k =
       answered_once setup setup2 w' v' heard heard2 h.came k.came h.out k.out asked asked2 h.reaches k.reaches h.hears k.hears
-  sends_once fate setup setup2 w' v' heard heard2 harms asked asked2 h k = elim harms [ ]
+  sends_as (Refusing why fate) setup setup2 w' v' heard heard2 harms asked asked2 h k =
+      sends_as fate setup setup2 w' v' heard heard2 harms asked asked2 h k
+  sends_as fate setup setup2 w' v' heard heard2 harms asked asked2 h k = elim harms [ ]
 
 slips_once : (how : Handling) (w w' v' : Shown) → IsKnown w.slots.medium.fuse → Slips how w w' → Slips how w v' → SameDevice w' v'
 slips_once (Late ms) w w' v' known h k =
@@ -104,7 +100,7 @@ acts_once : (d : Deed) (fate : Fate) (w w' v' : Shown) (heard heard2 : Heard) �
     → HarmsAWrite (course_of fate).harming → IsKnown w.slots.medium.fuse → Acts d (course_of fate) w w' heard
     → Acts d (course_of fate) w v' heard2 → ActedOnce w' v' heard heard2
 acts_once (Send q body) fate w w' v' heard heard2 is harms known (setup, asked, h) (setup2, asked2, k) =
-    sends_once q body is w known fate setup setup2 w' v' heard heard2 harms asked asked2 h k
+    sends_as q body is w known (course_of fate).refusing fate setup setup2 w' v' heard heard2 harms asked asked2 h k
 acts_once (Wait ms) fate w w' v' heard heard2 is harms known (h, e) (k, f) =
     let time = time_plan (profile w) w.stage (waits_for (course_of fate).handling ms) in
     one_heard (heard_over (course_of fate).harming Waited) (done_once time 0 w w' v' answer.Ack answer.Ack [] [] known h k).device e f

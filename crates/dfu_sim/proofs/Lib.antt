@@ -40,4 +40,6 @@ pub mod CleanRuns
 pub mod CleanStops
 pub mod DoneOnce
 mod Harmed
+pub mod Closing
+pub mod Objecting
 pub mod Refusals

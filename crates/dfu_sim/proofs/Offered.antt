@@ -1,7 +1,7 @@
 -- What a session machine has was offered by the sessions that have begun.
 use Rattle.std.proofs.Common.{◌≡◌, ◌⊎◌, inl, inr, ℕ, Bool, List, [], ◌∷◌, ◌++◌, Option, sym, ◌∙◌, subst}
 use Rattle.dfu_host.specs.declared.report.Report.{Report}
-use Rattle.dfu_sim.specs.Session.{Machine, Loading, IsOneOf, Says, says_not, Kind, AnOffer, AnUpload, SaysInPlace, Step, offered, uploads, restarts, goes, stops, and_then, said}
+use Rattle.dfu_sim.specs.Session.{Machine, Loading, IsOneOf, Says, says_not, Kind, AnOffer, AnUpload, SaysInPlace, Step, offered, uploads, restarts, refuses, goes, stops, and_then, said}
 use Rattle.dfu_sim.specs.Simulation.{offers_after}
 use Rattle.dfu_sim.specs.Bench.{LinkState}
 use Rattle.dfu_sim.specs.Happening.{Happening, Offers, Uploads}
@@ -28,6 +28,7 @@ live_by : {tolerant : Bool} {t : ℕ} {kind : Kind} {m m' : Machine} {report : O
 live_by x (offered none) e = cc
 live_by x (uploads none) e = absurd cc
 live_by x (restarts s plain) e = says_live x s e
+live_by x (refuses d) e = sym (ends_live d) ∙ e
 live_by x (goes b d s) e = sym (ends_live d ∙ begins_live b) ∙ says_live x s e
 live_by x s e = e
 

@@ -1,13 +1,14 @@
 -- What a device answers fits the request, and is heard as it was meant.
-use Rattle.std.proofs.Common.{◌≡◌, ℕ, ◌==◌, Bool, true, false, List, [], ◌∷◌, length, take, sym, ap, ◌∙◌, subst, arith, inl, inr}
+use Rattle.std.proofs.Common.{◌≡◌, ℕ, ◌==◌, Bool, true, false, List, [], ◌∷◌, length, take, Option, Some, None, sym, ap, ◌∙◌, subst, arith, inl, inr}
 use Rattle.std.proofs.lemmas.Bool.Decides.{nat_tests}
-use Rattle.dfu_device.specs.Stage.{Reply, Ack, StatusOf, StateOf, Data, Stall, Profile, Stage}
-use Rattle.dfu_device.specs.Table.{plan}
+use Rattle.dfu_device.specs.declared.objection.Objection.{Objection}
+use Rattle.dfu_device.specs.Stage.{Request as Meant, Reply, Ack, StatusOf, StateOf, Data, Stall, Profile, Stage}
+use Rattle.dfu_device.specs.Table.{Plan, plan}
 use Rattle.dfu_device.specs.Outcome.{Luck, outcome}
 use Rattle.dfu_device.specs.Cases.{either_way}
 use Rattle.dfu_host.specs.Phases.{Task, Phase, Enter, Deed, Send, Heard, Part}
 use Rattle.dfu_host.specs.Table.{deed}
-use Rattle.dfu_sim.specs.Play.{heard_as, remembered}
+use Rattle.dfu_sim.specs.Play.{heard_as, remembered, closes, plan_by}
 use Rattle.dfu_wire.specs.declared.requests.Request.{Request as Asked}
 use Rattle.dfu_wire.specs.declared.requests.Request.TheVariants as request
 use Rattle.dfu_wire.specs.declared.setups.Setup.{Setup}
@@ -82,19 +83,26 @@ reply_heard most (request.Upload block len) body (Data bytes) a out heard i f sa
     ]
 reply_heard most q body reply a out heard i f says h = search
 
--- What a plan of the table answers.
-pub plan_heard : (q : Asked) (body : List ℕ) (c : Profile) (i : List ℕ) (st : Stage) (luck : Luck) (a : Answer) (out : List ℕ)
-    (heard : Heard) → IsHosts q body → let reply = (outcome i (plan c i st (meant q body)) luck).reply in
+-- The reply to a request fits it, whatever the program of the device refuses.
+reply_fits : (x : Option Objection) (c : Profile) (i : List ℕ) (st : Stage) (r : Meant) (luck : Luck)
+    → Fits c.transfer (outcome i (plan_by x c i st r) luck).reply r
+reply_fits None c i st r luck =
+    given (λ reply. Fits c.transfer reply r) i (plan c i st r) luck (row_fits c i st r (plan c i st r) (row_form c i st r))
+reply_fits (Some why) c i st r luck =
+    either_way (λ (p : Plan). Fits c.transfer (outcome i p luck).reply r) (closes c.least st r) _ _ tt
+    (given (λ reply. Fits c.transfer reply r) i (plan c i st r) luck (row_fits c i st r (plan c i st r) (row_form c i st r)))
+
+-- What a plan answers, of the table or of a program that refuses an image.
+pub plan_heard : (x : Option Objection) (q : Asked) (body : List ℕ) (c : Profile) (i : List ℕ) (st : Stage) (luck : Luck) (a : Answer)
+    (out : List ℕ) (heard : Heard) → IsHosts q body → let reply = (outcome i (plan_by x c i st (meant q body)) luck).reply in
     Answers (asked_length q) reply a out → HearsAnswer (Send q body) a out heard → HeardAs reply heard
-plan_heard q body c i st luck a out heard is says h =
-    let r = meant q body in
-    reply_heard c.transfer q body _ a out heard is
-    (given (λ reply. Fits c.transfer reply r) i (plan c i st r) luck (row_fits c i st r (plan c i st r) (row_form c i st r))) says h
+plan_heard x q body c i st luck a out heard is says h =
+    reply_heard c.transfer q body _ a out heard is (reply_fits x c i st (meant q body) luck) says h
 
 -- What a device answers is heard as what it meant.
 pub understood : Understood
 understood task phase q body c image stage luck a out heard e says h =
-    plan_heard q body c image stage luck a out heard (hosts task phase q body e) says h
+    plan_heard None q body c image stage luck a out heard (hosts task phase q body e) says h
 
 out_served : (p : Setup) (body : List ℕ) → p.kind ≡ 0x21 → length body ≡ p.length → (length body == body_length p) ≡ true
 out_served p body k e = let f : (p.kind == 0x21) ≡ true = grind (arith, nat_tests) in

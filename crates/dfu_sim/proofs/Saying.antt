@@ -2,7 +2,7 @@
 use Rattle.std.proofs.Common.{◌≡◌, ◌⊎◌, ℕ, Bool, List, [], ◌∷◌, Option, Some, refl, sym, ap, ◌∙◌, subst, inl, inr}
 use Rattle.dfu_host.specs.declared.report.Report.{Report}
 use Rattle.dfu_host.specs.declared.report.Report.TheVariants.{Installed, Uploaded, Verified}
-use Rattle.dfu_sim.specs.Session.{Machine, Loading, IsOneOf, Begins, begins_not, installs, Ends, ends_not, drops, Says, says_not, says_installed, says_verified, says_uploaded, says_other, Kind, AnOffer, SaysInPlace, SaysNoPromise, Step, passes_installed, restarts, goes, stops, and_then}
+use Rattle.dfu_sim.specs.Session.{Machine, Loading, IsOneOf, Begins, begins_not, installs, Ends, ends_not, drops, Says, says_not, says_installed, says_verified, says_uploaded, says_other, Kind, AnOffer, SaysInPlace, SaysNoPromise, Step, passes_installed, restarts, refuses, goes, stops, and_then}
 use Rattle.dfu_sim.specs.Simulation.{offers_after, OnlyOffered}
 
 -- Taking or installing leaves the live session as it is.
@@ -77,6 +77,7 @@ step_comes : {tolerant : Bool} {t : ℕ} {kind : Kind} {m m' : Machine} {report 
     → (m'.offers ≡ one_more kind m.offers) × Comes m.offers m m'
 step_comes (passes_installed some h) = (refl, inr h)
 step_comes (restarts s plain) = ((says_same s).0, inl (says_same s).1)
+step_comes (refuses d) = ((ends_same d).0, inl (ends_same d).1)
 step_comes {m = m} {m' = m'} (goes {m1 = m1} b d s) = (
   (says_same s).0 ∙ (ends_same d).0 ∙ (begins_comes b).0,
   comes_on m.offers m.cur m1.cur m'.cur (begins_comes b).1

@@ -12,7 +12,7 @@ use Rattle.dfu_sim.specs.Play.{kind_of, Answered, given, IsAllowed}
 use Rattle.dfu_sim.specs.declared.course.Harming.{Harming}
 use Rattle.dfu_sim.specs.declared.course.Harming.TheVariants.{NoWrite}
 use Rattle.dfu_sim.specs.Course.{course_of}
-use Rattle.dfu_sim.specs.Happening.{Harm, Happening, Offers, Uploads, Goes, Passes, Resets, Cuts}
+use Rattle.dfu_sim.specs.Happening.{Harm, Happening, Offers, Uploads, Goes, Passes, Resets, Cuts, Refuses}
 use Rattle.dfu_sim.specs.Bench.{Session, Nobody, Hosted, Bench, ShowsActive, LinkState, linked}
 use Rattle.dfu_sim.specs.LinkAgreement.{Agrees}
 use Rattle.dfu_sim.specs.Fact.{SessionFact}
@@ -69,6 +69,7 @@ sized_or_none w Nobody (Uploads limits) b' answer begins f z a x = inl begins
 sized_or_none w Nobody (Passes ms) b' answer begins f z a x = inr x.1
 sized_or_none w Nobody Resets b' answer begins f z a x = inr (ap (λ (b : Bench). b.session) x.0)
 sized_or_none w Nobody Cuts b' answer begins f z a x = inr (ap (λ (b : Bench). b.session) x.0)
+sized_or_none w Nobody (Refuses why) b' answer begins f z a x = inr (ap (λ (b : Bench). b.session) x.0)
 sized_or_none w Nobody event b' answer begins f z a x = elim a [ ]
 
 sized_by : (c : Profile) (w : Shown) (session : Session) → SessionFact c (situation w) session → (0 < c.transfer) ⊎ (session ≡ Nobody)

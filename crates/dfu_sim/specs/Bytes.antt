@@ -1,15 +1,16 @@
 -- A play with its bytes: requests and answers go as bytes, and the device stands on a medium.
-use Rattle.std.specs.Prelude.{◌≡◌, ℕ, Bool, true, false, IsTrue, List}
+use Rattle.std.specs.Prelude.{◌≡◌, ◌⊎◌, ℕ, Bool, true, false, IsTrue, List, Option, Some, None}
 use Rattle.dfu_wire.specs.declared.requests.Request.{Request as Asked}
 use Rattle.dfu_slots.specs.Medium.{Fuse}
 use Rattle.dfu_slots.specs.Medium.Fuse.{Whole, Armed, Lying}
 use Rattle.dfu_slots.specs.Seen.{fused, restarted}
 use Rattle.dfu_device.specs.declared.answer.Answer.{Answer}
 use Rattle.dfu_device.specs.declared.answer.Answer.TheVariants as answer
+use Rattle.dfu_device.specs.declared.objection.Objection.{Objection}
 use Rattle.dfu_device.specs.Stage.{InAppIdle}
-use Rattle.dfu_device.specs.Table.{reset_stage}
+use Rattle.dfu_device.specs.Table.{reset_stage, refuse_stage}
 use Rattle.dfu_device.specs.Shown.{Shown, profile, situation}
-use Rattle.dfu_device.specs.Rows.{Handles, Elapses}
+use Rattle.dfu_device.specs.Rows.{Handles, Elapses, ClosesDownload, RefusingClose, Row}
 use Rattle.dfu_host.specs.Phases.{ToFetch, Deed, Send, Wait, Reset, Done, Heard, Acked, NoRoom, Stalled, Nothing, Waited, WasReset, Restarted}
 use Rattle.dfu_host.specs.Table.{deed}
 use Rattle.dfu_host.specs.Host.{HostState, after, wants_memory}
@@ -21,7 +22,7 @@ use Rattle.dfu_sim.specs.declared.course.Handling.TheVariants.{Unseen, Once, Aga
 use Rattle.dfu_sim.specs.declared.course.Harming.{Harming}
 use Rattle.dfu_sim.specs.declared.course.Harming.TheVariants.{NoWrite, CutsPower, FailsWrite, LiesInWrite}
 use Rattle.dfu_sim.specs.Course.{Course, course_of}
-use Rattle.dfu_sim.specs.Happening.{Fate, Harm, Happening, Offers, Uploads, Aborts, Goes, Passes, Resets, Cuts}
+use Rattle.dfu_sim.specs.Happening.{Fate, Harm, Happening, Offers, Uploads, Aborts, Goes, Passes, Resets, Cuts, Refuses}
 use Rattle.dfu_sim.specs.Bench.{Bench, Session, Hosted}
 use Rattle.dfu_sim.specs.Opening.{goal_of, opened}
 use Rattle.dfu_sim.specs.Play.{heard_over, waits_for, Link, Answered, silent, took, told, aborted, IsAllowed}
@@ -45,6 +46,10 @@ powered_up w = record { config = w.config; slots = restarted w.slots Whole; stag
 abbrev pub bus_was_reset : Shown → Shown
 bus_was_reset w = record w { stage = reset_stage w.stage }
 
+-- A device whose program has refused the image that was closed, if one was.
+abbrev pub was_refused : Objection → Shown → Shown
+was_refused why w = record w { stage = refuse_stage why w.stage }
+
 -- What a host hears of an answer: bytes as its table reads them.
 abbrev pub HearsAnswer : Deed → Answer → List ℕ → Heard → Type 0
 HearsAnswer d answer.Ack out heard = heard ≡ Acked
@@ -57,14 +62,22 @@ HearsBack d (back.Answered a) out heard = HearsAnswer d a out heard
 HearsBack d back.Lost out heard = heard ≡ Nothing
 HearsBack d back.Restarted out heard = heard ≡ Restarted
 
--- A request goes to the device: which rows of the device it makes, and the last answer.
-pub data Reaches (setup body : List ℕ) : Handling → Shown → Back → List ℕ → Shown → Type 0 where
-  unseen : {w : Shown} {out : List ℕ} → Reaches setup body Unseen w back.Lost out w
-  once : {w w' : Shown} {a : Answer} {out : List ℕ} → Handles setup body w a out w' → Reaches setup body Once w (back.Answered a) out w'
-  again : {w mid w' : Shown} {a b : Answer} {out last : List ℕ} → Handles setup body w a out mid → Handles setup body mid b last w'
-      → Reaches setup body Again w (back.Answered b) last w'
-  late : {w mid w' : Shown} {a : Answer} {out : List ℕ} {ms : ℕ} → Handles setup body w a out mid → Elapses ms mid w'
-      → Reaches setup body (Late ms) w (back.Answered a) out w'
+-- A setup with its body comes to a device: if it closes a download whose image the program refuses, that is its row; else it is handled.
+abbrev pub Takes : Option Objection → (setup body : List ℕ) → Shown → Answer → List ℕ → Shown → Type 0
+Takes None setup body w a out w' = Handles setup body w a out w'
+Takes (Some why) setup body w a out w' =
+    Row w (RefusingClose setup why) a out w' ⊎ ((¬ ClosesDownload setup w) × Handles setup body w a out w')
+
+-- A request goes to the device: which rows of the device it makes, and the last answer. A second time it is handled: no request closes a
+-- download twice.
+pub data Reaches (refusing : Option Objection) (setup body : List ℕ) : Handling → Shown → Back → List ℕ → Shown → Type 0 where
+  unseen : {w : Shown} {out : List ℕ} → Reaches refusing setup body Unseen w back.Lost out w
+  once : {w w' : Shown} {a : Answer} {out : List ℕ} → Takes refusing setup body w a out w'
+      → Reaches refusing setup body Once w (back.Answered a) out w'
+  again : {w w' : Shown} {b : Answer} {last : List ℕ} (mid : Shown) (a : Answer) (out : List ℕ) → Takes refusing setup body w a out mid
+      → Handles setup body mid b last w' → Reaches refusing setup body Again w (back.Answered b) last w'
+  late : {w w' : Shown} {a : Answer} {out : List ℕ} {ms : ℕ} (mid : Shown) → Takes refusing setup body w a out mid → Elapses ms mid w'
+      → Reaches refusing setup body (Late ms) w (back.Answered a) out w'
 
 -- An answer that is lost does not come back.
 abbrev pub came_back : Bool → Back → Back
@@ -82,7 +95,7 @@ ended_back LiesInWrite b = b
 pub record Sends (q : Asked) (setup body : List ℕ) (course : Course) (w w' : Shown) (heard : Heard) : Type 0 where
   pub came : Back
   pub out : List ℕ
-  pub reaches : Reaches setup body course.handling w came out w'
+  pub reaches : Reaches course.refusing setup body course.handling w came out w'
   pub hears : HearsBack (Send q body) (ended_back course.harming (came_back course.back came)) out heard
 
 -- A wait, by its course.
@@ -154,6 +167,7 @@ Happens Resets b b' answer = let t = told b.session in
     (b' ≡ record { device = bus_was_reset b.device; session = t.session }) × (answer ≡ t.answer)
 Happens Cuts b b' answer = let t = told b.session in
     (b' ≡ record { device = powered_up b.device; session = t.session }) × (answer ≡ t.answer)
+Happens (Refuses why) b b' answer = (b' ≡ record { device = was_refused why b.device; session = b.session }) × (answer ≡ silent)
 
 -- A play with its bytes: an event that is not refused, on a bench whose medium is not armed.
 pub record BytePlay (b : Bench) (event : Happening) (b' : Bench) (answer : Answered) : Type 0 where

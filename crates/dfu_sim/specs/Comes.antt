@@ -6,7 +6,7 @@ use Rattle.dfu_host.specs.Counting.{GivesNothing}
 use Rattle.dfu_device.specs.Setting.{Setting}
 use Rattle.dfu_sim.specs.declared.fault.LinkFault.{LinkFault}
 use Rattle.dfu_sim.specs.Play.{Answered, given}
-use Rattle.dfu_sim.specs.Happening.{Happening, Offers, Uploads, Aborts, Goes, Passes, Resets, Cuts}
+use Rattle.dfu_sim.specs.Happening.{Happening, Offers, Uploads, Aborts, Goes, Passes, Resets, Cuts, Refuses}
 use Rattle.dfu_sim.specs.Bench.{Bench, LinkState, linked}
 use Rattle.dfu_sim.specs.Bytes.{BytePlay}
 use Rattle.dfu_sim.specs.Refusing.{IsOffered, CanGive, IsRefused}
@@ -20,6 +20,7 @@ Means s (Goes fate harm) e = e ≡ Goes fate harm
 Means s (Passes ms) e = e ≡ Passes ms
 Means s Resets e = e ≡ Resets
 Means s Cuts e = e ≡ Cuts
+Means s (Refuses why) e = e ≡ Refuses why
 
 -- What comes of an event: it is refused and nothing changes, or it is a play with its bytes.
 pub data Comes (b : Bench) (h : Happening) : Bench → Result Answered LinkFault → Type 0 where

@@ -5,9 +5,9 @@ use Rattle.dfu_suffix.specs.Grammar.{IsFile}
 use Rattle.dfu_device.specs.Stage.{InAppIdle}
 use Rattle.dfu_host.specs.declared.report.Report.{Report}
 use Rattle.dfu_sim.specs.declared.fault.LinkFault.{LinkFault}
-use Rattle.dfu_sim.specs.Session.{Machine, Loading, SaysInPlace, Kind, AnOffer, AnUpload, AnAbort, ATime, ARestart, AGo, Step}
+use Rattle.dfu_sim.specs.Session.{Machine, Loading, SaysInPlace, Kind, AnOffer, AnUpload, AnAbort, ATime, ARestart, ARefusal, AGo, Step}
 use Rattle.dfu_sim.specs.Agreement.{AgreesOn}
-use Rattle.dfu_sim.specs.Happening.{Happening, Offers, Uploads, Aborts, Goes, Passes, Resets, Cuts}
+use Rattle.dfu_sim.specs.Happening.{Happening, Offers, Uploads, Aborts, Goes, Passes, Resets, Cuts, Refuses}
 use Rattle.dfu_sim.specs.Bench.{LinkState}
 
 -- What happens is of this kind for the session machine: a file that is offered is an offer of its payload.
@@ -20,6 +20,7 @@ IsOfKind (Goes fate harm) kind = kind ≡ AGo
 IsOfKind (Passes ms) kind = kind ≡ ATime
 IsOfKind Resets kind = kind ≡ ARestart
 IsOfKind Cuts kind = kind ≡ ARestart
+IsOfKind (Refuses why) kind = kind ≡ ARefusal
 
 -- The session machine follows what happened: it makes one legal step with the report, and agrees again, so that its active image is that of
 -- the medium's bytes; and where Installed or Verified is reported, the device is in appIDLE and the payload of the session that was live is

@@ -1,5 +1,6 @@
 -- What happens to a link, as its caller gives it.
-use Rattle.std.specs.Prelude.{ℕ, List, [], take}
+use Rattle.std.specs.Prelude.{ℕ, List, [], take, Option, Some, None}
+use Rattle.dfu_device.specs.declared.objection.Objection.{Objection}
 use Rattle.dfu_host.specs.declared.limits.Limits.{Limits}
 use Rattle.dfu_sim.specs.declared.fate.Fate.{Fate as GivenFate}
 use Rattle.dfu_sim.specs.declared.fate.Fate.TheVariants as fate
@@ -9,7 +10,8 @@ use Rattle.dfu_sim.specs.declared.event.Event.{Event as GivenEvent}
 use Rattle.dfu_sim.specs.declared.event.Event.TheVariants as event
 
 -- What becomes of one action of the host: it passes; its request or its answer is lost; it is handled twice, and then perhaps its answer is
--- lost; time passes after it; the power is cut in it, at any write of the medium; or in it a write of the medium fails, or lies.
+-- lost; time passes after it; the power is cut in it, at any write of the medium; or in it a write of the medium fails, or lies. Or it goes
+-- as one of these, and the program of the device refuses the image that its request closes, if it closes one.
 pub data Fate : Type 0 where
   Pass : Fate
   LostOut : Fate
@@ -20,6 +22,7 @@ pub data Fate : Type 0 where
   CutIn : Fate
   Fail : Fate
   Lie : Fate
+  Refusing : (why : Objection) → (fate : Fate) → Fate
 
 -- How a write is harmed by a cut, a failure or a lie: after so many writes that work one leaves the front of these bytes.
 pub record Harm : Type 0 where
@@ -27,7 +30,7 @@ pub record Harm : Type 0 where
   pub tear : List ℕ
 
 -- An event, as its caller gives it; in a play the bytes of an offer are the payload. A file is offered to be installed, or to be installed
--- and verified.
+-- and verified. Between two actions the program of the device may refuse the image that was closed.
 pub data Happening : Type 0 where
   Offers : Aim → (file : List ℕ) → Limits → Happening
   Uploads : Limits → Happening
@@ -36,6 +39,7 @@ pub data Happening : Type 0 where
   Passes : (ms : ℕ) → Happening
   Resets : Happening
   Cuts : Happening
+  Refuses : (why : Objection) → Happening
 
 -- No write is harmed.
 abbrev pub unharmed : Harm
@@ -64,6 +68,11 @@ harm_in (fate.Fail writes tear) = harmed writes tear.now
 harm_in (fate.Lie writes tear) = harmed writes tear.now
 harm_in f = unharmed
 
+-- This fate, in which the program of the device refuses the image that is closed, or refuses none.
+abbrev pub refused_in : Option Objection → Fate → Fate
+refused_in None f = f
+refused_in (Some why) f = Refusing why f
+
 -- What happens, of the event that a caller names.
 abbrev pub happening : GivenEvent → Happening
 happening (event.Offer file limits) = Offers Install file.now limits
@@ -71,6 +80,8 @@ happening (event.OfferVerified file limits) = Offers Verify file.now limits
 happening (event.Upload limits) = Uploads limits
 happening event.Abort = Aborts
 happening (event.Go f) = Goes (fate_of f) (harm_in f)
+happening (event.GoRefused f why) = Goes (Refusing why (fate_of f)) (harm_in f)
 happening (event.Time ms) = Passes ms
 happening event.Reset = Resets
 happening event.Cut = Cuts
+happening (event.Refuse why) = Refuses why

@@ -9,7 +9,7 @@ use Rattle.dfu_device.specs.Stage.{Stage, InAppIdle, InManifestSync, InManifest}
 use Rattle.dfu_host.specs.Phases.{Goal, ToLoad, ToFetch, ToVerify, ToCompare}
 use Rattle.dfu_host.specs.declared.report.Report.{Report}
 use Rattle.dfu_sim.specs.declared.event.Event.{Event}
-use Rattle.dfu_sim.specs.declared.event.Event.TheVariants.{Offer, OfferVerified, Upload, Abort, Go, Time, Reset, Cut}
+use Rattle.dfu_sim.specs.declared.event.Event.TheVariants.{Offer, OfferVerified, Upload}
 use Rattle.dfu_sim.specs.declared.fault.LinkFault.{LinkFault}
 use Rattle.dfu_sim.specs.declared.running.Stop.{Stop}
 use Rattle.dfu_sim.specs.Session.{SaysInPlace, said}
@@ -25,11 +25,7 @@ abbrev pub begun : Event → List Begun → List Begun
 begun (Offer file limits) past = WithOffer file.now ∷ past
 begun (OfferVerified file limits) past = WithOffer file.now ∷ past
 begun (Upload limits) past = AsUpload ∷ past
-begun Abort past = past
-begun (Go fate) past = past
-begun (Time ms) past = past
-begun Reset past = past
-begun Cut past = past
+begun event past = past
 
 -- These bytes are the whole payload of the file, by the grammar of DFU files.
 abbrev pub IsPayload : List ℕ → (file : List ℕ) → Type 0

@@ -1,17 +1,18 @@
 -- The table of fates: what an event of the link does to a device and a host, over the device table and the host table.
-use Rattle.std.specs.Prelude.{◌≡◌, ℕ, ◌<◌, Bool, true, false, List, length, Option, Some, None}
+use Rattle.std.specs.Prelude.{◌≡◌, ℕ, ◌<◌, Bool, true, false, if◌then◌else◌, List, length, Option, Some, None}
 use Rattle.dfu_host.specs.declared.report.Report.{Report}
 use Rattle.dfu_host.specs.declared.report.Report.TheVariants.{Uploaded}
-use Rattle.dfu_device.specs.Stage.{Request, Reply, Ack, StatusOf, StateOf, Data, Stall, Profile}
-use Rattle.dfu_device.specs.Table.{Plan, plan}
+use Rattle.dfu_device.specs.declared.objection.Objection.{Objection}
+use Rattle.dfu_device.specs.Stage.{Request, Dnload, Reply, Ack, StatusOf, StateOf, Data, Stall, Profile, Stage}
+use Rattle.dfu_device.specs.Table.{Plan, error, is_empty, plan, objection_code, may_close, refuse_stage}
 use Rattle.dfu_device.specs.Outcome.{Situation, Luck, Works, outcome, handled, elapsed, was_reset, powered}
 use Rattle.dfu_device.specs.Rows.{meant}
 use Rattle.dfu_host.specs.Phases.{ToFetch, Phase, Fetch, Over, OverUploaded, Deed, Send, Wait, Reset, Done, Heard, Acked, Status, StateIs, Part, NoRoom, Stalled, Nothing, Waited, WasReset, Restarted}
 use Rattle.dfu_host.specs.Table.{deed}
 use Rattle.dfu_host.specs.Host.{HostState, after, aborted as host_aborted}
 use Rattle.dfu_sim.specs.Opening.{goal_of, opened}
-use Rattle.dfu_sim.specs.Session.{Kind, AnOffer, AnUpload, AnAbort, ATime, ARestart, AGo}
-use Rattle.dfu_sim.specs.Happening.{Fate, Happening, Offers, Uploads, Aborts, Goes, Passes, Resets, Cuts}
+use Rattle.dfu_sim.specs.Session.{Kind, AnOffer, AnUpload, AnAbort, ATime, ARestart, ARefusal, AGo}
+use Rattle.dfu_sim.specs.Happening.{Fate, Happening, Offers, Uploads, Aborts, Goes, Passes, Resets, Cuts, Refuses}
 use Rattle.dfu_sim.specs.declared.course.Handling.{Handling}
 use Rattle.dfu_sim.specs.declared.course.Handling.TheVariants.{Unseen, Once, Again, Late}
 use Rattle.dfu_sim.specs.declared.course.Harming.{Harming}
@@ -30,6 +31,7 @@ kind_of (Goes fate harm) = AGo
 kind_of (Passes ms) = ATime
 kind_of Resets = ARestart
 kind_of Cuts = ARestart
+kind_of (Refuses why) = ARefusal
 
 -- The link.
 
@@ -102,6 +104,16 @@ abbrev pub has_room : Phase → (room : Bool) → Bool
 has_room (Fetch k kept) room = room
 has_room phase room = true
 
+-- A request closes the download of this stage: a DNLOAD of no bytes, with as many bytes taken as an image has at least.
+abbrev pub closes : (least : ℕ) → Stage → Request → Bool
+closes least stage (Dnload number body) = if is_empty body then may_close least stage else false
+closes least stage request = false
+
+-- The plan of a request: that of the table; or, if it closes a download and the program refuses the image, an error with the code of that.
+abbrev pub plan_by : Option Objection → Profile → List ℕ → Stage → Request → Plan
+plan_by None c image stage r = plan c image stage r
+plan_by (Some why) c image stage r = if closes c.least stage r then error (objection_code why) else plan c image stage r
+
 -- The device after an action, and what the host hears of it; after a cut it hears of the restart alone.
 pub record Passed : Type 0 where
   pub device : Situation
@@ -157,9 +169,9 @@ abbrev pub sent_by : Profile → Situation → Request → Plan → Course → (
 sent_by c s r p course l k = let d = reached c s r p course.handling l k in
     ends_by course.harming (record { device = d.device; heard = heard_back course.back d.heard })
 
--- A request, by its course.
+-- A request, by its course. Of two the program refuses at most the first.
 abbrev pub sent : Profile → Situation → Request → Course → (first second : Luck) → Passed
-sent c s r course l k = sent_by c s r (plan c s.image s.stage r) course l k
+sent c s r course l k = sent_by c s r (plan_by course.refusing c s.image s.stage r) course l k
 
 -- A wait, by its course.
 abbrev pub waited : Profile → Situation → ℕ → Course → Luck → Passed
@@ -190,6 +202,10 @@ gone c w (Hosted h) fate l k room =
 abbrev pub restarted_to : Situation → Session → Played
 restarted_to s session = let t = told session in record { link = record { device = s; session = t.session }; answer = t.answer }
 
+-- The device once its program has refused the image that was closed, if one was.
+abbrev pub refused : Objection → Situation → Situation
+refused why s = record { image = s.image; stage = refuse_stage why s.stage }
+
 -- Each event. The harm that an action does to a write is in the luck of the medium. Between actions the medium is not armed, so that it
 -- works while time passes.
 abbrev pub played : Profile → Link → Happening → (first second : Luck) → (room : Bool) → Played
@@ -204,6 +220,7 @@ played c w (Goes fate harm) l k room = gone c w w.session fate l k room
 played c w (Passes ms) l k room = record { link = record { device = elapsed c w.device ms Works; session = w.session }; answer = silent }
 played c w Resets l k room = restarted_to (was_reset w.device) w.session
 played c w Cuts l k room = restarted_to (powered w.device) w.session
+played c w (Refuses why) l k room = record { link = record { device = refused why w.device; session = w.session }; answer = silent }
 
 -- An event that is not refused: a session begins only where none is live, and no offer is empty; an abort and an action need a live
 -- session.
@@ -215,6 +232,7 @@ IsAllowed Nobody (Goes fate harm) = ⊥
 IsAllowed Nobody (Passes ms) = Unit {0}
 IsAllowed Nobody Resets = Unit {0}
 IsAllowed Nobody Cuts = Unit {0}
+IsAllowed Nobody (Refuses why) = Unit {0}
 IsAllowed (Hosted h) (Offers aim payload limits) = ⊥
 IsAllowed (Hosted h) (Uploads limits) = ⊥
 IsAllowed (Hosted h) Aborts = Unit {0}
@@ -222,6 +240,7 @@ IsAllowed (Hosted h) (Goes fate harm) = Unit {0}
 IsAllowed (Hosted h) (Passes ms) = Unit {0}
 IsAllowed (Hosted h) Resets = Unit {0}
 IsAllowed (Hosted h) Cuts = Unit {0}
+IsAllowed (Hosted h) (Refuses why) = Unit {0}
 
 -- A play: an event that is not refused, at some luck of the medium and with or without memory for a part of an upload.
 pub record Play (c : Profile) (w : Link) (event : Happening) (w' : Link) (answer : Answered) : Type 0 where

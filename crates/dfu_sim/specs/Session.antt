@@ -71,14 +71,15 @@ pub data Says (tolerant : Bool) : Machine → Option Report → Machine → Type
 
 -- What an event may do.
 
--- The kinds of events: an offer of a payload, the begin of an upload, an abort, a time that passes, a restart of the device, and one action
--- of the host.
+-- The kinds of events: an offer of a payload, the begin of an upload, an abort, a time that passes, a restart of the device, a refusal by
+-- the device's program, and one action of the host.
 pub data Kind : Type 0 where
   AnOffer : (payload : List ℕ) → Kind
   AnUpload : Kind
   AnAbort : Kind
   ATime : Kind
   ARestart : Kind
+  ARefusal : Kind
   AGo : Kind
 
 -- A report that says that the payload is in place: Installed or Verified.
@@ -93,8 +94,8 @@ SaysNoPromise None = Unit {0}
 SaysNoPromise (Some report) = PromisesNothing report
 
 -- What an event of each kind does. An offer and an upload begin a session where none is live; an abort does nothing yet; time installs what
--- is pending, or nothing; a restart drops, then says at most a report that promises nothing; an action of the host takes or installs at
--- most once, then drops or not, then says at most one report.
+-- is pending, or nothing; a restart drops, then says at most a report that promises nothing; a refusal drops, or does nothing; an action of
+-- the host takes or installs at most once, then drops or not, then says at most one report.
 pub data Step (tolerant : Bool) (t : ℕ) : Kind → Machine → Option Report → Machine → Type 0 where
   offered : {m : Machine} {p : List ℕ} → m.live ≡ NoOne
       → Step tolerant t (AnOffer p) m None (record m { offers = p ∷ m.offers; live = Loading p })
@@ -105,6 +106,7 @@ pub data Step (tolerant : Bool) (t : ℕ) : Kind → Machine → Option Report �
       → Step tolerant t ATime m None (record m { cur = x; pending = None })
   restarts : {m m' : Machine} {report : Option Report} → Says tolerant (record m { pending = None }) report m' → SaysNoPromise report
       → Step tolerant t ARestart m report m'
+  refuses : {m m' : Machine} → Ends m m' → Step tolerant t ARefusal m None m'
   goes : {m m1 m2 m' : Machine} {report : Option Report} → Begins t m m1 → Ends m1 m2 → Says tolerant m2 report m'
       → Step tolerant t AGo m report m'
 

@@ -8,7 +8,7 @@ use Rattle.dfu_sim.specs.declared.fault.LinkFault.{LinkFault}
 use Rattle.dfu_sim.specs.declared.course.Harming.{Harming}
 use Rattle.dfu_sim.specs.declared.course.Harming.TheVariants.{NoWrite, CutsPower, FailsWrite, LiesInWrite}
 use Rattle.dfu_sim.specs.Course.{course_of}
-use Rattle.dfu_sim.specs.Happening.{Happening, Offers, Uploads, Aborts, Goes, Passes, Resets, Cuts}
+use Rattle.dfu_sim.specs.Happening.{Happening, Offers, Uploads, Aborts, Goes, Passes, Resets, Cuts, Refuses}
 use Rattle.dfu_sim.specs.Play.{Answered, played}
 use Rattle.dfu_sim.specs.Bench.{Bench}
 use Rattle.dfu_sim.specs.Bytes.{link_of}
@@ -35,6 +35,7 @@ IsHarmless Aborts = Unit {0}
 IsHarmless (Passes ms) = Unit {0}
 IsHarmless Resets = Unit {0}
 IsHarmless Cuts = Unit {0}
+IsHarmless (Refuses why) = Unit {0}
 
 -- The link is the one that the table of fates gives where the medium works, and so is the report.
 pub record IsAsPlayed (b : Bench) (event : Happening) (b' : Bench) (report : Option Report) : Type 0 where

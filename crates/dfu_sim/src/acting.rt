@@ -6,36 +6,60 @@ ghost use Rattle.dfu_host.specs.Host.{IsOn};
 ghost use Rattle.dfu_sim.specs.Play.{waits_for};
 ghost use Rattle.dfu_host.specs.Wire.{Hears};
 ghost use Rattle.dfu_host.specs.Phases.{Deed, Heard};
-ghost use Rattle.dfu_sim.specs.Bytes.{Reaches, Slips, bus_was_reset, came_back, ended_back, Waits, ResetsBus, HostActs};
+ghost use Rattle.dfu_sim.specs.Bytes.{Takes, Reaches, Slips, bus_was_reset, came_back, ended_back, Waits, ResetsBus, HostActs};
 ghost use Rattle.dfu_sim.specs.inside.Acting.{course_in, seen_over, HasHeard};
 
 use crate::back::Back;
 use crate::course::{Course, Handling, Harming};
 use arrayvec::ArrayVec;
-use dfu_device::{Answer, Device};
+use dfu_device::{Answer, Device, Objection};
 use dfu_host::{Action, Host, Seen};
 use dfu_slots::Medium;
 
+/// A request comes to a device, whose program refuses the image that it closes, if it closes one, or refuses none. The answer's bytes stand
+/// in `out`.
+fn take_in<M: Medium>(
+    device: &mut Device<M>,
+    setup: &[u8; 8],
+    body: &[u8],
+    refusing: Option<Objection>,
+    out: &mut ArrayVec<u8, 4096>,
+) -> Answer
+    ensures { Takes refusing setup.now body.now device.old result out.new.items device.new }
+{
+    match refusing {
+        None => device.handle(setup, body, out),
+        Some(objection) => {
+            if device.refuse_close(setup, objection) {
+                out.clear();
+                return Answer::Stall;
+            }
+            device.handle(setup, body, out)
+        }
+    }
+}
+
 /// The device handles a request, or doesn't see it. Where it does, its answer's bytes stand in
-/// `out`.
+/// `out`. The program refuses an image the first time alone: no request closes a download twice.
 fn reach<M: Medium>(
     device: &mut Device<M>,
     setup: &[u8; 8],
     body: &[u8],
     handling: Handling,
+    refusing: Option<Objection>,
     out: &mut ArrayVec<u8, 4096>,
 ) -> Back
-    ensures { Reaches setup.now body.now handling device.old result out.new.items device.new }
+    ensures { Reaches refusing setup.now body.now handling device.old result out.new.items device.new }
 {
     match handling {
         Handling::Unseen => Back::Lost,
-        Handling::Once => Back::Answered(device.handle(setup, body, out)),
+        Handling::Once => Back::Answered(take_in(device, setup, body, refusing, out)),
         Handling::Again => {
-            let _ = device.handle(setup, body, out);
+            let _ = take_in(device, setup, body, refusing, out);
             Back::Answered(device.handle(setup, body, out))
         }
         Handling::Late(ms) => {
-            let answer = device.handle(setup, body, out);
+            let answer = take_in(device, setup, body, refusing, out);
             device.elapse(ms);
             Back::Answered(answer)
         }
@@ -131,7 +155,7 @@ pub(crate) fn act<M: Medium>(
 {
     match host.next() {
         Action::Send { setup, body } => {
-            let came = reach(device, &setup, body, course.handling, out);
+            let came = reach(device, &setup, body, course.handling, course.refusing, out);
             let back = come_back(course, came);
             tell(host, back, out.as_slice());
             came

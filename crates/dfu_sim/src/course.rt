@@ -1,11 +1,12 @@
 //! What each fate comes to, as data: all else goes by it.
 
 ghost use Rattle.std.specs.Prelude.{◌≡◌};
-ghost use Rattle.dfu_sim.specs.Happening.{fate_of, harm_in};
+ghost use Rattle.dfu_sim.specs.Happening.{fate_of, harm_in, refused_in};
 ghost use Rattle.dfu_sim.specs.Course.{course_of};
 ghost use Rattle.dfu_sim.specs.inside.Acting.{course_in, harm_at};
 
 use crate::fate::Fate;
+use dfu_device::Objection;
 
 /// What the device makes of a request.
 #[derive(Clone, Copy)]
@@ -33,19 +34,20 @@ pub(crate) enum Harming {
     LiesInWrite,
 }
 
-/// The course of an action: what the device makes of a request, whether its answer comes back, and
-/// how a write is harmed.
+/// The course of an action: what the device makes of a request, why its program refuses the image that the request closes, if it does,
+/// whether the answer comes back, and how a write is harmed.
 #[derive(Clone, Copy)]
 pub(crate) struct Course<'t> {
     pub(crate) handling: Handling,
+    pub(crate) refusing: Option<Objection>,
     pub(crate) back: bool,
     pub(crate) harming: Harming,
     pub(crate) writes: u32,
     pub(crate) tear: &'t [u8],
 }
 
-/// The course of each fate.
-pub(crate) fn course_by(fate: Fate<'_>) -> Course<'_>
+/// The course of each fate, of which the program of the device refuses nothing.
+fn plain_course(fate: Fate<'_>) -> Course<'_>
     ensures course { course_in result ≡ course_of (fate_of fate.entry) }
     ensures harm { harm_at result ≡ harm_in fate.entry }
 {
@@ -62,9 +64,29 @@ pub(crate) fn course_by(fate: Fate<'_>) -> Course<'_>
     };
     Course {
         handling,
+        refusing: None,
         back,
         harming,
         writes,
         tear,
+    }
+}
+
+/// The course of a fate, where the program of the device refuses the image that the action closes, or refuses none.
+pub(crate) fn course_by(fate: Fate<'_>, refusing: Option<Objection>) -> Course<'_>
+    ensures course { course_in result ≡ course_of (refused_in refusing (fate_of fate.entry)) }
+    ensures harm { harm_at result ≡ harm_in fate.entry }
+{
+    let course = plain_course(fate);
+    match refusing {
+        None => course,
+        Some(objection) => Course {
+            handling: course.handling,
+            refusing: Some(objection),
+            back: course.back,
+            harming: course.harming,
+            writes: course.writes,
+            tear: course.tear,
+        },
     }
 }

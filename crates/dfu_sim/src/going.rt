@@ -5,7 +5,7 @@ ghost use Rattle.dfu_host.specs.Host.{IsOn};
 ghost use Rattle.dfu_slots.specs.Medium.Fuse.{Whole};
 ghost use Rattle.dfu_sim.specs.Bytes.{fuse_of, armed, left_by, HostActsArmed};
 ghost use Rattle.dfu_sim.specs.Course.{course_of};
-ghost use Rattle.dfu_sim.specs.Happening.{fate_of, harm_in};
+ghost use Rattle.dfu_sim.specs.Happening.{fate_of, harm_in, refused_in};
 ghost use Rattle.dfu_sim.specs.inside.Acting.{harm_at};
 
 use crate::acting::act;
@@ -13,7 +13,7 @@ use crate::answered::Answered;
 use crate::course::{Course, Harming, course_by};
 use crate::fate::Fate;
 use crate::power::power_cycle;
-use dfu_device::Device;
+use dfu_device::{Device, Objection};
 use dfu_host::Host;
 use dfu_slots::Faulty;
 
@@ -41,18 +41,21 @@ fn settle<M: Faulty>(device: &mut Device<M>, harming: Harming)
     }
 }
 
-/// Carries out the next action of a host that is not done, by its fate, and keeps what the device answers.
+/// Carries out the next action of a host that is not done, by its fate, and keeps what the device answers. The device's program refuses the
+/// image that the action closes, or refuses none.
 pub(crate) fn carry_out<M: Faulty>(
     device: &mut Device<M>,
     host: &mut Host<'_>,
     fate: Fate<'_>,
+    refusing: Option<Objection>,
     out: &mut Answered,
 )
     requires on { IsOn host.old.phase }
     requires unarmed { device.old.slots.medium.fuse ≡ Whole }
-    ensures { HostActsArmed host.old (course_of (fate_of fate.entry)) (harm_in fate.entry) device.old device.new host.new }
+    ensures { HostActsArmed host.old (course_of (refused_in refusing (fate_of fate.entry))) (harm_in fate.entry) device.old device.new
+        host.new }
 {
-    let course = course_by(fate);
+    let course = course_by(fate, refusing);
     arm(device, course);
     out.came = act(device, host, course, &mut out.bytes);
     settle(device, course.harming);

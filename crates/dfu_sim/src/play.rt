@@ -4,7 +4,7 @@ ghost use Rattle.std.specs.Prelude.{◌≡◌};
 ghost use Rattle.dfu_sim.specs.Course.{course_of};
 ghost use Rattle.dfu_sim.specs.Play.{given, told, aborted};
 ghost use Rattle.dfu_sim.specs.Standing.{session_of, given_by, bench_of, link_state, IsOnIn, SendsBytes, IsCountedIn, IsSteady};
-ghost use Rattle.dfu_sim.specs.Happening.{Offers, Goes, fate_of, harm_in, happening};
+ghost use Rattle.dfu_sim.specs.Happening.{Offers, Goes, fate_of, harm_in, refused_in, happening};
 ghost use Rattle.dfu_sim.specs.Comes.{HasCome, HasComeAlone};
 ghost use Rattle.dfu_sim.specs.inside.Acting.{report_of, ended, abort_told};
 
@@ -17,7 +17,7 @@ use crate::going::carry_out;
 use crate::offering::begin;
 use crate::power::power_cycle;
 use crate::uploading::upload;
-use dfu_device::Device;
+use dfu_device::{Device, Objection};
 use dfu_host::{Action, Host, Limits, Report, Seen};
 use dfu_slots::{Faulty, Medium};
 use std::alloc::Global;
@@ -103,21 +103,22 @@ fn abort(host: &mut Option<Host<'_>>) -> Result<Option<Report>, LinkFault>
     }
 }
 
-/// The host takes its next action. `out` is room for an answer.
+/// The host takes its next action, and the device's program refuses the image that it closes, or refuses none. `out` is room for an answer.
 fn go<'f, M: Faulty>(
     device: &mut Device<M>,
     host: &mut Option<Host<'f>>,
     gave: &mut Option<Host<'f>>,
     fate: Fate<'_>,
+    refusing: Option<Objection>,
     out: &mut Answered,
 ) -> Result<Option<Report>, LinkFault>
     requires { IsSteady (bench_of device.old host.old) }
-    ensures { HasCome (link_state device.old host.old gave.old) (Goes (fate_of fate.entry) (harm_in fate.entry))
+    ensures { HasCome (link_state device.old host.old gave.old) (Goes (refused_in refusing (fate_of fate.entry)) (harm_in fate.entry))
         (link_state device.new host.new gave.new) result }
 {
     match host {
         None => return Err(LinkFault::NoHost),
-        Some(live) => carry_out(device, live, fate, out),
+        Some(live) => carry_out(device, live, fate, refusing, out),
     }
     Ok(end(host, gave))
 }
@@ -139,7 +140,10 @@ pub(crate) fn come<'f, M: Faulty>(
         Event::OfferVerified { file, limits } => offer(device, host, Aim::Verify, file, limits),
         Event::Upload { limits } => upload(alloc, device, host, limits),
         Event::Abort => abort(host),
-        Event::Go(fate) => go(device, host, gave, fate, out),
+        Event::Go(fate) => go(device, host, gave, fate, None, out),
+        Event::GoRefused { fate, objection } => {
+            go(device, host, gave, fate, Some(objection), out)
+        }
         Event::Time(ms) => {
             device.elapse(ms);
             Ok(None)
@@ -151,6 +155,10 @@ pub(crate) fn come<'f, M: Faulty>(
         Event::Cut => {
             power_cycle(device);
             Ok(restart(host, gave))
+        }
+        Event::Refuse(objection) => {
+            device.refuse(objection);
+            Ok(None)
         }
     }
 }

@@ -87,7 +87,7 @@ impl<'f, M: Faulty> World<'f, M> {
     /// A refused event changes nothing. The faults, in the order in which they are looked for:
     ///
     /// 1. `HostBusy`: an offer or an upload while a session is live.
-    /// 2. `NoHost`: an abort or an action, whatever its fate, while no session is live.
+    /// 2. `NoHost`: an abort or an action, whatever its fate and whether the program refuses an image in it, while no session is live.
     /// 3. `BadOffer`: of an offer, the fault of `dfu_suffix::read`, else that of `Host::download` or
     ///    `Host::download_verified`; of an upload, that of `Host::upload`.
     pub fn step(&mut self, event: Event<'f, '_>) -> Result<Option<Report>, LinkFault>

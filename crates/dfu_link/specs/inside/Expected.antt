@@ -23,13 +23,13 @@ abbrev pub expectation_of : Option ExpectationHeld → Option Expectation
 expectation_of None = None
 expectation_of (Some e) = Some (record { number = e.number; text = e.text.items })
 
--- The bytes that are given, these limits, what is expected, and this link.
-abbrev pub point_at : (given : Option (List ℕ)) → Limits → Option Expectation → Bench → Point
-point_at given limits next at = record { given = given; limits = limits; next = next; at = at }
+-- The bytes that are given, those of a check, these limits, what is expected, and this link.
+abbrev pub point_at : (given : Option (List ℕ)) → (check : List ℕ) → Limits → Option Expectation → Bench → Point
+point_at given check limits next at = record { given = given; check = check; limits = limits; next = next; at = at }
 
 -- What is held for the lines to come, and this link.
 abbrev pub at_point : Ahead → Bench → Point
-at_point a at = point_at (given_bytes a.given) a.limits (expectation_of a.next) at
+at_point a at = point_at (given_bytes a.given) a.check.now a.limits (expectation_of a.next) at
 
 -- A text is out, which is as expected, and what is expected after it.
 pub record Prints (e : Option Expectation) (old : Option (List ℕ)) (text : List ℕ) (e' : Option Expectation) (new : Option (List ℕ))

@@ -23,17 +23,17 @@ use Rattle.dfu_link.specs.declared.scripting.fault.ScriptFault.{ScriptFault}
 use Rattle.dfu_link.specs.declared.scripting.fault.ScriptFault.TheVariants.{NoMemory}
 
 -- Events were played, and what they print is out, as expected.
-pub record HasPlayed (b : Bench) (e : Option Expectation) (events : List Happening) (old : Option (List ℕ)) (b' : Bench) (e' : Option Expectation)
+pub record HasPlayed (check : List ℕ) (b : Bench) (e : Option Expectation) (events : List Happening) (old : Option (List ℕ)) (b' : Bench) (e' : Option Expectation)
     (new : Option (List ℕ)) : Type 0 where
   pub out : List ℕ
-  pub plays : AllCome b events out b'
+  pub plays : AllCome check b events out b'
   pub prints : Prints e old out e' new
 
 -- How playing events went: with Ok they were played, and with a fault it stopped among them.
-pub record Plays (b : Bench) (e : Option Expectation) (events : List Happening) (old : Option (List ℕ)) (b' : Bench)
+pub record Plays (check : List ℕ) (b : Bench) (e : Option Expectation) (events : List Happening) (old : Option (List ℕ)) (b' : Bench)
     (e' : Option Expectation) (new : Option (List ℕ)) (r : Result Unit ScriptFault) : Type 0 where
-  pub ok : OnOk r (HasPlayed b e events old b' e' new)
-  pub fault : IfErr r (λ f. HasBroken b e events old new f)
+  pub ok : OnOk r (HasPlayed check b e events old b' e' new)
+  pub fault : IfErr r (λ f. HasBroken check b e events old new f)
 
 -- What a line says was done, and what it prints is out.
 pub record HasActed (p : Point) (said : Said) (old : Option (List ℕ)) (p' : Point) (new : Option (List ℕ)) : Type 0 where
@@ -52,9 +52,9 @@ pub record Acts (p : Point) (said : Said) (old : Option (List ℕ)) (p' : Point)
   pub fault : IfErr r (λ f. HasStopped p said old new f)
 
 -- The host passed so often that nothing was printed of it.
-pub record IsSilent (b : Bench) (e : Option Expectation) (old : Option (List ℕ)) (b' : Bench) (e' : Option Expectation) (new : Option (List ℕ)) : Type 0 where
+pub record IsSilent (check : List ℕ) (b : Bench) (e : Option Expectation) (old : Option (List ℕ)) (b' : Bench) (e' : Option Expectation) (new : Option (List ℕ)) : Type 0 where
   pub times : ℕ
-  pub plays : AllCome b (replicate times (Goes Pass unharmed)) [] b'
+  pub plays : AllCome check b (replicate times (Goes Pass unharmed)) [] b'
   pub prints : Prints e old [] e' new
 
 -- The file of an offer; other lines have none.

@@ -13,6 +13,11 @@ abbrev pub image_bytes : Option (Vec ℕ Global) → List ℕ
 image_bytes None = 0 ∷ []
 image_bytes (Some image) = image.items
 
+-- The bytes with which an image begins that the program takes; where none are set it takes any.
+abbrev pub check_bytes : Option (Vec ℕ Global) → List ℕ
+check_bytes None = []
+check_bytes (Some front) = front.items
+
 -- A medium is written in this unit and erased in these sectors.
 abbrev pub grain_of : WriteUnit → Sector → Grain
 grain_of unit sector = record { unit = unit; sector = sector.bytes }
@@ -24,6 +29,7 @@ settings_of s = record {
   grain = grain_of s.unit s.sector;
   capacity = s.room.bytes;
   image = image_bytes s.image;
+  check = check_bytes s.check;
   limits = s.limits;
   given = given_bytes s.given;
 }

@@ -18,11 +18,13 @@ pub(crate) struct Expectation {
     pub alloc: Global,
 }
 
-/// What holds for the lines to come: the bytes that FILE stands for, if they are given, the limits of
-/// later sessions, and which line is expected.
+/// What holds for the lines to come: the bytes that FILE stands for, if they are given, those with
+/// which an image begins that the program takes, the limits of later sessions, and which line is
+/// expected.
 #[derive(Drop)]
 pub(crate) struct Ahead<'g> {
     pub given: Option<&'g [u8]>,
+    pub check: &'g [u8],
     pub limits: Limits,
     pub next: Option<Expectation>,
 }

@@ -23,6 +23,8 @@ pub(crate) enum Keyword {
     Cut,
     Show,
     Expect,
+    Check,
+    Refuse,
 }
 
 /// The word after `go`.
@@ -78,6 +80,10 @@ pub(crate) fn read_keyword(word: &[u8]) -> Option<Keyword>
         Some(Keyword::Show)
     } else if word == b"expect".as_slice() {
         Some(Keyword::Expect)
+    } else if word == b"check".as_slice() {
+        Some(Keyword::Check)
+    } else if word == b"refuse".as_slice() {
+        Some(Keyword::Refuse)
     } else {
         None
     }

@@ -3,6 +3,7 @@
 ghost use Rattle.std.specs.Prelude.{◌≡◌, ◌%◌, ◌≤◌};
 
 use crate::scripting::hex_text::HexText;
+use dfu_device::Objection;
 use dfu_sim::{Aim, Fate};
 use dfu_slots::Unit;
 use dfu_wire::{Functional, Ids};
@@ -43,6 +44,8 @@ pub(crate) enum ConfigLine<'l> {
     Capacity(Room),
     /// The image that the device has at first.
     Image(HexText<'l>),
+    /// The bytes with which an image begins that the device's program takes.
+    Check(HexText<'l>),
 }
 
 /// What harms a write in an action of the host: the power is cut in it, or the write fails or lies.
@@ -94,6 +97,8 @@ pub(crate) enum EventLine<'l, 'g> {
     Reset,
     /// The power is cut.
     Cut,
+    /// The device's program refuses the image that was closed.
+    Refuse(Objection),
 }
 
 /// What a line says.

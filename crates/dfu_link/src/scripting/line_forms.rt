@@ -4,7 +4,7 @@ ghost use Rattle.std.specs.Prelude.{◌≡◌, None};
 ghost use Rattle.dfu_link.specs.Words.{Reads, words_of, ends};
 ghost use Rattle.dfu_sim.specs.Happening.{fate_of, harm_in};
 ghost use Rattle.dfu_link.specs.Said.{given_bytes, said_of, Go, Does, harm_fate};
-ghost use Rattle.dfu_link.specs.Lines.{small_at, ids_of, device_of, unit_named, unit_of, erase_of, capacity_of, image_of, limits_of, offer_of, time_of, pass_of, slip_of, harmed_of, until_of, by_fate, go_of, expect_of};
+ghost use Rattle.dfu_link.specs.Lines.{small_at, ids_of, device_of, unit_named, unit_of, erase_of, capacity_of, image_of, check_of, limits_of, offer_of, time_of, objection_named, refuse_of, pass_of, slip_of, harmed_of, until_of, by_fate, go_of, expect_of};
 
 use crate::scripting::fields::{
     attributes_at, ended, file_at, hex_at, identifier_at, number_at, short_at, small_at,
@@ -12,6 +12,7 @@ use crate::scripting::fields::{
 use crate::scripting::keywords::{FateKeyword, read_fate};
 use crate::scripting::line::{ConfigLine, EventLine, HarmKind, Line, Room, Sector};
 use crate::scripting::words::{text_behind, word_at};
+use dfu_device::Objection;
 use dfu_sim::{Aim, Fate};
 use dfu_slots::Unit;
 use dfu_wire::{Functional, Ids};
@@ -109,6 +110,15 @@ pub(crate) fn image(line: &[u8]) -> Option<Line<'_, 'static>>
     ended(Line::Set(ConfigLine::Image(image)), rest)
 }
 
+/// `check HEX`.
+#[tactic(auto, unfolding(crate::specs::Lines::check_of))]
+pub(crate) fn check(line: &[u8]) -> Option<Line<'_, 'static>>
+    ensures { Reads said_of result (check_of (words_of line.now)) }
+{
+    let (front, rest) = hex_at(line)?;
+    ended(Line::Set(ConfigLine::Check(front)), rest)
+}
+
 /// `limits A R`.
 #[tactic(auto, unfolding(crate::specs::Lines::limits_of))]
 pub(crate) fn limits(line: &[u8]) -> Option<Line<'_, 'static>>
@@ -139,6 +149,29 @@ pub(crate) fn time(line: &[u8]) -> Option<Line<'_, 'static>>
 {
     let (ms, rest) = number_at(line)?;
     ended(Line::Do(EventLine::Time(ms)), rest)
+}
+
+/// Why a program refuses an image, by the word of its status code.
+fn objection_named(word: &[u8]) -> Option<Objection>
+    ensures { result ≡ objection_named word.now }
+{
+    if word == b"errTARGET".as_slice() {
+        Some(Objection::Target)
+    } else if word == b"errFILE".as_slice() {
+        Some(Objection::File)
+    } else {
+        None
+    }
+}
+
+/// `refuse CODE`.
+#[tactic(auto, unfolding(crate::specs::Lines::refuse_of))]
+pub(crate) fn refuse(line: &[u8]) -> Option<Line<'_, 'static>>
+    ensures { Reads said_of result (refuse_of (words_of line.now)) }
+{
+    let (word, rest) = word_at(line)?;
+    let objection = objection_named(word)?;
+    ended(Line::Do(EventLine::Refuse(objection)), rest)
 }
 
 /// `go pass N`.

@@ -4,12 +4,14 @@ ghost use Rattle.std.specs.Prelude.{◌≡◌, ℕ, List, Option, [], ◌∷◌,
 ghost use Rattle.dfu_sim.specs.Bench.{ShowsActive};
 ghost use Rattle.dfu_sim.specs.Comes.{HasCome};
 ghost use Rattle.dfu_sim.specs.Happening.{Offers, Goes, harmed, fate_of, harm_in, happening};
+ghost use Rattle.dfu_link.specs.ScriptRun.{checked};
 ghost use Rattle.dfu_sim.specs.Refusing.{IsLive};
 ghost use Rattle.dfu_link.specs.Said.{GoesOn, harm_fate, said_by, tear_bytes};
 ghost use Rattle.dfu_link.specs.inside.Expected.{expectation_of, point_at, at_point};
 ghost use Rattle.dfu_link.specs.inside.Moving.{Plays, Acts, file_bytes};
 
 use crate::beside::Played;
+use crate::scripting::checking::checked;
 use crate::scripting::expectation::{Ahead, Expectation};
 use crate::scripting::fault::ScriptFault;
 use crate::scripting::line::{EventLine, HarmKind};
@@ -28,7 +30,8 @@ fn play<'f, M: Faulty, W: Write>(
     next: &mut Option<Expectation>,
     writer: &mut W,
 ) -> Result<(), ScriptFault>
-    ensures { Plays world.old.bench (expectation_of next.old) (happening event.entry ∷ []) (W.contents writer.old) world.new.bench
+    ensures { (check : List ℕ) → checked check world.old.bench (happening event.entry) ≡ happening event.entry →
+        Plays check world.old.bench (expectation_of next.old) (happening event.entry ∷ []) (W.contents writer.old) world.new.bench
         (expectation_of next.new) (W.contents writer.new) result }
 {
     let answer = world.step(event);
@@ -36,15 +39,16 @@ fn play<'f, M: Faulty, W: Write>(
     say_next(writer, next, answer, world.uploaded())
 }
 
-/// Lets the host take an action, on the board beside the device too, and shows the link to who watches before and after it. What is printed
-/// of it is still to be written.
+/// Lets the host take an action, on the board beside the device too, and shows the link to who watches before and after it. The device's
+/// program refuses an image that does not begin with these bytes, if the action closes it. What is printed of it is still to be written.
 fn take<'f, T: Watch<M>, M: Faulty>(
     world: &mut World<'f, M>,
     fate: Fate<'_>,
+    check: &[u8],
     beside: &mut Played<'f, '_>,
     watch: &mut T,
 ) -> Result<Option<Report>, LinkFault>
-    ensures play { HasCome world.old (Goes (fate_of fate.entry) (harm_in fate.entry)) world.new result }
+    ensures play { HasCome world.old (checked check.now world.old.bench (Goes (fate_of fate.entry) (harm_in fate.entry))) world.new result }
     ensures active { ShowsActive world.new.bench }
 {
     // Once the board differs the run is over, and what it still does isn't told.
@@ -53,11 +57,12 @@ fn take<'f, T: Watch<M>, M: Faulty>(
     } else {
         watch.look(world)
     };
-    let answer = world.step(Event::Go(fate));
+    let event = checked::<M>(world.device(), check, fate);
+    let answer = world.step(event);
     if let Some(look) = look {
         watch.tell(&look, fate, world);
     }
-    beside.meet::<M>(Event::Go(fate), answer, world);
+    beside.meet::<M>(event, answer, world);
     answer
 }
 
@@ -66,16 +71,17 @@ fn play_actions<'f, T: Watch<M>, M: Faulty, W: Write>(
     world: &mut World<'f, M>,
     fate: Fate<'_>,
     times: u32,
+    check: &[u8],
     beside: &mut Played<'f, '_>,
     next: &mut Option<Expectation>,
     writer: &mut W,
     watch: &mut T,
 ) -> Result<(), ScriptFault>
-    ensures { Plays world.old.bench (expectation_of next.old) (replicate times (Goes (fate_of fate.entry) (harm_in fate.entry)))
+    ensures { Plays check.now world.old.bench (expectation_of next.old) (replicate times (Goes (fate_of fate.entry) (harm_in fate.entry)))
         (W.contents writer.old) world.new.bench (expectation_of next.new) (W.contents writer.new) result }
 {
     for turn in 0..times {
-        let answer = take::<T, M>(world, fate, beside, watch);
+        let answer = take::<T, M>(world, fate, check, beside, watch);
         say_next(writer, next, answer, world.uploaded())?;
     }
     Ok(())
@@ -85,16 +91,18 @@ fn play_actions<'f, T: Watch<M>, M: Faulty, W: Write>(
 /// refusal where none is live.
 fn pass_on<'f, T: Watch<M>, M: Faulty, W: Write>(
     world: &mut World<'f, M>,
+    check: &[u8],
     beside: &mut Played<'f, '_>,
     next: &mut Option<Expectation>,
     writer: &mut W,
     watch: &mut T,
 ) -> Result<(), ScriptFault>
-    ensures { (given : Option (List ℕ)) (limits : Limits) → Acts (point_at given limits (expectation_of next.old) world.old.bench) GoesOn
-        (W.contents writer.old) (point_at given limits (expectation_of next.new) world.new.bench) (W.contents writer.new) result }
+    ensures { (given : Option (List ℕ)) (limits : Limits) →
+        Acts (point_at given check.now limits (expectation_of next.old) world.old.bench) GoesOn (W.contents writer.old)
+        (point_at given check.now limits (expectation_of next.new) world.new.bench) (W.contents writer.new) result }
 {
     'passes: loop {
-        let answer = take::<T, M>(world, Fate::Pass, beside, watch);
+        let answer = take::<T, M>(world, Fate::Pass, check, beside, watch);
         say_next(writer, next, answer, world.uploaded())?;
         if !is_silent(answer) {
             return Ok(());
@@ -141,6 +149,7 @@ pub(crate) fn play_events<'f, T: Watch<M>, M: Faulty, W: Write>(
         (W.contents writer.new) result }
 {
     let limits = ahead.limits;
+    let check = ahead.check;
     match events {
         EventLine::Offer { aim, .. } => {
             play::<M, W>(
@@ -160,19 +169,25 @@ pub(crate) fn play_events<'f, T: Watch<M>, M: Faulty, W: Write>(
         ),
         EventLine::Abort => play::<M, W>(world, Event::Abort, beside, &mut ahead.next, writer),
         EventLine::Go { fate, times } => {
-            play_actions::<T, M, W>(world, fate, times, beside, &mut ahead.next, writer, watch)
+            let next = &mut ahead.next;
+            play_actions::<T, M, W>(world, fate, times, check, beside, next, writer, watch)
         }
         EventLine::GoHarmed { harm, writes, .. } => {
             let fate = harmed(harm, writes, torn);
-            play_actions::<T, M, W>(world, fate, 1, beside, &mut ahead.next, writer, watch)
+            let next = &mut ahead.next;
+            play_actions::<T, M, W>(world, fate, 1, check, beside, next, writer, watch)
         }
-        EventLine::GoOn => pass_on::<T, M, W>(world, beside, &mut ahead.next, writer, watch),
+        EventLine::GoOn => pass_on::<T, M, W>(world, check, beside, &mut ahead.next, writer, watch),
         EventLine::Time(ms) => {
             watch.pass(ms);
             play::<M, W>(world, Event::Time(ms), beside, &mut ahead.next, writer)
         }
         EventLine::Reset => play::<M, W>(world, Event::Reset, beside, &mut ahead.next, writer),
         EventLine::Cut => play::<M, W>(world, Event::Cut, beside, &mut ahead.next, writer),
+        EventLine::Refuse(objection) => {
+            let event = Event::Refuse(objection);
+            play::<M, W>(world, event, beside, &mut ahead.next, writer)
+        }
     }
 }
 

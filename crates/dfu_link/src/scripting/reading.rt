@@ -9,7 +9,7 @@ use crate::scripting::fields::ended;
 use crate::scripting::keywords::{Keyword, read_keyword};
 use crate::scripting::line::{EventLine, Line};
 use crate::scripting::line_forms::{
-    capacity, device, erase, expect, go, ids, image, limits, offer, time, unit,
+    capacity, check, device, erase, expect, go, ids, image, limits, offer, refuse, time, unit,
 };
 use crate::scripting::words::word_at;
 use dfu_sim::Aim;
@@ -43,6 +43,8 @@ fn by_keyword<'l, 'g>(
         Keyword::Cut => ended(Line::Do(EventLine::Cut), rest),
         Keyword::Show => ended(Line::Show, rest),
         Keyword::Expect => expect(line),
+        Keyword::Check => check(rest),
+        Keyword::Refuse => refuse(rest),
     }
 }
 

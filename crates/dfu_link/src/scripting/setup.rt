@@ -3,7 +3,7 @@
 ghost use Rattle.std.specs.Prelude.{◌≡◌, OnOk, IfErr};
 ghost use Rattle.dfu_link.specs.Said.{config_line_of, given_bytes};
 ghost use Rattle.dfu_link.specs.ScriptRun.{set, beginning};
-ghost use Rattle.dfu_link.specs.inside.SetupView.{settings_of};
+ghost use Rattle.dfu_link.specs.inside.SetupView.{settings_of, check_bytes};
 
 use crate::scripting::fault::ScriptFault;
 use crate::scripting::line::{ConfigLine, Room, Sector};
@@ -15,7 +15,8 @@ use std::alloc::Global;
 
 /// What is set: what `Config::new` takes, the unit in which the medium is written and the sectors in
 /// which it is erased, how many bytes an image may have, the image at first (the byte 00 where there
-/// is none), and the limits of sessions. The bytes that FILE stands for are given.
+/// is none), the bytes with which an image begins that the program takes (any where there are none),
+/// and the limits of sessions. The bytes that FILE stands for are given.
 #[derive(Drop)]
 pub(crate) struct Setup<'g> {
     pub ids: Ids,
@@ -27,6 +28,7 @@ pub(crate) struct Setup<'g> {
     pub sector: Sector,
     pub room: Room,
     pub image: Option<Vec<u8>>,
+    pub check: Option<Vec<u8>>,
     pub limits: Limits,
     pub given: Option<&'g [u8]>,
 }
@@ -57,6 +59,7 @@ pub(crate) fn beginning(given: Option<&[u8]>) -> Setup<'_>
         sector: Sector { bytes: 0 },
         room: Room { bytes: 64 },
         image: None,
+        check: None,
         limits: Limits {
             actions: 1_000_000,
             restarts: 0,
@@ -65,7 +68,7 @@ pub(crate) fn beginning(given: Option<&[u8]>) -> Setup<'_>
     }
 }
 
-/// Does what a configuration line says. It takes memory for an image alone.
+/// Does what a configuration line says. It takes memory for an image, and for the bytes of a check.
 pub(crate) fn set(
     alloc: Global,
     setup: &mut Setup<'_>,
@@ -91,6 +94,7 @@ pub(crate) fn set(
         ConfigLine::Erase(sector) => setup.sector = sector,
         ConfigLine::Capacity(room) => setup.room = room,
         ConfigLine::Image(text) => setup.image = Some(bytes_of(alloc, text)?),
+        ConfigLine::Check(text) => setup.check = Some(bytes_of(alloc, text)?),
     }
     Ok(())
 }
@@ -100,4 +104,14 @@ pub(crate) fn set_limits(setup: &mut Setup<'_>, limits: Limits)
     ensures { settings_of setup.new ≡ record (settings_of setup.old) { limits = limits } }
 {
     setup.limits = limits;
+}
+
+/// The bytes with which an image begins that the program takes.
+pub(crate) fn check_in<'s>(setup: &'s Setup<'_>) -> &'s [u8]
+    ensures { result.now ≡ check_bytes setup.now.check }
+{
+    match &setup.check {
+        Some(front) => front,
+        None => &[],
+    }
 }

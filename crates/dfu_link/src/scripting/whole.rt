@@ -13,7 +13,7 @@ use crate::scripting::expectation::Ahead;
 use crate::scripting::fault::ScriptFault;
 use crate::scripting::line::Line;
 use crate::scripting::reading::parse;
-use crate::scripting::setup::{Setup, beginning, set, set_limits};
+use crate::scripting::setup::{Setup, beginning, check_in, set, set_limits};
 use crate::scripting::source::Source;
 use crate::scripting::starting::start;
 use crate::seen::Difference;
@@ -71,6 +71,7 @@ pub(super) fn run_lines<T: Watch<SimMedium>, R: Read + Drop, W: Write>(
     let beside = Beside::start(alloc, wants_board, &device, seen)?;
     let ahead = Ahead {
         given: setup.given,
+        check: check_in(&setup),
         limits: setup.limits,
         next: None,
     };

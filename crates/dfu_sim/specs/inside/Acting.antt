@@ -27,7 +27,7 @@ use Rattle.dfu_sim.specs.Refusing.{IsOffered}
 
 -- The course that the code goes by.
 abbrev pub course_in : GivenCourse → Course
-course_in g = record { handling = g.handling; back = g.back; harming = g.harming }
+course_in g = record { handling = g.handling; refusing = g.refusing; back = g.back; harming = g.harming }
 
 -- How a write is harmed in it.
 abbrev pub harm_at : GivenCourse → Harm

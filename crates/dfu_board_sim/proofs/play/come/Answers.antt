@@ -2,7 +2,7 @@ use Rattle.std.proofs.Common.{sym, subst}
 use Rattle.dfu_sim.specs.Bench.{Session}
 use Rattle.dfu_sim.specs.Standing.{session_of, IsOnIn}
 use Rattle.dfu_board_sim.specs.Standing.{board_of}
-use Rattle.dfu_board_sim.proofs.Coming.{told_on, time_comes, reset_comes, cut_comes}
+use Rattle.dfu_board_sim.proofs.Coming.{told_on, time_comes, reset_comes, cut_comes, refusal_comes}
 use Rattle.dfu_board_sim.proofs.play.come.Goals as goal
 
 pub returns-in-Time-clause-come : goal.returns-in-Time-clause-come
@@ -33,3 +33,11 @@ returns-in-Cut-clause-holds c = record {
   stands = c.power_cycle.ensures.stands;
   on = subst (λ (s : Session). IsOnIn s) (sym c.restart-in-Cut.ensures.session) (told_on (session_of c.args.host.now));
 }
+
+pub returns-in-Refuse-clause-come : goal.returns-in-Refuse-clause-come
+returns-in-Refuse-clause-come c =
+    rw c.in-Refuse.is (refusal_comes (board_of c.args.chip.now) c.args.gave.now (board_of c.refuse.new.chip) c.args.host.now
+    c.in-Refuse.objection _ c.refuse.ensures.served)
+
+pub returns-in-Refuse-clause-holds : goal.returns-in-Refuse-clause-holds
+returns-in-Refuse-clause-holds c = record { stands = c.refuse.ensures.stands; on = c.requires.on }

@@ -1,6 +1,6 @@
 use Rattle.std.proofs.Common.{refl}
 use Rattle.dfu_sim.specs.Happening.{Resets, Cuts}
-use Rattle.dfu_sim.proofs.Events.{time_comes, restart_comes}
+use Rattle.dfu_sim.proofs.Events.{time_comes, refusal_comes, restart_comes}
 use Rattle.dfu_sim.proofs.Uploads.{abort_comes}
 use Rattle.dfu_sim.proofs.play.come.Goals as goal
 
@@ -22,3 +22,6 @@ returns-in-Cut g c = rw c.in-Cut.is (restart_comes Cuts _ _ _ _ c.args.gave.now 
     c.requires.sized c.requires.counted c.requires.unarmed
     ((λ i. record { device = c.power_cycle.ensures i; session = c.restart-in-Cut.ensures.session i }), refl)
     c.restart-in-Cut.ensures.given c.restart-in-Cut.ensures.report)
+
+pub returns-in-Refuse : goal.returns-in-Refuse
+returns-in-Refuse g c = rw c.in-Refuse.is (refusal_comes _ _ _ _ c.args.gave.now c.requires.unarmed c.refuse.ensures)

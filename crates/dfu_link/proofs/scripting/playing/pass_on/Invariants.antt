@@ -5,7 +5,7 @@ use Rattle.dfu_link.proofs.scripting.playing.pass_on.Given as goal
 
 abbrev pub invariant-passes : goal.invariant-passes
 invariant-passes g l =
-    IsSilent l.fn.world.bench (expectation_of l.fn.next) (g.W.Write.contents l.fn.writer) l.world.bench (expectation_of l.next)
+    IsSilent l.check l.fn.world.bench (expectation_of l.fn.next) (g.W.Write.contents l.fn.writer) l.world.bench (expectation_of l.next)
     (g.W.Write.contents l.writer)
 
 abbrev pub decreases-passes : goal.decreases-passes

@@ -5,18 +5,18 @@ use Rattle.dfu_link.proofs.PlayLaws.{replicate_more, played_none, plays_next, br
 use Rattle.dfu_link.proofs.scripting.playing.play_actions.Goals as goal
 
 pub loop-turn-init : goal.loop-turn-init
-loop-turn-init g c = played_none c.args.world.now.bench (expectation_of c.args.next.now) (g.W.Write.contents c.args.writer.now)
+loop-turn-init g c = played_none c.args.check.now c.args.world.now.bench (expectation_of c.args.next.now) (g.W.Write.contents c.args.writer.now)
 
 pub loop-turn-preserved : goal.loop-turn-preserved
 loop-turn-preserved g c =
-    let more = plays_next c.take-answer.result c.loop-turn.invariant c.take-answer.ensures.play c.take-answer.ensures.active
+    let more = plays_next (Goes (fate_of c.args.fate) (harm_in c.args.fate)) {c = c.loop-turn.world} c.take-answer.result c.loop-turn.invariant c.take-answer.ensures.play c.take-answer.ensures.active
     (rw c.uploaded.ensures at c.in_ok-say_next.ensures) in
     rw (replicate_more c.loop-turn.turn (Goes (fate_of c.args.fate) (harm_in c.args.fate))) more.ok
 
 pub returns-in_err-say_next : goal.returns-in_err-say_next
 returns-in_err-say_next g c =
     let failed = err_from_is_err_and c.from_residual.result c.from_residual.ensures.1 in
-    let stopped = plays_next c.take-answer.result c.loop-turn.invariant c.take-answer.ensures.play c.take-answer.ensures.active
+    let stopped = plays_next (Goes (fate_of c.args.fate) (harm_in c.args.fate)) {c = c.loop-turn.world} c.take-answer.result c.loop-turn.invariant c.take-answer.ensures.play c.take-answer.ensures.active
     (rw c.uploaded.ensures at c.in_err-say_next.ensures) in
     rw (failed.1, failed.2) (record {
       ok = tt;

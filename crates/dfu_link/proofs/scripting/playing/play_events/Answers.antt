@@ -2,9 +2,10 @@ use Rattle.std.proofs.Common.{◌≡◌, ◌∙◌, ℕ, List, [], ◌∷◌, re
 use Rattle.dfu_host.specs.declared.limits.Limits.{Limits}
 use Rattle.dfu_sim.specs.Happening.{Happening, Fate, Harm, Offers, Goes, harmed, fate_of, harm_in}
 use Rattle.dfu_sim.specs.declared.aim.Aim.{Aim}
-use Rattle.dfu_link.specs.Said.{Offer, Upload, Abort, Go, Time, Reset, Cut, given_bytes, hex_bytes, offered_bytes, harm_fate, said_by, tear_bytes}
+use Rattle.dfu_link.specs.Said.{Offer, Upload, Abort, Go, Time, Reset, Cut, Refuse, given_bytes, hex_bytes, offered_bytes, harm_fate, said_by, tear_bytes}
 use Rattle.dfu_link.specs.inside.Moving.{file_bytes}
 use Rattle.dfu_link.specs.declared.scripting.line.EventLine.{EventLine}
+use Rattle.dfu_link.proofs.PlayLaws.{offer_unchecked}
 use Rattle.dfu_link.proofs.StepLaws.{line_acts}
 use Rattle.dfu_link.proofs.scripting.playing.play_events.Goals as goal
 
@@ -22,13 +23,14 @@ same_harm {given = given} {harm = harm} {writes = writes} is how same = ap (λ (
 
 pub returns-in-Offer : goal.returns-in-Offer
 returns-in-Offer g c = line_acts (Offer c.in-Offer.aim (offered_bytes c.in-Offer.file)) (ap said_by c.in-Offer.is)
-    (same_offer c.offered.ensures (c.requires.file ∙ ap (λ (d : EventLine). file_bytes (said_by d)) c.in-Offer.is)) c.play.ensures
+    (same_offer c.offered.ensures (c.requires.file ∙ ap (λ (d : EventLine). file_bytes (said_by d)) c.in-Offer.is))
+    (c.play.ensures c.args.ahead.now.check.now (offer_unchecked c.args.ahead.now.check.now c.args.world.now.bench c.offered.ensures))
 
 pub returns-in-Upload : goal.returns-in-Upload
-returns-in-Upload g c = line_acts Upload (ap said_by c.in-Upload.is) refl c.play-in-Upload.ensures
+returns-in-Upload g c = line_acts Upload (ap said_by c.in-Upload.is) refl (c.play-in-Upload.ensures _ refl)
 
 pub returns-in-Abort : goal.returns-in-Abort
-returns-in-Abort g c = line_acts Abort (ap said_by c.in-Abort.is) refl c.play-in-Abort.ensures
+returns-in-Abort g c = line_acts Abort (ap said_by c.in-Abort.is) refl (c.play-in-Abort.ensures _ refl)
 
 pub returns-in-Go : goal.returns-in-Go
 returns-in-Go g c =
@@ -44,10 +46,13 @@ pub returns-in-GoOn : goal.returns-in-GoOn
 returns-in-GoOn g c = rw c.in-GoOn.is (c.pass_on.ensures (given_bytes c.args.ahead.now.given) c.args.ahead.now.limits)
 
 pub returns-in-Time : goal.returns-in-Time
-returns-in-Time g c = line_acts (Time c.in-Time.ms) (ap said_by c.in-Time.is) refl c.play-in-Time.ensures
+returns-in-Time g c = line_acts (Time c.in-Time.ms) (ap said_by c.in-Time.is) refl (c.play-in-Time.ensures _ refl)
 
 pub returns-in-Reset : goal.returns-in-Reset
-returns-in-Reset g c = line_acts Reset (ap said_by c.in-Reset.is) refl c.play-in-Reset.ensures
+returns-in-Reset g c = line_acts Reset (ap said_by c.in-Reset.is) refl (c.play-in-Reset.ensures _ refl)
 
 pub returns-in-Cut : goal.returns-in-Cut
-returns-in-Cut g c = line_acts Cut (ap said_by c.in-Cut.is) refl c.play-in-Cut.ensures
+returns-in-Cut g c = line_acts Cut (ap said_by c.in-Cut.is) refl (c.play-in-Cut.ensures _ refl)
+
+pub returns-in-Refuse : goal.returns-in-Refuse
+returns-in-Refuse g c = line_acts (Refuse c.in-Refuse.objection) (ap said_by c.in-Refuse.is) refl (c.play-in-Refuse.ensures _ refl)

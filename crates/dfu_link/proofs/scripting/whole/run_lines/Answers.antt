@@ -40,4 +40,5 @@ returns-in_err-beside g c =
 pub returns : goal.returns
 returns g c = run_ended c.run_on.result (g.R.Read.remaining c.args.reader) (g.W.Write.contents c.args.writer.now)
     (g.W.Write.contents c.run_on.new.writer) c.in_ok-device.device c.in_ok-source.ensures.ok c.beginning-setup.ensures
-    c.in_ok-more.ensures.ok c.in_ok-device.ensures.ok c.run_on.ensures.ok c.run_on.ensures.fault
+    c.in_ok-more.ensures.ok c.in_ok-device.ensures.ok (rw c.check_in.ensures at c.run_on.ensures.ok)
+    (rw c.check_in.ensures at c.run_on.ensures.fault)
