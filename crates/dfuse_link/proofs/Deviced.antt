@@ -6,7 +6,7 @@ use Rattle.dfu_wire.specs.declared.requests.Request.{Request}
 use Rattle.dfu_wire.specs.declared.requests.Request.TheVariants as request
 use Rattle.dfuse_host.specs.declared.place.Place.{Place}
 use Rattle.dfuse_host.proofs.ForCallers.{AnyCommand, by_command}
-use Rattle.dfuse_link.specs.Chips.{Chip, Order, Doing, Rests, Pending, Busy, state_in, Device, IsPointed, Advances, goes_on, ends, fails}
+use Rattle.dfuse_link.specs.Chips.{Chip, Order, Doing, Rests, Pending, Busy, state_in, Device, IsCarried, Advances, goes_on, ends, fails}
 use Rattle.dfuse_link.specs.Reactions.{Reaction, Acks, order_of, doing_now, set_off, told_of, Reacts, stalls, stops, takes, closes, gives, lists, tells, shows, aborts}
 use Rattle.dfuse_link.specs.Histories.{Arrives, never, again}
 use Rattle.dfuse_link.proofs.Claims.{IsQuiet, Knows, IsOrderOf, IsDone, MayHave, Has}
@@ -110,80 +110,90 @@ module _ (chip : Chip) where
 
     -- A DNLOAD of a command that is acknowledged brought it.
     ack_has : (d : Device) (block n : ℕ) (body : List ℕ) (r : Reaction) (d' : Device) → r ≡ Acks → IsOf block body →
-        ((pointer : ℕ) → body ≡ [] → IsDone c pointer) →
-        Reacts chip d (request.Dnload block n) body r d' → Knows p d.pointer → Has c d'.doing d'.pointer
+        ((pointer : ℕ) (memory : ℕ → ℕ) → body ≡ [] → IsDone chip c pointer memory) →
+        Reacts chip d (request.Dnload block n) body r d' → Knows p d.pointer → Has chip c d'.doing d'.pointer d'.memory
     ack_has d block n body _ _ e is some (stalls _ _ may) h = cc
     ack_has d block n body _ _ e is some (stops _ _ may) h = cc
     ack_has d block n body _ _ e is some (takes _ _ _ may any) h = is d.pointer h
-    ack_has d block n _ _ _ e is some (closes _ _ may) h = some d.pointer refl
+    ack_has d block n _ _ _ e is some (closes _ _ may) h = some d.pointer d.memory refl
 
-    pub acked_has : (d d' : Device) (block n : ℕ) (body : List ℕ) → IsOf block body → ((pointer : ℕ) → body ≡ [] → IsDone c pointer) →
-        Arrives chip (request.Dnload block n) body d (Some Acks) d' → MayHave c d.doing × Knows p d.pointer → Has c d'.doing d'.pointer
+    pub acked_has : (d d' : Device) (block n : ℕ) (body : List ℕ) → IsOf block body → ((pointer : ℕ) (memory : ℕ → ℕ) → body ≡ [] →
+        IsDone chip c pointer memory) →
+        Arrives chip (request.Dnload block n) body d (Some Acks) d' → MayHave c d.doing × Knows p d.pointer →
+        Has chip c d'.doing d'.pointer d'.memory
     acked_has d d' block n body is some (again {before = before} {mid = mid} first last) h =
         ack_has mid block n body Acks d' refl is some last (sent_have d mid block n body before is first h).1
 
     -- ---- a command is started
 
-    done_has : (s : State) (pointer : ℕ) → IsDone c pointer → Has c (Rests s) pointer
-    done_has state.Error pointer h = tt
-    done_has s pointer h = h
+    done_has : (s : State) (pointer : ℕ) (memory : ℕ → ℕ) → IsDone chip c pointer memory → Has chip c (Rests s) pointer memory
+    done_has state.Error pointer memory h = tt
+    done_has s pointer memory h = h
 
-    set_off_has : (doing : Doing) (pointer : ℕ) → Has c doing pointer → Has c (set_off doing) pointer
-    set_off_has (Rests s) pointer h = h
-    set_off_has (Pending order) pointer h = h
-    set_off_has (Busy order) pointer h = h
+    set_off_has : (doing : Doing) (pointer : ℕ) (memory : ℕ → ℕ) → Has chip c doing pointer memory →
+        Has chip c (set_off doing) pointer memory
+    set_off_has (Rests s) pointer memory h = h
+    set_off_has (Pending order) pointer memory h = h
+    set_off_has (Busy order) pointer memory h = h
 
-    told_has : (doing : Doing) (pointer : ℕ) → Has c doing pointer → Has c (told_of doing) pointer
-    told_has (Rests state.DownloadSync) pointer h = h
-    told_has (Rests state.DownloadBusy) pointer h = h
-    told_has (Rests state.ManifestSync) pointer h = h
-    told_has doing pointer h = h
+    told_has : (doing : Doing) (pointer : ℕ) (memory : ℕ → ℕ) → Has chip c doing pointer memory → Has chip c (told_of doing) pointer memory
+    told_has (Rests state.DownloadSync) pointer memory h = h
+    told_has (Rests state.DownloadBusy) pointer memory h = h
+    told_has (Rests state.ManifestSync) pointer memory h = h
+    told_has doing pointer memory h = h
 
-    pointed_done : (order : Order) (pointer : ℕ) → IsOrderOf c order → IsPointed order pointer → IsDone c pointer
-    pointed_done order pointer =
-        by_command (λ v. IsOrderOf v order → IsPointed order pointer → IsDone v pointer)
-        (λ at e h. subst (λ (x : Order). IsPointed x pointer) e h) (λ at e h. tt) (λ at e h. tt) c
+    carried_done : (order : Order) (pointer : ℕ) (memory : ℕ → ℕ) → IsOrderOf c order → IsCarried chip order pointer memory →
+        IsDone chip c pointer memory
+    carried_done order pointer memory =
+        by_command (λ v. IsOrderOf v order → IsCarried chip order pointer memory → IsDone chip v pointer memory)
+        (λ at e h. subst (λ (x : Order). IsCarried chip x pointer memory) e h)
+        (λ at e h. subst (λ (x : Order). IsCarried chip x pointer memory) e h) (λ at e h. tt) c
 
-    order_is : (doing : Doing) (order : Order) (pointer : ℕ) → doing ≡ Busy order → Has c doing pointer → IsOrderOf c order
-    order_is doing order pointer e h = subst (λ (x : Doing). Has c x pointer) e h
+    order_is : (doing : Doing) (order : Order) (pointer : ℕ) (memory : ℕ → ℕ) → doing ≡ Busy order → Has chip c doing pointer memory →
+        IsOrderOf c order
+    order_is doing order pointer memory e h = subst (λ (x : Doing). Has chip c x pointer memory) e h
 
-    pub advances_has : (d d' : Device) → Advances chip d d' → Has c d.doing d.pointer → Has c d'.doing d'.pointer
+    pub advances_has : (d d' : Device) → Advances chip d d' → Has chip c d.doing d.pointer d.memory →
+        Has chip c d'.doing d'.pointer d'.memory
     advances_has d d' (goes_on order e e' changed) h =
-        subst (λ (x : Doing). Has c x d'.pointer) (sym e') (order_is d.doing order d.pointer e h)
+        subst (λ (x : Doing). Has chip c x d'.pointer d'.memory) (sym e') (order_is d.doing order d.pointer d.memory e h)
     advances_has d d' (ends order s e e' end changed pointed) h =
-        subst (λ (x : Doing). Has c x d'.pointer) (sym e')
-        (done_has s d'.pointer (pointed_done order d'.pointer (order_is d.doing order d.pointer e h) pointed))
-    advances_has d d' (fails order e e' changed) h = subst (λ (x : Doing). Has c x d'.pointer) (sym e') tt
+        subst (λ (x : Doing). Has chip c x d'.pointer d'.memory) (sym e')
+        (done_has s d'.pointer d'.memory (carried_done order d'.pointer d'.memory (order_is d.doing order d.pointer d.memory e h) pointed))
+    advances_has d d' (fails order e e' changed) h = subst (λ (x : Doing). Has chip c x d'.pointer d'.memory) (sym e') tt
 
     mid_has : (d mid : Device) → (mid ≡ doing_now d (set_off d.doing)) ⊎ Advances chip (doing_now d (set_off d.doing)) mid →
-        Has c d.doing d.pointer →
-        Has c mid.doing mid.pointer
-    mid_has d mid (inl e) h = subst (λ (x : Device). Has c x.doing x.pointer) (sym e) (set_off_has d.doing d.pointer h)
-    mid_has d mid (inr a) h = advances_has (doing_now d (set_off d.doing)) mid a (set_off_has d.doing d.pointer h)
+        Has chip c d.doing d.pointer d.memory →
+        Has chip c mid.doing mid.pointer mid.memory
+    mid_has d mid (inl e) h =
+        subst (λ (x : Device). Has chip c x.doing x.pointer x.memory) (sym e) (set_off_has d.doing d.pointer d.memory h)
+    mid_has d mid (inr a) h = advances_has (doing_now d (set_off d.doing)) mid a (set_off_has d.doing d.pointer d.memory h)
 
     status_has : (d d' : Device) (n : ℕ) (body : List ℕ) (r : Reaction) → Reacts chip d (request.GetStatus n) body r d' →
-        Has c d.doing d.pointer → Has c d'.doing d'.pointer
+        Has chip c d.doing d.pointer d.memory → Has chip c d'.doing d'.pointer d'.memory
     status_has d _ n body _ (stalls _ _ may) h = h
     status_has d _ n body _ (stops _ _ may) h = tt
-    status_has d _ n body _ (tells _ _ bytes status mid way is same) h = told_has mid.doing mid.pointer (mid_has d mid way h)
+    status_has d _ n body _ (tells _ _ bytes status mid way is same) h = told_has mid.doing mid.pointer mid.memory (mid_has d mid way h)
 
     pub statuses_have : (d d' : Device) (n : ℕ) (body : List ℕ) (r : Option Reaction) → Arrives chip (request.GetStatus n) body d r d' →
-        Has c d.doing d.pointer → Has c d'.doing d'.pointer
+        Has chip c d.doing d.pointer d.memory → Has chip c d'.doing d'.pointer d'.memory
     statuses_have d d' n body r comes h =
-        kept (λ x. Has c x.doing x.pointer) (request.GetStatus n) body (λ x y reaction step k. status_has x y n body reaction step k) d d'
+        kept (λ x. Has chip c x.doing x.pointer x.memory) (request.GetStatus n) body
+        (λ x y reaction step k. status_has x y n body reaction step k) d d'
         r comes h
 
     -- A device that tells dfuDNLOAD-IDLE is quiet, and the command is done.
-    pub told_done : (doing : Doing) (pointer : ℕ) → state_in doing ≡ state.DownloadIdle → Has c doing pointer → IsQuiet doing ×
-        IsDone c pointer
-    told_done (Rests s) pointer e h =
-        let k = subst (λ (t : State). Has c (Rests t) pointer) e h in
+    pub told_done : (doing : Doing) (pointer : ℕ) (memory : ℕ → ℕ) → state_in doing ≡ state.DownloadIdle →
+        Has chip c doing pointer memory → IsQuiet doing × IsDone chip c pointer memory
+    told_done (Rests s) pointer memory e h =
+        let k = subst (λ (t : State). Has chip c (Rests t) pointer memory) e h in
         (subst (λ (t : State). IsQuiet (Rests t)) (sym e) tt, k)
-    told_done (Pending order) pointer e h = cc
-    told_done (Busy order) pointer e h = cc
+    told_done (Pending order) pointer memory e h = cc
+    told_done (Busy order) pointer memory e h = cc
 
     -- A device that tells dfuDNLOAD-SYNC has the command.
-    pub synced_has : (doing : Doing) (pointer : ℕ) → state_in doing ≡ state.DownloadSync → MayHave c doing → Has c doing pointer
-    synced_has (Rests s) pointer e h = absurd (subst (λ (t : State). IsQuiet (Rests t)) e h)
-    synced_has (Pending order) pointer e h = h
-    synced_has (Busy order) pointer e h = absurd h
+    pub synced_has : (doing : Doing) (pointer : ℕ) (memory : ℕ → ℕ) → state_in doing ≡ state.DownloadSync → MayHave c doing →
+        Has chip c doing pointer memory
+    synced_has (Rests s) pointer memory e h = absurd (subst (λ (t : State). IsQuiet (Rests t)) e h)
+    synced_has (Pending order) pointer memory e h = h
+    synced_has (Busy order) pointer memory e h = absurd h

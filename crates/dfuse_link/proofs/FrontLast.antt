@@ -13,7 +13,7 @@ use Rattle.dfuse_link.proofs.Bytes.{byte_of, byte_at, first_or, held_in, none_in
 use Rattle.dfuse_link.proofs.Verified.{begins_so, history_so, history_plan}
 
 -- An element that is found has the byte.
-has_found : (a : ℕ) (e : Element) (es : List Element) → element_at a es ≡ Some e → HasByte a es
+pub has_found : (a : ℕ) (e : Element) (es : List Element) → element_at a es ≡ Some e → HasByte a es
 has_found a e [] h = absurd (none_in a e h)
 has_found a e (x ∷ xs) h = elim (first_or a x e xs h) [ inl w ↦ inl (held_in a x w.1) | inr w ↦ inr (has_found a e xs w) ]
 

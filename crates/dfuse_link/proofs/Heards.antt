@@ -41,7 +41,7 @@ state_back state.ManifestWaitReset = refl
 state_back state.UploadIdle = refl
 state_back state.Error = refl
 
-one_state : (s t : State) → state_byte s ≡ state_byte t → s ≡ t
+pub one_state : (s t : State) → state_byte s ≡ state_byte t → s ≡ t
 one_state s t e = sym (state_back s) ∙ ap state_numbered e ∙ state_back t
 
 -- ---- what a device sends

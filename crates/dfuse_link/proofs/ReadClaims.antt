@@ -213,7 +213,7 @@ module _ (chip : Chip) (plan : Plan) (w : Work) (a : ℕ) (transfer : plan.trans
       ∙ value
 
   read_by : (p : Place) (d d' : Device) (h : AnyHeard) (r : Option Reaction) (given : List ℕ) (bytes : List ℕ) →
-      Stands plan w p step.Read d →
+      Stands chip plan w p step.Read d →
       ArrivesBy chip (deed_of plan w p step.Read) d (Some (Data bytes)) d' → given ≡ bytes → h ≡ compared (read_bytes plan w) given →
       ReadsBack plan w step.Read h a → (d'.memory a ≡ byte_at a plan.image.now) × SafeAt chip a d'.doing
   read_by p d d' h r given bytes k comes same e reads =
@@ -229,7 +229,7 @@ module _ (chip : Chip) (plan : Plan) (w : Work) (a : ℕ) (transfer : plan.trans
   no_bytes h x e none reads = none (subst (λ y. ReadsBack plan w step.Read y a) e reads)
 
   -- A byte that a session has just read back is the image's, and safe.
-  pub read_right : (p : Place) (d d' : Device) (h : AnyHeard) (r : Option Reaction) (x : Seen) → Stands plan w p step.Read d →
+  pub read_right : (p : Place) (d d' : Device) (h : AnyHeard) (r : Option Reaction) (x : Seen) → Stands chip plan w p step.Read d →
       ArrivesBy chip (deed_of plan w p step.Read) d r d' → IsSeenOf r x → Hears plan w step.Read x h → ReadsBack plan w step.Read h a →
       (d'.memory a ≡ byte_at a plan.image.now) × SafeAt chip a d'.doing
   read_right p d d' h (Some (Data bytes)) (seen.Bytes given) k comes is e reads =

@@ -61,15 +61,15 @@ module _ (chip : Chip) (a : ℕ) where
 
   pub advances_safe : (d d' : Device) → Advances chip d d' → SafeAt chip a d.doing → KeepsByte chip a d d'
   advances_safe d d' (goes_on order e e' changed) safe = record {
-    byte = changed a (order_safe d.doing order e safe);
+    byte = changed.0 a (order_safe d.doing order e safe);
     safe = subst (SafeAt chip a) (sym e') (order_safe d.doing order e safe);
   }
   advances_safe d d' (ends order s e e' end changed pointed) safe = record {
-    byte = changed a (order_safe d.doing order e safe);
+    byte = changed.0 a (order_safe d.doing order e safe);
     safe = subst (SafeAt chip a) (sym e') (λ x. x);
   }
   advances_safe d d' (fails order e e' changed) safe = record {
-    byte = changed a (order_safe d.doing order e safe);
+    byte = changed.0 a (order_safe d.doing order e safe);
     safe = subst (SafeAt chip a) (sym e') (λ x. x);
   }
 
@@ -167,7 +167,7 @@ module _ (chip : Chip) (plan : Plan) (a pointer : ℕ) where
 
 -- What a session sends may not change a byte that was read back.
 pub deed_none : (chip : Chip) (plan : Plan) (a : ℕ) (w : Work) (p : Place) (s : Step) (d : Device) → WasRead plan w a →
-    Stands plan w p s d →
+    Stands chip plan w p s d →
     DeedBringsNone chip a (deed_of plan w p s) d.pointer
 deed_none chip plan a w p step.Send d was stands = send_none chip plan a d.pointer w p was stands.1
 deed_none chip plan a w p step.Close d was stands = λ may. omega (arith, may.0, may.1)

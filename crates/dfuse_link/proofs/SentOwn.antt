@@ -1,10 +1,8 @@
 -- What a session sends changes only pages of the image.
 use Rattle.std.proofs.Common.{◌≡◌, ℕ, zero, suc, ◌-◌, ◌*◌, ◌/◌, ◌%◌, ◌^◌, ◌<◌, ◌≤◌, Bool, true, false, cond, eqb, ltb, List, [], ◌∷◌, Option, Some, None, refl, sym, ap, ◌∙◌, subst, arith}
 use Rattle.std.specs.Option.{option_map}
-use Rattle.std.specs.Int.{w32, to_le_bytes}
 use Rattle.std.proofs.lemmas.Bool.{eqb-true}
 use Rattle.std.proofs.lemmas.Bool.Decides.{nat_tests}
-use Rattle.std.proofs.lemmas.Nat.{from_le_bytes-to_le_bytes_4}
 use Rattle.dfuse_memory.specs.declared.pages.Pages.{Pages}
 use Rattle.dfuse_memory.specs.Lookups.{has, range_at, page_in}
 use Rattle.dfuse_host.specs.declared.plan.Plan.{Plan}
@@ -20,11 +18,11 @@ use Rattle.dfuse_host.specs.Deeds.{sends, deed_of}
 use Rattle.dfuse_host.specs.ReadBack.{HasByte}
 use Rattle.dfuse_host.specs.Touching.{IsTouched, Touches, ChangesOnly, OnlyTouched}
 use Rattle.dfuse_host.proofs.ForCallers.{AnyCommand, by_command, set_address, erase_page, write_at}
-use Rattle.dfuse_link.specs.Chips.{Chip, Order, Erases, Device, MayChange}
-use Rattle.dfuse_link.specs.Reactions.{order_of}
+use Rattle.dfuse_link.specs.Chips.{Chip, Order, Device, MayChange}
 use Rattle.dfuse_link.specs.Promises.{IsFor}
 use Rattle.dfuse_link.specs.Touched.{IsTrueMap}
 use Rattle.dfuse_link.proofs.Claims.{Knows, Stands}
+use Rattle.dfuse_link.proofs.SentClaims.{erases_order}
 use Rattle.dfuse_link.proofs.Safe.{DeedBringsNone, sets_none, part_ends}
 use Rattle.dfuse_link.proofs.Turns.{below_end}
 
@@ -63,9 +61,6 @@ unfolding page_of
 page_low plan a = page_by a (range_at a plan.map.now.ranges) (ltb a (2 ^ 32)) (λ q e. range_low a q plan.map.now.ranges e)
 
 -- ---- orders
-
-erases_order : (chip : Chip) (pointer at : ℕ) → order_of chip pointer 0 (0x41 ∷ to_le_bytes w32 (at % 2 ^ 32)) ≡ Erases (at % 2 ^ 32)
-erases_order chip pointer at = ap Erases (from_le_bytes-to_le_bytes_4 (at % 2 ^ 32) (omega arith))
 
 -- Bytes are written if the pointer is where they are to be.
 abbrev PointsFor : AnyCommand → (pointer : ℕ) → Type 0
@@ -124,7 +119,7 @@ module _ (chip : Chip) (plan : Plan) (a : ℕ) (apart : Apart chip plan a) (for 
 -- What a session sends at a step may not change the byte.
 pub step_none : (only : OnlyTouched) (chip : Chip) (plan : Plan) (a : ℕ) → Apart chip plan a → IsFor chip plan →
     (w : Work) (p : Place) (s : Step)
-    (d : Device) → Touches plan w → Stands plan w p s d → DeedBringsNone chip a (deed_of plan w p s) d.pointer
+    (d : Device) → Touches plan w → Stands chip plan w p s d → DeedBringsNone chip a (deed_of plan w p s) d.pointer
 step_none only chip plan a apart for w p step.Send d touches k =
     sends_none chip plan a apart for d.pointer w (command_of plan w p) (only plan w p touches) (points_for plan w p d.pointer k.1)
 step_none only chip plan a apart for w p step.Close d touches k = λ may. omega (arith, may.0, may.1)

@@ -15,7 +15,7 @@ use Rattle.dfuse_host.specs.Commands.{command_of}
 use Rattle.dfuse_host.specs.Table.{row}
 use Rattle.dfuse_host.specs.Sessions.{budgeted, spent_at, resumed, restarted, restarted_leaving, restarted_in, told, after_phase}
 use Rattle.dfuse_host.proofs.ForCallers.{AnyHeard, by_heard}
-use Rattle.dfuse_link.specs.Chips.{Device}
+use Rattle.dfuse_link.specs.Chips.{Chip, Device}
 use Rattle.dfuse_link.proofs.Claims.{StandsIn}
 use Rattle.dfuse_link.proofs.SettlingClaims.{at_unsure}
 
@@ -45,47 +45,47 @@ plan_after s (On at) h = plan_told s at.work at.place at.step h
 
 -- ---- restarts and the budget
 
-module _ (plan : Plan) (d : Device) where
-  at_spent : (w : Work) (s : Step) → StandsIn plan (spent_at w s) d
+module _ (chip : Chip) (plan : Plan) (d : Device) where
+  at_spent : (w : Work) (s : Step) → StandsIn chip plan (spent_at w s) d
   at_spent work.Leave s = tt
   at_spent w s = tt
 
-  at_budgeted : (n : ℕ) (p : Phase) → StandsIn plan p d → StandsIn plan (budgeted n p) d
+  at_budgeted : (n : ℕ) (p : Phase) → StandsIn chip plan p d → StandsIn chip plan (budgeted n p) d
   at_budgeted n (Over r) h = tt
   at_budgeted zero (On s) h = at_spent s.work s.step
   at_budgeted (suc n) (On s) h = h
 
-module _ (s : Session) (d : Device) where
-  at_resumed : (w : Work) (p : Place) (at : Step) → StandsIn s.plan (resumed s.plan w p at) d
-  at_resumed w p (step.Poll last) = at_unsure s.plan d w (command_of s.plan w p)
-  at_resumed w p (step.PollWait ms) = at_unsure s.plan d w (command_of s.plan w p)
+module _ (chip : Chip) (s : Session) (d : Device) where
+  at_resumed : (w : Work) (p : Place) (at : Step) → StandsIn chip s.plan (resumed s.plan w p at) d
+  at_resumed w p (step.Poll last) = at_unsure chip s.plan d w (command_of s.plan w p)
+  at_resumed w p (step.PollWait ms) = at_unsure chip s.plan d w (command_of s.plan w p)
   at_resumed w p at = tt
 
-  at_restarted : (p : Phase) (n : ℕ) → StandsIn s.plan p d → StandsIn s.plan (restarted s p n).phase d
-  at_restarted p zero h = at_budgeted s.plan d (pred s.actions) (Over report.RestartsSpent) tt
-  at_restarted p (suc n) h = at_budgeted s.plan d (pred s.actions) p h
+  at_restarted : (p : Phase) (n : ℕ) → StandsIn chip s.plan p d → StandsIn chip s.plan (restarted s p n).phase d
+  at_restarted p zero h = at_budgeted chip s.plan d (pred s.actions) (Over report.RestartsSpent) tt
+  at_restarted p (suc n) h = at_budgeted chip s.plan d (pred s.actions) p h
 
-  at_leaving : (p : Place) (at : Step) → StandsIn s.plan (restarted_leaving s p at).phase d
-  at_leaving p step.Close = at_budgeted s.plan d (pred s.actions) (Over (report.Verified leaving.Unknown)) tt
-  at_leaving p step.CloseProbe = at_budgeted s.plan d (pred s.actions) (Over (report.Verified leaving.Unknown)) tt
-  at_leaving p step.ClosePoll = at_budgeted s.plan d (pred s.actions) (Over (report.Verified leaving.Unknown)) tt
+  at_leaving : (p : Place) (at : Step) → StandsIn chip s.plan (restarted_leaving s p at).phase d
+  at_leaving p step.Close = at_budgeted chip s.plan d (pred s.actions) (Over (report.Verified leaving.Unknown)) tt
+  at_leaving p step.CloseProbe = at_budgeted chip s.plan d (pred s.actions) (Over (report.Verified leaving.Unknown)) tt
+  at_leaving p step.ClosePoll = at_budgeted chip s.plan d (pred s.actions) (Over (report.Verified leaving.Unknown)) tt
   at_leaving p at = at_restarted (resumed s.plan work.Leave p at) s.restarts (at_resumed work.Leave p at)
 
-  pub at_restart : (w : Work) (p : Place) (at : Step) → StandsIn s.plan (restarted_in s w p at).phase d
+  pub at_restart : (w : Work) (p : Place) (at : Step) → StandsIn chip s.plan (restarted_in s w p at).phase d
   at_restart work.Leave p at = at_leaving p at
   at_restart w p at = at_restarted (resumed s.plan w p at) s.restarts (at_resumed w p at)
 
   -- Behind what is heard, all is as the table's row says, and behind a restart nothing is claimed.
-  pub told_claims : (w : Work) (p : Place) (at : Step) (h : AnyHeard) → StandsIn s.plan (row s.plan w p at h) d →
-      StandsIn s.plan (told s w p at h).phase d
+  pub told_claims : (w : Work) (p : Place) (at : Step) (h : AnyHeard) → StandsIn chip s.plan (row s.plan w p at h) d →
+      StandsIn chip s.plan (told s w p at h).phase d
   told_claims w p at h =
-      by_heard (λ x. StandsIn s.plan (row s.plan w p at x) d → StandsIn s.plan (told s w p at x).phase d)
-      (λ k. at_budgeted s.plan d (pred s.actions) _ k) (λ t k. at_budgeted s.plan d (pred s.actions) _ k)
-      (λ t k. at_budgeted s.plan d (pred s.actions) _ k)
-      (λ b k. at_budgeted s.plan d (pred s.actions) _ k) (λ k. at_budgeted s.plan d (pred s.actions) _ k)
-      (λ k. at_budgeted s.plan d (pred s.actions) _ k)
-      (λ k. at_budgeted s.plan d (pred s.actions) _ k) (λ k. at_restart w p at) h
+      by_heard (λ x. StandsIn chip s.plan (row s.plan w p at x) d → StandsIn chip s.plan (told s w p at x).phase d)
+      (λ k. at_budgeted chip s.plan d (pred s.actions) _ k) (λ t k. at_budgeted chip s.plan d (pred s.actions) _ k)
+      (λ t k. at_budgeted chip s.plan d (pred s.actions) _ k)
+      (λ b k. at_budgeted chip s.plan d (pred s.actions) _ k) (λ k. at_budgeted chip s.plan d (pred s.actions) _ k)
+      (λ k. at_budgeted chip s.plan d (pred s.actions) _ k)
+      (λ k. at_budgeted chip s.plan d (pred s.actions) _ k) (λ k. at_restart w p at) h
 
-  pub restarted_claims : (w : Work) (p : Place) (at : Step) (h x : AnyHeard) → h ≡ x → StandsIn s.plan (told s w p at x).phase d →
-      StandsIn s.plan (told s w p at h).phase d
-  restarted_claims w p at h x e k = subst (λ y. StandsIn s.plan (told s w p at y).phase d) (sym e) k
+  pub restarted_claims : (w : Work) (p : Place) (at : Step) (h x : AnyHeard) → h ≡ x → StandsIn chip s.plan (told s w p at x).phase d →
+      StandsIn chip s.plan (told s w p at h).phase d
+  restarted_claims w p at h x e k = subst (λ y. StandsIn chip s.plan (told s w p at y).phase d) (sym e) k

@@ -12,93 +12,94 @@ use Rattle.dfuse_host.specs.Settling.{stand, byte_in, can_read, sending, compari
 use Rattle.dfuse_host.specs.Commands.{command_of, done, erased, written, unsure}
 use Rattle.dfuse_host.specs.Deeds.{stands_at}
 use Rattle.dfuse_host.proofs.ForCallers.{AnyCommand, by_command}
-use Rattle.dfuse_link.specs.Chips.{Device}
+use Rattle.dfuse_link.specs.Chips.{Chip, Device}
 use Rattle.dfuse_link.proofs.Claims.{IsQuiet, Knows, IsDone, Stands, StandsIn}
 use Rattle.dfuse_link.proofs.Deviced.{have_quiet}
 
-module _ (plan : Plan) (d : Device) (quiet : IsQuiet d.doing) where
-  at_send : (w : Work) (p : Place) → Knows p d.pointer → Stands plan w p step.Send d
+module _ (chip : Chip) (plan : Plan) (d : Device) (quiet : IsQuiet d.doing) where
+  at_send : (w : Work) (p : Place) → Knows p d.pointer → Stands chip plan w p step.Send d
   at_send w p k = (have_quiet (command_of plan w p) d.doing quiet, k)
 
-  by_sending : (w : Work) (p : Place) → Knows p d.pointer → Stands plan w p (sending p) d
+  by_sending : (w : Work) (p : Place) → Knows p d.pointer → Stands chip plan w p (sending p) d
   by_sending w place.Lost k = at_send w place.Lost k
   by_sending w (place.At p) k = at_send w (place.At p) k
   by_sending w (place.Reading p) k = (quiet, k)
 
   by_reading : (w : Work) (base : ℕ) (t : Bool) → can_read plan base (stands_at w) ≡ t → Knows (place.Reading base) d.pointer →
-      Stands plan w (place.Reading base) (cond t step.Read step.EndReading) d
+      Stands chip plan w (place.Reading base) (cond t step.Read step.EndReading) d
   by_reading w base true e k = (quiet, k, e)
   by_reading w base false e k = (quiet, k)
 
-  by_comparing : (w : Work) (p : Place) → Knows p d.pointer → Stands plan w p (comparing plan (stands_at w) p) d
+  by_comparing : (w : Work) (p : Place) → Knows p d.pointer → Stands chip plan w p (comparing plan (stands_at w) p) d
   by_comparing w place.Lost k = at_send w place.Lost k
-  by_comparing w (place.At p) k = elim (eqb p (stands_at w)) as (λ t. Stands plan w (place.At p) (cond t step.BeginReading step.Send) d) [
-    | true ↦ (quiet, k)
-    | false ↦ at_send w (place.At p) k
-  ]
+  by_comparing w (place.At p) k =
+      elim (eqb p (stands_at w)) as (λ t. Stands chip plan w (place.At p) (cond t step.BeginReading step.Send) d) [
+        | true ↦ (quiet, k)
+        | false ↦ at_send w (place.At p) k
+      ]
   by_comparing w (place.Reading base) k = by_reading w base (can_read plan base (stands_at w)) refl k
 
-  by_leaving : (p : Place) → Knows p d.pointer → StandsIn plan (leaving_by plan p) d
+  by_leaving : (p : Place) → Knows p d.pointer → StandsIn chip plan (leaving_by plan p) d
   by_leaving place.Lost k = at_send work.Leave place.Lost k
   by_leaving (place.At p) k =
-      elim (eqb p plan.start) as (λ t. StandsIn plan (cond t (stand work.Leave (place.At p) step.Close)
+      elim (eqb p plan.start) as (λ t. StandsIn chip plan (cond t (stand work.Leave (place.At p) step.Close)
       (stand work.Leave (place.At p) step.Send)) d) [
         | true ↦ tt
         | false ↦ at_send work.Leave (place.At p) k
       ]
   by_leaving (place.Reading p) k = (quiet, k)
 
-  by_staying : (p : Place) → Knows p d.pointer → StandsIn plan (staying p) d
+  by_staying : (p : Place) → Knows p d.pointer → StandsIn chip plan (staying p) d
   by_staying place.Lost k = tt
   by_staying (place.At p) k = tt
   by_staying (place.Reading p) k = (quiet, k)
 
-  at_leave : (p : Place) → Knows p d.pointer → StandsIn plan (to_leave plan p) d
+  at_leave : (p : Place) → Knows p d.pointer → StandsIn chip plan (to_leave plan p) d
   unfolding to_leave
-  at_leave p k = elim plan.leaves as (λ t. StandsIn plan (cond t (leaving_by plan p) (staying p)) d)
+  at_leave p k = elim plan.leaves as (λ t. StandsIn chip plan (cond t (leaving_by plan p) (staying p)) d)
       [ true ↦ by_leaving p k | false ↦ by_staying p k ]
 
-  compare_front_by : (p : Place) (o : Option ℕ) → Knows p d.pointer → StandsIn plan (compare_front_or plan p o) d
+  compare_front_by : (p : Place) (o : Option ℕ) → Knows p d.pointer → StandsIn chip plan (compare_front_or plan p o) d
   compare_front_by p None k = at_leave p k
   compare_front_by p (Some at) k = by_comparing (work.CompareFront at) p k
 
-  at_compare_front : (p : Place) (at : ℕ) → Knows p d.pointer → StandsIn plan (to_compare_front plan p at) d
+  at_compare_front : (p : Place) (at : ℕ) → Knows p d.pointer → StandsIn chip plan (to_compare_front plan p at) d
   unfolding to_compare_front
   at_compare_front p at k = compare_front_by p (byte_in plan at (front_end plan)) k
 
-  write_front_by : (p : Place) (o : Option ℕ) → Knows p d.pointer → StandsIn plan (write_front_or plan p o) d
+  write_front_by : (p : Place) (o : Option ℕ) → Knows p d.pointer → StandsIn chip plan (write_front_or plan p o) d
   write_front_by p None k = at_compare_front p (image_start plan.image.now) k
   write_front_by p (Some at) k = by_sending (work.WriteFront at) p k
 
-  at_write_front : (p : Place) (at : ℕ) → Knows p d.pointer → StandsIn plan (to_write_front plan p at) d
+  at_write_front : (p : Place) (at : ℕ) → Knows p d.pointer → StandsIn chip plan (to_write_front plan p at) d
   unfolding to_write_front
   at_write_front p at k = write_front_by p (byte_in plan at (front_end plan)) k
 
-  compare_by : (p : Place) (o : Option ℕ) → Knows p d.pointer → StandsIn plan (compare_or plan p o) d
+  compare_by : (p : Place) (o : Option ℕ) → Knows p d.pointer → StandsIn chip plan (compare_or plan p o) d
   compare_by p None k = at_write_front p (image_start plan.image.now) k
   compare_by p (Some at) k = by_comparing (work.Compare at) p k
 
-  at_compare : (p : Place) (at : ℕ) → Knows p d.pointer → StandsIn plan (to_compare plan p at) d
+  at_compare : (p : Place) (at : ℕ) → Knows p d.pointer → StandsIn chip plan (to_compare plan p at) d
   unfolding to_compare
   at_compare p at k = compare_by p (byte_in plan at (image_end plan.image.now)) k
 
-  write_by : (p : Place) (end : ℕ) (o : Option ℕ) → Knows p d.pointer → StandsIn plan (write_or plan p end o) d
+  write_by : (p : Place) (end : ℕ) (o : Option ℕ) → Knows p d.pointer → StandsIn chip plan (write_or plan p end o) d
   write_by p end None k = at_compare p (front_end plan) k
   write_by p end (Some at) k = by_sending (work.Write at end) p k
 
-  at_write : (p : Place) (at end : ℕ) → Knows p d.pointer → StandsIn plan (to_write plan p at end) d
+  at_write : (p : Place) (at end : ℕ) → Knows p d.pointer → StandsIn chip plan (to_write plan p at end) d
   unfolding to_write
   at_write p at end k = write_by p end (byte_in plan at end) k
 
-  erase_by : (p : Place) (o : Option ℕ) → Knows p d.pointer → StandsIn plan (erase_or plan p o) d
+  erase_by : (p : Place) (o : Option ℕ) → Knows p d.pointer → StandsIn chip plan (erase_or plan p o) d
   erase_by p None k = at_write p (front_end plan) (image_end plan.image.now) k
   erase_by p (Some at) k = by_sending (work.Erase at) p k
 
-  at_erase : (p : Place) (at : ℕ) → Knows p d.pointer → StandsIn plan (to_erase plan p at) d
+  at_erase : (p : Place) (at : ℕ) → Knows p d.pointer → StandsIn chip plan (to_erase plan p at) d
   unfolding to_erase
   at_erase p at k = erase_by p (byte_in plan at (image_end plan.image.now)) k
 
-  pub at_settle : (w : Work) (p : Place) → Knows p d.pointer → StandsIn plan (settle plan w p) d
+  pub at_settle : (w : Work) (p : Place) → Knows p d.pointer → StandsIn chip plan (settle plan w p) d
   unfolding settle
   at_settle (work.Erase at) p k = at_erase p at k
   at_settle (work.EraseAgain page end) p k = by_sending (work.EraseAgain page end) p k
@@ -110,18 +111,18 @@ module _ (plan : Plan) (d : Device) (quiet : IsQuiet d.doing) where
 
   -- ---- commands
 
-  at_erased : (w : Work) (at : ℕ) → StandsIn plan (erased plan w at) d
+  at_erased : (w : Work) (at : ℕ) → StandsIn chip plan (erased plan w at) d
   at_erased (work.EraseAgain page end) at = at_write place.Lost _ end tt
   at_erased w at = at_erase place.Lost (page_end plan at) tt
 
-  at_written : (w : Work) (at : ℕ) → StandsIn plan (written plan w at) d
+  at_written : (w : Work) (at : ℕ) → StandsIn chip plan (written plan w at) d
   at_written (work.Write from end) at = at_write place.Lost _ end tt
   at_written w at = at_write_front place.Lost (write_end plan at (front_end plan)) tt
 
-  pub at_done : (w : Work) (c : AnyCommand) → IsDone c d.pointer → StandsIn plan (done plan w c) d
-  at_done w c = by_command (λ v. IsDone v d.pointer → StandsIn plan (done plan w v) d)
+  pub at_done : (w : Work) (c : AnyCommand) → IsDone chip c d.pointer d.memory → StandsIn chip plan (done plan w c) d
+  at_done w c = by_command (λ v. IsDone chip v d.pointer d.memory → StandsIn chip plan (done plan w v) d)
       (λ at k. at_settle w (place.At at) k) (λ at k. at_erased w at) (λ at k. at_written w at) c
 
 -- A command whose end isn't known: nothing is claimed.
-pub at_unsure : (plan : Plan) (d : Device) (w : Work) (c : AnyCommand) → StandsIn plan (unsure plan w c) d
-at_unsure plan d w c = by_command (λ v. StandsIn plan (unsure plan w v) d) (λ at. tt) (λ at. tt) (λ at. tt) c
+pub at_unsure : (chip : Chip) (plan : Plan) (d : Device) (w : Work) (c : AnyCommand) → StandsIn chip plan (unsure plan w c) d
+at_unsure chip plan d w c = by_command (λ v. StandsIn chip plan (unsure plan w v) d) (λ at. tt) (λ at. tt) (λ at. tt) c

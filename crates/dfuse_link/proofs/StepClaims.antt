@@ -22,9 +22,9 @@ use Rattle.dfuse_link.proofs.RowClaims.{abort_row, ask_state_row, ask_status_row
 
 module _ (chip : Chip) (plan : Plan) (w : Work) (p : Place) (d d' : Device) (h : AnyHeard) where
   -- A request was sent.
-  pub sent_claims : (s : Step) (r : Option Reaction) (x : Seen) → Stands plan w p s d → ArrivesBy chip (deed_of plan w p s) d r d' →
+  pub sent_claims : (s : Step) (r : Option Reaction) (x : Seen) → Stands chip plan w p s d → ArrivesBy chip (deed_of plan w p s) d r d' →
       IsSeenOf r x →
-      Hears plan w s x h → StandsIn plan (row plan w p s h) d'
+      Hears plan w s x h → StandsIn chip plan (row plan w p s h) d'
   sent_claims step.Abort r x k comes is hears = abort_row chip plan w p d' h
   sent_claims step.AskState r x k comes is hears =
       ask_state_row chip plan w p d' h (says_state plan w step.AskState h d' (λ bytes e. e) r x is
@@ -57,8 +57,8 @@ sends_no_wait plan w c ms = by_command (λ v. sends plan w v ≡ Wait ms → ⊥
 
 -- A session waited.
 pub waited_claims : (chip : Chip) (plan : Plan) (w : Work) (p : Place) (d : Device) (h : AnyHeard) (s : Step) (ms : ℕ) →
-    Stands plan w p s d →
-    deed_of plan w p s ≡ Wait ms → StandsIn plan (row plan w p s h) d
+    Stands chip plan w p s d →
+    deed_of plan w p s ≡ Wait ms → StandsIn chip plan (row plan w p s h) d
 waited_claims chip plan w p d h (step.ClearWait m) ms k e = clear_wait_row chip plan w p d m h
 waited_claims chip plan w p d h (step.PollWait m) ms k e = poll_wait_row chip plan w p d m h k
 waited_claims chip plan w p d h step.Send ms k e = absurd (sends_no_wait plan w (command_of plan w p) ms e)

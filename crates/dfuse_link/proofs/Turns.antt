@@ -10,23 +10,21 @@ use Rattle.dfuse_host.specs.declared.step.Step.TheVariants as step
 use Rattle.dfuse_host.specs.declared.seen.Seen.{Seen}
 use Rattle.dfuse_host.specs.declared.seen.Seen.TheVariants as seen
 use Rattle.dfuse_host.specs.declared.session.Session.{Session}
-use Rattle.dfuse_host.specs.Commands.{command_of}
 use Rattle.dfuse_host.specs.Deeds.{Deed, Send, Wait, Done, deed, deed_of}
 use Rattle.dfuse_host.specs.Refusing.{apart_from, wants}
 use Rattle.dfuse_host.specs.ReadBack.{HasByte, WasReadIn, ReadsBack, ReadsBackIn, ClosesIn, OnlyReadBack, ClosesAlways}
 use Rattle.dfuse_host.specs.Sessions.{after, after_phase, HearsIn, SessionRow}
 use Rattle.dfuse_host.specs.Wire.{Hears}
-use Rattle.dfuse_host.proofs.ForCallers.{AnyCommand, AnyHeard}
-use Rattle.dfuse_link.specs.Chips.{Chip, Order, Busy, Device, Advances, goes_on, ends, fails}
+use Rattle.dfuse_host.proofs.ForCallers.{AnyHeard}
+use Rattle.dfuse_link.specs.Chips.{Chip, Device}
 use Rattle.dfuse_link.specs.Reactions.{Reaction}
 use Rattle.dfuse_link.specs.Histories.{IsSeenOf, Paired, UnderWay, none, request, Turn, sent, waited, restarted}
 use Rattle.dfuse_link.specs.Promises.{IsFor}
-use Rattle.dfuse_link.proofs.Claims.{IsQuiet, MayHave, Stands, StandsIn}
-use Rattle.dfuse_link.proofs.Deviced.{not_busy, advances_has}
+use Rattle.dfuse_link.proofs.Claims.{Stands, StandsIn}
 use Rattle.dfuse_link.proofs.SentClaims.{ArrivesBy}
 use Rattle.dfuse_link.proofs.StepClaims.{sent_claims, waited_claims}
 use Rattle.dfuse_link.proofs.Sessions.{plan_after, told_claims, at_restart, restarted_claims}
-use Rattle.dfuse_link.proofs.Safe.{SafeAt, KeepsByte, DeedBringsNone, arrives_safe, advances_safe, restarts_safe, deed_none}
+use Rattle.dfuse_link.proofs.Safe.{SafeAt, KeepsByte, DeedBringsNone, arrives_safe, restarts_safe, deed_none}
 use Rattle.dfuse_link.proofs.Bytes.{byte_at, has_address}
 use Rattle.dfuse_link.proofs.ReadClaims.{read_right}
 
@@ -38,7 +36,7 @@ IsRight chip plan d a = (d.memory a ≡ byte_at a plan.image.now) × SafeAt chip
 pub record IsSo (chip : Chip) (l : Paired) : Type 0 where
   pub for : IsFor chip l.session.plan
   pub closes : ClosesIn l.session.phase
-  pub stands : StandsIn l.session.plan l.session.phase l.device
+  pub stands : StandsIn chip l.session.plan l.session.phase l.device
   pub right : (a : ℕ) → HasByte a l.session.plan.image.now → WasReadIn l.session.plan l.session.phase a →
       IsRight chip l.session.plan l.device a
 
@@ -61,7 +59,8 @@ below_end chip plan a for b = has_address (wants false false false) a plan.map.n
 
 -- ---- a byte that was read before
 
-kept_right : (chip : Chip) (plan : Plan) (d d' : Device) (a : ℕ) → KeepsByte chip a d d' → IsRight chip plan d a → IsRight chip plan d' a
+pub kept_right : (chip : Chip) (plan : Plan) (d d' : Device) (a : ℕ) → KeepsByte chip a d d' → IsRight chip plan d a →
+    IsRight chip plan d' a
 kept_right chip plan d d' a k h = (k.byte ∙ h.0, k.safe)
 
 pub by_deed : (chip : Chip) (a : ℕ) (x : Deed) (d : Device) (r : Option Reaction) (d' : Device) → ArrivesBy chip x d r d' →
@@ -71,21 +70,21 @@ by_deed chip a (Send q body) d r d' comes new safe = arrives_safe chip a q body 
 by_deed chip a (Wait ms) d r d' comes new safe = absurd comes
 by_deed chip a (Done report) d r d' comes new safe = absurd comes
 
-phase_none : (chip : Chip) (plan : Plan) (a : ℕ) (p : Phase) (d : Device) → WasReadIn plan p a → StandsIn plan p d →
+phase_none : (chip : Chip) (plan : Plan) (a : ℕ) (p : Phase) (d : Device) → WasReadIn plan p a → StandsIn chip plan p d →
     DeedBringsNone chip a (deed plan p) d.pointer
 phase_none chip plan a (On at) d was k = deed_none chip plan a at.work at.place at.step d was k
 phase_none chip plan a (Over r) d was k = tt
 
 before_right : (chip : Chip) (plan : Plan) (a : ℕ) (p : Phase) (d : Device) (r : Option Reaction) (d' : Device) →
     ArrivesBy chip (deed plan p) d r d' →
-    StandsIn plan p d → WasReadIn plan p a → IsRight chip plan d a → KeepsByte chip a d d'
+    StandsIn chip plan p d → WasReadIn plan p a → IsRight chip plan d a → KeepsByte chip a d d'
 before_right chip plan a p d r d' comes k was h = by_deed chip a (deed plan p) d r d' comes (phase_none chip plan a p d was k) h.1
 
 -- ---- a byte that is read just now
 
 step_right : (chip : Chip) (plan : Plan) (for : IsFor chip plan) (a : ℕ) → HasByte a plan.image.now →
     (w : Work) (p : Place) (s : Step) (d d' : Device)
-    (h : AnyHeard) (r : Option Reaction) (x : Seen) → Stands plan w p s d → ArrivesBy chip (deed_of plan w p s) d r d' → IsSeenOf r x →
+    (h : AnyHeard) (r : Option Reaction) (x : Seen) → Stands chip plan w p s d → ArrivesBy chip (deed_of plan w p s) d r d' → IsSeenOf r x →
     Hears plan w s x h → ReadsBack plan w s h a → IsRight chip plan d' a
 step_right chip plan for a b w p step.Read d d' h r x k comes is hears reads =
     read_right chip plan w a for.transfer (some_transfer chip plan for) (is_apart chip plan for)
@@ -95,7 +94,7 @@ step_right chip plan for a b w p s d d' h r x k comes is hears reads = absurd re
 
 phase_right : (chip : Chip) (plan : Plan) (for : IsFor chip plan) (a : ℕ) → HasByte a plan.image.now →
     (p : Phase) (d d' : Device) (h : AnyHeard)
-    (r : Option Reaction) (x : Seen) → StandsIn plan p d → ArrivesBy chip (deed plan p) d r d' → IsSeenOf r x → HearsIn plan p x h →
+    (r : Option Reaction) (x : Seen) → StandsIn chip plan p d → ArrivesBy chip (deed plan p) d r d' → IsSeenOf r x → HearsIn plan p x h →
     ReadsBackIn plan p h a → IsRight chip plan d' a
 phase_right chip plan for a b (On at) d d' h r x k comes is hears reads =
     step_right chip plan for a b at.work at.place at.step d d' h r x k comes is hears reads
@@ -120,39 +119,41 @@ phase_restarts plan (Over r) h a e reads = reads
 
 -- ---- what is so at the next step
 
-over_stands : (s : Session) (rep : Phase) (d : Device) → s.phase ≡ rep → StandsIn s.plan rep d → StandsIn s.plan s.phase d
-over_stands s rep d e k = subst (λ (p : Phase). StandsIn s.plan p d) (sym e) k
+over_stands : (chip : Chip) (s : Session) (rep : Phase) (d : Device) → s.phase ≡ rep → StandsIn chip s.plan rep d →
+    StandsIn chip s.plan s.phase d
+over_stands chip s rep d e k = subst (λ (p : Phase). StandsIn chip s.plan p d) (sym e) k
 
 sent_stands : (chip : Chip) (s : Session) (p : Phase) (d d' : Device) (h : AnyHeard) (r : Option Reaction) (x : Seen) → s.phase ≡ p →
-    StandsIn s.plan p d →
-    ArrivesBy chip (deed s.plan p) d r d' → IsSeenOf r x → HearsIn s.plan p x h → StandsIn s.plan (after_phase s p h).phase d'
+    StandsIn chip s.plan p d →
+    ArrivesBy chip (deed s.plan p) d r d' → IsSeenOf r x → HearsIn s.plan p x h → StandsIn chip s.plan (after_phase s p h).phase d'
 sent_stands chip s (On at) d d' h r x e k comes is hears =
-    told_claims s d' at.work at.place at.step h (sent_claims chip s.plan at.work at.place d d' h at.step r x k comes is hears)
+    told_claims chip s d' at.work at.place at.step h (sent_claims chip s.plan at.work at.place d d' h at.step r x k comes is hears)
 sent_stands chip s (Over rep) d d' h r x e k comes is hears = absurd comes
 
-waited_stands : (chip : Chip) (s : Session) (p : Phase) (d : Device) (h : AnyHeard) (ms : ℕ) → s.phase ≡ p → StandsIn s.plan p d →
-    deed s.plan p ≡ Wait ms → StandsIn s.plan (after_phase s p h).phase d
+waited_stands : (chip : Chip) (s : Session) (p : Phase) (d : Device) (h : AnyHeard) (ms : ℕ) → s.phase ≡ p → StandsIn chip s.plan p d →
+    deed s.plan p ≡ Wait ms → StandsIn chip s.plan (after_phase s p h).phase d
 waited_stands chip s (On at) d h ms e k is =
-    told_claims s d at.work at.place at.step h (waited_claims chip s.plan at.work at.place d h at.step ms k is)
-waited_stands chip s (Over rep) d h ms e k is = over_stands s (Over rep) d e tt
+    told_claims chip s d at.work at.place at.step h (waited_claims chip s.plan at.work at.place d h at.step ms k is)
+waited_stands chip s (Over rep) d h ms e k is = over_stands chip s (Over rep) d e tt
 
-restarted_stands : (s : Session) (p : Phase) (d : Device) (h : AnyHeard) → s.phase ≡ p → HearsIn s.plan p seen.Restarted h →
-    StandsIn s.plan (after_phase s p h).phase d
-restarted_stands s (On at) d h e hears = restarted_claims s d at.work at.place at.step h _ hears (at_restart s d at.work at.place at.step)
-restarted_stands s (Over rep) d h e hears = over_stands s (Over rep) d e tt
+restarted_stands : (chip : Chip) (s : Session) (p : Phase) (d : Device) (h : AnyHeard) → s.phase ≡ p → HearsIn s.plan p seen.Restarted h →
+    StandsIn chip s.plan (after_phase s p h).phase d
+restarted_stands chip s (On at) d h e hears =
+    restarted_claims chip s d at.work at.place at.step h _ hears (at_restart chip s d at.work at.place at.step)
+restarted_stands chip s (Over rep) d h e hears = over_stands chip s (Over rep) d e tt
 
 -- ---- turns
 
 -- All is so of a session, by what its plan and phase are.
 so_at : (chip : Chip) (l : Paired) (plan : Plan) (phase : Phase) → l.session.plan ≡ plan → l.session.phase ≡ phase → IsFor chip plan →
     ClosesIn phase →
-    StandsIn plan phase l.device → ((a : ℕ) → HasByte a plan.image.now → WasReadIn plan phase a → IsRight chip plan l.device a) →
+    StandsIn chip plan phase l.device → ((a : ℕ) → HasByte a plan.image.now → WasReadIn plan phase a → IsRight chip plan l.device a) →
     IsSo chip l
 so_at chip l plan phase e f for closes stands right = record {
   for = subst (IsFor chip) (sym e) for;
   closes = subst ClosesIn (sym f) closes;
-  stands = subst (λ (p : Phase). StandsIn l.session.plan p l.device) (sym f)
-      (subst (λ (q : Plan). StandsIn q phase l.device) (sym e) stands);
+  stands = subst (λ (p : Phase). StandsIn chip l.session.plan p l.device) (sym f)
+      (subst (λ (q : Plan). StandsIn chip q phase l.device) (sym e) stands);
   right = subst (λ (p : Phase). (a : ℕ) → HasByte a l.session.plan.image.now → WasReadIn l.session.plan p a →
       IsRight chip l.session.plan l.device a) (sym f)
       (subst (λ (q : Plan). (a : ℕ) → HasByte a q.image.now → WasReadIn q phase a → IsRight chip q l.device a) (sym e) right);
@@ -161,7 +162,7 @@ so_at chip l plan phase e f for closes stands right = record {
 module _ (chip : Chip) (only : OnlyReadBack) (always : ClosesAlways) where
   -- The next step, by what was read before and just now.
   goes : (l l' : Paired) (x : Seen) → IsSo chip l → (row : SessionRow l.session x l'.session) →
-      StandsIn l.session.plan (after l.session row.heard).phase l'.device →
+      StandsIn chip l.session.plan (after l.session row.heard).phase l'.device →
       ((a : ℕ) → HasByte a l.session.plan.image.now → WasReadIn l.session.plan l.session.phase a → IsRight chip l.session.plan l'.device a)
       →
       ((a : ℕ) → HasByte a l.session.plan.image.now → ReadsBackIn l.session.plan l.session.phase row.heard a →
@@ -179,7 +180,7 @@ module _ (chip : Chip) (only : OnlyReadBack) (always : ClosesAlways) where
       ] in
       so_at chip l' l.session.plan (after l.session row.heard).phase plan phase so.for (always l.session row.heard so.closes) stands right
 
-  under_way : (s : Session) (p : Phase) (d mid : Device) (a : ℕ) → s.phase ≡ p → UnderWay chip s d mid → StandsIn s.plan s.phase d →
+  under_way : (s : Session) (p : Phase) (d mid : Device) (a : ℕ) → s.phase ≡ p → UnderWay chip s d mid → StandsIn chip s.plan s.phase d →
       WasReadIn s.plan s.phase a → IsRight chip s.plan d a → KeepsByte chip a d mid
   under_way s p d _ a e none k was h = record { byte = refl; safe = h.1 }
   under_way s p d mid a e (request {reaction = reaction} q body is comes) k was h =
@@ -197,54 +198,16 @@ module _ (chip : Chip) (only : OnlyReadBack) (always : ClosesAlways) where
       row.hears reads)
   turn_so l l' x (waited ms is same seen row) so =
       goes l l' x so row
-      (subst (λ (d : Device). StandsIn l.session.plan (after l.session row.heard).phase d) (sym same)
+      (subst (λ (d : Device). StandsIn chip l.session.plan (after l.session row.heard).phase d) (sym same)
       (waited_stands chip l.session l.session.phase l.device row.heard ms refl so.stands is))
       (λ a b was. subst (λ (d : Device). IsRight chip l.session.plan d a) (sym same) (so.right a b was))
       (λ a b reads. absurd (phase_waits l.session.plan l.session.phase row.heard ms a is reads))
   turn_so l l' x (restarted mid way restarts seen row) so =
       let hears = subst (λ (y : Seen). HearsIn l.session.plan l.session.phase y row.heard) seen row.hears in
       goes l l' x so row
-      (restarted_stands l.session l.session.phase l'.device row.heard refl hears)
+      (restarted_stands chip l.session l.session.phase l'.device row.heard refl hears)
       (λ a b was.
       let one = under_way l.session l.session.phase l.device mid a refl way so.stands was (so.right a b was) in
       kept_right chip l.session.plan mid l'.device a (restarts_safe chip a mid l'.device restarts one.safe)
       (kept_right chip l.session.plan l.device mid a one (so.right a b was)))
       (λ a b reads. absurd (phase_restarts l.session.plan l.session.phase row.heard a hears reads))
-
--- ---- a device that goes on by itself
-
-pub busy_of : (chip : Chip) (d d' : Device) → Advances chip d d' → (order : Order) × (d.doing ≡ Busy order)
-busy_of chip d d' (goes_on order e e' changed) = (order, e)
-busy_of chip d d' (ends order s e e' end changed pointed) = (order, e)
-busy_of chip d d' (fails order e e' changed) = (order, e)
-
-never_quiet : (chip : Chip) (d d' : Device) → Advances chip d d' → IsQuiet d.doing → ⊥
-never_quiet chip d d' x h = let b = busy_of chip d d' x in not_busy d.doing b.0 b.1 h
-
-never_may : (chip : Chip) (c : AnyCommand) (d d' : Device) → Advances chip d d' → MayHave c d.doing → ⊥
-never_may chip c d d' x h = let b = busy_of chip d d' x in subst (MayHave c) b.1 h
-
-step_passes : (chip : Chip) (plan : Plan) (w : Work) (p : Place) (s : Step) (d d' : Device) → Advances chip d d' → Stands plan w p s d →
-    Stands plan w p s d'
-step_passes chip plan w p step.Send d d' x k = absurd (never_may chip (command_of plan w p) d d' x k.0)
-step_passes chip plan w p step.Probe d d' x k = absurd (never_may chip (command_of plan w p) d d' x k.0)
-step_passes chip plan w p (step.Poll last) d d' x k = advances_has chip (command_of plan w p) p d d' x k
-step_passes chip plan w p (step.PollWait ms) d d' x k = advances_has chip (command_of plan w p) p d d' x k
-step_passes chip plan w p step.BeginReading d d' x k = absurd (never_quiet chip d d' x k.0)
-step_passes chip plan w p step.EndReading d d' x k = absurd (never_quiet chip d d' x k.0)
-step_passes chip plan w p step.Read d d' x k = absurd (never_quiet chip d d' x k.0)
-step_passes chip plan w p s d d' x k = tt
-
-phase_passes : (chip : Chip) (plan : Plan) (p : Phase) (d d' : Device) → Advances chip d d' → StandsIn plan p d → StandsIn plan p d'
-phase_passes chip plan (On at) d d' x k = step_passes chip plan at.work at.place at.step d d' x k
-phase_passes chip plan (Over r) d d' x k = tt
-
-pub passes_so : (chip : Chip) (l : Paired) (d : Device) → Advances chip l.device d → IsSo chip l →
-    IsSo chip (record { device = d; session = l.session })
-passes_so chip l d x so = record {
-  for = so.for;
-  closes = so.closes;
-  stands = phase_passes chip l.session.plan l.session.phase l.device d x so.stands;
-  right = λ a b was.
-      kept_right chip l.session.plan l.device d a (advances_safe chip a l.device d x (so.right a b was).1) (so.right a b was);
-}

@@ -13,7 +13,8 @@ use Rattle.dfuse_link.specs.Promises.{HasElements, IsFor, VerifiedIsTrue, met}
 use Rattle.dfuse_link.proofs.Rows.{turn_row}
 use Rattle.dfuse_link.proofs.Sessions.{plan_after}
 use Rattle.dfuse_link.proofs.Bytes.{all_stands}
-use Rattle.dfuse_link.proofs.Turns.{IsSo, is_apart, turn_so, passes_so}
+use Rattle.dfuse_link.proofs.Passing.{passes_so}
+use Rattle.dfuse_link.proofs.Turns.{IsSo, is_apart, turn_so}
 
 -- All is so when a session begins: no byte counts as read back.
 pub begins_so : (chip : Chip) (plan : Plan) (limits : Limits) (d : Device) → IsFor chip plan → IsSo chip (met d plan limits)

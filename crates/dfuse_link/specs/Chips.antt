@@ -3,11 +3,12 @@ use Rattle.std.specs.Prelude.{◌≡◌, ℕ, ◌+◌, ◌<◌, ◌≤◌, Bool,
 use Rattle.dfu_wire.specs.declared.states.State.{State}
 use Rattle.dfu_wire.specs.declared.states.State.TheVariants as state
 
--- How a device was made: it counts addresses by blocks of so many bytes, and an erase at the first address may change the byte of the
--- second.
+-- How a device was made: it counts addresses by blocks of so many bytes, an erase at the first address may change the byte of the second,
+-- and these are the bytes that an erase leaves: one, as FFh, or any if its erases can't be relied on.
 pub record Chip : Type 0 where
   pub transfer : ℕ
   pub erases : (at a : ℕ) → Bool
+  pub blank : (byte : ℕ) → Bool
 
 -- What a DNLOAD asks for: to set the address pointer, to erase the page of an address, to write so many bytes from an address on, or any
 -- other thing.
@@ -43,14 +44,26 @@ MayChange chip (Erases at) a = chip.erases at a ≡ true
 MayChange chip (Programs at count) a = (at ≤ a) × (a < at + count)
 MayChange chip Other a = Unit {0}
 
+-- An erase leaves a blank byte blank, also if it is cut off.
+abbrev pub KeepsBlanks : Chip → Order → (memory memory' : ℕ → ℕ) → Type 0
+KeepsBlanks chip (Erases at) memory memory' = (a : ℕ) → chip.blank (memory a) ≡ true → chip.blank (memory' a) ≡ true
+KeepsBlanks chip order memory memory' = Unit {0}
+
 -- A memory became another one by an order alone.
 abbrev pub ChangedBy : Chip → Order → (memory memory' : ℕ → ℕ) → Type 0
-ChangedBy chip order memory memory' = (a : ℕ) → (MayChange chip order a → ⊥) → memory' a ≡ memory a
+ChangedBy chip order memory memory' =
+    ((a : ℕ) → (MayChange chip order a → ⊥) → memory' a ≡ memory a) × KeepsBlanks chip order memory memory'
 
--- A device that is done with an order: the pointer is where it was to be set. Behind any other order it may be anywhere.
-abbrev pub IsPointed : Order → (pointer : ℕ) → Type 0
-IsPointed (Points at) pointer = pointer ≡ at
-IsPointed order pointer = Unit {0}
+-- What an order to erase reaches is blank.
+abbrev pub IsBlanked : Chip → (at : ℕ) → (memory : ℕ → ℕ) → Type 0
+IsBlanked chip at memory = (a : ℕ) → chip.erases at a ≡ true → chip.blank (memory a) ≡ true
+
+-- A device that is done with an order: the pointer is where it was to be set, or the bytes that it was to erase are blank. Behind any other
+-- order the pointer may be anywhere.
+abbrev pub IsCarried : Chip → Order → (pointer : ℕ) → (memory : ℕ → ℕ) → Type 0
+IsCarried chip (Points at) pointer memory = pointer ≡ at
+IsCarried chip (Erases at) pointer memory = IsBlanked chip at memory
+IsCarried chip order pointer memory = Unit {0}
 
 -- The states in which a device may be that is done with an order, until it tells so.
 abbrev pub IsEnd : State → Type 0
@@ -63,7 +76,7 @@ IsEnd s = ⊥
 pub data Advances (chip : Chip) (d d' : Device) : Type 0 where
   goes_on : (order : Order) → d.doing ≡ Busy order → d'.doing ≡ Busy order → ChangedBy chip order d.memory d'.memory → Advances chip d d'
   ends : (order : Order) (s : State) → d.doing ≡ Busy order → d'.doing ≡ Rests s → IsEnd s → ChangedBy chip order d.memory d'.memory
-      → IsPointed order d'.pointer → Advances chip d d'
+      → IsCarried chip order d'.pointer d'.memory → Advances chip d d'
   fails : (order : Order) → d.doing ≡ Busy order → d'.doing ≡ Rests state.Error → ChangedBy chip order d.memory d'.memory →
       Advances chip d d'
 
@@ -73,3 +86,4 @@ pub record Restarts (chip : Chip) (d d' : Device) : Type 0 where
   pub state : State
   pub rests : d'.doing ≡ Rests state
   pub memory : (a : ℕ) → ((order : Order) → d.doing ≡ Busy order → MayChange chip order a → ⊥) → d'.memory a ≡ d.memory a
+  pub blanks : (order : Order) → d.doing ≡ Busy order → KeepsBlanks chip order d.memory d'.memory

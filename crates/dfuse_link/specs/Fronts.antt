@@ -1,17 +1,21 @@
--- What stands in a device's memory while a session writes its front.
-use Rattle.std.specs.Prelude.{◌≡◌, ℕ, ◌-◌, ◌≤◌, List, Some, slice_index}
+-- What stands in a device's memory before a session has written its front.
+use Rattle.std.specs.Prelude.{◌≡◌, ℕ, ◌-◌, ◌<◌, ◌≤◌, ◌⊎◌, true, List, Some, slice_index}
+use Rattle.dfuse_memory.specs.Ranges.{are_apart}
 use Rattle.dfuse_host.specs.declared.element.Element.{Element}
 use Rattle.dfuse_host.specs.declared.plan.Plan.{Plan}
 use Rattle.dfuse_host.specs.declared.phase.Phase.TheVariants.{On}
 use Rattle.dfuse_host.specs.declared.phase.Standing.{Standing}
+use Rattle.dfuse_host.specs.declared.work.Work.{Work}
+use Rattle.dfuse_host.specs.declared.work.Work.TheVariants as work
 use Rattle.dfuse_host.specs.declared.work.Work.TheVariants.{WriteFront}
 use Rattle.dfuse_host.specs.declared.seen.Seen.{Seen}
 use Rattle.dfuse_host.specs.declared.limits.Limits.{Limits}
-use Rattle.dfuse_host.specs.Images.{element_at}
-use Rattle.dfuse_host.specs.Plans.{front_end}
+use Rattle.dfuse_host.specs.Images.{element_at, image_start}
+use Rattle.dfuse_host.specs.Plans.{page_start, front_end}
 use Rattle.dfuse_link.specs.Chips.{Chip, Device}
 use Rattle.dfuse_link.specs.Histories.{Paired, History}
 use Rattle.dfuse_link.specs.Promises.{IsFor, met}
+use Rattle.dfuse_link.specs.Touched.{IsTrueMap, CarriesNone}
 
 -- While a session writes its front, each byte of an element behind the front stands in the memory.
 abbrev pub RestStands : Type 0
@@ -19,3 +23,53 @@ RestStands = (chip : Chip) (plan : Plan) (limits : Limits) (d : Device) (seens :
     (e : Element)
     → IsFor chip plan → History chip (met d plan limits) seens l → l.session.phase ≡ On s → s.work ≡ WriteFront at
     → element_at a plan.image.now ≡ Some e → front_end plan ≤ a → l.device.memory a ≡ slice_index e.bytes.now (a - e.address)
+
+-- An address of the front.
+abbrev pub IsOfFront : Plan → (a : ℕ) → Type 0
+IsOfFront plan a = (image_start plan.image.now ≤ a) × (a < front_end plan)
+
+-- An address that isn't on the front's page.
+abbrev pub IsElsewhere : Plan → (a : ℕ) → Type 0
+IsElsewhere plan a = page_start plan a ≡ page_start plan (image_start plan.image.now) → ⊥
+
+-- An erase of the front's page reaches the front.
+abbrev pub ErasesFront : Chip → Plan → Type 0
+ErasesFront chip plan = (a : ℕ) → IsOfFront plan a → chip.erases (page_start plan (image_start plan.image.now)) a ≡ true
+
+-- All that isn't on the front's page is as before.
+abbrev pub OthersAreOld : Plan → (first memory : ℕ → ℕ) → Type 0
+OthersAreOld plan first memory = (a : ℕ) → IsElsewhere plan a → memory a ≡ first a
+
+-- Each byte of the image that isn't on the front's page stands.
+abbrev pub OthersAreNew : Plan → (memory : ℕ → ℕ) → Type 0
+OthersAreNew plan memory =
+    (a : ℕ) (e : Element) → IsElsewhere plan a → element_at a plan.image.now ≡ Some e → memory a ≡ slice_index e.bytes.now (a - e.address)
+
+-- Each byte of the front is as an erase leaves it.
+abbrev pub FrontIsBlank : Chip → Plan → (memory : ℕ → ℕ) → Type 0
+FrontIsBlank chip plan memory = (a : ℕ) → IsOfFront plan a → chip.blank (memory a) ≡ true
+
+-- At each moment the front is blank, or what isn't on its page is all old, or all new.
+abbrev pub NoMixture : Type 0
+NoMixture = (chip : Chip) (plan : Plan) (limits : Limits) (d : Device) (seens : List Seen) (l : Paired) → IsFor chip plan →
+    are_apart plan.map.now.ranges ≡ true → IsTrueMap chip plan → ErasesFront chip plan → CarriesNone d →
+    History chip (met d plan limits) seens l →
+    OthersAreOld plan d.memory l.device.memory ⊎ (FrontIsBlank chip plan l.device.memory ⊎ OthersAreNew plan l.device.memory)
+
+-- Each byte of the image behind the front stands.
+abbrev pub RestIsNew : Plan → (memory : ℕ → ℕ) → Type 0
+RestIsNew plan memory =
+    (a : ℕ) (e : Element) → front_end plan ≤ a → element_at a plan.image.now ≡ Some e → memory a ≡ slice_index e.bytes.now (a - e.address)
+
+-- A work is to erase a page.
+abbrev pub IsToErase : Work → Type 0
+IsToErase (work.Erase at) = Unit {0}
+IsToErase (work.EraseAgain page end) = Unit {0}
+IsToErase w = ⊥
+
+-- While a session's work is another one than to erase, the front is blank, or all behind it stands, on its page too.
+abbrev pub NoneButErasing : Type 0
+NoneButErasing = (chip : Chip) (plan : Plan) (limits : Limits) (d : Device) (seens : List Seen) (l : Paired) (s : Standing) →
+    IsFor chip plan → are_apart plan.map.now.ranges ≡ true → IsTrueMap chip plan → ErasesFront chip plan → CarriesNone d →
+    History chip (met d plan limits) seens l → l.session.phase ≡ On s → (IsToErase s.work → ⊥) →
+    FrontIsBlank chip plan l.device.memory ⊎ RestIsNew plan l.device.memory

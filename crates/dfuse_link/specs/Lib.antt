@@ -1,4 +1,6 @@
 pub mod Chips
+pub mod CleanRuns
+pub mod Counts
 pub mod Fronts
 pub mod Histories
 pub mod Promises

@@ -1,11 +1,13 @@
 //! Laws of sessions with a DfuSe device. Each is the contract of a function that calls other laws alone, which is proved and not to be
 //! called for what it does.
 
-ghost use Rattle.dfuse_link.specs.Fronts.{RestStands};
+ghost use Rattle.dfuse_link.specs.Counts.{CleanRunsAreCounted, PlansHaveCounts};
+ghost use Rattle.dfuse_link.specs.Fronts.{NoMixture, NoneButErasing, RestStands};
 ghost use Rattle.dfuse_link.specs.Promises.{EndsInTime, HistoriesAreRows, VerifiedIsTrue};
 ghost use Rattle.dfuse_link.specs.Touched.{OthersStay};
 
 use dfuse_host::laws::{only_touched, sessions_end, verified_is_read_back};
+use dfuse_memory::laws::one_page;
 
 /// A session with a device is over in time.
 pub fn sessions_end_in_time()
@@ -35,6 +37,27 @@ pub fn rest_stands()
 pub fn others_stay()
     ensures { OthersStay }
 {
+    verified_is_read_back();
+    only_touched();
+}
+
+/// If nothing gets lost, and the device works, a session ends as Verified after exactly as many requests and waits as its plan's pages and
+/// blocks make, and no earlier. Each plan has such numbers.
+pub fn clean_runs_are_counted()
+    ensures exact { CleanRunsAreCounted }
+    ensures counts { PlansHaveCounts }
+{
+    one_page();
+}
+
+/// If the map is true, the device carries out no order at first, and an erase of the front's page reaches the front, then at each moment
+/// the front is blank, or what isn't on its page is all as it was, or the image stands there. While the session's work is another one than
+/// to erase, the front is blank, or the image stands behind it, on its page too.
+pub fn no_mixture()
+    ensures always { NoMixture }
+    ensures but_erasing { NoneButErasing }
+{
+    one_page();
     verified_is_read_back();
     only_touched();
 }

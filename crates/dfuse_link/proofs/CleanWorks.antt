@@ -1,0 +1,121 @@
+-- The works of a session, as they erase, write and read.
+use Rattle.std.proofs.Common.{◌≡◌, ℕ, ◌≤◌, Some, None, refl, ap, arith}
+use Rattle.dfuse_host.specs.declared.plan.Plan.{Plan}
+use Rattle.dfuse_host.specs.declared.work.Work.TheVariants as work
+use Rattle.dfuse_host.specs.declared.place.Place.{Place}
+use Rattle.dfuse_host.specs.declared.place.Place.TheVariants as place
+use Rattle.dfuse_host.specs.Images.{image_start, image_end}
+use Rattle.dfuse_host.specs.Plans.{page_end, front_end}
+use Rattle.dfuse_host.specs.Settling.{stand, settle, sending, comparing, byte_in, to_leave, compare_front_or, to_compare_front, write_front_or, to_write_front, compare_or, to_compare, write_or, to_write, to_erase}
+use Rattle.dfuse_link.specs.Counts.{IsPlanned}
+use Rattle.dfuse_link.proofs.NextBytes.{IsByteIn}
+use Rattle.dfuse_link.proofs.BlockEnds.{write_last}
+use Rattle.dfuse_link.proofs.OnPages.{ends_at, has_page}
+use Rattle.dfuse_link.proofs.CleanWriting.{IsWriting}
+use Rattle.dfuse_link.proofs.CleanReading.{IsReading}
+
+write_none : (plan : Plan) (p : Place) (at end : ℕ) → byte_in plan at end ≡ None →
+    to_write plan p at end ≡ to_compare plan p (front_end plan)
+unfolding to_write
+write_none plan p at end e = ap (write_or plan p end) e
+
+write_some : (plan : Plan) (p : Place) (at end b : ℕ) → byte_in plan at end ≡ Some b →
+    to_write plan p at end ≡ stand (work.Write b end) p (sending p)
+unfolding to_write
+write_some plan p at end b e = ap (write_or plan p end) e
+
+settles_write : (plan : Plan) (p : Place) (b end : ℕ) → settle plan (work.Write b end) p ≡ to_write plan p b end
+unfolding settle
+settles_write plan p b end = refl
+
+compare_none : (plan : Plan) (p : Place) (at : ℕ) → byte_in plan at (image_end plan.image.now) ≡ None →
+    to_compare plan p at ≡ to_write_front plan p (image_start plan.image.now)
+unfolding to_compare
+compare_none plan p at e = ap (compare_or plan p) e
+
+compare_some : (plan : Plan) (p : Place) (at b : ℕ) → byte_in plan at (image_end plan.image.now) ≡ Some b →
+    to_compare plan p at ≡ stand (work.Compare b) p (comparing plan b p)
+unfolding to_compare
+compare_some plan p at b e = ap (compare_or plan p) e
+
+settles_compare : (plan : Plan) (p : Place) (b : ℕ) → settle plan (work.Compare b) p ≡ to_compare plan p b
+unfolding settle
+settles_compare plan p b = refl
+
+pub write_front_none : (plan : Plan) (p : Place) (at : ℕ) → byte_in plan at (front_end plan) ≡ None →
+    to_write_front plan p at ≡ to_compare_front plan p (image_start plan.image.now)
+unfolding to_write_front
+write_front_none plan p at e = ap (write_front_or plan p) e
+
+write_front_some : (plan : Plan) (p : Place) (at b : ℕ) → byte_in plan at (front_end plan) ≡ Some b →
+    to_write_front plan p at ≡ stand (work.WriteFront b) p (sending p)
+unfolding to_write_front
+write_front_some plan p at b e = ap (write_front_or plan p) e
+
+settles_write_front : (plan : Plan) (p : Place) (b : ℕ) → settle plan (work.WriteFront b) p ≡ to_write_front plan p b
+unfolding settle
+settles_write_front plan p b = refl
+
+pub compare_front_none : (plan : Plan) (p : Place) (at : ℕ) → byte_in plan at (front_end plan) ≡ None →
+    to_compare_front plan p at ≡ to_leave plan p
+unfolding to_compare_front
+compare_front_none plan p at e = ap (compare_front_or plan p) e
+
+compare_front_some : (plan : Plan) (p : Place) (at b : ℕ) → byte_in plan at (front_end plan) ≡ Some b →
+    to_compare_front plan p at ≡ stand (work.CompareFront b) p (comparing plan b p)
+unfolding to_compare_front
+compare_front_some plan p at b e = ap (compare_front_or plan p) e
+
+settles_compare_front : (plan : Plan) (p : Place) (b : ℕ) → settle plan (work.CompareFront b) p ≡ to_compare_front plan p b
+unfolding settle
+settles_compare_front plan p b = refl
+
+pub settles_erase : (plan : Plan) (p : Place) (b : ℕ) → settle plan (work.Erase b) p ≡ to_erase plan p b
+unfolding settle
+settles_erase plan p b = refl
+
+module _ (plan : Plan) (ready : IsPlanned plan) where
+  page_behind : (b : ℕ) (at end : ℕ) → IsByteIn plan at end b → b ≤ page_end plan b
+  page_behind b at end is =
+      let h = has_page plan b ready.sound ready.ranges is.has in omega (arith, ends_at plan b h.page h.on, h.on.high)
+
+  pub writing_rest : IsWriting plan (λ b. work.Write b (image_end plan.image.now)) (λ p at. to_write plan p at (image_end plan.image.now))
+      (image_end plan.image.now) (λ p. to_compare plan p (front_end plan))
+  writing_rest = record {
+    none = λ p at e. write_none plan p at (image_end plan.image.now) e;
+    some = λ p at b e. write_some plan p at (image_end plan.image.now) b e;
+    sends = λ p b. refl;
+    settles = λ p b. settles_write plan p b (image_end plan.image.now);
+    writes = λ at b is.
+        ap (λ (n : ℕ). to_write plan place.Lost n (image_end plan.image.now))
+        (write_last plan b (image_end plan.image.now) is.has is.to (page_behind b at (image_end plan.image.now) is));
+  }
+
+  pub writing_front : IsWriting plan (λ b. work.WriteFront b) (λ p at. to_write_front plan p at) (front_end plan)
+      (λ p. to_compare_front plan p (image_start plan.image.now))
+  writing_front = record {
+    none = λ p at e. write_front_none plan p at e;
+    some = λ p at b e. write_front_some plan p at b e;
+    sends = λ p b. refl;
+    settles = λ p b. settles_write_front plan p b;
+    writes = λ at b is. refl;
+  }
+
+  pub reading_rest : IsReading plan (λ b. work.Compare b) (λ p at. to_compare plan p at) (image_end plan.image.now)
+      (λ p. to_write_front plan p (image_start plan.image.now))
+  reading_rest = record {
+    none = λ p at e. compare_none plan p at e;
+    some = λ p at b e. compare_some plan p at b e;
+    sends = λ p b. refl;
+    settles = λ p b. settles_compare plan p b;
+    reads = λ b. refl;
+  }
+
+  pub reading_front : IsReading plan (λ b. work.CompareFront b) (λ p at. to_compare_front plan p at) (front_end plan) (λ p. to_leave plan p)
+  reading_front = record {
+    none = λ p at e. compare_front_none plan p at e;
+    some = λ p at b e. compare_front_some plan p at b e;
+    sends = λ p b. refl;
+    settles = λ p b. settles_compare_front plan p b;
+    reads = λ b. refl;
+  }

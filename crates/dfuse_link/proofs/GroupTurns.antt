@@ -1,0 +1,142 @@
+-- Turns that stay with some works, or go on behind a command that is done.
+use Rattle.std.proofs.Common.{◌≡◌, ℕ, zero, suc, pred, inl, Option, refl, sym, ap, subst}
+use Rattle.dfuse_host.specs.declared.plan.Plan.{Plan}
+use Rattle.dfuse_host.specs.declared.phase.Phase.{Phase}
+use Rattle.dfuse_host.specs.declared.phase.Phase.TheVariants.{On, Over}
+use Rattle.dfuse_host.specs.declared.work.Work.{Work}
+use Rattle.dfuse_host.specs.declared.work.Work.TheVariants as work
+use Rattle.dfuse_host.specs.declared.place.Place.{Place}
+use Rattle.dfuse_host.specs.declared.step.Step.{Step}
+use Rattle.dfuse_host.specs.declared.step.Step.TheVariants as step
+use Rattle.dfuse_host.specs.declared.report.Report.TheVariants as report
+use Rattle.dfuse_host.specs.declared.report.Leaving.TheVariants as leaving
+use Rattle.dfuse_host.specs.declared.seen.Seen.{Seen}
+use Rattle.dfuse_host.specs.declared.seen.Seen.TheVariants as seen
+use Rattle.dfuse_host.specs.declared.session.Session.{Session}
+use Rattle.dfuse_host.specs.Commands.{command_of, done}
+use Rattle.dfuse_host.specs.Deeds.{Deed, Wait, deed, deed_of, sends}
+use Rattle.dfuse_host.specs.Sessions.{budgeted, spent_at, resumed, restarted, restarted_leaving, restarted_in, told, after, after_phase, HearsIn, SessionRow}
+use Rattle.dfuse_host.specs.Table.{row}
+use Rattle.dfuse_host.specs.Wire.{Hears}
+use Rattle.dfuse_host.proofs.ForCallers.{AnyCommand, by_command, AnyHeard, by_heard}
+use Rattle.dfuse_link.specs.Chips.{Chip, Device, state_in}
+use Rattle.dfuse_link.specs.Reactions.{Reaction}
+use Rattle.dfuse_link.specs.Histories as histories
+use Rattle.dfuse_link.specs.Histories.{IsSeenOf, Paired, Turn, sent, waited}
+use Rattle.dfuse_link.proofs.Claims.{IsQuiet, IsDone, Stands, StandsIn}
+use Rattle.dfuse_link.proofs.Deviced.{statuses_have, told_done}
+use Rattle.dfuse_link.proofs.Heards.{arrived_status, says_status}
+use Rattle.dfuse_link.proofs.SentClaims.{ArrivesBy}
+use Rattle.dfuse_link.proofs.Staying.{InPhase}
+use Rattle.dfuse_link.proofs.GroupRows.{GoesIn, IsGroup, Asks, poll_goes, row_goes}
+
+-- ---- restarts and the budget
+
+module _ (plan : Plan) (G : Work → Type 0) (B : Type 0) (r : IsGroup plan G B) where
+  spent_goes : (w : Work) (s : Step) → GoesIn G B (spent_at w s)
+  spent_goes work.Leave s = tt
+  spent_goes w s = tt
+
+  budget_goes : (n : ℕ) (p : Phase) → GoesIn G B p → GoesIn G B (budgeted n p)
+  budget_goes n (Over rep) k = tt
+  budget_goes zero (On s) k = spent_goes s.work s.step
+  budget_goes (suc n) (On s) k = k
+
+  resumed_goes : (w : Work) (p : Place) (s : Step) → G w → GoesIn G B (resumed plan w p s)
+  resumed_goes w p (step.Poll last) g = r.doubts w (command_of plan w p) g
+  resumed_goes w p (step.PollWait ms) g = r.doubts w (command_of plan w p) g
+  resumed_goes w p s g = inl g
+
+module _ (s : Session) (G : Work → Type 0) (B : Type 0) (r : IsGroup s.plan G B) where
+  restarted_goes : (p : Phase) (n : ℕ) → GoesIn G B p → GoesIn G B (restarted s p n).phase
+  restarted_goes p zero k = budget_goes s.plan G B r (pred s.actions) (Over report.RestartsSpent) tt
+  restarted_goes p (suc n) k = budget_goes s.plan G B r (pred s.actions) p k
+
+  leaving_goes : (p : Place) (at : Step) → G work.Leave → GoesIn G B (restarted_leaving s p at).phase
+  leaving_goes p step.Close g = budget_goes s.plan G B r (pred s.actions) (Over (report.Verified leaving.Unknown)) tt
+  leaving_goes p step.CloseProbe g = budget_goes s.plan G B r (pred s.actions) (Over (report.Verified leaving.Unknown)) tt
+  leaving_goes p step.ClosePoll g = budget_goes s.plan G B r (pred s.actions) (Over (report.Verified leaving.Unknown)) tt
+  leaving_goes p at g = restarted_goes (resumed s.plan work.Leave p at) s.restarts (resumed_goes s.plan G B r work.Leave p at g)
+
+  restart_goes : (w : Work) (p : Place) (at : Step) → G w → GoesIn G B (restarted_in s w p at).phase
+  restart_goes work.Leave p at g = leaving_goes p at g
+  restart_goes w p at g = restarted_goes (resumed s.plan w p at) s.restarts (resumed_goes s.plan G B r w p at g)
+
+  told_goes : (w : Work) (p : Place) (at : Step) (h : AnyHeard) → G w → GoesIn G B (row s.plan w p at h) →
+      GoesIn G B (told s w p at h).phase
+  told_goes w p at h g =
+      by_heard (λ x. GoesIn G B (row s.plan w p at x) → GoesIn G B (told s w p at x).phase)
+      (λ k. budget_goes s.plan G B r (pred s.actions) _ k) (λ t k. budget_goes s.plan G B r (pred s.actions) _ k)
+      (λ t k. budget_goes s.plan G B r (pred s.actions) _ k) (λ b k. budget_goes s.plan G B r (pred s.actions) _ k)
+      (λ k. budget_goes s.plan G B r (pred s.actions) _ k) (λ k. budget_goes s.plan G B r (pred s.actions) _ k)
+      (λ k. budget_goes s.plan G B r (pred s.actions) _ k) (λ k. restart_goes w p at g) h
+
+-- ---- turns
+
+-- Behind a command that is done a session goes on so.
+abbrev pub DoneGoes : Chip → Plan → (G : Work → Type 0) (B : Device → Type 0) → Device → Type 0
+DoneGoes chip plan G B d =
+    (w : Work) (p : Place) → G w → IsQuiet d.doing → IsDone chip (command_of plan w p) d.pointer d.memory →
+    GoesIn G (B d) (done plan w (command_of plan w p))
+
+module _ (chip : Chip) (s : Session) (G : Work → Type 0) (B : Device → Type 0) (d' : Device) (r : IsGroup s.plan G (B d'))
+    (ok : DoneGoes chip s.plan G B d') where
+  sent_asks : (w : Work) (p : Place) (at : Step) (d : Device) (h : AnyHeard) (n : Option Reaction) (x : Seen) → (g : G w) →
+      Stands chip s.plan w p at d → ArrivesBy chip (deed_of s.plan w p at) d n d' → IsSeenOf n x → Hears s.plan w at x h →
+      Asks s.plan G (B d') r w p g at h
+  sent_asks w p (step.Poll last) d h n x g k comes is hears =
+      let has = statuses_have chip (command_of s.plan w p) p d d' 6 _ n comes k in
+      let says = says_status s.plan w (step.Poll last) h d' (λ bytes e. e) n x is (arrived_status chip d 6 _ n d' comes) hears in
+      poll_goes s.plan G (B d') r w p g (state_in d'.doing)
+      (λ e.
+      let done = told_done chip (command_of s.plan w p) p d'.doing d'.pointer d'.memory e has in
+      ok w p g done.0 done.1) last h says
+  sent_asks w p at d h n x g k comes is hears = tt
+
+  sent_goes : (p : Phase) (d : Device) (h : AnyHeard) (n : Option Reaction) (x : Seen) → InPhase G p → StandsIn chip s.plan p d →
+      ArrivesBy chip (deed s.plan p) d n d' → IsSeenOf n x → HearsIn s.plan p x h → GoesIn G (B d') (after_phase s p h).phase
+  sent_goes (On at) d h n x g k comes is hears =
+      told_goes s G (B d') r at.work at.place at.step h g
+      (row_goes s.plan G (B d') r at.work at.place g at.step h
+      (sent_asks at.work at.place at.step d h n x g k comes is hears))
+  sent_goes (Over rep) d h n x g k comes is hears = absurd comes
+
+  no_wait : (w : Work) (c : AnyCommand) (ms : ℕ) → sends s.plan w c ≡ Wait ms → ⊥
+  no_wait w c ms = by_command (λ v. sends s.plan w v ≡ Wait ms → ⊥) (λ at e. cc) (λ at e. cc) (λ at e. cc) c
+
+  wait_asks : (w : Work) (p : Place) (at : Step) (h : AnyHeard) (ms : ℕ) (g : G w) → deed_of s.plan w p at ≡ Wait ms →
+      Asks s.plan G (B d') r w p g at h
+  wait_asks w p (step.Poll last) h ms g e = cc
+  wait_asks w p at h ms g e = tt
+
+  wait_goes : (p : Phase) (h : AnyHeard) (ms : ℕ) → InPhase G p → deed s.plan p ≡ Wait ms → GoesIn G (B d') (after_phase s p h).phase
+  wait_goes (On at) h ms g e =
+      told_goes s G (B d') r at.work at.place at.step h g
+      (row_goes s.plan G (B d') r at.work at.place g at.step h (wait_asks at.work at.place at.step h ms g e))
+  wait_goes (Over rep) h ms g e = cc
+
+  new_goes : (p : Phase) (h : AnyHeard) → s.phase ≡ p → InPhase G p → HearsIn s.plan p seen.Restarted h →
+      GoesIn G (B d') (after_phase s p h).phase
+  new_goes (On at) h f g hears =
+      subst (λ y. GoesIn G (B d') (told s at.work at.place at.step y).phase) (sym hears)
+      (restart_goes s G (B d') r at.work at.place at.step g)
+  new_goes (Over rep) h f g hears = subst (λ (q : Phase). GoesIn G (B d') q) (sym f) tt
+
+module _ (chip : Chip) (l l' : Paired) (G : Work → Type 0) (B : Device → Type 0) (r : IsGroup l.session.plan G (B l'.device))
+    (ok : DoneGoes chip l.session.plan G B l'.device) where
+  next_goes : (x : Seen) (row : SessionRow l.session x l'.session) → GoesIn G (B l'.device) (after l.session row.heard).phase →
+      GoesIn G (B l'.device) l'.session.phase
+  next_goes x row k = subst (λ (p : Phase). GoesIn G (B l'.device) p) (sym (ap (λ (t : Session). t.phase) row.same)) k
+
+  pub turn_goes : (x : Seen) → Turn chip l x l' → InPhase G l.session.phase → StandsIn chip l.session.plan l.session.phase l.device →
+      GoesIn G (B l'.device) l'.session.phase
+  turn_goes x (sent q body reaction is comes seen row) g k =
+      next_goes x row
+      (sent_goes chip l.session G B l'.device r ok l.session.phase l.device row.heard reaction x g k
+      (subst (λ (y : Deed). ArrivesBy chip y l.device reaction l'.device) (sym is) comes) seen row.hears)
+  turn_goes x (waited ms is same seen row) g k =
+      next_goes x row (wait_goes chip l.session G B l'.device r ok l.session.phase row.heard ms g is)
+  turn_goes x (histories.restarted mid way restarts seen row) g k =
+      next_goes x row
+      (new_goes chip l.session G B l'.device r ok l.session.phase row.heard refl g
+      (subst (λ (y : Seen). HearsIn l.session.plan l.session.phase y row.heard) seen row.hears))

@@ -1,0 +1,78 @@
+-- Sessions from which nothing gets lost, with a device that works.
+use Rattle.std.specs.Prelude.{◌≡◌, ℕ, zero, suc, ◌+◌, ◌<◌, List, [], ◌∷◌}
+use Rattle.dfu_wire.specs.declared.codes.Code.TheVariants as code
+use Rattle.dfu_wire.specs.declared.states.State.{State}
+use Rattle.dfu_wire.specs.declared.states.State.TheVariants as state
+use Rattle.dfu_wire.specs.State.{state_byte}
+use Rattle.dfu_wire.specs.Status.{StatusFields, IsStatus}
+use Rattle.dfuse_host.specs.declared.plan.Plan.{Plan}
+use Rattle.dfuse_host.specs.declared.phase.Phase.{Phase}
+use Rattle.dfuse_host.specs.declared.phase.Phase.TheVariants.{On, Over}
+use Rattle.dfuse_host.specs.declared.work.Work.{Work}
+use Rattle.dfuse_host.specs.declared.step.Step.{Step}
+use Rattle.dfuse_host.specs.declared.step.Step.TheVariants as step
+use Rattle.dfuse_host.specs.declared.seen.Seen.{Seen}
+use Rattle.dfuse_host.specs.declared.seen.Seen.TheVariants as seen
+use Rattle.dfuse_host.specs.declared.session.Session.{Session}
+use Rattle.dfuse_host.specs.Deeds.{read_bytes}
+use Rattle.dfuse_host.specs.Sessions.{SessionRow}
+
+-- These bytes are answered.
+abbrev pub IsGiven : List ℕ → Seen → Type 0
+IsGiven wanted (seen.Bytes bytes) = bytes.now ≡ wanted
+IsGiven wanted s = ⊥
+
+-- Bytes are answered that spell this status.
+abbrev pub TellsStatus : StatusFields → Seen → Type 0
+TellsStatus status (seen.Bytes bytes) = IsStatus status bytes.now
+TellsStatus status s = ⊥
+
+-- The device tells that it is busy, and for how long: not for no time.
+pub record TellsBusy (s : Seen) : Type 0 where
+  pub status : StatusFields
+  pub told : TellsStatus status s
+  pub is_busy : status.state ≡ state.DownloadBusy
+  pub time : 0 < status.poll_ms
+
+-- The device tells this state, and no fault.
+pub record TellsState (t : State) (s : Seen) : Type 0 where
+  pub status : StatusFields
+  pub told : TellsStatus status s
+  pub no_fault : status.code ≡ code.Ok
+  pub is_there : status.state ≡ t
+
+-- What is seen of an action if the device works, all that it gives back is the image's, and nothing gets lost. It is in dfuIDLE at first.
+-- Each command is started by a GETSTATUS, which tells dfuDNBUSY, and is done by the next one, behind a wait.
+abbrev pub IsClean : Plan → Work → Step → Seen → Type 0
+IsClean plan w step.Abort s = s ≡ seen.Ack
+IsClean plan w step.AskState s = IsGiven (state_byte state.DfuIdle ∷ []) s
+IsClean plan w step.Send s = s ≡ seen.Ack
+IsClean plan w (step.Poll zero) s = TellsBusy s
+IsClean plan w (step.Poll (suc last)) s = TellsState state.DownloadIdle s
+IsClean plan w (step.PollWait ms) s = s ≡ seen.Waited
+IsClean plan w step.BeginReading s = s ≡ seen.Ack
+IsClean plan w step.EndReading s = s ≡ seen.Ack
+IsClean plan w step.Read s = IsGiven (read_bytes plan w) s
+IsClean plan w step.Close s = s ≡ seen.Ack
+IsClean plan w step.ClosePoll s = TellsState state.Manifest s
+IsClean plan w at s = ⊥
+
+-- The same, in a phase.
+abbrev pub IsCleanIn : Plan → Phase → Seen → Type 0
+IsCleanIn plan (On at) s = IsClean plan at.work at.step s
+IsCleanIn plan (Over report) s = ⊥
+
+-- A session that isn't over sees these, one after the other, each as it is to be.
+pub data CleanSession : Session → List Seen → Session → Type 0 where
+  clean_so_far : {s : Session} → CleanSession s [] s
+  clean_on : {s mid s' : Session} {seen : Seen} {more : List Seen}
+      → IsCleanIn s.plan s.phase seen → SessionRow s seen mid → CleanSession mid more s' → CleanSession s (seen ∷ more) s'
+
+-- So many of the things seen are ends of waits. The others are answers to requests.
+abbrev pub one_wait : Seen → ℕ
+one_wait seen.Waited = 1
+one_wait s = 0
+
+abbrev pub waits_in : List Seen → ℕ
+waits_in [] = 0
+waits_in (s ∷ more) = one_wait s + waits_in more
