@@ -1,7 +1,7 @@
 // SPDX-License-Identifier: MIT OR Apache-2.0
 // How a session begins: what it is for, with which functional descriptor, and within which limits. As flash/begin.c.
 import { REFUSAL } from './host.js'
-import { ATTRIBUTE, FUNCTIONAL, hasAttribute, transferOf, versionOf } from './names.js'
+import { ATTRIBUTE, FUNCTIONAL, hasAttribute, speaksDfuse, transferOf } from './names.js'
 import { willDetach } from './stalls.js'
 import { canReset } from './system.js'
 
@@ -13,8 +13,8 @@ const MOST_ACTIONS = 0xffffffff
 
 export const canUpload = ({ descriptor }) => hasAttribute(descriptor, ATTRIBUTE.CAN_UPLOAD)
 
-// A device of DfuSe would take the blocks for commands.
-export const isDfuse = ({ descriptor }) => descriptor.length === FUNCTIONAL.BYTES && versionOf(descriptor) === FUNCTIONAL.VERSION_DFUSE
+// A device of DfuSe would take the blocks for commands: dfuse_session.js has sessions with it.
+export const isDfuse = ({ descriptor }) => speaksDfuse(descriptor)
 
 // A device that is to be reset, and neither leaves by itself nor can be reset here, doesn't come to DFU mode.
 export const cannotDetach = is => !is.isUpgrade && !canReset() && !willDetach(is)
@@ -43,7 +43,8 @@ export function limitsOf(payload, descriptor) {
 }
 
 // The host's refusals of a functional descriptor that is missing, or is none that a session can go by.
-const isOdd = refusal => Object.values(REFUSAL).includes(refusal)
+const ODD = [REFUSAL.BAD_DESCRIPTOR, REFUSAL.SHORT, REFUSAL.LONG, REFUSAL.WRONG_LENGTH, REFUSAL.WRONG_TYPE]
+const isOdd = refusal => ODD.includes(refusal)
 
 // In run-time mode the functional descriptor says no more than how the device is brought to DFU mode, and there it has one that counts
 // (USB DFU 1.1, section 4.2.4, has them alike). So where that of an interface of run-time mode is odd another one is taken in its place.

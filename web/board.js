@@ -4,7 +4,7 @@
 // One that the page may not see a person has to choose. That it is no other board session.js sees, by what it was before in the
 // same mode.
 import { LATE } from './clock.js'
-import { functionalOf, releaseOf, settingsOf } from './descriptors.js'
+import { releaseOf, saidOf, settingsOf } from './descriptors.js'
 import { INTERFACE } from './names.js'
 import { closesUnheard } from './system.js'
 
@@ -23,6 +23,25 @@ export function settingOf(device, place) {
   if (fits.length === 0) throw new DOMException('The device has no such DFU interface.', NOT_DFU)
   if (fits.length > 1) throw new DOMException('The device has several alternate settings.', SEVERAL)
   return fits[0]
+}
+
+async function within(clock, promise) {
+  const result = await clock.limit(promise, OPEN_MS)
+  if (result === LATE) throw new DOMException('The device does not answer.', 'TimeoutError')
+  return result
+}
+
+// What a device says of each of these settings, before one is chosen; it is closed again.
+export async function peek(device, clock, settings) {
+  await within(clock, device.open())
+  try {
+    if (device.configuration === null) await within(clock, device.selectConfiguration(device.configurations[0].configurationValue))
+    const found = []
+    for (const one of settings) found.push({ ...one, ...await saidOf(device, clock, one) })
+    return found
+  } finally {
+    await clock.limit(device.close(), OPEN_MS).catch(() => {})
+  }
 }
 
 export class Board {
@@ -56,9 +75,9 @@ export class Board {
       const setting = settingOf(device, this.place)
       await this.within(device.claimInterface(setting.interface))
       if (isSet || setting.alternate !== 0 || !closesUnheard()) await this.set(device, setting)
-      const descriptor = await functionalOf(device, this.clock, setting)
+      const said = await saidOf(device, this.clock, setting)
       const ids = { vendor: device.vendorId, product: device.productId, release: releaseOf(device) }
-      this.is = { ...setting, ...ids, serial: device.serialNumber ?? '', title: device.productName ?? '', descriptor }
+      this.is = { ...setting, ...ids, serial: device.serialNumber ?? '', title: device.productName ?? '', ...said }
     } catch (error) {
       await this.clock.limit(device.close(), OPEN_MS).catch(() => {})
       throw error
@@ -66,10 +85,8 @@ export class Board {
     Object.assign(this, { handle: device, hasLeft: false, isMany: false })
   }
 
-  async within(promise) {
-    const result = await this.clock.limit(promise, OPEN_MS)
-    if (result === LATE) throw new DOMException('The device does not answer.', 'TimeoutError')
-    return result
+  within(promise) {
+    return within(this.clock, promise)
   }
 
   // Where there is one setting a device may stall the request, and stands in it all the same. Where there are several, a block that

@@ -1,10 +1,13 @@
 // SPDX-License-Identifier: MIT OR Apache-2.0
 // What a device says of its DFU interface (USB DFU 1.1, sections 4.1.2, 4.1.3 and 4.2.3).
 import { LATE } from './clock.js'
-import { FUNCTIONAL, INTERFACE as DFU } from './names.js'
+import { FUNCTIONAL, INTERFACE as DFU, speaksDfuse } from './names.js'
 
 const CONFIGURATION = 2
+const STRING = 3
 const INTERFACE = 4
+const INTERFACE_BYTES = 9
+const STRING_BYTES = 255
 const GET_DESCRIPTOR = 6
 const DESCRIPTOR_MS = 5000
 
@@ -44,8 +47,16 @@ export function functionalIn(bytes, number, alternate) {
   return found.own ?? found.other ?? found.before ?? new Uint8Array(0)
 }
 
-async function descriptor(device, clock, kind, index, length) {
-  const setup = { requestType: 'standard', recipient: 'device', request: GET_DESCRIPTOR, value: (kind << 8) | index, index: 0 }
+// iInterface of a setting in the bytes of a configuration, the index of its name; 0 where it has none.
+function nameIndexIn(bytes, number, alternate) {
+  for (let at = 0; at + INTERFACE_BYTES <= bytes.length && bytes[at] >= 2; at += bytes[at])
+    if (bytes[at + 1] === INTERFACE && bytes[at] === INTERFACE_BYTES && bytes[at + 2] === number && bytes[at + 3] === alternate)
+      return bytes[at + 8]
+  return 0
+}
+
+async function descriptor(device, clock, kind, index, length, language = 0) {
+  const setup = { requestType: 'standard', recipient: 'device', request: GET_DESCRIPTOR, value: (kind << 8) | index, index: language }
   const result = await clock.limit(device.controlTransferIn(setup, length), DESCRIPTOR_MS)
   if (result === LATE) throw new DOMException('The device does not answer.', 'TimeoutError')
   if (result.status !== 'ok') return new Uint8Array(0)
@@ -62,10 +73,23 @@ async function configurationBytes(device, clock) {
   return new Uint8Array(0)
 }
 
-// The functional descriptor of a setting of an open device: from its configuration, or asked for.
-export async function functionalOf(device, clock, setting) {
+// The string of that index of an open device, in the first language that it has; empty where there is none.
+export async function nameAt(device, clock, index) {
+  const languages = index === 0 ? [] : await descriptor(device, clock, STRING, 0, STRING_BYTES)
+  if (languages.length < 4) return ''
+  const bytes = await descriptor(device, clock, STRING, index, STRING_BYTES, languages[2] | (languages[3] << 8))
+  const end = Math.min(bytes.length, bytes[0] ?? 0)
+  const units = Array.from({ length: Math.max(0, (end - 2) >> 1) }, (_, at) => bytes[2 * at + 2] | (bytes[2 * at + 3] << 8))
+  return String.fromCharCode(...units).split('\0')[0]
+}
+
+// What an open device says of a setting: its functional descriptor, from its configuration, or asked for; and its name. With DfuSe that is
+// a memory map, which a browser need not tell.
+export async function saidOf(device, clock, setting) {
   const bytes = await configurationBytes(device, clock)
   const found = functionalIn(bytes, setting.interface, setting.alternate)
-  if (found.length > 0) return found
-  return functionalIn(await descriptor(device, clock, FUNCTIONAL, 0, 9), 0, 0)
+  const said = found.length > 0 ? found : functionalIn(await descriptor(device, clock, FUNCTIONAL.TYPE, 0, 9), 0, 0)
+  if (!setting.isUpgrade || !speaksDfuse(said)) return { name: setting.name, descriptor: said }
+  const name = await nameAt(device, clock, nameIndexIn(bytes, setting.interface, setting.alternate))
+  return { name: name || setting.name, descriptor: said }
 }

@@ -1,23 +1,23 @@
 // SPDX-License-Identifier: MIT OR Apache-2.0
 // The view that flashes a board: the file, the device, the session, and its report.
 import { Asking } from './asking.js'
-import { canCompare, canUpload, cannotDetach } from './begin.js'
-import { Board, FILTERS } from './board.js'
+import { canCompare, canUpload, cannotDetach, isDfuse } from './begin.js'
+import { Board, FILTERS, peek } from './board.js'
 import { ChosenFile } from './chosen.js'
 import { Clock } from './clock.js'
 import { settingsOf } from './descriptors.js'
+import { DfuseWords } from './dfuse_words.js'
 import { by, download, make, plain, say } from './elements.js'
-import { Host } from './host.js'
+import { REFUSAL } from './host.js'
+import { Memories } from './memories.js'
 import { FUNCTIONAL, digits, transferOf } from './names.js'
-import { Progress } from './progress.js'
+import { prepare } from './prepared.js'
 import { refusalOf } from './refusals.js'
-import { lineOf, verdictOf } from './reports.js'
-import { Session } from './session.js'
+import { lineOf } from './reports.js'
 import { Trace } from './trace.js'
 import { noAccess } from './access.js'
 import { Wire } from './wire.js'
 
-const WRONG_TARGET = -22
 const NOBODY = 'No device is connected.'
 const NONE_CHOSEN = 'None was chosen. A board that was not in the list may have to be brought to DFU mode, as by its button.'
 const ANY = 0xffff
@@ -27,8 +27,10 @@ const idsOf = ({ vendor, product }) => `${digits(vendor, 4)}:${digits(product, 4
 
 export class FlashView {
   constructor(modules, usb) {
-    Object.assign(this, { modules, usb, board: null, clock: null, isGoing: false, log: '' })
-    this.file = new ChosenFile(modules.host, () => this.look(true), () => (this.board?.isOpen() ? this.board.is : null))
+    Object.assign(this, { modules, usb, board: null, clock: null, isGoing: false, log: '', opening: Promise.resolve() })
+    this.file = new ChosenFile(modules.host, () => this.lookAnew(), () => (this.board?.isOpen() ? this.board.is : null))
+    this.memories = new Memories(modules.host, place => this.open(this.memories.device, place).catch(error => this.sayNoAccess(error)))
+    this.words = new DfuseWords(() => this.look())
     this.listen()
     this.refresh()
   }
@@ -53,8 +55,10 @@ export class FlashView {
     by('hint').textContent = this.isGoing ? this.clock.isStopped ? CANCELLING : 'Leave the device plugged in, and this page open.'
       : isReady || by('report').firstChild !== null ? '' : this.file.bytes === null ? 'A file is missing.'
       : this.board === null ? 'A device is missing.' : ''
-    for (const id of ['verify', 'sure']) by(id).disabled = this.isGoing
+    for (const id of ['verify', 'sure', 'settings']) by(id).disabled = this.isGoing
     this.file.lock(this.isGoing)
+    this.words.lock(this.isGoing)
+    this.words.show(this.file.isForDfuse, this.file.isForDfuse && this.file.isGood() && !this.file.isDfuse)
   }
 
   // Lets the device go that was connected. That it is the right board, a person says of this one alone.
@@ -62,7 +66,8 @@ export class FlashView {
     this.board?.done()
     Object.assign(this, { board: null, refused: false })
     by('device').textContent = text
-    by('settings').hidden = by('sure-row').hidden = true
+    this.memories.hide()
+    by('sure-row').hidden = true
     by('sure').checked = false
     this.refresh()
   }
@@ -77,25 +82,34 @@ export class FlashView {
     })
     if (device === undefined) return
     try {
-      const settings = settingsOf(device).filter(one => one.isUpgrade)
-      if (settings.length > 1) this.offerSettings(device, settings)
-      else await this.open(device, {})
+      await this.chooseSetting(device, settingsOf(device).filter(one => one.isUpgrade))
     } catch (error) {
       this.sayNoAccess(error)
     }
   }
 
   // A device may have several alternate settings, each for another part of its memory: nothing goes to another one than the chosen.
-  offerSettings(device, settings) {
-    const rows = settings.map(one => {
-      const input = make('input', { type: 'radio', name: 'setting' })
-      input.onchange = () => this.open(device, one).catch(error => this.sayNoAccess(error))
-      const name = plain(one.name) || `setting ${one.alternate}`
-      return make('label', {}, input, ` ${name} (interface ${one.interface}, setting ${one.alternate})`)
-    })
-    by('settings').replaceChildren(by('settings').firstElementChild, ...rows)
-    by('settings').hidden = false
-    by('device').textContent = plain(device.productName ?? '')
+  async chooseSetting(device, settings) {
+    if (settings.length > 1) {
+      this.memories.show(device, await peek(device, new Clock(), settings))
+      by('device').textContent = plain(device.productName ?? '')
+    } else {
+      await this.open(device, {})
+      const is = this.board?.is
+      if (is?.isUpgrade && isDfuse(is)) this.memories.show(device, [is])
+    }
+    await this.settle()
+  }
+
+  // With DfuSe the setting that is meant is opened unless a person chose one. If the file names none of them, that is refused by its name.
+  async settle() {
+    const { memories } = this
+    if (!memories.isDfuse || memories.isChosen) return
+    const meant = memories.meant(this.file)
+    memories.mark(meant)
+    const place = meant ?? (this.board === null ? memories.settings[0] : this.board.is)
+    if (!this.board?.isOpen() || place.interface !== this.board.is.interface || place.alternate !== this.board.is.alternate)
+      await this.open(memories.device, place)
   }
 
   sayNoAccess(error) {
@@ -103,7 +117,16 @@ export class FlashView {
     by('device').textContent = NOBODY
   }
 
-  async open(device, place) {
+  // One after the other: two at once could leave the device in the setting of the first.
+  open(device, place) {
+    const closed = this.board?.done()
+    this.refresh()
+    const opened = this.opening.then(() => closed).then(() => this.openNext(device, place))
+    this.opening = opened.catch(() => {})
+    return opened
+  }
+
+  async openNext(device, place) {
     await this.board?.done()
     const clock = this.clock = new Clock()
     const asking = this.asking = new Asking(this.usb, clock)
@@ -116,28 +139,38 @@ export class FlashView {
 
   describe(is) {
     const serial = is.serial === '' ? '' : `serial number ${is.serial}`
-    const words = [is.title, idsOf(is), serial, is.isUpgrade ? 'in DFU mode' : 'in run-time mode']
+    const mode = is.isUpgrade ? 'in DFU mode' : 'in run-time mode'
+    const words = [is.title, idsOf(is), serial, mode, isDfuse(is) ? 'DfuSe' : '']
     by('device').textContent = words.filter(word => word !== '').map(plain).join(', ')
     const transfer = is.descriptor.length >= FUNCTIONAL.BYTES_1_0 ? `, in blocks of ${transferOf(is.descriptor)} bytes` : ''
     by('device').title = `interface ${is.interface}, setting ${is.alternate}${transfer}`
-    say('no-verify', canCompare(is) ? '' : canUpload(is)
+    say('no-verify', canCompare(is) || isDfuse(is) ? '' : canUpload(is)
       ? 'On this system the image of this device can\'t be read back: that takes a reset of the bus.'
       : 'This device can\'t give its image back, so it can\'t be compared.')
   }
 
   // A session of this file and this device, which has begun, or was refused. Nothing is sent.
   prepare() {
-    const { board, clock } = this
-    const host = new Host(this.modules.host, this.file.bytes)
-    const said = host.readFile()
+    const { board, clock, file, words } = this
     const isSure = by('sure').checked && board.is.isUpgrade
-    const named = (ofFile, ofDevice) => (isSure && ofFile !== ANY ? ofFile : ofDevice)
-    const ids = { device: board.is.release, product: named(said.product, board.is.product), vendor: named(said.vendor, board.is.vendor) }
+    const named = (ofFile = ANY, ofDevice) => (isSure && ofFile !== ANY ? ofFile : ofDevice)
+    const ids = { device: board.is.release, product: named(file.said.product, board.is.product),
+      vendor: named(file.said.vendor, board.is.vendor) }
     const trace = new Trace()
     const wire = new Wire(board, clock, this.asking, trace)
-    const progress = new Progress(host.payload, () => clock.now(), how => this.show(how))
-    const session = new Session(host, wire, { wantsVerified: by('verify').checked, ids, onStep: (...step) => progress.step(...step) })
-    return { session, trace, refusal: session.begin() }
+    const made = prepare(this.modules.host, wire, { bytes: file.bytes, isDfuse: file.isDfuse, isRaw: file.isRaw(), said: file.said },
+      { ids, wantsVerified: by('verify').checked, address: words.address(), leaves: words.leaves(), isChosen: this.memories.isChosen })
+    if (made.refusal === 0) {
+      const progress = made.progressOf(() => clock.now(), how => this.show(how))
+      made.session.onStep = (...step) => progress.step(...step)
+    }
+    return { ...made, trace }
+  }
+
+  // There is another file, for which another setting may be meant.
+  lookAnew() {
+    this.settle().catch(error => this.sayNoAccess(error))
+    this.look(true)
   }
 
   // Looks whether file and device belong together, before anything is sent. That it is the right board was said of the file before.
@@ -149,6 +182,7 @@ export class FlashView {
     }
     say('device-refused', '')
     by('sure-row').hidden = !by('sure').checked
+    if (this.board?.isOpen()) this.file.fit(isDfuse(this.board.is), this.memories.isChosen ? this.board.is.alternate : null)
     if (this.file.isGood() && this.board?.isOpen()) {
       const { refusal } = this.prepare()
       if (refusal !== 0) this.refuse(refusal)
@@ -161,7 +195,7 @@ export class FlashView {
     const { name, words, advice } = refusalOf(number)
     this.refused = true
     say('device-refused', `${name}: ${words}. ${advice}`)
-    by('sure-row').hidden = number !== WRONG_TARGET || !this.board.is.isUpgrade
+    by('sure-row').hidden = number !== REFUSAL.WRONG_TARGET || !this.board.is.isUpgrade
   }
 
   refuseHere() {
@@ -183,7 +217,7 @@ export class FlashView {
   }
 
   async flash() {
-    const { session, trace, refusal } = this.prepare()
+    const { session, trace, refusal, verdictOf } = this.prepare()
     if (refusal !== 0) return this.refuse(refusal)
     this.isGoing = true
     by('report').replaceChildren()
@@ -200,10 +234,12 @@ export class FlashView {
 
   // The report, in large plain words.
   report(verdict, trace) {
-    const { title = 'Refused', means = '', not = '', words, advice = '', status, code, name } = verdict
+    const { title = 'Refused', means = '', not = '', words, advice = '', status, code, name, says = '' } = verdict
     const kind = status === 0 ? 'good' : name === 'unconfirmed' ? 'unsure' : 'bad'
-    const parts = [means === '' ? `${words}. ${advice}` : means, code === '' ? '' : `It says ${code}.`, not].filter(text => text !== '')
-    by('report').replaceChildren(make('h3', { className: kind }, title), ...parts.map(text => make('p', {}, text)),
+    const parts = [means === '' ? `${words}. ${advice}` : means, code === '' ? '' : `It says ${code}.`,
+      says === '' ? '' : `In its own words: ${plain(says)}`, not]
+    const rows = parts.filter(text => text !== '').map(text => make('p', {}, text))
+    by('report').replaceChildren(make('h3', { className: kind }, title), ...rows,
       make('p', { className: 'small' }, make('code', {}, lineOf({ name, code, words }))))
     by('report').focus()
     this.refresh()

@@ -40,6 +40,7 @@ export const hasAttribute = (descriptor, bit) => descriptor.length >= FUNCTIONAL
 export const detachTimeOf = descriptor => descriptor[3] | (descriptor[4] << 8)
 export const transferOf = descriptor => descriptor[5] | (descriptor[6] << 8)
 export const versionOf = descriptor => descriptor[7] | (descriptor[8] << 8)
+export const speaksDfuse = descriptor => descriptor.length === FUNCTIONAL.BYTES && versionOf(descriptor) === FUNCTIONAL.VERSION_DFUSE
 
 // Interfaces with DFU: class and subclass, and the protocol by mode.
 export const INTERFACE = { CLASS: 0xfe, SUBCLASS: 1, RUNTIME: 1, DFU_MODE: 2 }

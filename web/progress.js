@@ -7,13 +7,8 @@ const LONG_MS = 3000 // a wait of more than this is said
 const SOON_MS = 1500 // until then a rate says little
 
 const PHASES = { ask: 'Asking the device where it stands', detach: 'Bringing the device to DFU mode', reset: 'Resetting the device',
-  send: 'Sending the image', compare: 'Reading the image back, and comparing it' }
-
-function phaseOf({ what, setup }) {
-  if (what === WHAT.RESET) return 'reset'
-  if (what !== WHAT.SEND) return null
-  return isDownload(setup) ? 'send' : isUpload(setup) ? 'compare' : isDetach(setup) ? 'detach' : null
-}
+  erase: 'Erasing the pages of the image', send: 'Sending the image', compare: 'Reading the image back, and comparing it' }
+const MEASURED = ['erase', 'send', 'compare']
 
 export class Progress {
   // show({ phase, part, left }): words, a part of 1 or null, and words.
@@ -23,10 +18,16 @@ export class Progress {
 
   // A step of the session: before its action is carried out, and with its answer behind it.
   step(action, answer) {
-    const phase = phaseOf(action) ?? this.phase
+    const phase = this.phaseOf(action) ?? this.phase
     if (phase !== this.phase) Object.assign(this, { phase, bytes: 0, began: this.now() })
     if (answer !== null) this.bytes = this.bytesOf(action, answer) ?? this.bytes
     this.tell(answer === null && action.what === WHAT.WAIT && action.value > LONG_MS ? action.value : 0)
+  }
+
+  phaseOf({ what, setup }) {
+    if (what === WHAT.RESET) return 'reset'
+    if (what !== WHAT.SEND) return null
+    return isDownload(setup) ? 'send' : isUpload(setup) ? 'compare' : isDetach(setup) ? 'detach' : null
   }
 
   bytesOf(action, { seen, bytes }) {
@@ -37,7 +38,7 @@ export class Progress {
   }
 
   tell(wait) {
-    const isMeasured = this.phase === 'send' || this.phase === 'compare'
+    const isMeasured = MEASURED.includes(this.phase)
     const part = isMeasured && this.total > 0 ? this.bytes / this.total : null
     const ofBytes = isMeasured ? `: ${this.bytes} of ${this.total} bytes` : ''
     const waits = wait > 0 ? ` (the device asks for ${Math.round(wait / 1000)} s)` : ''

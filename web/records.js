@@ -1,7 +1,7 @@
 // SPDX-License-Identifier: MIT OR Apache-2.0
-// The records of include/dfu_host.h and include/dfu_core.h, as they lie in the memory of the libraries. This is the one place
-// that knows them: the fields in their order, with their types. tests/web holds them against the headers. Where each field
-// stands follows by the rules of C: a number stands at a multiple of its size, and a record ends at one of its largest.
+// The records of dfu_host.h, dfuse_host.h, dfuse_file.h and dfu_core.h of include/, as they lie in the memory of the libraries. This is
+// the one place that knows them: the fields in their order, with their types, a pointer as u64. tests/web holds them against the headers.
+// Where each field stands follows by the rules of C: a number stands at a multiple of its size, and a record ends at one of its largest.
 export const RECORDS = {
   dfu_ids: 'u16 device, u16 product, u16 vendor',
   dfu_file: 'u64 payload, u32 suffix, u32 crc, u16 device, u16 product, u16 vendor, u16 dfu',
@@ -9,6 +9,15 @@ export const RECORDS = {
     'u32 version, u32 goal, u64 number, u64 kept, u32 phase, u32 more, u32 actions, u16 restarts, u16 transfer, u16 detach_ms, ' +
     'u8 tolerant, u8 will_detach',
   dfu_action: 'u32 what, u32 value, u64 from, u64 length, u32 code, u8[8] setup',
+  dfuse_map: 'u64 name, u64 ranges',
+  dfuse_range: 'u64 start, u64 size, u32 count, u32 access',
+  dfuse_element: 'u32 address, u64 bytes, u64 length',
+  dfuse_plan: 'u32 start, u32 actions, u16 restarts, u16 transfer, u16 front, u16 leaves',
+  dfuse_session:
+    'u32 version, u32 work, u64 at, u64 end, u64 pointer, u32 place, u32 step, u32 more, u32 report, u32 start, u32 actions, ' +
+    'u16 restarts, u16 transfer, u16 front, u16 leaves',
+  dfuse_action: 'u64 length, u32 what, u32 value, u32 more, u8[8] setup',
+  dfuse_file: 'u32 targets, u32 setting, u16 device, u16 product, u16 vendor',
   dfu_config:
     'u32 version, u16 device, u16 product, u16 vendor, u16 detach_ms, u16 transfer, u8 attributes, u8 interface_number, u32 busy_ms, ' +
     'u32 manifest_ms, u32 least, u32 unit, u32 sector',

@@ -1,5 +1,7 @@
 // SPDX-License-Identifier: MIT OR Apache-2.0
 // Why a session does not begin, and what to do. The names are those of docs/REFUSALS.md, and the words those of flash/refusals.c.
+import { DFUSE_REFUSALS } from './dfuse_refusals.js'
+
 const OTHER_FILE = 'Take another file, or ask who made it.'
 const OTHER_DEVICE = 'Nothing was sent. Another board, or another version of its bootloader, may do.'
 
@@ -21,10 +23,10 @@ const REFUSALS = {
   [-32]: ['Long', "the device's functional descriptor is too long", OTHER_DEVICE],
   [-33]: ['WrongLength', "the device's functional descriptor has neither 9 nor 7 bytes", OTHER_DEVICE],
   [-34]: ['WrongType', "the device's functional descriptor is of another type", OTHER_DEVICE],
-  DfuSeDevice: ['DfuSeDevice', 'the device speaks DfuSe, which is another protocol', 'STM32\'s own tools and dfu-util speak it.'],
+  DfuSeDevice: ['DfuSeDevice', 'the device speaks DfuSe, which is another protocol', 'Connect it again, now that it is in DFU mode.'],
 }
 
 export function refusalOf(number) {
-  const [name, words, advice] = REFUSALS[number] ?? ['Unknown', 'the host refuses it', '']
+  const [name, words, advice] = REFUSALS[number] ?? DFUSE_REFUSALS[number] ?? ['Unknown', 'the host refuses it', '']
   return { name, words, advice, status: 1, code: '' }
 }

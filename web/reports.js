@@ -2,9 +2,9 @@
 // What a session came to: the words and the status of dfu-flash (flash/verdict.c), and for a person what it means and what it doesn't.
 import { CODES } from './names.js'
 
-const MAYBE = 'The device may have the old image, the new one or neither. Connect it again, and flash it again.'
+export const MAYBE = 'The device may have the old image, the new one or neither. Connect it again, and flash it again.'
 const UNTOUCHED = 'No block was sent: the device has the image that it had.'
-const AGAIN = 'Connect it again, and flash it again.'
+export const AGAIN = 'Connect it again, and flash it again.'
 
 // By name: status, words, title, what it means, and what it doesn't; the last is left out where it would say nothing more.
 const REPORTS = {
@@ -62,7 +62,7 @@ const UNCOMPARED = {
 const HARM = ' may have the old image, the new one or neither'
 
 // What a device may have is said only where a block was sent.
-function ofUnsent([status, words, title, means, not]) {
+export function ofUnsent([status, words, title, means, not]) {
   if (!words.endsWith(HARM)) return [status, words, title, means, not]
   return [status, `${words.slice(0, words.lastIndexOf(';'))}; no block was sent`, title, means, UNTOUCHED]
 }

@@ -1,6 +1,6 @@
 // SPDX-License-Identifier: MIT OR Apache-2.0
 // The loop: what the host asks for is carried out, and it is told what came of that. Nothing else is sent, but for the DETACH of
-// stalls.js. As flash/session.c.
+// stalls.js. As flash/session.c. What speaks DfuSe has its own loop in dfuse_session.js.
 import { cut, goalOf, isDfuse, limitsOf, standIn } from './begin.js'
 import { SEEN, WHAT } from './host.js'
 import { isDownload, isUpload } from './names.js'
@@ -10,12 +10,12 @@ import { Stalls } from './stalls.js'
 const MOST_SILENT = 24
 const NONE = new Uint8Array(0)
 
-const nothing = () => ({ seen: SEEN.NOTHING, bytes: NONE, isGone: false, error: '' })
+export const nothing = () => ({ seen: SEEN.NOTHING, bytes: NONE, isGone: false, error: '' })
 const sameText = (first, now) => first === '' || now === '' || first === now
-const sameBytes = (first, now) => first.length === now.length && first.every((byte, at) => byte === now[at])
+export const sameBytes = (first, now) => first.length === now.length && first.every((byte, at) => byte === now[at])
 
 // Whether two looks at a device in one mode saw the same.
-const isAgain = (first, now) => first.vendor === now.vendor && first.product === now.product && first.interface === now.interface
+export const isAgain = (first, now) => first.vendor === now.vendor && first.product === now.product && first.interface === now.interface
   && first.alternate === now.alternate && sameText(first.serial, now.serial) && sameText(first.name, now.name)
 
 export class Session {

@@ -6,6 +6,9 @@ import tempfile
 import time
 
 import counting
+import dfuse
+import dfuse_refused
+import dfuse_view
 import flashing
 import odd
 import pictures
@@ -37,9 +40,12 @@ def main(page, flash):
             timed('scripts at random', scripts.at_random, browser)
             timed('sessions', sessions.run, browser, flash)
             timed('what only WebUSB has', odd.run, browser)
+            timed('DfuSe', dfuse.run, browser, flash)
+            timed('what is refused of DfuSe', dfuse_refused.run, browser)
             check('the console', browser.console(), [])
             timed('the view that flashes', flashing.run, browser, address, work)
             timed('raw images', raw.run, browser, address, work)
+            timed('the view with DfuSe', dfuse_view.run, browser, address, work)
             timed('the view to play with', playing.run, browser, address)
             timed('the pictures of docs', pictures.run, browser)
             check('requests', [path for path in Handler.asked if not path.startswith('/')], [])

@@ -1,9 +1,14 @@
 // What tests/page/run.py asks for: sessions of the page's modules over the stand-in, in its own time, and scripts. All comes and goes as
 // JSON: files and images as text of Latin 1, one character a byte.
-import { functionalIn } from '/descriptors.js'
 import { Board } from '/board.js'
+import { functionalIn } from '/descriptors.js'
+import { DfuseHost } from '/dfuse_host.js'
+import { rangeText } from '/dfuse_map.js'
+import { dfuseVerdictOf } from '/dfuse_reports.js'
+import { mayBeRaw, readFile } from '/files.js'
 import { Host } from '/host.js'
 import { load, runsWasm64 } from '/library.js'
+import { prepare } from '/prepared.js'
 import { RECORDS } from '/records.js'
 import { refusalOf } from '/refusals.js'
 import { lineOf, verdictOf } from '/reports.js'
@@ -23,6 +28,10 @@ export const wordsOf = name => {
   const ended = { end: 'report', name, code: 0 }
   const { status, words } = verdictOf(ended, { hasSent: true, isWhole: false, goal: 'download' })
   return [status, words]
+}
+export const dfuseWordsOf = (report, leaving) => {
+  const { name, status, words } = dfuseVerdictOf({ end: 'report', report, more: report === 1 ? leaving : 0, says: '' }, { hasSent: true })
+  return [name, status, words]
 }
 export const scripts = texts => texts.map(text => runScript(modules, linesOf(text)).join('\n'))
 export const functional = (bytes, number, alternate) => Array.from(functionalIn(Uint8Array.from(bytes), number, alternate))
@@ -59,7 +68,7 @@ function answerOf(usb, { verdict, session, wire, trace, person }) {
   usb.pass(10000)
   return { line: lineOf(verdict), status: verdict.status, name: verdict.name, image: textOf(usb.device.image()), asked: person?.asked,
     actions: session?.taken, restarts: session?.restarted, transfers: wire?.transfers, goal: session?.goal, trace: trace?.lines,
-    faults: usb.faults, state: usb.device.state() }
+    faults: usb.faults, state: usb.device.state(), started: usb.device.started, says: verdict.says }
 }
 
 // stopAt: the number of the action before which a person cancels.
@@ -85,8 +94,36 @@ async function run({ file, settings = {}, wantsVerified = true, limits = null, p
   return answerOf(usb, { verdict, session, wire, trace, person })
 }
 
-export async function sessions(list) {
+// The same as the page makes a session of any file, with a device of DfuSe too: `maps` in settings. words: those of DfuseSession.
+async function runAny({ file, settings = {}, place = {}, platform = 'Linux', stopAt = -1, chooses, replugs, ...words }) {
+  beOn(platform)
+  const usb = new StandInUsb(modules.device, settings)
+  const bytes = bytesOf(file)
+  const read = readFile(modules.host, bytes)
+  const isRaw = mayBeRaw(read, bytes)
+  if (read.said.refusal && !isRaw) return answerOf(usb, { verdict: refusalOf(read.said.refusal) })
+  const person = new Person(usb, { chooses, replugs })
+  const board = new Board(usb, usb.clock, person, place)
+  await board.choose(await usb.requestDevice())
+  const [trace, ids] = [new Trace(), { device: board.is.release, product: board.is.product, vendor: board.is.vendor }]
+  const wire = new Wire(board, usb.clock, person, trace)
+  const onStep = (_, answer) => { if (answer === null && session.taken === stopAt) usb.clock.stop() }
+  const { session, refusal, verdictOf: verdictFor } = prepare(modules.host, wire, { bytes, ...read, isRaw }, { ids, ...words, onStep })
+  const ended = refusal === 0 ? await session.run() : { end: 'refusal', refusal }
+  const verdict = ended.end === 'refusal' ? refusalOf(ended.refusal) : verdictFor(ended, session)
+  await board.done()
+  return answerOf(usb, { verdict, session, wire, trace, person })
+}
+
+async function each(list, call) {
   const found = []
-  for (const words of list) found.push(await run(words).catch(error => ({ error: `${error}\n${error.stack}` })))
+  for (const words of list) found.push(await call(words).catch(error => ({ error: `${error}\n${error.stack}` })))
   return found
+}
+
+export const sessions = list => each(list, run)
+export const anySessions = list => each(list, runAny)
+export const mapLines = text => {
+  const { ranges, refusal } = new DfuseHost(modules.host).readMap(text)
+  return refusal === undefined ? ranges.map(rangeText).join(',') : refusalOf(refusal).name
 }

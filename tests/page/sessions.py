@@ -67,13 +67,17 @@ class Flash:
         (self.at / 'new.dfu').write_bytes(suffixed(NEW))
 
     def run(self, words, variables, kind=None, number=0):
+        options = [] if words.get('wantsVerified', True) else ['--no-verify']
+        return self.play([*options, f'{self.at}/new.dfu'], variables, kind, number)
+
+    def play(self, words, variables, kind=None, number=0):
+        """With these words of the command line."""
         fate = f'{kind} {number}{" 3" if kind == "short" else ""}' if kind else ''
         env = {**os.environ, 'LD_LIBRARY_PATH': self.folder, 'USB_IMAGE': f'{self.at}/old', 'USB_SAVE': f'{self.at}/saved',
                'USB_FATE': fate, **variables}
-        options = [] if words.get('wantsVerified', True) else ['--no-verify']
         log = self.at / 'log'
         log.unlink(missing_ok=True)
-        command = [f'{self.folder}/dfu-flash', '--json', '--quiet', f'--verbose={log}', '--path', '1-1', *options, f'{self.at}/new.dfu']
+        command = [f'{self.folder}/dfu-flash', '--json', '--quiet', f'--verbose={log}', '--path', '1-1', *words]
         done = subprocess.run(command, env=env, capture_output=True, text=True, check=False)
         record = json.loads(done.stdout.splitlines()[-1])
         code = f" {record['code']}" if 'code' in record else ''

@@ -1,11 +1,12 @@
-// The proved device behind what a page sees of WebUSB: a stand-in for navigator.usb. The fates of transfers are chosen by number, as in
-// tests/usb:
+// The proved device, or with `maps` a model of one of DfuSe, behind what a page sees of WebUSB: a stand-in for navigator.usb. The fates of
+// transfers are chosen by number, as in tests/usb:
 //   lost-out   it never comes there            lost-back  it is handled, and nothing is heard
 //   late       it comes there behind the next one, unless the device was closed before
 //   twice      it is handled twice             short      of the answer come so many bytes
 //   stall      the device refuses it unseen    fails      it ends in an error of the system, unseen
 //   part       it ends with fewer bytes out than it has, unseen
 //   leave      the power goes, before it, and comes back     leave-after  the same, behind its answer
+//   cut        it is handled, and the power goes in place of its answer
 //   swap       another board comes in its place              deaf         this one and all behind it are lost on the way out
 //   mute       this one and all behind it are handled, and nothing is heard
 //   garble     this one and all behind it get answers that are made up, by chance; the device sees none of them
@@ -13,6 +14,7 @@ import { Clock, LATE } from '/clock.js'
 import { Device } from '/device.js'
 import { REQUESTS, STATES, hexOf, partsOf } from '/names.js'
 import { StandInDevice, failure, viewOf } from './standin_device.js'
+import { DFUSE_USUAL, DfuseDevice } from './standin_dfuse.js'
 
 const MOST_WAITS = 20000
 
@@ -76,11 +78,13 @@ class StandInClock extends Clock {
 export class StandInUsb extends EventTarget {
   constructor(module, settings = {}) {
     super()
-    this.settings = { ...USUAL, ...settings, config: { ...USUAL.config, ...settings.config } }
+    const usual = settings.maps === undefined ? USUAL : { ...USUAL, ...DFUSE_USUAL, alternates: settings.maps.length }
+    this.settings = { ...usual, ...settings, config: { ...USUAL.config, ...usual.config, ...settings.config } }
     Object.assign(this, { count: 0, log: [], faults: [], ms: 0, backAt: 0, isLost: false, told: performance.now() })
     const { config, interface: number, capacity, image } = this.settings
-    this.device = new Device(module, { ...config, interface_number: number }, capacity, image)
-    if (!this.settings.startsInApp) this.enterDfuMode()
+    const isDfuse = this.settings.maps !== undefined
+    this.device = isDfuse ? new DfuseDevice(this.settings) : new Device(module, { ...config, interface_number: number }, capacity, image)
+    if (!isDfuse && !this.settings.startsInApp) this.enterDfuMode()
     this.current = new StandInDevice(this)
     this.others = Array.from({ length: this.settings.others }, () => new StandInDevice(this, { isOther: true }))
     this.permitted = new Set(this.others)
@@ -160,7 +164,7 @@ export class StandInUsb extends EventTarget {
   loseState() {
     if (this.isApp()) return
     this.device.power()
-    this.enterDfuMode()
+    if (this.settings.maps === undefined) this.enterDfuMode()
   }
 
   async getDevices() {
@@ -216,6 +220,11 @@ export class StandInUsb extends EventTarget {
   meet(fate, from, setup, body, entry) {
     if (fate.kind === 'leave' || fate.kind === 'swap') {
       this.leaves(fate.kind, fate.kind === 'swap')
+      throw failure('NotFoundError', 'The device was disconnected.')
+    }
+    if (fate.kind === 'cut') {
+      this.handle(setup, body)
+      this.leaves(fate.kind)
       throw failure('NotFoundError', 'The device was disconnected.')
     }
     if (['lost-out', 'late', 'deaf'].includes(fate.kind)) return this.lose(from, entry, fate.kind === 'late' ? { setup, body } : null)

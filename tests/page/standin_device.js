@@ -2,6 +2,9 @@
 // needs them. Behind it is the bus of standin.js.
 
 const NAMES = ['Flash', 'EEPROM', 'RAM']
+const ENGLISH = [4, 3, 9, 4]
+const FIRST_NAME = 4 // the index of the name of the first setting, where the settings are the memories of a device of DfuSe
+const WORDS = 99     // and that of what such a device says of a refusal
 
 export const failure = (name, text) => new DOMException(text, name)
 export const viewOf = bytes => new DataView(bytes.buffer, bytes.byteOffset, bytes.byteLength)
@@ -22,16 +25,39 @@ export class StandInDevice {
     this.deviceVersionSubminor = ids.device & 15
     const dfu = { interfaceClass: 0xfe, interfaceSubclass: 1, interfaceProtocol: isApp ? 1 : 2 }
     const alternates = Array.from({ length: isApp ? 1 : settings.alternates },
-      (_, at) => ({ alternateSetting: at, interfaceName: NAMES[at], ...dfu }))
+      (_, at) => ({ alternateSetting: at, interfaceName: this.nameOf(at), ...dfu }))
     this.configuration = { configurationValue: 1, interfaces: [{ interfaceNumber: settings.interface, alternates }] }
     this.configurations = [this.configuration]
     this.bytes = this.describe(alternates)
   }
 
+  // Chromium need not tell the names of settings.
+  nameOf(at) {
+    const { maps, tellsNames } = this.usb.settings
+    return maps === undefined ? NAMES[at] : tellsNames ? maps[at] : null
+  }
+
+  // A string descriptor: its bytes, or those of the languages.
+  string(index) {
+    const { maps, says } = this.usb.settings
+    if (maps === undefined) return { status: 'stall' }
+    const text = index === WORDS ? says : maps[index - FIRST_NAME] ?? ''
+    const units = Array.from(text, (_, at) => text.charCodeAt(at)).flatMap(unit => [unit & 255, unit >> 8])
+    if (units.length > 252) return { status: 'stall' }
+    return { status: 'ok', data: viewOf(new Uint8Array(index === 0 ? ENGLISH : [2 + units.length, 3, ...units])) }
+  }
+
+  standard({ value }, length) {
+    if (value >> 8 === 3) return this.string(value & 255)
+    return value === 0x0200 ? { status: 'ok', data: viewOf(this.bytes.slice(0, length)) } : { status: 'stall' }
+  }
+
   describe(alternates) {
-    const { config, interface: number, descriptor, appDescriptor, version } = this.usb.settings
+    const { config, interface: number, descriptor, appDescriptor, version, maps } = this.usb.settings
     const size = this.isApp ? appDescriptor ?? descriptor : descriptor
-    const settings = alternates.flatMap(one => [9, 4, number, one.alternateSetting, 0, 0xfe, 1, one.interfaceProtocol, 0])
+    const nameAt = at => (maps === undefined ? 0 : FIRST_NAME + at)
+    const settings = alternates.flatMap(({ alternateSetting: at, interfaceProtocol: protocol }) =>
+      [9, 4, number, at, 0, 0xfe, 1, protocol, nameAt(at)])
     const two = number => [number & 255, number >> 8]
     const whole = [size, 0x21, config.attributes, ...two(config.detach_ms), ...two(config.transfer), ...two(version)]
     const body = [...settings, ...whole.slice(0, size)]
@@ -88,8 +114,7 @@ export class StandInDevice {
 
   async controlTransferIn(fields, length) {
     this.held()
-    if (fields.requestType === 'standard')
-      return fields.value === 0x0200 ? { status: 'ok', data: viewOf(this.bytes.slice(0, length)) } : { status: 'stall' }
+    if (fields.requestType === 'standard') return this.standard(fields, length)
     return this.usb.transfer(this, this.setupOf(0xa1, fields, length), new Uint8Array(0))
   }
 

@@ -7,14 +7,17 @@ from counting import check, check_that
 from scripts import TOP
 
 TYPES = {'uint8_t': 'u8', 'uint16_t': 'u16', 'uint32_t': 'u32', 'uint64_t': 'u64'}
-MOST_BYTES = 195000
+MOST_BYTES = 225000
 
 
 def records():
     """The fields of each struct, as records.js writes them."""
     found = {}
-    for header in ('dfu_host.h', 'dfu_core.h'):
+    for header in ('dfu_host.h', 'dfuse_host.h', 'dfuse_file.h', 'dfu_core.h'):
         text = re.sub(r'/\*.*?\*/', '', (TOP / 'include' / header).read_text(), flags=re.S)
+        # (what stands there for processors of 32 bits alone; a pointer and a size have 64)
+        text = re.sub(r'^#if UINTPTR_MAX <= .*?^#endif', '', text, flags=re.S | re.M)
+        text = re.sub(r'const uint8_t \*(?=\w+;)|size_t (?=\w+;)', 'uint64_t ', text)
         for name, body in re.findall(r'struct (\w+) \{(.*?)\};', text, re.S):
             fields = []
             for kind, names in re.findall(r'(uint\d+_t) ([^;]+);', body):
@@ -39,11 +42,13 @@ def words():
 
 def numbers():
     """Each number and name that host.js and names.js write again, as they have it, and as the header or flash/standard has it."""
-    headers = (TOP / 'include/dfu_host.h').read_text() + (TOP / 'flash/standard.h').read_text()
-    theirs = {name: int(number, 0) for name, number in re.findall(r'^    (\w+) = (-?(?:0x[0-9a-f]+|\d+))\b', headers, re.M)}
+    headers = ''.join((TOP / it).read_text() for it in ('include/dfu_host.h', 'include/dfuse_host.h', 'include/dfuse_file.h',
+                                                         'flash/standard.h'))
+    theirs = {name: int(number, 0) for name, number in re.findall(r'(?:^   |^enum \{|,) (\w+) = (-?(?:0x[0-9a-f]+|\d+))\b', headers, re.M)}
     lists = re.findall(r'const char \*const (\w+)\[\] = \{(.*?)\};', (TOP / 'flash/standard.c').read_text(), re.S)
-    pages = (TOP / 'web/host.js').read_text() + (TOP / 'web/names.js').read_text()
+    pages = ''.join((TOP / 'web' / it).read_text() for it in ('host.js', 'dfuse_host.js', 'names.js'))
     fronts = {'WHAT': 'DFU_', 'SEEN': 'DFU_SEEN_', 'REPORT': 'DFU_', 'REFUSAL': 'DFU_', 'ATTRIBUTE': ''}
+    fronts.update({name: 'DFUSE_' for name in ('WORK', 'OUTCOME', 'LEAVING', 'ACCESS', 'FILE')})
     fronts.update({name: name + '_' for name in ('KIND', 'REQUEST', 'STATE', 'FUNCTIONAL', 'INTERFACE')})
     others = {'FUNCTIONAL_VERSION_1_1': 'VERSION_1_1', 'FUNCTIONAL_VERSION_DFUSE': 'VERSION_DFUSE', 'INTERFACE_RUNTIME': 'PROTOCOL_RUNTIME',
               'INTERFACE_DFU_MODE': 'PROTOCOL_DFU_MODE'}
@@ -56,7 +61,33 @@ def numbers():
         yield name, re.findall(r"'([\w-]+)'", ours[1]), re.findall(r'"([\w-]+)"', body)
 
 
+def of_dfuse(browser):
+    """Each report and refusal of dfu-flash that is of DfuSe, by its number, or by its name where that is its own."""
+    text = r'"((?:[^"\\]|\\.)*)"'
+    status = {name: int(number) for name, number in re.findall(r'(STATUS_\w+) = (\d+)', (TOP / 'flash/status.h').read_text())}
+    headers = (TOP / 'include/dfuse_host.h').read_text() + (TOP / 'include/dfuse_file.h').read_text()
+    number_of = {name: int(number) for name, number in re.findall(r'^    (DFUSE_\w+) = (-?\d+)', headers, re.M)}
+    verdict = (TOP / 'flash/dfuse_verdict.c').read_text()
+    leavings = dict(re.findall(r'\[(DFUSE_\w+)\] = ' + text, verdict))
+    reports = re.findall(r'\{(DFUSE_\w+), "([\w-]+)",\s*\{(STATUS_\w+), ' + text, verdict)
+    check_that('the reports of DfuSe are found', len(reports) == 9 and len(leavings) == 3, (reports, leavings))
+    for number, name, status_of, words_of in reports:
+        for leaving, behind in (leavings.items() if name == 'verified' else [('DFUSE_STAYED', '')]):
+            if name not in ('uploaded', 'no-memory'):
+                said = browser.run('return runs.dfuseWordsOf(...arguments)', number_of[number], number_of[leaving])
+                check(f'the words of {name}, {leaving}', said, [name, status[status_of], words_of + behind])
+    refusals = re.findall(r'\{(DFUSE|REFUSED)(_\w+), "(\w+)", ' + text, (TOP / 'flash/refusals.c').read_text())
+    check_that('the refusals of DfuSe are found', len(refusals) == 43, refusals)
+    for kind, number, name, words_of in refusals:
+        # (the page has no --all, and says in a text of its own where a system makes no reset)
+        if name not in ('ForAny', 'CannotReset'):
+            said = browser.run('const it = runs.refusalOf(arguments[0]); return [it.name, it.words]',
+                               number_of[kind + number] if kind == 'DFUSE' else name)
+            check(f'the words of {name}', said, [name, words_of])
+
+
 def run(browser, page):
+    of_dfuse(browser)
     again = list(numbers())
     check_that('the numbers that the page writes again are found', len(again) >= 49, again)
     for name, ours, wanted in again:

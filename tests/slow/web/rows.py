@@ -12,7 +12,7 @@ import urllib.request
 
 sys.path.insert(0, str(pathlib.Path(__file__).resolve().parent.parent.parent / 'page'))
 from browser import ARGUMENTS, Browser, serve
-from files import NEW, OLD, suffixed
+from files import NEW, OLD, dfuse, suffixed
 
 PORT = 8123 # as the policy has it
 PATIENCE = 10 # the machine may be an emulated one
@@ -25,6 +25,9 @@ if (navigator.usb !== undefined) USB.prototype.requestDevice = async function ()
 }
 """
 APP = 'USB_START=app'
+# A device of DfuSe has 16 pages of 1,024 bytes, and the image goes to the second one.
+DFUSE = 'USB_DEVICE=dfuse'
+PAGES = b''.join(part.ljust(1024, b'\xff') for part in (OLD, NEW, *[b''] * 14))
 # What, settings, whether it is to be compared, the title of the report, the image, the restarts. None: a restart is reported where the
 # system says more than 3 seconds late that the device left, which an emulated one may.
 ROWS = [
@@ -48,6 +51,11 @@ ROWS = [
     ('an application that stalls GETSTATUS', f'{APP} USB_APP_STALLS=status', True, 'Verified', NEW, 0),
     ('U-Boot', 'USB_DEVICE=uboot', True, 'Verified', NEW, 0),
     ('too small', 'USB_CAPACITY=13', True, 'Refused by the device', OLD, 0),
+    ('DfuSe', DFUSE, True, 'Verified', PAGES, 0),
+    ('DfuSe, a block is lost', f'{DFUSE} USB_FATE=lost-out 6', True, 'Verified', PAGES, 0),
+    ('DfuSe, the answer to a status is lost', f'{DFUSE} USB_FATE=lost-back 7', True, 'Verified', PAGES, 0),
+    ('DfuSe, it leaves while it is written', f'{DFUSE} USB_BUSY=50 USB_FATE=leave 10', True, 'Verified', PAGES, 1),
+    ('DfuSe, it is protected', f'{DFUSE} USB_PROTECTED=1', True, 'Protected', PAGES[:1024].ljust(16384, b'\xff'), 0),
 ]
 
 
@@ -103,6 +111,7 @@ SESSION = """async (isCompared, isChosen) => {
 def row(browser, program, work, words):
     what, settings, is_compared, title, image, restarts = words
     device = Device(program, settings, work)
+    give(browser, work, 'some.dfu' if DFUSE in settings else 'new.dfu')
     began = time.time()
     found = browser.wait_run(SESSION, is_compared, 'ALTERNATES' in settings)
     took = time.time() - began
@@ -123,8 +132,11 @@ def row(browser, program, work, words):
 def open_page(browser, work):
     browser.open(f'http://localhost:{PORT}/index.html#flash')
     browser.wait('document.body.dataset.ready')
-    browser.type('#file', str(work / 'new.dfu'))
-    browser.wait('!document.getElementById("fields").hidden')
+
+
+def give(browser, work, name):
+    browser.type('#file', str(work / name))
+    browser.wait(f'document.getElementById("fields").innerText.includes("{name}")')
 
 
 def start_browser(work):
@@ -149,6 +161,7 @@ def main(page, program):
     work = pathlib.Path(tempfile.mkdtemp())
     (work / 'old').write_bytes(OLD)
     (work / 'new.dfu').write_bytes(suffixed(NEW))
+    (work / 'some.dfu').write_bytes(dfuse((0, (0x08000400, NEW))))
     browser = start_browser(work)
     browser.cdp('Page.addScriptToEvaluateOnNewDocument', source=CHOOSE)
     serve(page, PORT)

@@ -1,0 +1,106 @@
+// SPDX-License-Identifier: MIT OR Apache-2.0
+// The proved host for DfuSe: a file, memory maps, and one session. An instance is for one session.
+import { Library } from './library.js'
+import { LAYOUT, writeRecord } from './records.js'
+
+// The numbers of dfuse_host.h that aren't those of host.js: what a session works at, its reports, how a device left, what may be done
+// with a page; and the setting of a file that has several.
+export const WORK = { ERASE: 0, WRITE: 2, COMPARE: 3, LEAVE: 6, OVER: 7 }
+export const OUTCOME = { VERIFIED: 1, DIFFERENT: 2, REFUSED: 3, READ_PROTECTED: 4, GAVE_UP: 5, RESTARTS_SPENT: 6, NOT_DFU: 7 }
+export const LEAVING = { STAYED: 0, LEFT: 1, UNKNOWN: 2 }
+export const ACCESS = { READABLE: 1, ERASABLE: 2, WRITABLE: 4 }
+export const FILE = { SEVERAL: 256 }
+
+const MOST_ELEMENTS = 256
+const MOST_BODY = 65536
+const MOST_ANSWER = 65536
+
+export class DfuseHost extends Library {
+  constructor(module, file = new Uint8Array(0)) {
+    super(module)
+    this.file = this.put(file)
+    this.fileWords = [BigInt(this.file), BigInt(file.length)]
+    this.session = this.record('dfuse_session')
+    this.action = this.record('dfuse_action')
+    this.body = this.reserve(MOST_BODY)
+    this.answer = this.reserve(MOST_ANSWER)
+  }
+
+  // What a DfuSe file says, or { refusal }, a negative number.
+  readFile() {
+    const at = this.record('dfuse_file')
+    const refusal = this.calls.dfuse_read_file(...this.fileWords, BigInt(at))
+    return refusal === 0 ? this.read('dfuse_file', at) : { refusal }
+  }
+
+  // One behind the other; where they begin.
+  putElements(elements) {
+    const { size } = LAYOUT.dfuse_element
+    const at = this.reserve(elements.length * size)
+    for (const [number, element] of elements.entries()) writeRecord(this.view(), 'dfuse_element', at + number * size, element)
+    return at
+  }
+
+  // The elements of a DfuSe file for a setting, in the order of the file; or { refusal }. Their bytes stand in the file.
+  readElements(setting) {
+    const places = this.putElements(Array.from({ length: MOST_ELEMENTS }, () => ({ address: 0, bytes: this.file, length: 0 })))
+    const count = this.reserve(8)
+    const refusal = this.calls.dfuse_file_image(...this.fileWords, setting, BigInt(places), BigInt(MOST_ELEMENTS), BigInt(count))
+    if (refusal !== 0) return { refusal }
+    const found = Number(this.view().getBigUint64(count, true))
+    const { size } = LAYOUT.dfuse_element
+    return { elements: Array.from({ length: found }, (_, number) => this.read('dfuse_element', places + number * size)) }
+  }
+
+  // The file as one element from that address on, so many bytes of its front.
+  whole(address, length) {
+    return [{ address, bytes: this.file, length }]
+  }
+
+  putMap(text) {
+    const bytes = new TextEncoder().encode(text)
+    return [BigInt(this.put(bytes)), BigInt(bytes.length)]
+  }
+
+  // The title of a setting's memory map, and its ranges in their order; or { refusal }.
+  readMap(text) {
+    const words = this.putMap(text)
+    const [map, range] = [this.record('dfuse_map'), this.record('dfuse_range')]
+    const refusal = this.calls.dfuse_read_map(...words, BigInt(map))
+    if (refusal !== 0) return { refusal }
+    const { name, ranges } = this.read('dfuse_map', map)
+    const read = number => {
+      this.calls.dfuse_read_range(...words, number, BigInt(range))
+      return this.read('dfuse_range', range)
+    }
+    const title = new TextDecoder().decode(this.copy(Number(words[0]) + 1, name)).trim()
+    return { title, ranges: Array.from({ length: ranges }, (_, number) => read(number)) }
+  }
+
+  // map: the string of the setting. plan: the fields of struct dfuse_plan. 0, or a refusal.
+  begin(map, elements, plan) {
+    this.words = [...this.putMap(map), BigInt(this.putElements(elements)), BigInt(elements.length)]
+    return this.calls.dfuse_begin(BigInt(this.session), ...this.words, BigInt(this.record('dfuse_plan', plan)))
+  }
+
+  // What is to be done, with its setup and its body; null where the library refuses the record.
+  next() {
+    const words = [BigInt(this.session), ...this.words, BigInt(this.body), BigInt(MOST_BODY), BigInt(this.action)]
+    if (this.calls.dfuse_next(...words) !== 0) return null
+    const action = this.read('dfuse_action', this.action)
+    action.setup = this.copy(this.action + LAYOUT.dfuse_action.fields.setup.at, 8)
+    action.body = this.copy(this.body, action.length)
+    return action
+  }
+
+  // What came of the action; `bytes` is what came with BYTES. Whether the library took it.
+  take(seen, bytes = new Uint8Array(0)) {
+    this.bytes(this.answer, bytes.length).set(bytes)
+    return this.calls.dfuse_take(BigInt(this.session), ...this.words, seen, BigInt(this.answer), BigInt(bytes.length)) === 0
+  }
+
+  // The record, to be read: what it works at, and where that stands.
+  state() {
+    return this.read('dfuse_session', this.session)
+  }
+}

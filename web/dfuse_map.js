@@ -1,0 +1,38 @@
+// SPDX-License-Identifier: MIT OR Apache-2.0
+// Memory maps, which the library reads: a range as dfu-flash --list prints it, and what a map says of a part of the memory. As
+// flash/dfuse_map.c.
+import { ACCESS } from './dfuse_host.js'
+import { digits } from './names.js'
+
+const LETTERS = [['r', ACCESS.READABLE], ['e', ACCESS.ERASABLE], ['w', ACCESS.WRITABLE]]
+
+const endOf = ({ start, size, count }) => start + size * count
+const counted = (count, what) => `${count} ${what}${count === 1 ? '' : 's'}`
+
+// As 08000000..0800ffff 4 pages of 16384 bytes rew.
+export function rangeText(range) {
+  const letters = LETTERS.map(([letter, bit]) => ((range.access & bit) !== 0 ? letter : '-')).join('')
+  const place = `${digits(range.start, 8)}..${digits(endOf(range) - 1, 8)}`
+  return `${place} ${counted(range.count, 'page')} of ${counted(range.size, 'byte')} ${letters}`
+}
+
+// As 08000000 4 bytes.
+export const elementText = ({ address, length }) => `${digits(address, 8)} ${counted(length, 'byte')}`
+
+// How many pages have an address of a part of the memory, up to the first that is on none.
+export function pagesOf(ranges, start, end) {
+  let pages = 0
+  for (let at = start; at < end;) {
+    const from = at
+    const range = ranges.find(one => one.start <= from && from < endOf(one))
+    if (range === undefined) return pages
+    const last = Math.min(end, endOf(range)) - 1
+    pages += Math.floor((last - range.start) / range.size) - Math.floor((at - range.start) / range.size) + 1
+    at = endOf(range)
+  }
+  return pages
+}
+
+// How many bytes of the elements have an address below this one.
+export const bytesBelow = (elements, address) =>
+  elements.reduce((sum, one) => sum + Math.max(0, Math.min(one.length, address - one.address)), 0)

@@ -1,0 +1,55 @@
+// SPDX-License-Identifier: MIT OR Apache-2.0
+// Why a session with DfuSe does not begin, and what to do, as refusals.js has it: by the numbers of dfuse_file.h and dfuse_host.h, and by
+// the names of dfu-flash's own refusals. The words are those of flash/refusals.c.
+const OTHER_FILE = 'Take another file, or ask who made it.'
+const CUT = 'Download the file again.'
+const ITS_MAP = 'Nothing was sent. Choose another memory, if there is one; else the maker of the device has to mend that.'
+const FOR_THE_MAP = 'Nothing was sent. Compare the file and the address with the map.'
+
+export const DFUSE_REFUSALS = {
+  NoAddress: ['NoAddress', 'the device speaks DfuSe, and the file has no addresses: see --address',
+    'Say at which address the image is to stand.'],
+  RunTimeMode: ['RunTimeMode', 'the device speaks DfuSe and is in run-time mode: bring it to DFU mode first, as by --detach',
+    'Bring it to DFU mode by hand, as by its button, and connect it again.'],
+  NotDfuSe: ['NotDfuSe', 'the device speaks DFU 1.1, which has no addresses',
+    'Nothing was sent. If the device is in run-time mode, bring it to DFU mode first, as by its button, and connect it again.'],
+  OwnAddress: ['OwnAddress', 'the file is a DfuSe file, which has addresses of its own', OTHER_FILE],
+  LargeBlocks: ['LargeBlocks', 'the device counts in blocks of over 4096 bytes, which Linux does not carry', 'Nothing was sent.'],
+  Mixed: ['Mixed', 'the file has images for several alternate settings: see --alt', 'Choose the memory whose image is to be written.'],
+  [-71]: ['TooLarge', 'the file has over 16777216 bytes', OTHER_FILE],
+  [-72]: ['TooShort', 'the file has under 16 bytes, too few for a suffix', CUT],
+  [-73]: ['NoSignature', 'the file begins as a DfuSe file, and has no suffix: it was cut', CUT],
+  [-74]: ['BadLength', "the suffix's length is under 16 or over the file's", OTHER_FILE],
+  [-75]: ['NotDfuSeFile', 'the file begins as a DfuSe file, and its suffix is of another version', OTHER_FILE],
+  [-76]: ['BadCrc', "the file's check sum is wrong: it was changed or cut", CUT],
+  [-77]: ['NoPrefix', 'the suffix is that of a DfuSe file, which the file does not begin as', OTHER_FILE],
+  [-78]: ['BadVersion', 'the file is of another version of DfuSe', OTHER_FILE],
+  [-79]: ['BadImageSize', 'the file has another size than it says', OTHER_FILE],
+  [-80]: ['NoTargets', 'the file has no targets', OTHER_FILE],
+  [-81]: ['NoTarget', 'the file has fewer targets than it says', OTHER_FILE],
+  [-82]: ['BadTargetSize', 'a target of the file has another size than it says', OTHER_FILE],
+  [-83]: ['ElementPastTheTarget', 'an element of the file ends behind its target', OTHER_FILE],
+  [-84]: ['EmptyElement', 'an element of the file has no bytes', OTHER_FILE],
+  [-85]: ['AddressPastTheEnd', 'an element of the file ends behind address FFFFFFFF', OTHER_FILE],
+  [-86]: ['TrailingBytes', 'the file has more bytes behind its last target', OTHER_FILE],
+  [-87]: ['NoSuchSetting', 'the file has nothing for this alternate setting', 'Choose another memory, or take another file.'],
+  [-88]: ['TooManyElements', 'the file has over 256 elements for this alternate setting', OTHER_FILE],
+  [-51]: ['NoMap', "the name of the device's setting is no memory map: see --list and --alt", ITS_MAP],
+  [-52]: ['BadAddress', "the device's memory map has a bad address", ITS_MAP],
+  [-53]: ['BadCount', "the device's memory map has a bad count of pages", ITS_MAP],
+  [-54]: ['BadSize', "the device's memory map has a bad page size", ITS_MAP],
+  [-55]: ['BadType', "the device's memory map has a bad letter for what may be done with pages", ITS_MAP],
+  [-56]: ['PastTheEnd', "the device's memory map has pages behind address FFFFFFFF", ITS_MAP],
+  [-57]: ['TooManyRanges', "the device's memory map has over 32 ranges", ITS_MAP],
+  [-58]: ['Trailing', "the device's memory map has bytes behind its last range", ITS_MAP],
+  [-59]: ['Overlaps', "two ranges of the device's memory map overlap", ITS_MAP],
+  [-61]: ['NoTransferSize', 'the device takes blocks of 0 bytes', 'Nothing was sent. The maker of the device has to mend that.'],
+  [-62]: ['EmptyImage', 'the image or one of its elements is empty', OTHER_FILE],
+  [-63]: ['NotInOrder', "the image's elements do not ascend", OTHER_FILE],
+  [-64]: ['Overlapping', "the image's elements overlap", OTHER_FILE],
+  [-65]: ['OutsideTheMap', 'the image is not all on the memory map: see --list and --alt', FOR_THE_MAP],
+  [-66]: ['NotWritable', 'the image touches a page that cannot be written', FOR_THE_MAP],
+  [-67]: ['NotErasable', 'the image touches a page that cannot be erased, as those of option bytes',
+    'Nothing was sent. This page writes no option bytes and no one-time memory.'],
+  [-68]: ['NotReadable', 'the image touches a page that cannot be read back', FOR_THE_MAP],
+}

@@ -1,0 +1,48 @@
+// SPDX-License-Identifier: MIT OR Apache-2.0
+// What a session with DfuSe came to: the words and the status of dfu-flash (flash/dfuse_verdict.c), and for a person what it means. Its
+// other ends are those of reports.js.
+import { LEAVING, OUTCOME } from './dfuse_host.js'
+import { CODES } from './names.js'
+import { AGAIN, MAYBE, ofUnsent, verdictOf } from './reports.js'
+
+const PROTECTION = 'To take the protection away erases all of the memory, and is nothing that this page does.'
+
+// By the number of the report: name, status, words, title, what it means, and what it doesn't.
+const REPORTS = {
+  [OUTCOME.VERIFIED]: ['verified', 0, "each byte was read back from the device's memory, and is the file's", 'Verified',
+    'Each byte of the image was read back from the device\'s memory, and is the file\'s.',
+    'It doesn\'t mean that the new firmware runs, or that the file is the right one for this board. And a device that tells untruths ' +
+    'can give back what was sent.'],
+  [OUTCOME.DIFFERENT]: ['different', 9, "a byte that was read back from the device's memory isn't the file's", 'Not the same bytes',
+    'A byte that was read back from the device\'s memory isn\'t the file\'s.',
+    'The device was not asked to start its application. Its memory may not be as its map says. ' + AGAIN],
+  [OUTCOME.REFUSED]: ['refused', 6, 'the device refused a command; the device may have the old image, the new one or neither',
+    'Refused by the device', 'The device refused a command.', MAYBE],
+  [OUTCOME.READ_PROTECTED]: ['read-protected', 6,
+    "the device's memory is protected; the device may have the old image, the new one or neither", 'Protected',
+    'The device\'s memory is protected from being read. ' + PROTECTION, MAYBE],
+  [OUTCOME.GAVE_UP]: ['gave-up', 7, 'the limit of actions is spent; the device may have the old image, the new one or neither',
+    'Given up', 'It took far more requests than it should, and came to no end.', MAYBE],
+  [OUTCOME.RESTARTS_SPENT]: ['restarts-spent', 7,
+    'the device restarted too often; the device may have the old image, the new one or neither', 'The device restarts',
+    'The device restarted too often, or its cable has a bad contact.', MAYBE],
+  [OUTCOME.NOT_DFU]: ['not-dfu', 10, 'the device is in its application; the device may have the old image, the new one or neither',
+    'In its application', 'The device is in its application, and no longer in DFU mode.', MAYBE],
+}
+
+// How the device left, behind what Verified means; and the same for a person.
+const LEAVINGS = {
+  [LEAVING.STAYED]: ['; the device stays in DFU mode', ' The device stays in DFU mode.'],
+  [LEAVING.LEFT]: ['; the device starts its application', ' The device starts its application.'],
+  [LEAVING.UNKNOWN]: ["; whether it starts its application isn't known", ' Whether it starts its application isn\'t known.'],
+}
+
+// ended: what DfuseSession.run answers, and no refusal.
+export function dfuseVerdictOf(ended, session) {
+  if (ended.end !== 'report') return { ...verdictOf(ended, session), says: '' }
+  const [name, ...row] = REPORTS[ended.report]
+  const [status, words, title, means, not] = session.hasSent ? row : ofUnsent(row)
+  const [behind, meant] = ended.report === OUTCOME.VERIFIED ? LEAVINGS[ended.more] : ['', '']
+  const code = ended.report === OUTCOME.REFUSED && ended.more !== 0 ? CODES[ended.more] : ''
+  return { name, status, words: words + behind, title, means: means + meant, not, code, says: ended.says }
+}

@@ -1,0 +1,64 @@
+// SPDX-License-Identifier: MIT OR Apache-2.0
+// The alternate settings of a device in DFU mode, of which a person chooses one. With DfuSe each is a memory, and its name the map of it,
+// which is shown as dfu-flash --list prints it.
+import { isDfuse } from './begin.js'
+import { DfuseHost } from './dfuse_host.js'
+import { rangeText } from './dfuse_map.js'
+import { by, make, plain } from './elements.js'
+import { refusalOf } from './refusals.js'
+
+const LETTERS = 'Its pages can be read (r), erased (e) and written (w).'
+
+export class Memories {
+  // onChoice is told the setting that a person chooses.
+  constructor(module, onChoice) {
+    Object.assign(this, { module, onChoice })
+    this.hide()
+  }
+
+  hide() {
+    Object.assign(this, { device: null, settings: [], inputs: [], isDfuse: false, isChosen: false })
+    by('settings').hidden = true
+  }
+
+  // settings: as peek or Board.is has them.
+  show(device, settings) {
+    Object.assign(this, { device, settings, isDfuse: settings.some(isDfuse), isChosen: false })
+    this.inputs = settings.map(one => make('input', { type: 'radio', name: 'setting', onchange: () => this.choose(one) }))
+    const rows = settings.map((one, at) => this.row(one, this.inputs[at]))
+    const legend = by('settings').firstElementChild
+    legend.textContent = settings.length > 1 ? 'It has several memories. Which one?' : 'Its memory'
+    const behind = this.isDfuse ? [make('p', { className: 'small' }, LETTERS)] : []
+    by('settings').replaceChildren(legend, ...rows, ...behind)
+    by('settings').hidden = false
+  }
+
+  row(one, input) {
+    const { title = '', lines } = this.isDfuse ? this.mapOf(one) : { lines: [] }
+    const name = plain(title) || plain(one.name) || `setting ${one.alternate}`
+    const place = ` ${name} (interface ${one.interface}, setting ${one.alternate})`
+    return make('label', {}, input, place, ...lines.map(line => make('small', {}, line)))
+  }
+
+  mapOf({ name }) {
+    const { title, ranges, refusal } = new DfuseHost(this.module).readMap(name)
+    if (refusal === undefined) return { title, lines: ranges.map(rangeText) }
+    const said = refusalOf(refusal)
+    return { lines: [`no memory map: ${said.name}: ${said.words}`] }
+  }
+
+  choose(one) {
+    this.isChosen = true
+    this.onChoice(one)
+  }
+
+  // That of a DfuSe file; else the first one, which is that of programs. Null if there is none.
+  meant(file) {
+    const wanted = file.isDfuse && file.isGood() ? file.said.setting : 0
+    return this.settings.find(one => one.alternate === wanted) ?? null
+  }
+
+  mark(setting) {
+    for (const [at, input] of this.inputs.entries()) input.checked = this.settings[at] === setting
+  }
+}
