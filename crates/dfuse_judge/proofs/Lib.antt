@@ -1,0 +1,6 @@
+mod Exact
+mod Kept
+mod Passes
+mod Places
+mod Somewhere
+mod Verdicts
