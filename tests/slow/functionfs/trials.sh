@@ -1,5 +1,6 @@
-# What runs in the machine: images on trial, over the kernel's FunctionFS and a disk. What dfu-gadget's start, confirm and end do while `run`
-# has the device on the bus; what a host lists meanwhile; a download that a killed daemon breaks off; and the example that starts images.
+# What runs in the machine: images on trial, over the kernel's FunctionFS and a disk. What dfu-gadget's start, confirm and end do while
+# `run` has the device on the bus; what a host lists meanwhile; a download that a killed daemon breaks off; and the example that starts
+# images.
 # shellcheck shell=sh disable=SC2154
 # shellcheck source=tests/slow/functionfs/common.sh
 . ./common.sh
