@@ -2,6 +2,7 @@
 # shellcheck shell=sh disable=SC2154
 # shellcheck source=tests/slow/functionfs/common.sh
 . ./common.sh
+medium=medium # a file in memory: while the machine waits for a disk its time runs on, and fwupd's time-outs come
 export HOME="$PWD"
 ./set-up 0x1209 0x0001 0x0100 F1
 suffixed one two
