@@ -169,7 +169,7 @@ if command -v script > /dev/null; then
     for columns in 100 80 50; do
         env LD_LIBRARY_PATH="$work" USB_SLOW=5 script -qec "stty cols $columns rows 24; ./dfu-flash long.dfu > out" terminal \
             > /dev/null 2>&1 < /dev/null || :
-        tr '\r' '\n' < terminal | grep '^[dc].*%' > bars
+        tr '\r' '\n' < terminal | grep '^[dc].*%' > bars || :
         [ "$columns" -eq 50 ] || expect "$columns columns: what is left" grep -q ' of 800 bytes, .* kB/s, [0-9]* s left' bars
         expect "$columns columns: the end" grep -q '100% 800 of 800 bytes, [0-9.]* kB/s *$' bars
         longest=$(awk '{ sub(/ *$/, "") } length > most { most = length } END { print most + 0 }' bars)
