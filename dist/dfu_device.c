@@ -205,7 +205,7 @@ static void dfu_asks_asking_Asking_block_job(unsigned char *a0, unsigned char *a
 static void dfu_asks_asking_Asking_advance(unsigned char *a0, unsigned char *a1, unsigned char *a2, uint64_t a3, unsigned char *a4, unsigned char *a5, uint64_t a6, unsigned char *a7);
 static struct i64_i8 dfu_asks_asking_Asking_look_at(unsigned char *a0, unsigned char *a1, unsigned char *a2, uint64_t a3, unsigned char *a4, unsigned char *a5, uint64_t a6);
 static uint8_t dfu_asks_next_piece_next_piece(unsigned char *a0, unsigned char *a1);
-static void dfu_asks_asking_Asking_noted_after(unsigned char *a0, unsigned char *a1, unsigned char *a2, uint64_t a3);
+static void dfu_asks_finish_note(unsigned char *a0, unsigned char *a1, unsigned char *a2, uint64_t a3, uint8_t a4, uint32_t a5);
 static struct i8_i64 dfu_asks_asking_Asking_answer(unsigned char *a0, uint8_t a1, uint16_t a2, unsigned char *a3);
 static void dfu_device_c_keeping_keep(unsigned char *a0, unsigned char *a1);
 
@@ -3326,11 +3326,11 @@ join_3:;
 /* dfu_asks::asking::Asking::advance */
 static void dfu_asks_asking_Asking_advance(unsigned char *a0, unsigned char *a1, unsigned char *a2, uint64_t a3, unsigned char *a4, unsigned char *a5, uint64_t a6, unsigned char *a7) {
     _Alignas(4) unsigned char r7[24];
-    _Alignas(1) unsigned char r10[17];
-    unsigned char *r28, *r17, *r49, *r51, *r53, *r55;
+    _Alignas(4) unsigned char r8[16];
+    unsigned char *r28, *r21, *r23, *r25, *r27, *r29_2, *r30;
     uint64_t a1_a0, r44, r52, r57, r8_0, r0_0_0;
-    uint32_t r0_4_0, v4, v5, r57_3, r17_103_0, r17_15_0_0, r17_15_6_0_0, r17_20_0;
-    uint8_t v3, r17_0_0, r17_7_0;
+    uint8_t v8, r17_0_0, r17_7_0;
+    uint32_t r0_4_0, v9, v10, r71, r17_103_0, r17_15_0_0, r17_15_6_0_0, r17_20_0;
     r28 = a1 + 96;
     uint8_t r29 = *r28;
     if (r29 != 1) goto arm_2;
@@ -3349,52 +3349,82 @@ then_5:
     store64(a0 + 8, 0);
     return;
 join_7:
-    r17 = a1 + 36;
-    uint8_t v1 = *r17;
-    switch (v1) {
+    store32(r8, 0);
+    r21 = a1 + 36;
+    uint8_t v1 = *r21;
+    *r8 = v1;
+    r23 = a1 + 37;
+    uint8_t v2 = *r23;
+    r8[1] = v2;
+    r25 = a1 + 40;
+    uint32_t v3 = load32(r25);
+    store32(r8 + 4, v3);
+    r27 = a1 + 44;
+    uint32_t v4 = load32(r27);
+    store32(r8 + 8, v4);
+    r29_2 = a1 + 48;
+    uint32_t v5 = load32(r29_2);
+    store32(r8 + 12, v5);
+    r30 = a1 + 28;
+    uint8_t r9_0_0_copyload = *r30;
+    uint32_t r10_0_0_copyload = load32(a1 + 32);
+    dfu_asks_finish_note(a1 + 76, r8, a5, a6, r9_0_0_copyload, r10_0_0_copyload);
+    uint8_t v6 = *r21;
+    switch (v6) {
     case 3: goto join_3;
     case 5: goto join_3;
     case 0:
+        v8 = v6;
         r0_4_0 = 0;
         r0_0_0 = 0;
         goto dfu_asks_asking_Asking_rest_after_exit;
     case 1:
+        v8 = v6;
         r0_4_0 = 0;
         r0_0_0 = 0;
         goto dfu_asks_asking_Asking_rest_after_exit;
     case 2:
+        v8 = v6;
         r0_4_0 = 0;
         r0_0_0 = 0;
         goto dfu_asks_asking_Asking_rest_after_exit;
     case 4:
+        v8 = v6;
         r0_4_0 = 0;
         r0_0_0 = 0;
         goto dfu_asks_asking_Asking_rest_after_exit;
     case 6:
+        v8 = v6;
         r0_4_0 = 0;
         r0_0_0 = 0;
         goto dfu_asks_asking_Asking_rest_after_exit;
     case 7:
+        v8 = v6;
         r0_4_0 = 0;
         r0_0_0 = 0;
         goto dfu_asks_asking_Asking_rest_after_exit;
     case 8:
+        v8 = v6;
         r0_4_0 = 0;
         r0_0_0 = 0;
         goto dfu_asks_asking_Asking_rest_after_exit;
     case 9:
+        v8 = v6;
         r0_4_0 = 0;
         r0_0_0 = 0;
         goto dfu_asks_asking_Asking_rest_after_exit;
     case 10:
+        v8 = v6;
         r0_4_0 = 0;
         r0_0_0 = 0;
         goto dfu_asks_asking_Asking_rest_after_exit;
     case 11:
+        v8 = v6;
         r0_4_0 = 0;
         r0_0_0 = 0;
         goto dfu_asks_asking_Asking_rest_after_exit;
     case 12:
+        v8 = v6;
         r0_4_0 = 0;
         r0_0_0 = 0;
         goto dfu_asks_asking_Asking_rest_after_exit;
@@ -3403,9 +3433,9 @@ join_7:
 join_3:;
     uint64_t r36 = load64(a1 + 56);
     a1_a0 = umin64(a3, r36);
-    uint8_t r10_0_0_copyload = a1[28];
+    uint8_t r10_0_0_copyload_2 = *r30;
     r44 = load64(a1 + 64);
-    uint64_t switch_load = load64(PLACE(switch_table_dfu_asks_asking_Asking_advance) + 8 * (size_t)r10_0_0_copyload);
+    uint64_t switch_load = load64(PLACE(switch_table_dfu_asks_asking_Asking_advance) + 8 * (size_t)r10_0_0_copyload_2);
     uint64_t r46 = r44 + a1_a0;
     r52 = switch_load & r46;
     r57 = r46 - r52;
@@ -3419,23 +3449,18 @@ loop_4:
     goto loop_4;
 dfu_asks_finish_keep_rest_exit:;
     uint32_t r57_2 = load32(a1 + 72);
+    uint8_t pre = *r21;
+    v8 = pre;
     r0_4_0 = uadd_sat32((uint32_t)a1_a0, r57_2);
     r0_0_0 = r52;
 dfu_asks_asking_Asking_rest_after_exit:
-    dfu_asks_asking_Asking_noted_after(r10, a1, a5, a6);
-    memcpy(a1 + 76, r10, 17);
     store64(a1 + 64, r0_0_0);
     store32(a1 + 72, r0_4_0);
-    uint64_t r41 = load64(a1 + 56);
-    v3 = *r17;
-    r49 = a1 + 37;
-    r51 = a1 + 40;
-    v4 = load32(r51);
-    r53 = a1 + 44;
-    v5 = load32(r53);
-    r55 = a1 + 48;
-    r57_3 = (uint32_t)umin64(a3, r41);
-    switch (v3) {
+    uint64_t r55 = load64(a1 + 56);
+    v9 = load32(r25);
+    v10 = load32(r27);
+    r71 = (uint32_t)umin64(a3, r55);
+    switch (v8) {
     case 3: goto arm_1;
     case 5: goto arm_2_2;
     case 7:
@@ -3461,22 +3486,22 @@ dfu_asks_asking_Asking_rest_after_exit:
 arm_1:
     r17_0_0 = 6;
     r17_7_0 = 0;
-    r17_103_0 = uadd_sat32(r57_3, v4);
-    r17_15_0_0 = v5;
+    r17_103_0 = uadd_sat32(r71, v9);
+    r17_15_0_0 = v10;
     r17_15_6_0_0 = 0;
     r17_20_0 = 0;
     goto dfu_asks_asking_Asking_finish_exit;
 arm_2_2:
     r17_0_0 = 4;
     r17_7_0 = 0;
-    r17_103_0 = uadd_sat32(r57_3, v4);
-    r17_15_0_0 = v5;
+    r17_103_0 = uadd_sat32(r71, v9);
+    r17_15_0_0 = v10;
     r17_15_6_0_0 = 0;
     r17_20_0 = 0;
     goto dfu_asks_asking_Asking_finish_exit;
 arm_4:;
-    uint8_t r15_2_0_copyload = a1[8];
-    r17_0_0 = (uint8_t)((r15_2_0_copyload & 1) ? 8 : 10);
+    uint8_t r16_2_0_copyload = a1[8];
+    r17_0_0 = (uint8_t)((r16_2_0_copyload & 1) ? 8 : 10);
     r17_7_0 = 0;
     r17_103_0 = 0;
     r17_15_0_0 = 0;
@@ -3484,21 +3509,21 @@ arm_4:;
     r17_20_0 = 0;
     goto dfu_asks_asking_Asking_finish_exit;
 arm_5:;
-    uint32_t v6 = load32(r55);
-    uint8_t v7 = *r49;
-    r17_0_0 = v3;
-    r17_7_0 = v7;
-    r17_103_0 = v4;
-    r17_15_0_0 = v5;
-    r17_15_6_0_0 = v5 & 0xffff0000U;
-    r17_20_0 = v6;
+    uint32_t v11 = load32(r29_2);
+    uint8_t v12 = *r23;
+    r17_0_0 = v8;
+    r17_7_0 = v12;
+    r17_103_0 = v9;
+    r17_15_0_0 = v10;
+    r17_15_6_0_0 = v10 & 0xffff0000U;
+    r17_20_0 = v11;
     goto dfu_asks_asking_Asking_finish_exit;
 dfu_asks_asking_Asking_finish_exit:
-    *r17 = r17_0_0;
-    *r49 = r17_7_0;
-    store32(r51, r17_103_0);
-    store32(r53, r17_15_6_0_0 | (r17_15_0_0 & 0xffffU));
-    store32(r55, r17_20_0);
+    *r21 = r17_0_0;
+    *r23 = r17_7_0;
+    store32(r25, r17_103_0);
+    store32(r27, r17_15_6_0_0 | (r17_15_0_0 & 0xffffU));
+    store32(r29_2, r17_20_0);
     memset(r28, 0, 28);
     uint8_t r73 = r7[16];
     uint16_t r25_3_2_copyload = load16(r7 + 18);
@@ -3622,14 +3647,13 @@ join_4:
     return r15_0_in;
 }
 
-/* dfu_asks::asking::Asking::noted_after */
-static void dfu_asks_asking_Asking_noted_after(unsigned char *a0, unsigned char *a1, unsigned char *a2, uint64_t a3) {
-    _Alignas(4) unsigned char r6[18];
-    _Alignas(1) unsigned char r9[17];
-    uint8_t v0 = a1[36];
+/* dfu_asks::finish::note */
+static void dfu_asks_finish_note(unsigned char *a0, unsigned char *a1, unsigned char *a2, uint64_t a3, uint8_t a4, uint32_t a5) {
+    _Alignas(4) unsigned char r15[18];
+    uint8_t v0 = *a1;
     switch (v0) {
-    case 3: goto then_1;
-    case 5: goto then_1;
+    case 3: return;
+    case 5: return;
     case 0: goto join_3;
     case 1: goto join_3;
     case 2: goto join_3;
@@ -3643,21 +3667,11 @@ static void dfu_asks_asking_Asking_noted_after(unsigned char *a0, unsigned char 
     case 12: goto join_3;
     default: never();
     }
-then_1:
-    memmove(a0, a1 + 76, 17);
-    return;
-join_3:;
-    uint8_t r7_0_0_copyload = a1[28];
-    uint32_t r8_0_0_copyload = load32(a1 + 32);
-    dfu_asks_noted_Noted_find(r6, a2, a3, r7_0_0_copyload, r8_0_0_copyload);
-    uint8_t r31 = *r6;
-    if (r31 != 1) goto arm_5;
-    memcpy(r9, r6 + 1, 17);
-    goto join_7;
-arm_5:
-    memcpy(r9, a1 + 76, 17);
-join_7:
-    memcpy(a0, r9, 17);
+join_3:
+    dfu_asks_noted_Noted_find(r15, a2, a3, a4, a5);
+    uint8_t r25 = *r15;
+    if (r25 != 1) return;
+    memcpy(a0, r15 + 1, 17);
     return;
 }
 
@@ -4574,41 +4588,45 @@ int32_t dfu_core_candidate(const struct dfu_config *config, const struct dfu_rec
     unsigned char *a2 = (unsigned char *)(uintptr_t)flash;
     uint64_t a3 = size;
     unsigned char *a4 = (unsigned char *)(uintptr_t)place;
-    _Alignas(8) unsigned char r8[136];
-    _Alignas(8) unsigned char r3[128];
+    _Alignas(8) unsigned char r3[136];
+    _Alignas(8) unsigned char r9[136];
     _Alignas(8) unsigned char r3_2[24];
     _Alignas(4) unsigned char r13[20];
     unsigned char *r4;
-    uint32_t r11_0_0_copyload, r4_2_0_copyload, v4, common_ret_op;
-    uint8_t r10_0_0_copyload;
+    uint8_t v1, r10_0_0_copyload;
+    uint32_t r11_0_0_copyload, r4_2_0_copyload, v6, common_ret_op;
     uint64_t r2_0_0;
     r4 = (unsigned char *)((uintptr_t)a2 + (uintptr_t)(uint64_t)((a2 == NULL) ? 4096 : 0));
-    memset(r8, 0, 136);
-    dfu_device_c_keeping_found(r8, a0, a1, 4096);
-    uint8_t r16 = *r8;
-    if (r16 != 0) goto arm_2;
-    memcpy(r3, r8 + 8, 128);
+    store64(r3, 0);
+    memset(r9, 0, 136);
+    dfu_device_c_keeping_found(r9, a0, a1, 4096);
+    uint8_t v0 = *r9;
+    *r3 = v0;
+    v1 = r9[1];
+    r3[1] = v1;
+    memcpy(r3 + 8, r9 + 8, 128);
+    if (v0 != 0) goto arm_2;
     memset(r13, 0, 20);
-    uint8_t r2 = r3[96];
+    uint8_t r2 = r3[104];
     if (r2 != 1) goto join_3;
     r2_0_0 = 2;
     goto dfu_device_c_exports_refused_exit;
 join_3:
     if (a3 > 0xffffffffU) goto arm_2_2;
-    r11_0_0_copyload = load32(r3 + 32);
-    r10_0_0_copyload = r3[28];
+    r11_0_0_copyload = load32(r3 + 40);
+    r10_0_0_copyload = r3[36];
     store64(r3_2, (uint64_t)(uintptr_t)r4);
     store64(r3_2 + 8, a3);
     r3_2[16] = r10_0_0_copyload;
     memset(r3_2 + 17, 0, 3);
     store32(r3_2 + 20, r11_0_0_copyload);
-    dfu_asks_view_look(r13, r3_2, r3 + 76);
+    dfu_asks_view_look(r13, r3_2, r3 + 84);
     uint8_t r65 = *r13;
     if (r65 != 1) goto arm_2_2;
     r4_2_0_copyload = load32(r13 + 8);
-    uint8_t v3 = r3[36];
-    v4 = load32(r3 + 40);
-    switch (v3) {
+    uint8_t v5 = r3[44];
+    v6 = load32(r3 + 48);
+    switch (v5) {
     case 6: goto arm_11;
     case 7: goto arm_11;
     case 9: goto arm_11;
@@ -4626,21 +4644,20 @@ join_3:
     }
 arm_11:;
     uint32_t r4_3_0_copyload = load32(r13 + 12);
-    if (r4_3_0_copyload < v4) goto arm_3;
-    uint64_t v5 = (uint64_t)r10_0_0_copyload;
-    uint32_t switch_load = load32(PLACE(switch_table_dfu_core_would_stall) + 4 * (size_t)v5);
-    uint32_t switch_load_2 = load32(PLACE(switch_table_dfu_core_candidate) + 4 * (size_t)v5);
+    if (r4_3_0_copyload < v6) goto arm_3;
+    uint64_t v7 = (uint64_t)r10_0_0_copyload;
+    uint32_t switch_load = load32(PLACE(switch_table_dfu_core_would_stall) + 4 * (size_t)v7);
+    uint32_t switch_load_2 = load32(PLACE(switch_table_dfu_core_candidate) + 4 * (size_t)v7);
     store32(a4, (umax32(r11_0_0_copyload, switch_load) << 1) + r4_2_0_copyload);
-    store32(a4 + 4, switch_load_2 & v4);
+    store32(a4 + 4, switch_load_2 & v6);
     common_ret_op = 0;
     goto dfu_device_c_candidate_dfu_core_candidate_exit;
 arm_2:;
-    uint8_t r5_0_0_copyload = r8[1];
-    uint32_t switch_load_3 = load32(PLACE(switch_table_dfu_device_c_refusal_Refusal_number) + 4 * (size_t)r5_0_0_copyload);
+    uint32_t switch_load_3 = load32(PLACE(switch_table_dfu_device_c_refusal_Refusal_number) + 4 * (size_t)v1);
     common_ret_op = switch_load_3;
     goto dfu_device_c_candidate_dfu_core_candidate_exit;
 arm_5:
-    common_ret_op = 0xfffffff1U;
+    common_ret_op = 0xffffffecU;
     goto dfu_device_c_candidate_dfu_core_candidate_exit;
 arm_2_2:
     r2_0_0 = 3;
@@ -4663,45 +4680,49 @@ int32_t dfu_core_elapse(const struct dfu_config *config, struct dfu_record *reco
     unsigned char *a4 = (unsigned char *)(uintptr_t)flash;
     uint64_t a5 = size;
     uint32_t a6 = ms;
-    _Alignas(8) unsigned char r9[136];
-    _Alignas(8) unsigned char r5[128];
+    _Alignas(8) unsigned char r5[136];
+    _Alignas(8) unsigned char r10[136];
     _Alignas(8) unsigned char r17[48];
-    _Alignas(4) unsigned char r10[24];
+    _Alignas(4) unsigned char r10_2[24];
     _Alignas(8) unsigned char r27[16];
     _Alignas(1) unsigned char r11[6];
-    unsigned char *r4, *r13, *r29, *r39, *r5_2, *v3;
-    uint8_t r0_0_4_0_copyload, r0_0_5_0_copyload, v4, r18_0_0;
-    uint32_t v5, v6, v7, r18_1547_0, r18_22_0, r18_29_0, r18_36_0, common_ret_op;
+    unsigned char *r4, *r13, *r33, *r53, *r5_2, *v5;
+    uint8_t v1, r0_0_4_0_copyload, r0_0_5_0_copyload, v6, r18_0_0;
+    uint32_t v7, v8, v9, r18_1547_0, r18_22_0, r18_29_0, r18_36_0, common_ret_op;
     uint64_t r21, r15, r18, r2_0_0;
     r4 = (unsigned char *)((uintptr_t)a2 + (uintptr_t)(uint64_t)((a2 == NULL) ? 4096 : 0));
     r13 = (unsigned char *)((uintptr_t)a4 + (uintptr_t)(uint64_t)((a4 == NULL) ? 4096 : 0));
-    memset(r9, 0, 136);
-    dfu_device_c_keeping_found(r9, a0, a1, a3);
-    uint8_t r28 = *r9;
-    if (r28 != 0) goto arm_2;
-    r29 = r9 + 8;
-    memcpy(r5, r29, 128);
-    r39 = a1 + 68;
-    store32(r10, 0);
+    store64(r5, 0);
+    memset(r10, 0, 136);
+    dfu_device_c_keeping_found(r10, a0, a1, a3);
+    uint8_t v0 = *r10;
+    *r5 = v0;
+    v1 = r10[1];
+    r5[1] = v1;
+    r33 = r5 + 8;
+    memcpy(r33, r10 + 8, 128);
+    if (v0 != 0) goto arm_2;
+    r53 = a1 + 68;
+    store32(r10_2, 0);
     memset(r17, 0, 48);
     memset(r27, 0, 16);
-    uint8_t r2 = r5[96];
+    uint8_t r2 = r5[104];
     if (r2 != 1) goto join_3;
     r2_0_0 = 2;
     goto dfu_device_c_exports_refused_exit;
 join_3:
-    dfu_asks_asking_Asking_see(r17, r29, a3, r13, a5);
+    dfu_asks_asking_Asking_see(r17, r33, a3, r13, a5);
     uint8_t r1_0_0_copyload = *r17;
     if (r1_0_0_copyload != 0) goto arm_6;
     r5_2 = r17 + 8;
-    v3 = r17 + 32;
-    r0_0_4_0_copyload = r5[8];
-    r0_0_5_0_copyload = r5[9];
-    v4 = r5[36];
-    v5 = load32(r5 + 40);
-    v6 = load32(r5 + 44);
+    v5 = r17 + 32;
+    r0_0_4_0_copyload = r5[16];
+    r0_0_5_0_copyload = r5[17];
+    v6 = r5[44];
     v7 = load32(r5 + 48);
-    switch (v4) {
+    v8 = load32(r5 + 52);
+    v9 = load32(r5 + 56);
+    switch (v6) {
     case 1: goto arm_1;
     case 5: goto arm_2_2;
     case 9: goto arm_3;
@@ -4718,12 +4739,12 @@ join_3:
     default: never();
     }
 arm_1:
-    r21 = (uint64_t)v6 + (uint64_t)a6;
+    r21 = (uint64_t)v8 + (uint64_t)a6;
     if (a6 == 0) {
         r18_0_0 = 0;
         r18_1547_0 = 1;
-        r18_22_0 = v5;
-        r18_29_0 = v6;
+        r18_22_0 = v7;
+        r18_29_0 = v8;
         r18_36_0 = 0;
         goto arm_5;
     }
@@ -4735,7 +4756,7 @@ arm_1:
         r18_36_0 = 0;
         goto arm_5;
     }
-    if (r21 >= (uint64_t)umax32(v5, 1)) {
+    if (r21 >= (uint64_t)umax32(v7, 1)) {
         r18_0_0 = 0;
         r18_1547_0 = 0;
         r18_22_0 = 0;
@@ -4745,33 +4766,33 @@ arm_1:
     }
     r18_0_0 = 0;
     r18_1547_0 = 1;
-    r18_22_0 = v5;
+    r18_22_0 = v7;
     r18_29_0 = (uint32_t)r21;
     r18_36_0 = 0;
     goto arm_5;
 arm_2_2:;
-    uint32_t r2_2 = load32(r5 + 20);
-    r15 = (uint64_t)v7 + (uint64_t)a6;
+    uint32_t r2_2 = load32(r5 + 28);
+    r15 = (uint64_t)v9 + (uint64_t)a6;
     if ((a6 == 0) ? 1 : (r15 < (uint64_t)r2_2)) goto after_1;
     r18_0_0 = 3;
-    r18_1547_0 = v5;
-    r18_22_0 = (v6 & 0xffffU) | 0x10000U;
+    r18_1547_0 = v7;
+    r18_22_0 = (v8 & 0xffffU) | 0x10000U;
     r18_29_0 = 0;
     r18_36_0 = 0;
     goto arm_5;
 after_1:
     r18_0_0 = 0;
     r18_1547_0 = 5;
-    r18_22_0 = v5;
-    r18_29_0 = v6 & 0xffffU;
+    r18_22_0 = v7;
+    r18_29_0 = v8 & 0xffffU;
     r18_36_0 = (uint32_t)r15;
     goto arm_5;
 arm_3:;
-    uint32_t r2_3 = load32(r5 + 24);
-    r18 = (uint64_t)v6 + (uint64_t)a6;
+    uint32_t r2_3 = load32(r5 + 32);
+    r18 = (uint64_t)v8 + (uint64_t)a6;
     if ((a6 == 0) ? 1 : (r18 < (uint64_t)r2_3)) goto after_1_2;
     r18_0_0 = 4;
-    r18_1547_0 = v5;
+    r18_1547_0 = v7;
     r18_22_0 = (uint32_t)((r0_0_4_0_copyload & 1) ? 8 : 10);
     r18_29_0 = 0;
     r18_36_0 = 0;
@@ -4779,35 +4800,34 @@ arm_3:;
 after_1_2:
     r18_0_0 = 0;
     r18_1547_0 = 9;
-    r18_22_0 = v5;
+    r18_22_0 = v7;
     r18_29_0 = (uint32_t)r18;
     r18_36_0 = 0;
     goto arm_5;
 arm_4:;
-    uint8_t v8 = r5[37];
+    uint8_t v10 = r5[45];
     r18_0_0 = 0;
-    r18_1547_0 = ((uint32_t)v8 << 8) | (uint32_t)v4;
-    r18_22_0 = v5;
-    r18_29_0 = v6;
-    r18_36_0 = v7;
+    r18_1547_0 = ((uint32_t)v10 << 8) | (uint32_t)v6;
+    r18_22_0 = v7;
+    r18_29_0 = v8;
+    r18_36_0 = v9;
     goto arm_5;
 arm_2:;
-    uint8_t r7_0_0_copyload = r9[1];
-    uint32_t switch_load = load32(PLACE(switch_table_dfu_device_c_refusal_Refusal_number) + 4 * (size_t)r7_0_0_copyload);
+    uint32_t switch_load = load32(PLACE(switch_table_dfu_device_c_refusal_Refusal_number) + 4 * (size_t)v1);
     common_ret_op = switch_load;
     goto dfu_device_c_exports_dfu_core_elapse_exit;
 arm_5:
-    *r10 = r18_0_0;
-    store32(r10 + 4, r18_1547_0);
-    store32(r10 + 8, r18_22_0);
-    store32(r10 + 12, r18_29_0);
-    store32(r10 + 16, r18_36_0);
-    store32(r10 + 20, 0);
+    *r10_2 = r18_0_0;
+    store32(r10_2 + 4, r18_1547_0);
+    store32(r10_2 + 8, r18_22_0);
+    store32(r10_2 + 12, r18_29_0);
+    store32(r10_2 + 16, r18_36_0);
+    store32(r10_2 + 20, 0);
     memset(r11, 0, 6);
-    dfu_asks_asking_Asking_carry_out(r27, r5, r10, 0, 0, PLACE(static_0), 0, r4, a3, r39, r5_2, v3, r11, 6);
-    uint8_t v10 = *r27;
-    dfu_device_c_keeping_keep(r5, a1);
-    common_ret_op = (uint32_t)((v10 == 0) ? 0xfffffff5U : 0);
+    dfu_asks_asking_Asking_carry_out(r27, r33, r10_2, 0, 0, PLACE(static_0), 0, r4, a3, r53, r5_2, v5, r11, 6);
+    uint8_t v12 = *r27;
+    dfu_device_c_keeping_keep(r33, a1);
+    common_ret_op = (uint32_t)((v12 == 0) ? 0xfffffff5U : 0);
     goto dfu_device_c_exports_dfu_core_elapse_exit;
 arm_6:;
     uint8_t r1_3_1_copyload = r17[1];
@@ -4832,8 +4852,8 @@ int32_t dfu_core_handle(const struct dfu_config *config, struct dfu_record *reco
     uint64_t a8 = length;
     unsigned char *a9 = (unsigned char *)(uintptr_t)out;
     uint64_t a10 = room;
-    _Alignas(8) unsigned char r19[136];
-    _Alignas(8) unsigned char r9[128];
+    _Alignas(8) unsigned char r9[136];
+    _Alignas(8) unsigned char r20[136];
     _Alignas(8) unsigned char r25[48];
     _Alignas(8) unsigned char r9_2[32];
     _Alignas(4) unsigned char r10[24];
@@ -4842,47 +4862,51 @@ int32_t dfu_core_handle(const struct dfu_config *config, struct dfu_record *reco
     _Alignas(8) unsigned char r7[8];
     _Alignas(4) unsigned char r8[6];
     _Alignas(4) unsigned char r13_2[6];
-    unsigned char *r4, *r13, *r22, *r31, *r53, *r66, *r5, *v7;
+    unsigned char *r4, *r13, *r22, *r31, *r57, *r80, *r5, *v9;
+    uint8_t v2, r35, r0_5_1_copyload5_pre;
     uint64_t r2_0_0_copyload, r0_97_8_copyload8_pre, r2_0_0;
     uint8_t r15_not_not;
     uint32_t r10_3_0_copyload, common_ret_op;
-    uint8_t r35, r0_5_1_copyload5_pre;
-    uint16_t v12, r9_0;
+    uint16_t v14, r9_0;
     r4 = (unsigned char *)((uintptr_t)a2 + (uintptr_t)(uint64_t)((a2 == NULL) ? 4096 : 0));
     r13 = (unsigned char *)((uintptr_t)a4 + (uintptr_t)(uint64_t)((a4 == NULL) ? 4096 : 0));
     r22 = (unsigned char *)((uintptr_t)a7 + (uintptr_t)(uint64_t)((a7 == NULL) ? 4096 : 0));
     r31 = (unsigned char *)((uintptr_t)a9 + (uintptr_t)(uint64_t)((a9 == NULL) ? 4096 : 0));
-    memset(r19, 0, 136);
+    store64(r9, 0);
+    memset(r20, 0, 136);
     uint16_t r4_2 = load16(a0 + 12);
     if (a10 < (uint64_t)umax16(r4_2, 6)) {
         common_ret_op = 0xfffffffbU;
         goto dfu_device_c_exports_dfu_core_handle_exit;
     }
-    dfu_device_c_keeping_found(r19, a0, a1, a3);
-    uint8_t r52 = *r19;
-    if (r52 != 0) goto arm_5;
-    r53 = r19 + 8;
-    memcpy(r9, r53, 128);
-    uint8_t r59 = a0[15];
+    dfu_device_c_keeping_found(r20, a0, a1, a3);
+    uint8_t v1 = *r20;
+    *r9 = v1;
+    v2 = r20[1];
+    r9[1] = v2;
+    r57 = r9 + 8;
+    memcpy(r57, r20 + 8, 128);
+    if (v1 != 0) goto arm_5;
+    uint8_t r72 = a0[15];
     r2_0_0_copyload = load64u(a6);
-    r15_not_not = r59 == (uint8_t)(r2_0_0_copyload >> 32);
-    r66 = a1 + 68;
+    r15_not_not = r72 == (uint8_t)(r2_0_0_copyload >> 32);
+    r80 = a1 + 68;
     memset(r25, 0, 48);
-    uint8_t r2 = r9[96];
+    uint8_t r2 = r9[104];
     if (r2 != 1) goto join_3;
     r2_0_0 = 2;
     goto dfu_device_c_exports_refused_exit;
 join_3:;
-    uint16_t r19_2_0_copyload = load16(r9 + 12);
+    uint16_t r19_2_0_copyload = load16(r9 + 20);
     if (a10 >= (uint64_t)umax16(r19_2_0_copyload, 6)) goto join_6;
     r2_0_0 = 4;
     goto dfu_device_c_exports_refused_exit;
 join_6:
-    dfu_asks_asking_Asking_see(r25, r53, a3, r13, a5);
+    dfu_asks_asking_Asking_see(r25, r57, a3, r13, a5);
     uint8_t r1_0_0_copyload = *r25;
     if (r1_0_0_copyload != 0) goto arm_9;
     r5 = r25 + 8;
-    v7 = r25 + 32;
+    v9 = r25 + 32;
     r10_3_0_copyload = load32(r25 + 40);
     memset(r10, 0, 24);
     memset(r15, 0, 16);
@@ -4892,30 +4916,30 @@ join_6:
     r35 = *r13_2;
     if (r35 == 8) goto arm_12_thread;
     store16(r8, r35);
-    v12 = load16(r13_2 + 2);
-    store16(r8 + 2, v12);
-    uint16_t v13 = load16(r13_2 + 4);
-    store16(r8 + 4, v13);
+    v14 = load16(r13_2 + 2);
+    store16(r8 + 2, v14);
+    uint16_t v15 = load16(r13_2 + 4);
+    store16(r8 + 4, v15);
     if (a8 != (uint64_t)(((r2_0_0_copyload & 255) == 33) ? (r2_0_0_copyload >> 48) : 0)) goto arm_12_thread;
-    uint32_t r2_2 = load32(r9 + 16);
-    uint32_t r2_3 = load32(r9 + 20);
-    uint32_t r2_4 = load32(r9 + 24);
-    memcpy(r9_2, r19 + 14, 10);
+    uint32_t r2_2 = load32(r9 + 24);
+    uint32_t r2_3 = load32(r9 + 28);
+    uint32_t r2_4 = load32(r9 + 32);
+    memcpy(r9_2, r20 + 14, 10);
     store16(r9_2 + 10, 0);
     store32(r9_2 + 12, r2_2);
     store32(r9_2 + 16, r2_3);
     store32(r9_2 + 20, r2_4);
     store64(r9_2 + 24, (uint64_t)r10_3_0_copyload);
-    uint8_t v16 = r9[36];
-    *r26 = v16;
-    uint8_t v17 = r9[37];
-    r26[1] = v17;
-    uint32_t v18 = load32(r9 + 40);
-    store32(r26 + 4, v18);
-    uint32_t v19 = load32(r9 + 44);
-    store32(r26 + 8, v19);
+    uint8_t v18 = r9[44];
+    *r26 = v18;
+    uint8_t v19 = r9[45];
+    r26[1] = v19;
     uint32_t v20 = load32(r9 + 48);
-    store32(r26 + 12, v20);
+    store32(r26 + 4, v20);
+    uint32_t v21 = load32(r9 + 52);
+    store32(r26 + 8, v21);
+    uint32_t v22 = load32(r9 + 56);
+    store32(r26 + 12, v22);
     dfu_device_table_decide(r10, r9_2, r26, r8);
     switch (r35) {
     case 3: goto after_2;
@@ -4941,22 +4965,21 @@ join_6:
     default: never();
     }
 after_2:
-    r9_0 = v12;
+    r9_0 = v14;
     goto arm_8;
 arm_5:;
-    uint8_t r11_0_0_copyload = r19[1];
-    uint32_t switch_load = load32(PLACE(switch_table_dfu_device_c_refusal_Refusal_number) + 4 * (size_t)r11_0_0_copyload);
+    uint32_t switch_load = load32(PLACE(switch_table_dfu_device_c_refusal_Refusal_number) + 4 * (size_t)v2);
     common_ret_op = switch_load;
     goto dfu_device_c_exports_dfu_core_handle_exit;
 arm_12_thread:
-    dfu_device_c_keeping_keep(r53, a1);
+    dfu_device_c_keeping_keep(r57, a1);
     goto arm_3;
 arm_8:
-    dfu_asks_asking_Asking_carry_out(r15, r9, r10, 1, r9_0, r22, a8, r4, a3, r66, r5, v7, r31, a10);
+    dfu_asks_asking_Asking_carry_out(r15, r57, r10, 1, r9_0, r22, a8, r4, a3, r80, r5, v9, r31, a10);
     uint8_t r0_0_0_copyload3_pre = *r15;
     r0_5_1_copyload5_pre = r15[1];
     r0_97_8_copyload8_pre = load64(r15 + 8);
-    dfu_device_c_keeping_keep(r9, a1);
+    dfu_device_c_keeping_keep(r57, a1);
     if (r0_0_0_copyload3_pre == 0) {
         common_ret_op = 0xfffffff5U;
         goto dfu_device_c_exports_dfu_core_handle_exit;
@@ -4994,70 +5017,70 @@ int32_t dfu_core_next(const struct dfu_config *config, const struct dfu_record *
     unsigned char *a4 = (unsigned char *)(uintptr_t)flash;
     uint64_t a5 = size;
     unsigned char *a6 = (unsigned char *)(uintptr_t)ask;
-    _Alignas(8) unsigned char r9[136];
+    _Alignas(8) unsigned char r10[136];
     _Alignas(8) unsigned char r8[112];
     _Alignas(8) unsigned char r7[24];
     _Alignas(4) unsigned char r16[16];
     _Alignas(4) unsigned char r17[12];
-    unsigned char *r4, *r13, *r40, *v2, *r64;
-    uint8_t r6_3_0_copyload, r6_13_0_copyload, r6_16_0_copyload;
-    uint32_t r6_5_0_copyload, r6_9_0_copyload, r6_15_0_copyload, r6_18_0_copyload, r6_20_0_copyload, common_ret_op;
-    uint64_t r6_7_0_copyload, r6_8_0_copyload, r9_4_0_copyload, r9_5_0_copyload, r2514_2;
+    unsigned char *r4, *r13, *r52, *v4, *r64;
+    uint8_t r5_6_8_copyload, r5_1131_8_copyload, r5_1232_8_copyload, r5_14_8_copyload;
+    uint32_t r5_729_8_copyload, r5_10_8_copyload, r5_1333_8_copyload, r5_1534_8_copyload, r5_1635_8_copyload, common_ret_op;
+    uint64_t r5_830_8_copyload, r5_9_8_copyload, r9_4_0_copyload, r9_5_0_copyload, r2514_2;
     r4 = (unsigned char *)((uintptr_t)a2 + (uintptr_t)(uint64_t)((a2 == NULL) ? 4096 : 0));
     r13 = (unsigned char *)((uintptr_t)a4 + (uintptr_t)(uint64_t)((a4 == NULL) ? 4096 : 0));
-    memset(r9, 0, 136);
-    dfu_device_c_keeping_found(r9, a0, a1, a3);
-    uint8_t r23 = *r9;
-    if (r23 != 0) goto arm_2;
-    r6_3_0_copyload = r9[36];
-    r6_5_0_copyload = load32(r9 + 40);
-    r6_7_0_copyload = load64(r9 + 64);
-    r6_8_0_copyload = load64(r9 + 72);
-    r6_9_0_copyload = load32(r9 + 80);
-    r6_13_0_copyload = r9[108];
-    r6_15_0_copyload = load32(r9 + 112);
-    r6_16_0_copyload = r9[116];
-    r6_18_0_copyload = load32(r9 + 120);
-    r6_20_0_copyload = load32(r9 + 128);
+    memset(r10, 0, 136);
+    dfu_device_c_keeping_found(r10, a0, a1, a3);
+    uint8_t v0 = *r10;
+    r5_6_8_copyload = r10[36];
+    r5_729_8_copyload = load32(r10 + 40);
+    r5_830_8_copyload = load64(r10 + 64);
+    r5_9_8_copyload = load64(r10 + 72);
+    r5_10_8_copyload = load32(r10 + 80);
+    r5_1131_8_copyload = r10[104];
+    r5_1232_8_copyload = r10[108];
+    r5_1333_8_copyload = load32(r10 + 112);
+    r5_14_8_copyload = r10[116];
+    r5_1534_8_copyload = load32(r10 + 120);
+    r5_1635_8_copyload = load32(r10 + 128);
+    if (v0 != 0) goto arm_2;
     if (a5 > 0xffffffffU) {
         common_ret_op = 0xfffffffcU;
         goto dfu_device_c_writes_dfu_core_next_exit;
     }
     goto join_7;
 arm_2:;
-    uint8_t r7_0_0_copyload = r9[1];
-    uint32_t switch_load = load32(PLACE(switch_table_dfu_device_c_refusal_Refusal_number) + 4 * (size_t)r7_0_0_copyload);
+    uint8_t v2 = r10[1];
+    uint32_t switch_load = load32(PLACE(switch_table_dfu_device_c_refusal_Refusal_number) + 4 * (size_t)v2);
     common_ret_op = switch_load;
     goto dfu_device_c_writes_dfu_core_next_exit;
-join_7:;
-    uint8_t r6_11_0_copyload = r9[104];
-    r40 = a6 + 12;
-    v2 = r16 + 8;
-    store32(v2, 0);
-    if (r6_11_0_copyload != 1) goto dfu_asks_asking_Asking_next_exit_thread;
-    *r8 = r6_3_0_copyload;
+join_7:
+    r52 = a6 + 12;
+    v4 = r16 + 8;
+    store32(v4, 0);
+    if (r5_1131_8_copyload != 1) goto dfu_asks_asking_Asking_next_exit_thread;
+    *r8 = r5_6_8_copyload;
     memset(r8 + 1, 0, 3);
-    store32(r8 + 4, r6_5_0_copyload);
-    store32(r8 + 8, r6_9_0_copyload);
+    store32(r8 + 4, r5_729_8_copyload);
+    store32(r8 + 8, r5_10_8_copyload);
     store32(r8 + 12, 0);
     store64(r8 + 16, (uint64_t)(uintptr_t)(a1 + 68));
-    store64(r8 + 24, r6_8_0_copyload);
+    store64(r8 + 24, r5_9_8_copyload);
     store64(r8 + 32, (uint64_t)(uintptr_t)r4);
-    store64(r8 + 40, umin64(a3, r6_7_0_copyload));
-    store64(r8 + 48, (uint64_t)r6_20_0_copyload);
+    store64(r8 + 40, umin64(a3, r5_830_8_copyload));
+    store64(r8 + 48, (uint64_t)r5_1635_8_copyload);
     memset(r8 + 56, 0, 40);
     r8[96] = 4;
     memset(r8 + 97, 0, 15);
-    store32(r16, (uint32_t)r6_13_0_copyload);
-    store32(r16 + 4, r6_15_0_copyload);
-    *v2 = r6_16_0_copyload;
-    store32(r16 + 12, r6_18_0_copyload);
-    uint8_t r52 = dfu_asks_next_piece_next_piece(r16, r8);
-    if (!r52) goto dfu_asks_asking_Asking_next_exit_thread;
+    store32(r16, (uint32_t)r5_1232_8_copyload);
+    store32(r16 + 4, r5_1333_8_copyload);
+    *v4 = r5_14_8_copyload;
+    store32(r16 + 12, r5_1534_8_copyload);
+    uint8_t r52_2 = dfu_asks_next_piece_next_piece(r16, r8);
+    if (!r52_2) goto dfu_asks_asking_Asking_next_exit_thread;
     r64 = r8 + 72;
     r9_4_0_copyload = load64(r8 + 80);
     r9_5_0_copyload = load64(r8 + 88);
-    uint8_t r67 = dfu_asks_asks_is_sound(r6_5_0_copyload, r64);
+    uint8_t r67 = dfu_asks_asks_is_sound(r5_729_8_copyload, r64);
     if (!r67) goto dfu_asks_asking_Asking_next_exit_thread;
     memset(r17, 0, 12);
     uint64_t r2514 = a5 >> 1;
@@ -5069,26 +5092,26 @@ join_7:;
 arm_10:
     store64(r7, (uint64_t)(uintptr_t)r13);
     store64(r7 + 8, a5);
-    r7[16] = r6_3_0_copyload;
+    r7[16] = r5_6_8_copyload;
     memset(r7 + 17, 0, 3);
-    store32(r7 + 20, r6_5_0_copyload);
+    store32(r7 + 20, r5_729_8_copyload);
     dfu_slots_open_check(r17, r7);
     uint8_t r71 = *r17;
     if (r71 == 0) goto dfu_asks_asks_is_spare_exit;
 dfu_asks_asks_is_spare_exit_thread:
-    goto dfu_asks_asking_Asking_next_exit_thread39;
+    goto dfu_asks_asking_Asking_next_exit_thread41;
 dfu_asks_asks_is_spare_exit:;
     uint32_t r8_2_0_copyload = load32(r17 + 8);
     if (r2514_2 == (uint64_t)r8_2_0_copyload) goto arm_8;
-    goto dfu_asks_asking_Asking_next_exit_thread39;
+    goto dfu_asks_asking_Asking_next_exit_thread41;
 dfu_asks_asking_Asking_next_exit_thread:
     common_ret_op = 0xfffffffcU;
     goto dfu_device_c_writes_dfu_core_next_exit;
-dfu_asks_asking_Asking_next_exit_thread39:
+dfu_asks_asking_Asking_next_exit_thread41:
     common_ret_op = 0xfffffffcU;
     goto dfu_device_c_writes_dfu_core_next_exit;
 arm_8:
-    dfu_asks_cut_fill(r8, r40);
+    dfu_asks_cut_fill(r8, r52);
     uint8_t r23_4_0_0_copyload = *r64;
     store32(a6, (uint32_t)((r23_4_0_0_copyload & 1) ? 1 : 2));
     store32(a6 + 4, (uint32_t)r9_4_0_copyload);
@@ -5109,97 +5132,115 @@ int32_t dfu_core_took(const struct dfu_config *config, struct dfu_record *record
     uint32_t a6 = failed;
     unsigned char *a7 = (unsigned char *)(uintptr_t)out;
     uint64_t a8 = room;
-    _Alignas(8) unsigned char r14[136];
-    _Alignas(8) unsigned char r7[128];
-    _Alignas(1) unsigned char r3[17];
+    _Alignas(8) unsigned char r7[136];
+    _Alignas(8) unsigned char r15[136];
+    _Alignas(4) unsigned char r4_2[16];
     _Alignas(8) unsigned char r37[16];
-    unsigned char *r4, *r13, *r22, *r41, *r46, *r58, *r61;
-    uint8_t r47_not;
-    uint8_t r7_0_0_copyload, r7_7_0_copyload, r7_9_0_copyload, r17_15_0_ph21;
+    unsigned char *r4, *r13, *r22, *r45, *r60, *r58, *r61;
+    uint8_t v1, r7_0_0_copyload, r7_7_0_copyload, r7_9_0_copyload, r20_15_0_ph25;
+    uint8_t r61_not;
     uint32_t r7_61_0_copyload, r7_82_0_copyload, r7_13_0_copyload, common_ret_op;
     uint16_t r7_113_0_copyload;
     struct i64_i8 r80;
-    uint64_t r81, r17_2010_0_ph22;
+    uint64_t r81, r20_2014_0_ph26;
     r4 = (unsigned char *)((uintptr_t)a2 + (uintptr_t)(uint64_t)((a2 == NULL) ? 4096 : 0));
     r13 = (unsigned char *)((uintptr_t)a4 + (uintptr_t)(uint64_t)((a4 == NULL) ? 4096 : 0));
     r22 = (unsigned char *)((uintptr_t)a7 + (uintptr_t)(uint64_t)((a7 == NULL) ? 4096 : 0));
-    memset(r14, 0, 136);
+    store64(r7, 0);
+    memset(r15, 0, 136);
     if (a8 < 6) {
         common_ret_op = 0xfffffffbU;
         goto dfu_device_c_writes_dfu_core_took_exit;
     }
-    dfu_device_c_keeping_found(r14, a0, a1, a3);
-    uint8_t r40 = *r14;
-    if (r40 != 0) goto arm_5;
-    r41 = r14 + 8;
-    memcpy(r7, r41, 128);
-    r46 = a1 + 68;
-    r47_not = a6 == 0;
+    dfu_device_c_keeping_found(r15, a0, a1, a3);
+    uint8_t v0 = *r15;
+    *r7 = v0;
+    v1 = r15[1];
+    r7[1] = v1;
+    r45 = r7 + 8;
+    memcpy(r45, r15 + 8, 128);
+    if (v0 != 0) goto arm_5;
+    r60 = a1 + 68;
+    r61_not = a6 == 0;
     memset(r37, 0, 16);
-    r58 = r7 + 96;
+    r58 = r7 + 104;
     uint8_t r59 = *r58;
     if (r59 != 1) goto arm_9;
-    r61 = r7 + 100;
-    unsigned char *v2 = r14 + 108;
-    r7_0_0_copyload = *v2;
-    r7_61_0_copyload = load32(r14 + 112);
-    r7_7_0_copyload = r14[116];
-    r7_82_0_copyload = load32(r14 + 120);
-    r7_9_0_copyload = r14[124];
-    r7_113_0_copyload = load16(r14 + 126);
-    r7_13_0_copyload = load32(r14 + 128);
-    r80 = dfu_asks_asking_Asking_look_at(r41, v2, r4, a3, r46, r13, a5);
+    r61 = r7 + 108;
+    unsigned char *v4 = r15 + 108;
+    r7_0_0_copyload = *v4;
+    r7_61_0_copyload = load32(r15 + 112);
+    r7_7_0_copyload = r15[116];
+    r7_82_0_copyload = load32(r15 + 120);
+    r7_9_0_copyload = r15[124];
+    r7_113_0_copyload = load16(r15 + 126);
+    r7_13_0_copyload = load32(r15 + 128);
+    r80 = dfu_asks_asking_Asking_look_at(r45, v4, r4, a3, r60, r13, a5);
     r81 = r80.a;
     if (r81 == 0) goto arm_9;
-    if (r47_not & (r80.b & 1)) goto arm_8;
-    memset(r3, 0, 17);
-    dfu_asks_asking_Asking_noted_after(r3, r41, r13, a5);
-    memcpy(r7 + 76, r3, 17);
-    store64(r7 + 64, 0);
-    store32(r7 + 72, 0);
-    unsigned char *r15 = r7 + 36;
-    uint8_t v3 = *r15;
-    uint8_t switch_load = *(PLACE(switch_table_dfu_core_took) + (size_t)v3);
-    *r15 = 12;
-    r7[37] = (uint8_t)(r47_not ? 7 : switch_load);
-    store32(r7 + 40, 0);
-    store32(r7 + 44, 0);
-    store32(r7 + 48, 0);
+    if (r61_not & (r80.b & 1)) goto arm_8;
+    store32(r4_2, 0);
+    unsigned char *r10 = r7 + 44;
+    uint8_t v5 = *r10;
+    *r4_2 = v5;
+    unsigned char *r12 = r7 + 45;
+    uint8_t v6 = *r12;
+    r4_2[1] = v6;
+    unsigned char *r14 = r7 + 48;
+    uint32_t v7 = load32(r14);
+    store32(r4_2 + 4, v7);
+    unsigned char *r16 = r7 + 52;
+    uint32_t v8 = load32(r16);
+    store32(r4_2 + 8, v8);
+    unsigned char *r18 = r7 + 56;
+    uint32_t v9 = load32(r18);
+    store32(r4_2 + 12, v9);
+    uint8_t r5_0_0_copyload = r7[36];
+    uint32_t r6_0_0_copyload = load32(r7 + 40);
+    dfu_asks_finish_note(r7 + 84, r4_2, r13, a5, r5_0_0_copyload, r6_0_0_copyload);
+    store64(r7 + 72, 0);
+    store32(r7 + 80, 0);
+    uint8_t v10 = *r10;
+    uint8_t switch_load = *(PLACE(switch_table_dfu_core_took) + (size_t)v10);
+    *r10 = 12;
+    *r12 = (uint8_t)(r61_not ? 7 : switch_load);
+    store32(r14, 0);
+    store32(r16, 0);
+    store32(r18, 0);
     memset(r58, 0, 28);
-    struct i8_i64 r30 = dfu_asks_asking_Asking_answer(r7, r7_9_0_copyload, r7_113_0_copyload, r22);
-    r17_2010_0_ph22 = r30.b;
-    r17_15_0_ph21 = r30.a;
+    struct i8_i64 r30 = dfu_asks_asking_Asking_answer(r45, r7_9_0_copyload, r7_113_0_copyload, r22);
+    r20_2014_0_ph26 = r30.b;
+    r20_15_0_ph25 = r30.a;
     goto arm_12;
 arm_5:;
-    uint8_t r9_0_0_copyload = r14[1];
-    uint32_t switch_load_2 = load32(PLACE(switch_table_dfu_device_c_refusal_Refusal_number) + 4 * (size_t)r9_0_0_copyload);
+    uint32_t switch_load_2 = load32(PLACE(switch_table_dfu_device_c_refusal_Refusal_number) + 4 * (size_t)v1);
     common_ret_op = switch_load_2;
     goto dfu_device_c_writes_dfu_core_took_exit;
 arm_8:
     store32(r58, 1);
     store32(r61, (uint32_t)r7_0_0_copyload);
-    store32(r7 + 104, r7_61_0_copyload);
-    r7[108] = r7_7_0_copyload;
-    memset(r7 + 109, 0, 3);
-    store32(r7 + 112, r7_82_0_copyload);
-    store16(r7 + 116, r7_9_0_copyload);
-    store16(r7 + 118, r7_113_0_copyload);
-    store32(r7 + 120, r7_13_0_copyload + (uint32_t)r81);
-    dfu_asks_asking_Asking_advance(r37, r7, r4, a3, r46, r13, a5, r22);
+    store32(r7 + 112, r7_61_0_copyload);
+    r7[116] = r7_7_0_copyload;
+    memset(r7 + 117, 0, 3);
+    store32(r7 + 120, r7_82_0_copyload);
+    store16(r7 + 124, r7_9_0_copyload);
+    store16(r7 + 126, r7_113_0_copyload);
+    store32(r7 + 128, r7_13_0_copyload + (uint32_t)r81);
+    dfu_asks_asking_Asking_advance(r37, r45, r4, a3, r60, r13, a5, r22);
     uint8_t r0_1926_8_copyload30 = *r37;
     uint8_t r0_26_9_copyload35 = r37[1];
     uint64_t r0_3337_16_copyload41 = load64(r37 + 8);
     if (r0_1926_8_copyload30 != 0) {
-        r17_2010_0_ph22 = r0_3337_16_copyload41;
-        r17_15_0_ph21 = r0_26_9_copyload35;
+        r20_2014_0_ph26 = r0_3337_16_copyload41;
+        r20_15_0_ph25 = r0_26_9_copyload35;
         goto arm_12;
     }
-    dfu_device_c_keeping_keep(r7, a1);
+    dfu_device_c_keeping_keep(r45, a1);
     common_ret_op = 0xfffffff5U;
     goto dfu_device_c_writes_dfu_core_took_exit;
 arm_12:
-    dfu_device_c_keeping_keep(r7, a1);
-    switch (r17_15_0_ph21) {
+    dfu_device_c_keeping_keep(r45, a1);
+    switch (r20_15_0_ph25) {
     case 0:
         common_ret_op = 0;
         goto dfu_device_c_writes_dfu_core_took_exit;
@@ -5208,7 +5249,7 @@ arm_12:
     default: never();
     }
 arm_2:
-    common_ret_op = (uint32_t)r17_2010_0_ph22;
+    common_ret_op = (uint32_t)r20_2014_0_ph26;
     goto dfu_device_c_writes_dfu_core_took_exit;
 arm_3:
     common_ret_op = 0xffffffffU;
@@ -5227,43 +5268,47 @@ int32_t dfu_core_usb_reset(const struct dfu_config *config, struct dfu_record *r
     uint64_t a3 = most;
     unsigned char *a4 = (unsigned char *)(uintptr_t)flash;
     uint64_t a5 = size;
-    _Alignas(8) unsigned char r9[136];
-    _Alignas(8) unsigned char r5[128];
+    _Alignas(8) unsigned char r5[136];
+    _Alignas(8) unsigned char r10[136];
     _Alignas(8) unsigned char r12[48];
-    unsigned char *r13, *r27;
+    unsigned char *r13, *r31;
+    uint8_t v1;
     uint64_t r2_0_0;
     uint32_t common_ret_op;
     r13 = (unsigned char *)((uintptr_t)a4 + (uintptr_t)(uint64_t)((a4 == NULL) ? 4096 : 0));
-    memset(r9, 0, 136);
-    dfu_device_c_keeping_found(r9, a0, a1, a3);
-    uint8_t r26 = *r9;
-    if (r26 != 0) goto arm_2;
-    r27 = r9 + 8;
-    memcpy(r5, r27, 128);
+    store64(r5, 0);
+    memset(r10, 0, 136);
+    dfu_device_c_keeping_found(r10, a0, a1, a3);
+    uint8_t v0 = *r10;
+    *r5 = v0;
+    v1 = r10[1];
+    r5[1] = v1;
+    r31 = r5 + 8;
+    memcpy(r31, r10 + 8, 128);
+    if (v0 != 0) goto arm_2;
     memset(r12, 0, 48);
-    uint8_t r2 = r5[96];
+    uint8_t r2 = r5[104];
     if (r2 != 1) goto join_3;
     r2_0_0 = 2;
     goto dfu_device_c_exports_refused_exit;
 join_3:
-    dfu_asks_asking_Asking_see(r12, r27, a3, r13, a5);
+    dfu_asks_asking_Asking_see(r12, r31, a3, r13, a5);
     uint8_t r1_0_0_copyload = *r12;
     if (r1_0_0_copyload == 0) goto arm_5;
     goto arm_6;
 arm_2:;
-    uint8_t r7_0_0_copyload = r9[1];
-    uint32_t switch_load = load32(PLACE(switch_table_dfu_device_c_refusal_Refusal_number) + 4 * (size_t)r7_0_0_copyload);
+    uint32_t switch_load = load32(PLACE(switch_table_dfu_device_c_refusal_Refusal_number) + 4 * (size_t)v1);
     common_ret_op = switch_load;
     goto dfu_device_c_exports_dfu_core_usb_reset_exit;
 arm_5:;
-    unsigned char *r40 = r5 + 36;
-    uint8_t v4 = *r40;
-    *r40 = (uint8_t)((v4 == 1) ? 2 : 0);
-    r5[37] = 0;
-    store32(r5 + 40, 0);
-    store32(r5 + 44, 0);
+    unsigned char *r40 = r5 + 44;
+    uint8_t v6 = *r40;
+    *r40 = (uint8_t)((v6 == 1) ? 2 : 0);
+    r5[45] = 0;
     store32(r5 + 48, 0);
-    dfu_device_c_keeping_keep(r5, a1);
+    store32(r5 + 52, 0);
+    store32(r5 + 56, 0);
+    dfu_device_c_keeping_keep(r31, a1);
     common_ret_op = 0;
     goto dfu_device_c_exports_dfu_core_usb_reset_exit;
 arm_6:;
