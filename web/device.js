@@ -6,7 +6,7 @@ import { Library } from './library.js'
 const STALL = -1
 const ASKS = -11
 const NO_CLOSE = -13
-const NO_CANDIDATE = -15
+const NO_CANDIDATE = -20
 const ERR_FILE = 2
 const ERASE = 1
 const ERASED = 0xff
