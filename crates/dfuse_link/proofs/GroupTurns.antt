@@ -14,11 +14,11 @@ use Rattle.dfuse_host.specs.declared.seen.Seen.{Seen}
 use Rattle.dfuse_host.specs.declared.seen.Seen.TheVariants as seen
 use Rattle.dfuse_host.specs.declared.session.Session.{Session}
 use Rattle.dfuse_host.specs.Commands.{command_of, done}
-use Rattle.dfuse_host.specs.Deeds.{Deed, Wait, deed, deed_of, sends}
+use Rattle.dfuse_host.specs.Deeds.{Deed, Wait, deed, deed_of}
 use Rattle.dfuse_host.specs.Sessions.{budgeted, spent_at, resumed, restarted, restarted_leaving, restarted_in, told, after, after_phase, HearsIn, SessionRow}
 use Rattle.dfuse_host.specs.Table.{row}
 use Rattle.dfuse_host.specs.Wire.{Hears}
-use Rattle.dfuse_host.proofs.ForCallers.{AnyCommand, by_command, AnyHeard, by_heard}
+use Rattle.dfuse_host.proofs.ForCallers.{AnyHeard, by_heard}
 use Rattle.dfuse_link.specs.Chips.{Chip, Device, state_in}
 use Rattle.dfuse_link.specs.Reactions.{Reaction}
 use Rattle.dfuse_link.specs.Histories as histories
@@ -100,9 +100,6 @@ module _ (chip : Chip) (s : Session) (G : Work → Type 0) (B : Device → Type 
       (row_goes s.plan G (B d') r at.work at.place g at.step h
       (sent_asks at.work at.place at.step d h n x g k comes is hears))
   sent_goes (Over rep) d h n x g k comes is hears = absurd comes
-
-  no_wait : (w : Work) (c : AnyCommand) (ms : ℕ) → sends s.plan w c ≡ Wait ms → ⊥
-  no_wait w c ms = by_command (λ v. sends s.plan w v ≡ Wait ms → ⊥) (λ at e. cc) (λ at e. cc) (λ at e. cc) c
 
   wait_asks : (w : Work) (p : Place) (at : Step) (h : AnyHeard) (ms : ℕ) (g : G w) → deed_of s.plan w p at ≡ Wait ms →
       Asks s.plan G (B d') r w p g at h
