@@ -118,14 +118,14 @@ echo "row killed:$names"
 case $names in *torn*) failed=$((failed + 1)) ;; *) passed=$((passed + 1)) ;; esac
 
 # The example that starts images: one that never confirms runs so often, and then the one before, which does.
-printf '#!/bin/sh\necho broken "$DFU_AT" >> /work/ran\nexit 3\n' > broken
+printf '#!/bin/sh\necho broken "$DFU_AT" >> "$DFU_RAN"\nexit 3\n' > broken
 cat > works << 'END'
 #!/bin/sh
-echo works "$DFU_AT" >> /work/ran
-exec /work/dfu-gadget confirm "$DFU_MEDIUM" "$DFU_AT" --tries "$DFU_TRIES"
+echo works "$DFU_AT" >> "$DFU_RAN"
+exec "$DFU_GADGET" confirm "$DFU_MEDIUM" "$DFU_AT" --tries "$DFU_TRIES"
 END
 suffixed broken
-export DFU_GADGET=/work/dfu-gadget
+export DFU_GADGET="$PWD/dfu-gadget" DFU_RAN="$PWD/ran"
 fresh works
 start '--tries 3'
 flashes 'an image that fails' broken
