@@ -1,6 +1,6 @@
 /* SPDX-License-Identifier: MIT OR Apache-2.0 */
 /* As what each answer of libusb is reported to the host. The proof of what Installed and Verified mean rests on this file:
-   a transfer that is reported as acknowledged or answered was really made, and a restart is reported where the device lost its
+   a transfer that is reported as acknowledged or answered was really made, and a restart is reported if the device lost its
    state, before anything that it answers later.
 
    Of a transfer:
@@ -12,37 +12,37 @@
      any other                          Nothing     as TIMEOUT, IO, OVERFLOW: it may have been handled or not, and the host asks
 
    Of a reset:
-     0                                  WasReset    once its interface is in its setting again, where that is another than 0
-     LIBUSB_ERROR_NOT_FOUND             WasReset    at once: libusb says this where the device has other descriptors after the
+     0                                  WasReset    once its interface is in its setting again, if that is another than 0
+     LIBUSB_ERROR_NOT_FOUND             WasReset    at once: libusb says this if the device has other descriptors after the
                                                     reset, and comes as a new one, whose enumeration is a reset
      LIBUSB_ERROR_NO_DEVICE             Left        it left before, after the end of a download, as below
                                         Restarted   else: reported once it is back
      any other                          Nothing     the host asks for it again
-   Where the system makes no reset (properties.h) a person is asked to pull the plug of a device in DFU mode, and WasReset is
+   If the system makes no reset (properties.h) a person is asked to pull the plug of a device in DFU mode, and WasReset is
    reported once it was seen to leave: it is enumerated, and so reset, once it is plugged in again. It may lose its power then, and
    so its state: by the device table both lead to appIDLE from each state but appDETACH, and both leave the active image. From there
    a reset leads to DFU mode and a loss of power doesn't; so in run-time mode no plug is asked for. If nobody pulls it the session
-   ends, and no reset is reported. Where the system doesn't tell that a device left, GET_STATUS of USB is sent after each transfer
+   ends, and no reset is reported. If the system doesn't report that a device left, GET_STATUS of USB is sent after each transfer
    that failed, but for TIMEOUT: every device answers it, and it changes nothing. If that fails too, the device left.
    NOT_FOUND is also what Linux says of a device that left before the reset. It comes back reset then too; and after a reset
    the host is done, or begins anew with asking for the device's state, as it does after a restart. A device that is to be
-   asked again is waited for before that request; one whose session is over need not come back, as where its application has
+   asked again is waited for before that request; one whose session is over need not come back, for example if its application has
    no USB.
 
-   Of a wait: Waited, once the time has passed; Nothing, where a stop ended it (stop.h).
+   Of a wait: Waited, once the time has passed; Nothing, if a stop ended it (stop.h).
 
-   Left is reported where the device acknowledged the DNLOAD of no bytes, a GETSTATUS after it was answered with dfuMANIFEST-SYNC or
+   Left is reported if the device acknowledged the DNLOAD of no bytes, a GETSTATUS after it was answered with dfuMANIFEST-SYNC or
    dfuMANIFEST, nothing but GETSTATUS was sent since, and the device is gone then: it may have started its image by itself, as
    many bootloaders do, or have lost its power. It is reported at once, and only once: the device is waited for before the next request.
-   The host takes it as the last reset, and never reports Installed for it. Where a reset is answered with NOT_FOUND it isn't reported:
-   there Installed is reported only where the device itself said that it is done, by dfuIDLE.
+   The host takes it as the last reset, and never reports Installed for it. If a reset is answered with NOT_FOUND it isn't reported:
+   there Installed is reported only if the device itself said that it is done, by dfuIDLE.
 
    A device that leaves after an acknowledged DETACH does what it was asked to, up to the next request: that is no restart.
    Until it is found again, nothing is sent. A reset that another program makes in between isn't seen here: the interface is
    claimed, so that no other program has it for transfers.
 
    One DETACH is this program's own, and no host hears of it (stalls.c). After it comes a reset that the host asked for, which is
-   reported as above; where the device left after that DETACH by itself it is reported as WasReset, and where it left without an answer
+   reported as above; if the device left after that DETACH by itself it is reported as WasReset, and if it left without an answer
    as Restarted. The host asks for the device's state after either. */
 #include "answer.h"
 #include "clock.h"
@@ -74,7 +74,7 @@ static struct answer restarted(struct wire *wire)
     return answer;
 }
 
-/* The device left: of itself, where it may have started its image. */
+/* The device left: by itself, if it may have started its image. */
 static struct answer left(struct wire *wire)
 {
     if (!wire->is_manifesting)
@@ -109,7 +109,7 @@ static struct answer answer_of(struct wire *wire, bool is_in, uint16_t length, i
     return answer;
 }
 
-/* How a download ends: its last request, and what the device says of itself after it. */
+/* How a download ends: its last request, and what the device reports after it. */
 static void note_end(struct wire *wire, const struct dfu_action *action, const struct answer *answer)
 {
     bool is_status = is_request(action->setup, KIND_IN, REQUEST_GETSTATUS);

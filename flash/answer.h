@@ -15,7 +15,7 @@ struct answer {
     uint32_t seen;        /* DFU_SEEN_ACK to DFU_SEEN_LEFT */
     const uint8_t *bytes; /* of DFU_SEEN_BYTES, as many as `count`; never NULL */
     size_t count;
-    bool is_gone;         /* it left and did not come back: there is nothing to tell */
+    bool is_gone;         /* it left and did not come back: there is nothing to report */
     int error;            /* what libusb said to a transfer or a reset that failed, else 0; the host doesn't get it */
 };
 

@@ -23,7 +23,7 @@ static struct bay *find(struct bays *bays, const char *path)
     return NULL;
 }
 
-/* A new one, in the place of one of which nothing is known; NULL where there is no place. */
+/* A new one, in the place of one of which nothing is known; NULL if there is no place. */
 static struct bay *make(struct bays *bays, const char *path)
 {
     int at = 0;

@@ -26,7 +26,7 @@ const char *goal_name(enum goal goal)
     return names[goal];
 }
 
-/* A clean session takes up to 4 actions a block, one more where it is compared, and some 20 around them. Twice that for losses
+/* A clean session takes up to 4 actions a block, one more if it is compared, and some 20 around them. Twice that for losses
    and for a device that asks to be polled often, the same again for each restart that is taken, and 300 for a device that was
    left in the midst of something. An upload ends by itself after 65,535 parts. */
 static void take_limits(struct session *session, const uint8_t descriptor[9])
@@ -47,7 +47,7 @@ static bool may_detach(const struct found *is)
     return platform_resets() || has_attribute(is->descriptor, is->descriptor_size, WILL_DETACH);
 }
 
-/* A download is verified where that is asked for and the device can upload, which takes it to DFU mode a second time. */
+/* A download is verified if that is asked for and the device can upload, which takes it to DFU mode a second time. */
 static enum goal goal_of(const struct session *session)
 {
     const struct found *is = &session->wire.device->is;
@@ -75,7 +75,7 @@ static bool is_odd(int32_t refusal)
 }
 
 /* In run-time mode the functional descriptor says no more than how the device is brought to DFU mode, and there it has one that
-   counts (USB DFU 1.1, section 4.2.4, has them alike). So where that of an interface of run-time mode is odd another one is taken
+   counts (USB DFU 1.1, section 4.2.4, has them alike). So if that of an interface of run-time mode is odd another one is taken
    in its place; session.c sees to it that no block is sent by that. */
 static int32_t begin_by_another(struct session *session, int32_t refusal)
 {

@@ -28,7 +28,7 @@ static bool is_unread(const struct wanted *wanted, const struct found *list, int
     return wanted->place.name != NULL;
 }
 
-/* Where the serial number that is asked for was read of one, those of which none can be read aren't meant. */
+/* If the serial number that is asked for was read of one, those of which none can be read aren't meant. */
 static int drop_unread(const struct wanted *wanted, struct found *list, int count)
 {
     int read = 0;
@@ -45,7 +45,7 @@ static int drop_unread(const struct wanted *wanted, struct found *list, int coun
     return read;
 }
 
-/* Whether it can be opened, and found again where it leaves. */
+/* Whether it can be opened, and found again if it leaves. */
 static bool is_usable(const struct device *device)
 {
     return device->is.access == 0 && (has_ports(device->path) || device->serial != NULL);
@@ -56,7 +56,7 @@ static int say_unusable(struct device *device)
     device_drop(device);
     if (device->is.access != 0)
         return say_no_access(&device->is);
-    fprintf(stderr, "dfu-flash: the system tells no ports, and without --serial a device that left isn't found again\n");
+    fprintf(stderr, "dfu-flash: the system names no ports, and without --serial a device that left isn't found again\n");
     return STATUS_NO_DEVICE;
 }
 

@@ -1,13 +1,13 @@
 /* SPDX-License-Identifier: MIT OR Apache-2.0 */
 /* What is read of a device beside its transfers: the functional descriptor (USB DFU 1.1, section 4.1.3) and strings.
-   These are requests of USB itself, and are made before a session and where a device has come back. */
+   These are requests of USB itself, and are made before a session and when a device has come back. */
 #include "find.h"
 #include "standard.h"
 #include "text.h"
 
 #include <string.h>
 
-/* Descriptors come one after the other, each with its length first. False where none of the type is there, whole. */
+/* Descriptors come one after the other, each with its length first. False if none of the type is there, whole. */
 static bool is_in(const unsigned char *bytes, int length, struct found *found)
 {
     int at = 0;

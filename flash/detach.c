@@ -6,7 +6,7 @@
 #include "properties.h"
 #include "standard.h"
 
-#define NO_DESCRIPTOR_MS 1000 /* wDetachTimeOut where there is no functional descriptor to tell it */
+#define NO_DESCRIPTOR_MS 1000 /* wDetachTimeOut if there is no functional descriptor */
 #define ARRIVAL_MS 5000       /* a device may be in run-time mode still, and leave a while after the reset */
 #define LOOK_MS 200
 
@@ -54,7 +54,7 @@ bool detach(struct wire *wire)
     if (answer.is_gone || answer.seen == DFU_SEEN_STALL)
         return false;
     wire->trace.is_own = true;
-    /* Where the system makes no reset it may still leave by itself. */
+    /* If the system makes no reset it may still leave by itself. */
     if (!wire->device->is.is_upgrade && platform_resets())
         answer_reset(wire);
     wire->trace.is_own = false;

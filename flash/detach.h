@@ -1,5 +1,5 @@
 /* SPDX-License-Identifier: MIT OR Apache-2.0 */
-/* DETACH by this program, where no host asks for it. */
+/* DETACH by this program, if no host asks for it. */
 #ifndef DFU_FLASH_DETACH_H
 #define DFU_FLASH_DETACH_H
 
@@ -7,7 +7,7 @@
 
 #include <stdbool.h>
 
-/* Sends one DETACH to a device in run-time mode, waits where it detaches by itself, and returns what came of the request. */
+/* Sends one DETACH to a device in run-time mode, waits if it detaches by itself, and returns what came of the request. */
 struct answer detach_send(struct wire *wire);
 
 /* Behind DETACH and the reset: waits for 5 seconds until the device is in DFU mode, and opens it. Whether it is. */

@@ -1,7 +1,7 @@
 /* SPDX-License-Identifier: MIT OR Apache-2.0 */
-/* Opens the device, and finds it again where it left: a device that goes from run-time mode to DFU mode, or back, leaves the
+/* Opens the device, and finds it again after it left: a device that goes from run-time mode to DFU mode, or back, leaves the
    bus and comes as another one, with other descriptors and often with other identifiers. So it is known by its path; and by
-   its serial number only where that was asked for, since two devices may have the same one. That it is no other board at the
+   its serial number only if that was asked for, since two devices may have the same one. That it is no other board at the
    same place session.c sees, by what it was before in the same mode. */
 #include "device.h"
 #include "clock.h"
@@ -17,7 +17,7 @@
 int device_set(struct device *device)
 {
     int error = libusb_set_interface_alt_setting(device->handle, device->is.interface, device->is.alternate);
-    /* Where there is one setting a device may stall the request, and is in it all the same. */
+    /* If there is one setting a device may stall the request, and is in it all the same. */
     return error == LIBUSB_ERROR_PIPE && device->is.alternate == 0 ? 0 : error;
 }
 
@@ -76,7 +76,7 @@ static int keep_one(struct device *device, const struct wanted *wanted)
     return open;
 }
 
-/* How many of what is on the bus it may be, at its path, or where none is there, elsewhere. */
+/* How many of what is on the bus it may be, at its path, or if none is there, elsewhere. */
 static int look_for(struct device *device)
 {
     const struct wanted here = {.path = device->path, .place = device->place};

@@ -1,5 +1,5 @@
 /* SPDX-License-Identifier: MIT OR Apache-2.0 */
-/* The device of a session: opened, let go, and found again where it left. */
+/* The device of a session: opened, let go, and found again after it left. */
 #ifndef DFU_FLASH_DEVICE_H
 #define DFU_FLASH_DEVICE_H
 
@@ -22,11 +22,11 @@ struct device {
     uint64_t opened;                      /* how often it was opened */
     struct found is;                      /* as it was found last */
     char path[PATH_ROOM];                 /* by this it is found again, */
-    const char *serial;                   /* or by the serial number that was asked for; NULL where none was, */
-    const char *bus;                      /* at this path, where one was asked for that names no ports; else NULL */
+    const char *serial;                   /* or by the serial number that was asked for; NULL if none was, */
+    const char *bus;                      /* at this path, if one was asked for that names no ports; else NULL */
     struct place place;                   /* the interface and setting that were asked for */
     bool is_many;                         /* it came back with more than one setting */
-    const volatile sig_atomic_t *is_stop; /* a wait for the device ends where this is set */
+    const volatile sig_atomic_t *is_stop; /* a wait for the device ends if this is set */
     struct patience patience;             /* what was asked for of waits */
 };
 
@@ -49,8 +49,8 @@ void device_drop(struct device *device);
    set. */
 void device_await(struct device *device, uint32_t ms);
 
-/* Waits until it is back with DFU, and opens it. False after as long, where `is_stop` is set, or where it has more than one
-   setting that may be meant. Where it is back and can't be had, why is said on standard error. */
+/* Waits until it is back with DFU, and opens it. False after as long, if `is_stop` is set, or if it has more than one
+   setting that may be meant. If it is back and can't be had, why is said on standard error. */
 bool device_reopen(struct device *device);
 
 #endif

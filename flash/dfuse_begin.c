@@ -7,7 +7,7 @@
 
 #define MOST_BYTES 4096  /* what Linux carries in a control transfer: a block is asked for by its number, so that it can't be smaller */
 #define FRONT_BYTES 32   /* of the image, which are written last: with less than them an application doesn't start */
-#define PAGE_POLLS 1000  /* GETSTATUS while a page is erased, if the device tells no times */
+#define PAGE_POLLS 1000  /* GETSTATUS while a page is erased, if the device reports no times */
 #define BLOCK_ACTIONS 60 /* of a block, with one that is asked for its status again and again */
 
 /* What the host for DFU 1.1 says of the file and the device: its suffix, an empty image, and whether it is for another device. Of a DfuSe

@@ -64,7 +64,7 @@ struct answer dfuse_wait(struct session *session, uint32_t ms)
 /* Whether the device was asked to leave: then it may be gone. */
 static bool is_closing(const struct dfuse *dfuse)
 {
-    static const uint32_t first_step = 12; /* the DNLOAD of no bytes, and what comes behind it */
+    static const uint32_t first_step = 12; /* the DNLOAD of no bytes, and what comes after it */
     return dfuse->host.work == DFUSE_LEAVE && dfuse->host.step >= first_step;
 }
 
@@ -94,7 +94,7 @@ static struct answer perform(struct session *session, const struct dfuse_action 
     return answer;
 }
 
-/* How far it is, by the address at which the work stands. */
+/* How far it is, by the address at which the host works. */
 static void show(struct session *session)
 {
     const struct dfuse *dfuse = &session->dfuse;

@@ -32,7 +32,7 @@ static const struct {
         {STATUS_GIVEN_UP, "there was no memory for the image"}},
 };
 
-/* How the device left, behind what Verified means. */
+/* How the device left, after what Verified means. */
 static const char *const leavings[] = {
     [DFUSE_STAYED] = "; the device stays in DFU mode",
     [DFUSE_LEFT] = "; the device starts its application",

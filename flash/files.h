@@ -10,17 +10,17 @@
 
 #define FILE_SPARE 16 /* bytes for which there is room after those of a file that was read */
 
-/* Reads a file, or standard input if the name is `-`, up to one byte over what a DFU file has at most. False where it can't be read,
+/* Reads a file, or standard input if the name is `-`, up to one byte over what a DFU file has at most. False if it can't be read,
    which is then said on standard error. `bytes` is to be freed, and is never NULL after true. */
 bool file_read(const char *name, uint8_t **bytes, size_t *length);
 
 /* Opens a file to be read, as bytes; NULL for the reason in errno. */
 FILE *file_open(const char *name);
 
-/* Whether OUT may be made, looked for before anything is sent. False where not, which is then said on standard error. */
+/* Whether OUT may be made, looked for before anything is sent. False if not, which is then said on standard error. */
 bool file_may_make(const char *name, bool is_forced);
 
-/* Makes OUT with these bytes, whole or not at all. False where that failed, which is then said on standard error. */
+/* Makes OUT with these bytes, whole or not at all. False if that failed, which is then said on standard error. */
 bool file_make(const char *name, bool is_forced, const uint8_t *bytes, size_t length);
 
 #endif

@@ -55,7 +55,7 @@ bool is_dfuse(const struct found *found)
     return found->descriptor_size == FUNCTIONAL_BYTES && two_bytes(found->descriptor + AT_VERSION) == VERSION_DFUSE;
 }
 
-/* Whether it is the name of the memory map that a setting has: what stands between @ and the first /, without spaces behind it. */
+/* Whether it is the name of the memory map that a setting has: what is between @ and the first /, without spaces at its end. */
 static bool is_map_name(const char *name, const char *setting)
 {
     size_t length = strlen(name), end;
@@ -156,7 +156,7 @@ static void add_interface(struct look *look, const struct found *base, libusb_de
         add_setting(look, base, handle, configuration, interface, at);
 }
 
-/* A device is opened, for its serial number, only where it has DFU. */
+/* A device is opened, for its serial number, only if it has DFU. */
 static void add_configuration(struct look *look, struct found *base, uint8_t serial,
                               const struct libusb_config_descriptor *configuration)
 {

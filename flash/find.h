@@ -17,14 +17,14 @@ struct found {
     libusb_device *device;             /* a reference that found_drop gives back */
     uint16_t vendor, product, release; /* idVendor, idProduct, bcdDevice */
     char path[PATH_ROOM];              /* bus and ports, as 1-2.3 */
-    char serial[TEXT_ROOM];            /* empty where there is none, or where it may not be read */
+    char serial[TEXT_ROOM];            /* empty if there is none, or if it may not be read */
     uint8_t interface, alternate;
-    char name[TEXT_ROOM];              /* of the setting, by its iInterface; empty where there is none */
+    char name[TEXT_ROOM];              /* of the setting, by its iInterface; empty if there is none */
     bool is_upgrade;                   /* in DFU mode, protocol 2; else in run-time mode */
     bool says_runtime;                 /* its protocol is 1, that of run-time mode */
     int access;                        /* what libusb said to opening it: 0, or an error */
     uint8_t descriptor[9];             /* the functional descriptor */
-    size_t descriptor_size;            /* 9, or 7 of DFU 1.0; 0 where there is none */
+    size_t descriptor_size;            /* 9, or 7 of DFU 1.0; 0 if there is none */
 };
 
 /* Which interface and which alternate setting of it. They count only in DFU mode: in run-time mode there is one of each (USB DFU
@@ -67,7 +67,7 @@ bool is_wanted(const struct wanted *wanted, const struct found *found);
    with none. */
 size_t version_of(const char *name);
 
-/* Whether two looks at a device in one mode saw the same: its identifiers, interface and setting, and, where both looks could read
+/* Whether two looks at a device in one mode saw the same: its identifiers, interface and setting, and, if both looks could read
    them, its serial number and the setting's name, but for one that is a version. */
 bool is_again(const struct found *first, const struct found *now);
 
@@ -80,7 +80,7 @@ void found_drop(struct found *list, int count);
 /* The path of a device, as 1-2.3. */
 void path_of(libusb_device *device, char path[PATH_ROOM]);
 
-/* Where the system has no ports, a path is the number of a bus, and names no device. */
+/* If the system has no ports, a path is the number of a bus, and names no device. */
 bool has_ports(const char *path);
 
 /* Whether any device is at the path, with DFU or without. */
@@ -91,7 +91,7 @@ bool is_at(libusb_context *usb, const char *path);
 void descriptor_find(struct found *found, libusb_device_handle *handle, const struct libusb_config_descriptor *configuration,
                      const struct libusb_interface *interface, int at);
 
-/* The string descriptor of that index, in UTF-8, up to its first NUL; empty where it can't be read. */
+/* The string descriptor of that index, in UTF-8, up to its first NUL; empty if it can't be read. */
 void string_find(libusb_device_handle *handle, uint8_t index, char text[TEXT_ROOM]);
 
 #endif

@@ -22,7 +22,7 @@ static const char usage[] =
     "  -d, -p, -S, -i, -a   --device, --path, --serial, --interface, --alt\n"
     "  -s A:leave, -s A     --address A, and with no leave --no-leave too; -s A:N -U OUT is --length N\n"
     "  -s :leave            nothing: after a DfuSe file the device leaves; see --no-leave\n"
-    "  -R                   nothing: a session that took or fetched the image ends with a reset\n"
+    "  -R                   nothing: a whole session ends with a reset, but with DfuSe there is none\n"
     "  -v, -E, -Z           not taken: see --verbose, --wait=SECONDS; an upload ends by itself\n"
     "  -n, -c               not taken: there is --path; no other configuration is set\n"
     "\n";

@@ -7,7 +7,7 @@
 #include <stdio.h>
 #include <string.h>
 
-/* Bytes that aren't UTF-8 have no place in JSON, and become the character that stands for such. */
+/* Bytes that aren't UTF-8 have no place in JSON, and become the character for such bytes. */
 static void print_quoted(const char *text)
 {
     putchar('"');
@@ -43,7 +43,7 @@ void json_truth(const char *name, bool is)
     printf(",\"%s\":%s", name, is ? "true" : "false");
 }
 
-/* What a name tells that begins with a version: the version, and what stands behind it, as `on trial, 2 starts left`. */
+/* What a name says that begins with a version: the version, and what follows it, as `on trial, 2 starts left`. */
 static void json_version(const struct found *found)
 {
     size_t length = version_of(found->name);

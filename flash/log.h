@@ -1,5 +1,5 @@
 /* SPDX-License-Identifier: MIT OR Apache-2.0 */
-/* The log of --verbose=FILE: each line of the trace behind `# `, and what came to the device, as `dfu judge` reads it: a request with its
+/* The log of --verbose=FILE: each line of the trace after `# `, and what came to the device, as `dfu judge` reads it: a request with its
    body and its answer, or a reset. A device that was away and is found again was reset, as in a capture of the USB. */
 #ifndef DFU_FLASH_LOG_H
 #define DFU_FLASH_LOG_H
@@ -18,19 +18,19 @@ struct log {
     uint64_t opened;  /* how often the device had been opened at the last request */
 };
 
-/* Makes the file, which must not be there yet; a pipe or a terminal may be. False where it can't be made, which is then said. */
+/* Makes the file, which must not be there yet; a pipe or a terminal may be. False if it can't be made, which is then said. */
 bool log_open(struct log *log, const char *name);
 
-/* A request is about to be sent: where the device was found again since the last one, it was reset. */
+/* A request is about to be sent: if the device was found again since the last one, it was reset. */
 void log_device(struct log *log, const struct device *device);
 
-/* A request was sent to that interface, with this body where it is one with a body, and this came of it. */
+/* A request was sent to that interface, with this body if it is one with a body, and this came of it. */
 void log_request(struct log *log, const uint8_t setup[8], unsigned interface, const uint8_t *body, const struct answer *answer);
 
 /* The bus was reset. */
 void log_reset(struct log *log);
 
-/* Nothing more comes. Where something could not be written, that is said. */
+/* Nothing more comes. If something could not be written, that is said. */
 void log_close(struct log *log);
 
 #endif

@@ -1,5 +1,5 @@
 /* SPDX-License-Identifier: MIT OR Apache-2.0 */
-/* One device, or a list: the order of what is done, with what is said where it ends early. */
+/* One device, or a list: the order of what is done, with what is said if it ends early. */
 #define _POSIX_C_SOURCE 200809L
 #include "one.h"
 #include "bays.h"
@@ -21,7 +21,7 @@
 
 static struct device device;
 static struct session session;
-static uint8_t no_file[1], no_room[1]; /* the host's library wants pointers also where there are no bytes */
+static uint8_t no_file[1], no_room[1]; /* the host's library wants pointers also if there are no bytes */
 
 static int say_refused(const struct words *words, int32_t refusal)
 {
@@ -66,7 +66,7 @@ static int take_file(const struct words *words, struct image *image, struct want
     return STATUS_DONE;
 }
 
-/* For which device the file has to be: the one that was found; or, where the identifiers of both modes were given, that of run-time
+/* For which device the file has to be: the one that was found; or, if the identifiers of both modes were given, that of run-time
    mode. */
 static struct dfu_ids target(const struct words *words)
 {

@@ -10,7 +10,7 @@
 /* Whether it is still listed: one that comes back has another address. */
 bool present_is(const struct device *device);
 
-/* Whether a transfer to it, which libusb answered so, failed since it left, on a system that doesn't tell. */
+/* Whether a transfer to it, which libusb answered so, failed since it left, on a system that doesn't report that. */
 bool present_is_lost(const struct device *device, int answer);
 
 /* Asks a person to pull its plug. Whether it was seen to leave then, before the time was over or a stop came. */

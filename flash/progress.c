@@ -14,7 +14,7 @@
 #define LINE_BYTES 65536
 #define LONG_MS 10000   /* a wait of more than this is said */
 #define BAR_MOST 30     /* characters of a bar, */
-#define ROW_BAR_MOST 10 /* and of one that stands behind other words */
+#define ROW_BAR_MOST 10 /* and of one that follows other words */
 
 static const char *const names[] = {"", "downloading", "comparing", "uploading", "erasing"};
 
@@ -28,7 +28,7 @@ void progress_begin(struct progress *progress, enum progress_style style, uint64
     *progress = (struct progress){.style = style, .total = total};
 }
 
-/* What stood there before may have been longer. */
+/* What was there before may have been longer. */
 static void show_bar(struct progress *progress, const char *line)
 {
     int length = (int)strlen(line);

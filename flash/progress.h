@@ -23,7 +23,7 @@ struct progress {
     uint32_t said_ms;           /* the longest wait that was said */
 };
 
-/* A bar where standard error is a terminal, unless `is_lines`, as where other lines are on it. */
+/* A bar if standard error is a terminal, unless `is_lines`: then other lines are printed on it too. */
 enum progress_style progress_style(bool is_quiet, bool is_lines);
 
 void progress_begin(struct progress *progress, enum progress_style style, uint64_t total);

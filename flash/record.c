@@ -9,7 +9,7 @@
 #include <stddef.h>
 #include <stdio.h>
 
-/* Of several devices, the one that records are of; the path is NULL where there is one. */
+/* Of several devices, the one that records are of; the path is NULL if there is only one. */
 static struct {
     const char *path;
     const struct found *is;

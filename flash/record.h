@@ -18,20 +18,20 @@ void record_since(int64_t ms);
 /* The front of a record in JSON: status, report, words, what the session is for, and the device. */
 void record_begin(const struct session *session, int status, const char *report, const char *words);
 
-/* The report's name and what it means, in one line; or, with `is_json`, one record. False where standard output failed. */
+/* The report's name and what it means, in one line; or, with `is_json`, one record. False if standard output failed. */
 bool record_print(const struct session *session, const struct verdict *verdict, bool is_json);
 
-/* The same where there is nothing more to tell than these. */
+/* The same if there is no more to say than these. */
 bool record_short(int status, const char *report, const char *words, bool is_json);
 
 /* The same of a session that the host refused. */
 bool record_refused(int32_t refusal, bool is_json);
 
-/* With `is_json`, the same where there was no session: a file failed, there is no device, or no access to it. Why is on
+/* With `is_json`, the same if there was no session: a file failed, there is no device, or no access to it. Why is on
    standard error. */
 bool record_none(int status, bool is_json);
 
-/* Whether all that was printed came to standard output. Where it didn't, that is said on standard error. */
+/* Whether all that was printed came to standard output. If it didn't, that is said on standard error. */
 bool record_out(void);
 
 #endif

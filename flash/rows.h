@@ -9,7 +9,7 @@
 
 struct rows {
     bool are_on;    /* standard error is a terminal that has rows */
-    int drawn;      /* how many stand there */
+    int drawn;      /* how many are there */
     int64_t shown_ms;
 };
 

@@ -29,11 +29,11 @@ static const char *access_words(int access)
     }
 }
 
-void say_text(FILE *out, const char *before, const char *text, const char *behind)
+void say_text(FILE *out, const char *before, const char *text, const char *after)
 {
     fputs(before, out);
     text_print(out, text);
-    fputs(behind, out);
+    fputs(after, out);
 }
 
 void say_found(FILE *out, const struct found *found)

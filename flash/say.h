@@ -12,7 +12,7 @@
 void say_found(FILE *out, const struct found *found);
 
 /* A text that others chose, as a name of a file, between two of this program's. */
-void say_text(FILE *out, const char *before, const char *text, const char *behind);
+void say_text(FILE *out, const char *before, const char *text, const char *after);
 
 /* Why a device isn't opened, or its interface isn't claimed, by `access`; and what helps. The status that this is. */
 int say_no_access(const struct found *found);
@@ -29,7 +29,7 @@ struct session;
 /* What a session came to. */
 struct verdict {
     int status;        /* with which the program ends */
-    char name[24];     /* the report's name; `gone`, `silent`, `many`, `other`, `broken` or `stalled` where there is none */
+    char name[24];     /* the report's name; `gone`, `silent`, `many`, `other`, `broken` or `stalled` if there is none */
     char words[160];   /* what it means */
     uint8_t code;      /* of `refused`: the device's bStatus, else 0 */
 };

@@ -8,7 +8,7 @@
 #include <stdlib.h>
 #include <string.h>
 
-/* So many transfers in a row without any answer, 5 seconds each where a device is there and dead, and it is given up. */
+/* So many transfers in a row without any answer, 5 seconds each if a device is there and dead, and it is given up. */
 #define MOST_SILENT 24
 #define SETTLE_MS 2000 /* for a device that left with the last reset, so that who calls this program again finds it */
 
@@ -18,7 +18,7 @@ static void grow(struct session *session)
     uint8_t *more;
     if (session->goal != GOAL_UPLOAD || wanted <= session->room)
         return;
-    /* Where there is no memory the host is handed the room that there is, and reports NoMemory once a part finds none in it. */
+    /* If there is no memory the host is handed the room that there is, and reports NoMemory once a part finds none in it. */
     more = realloc(session->room == 0 ? NULL : session->kept, 2 * wanted);
     if (more == NULL)
         return;
@@ -47,7 +47,7 @@ static void show(struct session *session, const struct dfu_action *action, const
                     number * length + answer->count);
 }
 
-/* A device that left is found again before it is asked anything; and where it is another one then, nothing is sent to it. */
+/* A device that left is found again before it is asked anything; and if it is another one then, nothing is sent to it. */
 static bool is_ready(struct session *session, bool *is_gone)
 {
     struct device *device = session->wire.device;
@@ -127,7 +127,7 @@ static bool tell(struct session *session, const struct answer *answer)
     return true;
 }
 
-/* With what the host has begun: its descriptor may stand in for the device's, and its identifiers be those of run-time mode. */
+/* With what the host has begun: its descriptor may be used in place of the device's, and its identifiers be those of run-time mode. */
 static void trace_session(const struct session *session)
 {
     struct found is = session->wire.device->is;
@@ -156,7 +156,7 @@ static bool begin_anew(struct session *session)
     return session->refusal == 0 || end(session, END_REFUSED);
 }
 
-/* How the session ends in place of what the host asks for; END_REPORT where that is done. By a descriptor that stands in for the
+/* How the session ends in place of what the host asks for; END_REPORT if that is done. By a descriptor that is used in place of the
    device's nothing of an image is sent or fetched. */
 static enum end barred(const struct session *session, const struct dfu_action *action)
 {
@@ -205,7 +205,7 @@ static bool is_timed_out(const struct session *session)
     return session->done.value == DFU_ABORTED && *session->wire.device->is_stop == STOP_TIME;
 }
 
-/* The last reset leads a device out of DFU mode. It need not come back, as where its application has no USB. */
+/* The last reset leads a device out of DFU mode. It need not come back, for example if its application has no USB. */
 static void settle(struct session *session)
 {
     if (session->wire.device->handle == NULL)

@@ -22,7 +22,7 @@ enum end {
     END_MANY,   /* it came back with more than one setting */
     END_OTHER,  /* what came back is another device, or has another functional descriptor */
     END_REFUSED, /* it came to DFU mode, and the host refused to begin with it there */
-    END_ABORTED, /* a signal came; DfuSe alone, whose host isn't told */
+    END_ABORTED, /* a signal came; only with DfuSe: its host knows of no stop */
     END_TIMED_OUT, /* the time of --timeout is spent, and the host gave up */
     END_BROKEN, /* the host's library refused its own record */
     END_STALLED, /* it stays in run-time mode, and stalls what it is asked there */
@@ -61,8 +61,8 @@ struct session {
     uint64_t taken, restarted;    /* actions done, and restarts reported */
     int64_t began_ms;
     enum end end;
-    struct dfu_action done;       /* the report, where `end` is END_REPORT */
-    int32_t refusal;              /* why not, where it is END_REFUSED */
+    struct dfu_action done;       /* the report, if `end` is END_REPORT */
+    int32_t refusal;              /* why not, if it is END_REFUSED */
 };
 
 /* The program's own refusals, beside the host's: the file is for any device, and would go to all; of DfuSe: the device speaks it, and

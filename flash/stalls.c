@@ -1,6 +1,6 @@
 /* SPDX-License-Identifier: MIT OR Apache-2.0 */
 /* A device in run-time mode may stall GETSTATUS: in appIDLE the standard has it answered (USB DFU 1.1, appendix A.2.1), and many
-   leave it out. Where it is stalled twice the host has the bus reset, and asks again. So before the first of these resets the program
+   leave it out. If it is stalled twice the host has the bus reset, and asks again. So before the first of these resets the program
    sends a DETACH of its own, which makes it the reset that leads to DFU mode; and it makes three of them at most, since what is
    reset is a running application. */
 #include "stalls.h"
@@ -20,7 +20,7 @@ bool stalls_is_stuck(const struct stalls *stalls)
     return stalls->is_last && stalls->resets >= MOST_RESETS;
 }
 
-/* Where the device left after that DETACH it is reset already. */
+/* If the device left after that DETACH it is reset already. */
 struct answer stalls_reset(struct stalls *stalls, struct wire *wire)
 {
     bool is_first = stalls->is_last && stalls->resets == 0 && wire->device->is.says_runtime;

@@ -11,7 +11,7 @@ enum { STOP_NONE, STOP_SIGNAL, STOP_TIME };
 
 extern volatile sig_atomic_t stop_cause;
 
-/* From here on signals, and `seconds` where they aren't 0, end a session well and a wait at once. */
+/* From here on signals, and `seconds` if they aren't 0, end a session well and a wait at once. */
 void stop_catch(uint32_t seconds);
 
 /* The session is over: the seconds count no more. */

@@ -9,7 +9,7 @@
 /* Whether somebody sees there what is printed, or types what is read. */
 bool terminal_is(FILE *stream);
 
-/* The columns and the lines of the terminal that standard error is. False where nobody says. */
+/* The columns and the lines of the terminal that standard error is. False if nobody says. */
 bool terminal_size(int *columns, int *lines);
 
 /* The key that ends what is typed there. */

@@ -43,7 +43,7 @@ void text_print(FILE *out, const char *text)
     }
 }
 
-/* A half of a pair that has no other half becomes three bytes that are no UTF-8, and so are escaped where they are printed. */
+/* A half of a pair that has no other half becomes three bytes that are no UTF-8, and so are escaped when they are printed. */
 static size_t put_point(uint32_t point, char bytes[4])
 {
     size_t count = point < 0x80 ? 1 : point < 0x800 ? 2 : point < 0x10000 ? 3 : 4;

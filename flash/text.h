@@ -8,7 +8,7 @@
 #include <stdint.h>
 #include <stdio.h>
 
-/* How many bytes the character at the front of `text` has, and which it is; 0 where they aren't UTF-8. */
+/* How many bytes the character at the front of `text` has, and which it is; 0 if they aren't UTF-8. */
 size_t text_character(const char *text, uint32_t *character);
 
 /* Whether a terminal may take it for a command, or draw other text by it in another place. */

@@ -138,7 +138,7 @@ bool value_transfer(const char *text, struct words *words)
     return is;
 }
 
-/* A hexadecimal number behind 0x, up to 32 bits, at the front of `text`; what stands behind it is in `rest`. */
+/* A hexadecimal number after 0x, up to 32 bits, at the front of `text`; what follows it is in `rest`. */
 static bool is_hexadecimal(const char *text, uint32_t *number, const char **rest)
 {
     size_t digits;
@@ -192,14 +192,14 @@ bool value_dfuse(const char *text, struct words *words)
     if (strcmp(text, ":leave") == 0)
         return true;
     if (!is_hexadecimal(text, &words->address, &rest))
-        return words_refuse("-s takes an address as 0x08000000, which may have :leave or a length behind it", text);
+        return words_refuse("-s takes an address as 0x08000000, which may have :leave or a length after it", text);
     words->has_address = words->stays = true;
     while (*rest == ':') {
         if (strncmp(rest, ":leave", 6) == 0) {
             words->stays = false;
             rest += 6;
         } else if (!is_length(rest + 1, &words->length, &rest))
-            return words_refuse("-s takes :leave or a length behind the address; nothing else of dfu-util's is here", text);
+            return words_refuse("-s takes :leave or a length after the address; nothing else of dfu-util's is here", text);
     }
-    return *rest == '\0' || words_refuse("-s takes :leave or a length behind the address", text);
+    return *rest == '\0' || words_refuse("-s takes :leave or a length after the address", text);
 }

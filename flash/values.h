@@ -1,5 +1,5 @@
 /* SPDX-License-Identifier: MIT OR Apache-2.0 */
-/* The values of options: each is read into `words`. False where it isn't understood, which is then said. */
+/* The values of options: each is read into `words`. False if it isn't understood, which is then said. */
 #ifndef DFU_FLASH_VALUES_H
 #define DFU_FLASH_VALUES_H
 
@@ -17,16 +17,16 @@ bool value_transfer(const char *text, struct words *words);
 bool value_address(const char *text, struct words *words);
 bool value_length(const char *text, struct words *words);
 
-/* What -s of dfu-util says: an address, and behind colons how many bytes, or `leave`. */
+/* What -s of dfu-util says: an address, and after colons how many bytes, or `leave`. */
 bool value_dfuse(const char *text, struct words *words);
 
-/* --verbose, or --verbose=FILE: NULL where there is none. */
+/* --verbose, or --verbose=FILE: NULL if there is none. */
 bool value_verbose(const char *text, struct words *words);
 
-/* --limits takes two words, ACTIONS and RESTARTS; NULL where the second one is missing. */
+/* --limits takes two words, ACTIONS and RESTARTS; NULL if the second one is missing. */
 bool value_limits(const char *first, const char *second, struct words *words);
 
-/* --wait, or --wait=SECONDS: NULL where there are none. */
+/* --wait, or --wait=SECONDS: NULL if there are none. */
 bool value_wait(const char *text, struct words *words);
 
 /* Whether the word after --wait is its seconds: digits alone. */

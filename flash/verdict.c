@@ -9,7 +9,7 @@
 
 /* By the number of the report, from 1 on. */
 static const struct meaning reports[] = {
-    [DFU_INSTALLED] = {STATUS_DONE, "the device took the whole image, told that it is in place, and was reset"},
+    [DFU_INSTALLED] = {STATUS_DONE, "the device took the whole image, reported that it is in place, and was reset"},
     [DFU_UNCONFIRMED] = {STATUS_UNCONFIRMED, "the device took the whole image and was reset; it can't tell whether it is in place"},
     [DFU_ABORTED] = {STATUS_ABORTED, "given up by Ctrl-C or a signal; the device may have the old image, the new one or neither"},
     [DFU_GAVE_UP] = {STATUS_GIVEN_UP, "the limit of actions is spent; the device may have the old image, the new one or neither"},
@@ -22,7 +22,7 @@ static const struct meaning reports[] = {
     [DFU_DIFFERENT] = {STATUS_DIFFERENT, "after a reset the device gave back another image than the file's"},
 };
 
-/* Where there is no report: the program's own ends, by `enum end`. */
+/* If there is no report: the program's own ends, by `enum end`. */
 static const struct {
     const char *name;
     struct meaning meaning;
@@ -41,7 +41,7 @@ static const struct {
         "a reset is missing, which this system does not make; the device may have the old image, the new one or neither"}},
 };
 
-/* The same, where the device took the whole image, and was to give it back or was to be reset. */
+/* The same, if the device took the whole image, and was to give it back or was to be reset. */
 static const struct meaning uncompared[] = {
     [END_UNRESET] = {STATUS_UNRESET,
         "the device took the whole image; a reset is missing, which this system does not make: pull its plug, and put it in again"},
@@ -51,10 +51,10 @@ static const struct meaning uncompared[] = {
         {STATUS_STALLED, "the device took the whole image, and stalls GETSTATUS in run-time mode: it was not compared; see --no-verify"},
 };
 
-/* And where it gave the whole image. */
+/* And if it gave the whole image. */
 static const struct meaning fetched = {STATUS_UNRESET, "the device gave the image that it has; to leave DFU mode it needs its plug pulled"};
 
-/* What a device may have is said only where a block was sent. */
+/* What a device may have is said only if a block was sent. */
 void verdict_words(struct verdict *verdict, const struct session *session, const struct meaning *meaning)
 {
     static const char harm[] = " may have the old image, the new one or neither";

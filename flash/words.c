@@ -169,7 +169,7 @@ static bool is_whole(struct words *words, const struct plain *plain)
     if (at < plain->count)
         return words_refuse("a word too many", plain->texts[at]);
     if (words->job == JOB_DOWNLOAD && words->file == NULL)
-        return words_refuse(words->patience == 0 ? "no FILE was given" : "no FILE was given; a number behind --wait is its seconds", "");
+        return words_refuse(words->patience == 0 ? "no FILE was given" : "no FILE was given; a number after --wait is its seconds", "");
     if (has_file && words->file[0] == '\0')
         return words_refuse("the name of a file is empty", "");
     return is_fit(words);
@@ -181,8 +181,8 @@ static void take_plain(struct plain *plain, const char *text)
         plain->texts[plain->count++] = text;
 }
 
-/* Takes the words up to the next option, and whether there is one; behind "--" there is none. getopt_long isn't asked for words that are no
-   options, since it differs by system in when it moves them, and a second word of an option is looked for where it stands. */
+/* Takes the words up to the next option, and whether there is one; after "--" there is none. getopt_long isn't asked for words that are no
+   options, since it differs by system in when it moves them, and a second word of an option is looked for in its place. */
 static bool is_option_next(struct plain *plain, int count, char **texts)
 {
     while (optind < count && (texts[optind][0] != '-' || texts[optind][1] == '\0'))
@@ -194,7 +194,7 @@ static bool is_option_next(struct plain *plain, int count, char **texts)
     return false;
 }
 
-/* The code of the next option; its value is in optarg, NULL where it has none: not every getopt_long sets it then. */
+/* The code of the next option; its value is in optarg, NULL if it has none: not every getopt_long sets it then. */
 static int next_option(int count, char **texts)
 {
     optarg = NULL;

@@ -15,7 +15,7 @@ static void look(struct bus *bus)
     installed_run(&bus->installed, bus->machine.place.at, bus->machine.place.length);
 }
 
-/* In dfuDNBUSY and dfuMANIFEST all of the time that the host was told passes at once, and so the work is done; appDETACH alone counts
+/* In dfuDNBUSY and dfuMANIFEST all of the time that was reported to the host passes at once, and so the work is done; appDETACH alone counts
    the time that passes. */
 void bus_pass(struct bus *bus)
 {
@@ -85,7 +85,7 @@ static void send(struct function *function, const uint8_t setup[8], int32_t answ
         function_acknowledge(function);
 }
 
-/* The program of --check refuses the image that this setup closes. Then the machine stands in dfuERROR. */
+/* The program of --check refuses the image that this setup closes. Then the machine is in dfuERROR. */
 static bool is_refused(struct bus *bus, const uint8_t setup[8])
 {
     struct dfu_place place;
@@ -96,7 +96,7 @@ static bool is_refused(struct bus *bus, const uint8_t setup[8])
     return why != 0 && machine_refuse_close(&bus->machine, setup, why);
 }
 
-/* The data stage is taken, unless the library stalls the setup before it: DFU_STALL, or its answer; and false where the host gave up. */
+/* The data stage is taken, unless the library stalls the setup before it: DFU_STALL, or its answer; and false if the host gave up. */
 static bool decide(struct bus *bus, const uint8_t setup[8], uint8_t out[MOST_TRANSFER], int32_t *answer)
 {
     uint8_t body[MOST_TRANSFER];

@@ -1,5 +1,5 @@
 /* SPDX-License-Identifier: MIT OR Apache-2.0 */
-/* The device on the bus: which of its two gadgets is there, and the time and the resets that the machine is told of. */
+/* The device on the bus: which of its two gadgets is there, and the time and the resets that are passed on to the machine. */
 #ifndef DFU_GADGET_BUS_H
 #define DFU_GADGET_BUS_H
 
@@ -18,29 +18,29 @@ struct bus {
     struct check check;
     struct installed installed;
     int mode;      /* whose gadget is on the bus, or NOWHERE */
-    int64_t told;  /* up to when the machine was told the time, ms */
+    int64_t told;  /* up to when the time was passed on to the machine, ms */
 };
 
-/* The work that is due is done, and appDETACH is told the time up to now: once an answer is out, before a request, and before a reset. */
+/* The work that is due is done, and in appDETACH the time up to now is passed on: once an answer is out, before a request, and before a reset. */
 void bus_pass(struct bus *bus);
 
 /* The bus was reset. */
 void bus_reset(struct bus *bus);
 
-/* The gadget that the state asks for comes to the bus. False where it can't. */
+/* The gadget that the state asks for comes to the bus. False if it can't. */
 bool bus_settle(struct bus *bus);
 
 /* What the interface is called: Firmware, or with images on trial the version, and the trial. */
 void bus_name(const struct bus *bus, char name[FUNCTION_NAME]);
 void bus_leave(struct bus *bus);
 
-/* A setup that stands there is answered, and what the answer announced is done. */
+/* A setup that waits there is answered, and what the answer announced is done. */
 void bus_serve(struct bus *bus, const uint8_t setup[8]);
 
 /* How long poll may wait, in ms: until the time of appDETACH is over, else -1. */
 int bus_pause(struct bus *bus);
 
-/* Whether the machine goes on; false where the library refused its own record. */
+/* Whether the machine goes on; false if the library refused its own record. */
 bool bus_is_sound(const struct bus *bus);
 
 #endif

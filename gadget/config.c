@@ -10,7 +10,7 @@
 
 #define MOST 65536 /* bytes of the file */
 
-/* The bytes stand until the program ends: the words point into them. */
+/* The bytes stay until the program ends: the words point into them. */
 static char *read_all(const char *name)
 {
     static char bytes[MOST + 1];

@@ -34,7 +34,7 @@ void controller_close(struct controller *controller)
     controller->state = -1;
 }
 
-/* To read it from its beginning is what makes poll wait for the next time. Where the controller is gone, so is the file. */
+/* To read it from its beginning is what makes poll wait for the next time. If the controller is gone, so is the file. */
 bool controller_is_new_state(struct controller *controller)
 {
     char line[MOST_LINE];
@@ -69,7 +69,7 @@ bool controller_join(const struct controller *controller, const char *gadget)
     return set_controller(gadget, controller->name) || say_failed(gadget, "can't come to the controller's bus");
 }
 
-/* ENODEV: it has left already, as where the controller is gone. */
+/* ENODEV: it has left already, for example because the controller is gone. */
 bool controller_leave(const char *gadget)
 {
     return set_controller(gadget, "") || errno == ENODEV || say_failed(gadget, "can't leave the bus");

@@ -8,14 +8,14 @@
 
 struct controller {
     const char *name;  /* as in /sys/class/udc */
-    int state;         /* its file `state`, which poll reports once it was written; -1 where there is none */
+    int state;         /* its file `state`, which poll reports once it was written; -1 if there is none */
 };
 
-/* False where there is no such controller, which is said. */
+/* False if there is no such controller, which is said. */
 bool controller_open(struct controller *controller, const char *name);
 void controller_close(struct controller *controller);
 
-/* Whether its state was written since the last call. True where that can't be known. */
+/* Whether its state was written since the last call. True if that can't be known. */
 bool controller_is_new_state(struct controller *controller);
 
 /* A gadget comes to the bus, and leaves it. False, which is said. */

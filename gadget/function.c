@@ -1,7 +1,7 @@
 /* SPDX-License-Identifier: MIT OR Apache-2.0 */
-/* FunctionFS reports no reset of the bus as such. Where a configuration was set, it reports DISABLE once the bus is reset, the cable
+/* FunctionFS reports no reset of the bus as such. If a configuration was set, it reports DISABLE once the bus is reset, the cable
    is pulled or another configuration is set; and after a reset ENABLE, once the host has set one again. Either drops those that were
-   not read yet: a program that is late finds ENABLE alone, as after a SET_INTERFACE, which dfu-util sends each time. Two things tell
+   not read yet: a program that is late finds ENABLE alone, as after a SET_INTERFACE, which dfu-util sends each time. Two things show
    these apart, and a reset needs both: the eventfd counts events that were dropped too, and a reset writes the controller's state. */
 #define _GNU_SOURCE
 #include "function.h"
@@ -43,7 +43,7 @@ bool function_open(struct function *function, const char *gadget, uint8_t protoc
     return errno == EINVAL ? say_wrong(path, "Linux takes them from 6.11 on") : false;
 }
 
-/* Where this was the last one, the kernel takes the gadget off the bus. */
+/* If this was the last one, the kernel takes the gadget off the bus. */
 void function_close(struct function *function)
 {
     if (function->ep0 >= 0)
@@ -85,7 +85,7 @@ static int read_events(struct function *function, struct usb_functionfs_event ev
     return found;
 }
 
-/* They are counted before it is looked whether one stands there: one that comes between is in neither or in both. */
+/* They are counted before it is looked whether one waits there: one that comes between is in neither or in both. */
 void function_rest(struct function *function)
 {
     count(function);
@@ -103,7 +103,7 @@ void function_begin(struct function *function)
     function->is_enabled = false;
 }
 
-/* Whether events were dropped that nobody heard of, behind those that were read. While a setup waits, poll reports it, and no event;
+/* Whether events were dropped unread, after those that were read. While a setup waits, poll reports it, and no event;
    else what it reports came since. */
 static bool is_more_dropped(struct function *function, bool has_setup)
 {
@@ -131,7 +131,7 @@ static void take_event(struct function *function, const struct usb_functionfs_ev
     }
 }
 
-/* EIDRM: the host gave the setup up that stood there. */
+/* EIDRM: the host gave up the setup that waited there. */
 bool function_read(struct function *function, bool is_new_state, struct events *events)
 {
     struct usb_functionfs_event found[MOST_EVENTS];
@@ -153,7 +153,7 @@ int function_take(struct function *function, uint8_t *body, size_t length)
     return (int)read(function->ep0, body, length);
 }
 
-/* Where the host gave up meanwhile, none of these is sent, and the next event is that of what it did. */
+/* If the host gave up meanwhile, none of these is sent, and the next event is that of what it did. */
 void function_answer(struct function *function, const uint8_t *bytes, size_t length)
 {
     ssize_t count = write(function->ep0, bytes, length);

@@ -16,11 +16,11 @@ struct function {
     int ep0;             /* events, and the transfers of endpoint 0 */
     int signals;         /* an eventfd: how many events there were */
     int64_t unread;      /* how many of these were not read, */
-    int64_t dropped;     /* and how many of them nobody can read any more: all, where none stands there */
+    int64_t dropped;     /* and how many of them nobody can read any more: all, if none is there */
     bool is_enabled;     /* a configuration is set */
 };
 
-/* What was read at once. The reset, where there is one, came first. Gone: somebody else has taken the gadget off the bus. */
+/* What was read at once. The reset, if there is one, came first. Gone: somebody else has taken the gadget off the bus. */
 struct events {
     bool is_reset, has_setup, is_gone;
     uint8_t setup[8];
@@ -28,25 +28,25 @@ struct events {
 
 enum { PROTOCOL_RUN_TIME = 1, PROTOCOL_DFU = 2 };
 
-/* Opens endpoint 0 and hands in the descriptors. False where FunctionFS takes none of them, which is said. */
+/* Opens endpoint 0 and hands in the descriptors. False if FunctionFS takes none of them, which is said. */
 bool function_open(struct function *function, const char *gadget, uint8_t protocol, const uint8_t functional[9], const char *name);
 void function_close(struct function *function);
 
-/* Its interface has this name from here on: where it had another one, it is opened anew, while its gadget isn't on the bus. False where
+/* Its interface has this name from here on: if it had another one, it is opened anew, while its gadget isn't on the bus. False if
    FunctionFS failed, which is said. */
 bool function_rename(struct function *function, const char *name);
 
-/* Its gadget is about to come to the bus: what stands unread is of the time before, and is dropped. */
+/* Its gadget is about to come to the bus: what is unread is of the time before, and is dropped. */
 void function_begin(struct function *function);
 
 /* To be called before each wait for events. */
 void function_rest(struct function *function);
 
-/* What stands there. `is_new_state`: the controller's state was written since the last call, as each reset does. False where FunctionFS
+/* What is there to be read. `is_new_state`: the controller's state was written since the last call, as each reset does. False if FunctionFS
    failed. */
 bool function_read(struct function *function, bool is_new_state, struct events *events);
 
-/* The data stage of a setup that sends: how many bytes came, or -1 where the host gave up. Once it came it is acknowledged. */
+/* The data stage of a setup that sends: how many bytes came, or -1 if the host gave up. Once it came it is acknowledged. */
 int function_take(struct function *function, uint8_t *body, size_t length);
 
 /* The end of a setup that reads or has no data: an answer, an acknowledgement, or a stall. */

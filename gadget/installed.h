@@ -7,15 +7,15 @@
 #include <stdint.h>
 
 struct installed {
-    const char *command;   /* NULL where there is none */
+    const char *command;   /* NULL if there is none */
     const char *medium;
-    int child;             /* a descriptor that poll reports once the command ended; -1 where none runs */
+    int child;             /* a descriptor that poll reports once the command ended; -1 if none runs */
     int process;
     bool is_due;           /* another image came meanwhile, and is at: */
     uint32_t at, length;
 };
 
-/* An image is in place: the command is run with MEDIUM, AT and LENGTH. Where it still runs for the one before, it is run again behind
+/* An image is in place: the command is run with MEDIUM, AT and LENGTH. If it still runs for the one before, it is run again after
    that. Nothing waits for it. */
 void installed_run(struct installed *installed, uint32_t at, uint32_t length);
 

@@ -47,10 +47,10 @@ static void look_at_module(void)
         is_there = is_there || strstr(name, "\tfunctionfs\n") != NULL;
     if (file != NULL)
         fclose(file);
-    line("file system", "functionfs", is_there ? "" : "gadget/set-up makes it come, where the modules libcomposite and usb_f_fs are there");
+    line("file system", "functionfs", is_there ? "" : "gadget/set-up makes it come, if the modules libcomposite and usb_f_fs are there");
 }
 
-/* Which gadget has the controller; "" where none has it. */
+/* Which gadget has the controller; "" if none has it. */
 static void find_user(const char *controller, char *user, size_t room)
 {
     char path[MOST_PATH], text[256];

@@ -5,7 +5,7 @@
 
 #include "words.h"
 
-/* Prints a line for each thing that `run` needs, and does nothing: the status, STATUS_MISSING where one of them is missing. */
+/* Prints a line for each thing that `run` needs, and does nothing: the status, STATUS_MISSING if one of them is missing. */
 int look_around(const struct words *words);
 
 #endif

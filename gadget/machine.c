@@ -39,7 +39,7 @@ static bool is_gate_noted(const struct machine *machine)
     return memcmp(machine->gate, gate_of(machine), sizeof machine->gate) == 0;
 }
 
-/* Another image is in place where the active one begins somewhere else. */
+/* Another image is in place if the active one begins somewhere else. */
 static void look_for_image(struct machine *machine)
 {
     struct dfu_place place;

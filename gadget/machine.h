@@ -25,7 +25,7 @@ struct machine {
     uint32_t tries;          /* how often a new image is started on trial, 0 for no trials, and then: */
     struct dfu_trial trial;
     uint8_t gate[MACHINE_GATE]; /* the gate of the active image, as it was last */
-    int32_t refusal;         /* of the library; 0 where there was none. What follows one has no meaning */
+    int32_t refusal;         /* of the library; 0 if there was none. What follows one has no meaning */
 };
 
 /* The device gets power, and begins as the application or in DFU mode: 0, or the library's refusal. */
@@ -38,7 +38,7 @@ void machine_again(struct machine *machine);
 enum plan { PLAN_ANSWER, PLAN_STALL, PLAN_TAKE };
 enum plan machine_plan(struct machine *machine, const uint8_t setup[8]);
 
-/* The answer: how many bytes of `out`, or negative for a stall. Where the host sends, the body has wLength bytes. */
+/* The answer: how many bytes of `out`, or negative for a stall. If the host sends, the body has wLength bytes. */
 int32_t machine_handle(struct machine *machine, const uint8_t setup[8], const uint8_t *body, uint8_t out[MOST_TRANSFER]);
 
 /* Whether this setup closes a download, of an image with enough bytes, and where that image is; and that the image is refused, with
@@ -50,7 +50,7 @@ bool machine_refuse_close(struct machine *machine, const uint8_t setup[8], uint8
 void machine_pass(struct machine *machine, int64_t ms);
 void machine_reset(struct machine *machine);
 
-/* In how many milliseconds time changes the state; 0 where it doesn't. */
+/* In how many milliseconds time changes the state; 0 if it doesn't. */
 int64_t machine_due(struct machine *machine);
 int32_t machine_state(struct machine *machine);
 
@@ -60,7 +60,7 @@ bool machine_is_upgrade(struct machine *machine);
 /* The functional descriptor. */
 int32_t machine_functional(const struct machine *machine, uint8_t out[9]);
 
-/* Of a medium that is mapped, where its image stands; and a new medium in memory: 0, or the library's refusal. */
+/* Of a medium that is mapped, where its image is; and a new medium in memory: 0, or the library's refusal. */
 int32_t machine_image(const struct medium *medium, struct dfu_place *place);
 int32_t machine_format(uint8_t *memory, size_t size, const uint8_t *image, size_t length, uint32_t tries);
 

@@ -1,6 +1,6 @@
 /* SPDX-License-Identifier: MIT OR Apache-2.0 */
-/* Makes a medium. A new file gets its name once it is whole and on the disk. What stands there is overwritten where it is blank, or
-   with --force; and never while somebody uses it, nor behind a link to a file. */
+/* Makes a medium. A new file gets its name once it is whole and on the disk. What is there is overwritten if it is blank, or
+   with --force; and never while somebody uses it, nor through a link to a file. */
 #define _GNU_SOURCE
 #include "make.h"
 #include "machine.h"
@@ -94,7 +94,7 @@ static int overwrite(const struct words *words)
     else if (size == 0 || words->most > medium_most(size, medium.head))
         say_wrong(words->medium, "it has no room for two images of --most bytes");
     else if (!words->force && !is_blank(&medium, medium.is_device ? size : (size_t)lseek(medium.file, 0, SEEK_END)))
-        say_wrong(words->medium, "something stands there already: --force overwrites it");
+        say_wrong(words->medium, "there is something already: --force overwrites it");
     else if ((content = make_content(words, size, &status)) != NULL) {
         is_done = (medium.is_device || ftruncate(medium.file, (off_t)size) == 0) && medium_write(&medium, 0, content, size)
             && fsync(medium.file) == 0;
@@ -179,7 +179,7 @@ static int print_image(const struct medium *medium, const struct dfu_place *plac
     return STATUS_FILE;
 }
 
-/* No medium has an image by both layouts, with trials and without: where the one has its header, the other has none. */
+/* No medium has an image by both layouts, with trials and without: if the one has its header, the other has none. */
 int write_image(const struct words *words)
 {
     static const size_t heads[] = {MEDIUM_HEAD, MEDIUM_TRIAL_HEAD};

@@ -117,7 +117,7 @@ bool medium_map(struct medium *medium, const char *name, enum medium_use use, si
         medium_close(medium);
         return say_wrong(name, "it is too small for a medium: `dfu-gadget format` makes one");
     }
-    if (use == MEDIUM_WRITE) /* an earlier program may have ended behind a write that failed */
+    if (use == MEDIUM_WRITE) /* an earlier program may have ended after a write that failed */
         medium_forget(medium, 0, 0);
     bytes = mmap(NULL, medium->size, PROT_READ, MAP_SHARED, medium->file, 0);
     if (bytes == MAP_FAILED) {

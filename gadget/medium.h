@@ -22,7 +22,7 @@ struct medium {
 /* MEDIUM_MARK: for a mark of a trial, while `run` has it. */
 enum medium_use { MEDIUM_READ, MEDIUM_WRITE, MEDIUM_MARK };
 
-/* What stands before the image in a slot: gate and header, which are in sectors of their own if images run on trial. */
+/* What is before the image in a slot: gate and header, which are in sectors of their own if images run on trial. */
 enum { MEDIUM_HEAD = 32, MEDIUM_TRIAL_SECTOR = 4096, MEDIUM_TRIAL_HEAD = 2 * MEDIUM_TRIAL_SECTOR };
 size_t medium_head(uint32_t tries);
 
@@ -39,20 +39,20 @@ void medium_close(struct medium *medium);
 bool medium_turn(const struct medium *medium);
 void medium_give_turn(const struct medium *medium);
 
-/* How many bytes the two slots take of `size`, 0 where there is too little: the most that no sector holds bytes of both. */
+/* How many bytes the two slots take of `size`, 0 if there is too little: the most that no sector holds bytes of both. */
 size_t medium_slots(size_t size, size_t sector, size_t head);
 
-/* How many bytes a medium for images of up to `most` bytes has, 0 where none can. */
+/* How many bytes a medium for images of up to `most` bytes has, 0 if none can. */
 size_t medium_wanted(size_t most, size_t sector, size_t head);
 
 /* The most bytes of an image of a medium with `size` bytes. */
 size_t medium_most(size_t size, size_t head);
 
-/* Puts bytes at their place, and on the disk. False where that failed, with errno. */
+/* Puts bytes at their place, and on the disk. False if that failed, with errno. */
 bool medium_write(const struct medium *medium, size_t at, const uint8_t *bytes, size_t length);
 
 /* After a write that failed: Linux keeps the bytes in its memory, and gives them to whoever reads, though the disk hasn't got them. They
-   are dropped, so that what is read comes from the disk. False where they stay; of a medium that is mapped, `length` is at most
+   are dropped, so that what is read comes from the disk. False if they stay; of a medium that is mapped, `length` is at most
    MEDIUM_MOST_WRITE. */
 #define MEDIUM_MOST_WRITE 4096
 bool medium_forget(const struct medium *medium, size_t at, size_t length);

@@ -11,7 +11,7 @@
 /* The folder in front of all of these: "" but in tests (--root). */
 extern const char *paths_root;
 
-/* /sys/kernel/config/usb_gadget/GADGET/ATTRIBUTE, /dev/usb-ffs/GADGET/ep0, /sys/class/udc/CONTROLLER/ATTRIBUTE. False where the path
+/* /sys/kernel/config/usb_gadget/GADGET/ATTRIBUTE, /dev/usb-ffs/GADGET/ep0, /sys/class/udc/CONTROLLER/ATTRIBUTE. False if the path
    is too long. */
 bool path_of_gadget(char path[MOST_PATH], const char *gadget, const char *attribute);
 bool path_of_function(char path[MOST_PATH], const char *gadget);
@@ -20,10 +20,10 @@ bool path_of_controller(char path[MOST_PATH], const char *controller, const char
 /* Below /proc: sys/kernel/osrelease and filesystems. */
 bool path_of_kernel(char path[MOST_PATH], const char *name);
 
-/* The first line of a file, without its end. False, with errno, where it can't be read. */
+/* The first line of a file, without its end. False, with errno, if it can't be read. */
 bool path_line(const char *path, char *line, size_t room);
 
-/* A name that may stand in a path: no slash, not empty, and no dot in front. */
+/* A name that may be part of a path: no slash, not empty, and no dot in front. */
 bool path_is_name(const char *name);
 
 #endif

@@ -51,7 +51,7 @@ static int set_up(struct bus *bus, struct medium *medium, const struct words *wo
         ? STATUS_DONE : STATUS_MISSING;
 }
 
-/* What FunctionFS has, once poll reports it. A reset may call for the other gadget: the setup behind it is then gone. */
+/* What FunctionFS has, once poll reports it. A reset may call for the other gadget: the setup after it is then gone. */
 static int take_events(struct bus *bus)
 {
     struct function *function = &bus->functions[bus->mode];
@@ -74,7 +74,7 @@ static int take_events(struct bus *bus)
     return STATUS_DONE;
 }
 
-/* What a wait reports. Where nothing stands to be read, what the controller's state reports belongs to an event that was read. */
+/* What a wait reports. If there is nothing to be read, what the controller's state reports belongs to an event that was read. */
 static int take_what_came(struct bus *bus, const struct pollfd waits[WAITS])
 {
     if (waits[CHILD].revents != 0)

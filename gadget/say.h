@@ -9,7 +9,7 @@
 #include <stddef.h>
 #include <stdint.h>
 
-/* A line about a file or another name that others chose: the name, escaped where it has to be, and what is wrong with it. False. */
+/* A line about a file or another name that others chose: the name, escaped if it has to be, and what is wrong with it. False. */
 bool say_wrong(const char *name, const char *why);
 
 /* The same, with the reason that errno has. False. */
@@ -21,11 +21,11 @@ void say_event(const char *format, ...) __attribute__((format(printf, 1, 2)));
 /* Whether each request gets a line. */
 extern bool say_is_verbose;
 
-/* Has these lines, as comments, and each request and reset as a line that `dfu judge` reads, in a new file of this name. False where it
+/* Has these lines, as comments, and each request and reset as a line that `dfu judge` reads, in a new file of this name. False if it
    can't be made, which is said. */
 bool say_to(const char *name);
 
-/* Nothing more comes. Where something could not be written, that is said. */
+/* Nothing more comes. If something could not be written, that is said. */
 void say_no_more(const char *name);
 
 /* What was answered to a request, with so many bytes of its data stage that were taken, for `dfu judge`. */

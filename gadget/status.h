@@ -5,7 +5,7 @@
 
 enum status {
     STATUS_DONE = 0,     /* the work is done; run was ended by a signal; a dry run found all that is needed */
-    STATUS_REFUSED = 1,  /* refused: what stands there is kept, or it holds no image, or a number doesn't fit */
+    STATUS_REFUSED = 1,  /* refused: what is there is kept, or it holds no image, or a number doesn't fit */
     STATUS_WORDS = 2,    /* the words aren't understood */
     STATUS_FILE = 3,     /* a file or a stream failed, or there was no memory */
     STATUS_MISSING = 4,  /* something that run needs is missing: --dry-run says what */

@@ -5,10 +5,10 @@
 
 #include <stdbool.h>
 
-/* From here on a signal is noted, and ends a wait and a transfer that is under way. False where there is no pipe for it. */
+/* From here on a signal is noted, and ends a wait and a transfer that is under way. False if there is no pipe for it. */
 bool stop_catch(void);
 
-/* The signal that came, 0 where none did. */
+/* The signal that came, 0 if none did. */
 int stop_signal(void);
 
 /* A file descriptor that can be read once one came, for poll. */

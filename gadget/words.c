@@ -49,7 +49,7 @@ static bool refuse(const char *name, const char *why)
     return false;
 }
 
-/* A decimal number, with K or M behind it for 1024 or 1048576 of them where it counts bytes. */
+/* A decimal number, with K or M after it for 1024 or 1048576 of them if it counts bytes. */
 static bool take_number(const char *text, bool is_size, uint32_t least, uint32_t most, uint32_t *number)
 {
     uint64_t found = 0;
@@ -146,7 +146,7 @@ bool words_option(struct words *words, const char *name, const char *value)
         if (strcmp(option->name, name) != 0)
             continue;
         if (option->val < CONTROLLER || option->val == CONFIG || option->val >= HELP)
-            return refuse(name, "it can't stand in the file of --config");
+            return refuse(name, "it can't be in the file of --config");
         if (option->has_arg != optional_argument && (option->has_arg == required_argument) != (value != NULL))
             return refuse(name, value == NULL ? "it takes a word" : "it takes no word");
         return take(words, option->val, value);

@@ -13,14 +13,14 @@ struct words {
     enum job job;
     const char *medium;       /* MEDIUM */
     const char *image;        /* IMAGE of format */
-    uint32_t most;            /* --most, 0 where it wasn't given */
+    uint32_t most;            /* --most, 0 if it wasn't given */
     uint32_t tries;           /* --tries, 0 if it wasn't given: then no image runs on trial */
     uint32_t at;              /* AT of confirm */
     bool force;
-    const char *controller;   /* NULL where it wasn't given */
-    const char *config;       /* NULL where it wasn't given */
+    const char *controller;   /* NULL if it wasn't given */
+    const char *config;       /* NULL if it wasn't given */
     const char *application, *upgrade;  /* the gadgets of both modes */
-    const char *command;      /* of --on-installed, NULL where it wasn't given */
+    const char *command;      /* of --on-installed, NULL if it wasn't given */
     const char *check;        /* of --check, NULL if it wasn't given */
     const char *root;
     bool dfu_mode, dry_run, verbose;
@@ -30,11 +30,11 @@ struct words {
     uint32_t busy_ms, manifest_ms, least;
 };
 
-/* Reads the words into `words`, and the file of --config before them, so that the words win. STATUS_DONE; or STATUS_WORDS where they
-   aren't understood, or STATUS_FILE where the file can't be read, which is said. */
+/* Reads the words into `words`, and the file of --config before them, so that the words win. STATUS_DONE; or STATUS_WORDS if they
+   aren't understood, or STATUS_FILE if the file can't be read, which is said. */
 int words_read(struct words *words, int count, char **texts);
 
-/* Takes an option by its name, as the command line or the file has it; `value` is NULL where there is none. False, which is said. */
+/* Takes an option by its name, as the command line or the file has it; `value` is NULL if there is none. False, which is said. */
 bool words_option(struct words *words, const char *name, const char *value);
 
 /* Reads the file of --config. STATUS_DONE, or as words_read. */

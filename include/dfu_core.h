@@ -111,7 +111,7 @@ enum dfu_result {
 /** @brief Kinds of operations of the flash. */
 enum dfu_operation {
     DFU_ERASE = 1,  /**< the sector at `at`, of `length` bytes, is to read FFh; `bytes` says nothing */
-    DFU_PROGRAM = 2 /**< the first `length` bytes of `bytes` are to stand at `at`; with sectors FFh stands there before */
+    DFU_PROGRAM = 2 /**< the first `length` bytes of `bytes` go to `at`; with sectors there is FFh before */
 };
 
 /** @brief What a device is set up with; the same in every call. */
@@ -158,9 +158,9 @@ struct dfu_record {
     uint32_t slot;        /**< the active slot, 0 or 1 */
     uint16_t number;      /**< as above */
     uint16_t length;      /**< modes 3 and 5: so many bytes at the front of the block's memory are not written yet */
-    uint8_t header[16];   /**< the header of the active slot, as it stands on the flash */
+    uint8_t header[16];   /**< the header of the active slot, as it is on the flash */
     uint32_t work;        /**< which operations are due: 0 none, 1 of a block, 2 those that put an image in place, 3 of a format */
-    uint32_t spare;       /**< of what is due: where the spare slot begins; of a format, how much of the image stands before its part */
+    uint32_t spare;       /**< of what is due: where the spare slot begins; of a format, how much of the image comes before its part */
     uint32_t sum;         /**< of what is due: the image's register */
     uint32_t done;        /**< of what is due: how many bytes are carried out; of a format, in its part */
     uint32_t asked;       /**< 0, or 1 more than wLength of the GETSTATUS that waits */
@@ -178,7 +178,7 @@ struct dfu_ask {
     uint8_t bytes[256]; /**< of DFU_PROGRAM */
 };
 
-/** @brief Where the active image stands: its first byte is flash[at]. */
+/** @brief Where the active image is: its first byte is flash[at]. */
 struct dfu_place {
     uint32_t at;     /**< offset in the flash, bytes */
     uint32_t length; /**< bytes; 0: there is no application */
@@ -216,7 +216,7 @@ int32_t dfu_core_elapse(const struct dfu_config *config, struct dfu_record *reco
 int32_t dfu_core_usb_reset(const struct dfu_config *config, struct dfu_record *record, uint8_t *block, size_t most,
                            const uint8_t *flash, size_t size);
 
-/** @brief The operation that is due. It lies in the spare slot of the flash as it stands, whatever the record holds; in a whole unit or
+/** @brief The operation that is due. It lies in the spare slot of the flash as it is, whatever the record holds; in a whole unit or
  *         sector if the record is as the last call left it. It may be asked for again.
  * @return 0; DFU_NO_CONFIG, DFU_NO_BLOCK, DFU_NO_DEVICE (none is due, or the flash is not as it was left) */
 int32_t dfu_core_next(const struct dfu_config *config, const struct dfu_record *record, const uint8_t *block, size_t most,
@@ -272,11 +272,11 @@ int32_t dfu_core_state(const struct dfu_record *record);
  * @return enum dfu_status; DFU_NO_DEVICE as dfu_core_state */
 int32_t dfu_core_code(const struct dfu_record *record);
 
-/** @brief Where the active image stands, until the next one is put in place.
+/** @brief Where the active image is, until the next one is put in place.
  * @return 0; DFU_NO_CONFIG, DFU_NO_MEDIUM */
 int32_t dfu_core_image(const struct dfu_config *config, const uint8_t *flash, size_t size, struct dfu_place *place);
 
-/** @brief Begins a format: the image, of 0 bytes or more, is to go into the first slot, whatever stands on the flash. Until it ends the
+/** @brief Begins a format: the image, of 0 bytes or more, is to go into the first slot, whatever is on the flash. Until it ends the
  *         other calls are refused with DFU_ASKED. The image is the same in all three calls: the record keeps no pointer.
  * @return DFU_ASKS; DFU_NO_CONFIG, DFU_NO_MEDIUM (2^32 bytes or more), DFU_WRONG_SIZE, DFU_TOO_LARGE */
 int32_t dfu_core_format_start(const struct dfu_config *config, struct dfu_record *record, const uint8_t *flash, size_t size,

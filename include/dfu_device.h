@@ -34,14 +34,14 @@
  *
  * Rules of the loop:
  * - THE WORK, dfu_device_work, writes the block or puts the image in place. Call it right after each answer is out, in one go: no
- *   clock is asked, the host waits meanwhile, and gets NAK if it asks. It comes before the next request and a reset too, as
+ *   clock is asked, the host waits while it works, and gets NAK if it asks. It comes before the next request and a reset too, as
  *   dfu_device_serve and dfu_device_reset have it: a host may be early, and a stack may not say that an answer is out. Without it a
  *   request is an error, and a reset ends the upgrade; either drops what was taken.
  * - Passing milliseconds are for appDETACH alone. The times of dfuDNBUSY and dfuMANIFEST pass in the work.
  * - The reset that counts is the first reset, or unplugging, after a SET_CONFIGURATION of another value than 0. Hosts reset a device
  *   twice as they enumerate it, and a second reset would lead from dfuIDLE to appIDLE. The first enumeration of a device that began in
  *   dfuIDLE has none that counts.
- * - The time until a block or an image stands is busy_ms and manifest_ms: DFU_BLOCK_ERASES and DFU_BLOCK_PROGRAMS times what the part
+ * - The time until a block or an image is written is busy_ms and manifest_ms: DFU_BLOCK_ERASES and DFU_BLOCK_PROGRAMS times what the part
  *   needs at most. With 0 they are written before the GETSTATUS is answered; for fwupd manifest_ms should be 0 if the device is tolerant.
  * - A stack that acknowledges a data stage as it takes it (Linux's FunctionFS does) asks before it: dfu_device_work, then
  *   dfu_device_would_stall. 1: dfu_device_handle with any body of that length, and stall the setup. 0: receive the data stage.
@@ -55,7 +55,7 @@
  * and so that the device goes on from where it was:
  * - The configuration stays. Record, block and flash are as the last call left them. A record begins with power_on or begin, after each
  *   loss of power.
- * - Flash reads as it stands: caches are invalidated once an operation is carried out. Only the operations that are asked for change it.
+ * - Flash reads as it is: caches are invalidated once an operation is carried out. Only the operations that are asked for change it.
  *   One that a loss of power breaks off may leave any bytes in its range, and no other byte changed.
  *
  * What to do on a refusal. Stall the request, and:
@@ -107,7 +107,7 @@ extern "C" {
  *     128 KiB, erased by 2,048, programmed by  64: DFU_MEDIUM_SIZE( 64, 2048,  61440): images of up to  60 KiB
  *     256 KiB, erased by 4,096, programmed by 256: DFU_MEDIUM_SIZE(256, 4096, 122880): images of up to 120 KiB
  *
- *  A microcontroller's own flash has so much less as its bootloader takes. An image stands in either slot, and no host can choose
+ *  A microcontroller's own flash has so much less as its bootloader takes. An image is in either slot, and no host can choose
  *  which: bring it to the one place for which it is linked by dfu_install.h. */
 #define DFU_MEDIUM_SIZE(unit, sector, capacity) (2 * (2 * DFU_GATE(unit, sector) + (capacity)))
 
@@ -289,7 +289,7 @@ static inline int32_t dfu_device_reset(struct dfu_device *d) {
     return worked < 0 ? worked : dfu_device_usb_reset(d);
 }
 
-/** @brief Puts an image of 0 bytes or more into the first slot, whatever stands on the flash, by the driver. A loss of power within it
+/** @brief Puts an image of 0 bytes or more into the first slot, whatever is on the flash, by the driver. A loss of power within it
  *         may leave no image. Then call dfu_device_power_on. @return 0; as the calls of a format */
 static inline int32_t dfu_device_format(struct dfu_device *d, const uint8_t *image, size_t length) {
     int32_t n = dfu_device_format_start(d, image, length);

@@ -29,7 +29,7 @@
  *     stalled                                                  DFU_SEEN_STALL
  *     not finished for any other reason, as a timeout          DFU_SEEN_NOTHING
  *     the device left unasked, or somebody else reset it       DFU_SEEN_RESTART, once it is back, before all else
- *     the device left of itself after the close                DFU_SEEN_LEFT in place of that, before all else
+ *     the device left by itself after the close                DFU_SEEN_LEFT in place of that, before all else
  * - A device that leaves because of DFU_RESET, or of a DETACH that it acknowledged, does what it was asked to: that is no
  *   restart. The next action is for the device once it is open again. DFU_SEEN_RESET is the answer to DFU_RESET then too.
  * - Each DFU_SEEN_RESTART spends one of the session's restarts, and the host asks for the device's state again.
@@ -79,7 +79,7 @@
 #define DFU_VERSION_TEXT "0.3.0"
 #endif
 
-/* Before a member of 8 bytes: it stands at a multiple of 8, also if the processor's ABI asks for less. */
+/* Before a member of 8 bytes: it is at a multiple of 8, also if the processor's ABI asks for less. */
 #if defined(__cplusplus)
 #define DFU_ALIGNED_8 alignas(8)
 #elif defined(__STDC_VERSION__) && __STDC_VERSION__ >= 201112L
@@ -145,7 +145,7 @@ enum {
     DFU_SEEN_WAIT = 4,    /* DFU_WAIT: the time has passed */
     DFU_SEEN_RESET = 5,   /* DFU_RESET: the bus was reset */
     DFU_SEEN_RESTART = 6, /* the device was restarted unasked */
-    DFU_SEEN_LEFT = 7,    /* the device left of itself after the close, to start its new image */
+    DFU_SEEN_LEFT = 7,    /* the device left by itself after the close, to start its new image */
     /* The same by older names. */
     DFU_ACK = DFU_SEEN_ACK,
     DFU_BYTES = DFU_SEEN_BYTES,
@@ -159,7 +159,7 @@ enum {
 /* Reports. Only DFU_INSTALLED and DFU_VERIFIED say that the payload is in place. */
 enum {
     DFU_INSTALLED = 1,       /* a tolerant device took all of it, said so, and was reset */
-    DFU_UNCONFIRMED = 2,     /* a device that can't tell took all of it, and was reset or left of itself */
+    DFU_UNCONFIRMED = 2,     /* a device that can't report it took all of it, and was reset or left by itself */
     DFU_ABORTED = 3,         /* the program gave up */
     DFU_GAVE_UP = 4,         /* the actions are spent */
     DFU_REFUSED = 5,         /* the device was in dfuERROR with a code */

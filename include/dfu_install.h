@@ -10,7 +10,7 @@
  *     struct dfu_place place;                        // after dfu_device_power_on, once the device is in appIDLE
  *
  *     if (dfu_device_image(&dfu, &place) == 0 && dfu_install_settle(&install, flash + place.at, place.length) == 0)
- *         start what stands at run
+ *         start what is at run
  *     else
  *         stay in the bootloader: the host may install another image
  *
@@ -23,10 +23,10 @@
  *   use up the trial. If the mark fails, the image before it is settled, and started.
  *
  * What the program owes:
- * - What it owes for dfu_device.h, of the run area too: it reads as it stands, and an operation changes no byte outside its range.
+ * - What it owes for dfu_device.h, of the run area too: it reads as it is, and an operation changes no byte outside its range.
  * - dfu_install.area.last is DFU_NOWHERE after each loss of power, and else as the last call left it. Whatever it is, 0 comes only if
  *   the run area holds the whole image. A part with ECC, whose pieces are programmed once, needs it.
- * - The application writes no sector of its image. What it keeps in the sectors after it stays. Bytes behind the image in its last
+ * - The application writes no sector of its image. What it keeps in the sectors after it stays. Bytes after the image in its last
  *   sector are not compared, and are lost when that sector is erased.
  * - Images have at most `size` bytes: a larger one is refused at each start with DFU_TOO_LARGE. With a run area of at least as many bytes
  *   as a slot's data there is none.

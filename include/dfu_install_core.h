@@ -32,7 +32,7 @@ struct dfu_run_area {
 
 /** @brief What is due next, so that the run area comes to hold the image.
  * @param image  the image that is to be started, `length` bytes
- * @param run    the run area, `size` bytes, whole in its sectors, as it stands
+ * @param run    the run area, `size` bytes, whole in its sectors, as it is now
  * @param ask    an erase of a whole sector, or a program of 256 bytes: `at` is an offset in the run area
  * @return 0: the run area holds the whole image, which may be started; DFU_ASKS: ask has the operation that is due;
  *         DFU_WRONG_SIZE, DFU_NO_IMAGE, DFU_TOO_LARGE (the image has more than size bytes), and ask is as it was */

@@ -59,13 +59,13 @@ struct dfu_trial {
 };
 
 /** @brief As dfu_core_trial_look. */
-static inline int32_t dfu_trial_look(const struct dfu_trial *t, struct dfu_standing *told) {
-    return dfu_core_trial_look(&t->tries, t->flash, t->size, told);
+static inline int32_t dfu_trial_look(const struct dfu_trial *t, struct dfu_standing *standing) {
+    return dfu_core_trial_look(&t->tries, t->flash, t->size, standing);
 }
 
 /** @brief As dfu_core_trial_start. */
-static inline int32_t dfu_trial_start(const struct dfu_trial *t, struct dfu_ask *ask, struct dfu_starting *told) {
-    return dfu_core_trial_start(&t->tries, t->flash, t->size, ask, told);
+static inline int32_t dfu_trial_start(const struct dfu_trial *t, struct dfu_ask *ask, struct dfu_starting *starting) {
+    return dfu_core_trial_start(&t->tries, t->flash, t->size, ask, starting);
 }
 
 /** @brief As dfu_core_trial_runs. */

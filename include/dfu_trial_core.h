@@ -31,7 +31,7 @@ struct dfu_tries {
     uint32_t tries;  /**< how often a new image is started: 2 or more, 3 is advised */
 };
 
-/** @brief How the images of a flash stand. */
+/** @brief The state of the two images of a flash. */
 struct dfu_standing {
     struct dfu_place active; /**< the active image: the one on trial, if there is one */
     struct dfu_place base;   /**< the confirmed image, which comes back if that on trial is not confirmed; else the active one */
@@ -40,23 +40,23 @@ struct dfu_standing {
     uint32_t is_confirmed;   /**< 1 if the active image is confirmed, else 0 */
 };
 
-/** @brief What a start comes to. */
+/** @brief What is started. */
 struct dfu_starting {
     struct dfu_place run;       /**< what runs */
     struct dfu_place otherwise; /**< what runs if the mark of this start does not read set */
 };
 
-/** @brief How the images stand.
+/** @brief The state of the images.
  * @return 0; DFU_NO_CONFIG (no such unit, or no such sector), DFU_NO_SECTORS, DFU_FEW_TRIES, DFU_MANY_TRIES, DFU_NO_MEDIUM (no active
- *         image, or 2^32 bytes or more), and told is as it was */
-int32_t dfu_core_trial_look(const struct dfu_tries *tries, const uint8_t *flash, size_t size, struct dfu_standing *told);
+ *         image, or 2^32 bytes or more), and standing is as it was */
+int32_t dfu_core_trial_look(const struct dfu_tries *tries, const uint8_t *flash, size_t size, struct dfu_standing *standing);
 
 /** @brief What starts, and the operation that comes before: on trial the mark of the next start; without one left the erase of the gate of
  *         the image on trial.
- * @return 0: told.run is started; DFU_ASKS: ask has the operation, and dfu_core_trial_runs tells what is started once it was carried out
+ * @return 0: starting.run is started; DFU_ASKS: ask has the operation, and dfu_core_trial_runs says what is started once it was carried out
  *         or failed; the refusals of dfu_core_trial_look, and nothing changed */
 int32_t dfu_core_trial_start(const struct dfu_tries *tries, const uint8_t *flash, size_t size, struct dfu_ask *ask,
-                             struct dfu_starting *told);
+                             struct dfu_starting *starting);
 
 /** @brief What is started, once that operation was carried out or failed: a mark is read back, whatever the driver answered.
  * @return 0 */

@@ -1,5 +1,5 @@
 /* SPDX-License-Identifier: MIT OR Apache-2.0 */
-/* DfuSe files (ST's UM0391), for a program in C: what is to stand where in a device's memory, as the elements of a session of
+/* DfuSe files (ST's UM0391), for a program in C: which bytes belong at which addresses of a device's memory, as the elements of a session of
  * dfuse_host.h. They are part of the same archive, which takes no memory and has no state.
  *
  * A file has an alternate setting for each memory of a device, and elements for it, each an address and bytes. Behind these comes a suffix
@@ -16,7 +16,7 @@
  * What is proved:
  * - dfuse_read_file answers 0 exactly for the files of the grammar, and each other with its first fault.
  * - dfuse_file_image lists the elements of all targets for a setting, each once and no others, in the order of the file. The bytes of each
- *   are those of the file; they stand in it, and are not copied.
+ *   are those of the file; they are in it, and are not copied.
  * Whether elements overlap, or are on a device's memory map, is not looked at: dfuse_begin refuses that. Nor is whether the file is for the
  * device at hand. */
 #ifndef DFUSE_FILE_H
@@ -56,8 +56,8 @@ enum {
     DFUSE_FILE_BAD_TARGET = -82,    /* a target says another size than it has */
     DFUSE_FILE_PAST_TARGET = -83,   /* an element has fewer bytes than it says, or is missing */
     DFUSE_FILE_EMPTY_ELEMENT = -84, /* an element has no bytes */
-    DFUSE_FILE_PAST_THE_END = -85,  /* an element ends behind address FFFFFFFFh */
-    DFUSE_FILE_TRAILING = -86       /* there are more bytes behind the last target */
+    DFUSE_FILE_PAST_THE_END = -85,  /* an element ends past address FFFFFFFFh */
+    DFUSE_FILE_TRAILING = -86       /* there are more bytes after the last target */
 };
 
 /* and why a file has no image for a setting. */

@@ -1,6 +1,6 @@
 /* SPDX-License-Identifier: MIT OR Apache-2.0 */
 /* The host of DfuSe, ST's variant of USB DFU (bcdDFUVersion 011Ah), for a program in C: which request or wait comes next until the
- * bytes of an image stand at their addresses in a device's memory, and were read back.
+ * bytes of an image are at their addresses in a device's memory, and were read back.
  *
  * The library sends nothing, takes no memory and has no state. The program keeps the record of the session, does what
  * dfuse_next says, and reports to dfuse_take what came of it. It is part of the same archive as dfu_host.h.
@@ -52,11 +52,11 @@ extern "C" {
 
 /* What a map has. */
 struct dfuse_map {
-    DFU_ALIGNED_8 uint64_t name;   /* how many bytes its name has, which stand behind the '@' */
+    DFU_ALIGNED_8 uint64_t name;   /* how many bytes its name has, which follow the '@' */
     DFU_ALIGNED_8 uint64_t ranges; /* how many ranges there are, 1 to 32 */
 };
 
-/* A range: pages of one size, one behind the other. */
+/* A range: pages of one size, one after the other. */
 struct dfuse_range {
     DFU_ALIGNED_8 uint64_t start; /* the address of the first byte, under 2^32 */
     DFU_ALIGNED_8 uint64_t size;  /* how many bytes each page has; the range ends by address FFFFFFFFh */
@@ -66,7 +66,7 @@ struct dfuse_range {
 /* What may be done with a page: bits of access. */
 enum { DFUSE_READABLE = 1, DFUSE_ERASABLE = 2, DFUSE_WRITABLE = 4 };
 
-/* A part of an image: so many bytes, and the address at which they are to stand. A pointer takes 8 bytes also with a processor of 32
+/* A part of an image: so many bytes, and the address at which they belong. A pointer takes 8 bytes also with a processor of 32
  * bits, so set the members by their names, and none but these three. */
 struct dfuse_element {
     uint32_t address;
@@ -94,7 +94,7 @@ struct dfuse_plan {
  * does not have is 0. */
 struct dfuse_session {
     uint32_t version, work;              /* DFU_VERSION of the archive; what it works at */
-    DFU_ALIGNED_8 uint64_t at, end;      /* the address at which the work stands; up to which it goes, if it says so itself */
+    DFU_ALIGNED_8 uint64_t at, end;      /* the address at which the host works; up to which it goes, if it says so itself */
     DFU_ALIGNED_8 uint64_t pointer;      /* the device's address pointer, if it is known */
     uint32_t place, step, more, report;  /* whether it is known, 0 to 2; which step, 0 to 14; its time or a code; the report */
     uint32_t start, actions;             /* as in the plan; actions left */
@@ -146,14 +146,14 @@ enum {
 enum {
     DFUSE_NO_ROOM = -43,         /* the buffer has fewer bytes than the body */
     DFUSE_NO_RANGE = -44,        /* the map has no range of that number */
-    DFUSE_NO_MAP = -51,          /* the string doesn't begin with @, or has no / behind the name */
+    DFUSE_NO_MAP = -51,          /* the string doesn't begin with @, or has no / after the name */
     DFUSE_BAD_ADDRESS = -52,     /* there isn't an address of one to eight hexadecimal digits, and a / */
     DFUSE_BAD_COUNT = -53,       /* there isn't a count of one to five digits, from 1 on, and a * */
     DFUSE_BAD_SIZE = -54,        /* there isn't a size of one to five digits, from 1 on */
-    DFUSE_BAD_TYPE = -55,        /* there isn't a letter from a to g behind the size and its unit */
-    DFUSE_PAST_THE_END = -56,    /* a range ends behind address FFFFFFFFh */
+    DFUSE_BAD_TYPE = -55,        /* there isn't a letter from a to g after the size and its unit */
+    DFUSE_PAST_THE_END = -56,    /* a range ends past address FFFFFFFFh */
     DFUSE_TOO_MANY_RANGES = -57, /* there are over 32 ranges */
-    DFUSE_TRAILING = -58,        /* behind a range there is neither the end, nor , nor / */
+    DFUSE_TRAILING = -58,        /* after a range there is neither the end, nor , nor / */
     DFUSE_OVERLAPS = -59,        /* two ranges share an address */
     DFUSE_NO_TRANSFER = -61,     /* the plan's transfer is 0 */
     DFUSE_EMPTY = -62,           /* there is no element, or one without bytes */

@@ -11,7 +11,7 @@ const WORDS = {
   SecurityError: `The system does not let this page open the device. ${RULE} ${DRIVER}`,
   NetworkError: `Another program or a driver has the device. Close it, and connect again. ${DRIVER}`,
   TimeoutError: 'The device does not answer. Plug it in again.',
-  [NOT_DFU]: 'The device has no DFU interface in the configuration that it stands in.',
+  [NOT_DFU]: 'The device has no DFU interface in the configuration that it is in.',
   [SEVERAL]: 'The device has several memories, and none was chosen.',
 }
 

@@ -25,7 +25,7 @@ export class Asking {
     this.finish = null
   }
 
-  // The device that a person chooses, or null where it doesn't come back. One that was there all the time isn't it.
+  // The device that a person chooses, or null if it doesn't come back. One that was there all the time isn't it.
   choose(bystanders) {
     const pick = async () => {
       const device = await this.usb.requestDevice({ filters: FILTERS }).catch(() => null)

@@ -33,7 +33,7 @@ export function cut(descriptor) {
   return bytes
 }
 
-// A clean session takes up to 4 actions a block, one more where it is compared, and some 20 around them. Twice that for losses and for
+// A clean session takes up to 4 actions a block, one more if it is compared, and some 20 around them. Twice that for losses and for
 // a device that asks to be polled often, the same again for each restart that is taken, and 300 for a device that was left in the
 // midst of something.
 export function limitsOf(payload, descriptor) {
@@ -47,8 +47,8 @@ const ODD = [REFUSAL.BAD_DESCRIPTOR, REFUSAL.SHORT, REFUSAL.LONG, REFUSAL.WRONG_
 const isOdd = refusal => ODD.includes(refusal)
 
 // In run-time mode the functional descriptor says no more than how the device is brought to DFU mode, and there it has one that counts
-// (USB DFU 1.1, section 4.2.4, has them alike). So where that of an interface of run-time mode is odd another one is taken in its place.
-// session.js sees to it that no block is sent by that. Null where none does.
+// (USB DFU 1.1, section 4.2.4, has them alike). So if that of an interface of run-time mode is odd another one is taken in its place.
+// session.js sees to it that no block is sent by that. Null if none does.
 export function standIn(is, refusal) {
   if (!is.saysRuntime || !isOdd(refusal)) return null
   const another = new Uint8Array([FUNCTIONAL.BYTES, FUNCTIONAL.TYPE, ATTRIBUTE.CAN_DOWNLOAD | ATTRIBUTE.CAN_UPLOAD,

@@ -1,6 +1,6 @@
 // SPDX-License-Identifier: MIT OR Apache-2.0
-// The device of a session: opened, let go, and found again where it left. WebUSB tells of no device where it is plugged in. So it
-// is found again as one that was not there before, of which there is no second: with the same serial number, where both have one.
+// The device of a session: opened, let go, and found again after it left. WebUSB doesn't say to which port a device is plugged in. So it
+// is found again as one that was not there before, of which there is no second: with the same serial number, if both have one.
 // One that the page may not see a person has to choose. That it is no other board session.js sees, by what it was before in the
 // same mode.
 import { LATE } from './clock.js'
@@ -45,7 +45,7 @@ export async function peek(device, clock, settings) {
 }
 
 export class Board {
-  // place: { interface, alternate } in DFU mode, where one was chosen. ask: what a person is asked for, as flash.js has it.
+  // place: { interface, alternate } in DFU mode, if one was chosen. ask: what a person is asked for, as flash.js has it.
   constructor(usb, clock, ask, place = {}) {
     Object.assign(this, { usb, clock, ask, place, handle: null, hasLeft: false, isMany: false, returns: 0, bystanders: new Set() })
     this.onDisconnect = event => {
@@ -60,7 +60,7 @@ export class Board {
     return this.handle !== null
   }
 
-  // The devices that are there with this one are others, also where this one is away.
+  // The devices that are there with this one are others, also if this one is away.
   async choose(device) {
     for (const one of await this.usb.getDevices()) if (one !== device) this.bystanders.add(one)
     await this.open(device)
@@ -89,7 +89,7 @@ export class Board {
     return within(this.clock, promise)
   }
 
-  // Where there is one setting a device may stall the request, and stands in it all the same. Where there are several, a block that
+  // If there is one setting a device may stall the request, and is in it all the same. If there are several, a block that
   // goes to another one is harm.
   async set(device, setting) {
     try {
@@ -117,8 +117,8 @@ export class Board {
     return this.close()
   }
 
-  // Closes it and opens it again, which ends a transfer that is under way. 'same' where the device heard nothing of that, 'anew'
-  // where it may have, 'left' where it isn't there, and 'stuck' where it can't be closed or had again.
+  // Closes it and opens it again, which ends a transfer that is under way. 'same' if the device heard nothing of that, 'anew'
+  // if it may have, 'left' if it isn't there, and 'stuck' if it can't be closed or had again.
   async renew() {
     const device = this.handle
     if (!await this.close()) return 'stuck'
@@ -138,7 +138,7 @@ export class Board {
       && (this.serial === '' || !one.serialNumber || one.serialNumber === this.serial))
   }
 
-  // One that left may stand in the list for a moment, and can't be opened.
+  // One that left may be in the list for a moment, and can't be opened.
   async isOpened(device) {
     try {
       await this.open(device)

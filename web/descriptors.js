@@ -32,8 +32,8 @@ export function settingsOf(device) {
 export const releaseOf = device =>
   (device.deviceVersionMajor << 8) | (device.deviceVersionMinor << 4) | device.deviceVersionSubminor
 
-// The functional descriptor of a setting in the bytes of a configuration: the one behind that setting, else behind another one of
-// its interface, else before all interfaces. It has 9 bytes, or 7 in DFU 1.0; no bytes where there is none that is whole.
+// The functional descriptor of a setting in the bytes of a configuration: the one after that setting, else after another one of
+// its interface, else before all interfaces. It has 9 bytes, or 7 in DFU 1.0; no bytes if there is none that is whole.
 export function functionalIn(bytes, number, alternate) {
   const found = { own: null, other: null, before: null }
   let place = 'before'
@@ -47,7 +47,7 @@ export function functionalIn(bytes, number, alternate) {
   return found.own ?? found.other ?? found.before ?? new Uint8Array(0)
 }
 
-// iInterface of a setting in the bytes of a configuration, the index of its name; 0 where it has none.
+// iInterface of a setting in the bytes of a configuration, the index of its name; 0 if it has none.
 function nameIndexIn(bytes, number, alternate) {
   for (let at = 0; at + INTERFACE_BYTES <= bytes.length && bytes[at] >= 2; at += bytes[at])
     if (bytes[at + 1] === INTERFACE && bytes[at] === INTERFACE_BYTES && bytes[at + 2] === number && bytes[at + 3] === alternate)
@@ -73,7 +73,7 @@ async function configurationBytes(device, clock) {
   return new Uint8Array(0)
 }
 
-// The string of that index of an open device, in the first language that it has; empty where there is none.
+// The string of that index of an open device, in the first language that it has; empty if there is none.
 export async function nameAt(device, clock, index) {
   const languages = index === 0 ? [] : await descriptor(device, clock, STRING, 0, STRING_BYTES)
   if (languages.length < 4) return ''
@@ -84,7 +84,7 @@ export async function nameAt(device, clock, index) {
 }
 
 // What an open device says of a setting: its functional descriptor, from its configuration, or asked for; and its name. With DfuSe that is
-// a memory map, which a browser need not tell.
+// a memory map, which a browser need not show.
 export async function saidOf(device, clock, setting) {
   const bytes = await configurationBytes(device, clock)
   const found = functionalIn(bytes, setting.interface, setting.alternate)

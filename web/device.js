@@ -49,7 +49,7 @@ export class Device extends Library {
     this.power()
   }
 
-  // Carries out an operation, bytes that are to stand there: whether that was done.
+  // Carries out an operation, bytes that are to be there: whether that was done.
   carryOut({ at, bytes }) {
     this.mediumBytes().set(bytes, at)
     return true
@@ -94,7 +94,7 @@ export class Device extends Library {
     taken(this.calls.dfu_core_power_on(...[this.config, this.kept, this.medium, this.size].map(BigInt)))
   }
 
-  // The bytes of the answer, none where it is acknowledged; null for a stall.
+  // The bytes of the answer, none if it is acknowledged; null for a stall.
   handle(setup, body = new Uint8Array(0)) {
     this.bytes(this.setup, 8).set(setup)
     this.bytes(this.body, body.length).set(body)
@@ -150,7 +150,7 @@ export class Device extends Library {
     return taken(this.calls.dfu_core_code(BigInt(this.kept)))
   }
 
-  // Where the active image stands on the medium.
+  // Where the active image is on the medium.
   imagePlace() {
     taken(this.calls.dfu_core_image(...[this.config, this.medium, this.size, this.place].map(BigInt)))
     return this.read('dfu_place', this.place)

@@ -13,7 +13,7 @@ import { fileOf } from './suffix.js'
 // 32 bytes are written last: without them an application doesn't start.
 const MOST_BYTES = 4096
 const FRONT_BYTES = 32
-const PAGE_POLLS = 1000  // GETSTATUS while a page is erased, if the device tells no times
+const PAGE_POLLS = 1000  // GETSTATUS while a page is erased, if the device reports no times
 const BLOCK_ACTIONS = 60 // of a block, with one that is asked for its status again and again
 const RESTARTS = 3
 const MOST_ACTIONS = 0xffffffff
@@ -53,7 +53,7 @@ function ofPayload(host, module, { bytes, isRaw }, ids, address) {
   return refusal === 0 ? { elements: host.whole(address, reader.payload) } : { refusal }
 }
 
-// What is to stand where, or { refusal }. ids: for which device the file has to be.
+// The elements with their addresses, or { refusal }. ids: for which device the file has to be.
 export const imageOf = (host, module, file, ids, { setting, address }) =>
   (file.isDfuse ? ofDfuse(host, file, ids, setting) : ofPayload(host, module, file, ids, address))
 

@@ -33,7 +33,7 @@ export class DfuseHost extends Library {
     return refusal === 0 ? this.read('dfuse_file', at) : { refusal }
   }
 
-  // One behind the other; where they begin.
+  // One after the other; where they begin.
   putElements(elements) {
     const { size } = LAYOUT.dfuse_element
     const at = this.reserve(elements.length * size)
@@ -41,7 +41,7 @@ export class DfuseHost extends Library {
     return at
   }
 
-  // The elements of a DfuSe file for a setting, in the order of the file; or { refusal }. Their bytes stand in the file.
+  // The elements of a DfuSe file for a setting, in the order of the file; or { refusal }. Their bytes are in the file.
   readElements(setting) {
     const places = this.putElements(Array.from({ length: MOST_ELEMENTS }, () => ({ address: 0, bytes: this.file, length: 0 })))
     const count = this.reserve(8)
@@ -83,7 +83,7 @@ export class DfuseHost extends Library {
     return this.calls.dfuse_begin(BigInt(this.session), ...this.words, BigInt(this.record('dfuse_plan', plan)))
   }
 
-  // What is to be done, with its setup and its body; null where the library refuses the record.
+  // What is to be done, with its setup and its body; null if the library refuses the record.
   next() {
     const words = [BigInt(this.session), ...this.words, BigInt(this.body), BigInt(MOST_BODY), BigInt(this.action)]
     if (this.calls.dfuse_next(...words) !== 0) return null
@@ -99,7 +99,7 @@ export class DfuseHost extends Library {
     return this.calls.dfuse_take(BigInt(this.session), ...this.words, seen, BigInt(this.answer), BigInt(bytes.length)) === 0
   }
 
-  // The record, to be read: what it works at, and where that stands.
+  // The record, to be read: what it works at, and at which address.
   state() {
     return this.read('dfuse_session', this.session)
   }

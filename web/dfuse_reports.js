@@ -11,7 +11,7 @@ const PROTECTION = 'To take the protection away erases all of the memory, and is
 const REPORTS = {
   [OUTCOME.VERIFIED]: ['verified', 0, "each byte was read back from the device's memory, and is the file's", 'Verified',
     'Each byte of the image was read back from the device\'s memory, and is the file\'s.',
-    'It doesn\'t mean that the new firmware runs, or that the file is the right one for this board. And a device that tells untruths ' +
+    'It doesn\'t mean that the new firmware runs, or that the file is the right one for this board. And a device that reports something false ' +
     'can give back what was sent.'],
   [OUTCOME.DIFFERENT]: ['different', 9, "a byte that was read back from the device's memory isn't the file's", 'Not the same bytes',
     'A byte that was read back from the device\'s memory isn\'t the file\'s.',
@@ -30,7 +30,7 @@ const REPORTS = {
     'In its application', 'The device is in its application, and no longer in DFU mode.', MAYBE],
 }
 
-// How the device left, behind what Verified means; and the same for a person.
+// How the device left, after what Verified means; and the same for a person.
 const LEAVINGS = {
   [LEAVING.STAYED]: ['; the device stays in DFU mode', ' The device stays in DFU mode.'],
   [LEAVING.LEFT]: ['; the device starts its application', ' The device starts its application.'],
@@ -42,7 +42,7 @@ export function dfuseVerdictOf(ended, session) {
   if (ended.end !== 'report') return { ...verdictOf(ended, session), says: '' }
   const [name, ...row] = REPORTS[ended.report]
   const [status, words, title, means, not] = session.hasSent ? row : ofUnsent(row)
-  const [behind, meant] = ended.report === OUTCOME.VERIFIED ? LEAVINGS[ended.more] : ['', '']
+  const [leaving, meant] = ended.report === OUTCOME.VERIFIED ? LEAVINGS[ended.more] : ['', '']
   const code = ended.report === OUTCOME.REFUSED && ended.more !== 0 ? CODES[ended.more] : ''
-  return { name, status, words: words + behind, title, means: means + meant, not, code, says: ended.says }
+  return { name, status, words: words + leaving, title, means: means + meant, not, code, says: ended.says }
 }

@@ -1,5 +1,5 @@
 // SPDX-License-Identifier: MIT OR Apache-2.0
-// A download with DfuSe: what the proved host asks for is carried out, and it is told what came of that. It decides alone what is erased
+// A download with DfuSe: what the proved host asks for is carried out, and what came of that is reported to it. It decides alone what is erased
 // and written, what counts as read back, and when the device is asked to leave. As flash/dfuse_begin.c and flash/dfuse_session.c.
 import { deviceRefusal, imageOf, limitsOf, planOf, totalOf, wordsRefusal } from './dfuse_begin.js'
 import { LEAVING, OUTCOME, WORK } from './dfuse_host.js'
@@ -12,13 +12,13 @@ const MOST_SILENT = 24  // transfers in a row without any answer, and the device
 const CLOSED_SILENT = 3 // so many once it was asked to leave, and it is taken as gone
 const SHORT_WAITS = 3   // waits of 0 ms for one command, and it is asked less often
 const SHORT_WAIT_MS = 5
-const CLOSED_STEP = 12  // of leaving: the DNLOAD of no bytes, and what comes behind it
+const CLOSED_STEP = 12  // of leaving: the DNLOAD of no bytes, and what comes after it
 const ERASE_COMMAND = 0x41
 const STRING_AT = 5     // iString of a status
 const NONE = new Uint8Array(0)
 const ABORT = new Uint8Array([KIND.OUT, REQUESTS.indexOf('ABORT'), 0, 0, 0, 0, 0, 0])
 
-// Whether the memory may be another one behind it.
+// Whether the memory may be another one after it.
 function changes({ setup, body }) {
   return isDownload(setup) && body.length > 0 && (partsOf(setup).value !== 0 || body[0] === ERASE_COMMAND)
 }

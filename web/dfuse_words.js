@@ -15,7 +15,7 @@ export class DfuseWords {
     return by('address').value.trim()
   }
 
-  // Null where there is none.
+  // Null if there is none.
   address() {
     return IS_ADDRESS.test(this.text()) ? parseInt(this.text(), 16) : null
   }

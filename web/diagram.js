@@ -1,5 +1,5 @@
 // SPDX-License-Identifier: MIT OR Apache-2.0
-// The states of a device (USB DFU 1.1, appendix A), drawn, with the one lit up in which it stands. The picture is narrow enough to be
+// The states of a device (USB DFU 1.1, appendix A), drawn, with the one lit up in which it is. The picture is narrow enough to be
 // read on a phone; docs/pictures/states.svg has the rules of each arrow.
 import { STATES } from './names.js'
 
@@ -12,7 +12,7 @@ const BOX = 26
 const PLACES = [[115, 24, 84], [340, 24, 110], [340, 102, 84], [340, 180, 144], [115, 180, 104], [340, 258, 136], [340, 332, 154],
   [115, 332, 112], [125, 406, 190], [115, 102, 142], [115, 258, 88]]
 
-// The way of each arrow, and what leads along it: the text, its place, and which part of the text stands there.
+// The way of each arrow, and what leads along it: the text, its place, and which part of the text is there.
 const ARROWS = [
   ['M157 18H283', 'DETACH', 221, 12, 'middle'],
   ['M285 30H159', 'time', 221, 44, 'middle'],
@@ -68,7 +68,7 @@ export class Diagram {
   }
 
   show(state) {
-    this.svg.setAttribute('aria-label', `The states of a device. It stands in ${STATES[state]}.`)
+    this.svg.setAttribute('aria-label', `The states of a device. It is in ${STATES[state]}.`)
     for (const group of this.svg.querySelectorAll('[data-state]'))
       group.setAttribute('class', group.dataset.state === STATES[state] ? 'now' : '')
   }

@@ -9,7 +9,7 @@ export function make(tag, properties = {}, ...children) {
   return element
 }
 
-// Shows a text where there is one, and hides its element where there is none.
+// Shows a text if there is one, and hides its element if there is none.
 export function say(id, text) {
   by(id).textContent = text
   by(id).hidden = text === ''

@@ -47,7 +47,7 @@ export class Host extends Library {
     return call(BigInt(this.session), ...file, ...words, BigInt(this.record('dfu_ids', ids)), actions, restarts)
   }
 
-  // What is to be done, with its setup and its body; null where the library refuses the record.
+  // What is to be done, with its setup and its body; null if the library refuses the record.
   next() {
     const words = [this.session, this.file, this.payload, this.action].map(BigInt)
     if (this.calls.dfu_host_next(...words) !== 0) return null
@@ -87,7 +87,7 @@ export class Host extends Library {
     return this.copy(this.kept, this.state().kept)
   }
 
-  // An upload has room for one more answer behind what came. The buffer stands last in the memory, and grows there.
+  // An upload has room for one more answer after what came. The buffer is last in the memory, and grows there.
   growKept() {
     if (!this.isUpload) return
     const wanted = this.state().kept + MOST_ANSWER

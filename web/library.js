@@ -1,6 +1,6 @@
 // SPDX-License-Identifier: MIT OR Apache-2.0
 // A proved library in WebAssembly, with its memory. Of both sizes a pointer and a size_t are BigInt (wasm64). The libraries take no
-// memory of their own: what stands behind __heap_base is this file's. It is handed out from the front, and given back as a whole,
+// memory of their own: what follows __heap_base is this file's. It is handed out from the front, and given back as a whole,
 // with the instance. Each instance is its own: two sessions in two instances share nothing.
 import { LAYOUT, readRecord, writeRecord } from './records.js'
 
@@ -40,7 +40,7 @@ export class Library {
     return new DataView(this.calls.memory.buffer)
   }
 
-  // A record with these fields, and 0 in the others; where it begins. Where it has a version it gets that of the library.
+  // A record with these fields, and 0 in the others; where it begins. If it has a version it gets that of the library.
   record(name, values = {}) {
     const at = this.reserve(LAYOUT[name].size)
     writeRecord(this.view(), name, at, { version: this.version(), ...values })

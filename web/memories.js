@@ -10,7 +10,7 @@ import { refusalOf } from './refusals.js'
 const LETTERS = 'Its pages can be read (r), erased (e) and written (w).'
 
 export class Memories {
-  // onChoice is told the setting that a person chooses.
+  // onChoice gets the setting that a person chooses.
   constructor(module, onChoice) {
     Object.assign(this, { module, onChoice })
     this.hide()
@@ -28,8 +28,8 @@ export class Memories {
     const rows = settings.map((one, at) => this.row(one, this.inputs[at]))
     const legend = by('settings').firstElementChild
     legend.textContent = settings.length > 1 ? 'It has several memories. Which one?' : 'Its memory'
-    const behind = this.isDfuse ? [make('p', { className: 'small' }, LETTERS)] : []
-    by('settings').replaceChildren(legend, ...rows, ...behind)
+    const notes = this.isDfuse ? [make('p', { className: 'small' }, LETTERS)] : []
+    by('settings').replaceChildren(legend, ...rows, ...notes)
     by('settings').hidden = false
   }
 

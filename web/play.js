@@ -131,7 +131,7 @@ export class PlayView {
   showDevice() {
     const { device, printed } = this.world
     this.diagram.show(device.state())
-    by('state').textContent = `It stands in ${STATES[device.state()]}, with the status ${CODES[device.code()]}.`
+    by('state').textContent = `It is in ${STATES[device.state()]}, with the status ${CODES[device.code()]}.`
     this.before = showMedium(by('medium'), device, this.before)
     const image = device.image()
     const last = this.isOver ? by('play-refused').textContent : `image ${image.length === 0 ? '-' : hexOf(image)}`

@@ -6,7 +6,7 @@ import { isDetach, isDownload, isUpload, partsOf } from './names.js'
 const LONG_MS = 3000 // a wait of more than this is said
 const SOON_MS = 1500 // until then a rate says little
 
-const PHASES = { ask: 'Asking the device where it stands', detach: 'Bringing the device to DFU mode', reset: 'Resetting the device',
+const PHASES = { ask: 'Asking the device for its state', detach: 'Bringing the device to DFU mode', reset: 'Resetting the device',
   erase: 'Erasing the pages of the image', send: 'Sending the image', compare: 'Reading the image back, and comparing it' }
 const MEASURED = ['erase', 'send', 'compare']
 
@@ -16,7 +16,7 @@ export class Progress {
     Object.assign(this, { total, now, show, phase: 'ask', bytes: 0, began: 0 })
   }
 
-  // A step of the session: before its action is carried out, and with its answer behind it.
+  // A step of the session: before its action is carried out, and with its answer after it.
   step(action, answer) {
     const phase = this.phaseOf(action) ?? this.phase
     if (phase !== this.phase) Object.assign(this, { phase, bytes: 0, began: this.now() })

@@ -1,7 +1,7 @@
 // SPDX-License-Identifier: MIT OR Apache-2.0
 // The records of dfu_host.h, dfuse_host.h, dfuse_file.h and dfu_core.h of include/, as they lie in the memory of the libraries. This is
 // the one place that knows them: the fields in their order, with their types, a pointer as u64. tests/web holds them against the headers.
-// Where each field stands follows by the rules of C: a number stands at a multiple of its size, and a record ends at one of its largest.
+// Where each field is follows by the rules of C: a number is at a multiple of its size, and a record ends at one of its largest.
 export const RECORDS = {
   dfu_ids: 'u16 device, u16 product, u16 vendor',
   dfu_file: 'u64 payload, u32 suffix, u32 crc, u16 device, u16 product, u16 vendor, u16 dfu',
@@ -45,11 +45,11 @@ function placed(text) {
   return { fields, size: Math.ceil(at / widest) * widest }
 }
 
-// By the name of the record: its size, and of each field where it stands, how many bytes a number of it has, and how many numbers
+// By the name of the record: its size, and of each field its place, how many bytes a number of it has, and how many numbers
 // an array has, 0 for none.
 export const LAYOUT = Object.fromEntries(Object.entries(RECORDS).map(([name, text]) => [name, placed(text)]))
 
-// Writes these fields of the record that stands there; the others stay as they are. A field that the record hasn't is left out.
+// Writes these fields of the record that is there; the others stay as they are. A field that the record hasn't is left out.
 export function writeRecord(view, name, record, values) {
   for (const [field, value] of Object.entries(values)) {
     const place = LAYOUT[name].fields[field]

@@ -10,7 +10,7 @@ const REFUSALS = {
   [-2]: ['NoSignature', 'the file has no DFU suffix; `dfu add` gives it one',
     'If it is a raw image, this page can do so too.'],
   [-3]: ['BadLength', "the suffix's length is under 16 or over the file's", OTHER_FILE],
-  [-4]: ['DfuSe', 'the file is a DfuSe file, which is another format', 'It is for STM32\'s own tools, or for dfu-util.'],
+  [-4]: ['DfuSe', 'the file is a DfuSe file, which is another format', 'Choose a device in DFU mode that speaks DfuSe, as one of STM32.'],
   [-5]: ['BadCrc', "the file's check sum is wrong: it was changed or cut", 'Download the file again.'],
   [-7]: ['TooLarge', 'the file has over 16777216 bytes', OTHER_FILE],
   [-21]: ['EmptyPayload', 'the file has no image in it', OTHER_FILE],

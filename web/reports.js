@@ -6,17 +6,17 @@ export const MAYBE = 'The device may have the old image, the new one or neither.
 const UNTOUCHED = 'No block was sent: the device has the image that it had.'
 export const AGAIN = 'Connect it again, and flash it again.'
 
-// By name: status, words, title, what it means, and what it doesn't; the last is left out where it would say nothing more.
+// By name: status, words, title, what it means, and what it doesn't; the last is left out if it would say nothing more.
 const REPORTS = {
-  'installed': [0, 'the device took the whole image, told that it is in place, and was reset', 'Installed',
+  'installed': [0, 'the device took the whole image, reported that it is in place, and was reset', 'Installed',
     'The device took the whole image, said itself that it is in place, and was reset.',
     'The image was not read back: that it is in place is what the device says. And it doesn\'t mean that the new firmware runs.'],
   'verified': [0, "after a reset the device gave the image back, and it is the file's", 'Verified',
     'After a reset the device gave back the image that it has, and each byte is the file\'s.',
-    'It doesn\'t mean that the new firmware runs, or that the file is the right one for this board. And a device that tells untruths ' +
+    'It doesn\'t mean that the new firmware runs, or that the file is the right one for this board. And a device that reports something false ' +
     'can give back what was sent.'],
   'unconfirmed': [8, "the device took the whole image and was reset; it can't tell whether it is in place", 'Sent, not confirmed',
-    'The device took the whole image and started anew, and nothing tells more than that.',
+    'The device took the whole image and started anew, and nothing more is known.',
     'It doesn\'t mean that the image is in place. Look at what the board does, or at the version that it shows.'],
   'different': [9, "after a reset the device gave back another image than the file's", 'Not the same image',
     'After a reset the device gave back other bytes than the file has.',
@@ -24,7 +24,7 @@ const REPORTS = {
   'refused': [6, 'the device refused it; it may have the old image, the new one or neither', 'Refused by the device',
     'The device stopped with an error of its own.', MAYBE],
   'aborted': [11, 'given up by Ctrl-C or a signal; the device may have the old image, the new one or neither', 'Given up',
-    'You gave it up. A device that still answers was told so.', MAYBE],
+    'You gave it up. A device that still answers was sent an ABORT.', MAYBE],
   'gave-up': [7, 'the limit of actions is spent; the device may have the old image, the new one or neither', 'Given up',
     'It took far more requests than it should, and came to no end.', MAYBE],
   'restarts-spent': [7, 'the device restarted too often; it may have the old image, the new one or neither', 'The device restarts',
@@ -49,7 +49,7 @@ const REPORTS = {
     'The page lost track of the session.', MAYBE],
 }
 
-// The same, where the device took the whole image and was to give it back.
+// The same, if the device took the whole image and was to give it back.
 const UNCOMPARED = {
   'gone': [10, 'the device took the whole image, left, and did not come back to be compared; see --no-verify and --wait',
     'Sent, not compared', 'The device took the whole image, left, and did not come back to be compared.',
@@ -61,7 +61,7 @@ const UNCOMPARED = {
 
 const HARM = ' may have the old image, the new one or neither'
 
-// What a device may have is said only where a block was sent.
+// What a device may have is said only if a block was sent.
 export function ofUnsent([status, words, title, means, not]) {
   if (!words.endsWith(HARM)) return [status, words, title, means, not]
   return [status, `${words.slice(0, words.lastIndexOf(';'))}; no block was sent`, title, means, UNTOUCHED]

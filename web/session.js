@@ -1,12 +1,12 @@
 // SPDX-License-Identifier: MIT OR Apache-2.0
-// The loop: what the host asks for is carried out, and it is told what came of that. Nothing else is sent, but for the DETACH of
+// The loop: what the host asks for is carried out, and what came of that is reported to it. Nothing else is sent, but for the DETACH of
 // stalls.js. As flash/session.c. What speaks DfuSe has its own loop in dfuse_session.js.
 import { cut, goalOf, isDfuse, limitsOf, standIn } from './begin.js'
 import { SEEN, WHAT } from './host.js'
 import { isDownload, isUpload } from './names.js'
 import { Stalls } from './stalls.js'
 
-// So many transfers in a row without any answer, 5 seconds each where a device is there and dead, and it is given up.
+// So many transfers in a row without any answer, 5 seconds each if a device is there and dead, and it is given up.
 const MOST_SILENT = 24
 const NONE = new Uint8Array(0)
 
@@ -19,8 +19,8 @@ export const isAgain = (first, now) => first.vendor === now.vendor && first.prod
   && first.alternate === now.alternate && sameText(first.serial, now.serial) && sameText(first.name, now.name)
 
 export class Session {
-  // ids: for which device the file has to be. limits: { actions, restarts }, or null for those by the file's size. onStep is told each
-  // action before it is carried out, and its answer behind it.
+  // ids: for which device the file has to be. limits: { actions, restarts }, or null for those by the file's size. onStep gets each
+  // action before it is carried out, and its answer after it.
   constructor(host, wire, { wantsVerified, ids, limits = null, onStep = () => {} }) {
     Object.assign(this, { host, wire, board: wire.board, clock: wire.clock, trace: wire.trace, wantsVerified, ids, limits, onStep })
     Object.assign(this, { first: {}, stalls: new Stalls(wire), odd: 0 })
@@ -70,7 +70,7 @@ export class Session {
     return !this.board.isOpen() || !is.isUpgrade || sameBytes(is.descriptor, this.known)
   }
 
-  // A device that left is found again before it is asked anything; and where it is another one then, nothing is sent to it. An aborted
+  // A device that left is found again before it is asked anything; and if it is another one then, nothing is sent to it. An aborted
   // session asks a device that is away no more.
   async send(action) {
     if (!this.wire.isReady()) {
@@ -92,7 +92,7 @@ export class Session {
     return answer
   }
 
-  // How the session ends in place of what the host asks for, or null. By a descriptor that stands in for the device's nothing of an
+  // How the session ends in place of what the host asks for, or null. By a descriptor that is used in place of the device's nothing of an
   // image is sent or fetched.
   barred(action) {
     const isOfImage = action.what === WHAT.SEND && (isDownload(action.setup) || isUpload(action.setup))

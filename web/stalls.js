@@ -1,6 +1,6 @@
 // SPDX-License-Identifier: MIT OR Apache-2.0
 // Devices that stall what they are asked for in run-time mode, and the one request that is this page's own. A device in run-time
-// mode may stall GETSTATUS: in appIDLE the standard has it answered (USB DFU 1.1, appendix A.2.1), and many leave it out. Where it is
+// mode may stall GETSTATUS: in appIDLE the standard has it answered (USB DFU 1.1, appendix A.2.1), and many leave it out. If it is
 // stalled twice the host has the bus reset, and asks again. So before the first of these resets the page sends a DETACH of its own,
 // which makes it the reset that leads to DFU mode; and it makes three of them at most, since what is reset is a running application.
 // As flash/stalls.c and flash/detach.c.
@@ -8,7 +8,7 @@ import { SEEN } from './host.js'
 import { ATTRIBUTE, FUNCTIONAL, KIND, REQUEST, detachTimeOf, hasAttribute } from './names.js'
 
 const MOST_RESETS = 3
-const NO_DESCRIPTOR_MS = 1000 // wDetachTimeOut where there is no functional descriptor to tell it
+const NO_DESCRIPTOR_MS = 1000 // wDetachTimeOut if there is no functional descriptor
 const ARRIVAL_MS = 5000       // a device may be in run-time mode still, and leave a while after the reset
 const LOOK_MS = 200
 const NONE = new Uint8Array(0)
@@ -55,7 +55,7 @@ export class Stalls {
     }
   }
 
-  // Resets the bus, as the host asks for it. Where the device left after that DETACH it is reset already.
+  // Resets the bus, as the host asks for it. If the device left after that DETACH it is reset already.
   async reset() {
     const { wire } = this
     const isFirst = this.isLast && this.resets === 0 && wire.board.is.saysRuntime

@@ -16,7 +16,7 @@ const textOf = bytes => (bytes.length === 0 ? '-' : hexOf(bytes))
 export class ScriptEnd extends Error {}
 
 export class World {
-  // onAction is told each action of the host: what it was, what became of it, and what it was answered.
+  // onAction gets each action of the host: what it was, what became of it, and what it was answered.
   constructor(modules, onAction = () => {}) {
     Object.assign(this, { modules, onAction, device: null, host: null, number: 0, actions: 0, printed: [] })
     const functional = { attributes: 7, detach_ms: 255, transfer: 8 }
@@ -40,7 +40,7 @@ export class World {
     }
   }
 
-  // Plays a line. Where it is refused the script is over, and a ScriptEnd says what is printed.
+  // Plays a line. If it is refused the script is over, and a ScriptEnd says what is printed.
   play(text) {
     this.number++
     const line = lineOf(text)
@@ -89,14 +89,14 @@ export class World {
     else this.host.abort()
   }
 
-  // What comes from outside, a reset of the bus or a cut of the power, is told the host.
+  // What comes from outside, a reset of the bus or a cut of the power, is reported to the host.
   outside(call) {
     call()
     this.host?.take(SEEN.RESTART)
     this.end()
   }
 
-  // The host's report, where it is done.
+  // The host's report, if it is done.
   end() {
     const action = this.host?.next() ?? null
     if (action === null || action.what !== WHAT.DONE) return
@@ -154,7 +154,7 @@ export class World {
     return setup[0] === KIND.OUT ? { seen: SEEN.ACK } : { seen: SEEN.BYTES, bytes }
   }
 
-  // What the host wants next; null where there is none.
+  // What the host wants next; null if there is none.
   wanted() {
     const action = this.host?.next() ?? null
     return action === null || action.what === WHAT.DONE ? null : action

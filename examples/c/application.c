@@ -1,5 +1,5 @@
 /* SPDX-License-Identifier: MIT OR Apache-2.0 */
-/* An application in run-time mode: it answers DETACH and leaves for its bootloader. It links no library. A host stands in for the USB
+/* An application in run-time mode: it answers DETACH and leaves for its bootloader. It links no library. A host takes the place of the USB
  * stack. Each request prints the answer and the state. */
 #include <stdio.h>
 

@@ -1,5 +1,5 @@
 /* SPDX-License-Identifier: MIT OR Apache-2.0 */
-/* The smallest flasher: it installs a file on a device, verifies it, and prints the report. `act` stands for a USB stack: here
+/* The smallest flasher: it installs a file on a device, verifies it, and prints the report. `act` is in place of a USB stack: here
  * it hands each action to the device library, in the same program. */
 #include <stdio.h>
 #include <string.h>

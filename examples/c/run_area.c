@@ -1,6 +1,6 @@
 /* SPDX-License-Identifier: MIT OR Apache-2.0 */
-/* A bootloader whose images are linked for one address. A NOR part, a model here, has two slots and behind them a run area, in sectors of
- * 4,096 bytes; the application runs in the run area, and keeps data of its own behind it. At each power-on the run area is brought to the
+/* A bootloader whose images are linked for one address. A NOR part, a model here, has two slots and after them a run area, in sectors of
+ * 4,096 bytes; the application runs in the run area, and keeps data of its own after it. At each power-on the run area is brought to the
  * active image, and then it is started. The power goes once on the way, in the middle of a program. Each operation prints its place. */
 #include <stdio.h>
 #include <string.h>

@@ -1,7 +1,7 @@
 /* SPDX-License-Identifier: MIT OR Apache-2.0 */
-/* Control transfers over a serial line, which stands for USB here. A frame is a kind, a number, its bytes and a check sum, between two
- * bytes END, as in SLIP (RFC 1055). The host sends one frame and waits for the answer with the same number; the device says nothing to a
- * frame that is damaged, and the host takes silence for a transfer that was lost. */
+/* Control transfers over a serial line, in place of USB. A frame is a kind, a number, its bytes and a check sum, between two
+ * bytes END, as in SLIP (RFC 1055). The host sends one frame and waits for the answer with the same number; the device does not
+ * answer a damaged frame, and the host takes silence as a lost transfer. */
 #ifndef FRAMES_H
 #define FRAMES_H
 #include <stddef.h>
@@ -9,11 +9,11 @@
 
 enum {
     /* From the host. */
-    FRAME_SETUP = 1, /* the 8 bytes of a setup, and behind them the data stage, where the host sends one */
+    FRAME_SETUP = 1, /* the 8 bytes of a setup, and after them the data stage, if the host sends one */
     FRAME_RESET = 2, /* the bus is reset */
     FRAME_ABOUT = 3, /* what USB asks for when a device is connected: its ids and its functional descriptor */
     /* From the device. */
-    FRAME_ANSWER = 4, /* the transfer is acknowledged; where the device answers, with its bytes */
+    FRAME_ANSWER = 4, /* the transfer is acknowledged; if the device answers, with its bytes */
     FRAME_STALL = 5,
     FRAME_TEXT = 6 /* the image that runs says something; no answer */
 };
@@ -31,7 +31,7 @@ struct frame {
     uint8_t is_escaped, is_bad;
 };
 
-/* Takes the next byte: 1 where it ends a frame that is whole, else 0. */
+/* Takes the next byte: 1 if it ends a frame that is whole, else 0. */
 int frame_take(struct frame *frame, uint8_t byte);
 
 /* Sends a frame by `put`, byte by byte. */

@@ -18,7 +18,7 @@
 #define MEDIUM_SIZE DFU_MEDIUM_SIZE(16, PAGE, CAPACITY)
 #define RUN (MEDIUM + MEDIUM_SIZE)
 
-/* The memory behind the bootloader's is the image's. */
+/* The memory after the bootloader's is the image's. */
 #define IMAGE_MEMORY 0x20002000u
 #define IMAGE_MEMORY_END 0x20004000u
 

@@ -107,24 +107,24 @@ void on_text(const uint8_t *text, uint32_t length) {
         frame_send(serial_put, FRAME_TEXT, 0, text, length < 64 ? length : 64);
 }
 
-/* Whether the image at this place may start, and stands in the run area. */
-static int is_ready(const struct dfu_place *place, struct signed_image *told) {
+/* Whether the image at this place may start, and is in the run area. */
+static int is_ready(const struct dfu_place *place, struct signed_image *image) {
     struct dfu_install install = {.run = flash_run, .size = CAPACITY, .area = {PAGE, DFU_NOWHERE}, .driver = &run_driver};
-    return signed_may_start(&board, place, told) && told->program % 4 == 0
+    return signed_may_start(&board, place, image) && image->program % 4 == 0
         && dfu_install_settle(&install, flash_medium + place->at, place->length) == 0;
 }
 
 /* The image that is to run: one that may not start ends its trial, and a start on trial is marked once it is ready. */
-static int find_image(struct dfu_place *place, struct signed_image *told) {
+static int find_image(struct dfu_place *place, struct signed_image *image) {
     struct dfu_standing standing;
     if (dfu_trial_look(&trial, &standing) != 0)
         return 0;
-    int is_active_ready = is_ready(&standing.active, told);
+    int is_active_ready = is_ready(&standing.active, image);
     if (!is_active_ready && (!standing.on_trial || dfu_trial_give_up(&trial) != 0))
         return 0;
     if (dfu_trial_boot(&trial, place) != 0)
         return 0;
-    return (is_active_ready && place->at == standing.active.at) || is_ready(place, told);
+    return (is_active_ready && place->at == standing.active.at) || is_ready(place, image);
 }
 
 static void set_up(void) {
@@ -140,18 +140,18 @@ static void set_up(void) {
 int main(void) {
     enum note note = note_taken();
     struct dfu_place place;
-    struct signed_image told;
+    struct signed_image image;
     serial_begin();
     clock_begin();
     set_up();
     /* Without an active image this board was never made: it does nothing. One that may not start leaves the upgrade in dfuIDLE. */
-    int is_to_run = note == NOTE_NONE && find_image(&place, &told);
+    int is_to_run = note == NOTE_NONE && find_image(&place, &image);
     while ((is_to_run ? dfu_device_power_on(&device) : dfu_device_begin(&device)) != 0)
         __asm__ volatile("wfi");
     is_upgrading = dfu_device_state(&device) > DFU_STATE_APP_DETACH;
     if (is_to_run) {
         running = place.at;
-        image_start(flash_run + told.program, told.length);
+        image_start(flash_run + image.program, image.length);
     }
     return 0;
 }

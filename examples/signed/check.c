@@ -34,7 +34,7 @@ static uint32_t number(const uint8_t *at) {
     return word(at) | (uint32_t)word(at + 2) << 16;
 }
 
-/* So many more bytes are within the image: `at` goes behind them, 1; else 0. */
+/* So many more bytes are within the image: `at` goes past them, 1; else 0. */
 static int go_on(size_t *at, size_t count, size_t length) {
     if (*at > length || count > length - *at)
         return 0;
@@ -167,29 +167,29 @@ static enum signed_verdict fits(const struct signed_rules *rules, const struct s
     return number(value) < rules->least ? SIGNED_OLDER : SIGNED_TAKEN;
 }
 
-static void tell(const struct signed_bytes *bytes, const struct layout *found, struct signed_image *told) {
+static void describe(const struct signed_bytes *bytes, const struct layout *found, struct signed_image *image) {
     uint8_t header[HEADER], value[COUNTER_LENGTH];
     take(bytes, 0, header, HEADER);
     take(bytes, found->counter, value, COUNTER_LENGTH);
-    told->program = (uint32_t)found->header;
-    told->length = number(header + 12);
-    told->counter = number(value);
-    told->major = header[20];
-    told->minor = header[21];
-    told->revision = word(header + 22);
-    told->build = number(header + 24);
+    image->program = (uint32_t)found->header;
+    image->length = number(header + 12);
+    image->counter = number(value);
+    image->major = header[20];
+    image->minor = header[21];
+    image->revision = word(header + 22);
+    image->build = number(header + 24);
 }
 
-enum signed_verdict signed_check(const struct signed_rules *rules, const struct signed_bytes *bytes, struct signed_image *told) {
+enum signed_verdict signed_check(const struct signed_rules *rules, const struct signed_bytes *bytes, struct signed_image *image) {
     struct layout found;
     enum signed_verdict verdict = find(bytes, &found);
-    memset(told, 0, sizeof *told);
+    memset(image, 0, sizeof *image);
     if (verdict == SIGNED_TAKEN)
         verdict = is_signed(rules, bytes, &found);
     if (verdict == SIGNED_TAKEN)
         verdict = fits(rules, bytes, &found);
     if (verdict == SIGNED_TAKEN)
-        tell(bytes, &found, told);
+        describe(bytes, &found, image);
     return verdict;
 }
 

@@ -38,7 +38,7 @@ struct signed_rules {
     uint32_t least;    /* the least security counter: that of the confirmed image */
 };
 
-/* What comes of a check, in the order in which it is looked at. */
+/* The result of a check; the first that applies. */
 enum signed_verdict {
     SIGNED_TAKEN,
     SIGNED_NO_HEADER,       /* shorter than a header, or another magic number */
@@ -62,10 +62,10 @@ struct signed_image {
     uint32_t build;
 };
 
-/* Checks an image. Of one that is taken, `told` says what it is; else `told` is zeros. */
-enum signed_verdict signed_check(const struct signed_rules *rules, const struct signed_bytes *bytes, struct signed_image *told);
+/* Checks an image. Of one that is taken, `image` says what it is; else `image` is zeros. */
+enum signed_verdict signed_check(const struct signed_rules *rules, const struct signed_bytes *bytes, struct signed_image *image);
 
-/* The security counter of an image that was checked when it was put in place, or 0 where it has none: no signature is looked at. */
+/* The security counter of an image that was checked when it was put in place, or 0 if it has none: no signature is looked at. */
 uint32_t signed_counter(const struct signed_bytes *bytes);
 
 /* The status of USB DFU 1.1 for an image that is refused: errTARGET (1) if the maker signed it, and not for this board or not as new as

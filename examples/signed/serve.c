@@ -32,7 +32,7 @@ static int32_t check(struct signed_board *board) {
     const struct dfu_device *device = board->device;
     struct dfu_place place;
     struct signed_bytes bytes;
-    struct signed_image told;
+    struct signed_image image;
     int32_t refusal = confirmed(board, &place);
     if (refusal != 0)
         return refusal;
@@ -44,7 +44,7 @@ static int32_t check(struct signed_board *board) {
     bytes = bytes_at(device, &place);
     bytes.tail = device->record.held;
     bytes.tail_length = device->record.held_length;
-    board->verdict = signed_check(&board->rules, &bytes, &told);
+    board->verdict = signed_check(&board->rules, &bytes, &image);
     return 0;
 }
 
@@ -64,9 +64,9 @@ int32_t signed_serve(struct signed_board *board, const uint8_t setup[8], const u
     return n < 0 ? n : dfu_device_serve(device, setup, body, out, room);
 }
 
-int signed_may_start(struct signed_board *board, const struct dfu_place *place, struct signed_image *told) {
+int signed_may_start(struct signed_board *board, const struct dfu_place *place, struct signed_image *image) {
     const struct signed_bytes bytes = bytes_at(board->device, place);
     board->rules.least = 0;
-    board->verdict = signed_check(&board->rules, &bytes, told);
+    board->verdict = signed_check(&board->rules, &bytes, image);
     return board->verdict == SIGNED_TAKEN;
 }

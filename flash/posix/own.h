@@ -7,7 +7,7 @@
    call. */
 int own_rename(const char *from, const char *to);
 
-/* SIGTERM comes to this process where the one that began it ends, if the system has that. */
+/* SIGTERM comes to this process when the one that began it ends, if the system has that. */
 void own_end_with_parent(void);
 
 #endif

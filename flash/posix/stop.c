@@ -53,7 +53,7 @@ static void on_stop(int number)
     errno = before;
 }
 
-/* Where there is no pipe, a wait is ended all the same, but for a signal that comes just before it. */
+/* If there is no pipe, a wait is ended all the same, but for a signal that comes just before it. */
 static void make_pipe(void)
 {
     if (wake[0] >= 0 || pipe(wake) != 0)
@@ -77,7 +77,7 @@ static bool is_ignored(int number)
     return sigaction(number, NULL, &now) == 0 && now.sa_handler == SIG_IGN;
 }
 
-/* A terminal that is closed is no reason to stop where the program was started to ignore that (nohup); nor is a reader that is gone,
+/* A terminal that is closed is no reason to stop if the program was started to ignore that (nohup); nor is a reader that is gone,
    as `head` in a pipe. */
 void stop_catch(uint32_t seconds)
 {

@@ -25,7 +25,7 @@
 #define GRACE_MS 10000 /* after --timeout or a signal; a session needs at most 8 seconds to give up */
 #define NAME_ROOM 4096
 
-/* A name in FOLDER that is free: the path of the bay, and a number. To be freed; NULL where there is none. */
+/* A name in FOLDER that is free: the path of the bay, and a number. To be freed; NULL if there is none. */
 static char *log_name(const char *folder, const char *path)
 {
     char *name = malloc(NAME_ROOM);
@@ -69,7 +69,7 @@ static void work(const struct words *all, struct image *image, const struct bay 
     exit(one_run(&words, image, has_rows ? PROGRESS_ROWS : PROGRESS_SILENT));
 }
 
-/* The pipes of the first process, which are marked to be closed, aren't open here; and where it ends this one gives up. */
+/* The pipes of the first process, which are marked to be closed, aren't open here; and if it ends this one gives up. */
 static void leave_first(int out, int err, pid_t first)
 {
     stop_anew();
@@ -207,7 +207,7 @@ bool worker_has_ended(struct worker *worker, int *status, const char **why)
 
 void worker_stop(struct worker *worker, int64_t deadline_ms)
 {
-    /* SIGTERM comes where this process ends: a second signal of one kind would end that one at once. */
+    /* SIGTERM comes when this process ends: a second signal of one kind would end that one at once. */
     kill(worker->process, SIGINT);
     if (worker->deadline_ms == 0 || worker->deadline_ms > deadline_ms)
         worker->deadline_ms = deadline_ms;

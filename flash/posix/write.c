@@ -81,7 +81,7 @@ static bool write_all(int out, const uint8_t *bytes, size_t length)
     return fsync(out) == 0;
 }
 
-/* The owner and the rights of the old file. Where its owner or its group can't be kept, the new group gets what all others had,
+/* The owner and the rights of the old file. If its owner or its group can't be kept, the new group gets what all others had,
    of whom it was one. A new file has the rights that any new file of the user has. */
 static bool set_rights(int out, const struct stat *there)
 {

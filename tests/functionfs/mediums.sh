@@ -21,7 +21,7 @@ rm medium
 ./gadget format medium --most 4065 old
 equal 'one byte more is a sector more' 16384 "$(stat -c %s medium)"
 cp medium before
-refused 1 'something stands there already' format medium --most 5000 new
+refused 1 'there is something already' format medium --most 5000 new
 is 'it is kept' cmp -s medium before
 is 'with --force' ./gadget format medium --force --most 5000 new
 holds 'with --force' new
@@ -29,7 +29,7 @@ refused 1 'longer than --most' format medium --force --most 25 new
 holds 'a longer image' new
 echo text > text
 cp text before
-refused 1 'something stands there already' format text --most 5000 new
+refused 1 'there is something already' format text --most 5000 new
 is 'a text is kept' cmp -s text before
 : > empty
 is 'an empty file' ./gadget format empty --most 5000 new
@@ -79,7 +79,7 @@ is 'a medium in use' grep -q 'is in use by another dfu-gadget' err
 chmod 666 medium
 refused 1 'warning: other users may write it' format medium --most 5000 old
 chmod 600 medium
-refused 1 'something stands there already' format medium --most 5000 old
+refused 1 'there is something already' format medium --most 5000 old
 is 'no warning' test "$(grep -c warning err)" -eq 0
 
 # As nobody, where the tests run as root.

@@ -80,14 +80,14 @@ fate='swap 4'
 row 0 new 'verified: ' USB_SERIAL=OTHER new.dfu
 fate=
 
-# Where the system tells no ports a path says of no device which it is: it is found again by its serial number alone.
+# If the system names no ports a path says of no device which it is: it is found again by its serial number alone.
 for number in 0 4 12; do
     fate="leave $number"
     row 0 new 'verified: ' 'USB_PATH=1 USB_DEVICES=2 USB_AWAY=4' --serial F1 new.dfu
 done
 fate='leave 4'
 row 4 old '' USB_PATH=1 new.dfu
-says 'the system tells no ports'
+says 'the system names no ports'
 expect 'no ports: nothing is sent' is_untouched
 fate=
 # And one that was asked for at its path is found nowhere else: the other board has the same serial number here.
@@ -196,7 +196,7 @@ expect 'a wait is broken off' test "$code" -eq 11
 expect 'a wait is broken off: the old image' cmp old saved
 says 'may not be opened: LIBUSB_ERROR_ACCESS'
 says 'ATTR{idVendor}=="1209", ATTR{idProduct}=="0001"'
-# Where the system tells no ports, what is said then is of no other board.
+# If the system names no ports, what is said then is of no other board.
 env LD_LIBRARY_PATH="$work" USB_PATH=1 USB_DEVICES=2 USB_OTHER_DENIED=3 USB_AWAY=100000 USB_FATE='leave 4' USB_IMAGE="$work/old" \
     timeout --preserve-status -s INT 1 ./dfu-flash --serial F1 new.dfu > out 2> err || code=$?
 expect 'no ports: nothing is said of another board' test "$(grep -c 'may not be opened' err)" -eq 0

@@ -116,7 +116,7 @@ for words in 'new.dfu -- --json' '-- new.dfu --limits 1 1' 'new.dfu --limits 1' 
 done
 row 0 new 'verified: ' '' 5
 row 2 - '' '' --wait 5
-says 'a number behind --wait is its seconds'
+says 'a number after --wait is its seconds'
 row 2 - '' '' --wait 0 new.dfu
 
 # Where no device is the one that is asked for, what none has is named, and what is there.

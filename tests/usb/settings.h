@@ -32,7 +32,7 @@ struct settings {
     struct ids app, dfu, swapped;      /* in run-time mode, in DFU mode, and of another board in its place */
     const char *serial;
     uint8_t bus, ports[PORTS];
-    unsigned port_count;               /* 0: the system tells no ports */
+    unsigned port_count;               /* 0: the system names no ports */
     bool starts_in_app;
     bool app_has_dfu, app_has_usb;     /* what the application has */
     bool app_stalls_status, app_stalls_all; /* what its DFU interface stalls */

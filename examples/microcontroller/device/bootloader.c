@@ -106,7 +106,7 @@ static int is_installed(const struct dfu_place *place) {
     return dfu_install_settle(&install, flash_medium + place->at, place->length) == 0;
 }
 
-/* What is to run stands in the run area. After a fault no image is started, but for one on trial, as often as it may be. */
+/* What is to run is in the run area. After a fault no image is started, but for one on trial, as often as it may be. */
 static int is_ready(enum note note, struct dfu_place *place) {
     if (TRIES == 0)
         return note != NOTE_FAULT && dfu_device_image(&device, place) == 0 && is_installed(place);

@@ -14,8 +14,8 @@
 #define CC1 TIMER(0x544)
 #define OF_COMPARE0 (1u << 16)
 
-/* When the time was told last, in microseconds. */
-static uint32_t told;
+/* When the time was passed on last, in microseconds. */
+static uint32_t last;
 
 static uint32_t now(void) {
     CAPTURE1 = 1;
@@ -26,12 +26,12 @@ void clock_begin(void) {
     BITMODE = 3;   /* 32 bits */
     PRESCALER = 4; /* of 16 MHz */
     START = 1;
-    told = now();
+    last = now();
 }
 
 uint32_t clock_passed(void) {
-    uint32_t ms = (now() - told) / 1000;
-    told += ms * 1000;
+    uint32_t ms = (now() - last) / 1000;
+    last += ms * 1000;
     return ms;
 }
 

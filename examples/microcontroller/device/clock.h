@@ -10,7 +10,7 @@ void clock_begin(void);
 /* How many milliseconds have passed since the last call. */
 uint32_t clock_passed(void);
 
-/* An interrupt in so many milliseconds, or none more where that is 0. clock_is_due clears it. */
+/* An interrupt in so many milliseconds, or none more if that is 0. clock_is_due clears it. */
 void clock_wake_in(uint32_t ms);
 void clock_is_due(void);
 

@@ -1,6 +1,6 @@
 /* SPDX-License-Identifier: MIT OR Apache-2.0 */
-/* The NVMC of the nRF51. It erases pages of 1,024 bytes, and writes words, of which each bit can only become 0. The processor stands
- * still meanwhile, as long as it runs from flash. */
+/* The NVMC of the nRF51. It erases pages of 1,024 bytes, and writes words, of which each bit can only become 0. The processor stops
+ * for that time if it runs from flash. */
 #include "flash.h"
 
 #include "board.h"

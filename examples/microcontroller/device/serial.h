@@ -7,10 +7,10 @@
 /* Switches it on, with an interrupt for each byte that comes. */
 void serial_begin(void);
 
-/* The next byte that came, or -1 where there is none. */
+/* The next byte that came, or -1 if there is none. */
 int serial_get(void);
 
-/* Sends a byte, and waits until it is gone. */
+/* Sends a byte, and returns once it is sent. */
 void serial_put(uint8_t byte);
 
 #endif

@@ -45,7 +45,7 @@ __attribute__((naked)) static void on_fault(void) {
     __asm__ volatile("ldr r0, =__stack\nmov sp, r0\nbl fault");
 }
 
-/* The image's call: r0 and r1 of the thread stand where its stack pointer leads. */
+/* The image's call: r0 and r1 of the thread are at its stack pointer. */
 __attribute__((naked)) static void on_call(void) {
     __asm__ volatile("mrs r2, psp\nldr r0, [r2]\nldr r1, [r2, #4]\nldr r3, =on_text\nbx r3");
 }

@@ -5,18 +5,18 @@
 #include <stddef.h>
 #include <stdint.h>
 
-/* Why the processor was reset: what the program before wrote down. A loss of power leaves NOTE_NONE. */
+/* Why the processor was reset, as noted before the reset. A loss of power leaves NOTE_NONE. */
 enum note { NOTE_NONE = 0, NOTE_UPGRADE = 1, NOTE_FAULT = 2 };
 enum note note_taken(void);
 void restart(enum note note) __attribute__((noreturn));
 
-/* Starts an image where it stands in flash, as image.h says, and comes back only where it is none. */
+/* Starts an image at its place in flash, as image.h says, and returns only if it is none. */
 void image_start(const uint8_t *image, size_t length);
 
 /* Where the processor begins. */
 void on_reset(void) __attribute__((noreturn));
 
-/* What start.c calls: the bootloader, on a byte of the serial port, when the time has come, and what the image says. */
+/* What start.c calls: the bootloader; at a byte of the serial port; at the interrupt of clock_wake_in; with what the image says. */
 int main(void);
 void on_serial(void);
 void on_time(void);

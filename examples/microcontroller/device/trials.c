@@ -13,7 +13,7 @@ static const struct dfu_trial trial = {
     .flash = (const uint8_t *)MEDIUM, .size = MEDIUM_SIZE, .driver = &driver, .tries = {16, PAGE, TRIES},
 };
 
-/* Where the image begins in the medium that was started last: it runs elsewhere, so that it can't tell by itself. */
+/* Where the image begins in the medium that was started last: it runs elsewhere, so that it can't know by itself. */
 static uint32_t started;
 
 int32_t trials_download(struct dfu_device *device, const uint8_t setup[8]) {

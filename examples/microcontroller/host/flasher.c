@@ -1,6 +1,6 @@
 /* SPDX-License-Identifier: MIT OR Apache-2.0 */
 /* Installs a file on the board and verifies it: the proved host decides each step, and link.c carries it over the serial line. It waits
- * at a socket for QEMU; where the device is gone it waits for the next one there, and goes on. */
+ * at a socket for QEMU; if the device is gone it waits for the next one there, and goes on. */
 #define _POSIX_C_SOURCE 200809L
 #include <stdio.h>
 #include <stdlib.h>
@@ -84,7 +84,7 @@ static uint32_t act(const struct dfu_action *action, size_t *count) {
     return seen_of(link_ask(FRAME_SETUP, frame, 8 + action->length, ANSWER_MS, answer, sizeof answer, count), action);
 }
 
-/* Runs a session to its end: its report, or -1 where no device came back, or a refusal of the library. */
+/* Runs a session to its end: its report, or -1 if no device came back, or a refusal of the library. */
 static int32_t run(struct dfu_session *session, uint64_t payload) {
     for (;;) {
         struct dfu_action action;

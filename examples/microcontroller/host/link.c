@@ -39,7 +39,7 @@ int link_listen(const char *path) {
     return listen(listening, 1);
 }
 
-/* Waits until something can be read: 1, or 0 where nothing came by then. */
+/* Waits until something can be read: 1, or 0 if nothing came by then. */
 static int comes(int from, int64_t until) {
     for (;;) {
         int64_t left = until - now();
@@ -94,7 +94,7 @@ static void print_text(void) {
 /* What is waited for: an answer with a number, which is 0 to 255, or one of these. */
 enum { A_TEXT = -1, THE_TIME = -2 };
 
-/* Takes frames until that came: 1; or 0, where the time is over; or -1 where the device is gone. */
+/* Takes frames until that came: 1; or 0, if the time is over; or -1 if the device is gone. */
 static int await(int wanted, int64_t until) {
     while (comes(line, until)) {
         uint8_t byte;

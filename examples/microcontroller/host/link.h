@@ -16,14 +16,14 @@ enum link_outcome {
 /* Begins to listen at a path: 0, or -1 and errno. */
 int link_listen(const char *path);
 
-/* Waits for a device: 0, or -1 where none came in so many milliseconds. */
+/* Waits for a device: 0, or -1 if none came in so many milliseconds. */
 int link_accept(int ms);
 
 /* Sends a frame and waits for its answer, at most so many milliseconds; `room` bytes of it are kept, `count` says how many it had.
- * What the image says meanwhile is printed. */
+ * What the image says in that time is printed. */
 enum link_outcome link_ask(uint8_t kind, const uint8_t *bytes, size_t length, int ms, uint8_t *answer, size_t room, size_t *count);
 
-/* Lets time pass: 0; or -1 where the device is gone meanwhile. What the image says is printed. */
+/* Lets time pass: 0; or -1 if the device leaves. What the image says is printed. */
 int link_wait(int ms);
 
 /* Waits until the image says something, at most so many milliseconds: the same. */

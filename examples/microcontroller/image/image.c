@@ -1,13 +1,13 @@
 /* SPDX-License-Identifier: MIT OR Apache-2.0 */
 /* An image: it says where it runs and whether it is whole, and later that its interrupts come. NUMBER is its name and LENGTH how many
- * bytes it has, with what the build puts behind the program; all words of it together are 0. */
+ * bytes it has, with what the build adds to the program; all words of it together are 0. */
 #include "image.h"
 
 #ifndef CONFIRMS
 #define CONFIRMS 0 /* whether it confirms itself once its interrupts have come */
 #endif
 #ifndef FAULTS
-#define FAULTS 0 /* whether it comes to a fault once it has begun */
+#define FAULTS 0 /* whether it faults once it has begun */
 #endif
 
 #define TIMER1(at) (*(volatile uint32_t *)(0x40009000 + (at)))

@@ -1,4 +1,4 @@
-/* The table of an image, and its start: image.h says what stands there. */
+/* The table of an image, and its start: image.h says what it holds. */
     .syntax unified
     .cpu cortex-m0
     .thumb
