@@ -15,7 +15,7 @@ static void look(struct bus *bus)
     installed_run(&bus->installed, bus->machine.place.at, bus->machine.place.length);
 }
 
-/* In dfuDNBUSY and dfuMANIFEST all of the time that was reported to the host passes at once, and so the work is done; appDETACH alone counts
+/* In dfuDNBUSY and dfuMANIFEST all of the time that the host waits for passes at once, and so the work is done; appDETACH alone counts
    the time that passes. */
 void bus_pass(struct bus *bus)
 {

@@ -21,7 +21,7 @@ struct bus {
     int64_t told;  /* up to when the time was passed on to the machine, ms */
 };
 
-/* The work that is due is done, and in appDETACH the time up to now is passed on: once an answer is out, before a request, and before a reset. */
+/* Does the work that is due, and in appDETACH passes the time on: once an answer is out, before a request, and before a reset. */
 void bus_pass(struct bus *bus);
 
 /* The bus was reset. */

@@ -1,5 +1,5 @@
 /* SPDX-License-Identifier: MIT OR Apache-2.0 */
-/* DfuSe files (ST's UM0391), for a program in C: which bytes belong at which addresses of a device's memory, as the elements of a session of
+/* DfuSe files (ST's UM0391), for a program in C: which bytes belong at which addresses of a device, as the elements of a session of
  * dfuse_host.h. They are part of the same archive, which takes no memory and has no state.
  *
  * A file has an alternate setting for each memory of a device, and elements for it, each an address and bytes. Behind these comes a suffix

@@ -11,7 +11,8 @@ const PROTECTION = 'To take the protection away erases all of the memory, and is
 const REPORTS = {
   [OUTCOME.VERIFIED]: ['verified', 0, "each byte was read back from the device's memory, and is the file's", 'Verified',
     'Each byte of the image was read back from the device\'s memory, and is the file\'s.',
-    'It doesn\'t mean that the new firmware runs, or that the file is the right one for this board. And a device that reports something false ' +
+    'It doesn\'t mean that the new firmware runs, or that the file is the right one for this board. And a device that reports ' +
+    'something false ' +
     'can give back what was sent.'],
   [OUTCOME.DIFFERENT]: ['different', 9, "a byte that was read back from the device's memory isn't the file's", 'Not the same bytes',
     'A byte that was read back from the device\'s memory isn\'t the file\'s.',

@@ -1,5 +1,5 @@
 // SPDX-License-Identifier: MIT OR Apache-2.0
-// A download with DfuSe: what the proved host asks for is carried out, and what came of that is reported to it. It decides alone what is erased
+// A download with DfuSe: what the proved host asks for is carried out, and what came of that goes back to it. It decides what is erased
 // and written, what counts as read back, and when the device is asked to leave. As flash/dfuse_begin.c and flash/dfuse_session.c.
 import { deviceRefusal, imageOf, limitsOf, planOf, totalOf, wordsRefusal } from './dfuse_begin.js'
 import { LEAVING, OUTCOME, WORK } from './dfuse_host.js'

@@ -13,7 +13,8 @@ const REPORTS = {
     'The image was not read back: that it is in place is what the device says. And it doesn\'t mean that the new firmware runs.'],
   'verified': [0, "after a reset the device gave the image back, and it is the file's", 'Verified',
     'After a reset the device gave back the image that it has, and each byte is the file\'s.',
-    'It doesn\'t mean that the new firmware runs, or that the file is the right one for this board. And a device that reports something false ' +
+    'It doesn\'t mean that the new firmware runs, or that the file is the right one for this board. And a device that reports ' +
+    'something false ' +
     'can give back what was sent.'],
   'unconfirmed': [8, "the device took the whole image and was reset; it can't tell whether it is in place", 'Sent, not confirmed',
     'The device took the whole image and started anew, and nothing more is known.',

@@ -1,6 +1,6 @@
 /* SPDX-License-Identifier: MIT OR Apache-2.0 */
 /* A device under a USB stack that takes the data stage and acknowledges it in one, so that it has to know before it whether the request
- * will be stalled. The board has no application yet, and begins in dfuIDLE; its interface has the number 2. A host in this program takes the place of a real one. */
+ * will be stalled. The board has no application yet, and begins in dfuIDLE; its interface has the number 2. The host is in this program. */
 #include <stdio.h>
 #include <string.h>
 

@@ -2,8 +2,9 @@
 /* What an image and the bootloader know of each other.
  *
  * An image begins with a table of 48 words, as any of a Cortex-M0: the first is where its stack ends, in the image's memory, and each
- * other one is the handler of an exception. Word 1 is the start. The bootloader forwards PendSV, SysTick and all interrupts but those of UART0 and TIMER0, which are its own, as is the exception
- * SVC. A handler runs on the bootloader's stack, at a lower priority than the bootloader's, and may use IMAGE_HANDLER_STACK bytes of it.
+ * other one is the handler of an exception. Word 1 is the start. The bootloader forwards PendSV, SysTick and all interrupts but those of
+ * UART0 and TIMER0, which are its own, as is the exception SVC. A handler runs on the bootloader's stack, at a lower priority than the
+ * bootloader's, and may use IMAGE_HANDLER_STACK bytes of it.
  *
  * An image is linked to the run area, whichever slot it comes from. It begins as after a reset of the processor. */
 #ifndef IMAGE_H

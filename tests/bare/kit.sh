@@ -72,7 +72,8 @@ program() {
     compile "$2" "$here/$name.main"
     shift 2
     # shellcheck disable=SC2086
-    "$compiler" $flags $links -nostdlib -static -Wl,--gc-sections -T "$bare/$script" "$here"/*.o "$here/$name.main" "$@" -lgcc -o "$here/$name"
+    "$compiler" $flags $links -nostdlib -static -Wl,--gc-sections -T "$bare/$script" "$here"/*.o "$here/$name.main" "$@" \
+        -lgcc -o "$here/$name"
 }
 
 # run NAME WORD..: runs one with these words. What it prints stands in $work/printed; the status is the program's, and 3 after a fault.
@@ -95,7 +96,8 @@ prints() {
 }
 # deepest NAME MOST: it goes no deeper than so many bytes; the deepest is told.
 deepest() {
-    run "$1" "$2" && awk '/bytes of stack$/ && $(NF - 3) > most { most = $(NF - 3) } END { print "  at most " most " bytes of stack" }' "$work/printed"
+    run "$1" "$2" &&
+        awk '/bytes of stack$/ && $(NF - 3) > most { most = $(NF - 3) } END { print "  at most " most " bytes of stack" }' "$work/printed"
 }
 # faults NAME WORD..: it ends in on_fault.
 faults() {

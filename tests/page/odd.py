@@ -118,7 +118,8 @@ def cancels(browser):
 
 def told_late(browser):
     """Where the event comes late, a device that leaves unasked is told once, and one that detaches itself never."""
-    for number, one in enumerate(in_page(browser, *(with_fate({'settings': {'tells': 400}}, 'leave-after', number) for number in range(13)))):
+    late = (with_fate({'settings': {'tells': 400}}, 'leave-after', number) for number in range(13))
+    for number, one in enumerate(in_page(browser, *late)):
         check(f'told late, {number}', (one['name'], one['restarts'], one['image']), ('verified', 1, text(NEW)))
     for ms in (700, 2500):
         one = in_page(browser, {'settings': {**APP, **ITSELF, 'tells': ms}})[0]

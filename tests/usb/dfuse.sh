@@ -77,8 +77,8 @@ outside_is_old() {
     head -c "$from" saved > front && head -c "$from" old | cmp -s - front \
         && tail -c +$((to + 1)) saved > back && tail -c +$((to + 1)) old | cmp -s - back
 }
-# dfuse_fates SETTINGS FATE..: a session in which all goes well, and then each fate at each transfer. A success is one: the image stands, and
-# no other page has changed; and each of them succeeds.
+# dfuse_fates SETTINGS FATE..: a session in which all goes well, and then each fate at each transfer. Each of them succeeds, and then the
+# image is there and no other page has changed.
 dfuse_fates() {
     with=$1
     shift

@@ -50,7 +50,8 @@ session_rows() {
 }
 # fault_rows RESULTS: a row for each transfer of each session, a cell for each fate: outcome, after how many transfers, state, image.
 fault_rows() {
-    printf 'session\ttransfer\trequest, wValue, wLength\tlost on the way out\tits answer lost\thandled twice\tcut to 3 bytes\tpower gone\tkilled, run again\n'
+    printf 'session\ttransfer\trequest, wValue, wLength\tlost on the way out\tits answer lost\thandled twice\tcut to 3 bytes\t'
+    printf 'power gone\tkilled, run again\n'
     cut -f 1,2 "$1" | grep -v 'clean$' | cut -f 1 | LC_ALL=C sort -u | while read -r scene; do
         while read -r number request value length rest; do
             awk -F '\t' -v OFS='\t' -v scene="$scene" -v number="$number" -v request="$request $value $length" '

@@ -105,7 +105,8 @@ row 0 new 'installed: ' USB_AWAY=215 --wait=30 --no-verify new.dfu
 says 'dfu-flash: the device is away; it is waited for up to 30 s'
 fate=
 
-for words in '--wait=0 new.dfu' '--wait=x new.dfu' '--wait= new.dfu' '--wait=1000001 new.dfu' '--wait 1000001 new.dfu' '--timeout 0 new.dfu' \
+for words in '--wait=0 new.dfu' '--wait=x new.dfu' '--wait= new.dfu' '--wait=1000001 new.dfu' '--wait 1000001 new.dfu' \
+    '--timeout 0 new.dfu' \
     '--timeout x new.dfu' '--timeout 1000001 new.dfu' '--timeout new.dfu' '--list --wait' '--list --timeout 1' '--list --verbose'; do
     # shellcheck disable=SC2086
     row 2 - '' '' $words
