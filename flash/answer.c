@@ -89,8 +89,8 @@ static int transfer(struct wire *wire, const uint8_t setup[8], uint16_t length)
 {
     uint16_t value = setup_value(setup);
     wire->transfers++;
-    return libusb_control_transfer(wire->device->handle, setup[0], setup[1], value, wire->device->is.interface, wire->bytes,
-                                   length, *wire->device->is_stop ? STOPPED_MS : TRANSFER_MS);
+    return libusb_control_transfer(wire->device->handle, setup[0], setup[1], value, wire->device->is.interface, wire->bytes, length,
+                                   *wire->device->is_stop ? STOPPED_MS : TRANSFER_MS);
 }
 
 static struct answer answer_of(struct wire *wire, bool is_in, uint16_t length, int result)
@@ -188,7 +188,7 @@ static struct answer pulled(struct wire *wire)
 static bool is_changed(const struct wire *wire, int error)
 {
     return error == LIBUSB_ERROR_NOT_FOUND || error == LIBUSB_ERROR_NO_DEVICE
-        || (error == 0 && !platform_tells_new() && !wire->device->is.is_upgrade);
+           || (error == 0 && !platform_tells_new() && !wire->device->is.is_upgrade);
 }
 
 static struct answer reset_reported(struct wire *wire)

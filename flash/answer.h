@@ -15,19 +15,19 @@ struct answer {
     uint32_t seen;        /* DFU_SEEN_ACK to DFU_SEEN_LEFT */
     const uint8_t *bytes; /* of DFU_SEEN_BYTES, as many as `count`; never NULL */
     size_t count;
-    bool is_gone;         /* it left and did not come back: there is nothing to report */
-    int error;            /* what libusb said to a transfer or a reset that failed, else 0; the host doesn't get it */
+    bool is_gone; /* it left and did not come back: there is nothing to report */
+    int error;    /* what libusb said to a transfer or a reset that failed, else 0; the host doesn't get it */
 };
 
 /* What comes between two actions. */
 struct wire {
     struct device *device;
-    bool is_leaving;       /* a DETACH was acknowledged, and nothing was sent since: the device is to leave */
-    bool is_closed;        /* the end of a download was acknowledged, and nothing but GETSTATUS was sent since; */
-    bool is_manifesting;   /* and a GETSTATUS said dfuMANIFEST-SYNC or dfuMANIFEST: the device may start its image by itself */
-    uint8_t bytes[65536];  /* of one transfer: wLength is under 65,536 */
-    uint64_t transfers;    /* how many were tried */
-    bool is_unreset;       /* a reset was asked for that this system doesn't make, and nobody pulled the plug: the session is over */
+    bool is_leaving;      /* a DETACH was acknowledged, and nothing was sent since: the device is to leave */
+    bool is_closed;       /* the end of a download was acknowledged, and nothing but GETSTATUS was sent since; */
+    bool is_manifesting;  /* and a GETSTATUS said dfuMANIFEST-SYNC or dfuMANIFEST: the device may start its image by itself */
+    uint8_t bytes[65536]; /* of one transfer: wLength is under 65,536 */
+    uint64_t transfers;   /* how many were tried */
+    bool is_unreset;      /* a reset was asked for that this system doesn't make, and nobody pulled the plug: the session is over */
     struct trace trace;
 };
 

@@ -7,9 +7,9 @@
 #include <stdio.h>
 #include <string.h>
 
-#define BAR 30        /* characters of a bar at most, */
-#define LEAST 5       /* and at least */
-#define FRAME 20      /* what is around it: the words in front, brackets, the percentage */
+#define BAR 30   /* characters of a bar at most, */
+#define LEAST 5  /* and at least */
+#define FRAME 20 /* what is around it: the words in front, brackets, the percentage */
 #define AMOUNT_ROOM 96
 
 int bar_columns(void)

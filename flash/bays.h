@@ -22,11 +22,11 @@ enum bay_state {
 struct bay {
     char path[PATH_ROOM];
     enum bay_state state;
-    bool was_back, is_there;        /* once it is done: a device was there since, and was there at the last look; */
-    int64_t since_ms;               /* and when it was there last, or when it was done */
-    bool is_late;                   /* what is looked at now came late, so that it may be another one */
-    bool has_serial[2];             /* whether the device of before was seen in run-time mode, and in DFU mode, */
-    char serial[2][TEXT_ROOM];      /* and with which serial number */
+    bool was_back, is_there;   /* once it is done: a device was there since, and was there at the last look; */
+    int64_t since_ms;          /* and when it was there last, or when it was done */
+    bool is_late;              /* what is looked at now came late, so that it may be another one */
+    bool has_serial[2];        /* whether the device of before was seen in run-time mode, and in DFU mode, */
+    char serial[2][TEXT_ROOM]; /* and with which serial number */
 };
 
 struct bays {

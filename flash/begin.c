@@ -61,17 +61,17 @@ static int32_t begin(struct session *session, const uint8_t descriptor[9], size_
     if (session->goal == GOAL_UPLOAD)
         return dfu_host_upload(&session->host, descriptor, size, session->actions, session->restarts);
     if (session->goal == GOAL_VERIFIED)
-        return dfu_host_verified(&session->host, session->file, session->file_length, descriptor, size, &session->ids,
-                                 session->actions, session->restarts);
-    return dfu_host_download(&session->host, session->file, session->file_length, descriptor, size, &session->ids,
-                             session->actions, session->restarts);
+        return dfu_host_verified(&session->host, session->file, session->file_length, descriptor, size, &session->ids, session->actions,
+                                 session->restarts);
+    return dfu_host_download(&session->host, session->file, session->file_length, descriptor, size, &session->ids, session->actions,
+                             session->restarts);
 }
 
 /* Whether a functional descriptor is missing, or is none that a session can go by. */
 static bool is_odd(int32_t refusal)
 {
     return refusal == DFU_SHORT || refusal == DFU_LONG || refusal == DFU_WRONG_LENGTH || refusal == DFU_WRONG_TYPE
-        || refusal == DFU_BAD_DESCRIPTOR;
+           || refusal == DFU_BAD_DESCRIPTOR;
 }
 
 /* In run-time mode the functional descriptor says no more than how the device is brought to DFU mode, and there it has one that

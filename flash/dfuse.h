@@ -19,20 +19,20 @@ struct session;
 enum { DFUSE_UPLOADED = 101, DFUSE_NO_MEMORY = 102 };
 
 struct dfuse {
-    bool is;                       /* the device speaks DfuSe */
-    bool has_address, stays;       /* what was asked for: an address, and not to leave, */
-    uint32_t address, length;      /* and how many bytes an upload is to have; the first address of a DfuSe file is its own */
-    const struct dfuse_file *file; /* what FILE says, if it is a DfuSe file; else NULL */
-    const uint8_t *map;            /* the setting's name, which says the memory map, */
-    size_t map_length;             /* so many bytes of it */
+    bool is;                                    /* the device speaks DfuSe */
+    bool has_address, stays;                    /* what was asked for: an address, and not to leave, */
+    uint32_t address, length;                   /* and how many bytes an upload is to have; the first address of a DfuSe file is its own */
+    const struct dfuse_file *file;              /* what FILE says, if it is a DfuSe file; else NULL */
+    const uint8_t *map;                         /* the setting's name, which says the memory map, */
+    size_t map_length;                          /* so many bytes of it */
     struct dfuse_element image[DFUSE_ELEMENTS]; /* of a download: the elements for the device's setting, or the payload, */
-    uint64_t elements;             /* so many; their addresses ascend */
+    uint64_t elements;                          /* so many; their addresses ascend */
     struct dfuse_plan plan;
-    struct dfuse_session host;     /* the host's record */
-    uint32_t short_waits;          /* waits of 0 ms for one command */
-    uint8_t string;                /* iString of the last GETSTATUS that said dfuERROR, or 0 */
-    uint32_t protections;          /* how often it said errVENDOR while it was read */
-    struct dfuse_action done;      /* the report */
+    struct dfuse_session host; /* the host's record */
+    uint32_t short_waits;      /* waits of 0 ms for one command */
+    uint8_t string;            /* iString of the last GETSTATUS that said dfuERROR, or 0 */
+    uint32_t protections;      /* how often it said errVENDOR while it was read */
+    struct dfuse_action done;  /* the report */
 };
 
 /* Begins the session of the device that was found, which speaks DfuSe. 0, or a refusal of dfuse_host.h, dfu_host.h or session.h. Nothing

@@ -14,8 +14,8 @@
    file the suffix was read, and its elements are taken. */
 static int32_t file_refusal(struct session *session)
 {
-    static const uint8_t any[FUNCTIONAL_BYTES] = {FUNCTIONAL_BYTES, FUNCTIONAL_TYPE, CAN_DOWNLOAD, 0, 0, 64, 0, VERSION_1_1 & 0xff,
-                                                  VERSION_1_1 >> 8};
+    static const uint8_t any[FUNCTIONAL_BYTES] = {FUNCTIONAL_BYTES,   FUNCTIONAL_TYPE, CAN_DOWNLOAD, 0, 0, 64, 0,
+                                                  VERSION_1_1 & 0xff, VERSION_1_1 >> 8};
     struct dfu_session none;
     if (session->dfuse.file != NULL)
         return dfuse_take_file(session);

@@ -30,8 +30,8 @@ static void print_range(const struct dfuse_range *range)
 {
     char access[4];
     letters(range->access, access);
-    printf("    %08" PRIx64 "..%08" PRIx64 " %" PRIu32 " page%s of %" PRIu64 " byte%s %s\n", range->start, end_of(range) - 1,
-           range->count, range->count == 1 ? "" : "s", range->size, range->size == 1 ? "" : "s", access);
+    printf("    %08" PRIx64 "..%08" PRIx64 " %" PRIu32 " page%s of %" PRIu64 " byte%s %s\n", range->start, end_of(range) - 1, range->count,
+           range->count == 1 ? "" : "s", range->size, range->size == 1 ? "" : "s", access);
 }
 
 void dfuse_print_map(const struct found *found)

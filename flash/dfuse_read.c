@@ -10,8 +10,8 @@
 #include <string.h>
 
 #define MOST_SILENT 24
-#define EARLY_MS 100     /* for a status that was asked for too early */
-#define FIRST_BLOCK 2    /* of those that have the memory at the pointer */
+#define EARLY_MS 100  /* for a status that was asked for too early */
+#define FIRST_BLOCK 2 /* of those that have the memory at the pointer */
 #define LAST_BLOCK 65535
 #define SET_ADDRESS 0x21
 enum { REQUEST_CLRSTATUS = 4, REQUEST_ABORT = 6 };
@@ -165,8 +165,7 @@ static enum next poll(struct session *session)
 /* Sets the pointer, and goes to dfuIDLE, from which UPLOAD is taken. */
 static enum next point(struct session *session, uint32_t address)
 {
-    const uint8_t command[5] = {SET_ADDRESS, (uint8_t)address, (uint8_t)(address >> 8), (uint8_t)(address >> 16),
-                                (uint8_t)(address >> 24)};
+    const uint8_t command[5] = {SET_ADDRESS, (uint8_t)address, (uint8_t)(address >> 8), (uint8_t)(address >> 16), (uint8_t)(address >> 24)};
     struct answer answer;
     enum next next = ask(session, KIND_OUT, REQUEST_DNLOAD, 0, command, sizeof command, &answer);
     if (next == NEXT_ON && answer.seen != DFU_SEEN_ACK)

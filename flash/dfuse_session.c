@@ -6,13 +6,13 @@
 
 #include <string.h>
 
-#define MOST_SILENT 24   /* transfers in a row without any answer, and the device is given up; */
-#define CLOSED_SILENT 3  /* so many once it was asked to leave, and it is taken as gone */
-#define SHORT_WAITS 3    /* waits of 0 ms for one command, and it is asked less often: */
+#define MOST_SILENT 24  /* transfers in a row without any answer, and the device is given up; */
+#define CLOSED_SILENT 3 /* so many once it was asked to leave, and it is taken as gone */
+#define SHORT_WAITS 3   /* waits of 0 ms for one command, and it is asked less often: */
 #define SHORT_WAIT_MS 5
 #define ERASE_COMMAND 0x41
 #define STATE_ERROR 10
-#define STRING_AT 5      /* iString of a status */
+#define STRING_AT 5 /* iString of a status */
 #define STATE_AT 4
 
 static bool end(struct session *session, enum end end)
@@ -24,8 +24,8 @@ static bool end(struct session *session, enum end end)
 bool dfuse_is_same(const struct session *session)
 {
     const struct found *first = &session->first[1], *is = &session->wire.device->is;
-    return is->is_upgrade && is_again(first, is) && strcmp(first->name, is->name) == 0
-        && is->descriptor_size == session->known_size && memcmp(is->descriptor, session->known, sizeof is->descriptor) == 0;
+    return is->is_upgrade && is_again(first, is) && strcmp(first->name, is->name) == 0 && is->descriptor_size == session->known_size
+           && memcmp(is->descriptor, session->known, sizeof is->descriptor) == 0;
 }
 
 /* Why the device is in dfuERROR it may say in a string of its own. */
@@ -115,7 +115,8 @@ static bool tell(struct session *session, const struct answer *answer)
     session->taken++;
     session->restarted += answer->seen == DFU_SEEN_RESTART;
     if (dfuse_take(&dfuse->host, dfuse->map, dfuse->map_length, dfuse->image, (size_t)dfuse->elements, answer->seen, answer->bytes,
-                   answer->count) != 0)
+                   answer->count)
+        != 0)
         return end(session, END_BROKEN);
     if (dfuse->host.report == 0 || dfuse->host.report == DFUSE_VERIFIED)
         show(session);
@@ -181,8 +182,8 @@ void dfuse_run(struct session *session)
             stop(session);
             return;
         }
-        if (dfuse_next(&dfuse->host, dfuse->map, dfuse->map_length, dfuse->image, (size_t)dfuse->elements, body, sizeof body,
-                       &action) != 0) {
+        if (dfuse_next(&dfuse->host, dfuse->map, dfuse->map_length, dfuse->image, (size_t)dfuse->elements, body, sizeof body, &action)
+            != 0) {
             end(session, END_BROKEN);
             return;
         }

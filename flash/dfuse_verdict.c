@@ -6,7 +6,8 @@
 #include <stdio.h>
 #include <string.h>
 
-/* By the number of the report. */
+/* By the number of the report; tests read this table. */
+/* clang-format off */
 static const struct {
     uint32_t report;
     const char *name;
@@ -31,6 +32,7 @@ static const struct {
     {DFUSE_NO_MEMORY, "no-memory",
         {STATUS_GIVEN_UP, "there was no memory for the image"}},
 };
+/* clang-format on */
 
 /* How the device left, after what Verified means. */
 static const char *const leavings[] = {

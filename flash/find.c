@@ -46,7 +46,7 @@ static bool has_ids(const struct found *found, uint16_t vendor, uint16_t product
 bool may_be(const struct wanted *wanted, const struct found *found)
 {
     bool is_named = !wanted->has_ids || has_ids(found, wanted->vendor, wanted->product)
-        || (wanted->has_dfu_ids && has_ids(found, wanted->dfu_vendor, wanted->dfu_product));
+                    || (wanted->has_dfu_ids && has_ids(found, wanted->dfu_vendor, wanted->dfu_product));
     return is_named && (wanted->path == NULL || strcmp(wanted->path, found->path) == 0);
 }
 
@@ -71,8 +71,8 @@ bool is_placed(const struct place *place, const struct found *found)
     bool is_interface = place->interface < 0 || place->interface == found->interface;
     bool is_alternate = place->alternate < 0 || place->alternate == found->alternate;
     /* As with a serial number: a name that may not be read may be the one. */
-    bool is_name = place->name == NULL || found->access != 0 || strcmp(place->name, found->name) == 0
-        || is_map_name(place->name, found->name);
+    bool is_name =
+        place->name == NULL || found->access != 0 || strcmp(place->name, found->name) == 0 || is_map_name(place->name, found->name);
     return !found->is_upgrade || (is_interface && is_alternate && is_name);
 }
 
@@ -107,8 +107,9 @@ static bool is_same_name(const char *first, const char *now)
 
 bool is_again(const struct found *first, const struct found *now)
 {
-    return first->vendor == now->vendor && first->product == now->product && first->interface == now->interface
-        && first->alternate == now->alternate && is_same_text(first->serial, now->serial) && is_same_name(first->name, now->name);
+    return first->vendor == now->vendor && first->product == now->product
+           && first->interface == now->interface && first->alternate == now->alternate && is_same_text(first->serial, now->serial)
+           && is_same_name(first->name, now->name);
 }
 
 /* What is going on in one look at the bus. */
@@ -157,8 +158,7 @@ static void add_interface(struct look *look, const struct found *base, libusb_de
 }
 
 /* A device is opened, for its serial number, only if it has DFU. */
-static void add_configuration(struct look *look, struct found *base, uint8_t serial,
-                              const struct libusb_config_descriptor *configuration)
+static void add_configuration(struct look *look, struct found *base, uint8_t serial, const struct libusb_config_descriptor *configuration)
 {
     libusb_device_handle *handle = NULL;
     if (!has_dfu(configuration))

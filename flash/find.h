@@ -19,19 +19,19 @@ struct found {
     char path[PATH_ROOM];              /* bus and ports, as 1-2.3 */
     char serial[TEXT_ROOM];            /* empty if there is none, or if it may not be read */
     uint8_t interface, alternate;
-    char name[TEXT_ROOM];              /* of the setting, by its iInterface; empty if there is none */
-    bool is_upgrade;                   /* in DFU mode, protocol 2; else in run-time mode */
-    bool says_runtime;                 /* its protocol is 1, that of run-time mode */
-    int access;                        /* what libusb said to opening it: 0, or an error */
-    uint8_t descriptor[9];             /* the functional descriptor */
-    size_t descriptor_size;            /* 9, or 7 of DFU 1.0; 0 if there is none */
+    char name[TEXT_ROOM];   /* of the setting, by its iInterface; empty if there is none */
+    bool is_upgrade;        /* in DFU mode, protocol 2; else in run-time mode */
+    bool says_runtime;      /* its protocol is 1, that of run-time mode */
+    int access;             /* what libusb said to opening it: 0, or an error */
+    uint8_t descriptor[9];  /* the functional descriptor */
+    size_t descriptor_size; /* 9, or 7 of DFU 1.0; 0 if there is none */
 };
 
 /* Which interface and which alternate setting of it. They count only in DFU mode: in run-time mode there is one of each (USB DFU
    1.1, section 4.1.2), and its number and its name may be others. */
 struct place {
-    int interface, alternate;          /* -1 is any */
-    const char *name;                  /* of the setting; NULL is any */
+    int interface, alternate; /* -1 is any */
+    const char *name;         /* of the setting; NULL is any */
 };
 
 #define ANYWHERE ((struct place){-1, -1, NULL})
@@ -39,11 +39,11 @@ struct place {
 /* What a device has to be. */
 struct wanted {
     bool has_ids;
-    bool is_of_file;                   /* they are those of the file's suffix, and not of --device */
-    uint16_t vendor, product;          /* FFFFh is any */
-    const char *path, *serial;         /* NULL is any */
+    bool is_of_file;           /* they are those of the file's suffix, and not of --device */
+    uint16_t vendor, product;  /* FFFFh is any */
+    const char *path, *serial; /* NULL is any */
     struct place place;
-    bool has_dfu_ids;                  /* it may have these identifiers too, as in DFU mode */
+    bool has_dfu_ids; /* it may have these identifiers too, as in DFU mode */
     uint16_t dfu_vendor, dfu_product;
 };
 

@@ -36,8 +36,18 @@ static uint32_t crc_of(const uint8_t *bytes, size_t length)
 static void add_suffix(struct image *image, uint16_t vendor, uint16_t product)
 {
     const uint8_t suffix[SUFFIX_BYTES - 4] = {
-        0xff, 0xff, (uint8_t)(product & 0xff), (uint8_t)(product >> 8), (uint8_t)(vendor & 0xff), (uint8_t)(vendor >> 8),
-        0x00, 0x01, 'U', 'F', 'D', SUFFIX_BYTES,
+        0xff,
+        0xff,
+        (uint8_t)(product & 0xff),
+        (uint8_t)(product >> 8),
+        (uint8_t)(vendor & 0xff),
+        (uint8_t)(vendor >> 8),
+        0x00,
+        0x01,
+        'U',
+        'F',
+        'D',
+        SUFFIX_BYTES,
     };
     uint32_t crc;
     memcpy(image->bytes + image->length, suffix, sizeof suffix);
@@ -67,7 +77,13 @@ static const char *format_of(const struct image *image)
         return "srec";
     if (memcmp(bytes, "UF2\n", 4) == 0)
         return "uf2";
-    return memcmp(bytes, "\x7f" "ELF", 4) == 0 ? "elf" : NULL;
+    return memcmp(bytes,
+                  "\x7f"
+                  "ELF",
+                  4)
+                   == 0
+               ? "elf"
+               : NULL;
 }
 
 /* Whether it may be sent as it is: --device has to say for which device it is, since nothing else does; and what builds produce in a

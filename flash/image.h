@@ -10,7 +10,7 @@
 #include <stdint.h>
 
 struct image {
-    uint8_t *bytes;           /* the file, with a suffix */
+    uint8_t *bytes; /* the file, with a suffix */
     size_t length;
     size_t payload;           /* how many of its bytes, from the first on, are sent */
     uint16_t vendor, product; /* for which device it is, as its suffix says; FFFFh is any */

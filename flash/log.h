@@ -13,9 +13,9 @@ struct answer;
 struct device;
 
 struct log {
-    FILE *file;       /* NULL: there is none */
+    FILE *file; /* NULL: there is none */
     const char *name;
-    uint64_t opened;  /* how often the device had been opened at the last request */
+    uint64_t opened; /* how often the device had been opened at the last request */
 };
 
 /* Makes the file, which must not be there yet; a pipe or a terminal may be. False if it can't be made, which is then said. */

@@ -37,8 +37,8 @@ static int say_none(const struct words *words, int status)
 /* A signal came before there was a session. */
 static int say_stopped(const struct words *words)
 {
-    return record_short(STATUS_ABORTED, "aborted", "given up by Ctrl-C or a signal; no block was sent", words->json) ? STATUS_ABORTED
-                                                                                                                    : STATUS_FILE;
+    bool is_out = record_short(STATUS_ABORTED, "aborted", "given up by Ctrl-C or a signal; no block was sent", words->json);
+    return is_out ? STATUS_ABORTED : STATUS_FILE;
 }
 
 /* The file is read, unless it was before, and what its suffix names is the device, unless one is named in words. */
@@ -201,10 +201,12 @@ static int flash(const struct words *words, struct image *image, struct wanted *
 
 struct wanted wanted_of(const struct words *words)
 {
+    /* clang-format off */
     struct wanted wanted = {.has_ids = words->has_ids, .vendor = words->vendor, .product = words->product,
                             .path = words->path, .serial = words->serial,
                             .place = {words->interface, words->alternate, words->setting},
                             .has_dfu_ids = words->has_dfu_ids, .dfu_vendor = words->dfu_vendor, .dfu_product = words->dfu_product};
+    /* clang-format on */
     /* A device of DfuSe has a setting for each of its memories: the first is that of programs. */
     if (words->has_address && words->alternate < 0 && words->setting == NULL)
         wanted.place.alternate = 0;

@@ -20,8 +20,9 @@ bool present_is(const struct device *device)
     if (opened == NULL || count < 0)
         return opened != NULL;
     for (ssize_t at = 0; at < count; at++)
-        is = is || (libusb_get_bus_number(devices[at]) == libusb_get_bus_number(opened)
-                    && libusb_get_device_address(devices[at]) == libusb_get_device_address(opened));
+        is = is
+             || (libusb_get_bus_number(devices[at]) == libusb_get_bus_number(opened)
+                 && libusb_get_device_address(devices[at]) == libusb_get_device_address(opened));
     libusb_free_device_list(devices, 1);
     return is;
 }

@@ -8,8 +8,8 @@
 #include <stdbool.h>
 
 struct rows {
-    bool are_on;    /* standard error is a terminal that has rows */
-    int drawn;      /* how many are there */
+    bool are_on; /* standard error is a terminal that has rows */
+    int drawn;   /* how many are there */
     int64_t shown_ms;
 };
 

@@ -28,10 +28,10 @@ struct session;
 
 /* What a session came to. */
 struct verdict {
-    int status;        /* with which the program ends */
-    char name[24];     /* the report's name; `gone`, `silent`, `many`, `other`, `broken` or `stalled` if there is none */
-    char words[160];   /* what it means */
-    uint8_t code;      /* of `refused`: the device's bStatus, else 0 */
+    int status;      /* with which the program ends */
+    char name[24];   /* the report's name; `gone`, `silent`, `many`, `other`, `broken` or `stalled` if there is none */
+    char words[160]; /* what it means */
+    uint8_t code;    /* of `refused`: the device's bStatus, else 0 */
 };
 
 /* What an end means: the status, and in words. */

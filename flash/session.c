@@ -121,8 +121,9 @@ static bool tell(struct session *session, const struct answer *answer)
     grow(session);
     session->taken++;
     session->restarted += answer->seen == DFU_SEEN_RESTART;
-    if (dfu_host_take(&session->host, session->file, session->payload_length, session->kept, session->room, answer->seen,
-                      answer->bytes, answer->count) != 0)
+    if (dfu_host_take(&session->host, session->file, session->payload_length, session->kept, session->room, answer->seen, answer->bytes,
+                      answer->count)
+        != 0)
         return end(session, END_BROKEN);
     return true;
 }

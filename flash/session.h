@@ -17,52 +17,52 @@ enum goal { GOAL_DOWNLOAD, GOAL_VERIFIED, GOAL_UPLOAD, GOAL_DETACH };
 /* How it ended: with the host's report, or without one. */
 enum end {
     END_REPORT,
-    END_GONE,   /* the device left and did not come back */
-    END_SILENT, /* it answers no more */
-    END_MANY,   /* it came back with more than one setting */
-    END_OTHER,  /* what came back is another device, or has another functional descriptor */
-    END_REFUSED, /* it came to DFU mode, and the host refused to begin with it there */
-    END_ABORTED, /* a signal came; only with DfuSe: its host knows of no stop */
+    END_GONE,      /* the device left and did not come back */
+    END_SILENT,    /* it answers no more */
+    END_MANY,      /* it came back with more than one setting */
+    END_OTHER,     /* what came back is another device, or has another functional descriptor */
+    END_REFUSED,   /* it came to DFU mode, and the host refused to begin with it there */
+    END_ABORTED,   /* a signal came; only with DfuSe: its host knows of no stop */
     END_TIMED_OUT, /* the time of --timeout is spent, and the host gave up */
-    END_BROKEN, /* the host's library refused its own record */
-    END_STALLED, /* it stays in run-time mode, and stalls what it is asked there */
-    END_UNRESET /* a reset is asked for that the system doesn't make, and nobody pulled the plug */
+    END_BROKEN,    /* the host's library refused its own record */
+    END_STALLED,   /* it stays in run-time mode, and stalls what it is asked there */
+    END_UNRESET    /* a reset is asked for that the system doesn't make, and nobody pulled the plug */
 };
 
 struct session {
     bool is_upload, wants_verified; /* what was asked for, */
-    enum goal goal;               /* and what it is with the device's functional descriptor */
-    const uint8_t *file;          /* of a download, never NULL: */
-    size_t file_length;           /* the file with its suffix, */
-    size_t payload_length;        /* and how many of its bytes, from the first on, are the payload; 0 of an upload */
-    uint8_t *kept;                /* of an upload: what came, */
-    size_t room;                  /* and how much may come before it grows; */
-    const char *made;             /* and the file that was made of it, or NULL */
-    struct dfu_ids ids;           /* for which the file has to be: those of the device as it was found first, or those asked for */
-    struct found first[2];        /* the device as it was found first in run-time mode, and in DFU mode, */
-    bool has_first[2];            /* where it was */
+    enum goal goal;                 /* and what it is with the device's functional descriptor */
+    const uint8_t *file;            /* of a download, never NULL: */
+    size_t file_length;             /* the file with its suffix, */
+    size_t payload_length;          /* and how many of its bytes, from the first on, are the payload; 0 of an upload */
+    uint8_t *kept;                  /* of an upload: what came, */
+    size_t room;                    /* and how much may come before it grows; */
+    const char *made;               /* and the file that was made of it, or NULL */
+    struct dfu_ids ids;             /* for which the file has to be: those of the device as it was found first, or those asked for */
+    struct found first[2];          /* the device as it was found first in run-time mode, and in DFU mode, */
+    bool has_first[2];              /* where it was */
     bool has_limits;
-    uint32_t actions;             /* the limits: those that were asked for, or by the file's size */
+    uint32_t actions; /* the limits: those that were asked for, or by the file's size */
     uint16_t restarts;
-    uint16_t transfer;            /* bytes of a block that were asked for; 0: as the device takes */
-    struct dfu_session host;      /* the host's record */
-    uint8_t known[9];             /* the device's functional descriptor when it was begun */
+    uint16_t transfer;       /* bytes of a block that were asked for; 0: as the device takes */
+    struct dfu_session host; /* the host's record */
+    uint8_t known[9];        /* the device's functional descriptor when it was begun */
     size_t known_size;
-    int32_t odd;                  /* why the host refuses the functional descriptor of the run-time mode, or 0; */
-    uint8_t another[9];           /* then another one in its place */
+    int32_t odd;        /* why the host refuses the functional descriptor of the run-time mode, or 0; */
+    uint8_t another[9]; /* then another one in its place */
     bool has_sent, has_begun_anew, is_aborted;
-    bool is_whole;                /* the device acknowledged the image's last block and its end, and no block was sent since */
-    bool is_fetched;              /* the last part of an upload came, and none was asked for since */
-    uint32_t silent;              /* transfers in a row of which nothing was heard */
+    bool is_whole;   /* the device acknowledged the image's last block and its end, and no block was sent since */
+    bool is_fetched; /* the last part of an upload came, and none was asked for since */
+    uint32_t silent; /* transfers in a row of which nothing was heard */
     struct stalls stalls;
     struct wire wire;
     struct progress progress;
-    struct dfuse dfuse;           /* of a device that speaks DfuSe */
-    uint64_t taken, restarted;    /* actions done, and restarts reported */
+    struct dfuse dfuse;        /* of a device that speaks DfuSe */
+    uint64_t taken, restarted; /* actions done, and restarts reported */
     int64_t began_ms;
     enum end end;
-    struct dfu_action done;       /* the report, if `end` is END_REPORT */
-    int32_t refusal;              /* why not, if it is END_REFUSED */
+    struct dfu_action done; /* the report, if `end` is END_REPORT */
+    int32_t refusal;        /* why not, if it is END_REFUSED */
 };
 
 /* The program's own refusals, beside the host's: the file is for any device, and would go to all; of DfuSe: the device speaks it, and

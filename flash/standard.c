@@ -5,7 +5,7 @@
 static const char *const requests[] = {"DETACH", "DNLOAD", "UPLOAD", "GETSTATUS", "CLRSTATUS", "GETSTATE", "ABORT"};
 
 static const char *const states[] = {
-    "appIDLE",        "appDETACH",        "dfuIDLE",     "dfuDNLOAD-SYNC",          "dfuDNBUSY",
+    "appIDLE",        "appDETACH",        "dfuIDLE",     "dfuDNLOAD-SYNC",         "dfuDNBUSY",
     "dfuDNLOAD-IDLE", "dfuMANIFEST-SYNC", "dfuMANIFEST", "dfuMANIFEST-WAIT-RESET", "dfuUPLOAD-IDLE",
     "dfuERROR",
 };

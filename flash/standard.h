@@ -15,25 +15,12 @@ enum {
     KIND_IS_IN = 0x80 /* the bit that says that the device answers */
 };
 
-enum {
-    REQUEST_DETACH = 0,
-    REQUEST_DNLOAD = 1,
-    REQUEST_UPLOAD = 2,
-    REQUEST_GETSTATUS = 3,
-    REQUEST_GETSTATE = 5
-};
+enum { REQUEST_DETACH = 0, REQUEST_DNLOAD = 1, REQUEST_UPLOAD = 2, REQUEST_GETSTATUS = 3, REQUEST_GETSTATE = 5 };
 
 /* Of the answers: how many bytes, and where bState is in a status. */
-enum {
-    GETSTATUS_BYTES = 6,
-    GETSTATUS_STATE = 4,
-    GETSTATE_BYTES = 1
-};
+enum { GETSTATUS_BYTES = 6, GETSTATUS_STATE = 4, GETSTATE_BYTES = 1 };
 
-enum {
-    STATE_MANIFEST_SYNC = 6,
-    STATE_MANIFEST = 7
-};
+enum { STATE_MANIFEST_SYNC = 6, STATE_MANIFEST = 7 };
 
 /* A functional descriptor: its type, where its fields begin, and the bits of bmAttributes. */
 enum {
@@ -53,17 +40,10 @@ enum {
 };
 
 /* Interfaces with DFU: class, subclass, and the protocol by mode. */
-enum {
-    INTERFACE_CLASS = 0xfe,
-    INTERFACE_SUBCLASS = 1,
-    PROTOCOL_RUNTIME = 1,
-    PROTOCOL_DFU_MODE = 2
-};
+enum { INTERFACE_CLASS = 0xfe, INTERFACE_SUBCLASS = 1, PROTOCOL_RUNTIME = 1, PROTOCOL_DFU_MODE = 2 };
 
 /* A vendor or a product of a file that is for any (appendix B). */
-enum {
-    ANY_ID = 0xffff
-};
+enum { ANY_ID = 0xffff };
 
 /* The names by number, or "?". */
 const char *request_name(uint8_t request);

@@ -9,7 +9,7 @@
 bool text_is_control(uint32_t character)
 {
     return character < 0x20 || (character >= 0x7f && character < 0xa0) || (character >= 0x200e && character <= 0x200f)
-        || (character >= 0x2028 && character <= 0x202e) || (character >= 0x2066 && character <= 0x2069);
+           || (character >= 0x2028 && character <= 0x202e) || (character >= 0x2066 && character <= 0x2069);
 }
 
 /* UTF-8 has each character in its shortest form, and no half of a pair of UTF-16. */

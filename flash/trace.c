@@ -34,7 +34,7 @@ static void print_bytes(FILE *out, const struct answer *answer)
 static void print_answer(FILE *out, const struct answer *answer)
 {
     static const char *const seen[] = {
-        [DFU_SEEN_ACK] = "ack",     [DFU_SEEN_BYTES] = "",     [DFU_SEEN_STALL] = "stall",       [DFU_SEEN_NOTHING] = "nothing",
+        [DFU_SEEN_ACK] = "ack",     [DFU_SEEN_BYTES] = "",      [DFU_SEEN_STALL] = "stall",       [DFU_SEEN_NOTHING] = "nothing",
         [DFU_SEEN_WAIT] = "waited", [DFU_SEEN_RESET] = "reset", [DFU_SEEN_RESTART] = "restarted", [DFU_SEEN_LEFT] = "left",
     };
     static const char prefix[] = "LIBUSB_ERROR_";
@@ -108,8 +108,8 @@ void trace_begin(const struct trace *trace, const char *goal, const struct found
     if (!trace->is_on)
         return;
     out = begin_line(trace);
-    fprintf(out, "begin %s %04x:%04x:%04x %s %u %u %s ", goal, is->vendor, is->product, is->release, is->path, is->interface,
-            is->alternate, is->is_upgrade ? "DFU" : "run-time");
+    fprintf(out, "begin %s %04x:%04x:%04x %s %u %u %s ", goal, is->vendor, is->product, is->release, is->path, is->interface, is->alternate,
+            is->is_upgrade ? "DFU" : "run-time");
     text_hex(out, is->descriptor, is->descriptor_size);
     fprintf(out, "%s %u %" PRIu32 " %u\n", is->descriptor_size == 0 ? "-" : "", transfer, actions, restarts);
 }

@@ -181,7 +181,7 @@ bool value_length(const char *text, struct words *words)
 {
     const char *rest;
     return (is_length(text, &words->length, &rest) && *rest == '\0')
-        || words_refuse("--length takes bytes, from 1 to 4294967295, or as 0x1000", text);
+           || words_refuse("--length takes bytes, from 1 to 4294967295, or as 0x1000", text);
 }
 
 /* dfu-util stays in DFU mode unless `leave` is said. Of its words that destroy more than an image none is taken. Without an address it goes

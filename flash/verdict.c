@@ -7,6 +7,8 @@
 #include <stdio.h>
 #include <string.h>
 
+/* Tests read these tables. */
+/* clang-format off */
 /* By the number of the report, from 1 on. */
 static const struct meaning reports[] = {
     [DFU_INSTALLED] = {STATUS_DONE, "the device took the whole image, reported that it is in place, and was reset"},
@@ -53,6 +55,7 @@ static const struct meaning uncompared[] = {
 
 /* And if it gave the whole image. */
 static const struct meaning fetched = {STATUS_UNRESET, "the device gave the image that it has; to leave DFU mode it needs its plug pulled"};
+/* clang-format on */
 
 /* What a device may have is said only if a block was sent. */
 void verdict_words(struct verdict *verdict, const struct session *session, const struct meaning *meaning)

@@ -9,6 +9,7 @@
 #include <stdio.h>
 #include <string.h>
 
+/* clang-format off */
 enum option_code {
     DEVICE = 256, PATH, SERIAL, INTERFACE, ALTERNATE, NO_VERIFY, UPLOAD, FORCE, DETACH, WAIT, TIMEOUT, LIMITS, TRANSFER_SIZE, DRY_RUN,
     QUIET, VERBOSE, JSON, LIST, ALL, LOG, ADDRESS, LENGTH, NO_LEAVE, HELP, VERSION
@@ -30,6 +31,7 @@ static const struct option options[] = {
     {"list", no_argument, NULL, LIST},             {"help", no_argument, NULL, HELP},
     {"version", no_argument, NULL, VERSION},       {NULL, 0, NULL, 0},
 };
+/* clang-format on */
 
 bool words_refuse(const char *what, const char *word)
 {
@@ -43,7 +45,8 @@ static bool is_job(struct words *words, enum job job)
 {
     if (words->file != NULL || (words->job != JOB_DOWNLOAD && words->job != job))
         return words_refuse(words->job == JOB_DETACH || job == JOB_DETACH ? "--detach is all that is done, with no --upload and no --list"
-                                                                    : "one --upload, or --list, says what is to be done", "");
+                                                                          : "one --upload, or --list, says what is to be done",
+                            "");
     words->job = job;
     return true;
 }
@@ -75,19 +78,28 @@ static bool is_wait(struct words *words, const char *seconds, int count, char **
 static bool take_option(struct words *words, int code, int count, char **texts)
 {
     switch (code) {
-    case 'd': case DEVICE: return value_device(optarg, words);
-    case 'p': case PATH: return value_path(optarg, words);
-    case 'S': case SERIAL: return value_serial(optarg, words);
-    case 'i': case INTERFACE: return value_interface(optarg, words);
-    case 'a': case ALTERNATE: return value_setting(optarg, words);
+    case 'd':
+    case DEVICE: return value_device(optarg, words);
+    case 'p':
+    case PATH: return value_path(optarg, words);
+    case 'S':
+    case SERIAL: return value_serial(optarg, words);
+    case 'i':
+    case INTERFACE: return value_interface(optarg, words);
+    case 'a':
+    case ALTERNATE: return value_setting(optarg, words);
     case NO_VERIFY: words->verify = false; return true;
     case 'D': return is_download(words, optarg);
-    case 'U': case UPLOAD: return is_upload(words, optarg);
+    case 'U':
+    case UPLOAD: return is_upload(words, optarg);
     case FORCE: words->force = true; return true;
-    case 'e': case DETACH: return is_job(words, JOB_DETACH);
-    case 'w': case WAIT: return is_wait(words, optarg, count, texts);
+    case 'e':
+    case DETACH: return is_job(words, JOB_DETACH);
+    case 'w':
+    case WAIT: return is_wait(words, optarg, count, texts);
     case TIMEOUT: return value_timeout(optarg, words);
-    case 't': case TRANSFER_SIZE: return value_transfer(optarg, words);
+    case 't':
+    case TRANSFER_SIZE: return value_transfer(optarg, words);
     case LIMITS: return value_limits(optarg, optind < count ? texts[optind++] : NULL, words);
     case DRY_RUN: words->dry_run = true; return true;
     case QUIET: words->quiet = true; return true;
@@ -99,10 +111,13 @@ static bool take_option(struct words *words, int code, int count, char **texts)
     case LENGTH: return value_length(optarg, words);
     case NO_LEAVE: words->stays = true; return true;
     case 's': return value_dfuse(optarg, words);
-    case 'l': case LIST: return is_job(words, JOB_LIST);
+    case 'l':
+    case LIST: return is_job(words, JOB_LIST);
     case 'R': return true; /* each session ends with a reset */
-    case 'h': case HELP: words->job = JOB_HELP; return true;
-    case 'V': case VERSION: words->job = JOB_VERSION; return true;
+    case 'h':
+    case HELP: words->job = JOB_HELP; return true;
+    case 'V':
+    case VERSION: words->job = JOB_VERSION; return true;
     default: fputs("See dfu-flash --help.\n", stderr); return false;
     }
 }

@@ -12,29 +12,29 @@ enum job { JOB_DOWNLOAD, JOB_UPLOAD, JOB_DETACH, JOB_LIST, JOB_HELP, JOB_VERSION
 
 struct words {
     enum job job;
-    const char *file;                /* FILE, or OUT of an upload */
+    const char *file; /* FILE, or OUT of an upload */
     bool verify, force, dry_run, quiet, json, verbose;
-    bool has_ids;                    /* --device was given */
+    bool has_ids; /* --device was given */
     uint16_t vendor, product;
-    bool has_dfu_ids;                /* as RUN,DFU: in DFU mode it may have these */
+    bool has_dfu_ids; /* as RUN,DFU: in DFU mode it may have these */
     uint16_t dfu_vendor, dfu_product;
-    const char *path, *serial;       /* NULL if they weren't given */
-    const char *log;                 /* the file of --verbose=FILE, or NULL */
-    int interface, alternate;        /* -1 if they weren't given */
-    const char *setting;             /* the name of --alt, NULL if it is a number or wasn't given */
-    bool has_limits;                 /* --limits was given */
+    const char *path, *serial; /* NULL if they weren't given */
+    const char *log;           /* the file of --verbose=FILE, or NULL */
+    int interface, alternate;  /* -1 if they weren't given */
+    const char *setting;       /* the name of --alt, NULL if it is a number or wasn't given */
+    bool has_limits;           /* --limits was given */
     uint32_t actions;
     uint16_t restarts;
-    uint16_t transfer;               /* --transfer-size, 0 if it wasn't given */
-    uint32_t timeout;                /* seconds of --timeout, 0 if it wasn't given */
-    bool wait;                       /* --wait was given, */
-    uint32_t patience;               /* and for so many seconds; 0 is for ever */
-    bool has_address;                /* --address was given: DfuSe */
-    uint32_t address, length;        /* and --length, 0 if it wasn't */
-    bool stays;                      /* --no-leave was given */
-    bool all;                        /* --all was given, */
-    const char *folder;              /* and --log; or NULL */
-    const struct bay *bay;           /* of one of several devices: where it is; else NULL */
+    uint16_t transfer;        /* --transfer-size, 0 if it wasn't given */
+    uint32_t timeout;         /* seconds of --timeout, 0 if it wasn't given */
+    bool wait;                /* --wait was given, */
+    uint32_t patience;        /* and for so many seconds; 0 is for ever */
+    bool has_address;         /* --address was given: DfuSe */
+    uint32_t address, length; /* and --length, 0 if it wasn't */
+    bool stays;               /* --no-leave was given */
+    bool all;                 /* --all was given, */
+    const char *folder;       /* and --log; or NULL */
+    const struct bay *bay;    /* of one of several devices: where it is; else NULL */
 };
 
 /* Reads the words into `words`. False if they aren't understood, which is then said on standard error. */

@@ -16,12 +16,12 @@ struct worker {
     pid_t process;
     struct bay *bay;
     struct reader out, err;
-    char row[160];       /* how far it is */
-    char *record;        /* its last line, or NULL */
+    char row[160]; /* how far it is */
+    char *record;  /* its last line, or NULL */
     int64_t began_ms;
     int64_t deadline_ms; /* when it is killed, or 0: never */
     bool is_killed;
-    bool is_early;       /* it looks whether the device is another one than before, and as a rule it isn't */
+    bool is_early; /* it looks whether the device is another one than before, and as a rule it isn't */
 };
 
 /* Begins a process that flashes the device in the bay, with the image that was read. With `has_rows` it says how far it is. False if

@@ -7,8 +7,8 @@
 #include <stdint.h>
 
 struct controller {
-    const char *name;  /* as in /sys/class/udc */
-    int state;         /* its file `state`, which poll reports once it was written; -1 if there is none */
+    const char *name; /* as in /sys/class/udc */
+    int state;        /* its file `state`, which poll reports once it was written; -1 if there is none */
 };
 
 /* False if there is no such controller, which is said. */

@@ -38,16 +38,22 @@ static bool write_all(int ep0, const void *bytes, size_t length)
 
 bool descriptors_write(int ep0, int signals, uint8_t protocol, const uint8_t functional[9], const char *name)
 {
-    struct interface is = {.interface = {.bLength = sizeof is.interface, .bDescriptorType = USB_DT_INTERFACE,
-                                         .bInterfaceClass = USB_CLASS_APP_SPEC, .bInterfaceSubClass = 1,
-                                         .bInterfaceProtocol = protocol, .iInterface = 1}};
+    struct interface is = {.interface = {.bLength = sizeof is.interface,
+                                         .bDescriptorType = USB_DT_INTERFACE,
+                                         .bInterfaceClass = USB_CLASS_APP_SPEC,
+                                         .bInterfaceSubClass = 1,
+                                         .bInterfaceProtocol = protocol,
+                                         .iInterface = 1}};
     size_t count = strlen(name) + 1, length = offsetof(struct named, name) + count;
     struct named named = {.head = {htole32(FUNCTIONFS_STRINGS_MAGIC), htole32((uint32_t)length), htole32(1), htole32(1)},
                           .language = htole16(0x0409)};
     struct descriptors all = {
         .head = {htole32(FUNCTIONFS_DESCRIPTORS_MAGIC_V2), htole32(sizeof all),
                  htole32(FUNCTIONFS_HAS_FS_DESC | FUNCTIONFS_HAS_HS_DESC | FUNCTIONFS_HAS_SS_DESC | FUNCTIONFS_EVENTFD)},
-        .signals = htole32((uint32_t)signals), .full_count = htole32(2), .high_count = htole32(2), .super_count = htole32(2)};
+        .signals = htole32((uint32_t)signals),
+        .full_count = htole32(2),
+        .high_count = htole32(2),
+        .super_count = htole32(2)};
     if (count > sizeof named.name) {
         errno = EINVAL;
         return false;

@@ -10,14 +10,14 @@
 #define FUNCTION_NAME 64 /* bytes of a name of an interface, with its NUL */
 
 struct function {
-    const char *gadget;  /* whose function it is */
+    const char *gadget;       /* whose function it is */
     char name[FUNCTION_NAME]; /* of its interface */
     uint8_t protocol, functional[9];
-    int ep0;             /* events, and the transfers of endpoint 0 */
-    int signals;         /* an eventfd: how many events there were */
-    int64_t unread;      /* how many of these were not read, */
-    int64_t dropped;     /* and how many of them nobody can read any more: all, if none is there */
-    bool is_enabled;     /* a configuration is set */
+    int ep0;         /* events, and the transfers of endpoint 0 */
+    int signals;     /* an eventfd: how many events there were */
+    int64_t unread;  /* how many of these were not read, */
+    int64_t dropped; /* and how many of them nobody can read any more: all, if none is there */
+    bool is_enabled; /* a configuration is set */
 };
 
 /* What was read at once. The reset, if there is one, came first. Gone: somebody else has taken the gadget off the bus. */

@@ -7,11 +7,11 @@
 #include <stdint.h>
 
 struct installed {
-    const char *command;   /* NULL if there is none */
+    const char *command; /* NULL if there is none */
     const char *medium;
-    int child;             /* a descriptor that poll reports once the command ended; -1 if none runs */
+    int child; /* a descriptor that poll reports once the command ended; -1 if none runs */
     int process;
-    bool is_due;           /* another image came meanwhile, and is at: */
+    bool is_due; /* another image came meanwhile, and is at: */
     uint32_t at, length;
 };
 

@@ -32,7 +32,7 @@ static void look_at_kernel(void)
     char path[MOST_PATH], version[128] = "";
     unsigned major = 0, minor = 0;
     bool is_read = path_of_kernel(path, "sys/kernel/osrelease") && path_line(path, version, sizeof version)
-        && sscanf(version, "%u.%u", &major, &minor) == 2;
+                   && sscanf(version, "%u.%u", &major, &minor) == 2;
     bool is_new = is_read && (major > 6 || (major == 6 && minor >= 11));
     line("kernel", is_read ? version : "?", is_new ? "" : "FunctionFS takes the descriptors of DFU from Linux 6.11 on");
 }
@@ -89,8 +89,11 @@ static void look_at_gadget(const char *name)
     }
     line("gadget", name, access(path, W_OK) == 0 ? "" : errno == ENOENT ? "gadget/set-up makes it, as root" : strerror(errno));
     file = open(ep0, O_RDWR | O_CLOEXEC);
-    line("endpoint 0 of", name, file >= 0 ? "" : errno == ENOENT ? "its FunctionFS isn't mounted: gadget/set-up does it, as root"
-         : errno == EBUSY ? "another program has it" : strerror(errno));
+    line("endpoint 0 of", name,
+         file >= 0         ? ""
+         : errno == ENOENT ? "its FunctionFS isn't mounted: gadget/set-up does it, as root"
+         : errno == EBUSY  ? "another program has it"
+                           : strerror(errno));
     if (file >= 0)
         close(file);
 }

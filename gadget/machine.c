@@ -12,8 +12,12 @@
    images on trial. */
 static struct dfu_config layout(uint32_t sector)
 {
-    return (struct dfu_config){.version = DFU_VERSION, .transfer = 1, .attributes = DFU_MANIFESTATION_TOLERANT, .least = 1,
-                               .unit = MACHINE_UNIT, .sector = sector};
+    return (struct dfu_config){.version = DFU_VERSION,
+                               .transfer = 1,
+                               .attributes = DFU_MANIFESTATION_TOLERANT,
+                               .least = 1,
+                               .unit = MACHINE_UNIT,
+                               .sector = sector};
 }
 
 static int32_t note(struct machine *machine, int32_t answer)
@@ -67,8 +71,12 @@ int32_t machine_power_on(struct machine *machine, const struct medium *medium, b
     machine->medium = medium;
     machine->refusal = 0;
     machine->driver = driver_of(medium);
-    *device = (struct dfu_device){.config = &machine->config, .flash = medium->bytes, .size = medium->size, .block = machine->block,
-                                  .most = sizeof machine->block, .driver = &machine->driver};
+    *device = (struct dfu_device){.config = &machine->config,
+                                  .flash = medium->bytes,
+                                  .size = medium->size,
+                                  .block = machine->block,
+                                  .most = sizeof machine->block,
+                                  .driver = &machine->driver};
     if (note(machine, is_upgrade ? dfu_device_begin(device) : dfu_device_power_on(device)) == 0)
         note(machine, dfu_device_image(device, &machine->place));
     machine->trial = trial_of(medium, &machine->driver, machine->tries);
@@ -131,9 +139,8 @@ int32_t machine_handle(struct machine *machine, const uint8_t setup[8], const ui
 /* A byte of the image is on the disk as soon as it was taken, since the medium's unit is a byte: none is held back in the record. */
 bool machine_closes(struct machine *machine, const uint8_t setup[8], struct dfu_place *place)
 {
-    return setup[0] == 0x21 && setup[1] == DFU_DNLOAD && setup[6] == 0 && setup[7] == 0
-        && machine_state(machine) == DFU_STATE_DNLOAD_IDLE && dfu_device_candidate(&machine->device, place) == 0
-        && place->length >= machine->config.least;
+    return setup[0] == 0x21 && setup[1] == DFU_DNLOAD && setup[6] == 0 && setup[7] == 0 && machine_state(machine) == DFU_STATE_DNLOAD_IDLE
+           && dfu_device_candidate(&machine->device, place) == 0 && place->length >= machine->config.least;
 }
 
 bool machine_refuse_close(struct machine *machine, const uint8_t setup[8], uint8_t why)

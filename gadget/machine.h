@@ -20,12 +20,12 @@ struct machine {
     struct dfu_driver driver;
     uint8_t block[MOST_TRANSFER];
     const struct medium *medium;
-    struct dfu_place place;  /* of the active image */
-    bool is_installed;       /* another image was put in place, and nobody has looked at this yet */
-    uint32_t tries;          /* how often a new image is started on trial, 0 for no trials, and then: */
+    struct dfu_place place; /* of the active image */
+    bool is_installed;      /* another image was put in place, and nobody has looked at this yet */
+    uint32_t tries;         /* how often a new image is started on trial, 0 for no trials, and then: */
     struct dfu_trial trial;
     uint8_t gate[MACHINE_GATE]; /* the gate of the active image, as it was last */
-    int32_t refusal;         /* of the library; 0 if there was none. What follows one has no meaning */
+    int32_t refusal;            /* of the library; 0 if there was none. What follows one has no meaning */
 };
 
 /* The device gets power, and begins as the application or in DFU mode: 0, or the library's refusal. */

@@ -46,8 +46,7 @@ static uint8_t *make_content(const struct words *words, size_t size, int *status
     if (image == NULL)
         return NULL;
     content = calloc(1, size);
-    refusal = content == NULL ? 0 : length > words->most ? DFU_TOO_LARGE
-        : machine_format(content, size, image, length, words->tries);
+    refusal = content == NULL ? 0 : length > words->most ? DFU_TOO_LARGE : machine_format(content, size, image, length, words->tries);
     free(image);
     if (content == NULL)
         say_failed(words->image, "finds no memory");
@@ -97,7 +96,7 @@ static int overwrite(const struct words *words)
         say_wrong(words->medium, "there is something already: --force overwrites it");
     else if ((content = make_content(words, size, &status)) != NULL) {
         is_done = (medium.is_device || ftruncate(medium.file, (off_t)size) == 0) && medium_write(&medium, 0, content, size)
-            && fsync(medium.file) == 0;
+                  && fsync(medium.file) == 0;
         status = is_done || say_failed(words->medium, "can't be written") ? STATUS_DONE : STATUS_FILE;
         if (!is_done)
             medium_forget(&medium, 0, size);
@@ -146,7 +145,7 @@ static int make_new(const struct words *words)
     char *beside = content == NULL ? NULL : name_beside(words->medium);
     struct medium medium = {.name = words->medium, .file = beside == NULL ? -1 : mkostemp(beside, O_CLOEXEC)};
     bool is_done = medium.file >= 0 && medium_write(&medium, 0, content, size) && fsync(medium.file) == 0
-        && give_name(beside, words->medium) && sync_folder(words->medium);
+                   && give_name(beside, words->medium) && sync_folder(words->medium);
     if (size == 0)
         say_wrong(words->medium, "--most is at most 16777184, so that no sector has bytes of both slots");
     else if (content != NULL && !is_done)

@@ -73,7 +73,7 @@ static bool take_size(struct medium *medium, const struct stat *is)
 static bool take_alone(const struct medium *medium, enum medium_use use)
 {
     return use != MEDIUM_WRITE || flock(medium->file, LOCK_EX | LOCK_NB) == 0
-        || say_failed(medium->name, "is in use by another dfu-gadget");
+           || say_failed(medium->name, "is in use by another dfu-gadget");
 }
 
 /* Who may write it can also make it shorter, which ends a program that has it mapped. */
@@ -194,6 +194,6 @@ bool medium_forget(const struct medium *medium, size_t at, size_t length)
     if (bytes == NULL)
         return posix_fadvise(medium->file, 0, 0, POSIX_FADV_DONTNEED) == 0;
     return mmap(bytes, medium->size, PROT_NONE, MAP_PRIVATE | MAP_ANONYMOUS | MAP_FIXED, -1, 0) == bytes
-        && posix_fadvise(medium->file, 0, 0, POSIX_FADV_DONTNEED) == 0
-        && mmap(bytes, medium->size, PROT_READ, MAP_SHARED | MAP_FIXED, medium->file, 0) == bytes && !is_kept(medium, at, length);
+           && posix_fadvise(medium->file, 0, 0, POSIX_FADV_DONTNEED) == 0
+           && mmap(bytes, medium->size, PROT_READ, MAP_SHARED | MAP_FIXED, medium->file, 0) == bytes && !is_kept(medium, at, length);
 }

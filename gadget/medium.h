@@ -11,12 +11,12 @@
 struct medium {
     const char *name;
     int file;
-    bool is_device;        /* a block device */
-    const uint8_t *bytes;  /* NULL before it is mapped */
-    size_t size;           /* of both slots */
-    size_t sector;         /* no sector of so many bytes has bytes of both */
-    size_t head;           /* bytes of a slot before its image */
-    bool is_shared;        /* opened by MEDIUM_MARK: others may have it mapped */
+    bool is_device;       /* a block device */
+    const uint8_t *bytes; /* NULL before it is mapped */
+    size_t size;          /* of both slots */
+    size_t sector;        /* no sector of so many bytes has bytes of both */
+    size_t head;          /* bytes of a slot before its image */
+    bool is_shared;       /* opened by MEDIUM_MARK: others may have it mapped */
 };
 
 /* MEDIUM_MARK: for a mark of a trial, while `run` has it. */

@@ -18,8 +18,8 @@ static void become(const char *program, const char *medium, uint32_t at, uint32_
     char begin[16], count[16], own[4096], named[4096];
     char *words[] = {own, named, begin, count, NULL};
     int nothing = open("/dev/null", O_RDONLY);
-    bool fits = snprintf(own, sizeof own, "%s", program) < (int)sizeof own
-        && snprintf(named, sizeof named, "%s", medium) < (int)sizeof named;
+    bool fits =
+        snprintf(own, sizeof own, "%s", program) < (int)sizeof own && snprintf(named, sizeof named, "%s", medium) < (int)sizeof named;
     snprintf(begin, sizeof begin, "%" PRIu32, at);
     snprintf(count, sizeof count, "%" PRIu32, length);
     setpgid(0, 0);

@@ -14,13 +14,18 @@ enum { EVENTS, STOP, CHILD, CONTROLLER_STATE, WAITS };
 
 static bool take_numbers(struct dfu_config *config, const struct words *words)
 {
-    *config = (struct dfu_config){.version = DFU_VERSION, .detach_ms = words->detach_ms, .transfer = words->transfer,
-                                  .attributes = words->attributes, .busy_ms = words->busy_ms, .manifest_ms = words->manifest_ms,
-                                  .least = words->least, .unit = MACHINE_UNIT,
+    *config = (struct dfu_config){.version = DFU_VERSION,
+                                  .detach_ms = words->detach_ms,
+                                  .transfer = words->transfer,
+                                  .attributes = words->attributes,
+                                  .busy_ms = words->busy_ms,
+                                  .manifest_ms = words->manifest_ms,
+                                  .least = words->least,
+                                  .unit = MACHINE_UNIT,
                                   .sector = words->tries == 0 ? 0 : MEDIUM_TRIAL_SECTOR};
     return controller_number(words->upgrade, "idVendor", &config->vendor)
-        && controller_number(words->upgrade, "idProduct", &config->product)
-        && controller_number(words->upgrade, "bcdDevice", &config->device);
+           && controller_number(words->upgrade, "idProduct", &config->product)
+           && controller_number(words->upgrade, "bcdDevice", &config->device);
 }
 
 static int set_up(struct bus *bus, struct medium *medium, const struct words *words)
@@ -47,8 +52,9 @@ static int set_up(struct bus *bus, struct medium *medium, const struct words *wo
     machine_functional(&bus->machine, functional);
     bus_name(bus, name);
     return function_open(&bus->functions[APPLICATION], words->application, PROTOCOL_RUN_TIME, functional, name)
-            && function_open(&bus->functions[UPGRADE], words->upgrade, PROTOCOL_DFU, functional, name)
-        ? STATUS_DONE : STATUS_MISSING;
+                   && function_open(&bus->functions[UPGRADE], words->upgrade, PROTOCOL_DFU, functional, name)
+               ? STATUS_DONE
+               : STATUS_MISSING;
 }
 
 /* What FunctionFS has, once poll reports it. A reset may call for the other gadget: the setup after it is then gone. */

@@ -15,10 +15,9 @@
 bool say_is_verbose;
 
 static const char *const requests[] = {"DETACH", "DNLOAD", "UPLOAD", "GETSTATUS", "CLRSTATUS", "GETSTATE", "ABORT"};
-static const char *const states[] = {"appIDLE",          "appDETACH",   "dfuIDLE",
-                                     "dfuDNLOAD-SYNC",   "dfuDNBUSY",   "dfuDNLOAD-IDLE",
-                                     "dfuMANIFEST-SYNC", "dfuMANIFEST", "dfuMANIFEST-WAIT-RESET",
-                                     "dfuUPLOAD-IDLE",   "dfuERROR"};
+static const char *const states[] = {"appIDLE",        "appDETACH",        "dfuIDLE",     "dfuDNLOAD-SYNC",         "dfuDNBUSY",
+                                     "dfuDNLOAD-IDLE", "dfuMANIFEST-SYNC", "dfuMANIFEST", "dfuMANIFEST-WAIT-RESET", "dfuUPLOAD-IDLE",
+                                     "dfuERROR"};
 
 const char *state_name(int32_t state)
 {

@@ -13,7 +13,9 @@
 
 struct dfu_trial trial_of(const struct medium *medium, const struct dfu_driver *driver, uint32_t tries)
 {
-    return (struct dfu_trial){.flash = medium->bytes, .size = medium->size, .driver = driver,
+    return (struct dfu_trial){.flash = medium->bytes,
+                              .size = medium->size,
+                              .driver = driver,
                               .tries = {.unit = MACHINE_UNIT, .sector = MEDIUM_TRIAL_SECTOR, .tries = tries}};
 }
 
@@ -42,15 +44,9 @@ void trial_words(const struct dfu_trial *trial, uint16_t release, char text[TRIA
 static int say_result(const char *name, int32_t result)
 {
     switch (result) {
-    case DFU_NOT_WRITTEN:
-        say_wrong(name, "the trial goes on");
-        return STATUS_FILE;
-    case DFU_ELSEWHERE:
-        say_wrong(name, "no image that may run begins there");
-        return STATUS_REFUSED;
-    default:
-        say_wrong(name, machine_words(result));
-        return result == DFU_NO_MEDIUM ? STATUS_REFUSED : STATUS_BROKEN;
+    case DFU_NOT_WRITTEN: say_wrong(name, "the trial goes on"); return STATUS_FILE;
+    case DFU_ELSEWHERE: say_wrong(name, "no image that may run begins there"); return STATUS_REFUSED;
+    default: say_wrong(name, machine_words(result)); return result == DFU_NO_MEDIUM ? STATUS_REFUSED : STATUS_BROKEN;
     }
 }
 

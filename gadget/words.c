@@ -9,6 +9,7 @@
 #include <stdlib.h>
 #include <string.h>
 
+/* clang-format off */
 enum { MOST = 256, FORCE, CONTROLLER, CONFIG, APPLICATION, UPGRADE, CHECK, TRIES, ON_INSTALLED, DFU_MODE, DETACH_TIMEOUT, TRANSFER_SIZE,
        ATTRIBUTES, BUSY, MANIFEST, LEAST, DRY_RUN, VERBOSE, ROOT, HELP, VERSION };
 
@@ -36,10 +37,11 @@ static const struct option options[] = {
     {"version", no_argument, NULL, VERSION},
     {NULL, 0, NULL, 0},
 };
+/* clang-format on */
 
 #define MOST_IMAGE 16777216 /* bytes */
 #define MOST_MS 16777215
-#define MOST_TRIES 254 /* what a sector has marks for */
+#define MOST_TRIES 254           /* what a sector has marks for */
 #define BY_ATTRIBUTES UINT32_MAX /* of --manifest that isn't given */
 
 static bool refuse(const char *name, const char *why)
@@ -119,8 +121,9 @@ static bool take(struct words *words, int code, const char *value)
     case APPLICATION: return take_text(value, &words->application);
     case UPGRADE: return take_text(value, &words->upgrade);
     case CHECK: return take_text(value, &words->check);
-    case TRIES: return take_number(value, false, 2, MOST_TRIES, &words->tries)
-        || refuse(value, "it is no number of starts, from 2 to 254: a download that is verified starts a new image twice");
+    case TRIES:
+        return take_number(value, false, 2, MOST_TRIES, &words->tries)
+               || refuse(value, "it is no number of starts, from 2 to 254: a download that is verified starts a new image twice");
     case ON_INSTALLED: return take_text(value, &words->command);
     case DFU_MODE: return words->dfu_mode = true;
     case DETACH_TIMEOUT: return take_short(value, 0, 65535, "it is no number of milliseconds, from 0 to 65535", &words->detach_ms);
@@ -179,7 +182,7 @@ static bool is_whole(const struct words *words, bool has_more)
     if (words->job == JOB_RUN && (words->attributes & 4) == 0 && words->manifest_ms == 0)
         return refuse("--manifest", "it is at least 1 for a device that isn't tolerant");
     return words->job == JOB_RUN || (words->controller == NULL && words->config == NULL && !words->dry_run)
-        || refuse("usage", "--controller, --config and --dry-run go with run alone");
+           || refuse("usage", "--controller, --config and --dry-run go with run alone");
 }
 
 static bool take_at(struct words *words, const char *text)
@@ -213,8 +216,10 @@ static int take_all(struct words *words, int count, char **texts)
 int words_read(struct words *words, int count, char **texts)
 {
     int status;
+    /* clang-format off */
     *words = (struct words){.application = "application", .upgrade = "upgrade", .root = "", .attributes = 7, .detach_ms = 1000,
                             .transfer = 4096, .busy_ms = 5, .manifest_ms = BY_ATTRIBUTES, .least = 1};
+    /* clang-format on */
     status = take_all(words, count, texts);
     if (status == STATUS_DONE && words->config != NULL && words->job == JOB_RUN) {
         status = config_read(words);

@@ -11,17 +11,17 @@ enum job { JOB_NONE, JOB_FORMAT, JOB_IMAGE, JOB_RUN, JOB_START, JOB_CONFIRM, JOB
 
 struct words {
     enum job job;
-    const char *medium;       /* MEDIUM */
-    const char *image;        /* IMAGE of format */
-    uint32_t most;            /* --most, 0 if it wasn't given */
-    uint32_t tries;           /* --tries, 0 if it wasn't given: then no image runs on trial */
-    uint32_t at;              /* AT of confirm */
+    const char *medium; /* MEDIUM */
+    const char *image;  /* IMAGE of format */
+    uint32_t most;      /* --most, 0 if it wasn't given */
+    uint32_t tries;     /* --tries, 0 if it wasn't given: then no image runs on trial */
+    uint32_t at;        /* AT of confirm */
     bool force;
-    const char *controller;   /* NULL if it wasn't given */
-    const char *config;       /* NULL if it wasn't given */
-    const char *application, *upgrade;  /* the gadgets of both modes */
-    const char *command;      /* of --on-installed, NULL if it wasn't given */
-    const char *check;        /* of --check, NULL if it wasn't given */
+    const char *controller;            /* NULL if it wasn't given */
+    const char *config;                /* NULL if it wasn't given */
+    const char *application, *upgrade; /* the gadgets of both modes */
+    const char *command;               /* of --on-installed, NULL if it wasn't given */
+    const char *check;                 /* of --check, NULL if it wasn't given */
     const char *root;
     bool dfu_mode, dry_run, verbose;
     const char *log; /* the file of --verbose=FILE, or NULL */

@@ -9,15 +9,17 @@ static const struct dfu_config config = {DFU_VERSION, 0x0100, 1, 0x1209, 255, 40
 static struct dfu_place place;
 static uint8_t medium[DFU_MEDIUM_SIZE(1, 0, 1 << 20)], image[1 << 20], out[4096], body[4096], block[4096];
 static const struct dfu_driver driver = DFU_MEMORY_DRIVER(medium);
-static struct dfu_device device = {.config = &config, .flash = medium, .size = sizeof medium, .block = block, .most = sizeof block,
-                                   .driver = &driver};
+static struct dfu_device device = {
+    .config = &config, .flash = medium, .size = sizeof medium, .block = block, .most = sizeof block, .driver = &driver};
 
-static void ask(uint8_t kind, uint8_t request, uint16_t length) {
+static void ask(uint8_t kind, uint8_t request, uint16_t length)
+{
     uint8_t setup[8] = {kind, request, 0, 0, 0, 0, (uint8_t)length, (uint8_t)(length >> 8)};
     dfu_device_handle(&device, setup, body, out, sizeof out);
 }
 
-static void call(int which) {
+static void call(int which)
+{
     switch (which) {
     case 0: dfu_device_power_on(&device); break;
     case 1: ask(0xa1, DFU_GETSTATE, 1); break;
@@ -28,7 +30,8 @@ static void call(int which) {
     }
 }
 
-int main(void) {
+int main(void)
+{
     static const char *const names[] = {"power on", "GETSTATE", "elapse", "bus reset", "image", "state"};
     static const size_t sizes[] = {1, 1 << 16, 1 << 20};
     printf("ns a call, image of    1    64 KiB     1 MiB\n");

@@ -12,20 +12,23 @@
 static const struct dfu_config config = {DFU_VERSION, 0x0100, 1, 0x1209, 255, 4096, 7, 0, 5, 10, 1, 1, 0};
 static uint8_t medium[DFU_MEDIUM_SIZE(1, 0, MOST)], image[MOST], block[4096], out[4096];
 static const struct dfu_driver driver = DFU_MEMORY_DRIVER(medium);
-static struct dfu_device device = {.config = &config, .flash = medium, .size = sizeof medium, .block = block, .most = sizeof block,
-                                   .driver = &driver};
+static struct dfu_device device = {
+    .config = &config, .flash = medium, .size = sizeof medium, .block = block, .most = sizeof block, .driver = &driver};
 
-static int32_t ask(uint8_t kind, uint8_t request, uint16_t value, const uint8_t *body, uint16_t length) {
+static int32_t ask(uint8_t kind, uint8_t request, uint16_t value, const uint8_t *body, uint16_t length)
+{
     uint8_t setup[8] = {kind, request, (uint8_t)value, (uint8_t)(value >> 8), 0, 0, (uint8_t)length, (uint8_t)(length >> 8)};
     return dfu_device_handle(&device, setup, body, out, sizeof out);
 }
 
 /* To dfuIDLE, as a host brings it there. */
-static int begin(void) {
+static int begin(void)
+{
     return dfu_device_begin(&device) == 0;
 }
 
-static int download(size_t bytes, size_t most) {
+static int download(size_t bytes, size_t most)
+{
     uint16_t number = 0;
     if (!begin())
         return 0;
@@ -42,7 +45,8 @@ static int download(size_t bytes, size_t most) {
     return ask(0xa1, DFU_GETSTATUS, 0, image, 6) == 6 && dfu_device_state(&device) == DFU_STATE_IDLE;
 }
 
-int main(int count, char **words) {
+int main(int count, char **words)
+{
     if (count != 4)
         return 2;
     const char *what = words[1];

@@ -12,22 +12,26 @@ int counted(int count, char **words);
 #ifdef __riscv
 static uint32_t began;
 
-static uint32_t now(void) {
+static uint32_t now(void)
+{
     uint32_t count;
     __asm__ volatile("csrr %0, minstret" : "=r"(count));
     return count;
 }
 
-static void start(void) {
+static void start(void)
+{
     began = now();
 }
 
-static uint64_t stop(void) {
+static uint64_t stop(void)
+{
     return now() - began;
 }
 
 /* Twice as many instructions. */
-__attribute__((noinline)) static uint64_t loop(uint32_t turns) {
+__attribute__((noinline)) static uint64_t loop(uint32_t turns)
+{
     start();
     __asm__ volatile("1: addi %0, %0, -1\nbnez %0, 1b" : "+r"(turns));
     return stop();
@@ -37,13 +41,15 @@ __attribute__((noinline)) static uint64_t loop(uint32_t turns) {
 
 static uint32_t began;
 
-static void start(void) {
+static void start(void)
+{
     TIMER[0] = 0, TIMER[1] = TIMER[2] = 0xffffffff, TIMER[3] = 1;
     TIMER[0] = 9; /* it runs, and notes that it came to 0 */
     began = TIMER[1];
 }
 
-static uint64_t stop(void) {
+static uint64_t stop(void)
+{
     uint32_t ended = TIMER[1];
     if (TIMER[3] != 0) {
         puts("the timer is over");
@@ -53,14 +59,16 @@ static uint64_t stop(void) {
 }
 
 /* Twice as many instructions. */
-__attribute__((noinline)) static uint64_t loop(uint32_t turns) {
+__attribute__((noinline)) static uint64_t loop(uint32_t turns)
+{
     start();
     __asm__ volatile(".syntax unified\n1: subs %0, %0, #1\nbne 1b" : "+l"(turns) : : "cc");
     return stop();
 }
 #endif
 
-int main(int count, char **words) {
+int main(int count, char **words)
+{
     uint64_t more = loop(200000) - loop(100000);
     if (more != 200000) {
         printf("200000 instructions are counted as %llu\n", (unsigned long long)more);

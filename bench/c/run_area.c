@@ -8,7 +8,8 @@
 
 static uint8_t image[65536], area[65536];
 
-int main(int count, char **words) {
+int main(int count, char **words)
+{
     const char what = count > 2 ? words[1][0] : 0;
     const struct dfu_driver driver = DFU_MEMORY_DRIVER(area);
     struct dfu_install install = {area, sizeof area, {what ? (uint32_t)atol(words[2]) : 0, DFU_NOWHERE}, &driver};

@@ -13,7 +13,8 @@ struct dfu_trial trial;
 uint8_t setup[8], body[64], out[64];
 int32_t answer;
 
-int main(void) {
+int main(void)
+{
 #ifndef NONE
     answer += dfu_device_power_on(&device);
     answer += dfu_device_image(&device, &place);

@@ -7,17 +7,27 @@
 #include "dfu_device_memory.h"
 
 static const struct dfu_config config = {
-    .version = DFU_VERSION, .device = 0x0100, .product = 1, .vendor = 0x1209,
-    .detach_ms = 255, .transfer = 64, .attributes = DFU_CAN_DNLOAD | DFU_CAN_UPLOAD | DFU_MANIFESTATION_TOLERANT, .interface_number = 0,
-    .busy_ms = 5, .manifest_ms = 0, .least = 1, .unit = 1, .sector = 0,
+    .version = DFU_VERSION,
+    .device = 0x0100,
+    .product = 1,
+    .vendor = 0x1209,
+    .detach_ms = 255,
+    .transfer = 64,
+    .attributes = DFU_CAN_DNLOAD | DFU_CAN_UPLOAD | DFU_MANIFESTATION_TOLERANT,
+    .interface_number = 0,
+    .busy_ms = 5,
+    .manifest_ms = 0,
+    .least = 1,
+    .unit = 1,
+    .sector = 0,
 };
 
 /* What lasts through a loss of power, and what need not: two buffers, and the device. */
 static uint8_t flash[DFU_MEDIUM_SIZE(1, 0, 1024)];
 static uint8_t block[64], data[64];
 static const struct dfu_driver driver = DFU_MEMORY_DRIVER(flash);
-static struct dfu_device dfu = {.config = &config, .flash = flash, .size = sizeof flash, .block = block, .most = sizeof block,
-                                .driver = &driver};
+static struct dfu_device dfu = {
+    .config = &config, .flash = flash, .size = sizeof flash, .block = block, .most = sizeof block, .driver = &driver};
 
 /* What runs now: the upgrade, or the application at its place in the flash. */
 static void show(const char *what, int32_t answer) {

@@ -7,17 +7,27 @@
 #include "dfu_device_memory.h"
 
 static const struct dfu_config config = {
-    .version = DFU_VERSION, .device = 0x0100, .product = 1, .vendor = 0x1209,
-    .detach_ms = 255, .transfer = 64, .attributes = DFU_CAN_DNLOAD | DFU_CAN_UPLOAD | DFU_MANIFESTATION_TOLERANT, .interface_number = 2,
-    .busy_ms = 5, .manifest_ms = 0, .least = 1, .unit = 1, .sector = 0,
+    .version = DFU_VERSION,
+    .device = 0x0100,
+    .product = 1,
+    .vendor = 0x1209,
+    .detach_ms = 255,
+    .transfer = 64,
+    .attributes = DFU_CAN_DNLOAD | DFU_CAN_UPLOAD | DFU_MANIFESTATION_TOLERANT,
+    .interface_number = 2,
+    .busy_ms = 5,
+    .manifest_ms = 0,
+    .least = 1,
+    .unit = 1,
+    .sector = 0,
 };
 static uint8_t flash[DFU_MEDIUM_SIZE(1, 0, 1024)];
 static const struct dfu_driver driver = DFU_MEMORY_DRIVER(flash);
 
 /* The block, and the one buffer of endpoint 0. */
 static uint8_t block[64], endpoint[64];
-static struct dfu_device dfu = {.config = &config, .flash = flash, .size = sizeof flash, .block = block, .most = sizeof block,
-                                .driver = &driver};
+static struct dfu_device dfu = {
+    .config = &config, .flash = flash, .size = sizeof flash, .block = block, .most = sizeof block, .driver = &driver};
 
 static void show(const char *what, int32_t answer) {
     printf("%-10s %2d state %d\n", what, (int)answer, (int)dfu_device_state(&dfu));

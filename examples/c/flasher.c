@@ -8,16 +8,26 @@
 #include "dfu_host.h"
 
 static const struct dfu_config config = {
-    .version = DFU_VERSION, .device = 0x0100, .product = 1, .vendor = 0x1209, .detach_ms = 255, .transfer = 64,
-    .attributes = DFU_CAN_DNLOAD | DFU_CAN_UPLOAD | DFU_MANIFESTATION_TOLERANT, .interface_number = 0,
-    .busy_ms = 5, .manifest_ms = 0, .least = 1, .unit = 1, .sector = 0,
+    .version = DFU_VERSION,
+    .device = 0x0100,
+    .product = 1,
+    .vendor = 0x1209,
+    .detach_ms = 255,
+    .transfer = 64,
+    .attributes = DFU_CAN_DNLOAD | DFU_CAN_UPLOAD | DFU_MANIFESTATION_TOLERANT,
+    .interface_number = 0,
+    .busy_ms = 5,
+    .manifest_ms = 0,
+    .least = 1,
+    .unit = 1,
+    .sector = 0,
 };
 static const uint8_t descriptor[9] = {9, 0x21, 7, 255, 0, 64, 0, 0x10, 1};
 static const struct dfu_ids ids = {0x0100, 1, 0x1209};
 static uint8_t flash[DFU_MEDIUM_SIZE(1, 0, 65536)], block[64], file[65536 + 255], answer[65535];
 static const struct dfu_driver driver = DFU_MEMORY_DRIVER(flash);
-static struct dfu_device device = {.config = &config, .flash = flash, .size = sizeof flash, .block = block, .most = sizeof block,
-                                   .driver = &driver};
+static struct dfu_device device = {
+    .config = &config, .flash = flash, .size = sizeof flash, .block = block, .most = sizeof block, .driver = &driver};
 
 /* Does one action: 0, and what was seen of it, with how many bytes came; or a refusal of the device library. */
 static int32_t act(const struct dfu_action *a, uint32_t *seen, size_t *count) {

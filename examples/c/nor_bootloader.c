@@ -14,11 +14,19 @@ enum { PAGE = 256, SECTOR = 4096, CAPACITY = 2 * SECTOR, BLOCK = 1024, IMAGE = 5
 enum { ERASE_MS = 45, PROGRAM_MS = 3 };
 
 static const struct dfu_config config = {
-    .version = DFU_VERSION, .device = 0x0100, .product = 1, .vendor = 0x1209,
-    .detach_ms = 255, .transfer = BLOCK, .attributes = DFU_CAN_DNLOAD | DFU_CAN_UPLOAD | DFU_MANIFESTATION_TOLERANT, .interface_number = 0,
+    .version = DFU_VERSION,
+    .device = 0x0100,
+    .product = 1,
+    .vendor = 0x1209,
+    .detach_ms = 255,
+    .transfer = BLOCK,
+    .attributes = DFU_CAN_DNLOAD | DFU_CAN_UPLOAD | DFU_MANIFESTATION_TOLERANT,
+    .interface_number = 0,
     .busy_ms = DFU_BLOCK_ERASES(BLOCK, SECTOR) * ERASE_MS + DFU_BLOCK_PROGRAMS(BLOCK) * PROGRAM_MS,
     .manifest_ms = DFU_COMMIT_ERASES(SECTOR) * ERASE_MS + DFU_COMMIT_PROGRAMS * PROGRAM_MS,
-    .least = 1, .unit = PAGE, .sector = SECTOR,
+    .least = 1,
+    .unit = PAGE,
+    .sector = SECTOR,
 };
 
 /* The part: the gate and the header of each of two slots have a sector for themselves. The library gets it to read. */
@@ -45,8 +53,8 @@ static int program(void *own, uint32_t at, const uint8_t *from, uint32_t length)
 /* What need not last through a loss of power. */
 static uint8_t block[BLOCK], data[BLOCK], image[IMAGE];
 static const struct dfu_driver driver = {part, erase, program};
-static struct dfu_device dfu = {.config = &config, .flash = part, .size = sizeof part, .block = block, .most = sizeof block,
-                                .driver = &driver};
+static struct dfu_device dfu = {
+    .config = &config, .flash = part, .size = sizeof part, .block = block, .most = sizeof block, .driver = &driver};
 
 /* What runs now: the upgrade, or the application at its place in the part. */
 static void show(const char *what, int32_t answer) {

@@ -10,8 +10,17 @@
 enum { PAGE = 256, SECTOR = 4096, CAPACITY = 2 * SECTOR, IMAGE = 4500 };
 
 static const struct dfu_config config = {
-    .version = DFU_VERSION, .device = 0x0100, .product = 1, .vendor = 0x1209, .detach_ms = 255, .transfer = 1024,
-    .attributes = DFU_CAN_DNLOAD | DFU_MANIFESTATION_TOLERANT, .interface_number = 0, .least = 1, .unit = PAGE, .sector = SECTOR,
+    .version = DFU_VERSION,
+    .device = 0x0100,
+    .product = 1,
+    .vendor = 0x1209,
+    .detach_ms = 255,
+    .transfer = 1024,
+    .attributes = DFU_CAN_DNLOAD | DFU_MANIFESTATION_TOLERANT,
+    .interface_number = 0,
+    .least = 1,
+    .unit = PAGE,
+    .sector = SECTOR,
 };
 
 /* The part: the slots, the run area as large as a slot's data, and a sector of the application's. */

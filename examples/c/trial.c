@@ -10,8 +10,17 @@
 enum { PAGE = 256, SECTOR = 4096, CAPACITY = SECTOR, TRANSFER = 256 };
 
 static const struct dfu_config config = {
-    .version = DFU_VERSION, .device = 0x0100, .product = 1, .vendor = 0x1209, .detach_ms = 255, .transfer = TRANSFER,
-    .attributes = DFU_CAN_DNLOAD | DFU_MANIFESTATION_TOLERANT, .interface_number = 0, .least = 1, .unit = PAGE, .sector = SECTOR,
+    .version = DFU_VERSION,
+    .device = 0x0100,
+    .product = 1,
+    .vendor = 0x1209,
+    .detach_ms = 255,
+    .transfer = TRANSFER,
+    .attributes = DFU_CAN_DNLOAD | DFU_MANIFESTATION_TOLERANT,
+    .interface_number = 0,
+    .least = 1,
+    .unit = PAGE,
+    .sector = SECTOR,
 };
 static uint8_t part[DFU_MEDIUM_SIZE(PAGE, SECTOR, CAPACITY)], block[TRANSFER], out[TRANSFER];
 static int is_shown;
@@ -34,7 +43,12 @@ static int program(void *own, uint32_t at, const uint8_t *from, uint32_t length)
 
 static const struct dfu_driver driver = {part, erase, program};
 static struct dfu_device dfu = {
-    .config = &config, .flash = part, .size = sizeof part, .block = block, .most = sizeof block, .driver = &driver,
+    .config = &config,
+    .flash = part,
+    .size = sizeof part,
+    .block = block,
+    .most = sizeof block,
+    .driver = &driver,
 };
 static const struct dfu_trial trial = {.flash = part, .size = sizeof part, .driver = &driver, .tries = {PAGE, SECTOR, 3}};
 

@@ -24,10 +24,10 @@ enum {
 /* The frame that comes in: its first FRAME_MOST bytes are kept, `length` says how many it has. Zeros are one that has not begun. */
 struct frame {
     uint8_t bytes[FRAME_MOST];
-    uint32_t length;         /* of a whole frame, without its check sum */
-    uint32_t count;          /* how many came of the next one */
-    uint16_t check;          /* over these */
-    uint8_t is_open;         /* a byte END came */
+    uint32_t length; /* of a whole frame, without its check sum */
+    uint32_t count;  /* how many came of the next one */
+    uint16_t check;  /* over these */
+    uint8_t is_open; /* a byte END came */
     uint8_t is_escaped, is_bad;
 };
 

@@ -111,7 +111,7 @@ void on_text(const uint8_t *text, uint32_t length) {
 static int is_ready(const struct dfu_place *place, struct signed_image *image) {
     struct dfu_install install = {.run = flash_run, .size = CAPACITY, .area = {PAGE, DFU_NOWHERE}, .driver = &run_driver};
     return signed_may_start(&board, place, image) && image->program % 4 == 0
-        && dfu_install_settle(&install, flash_medium + place->at, place->length) == 0;
+           && dfu_install_settle(&install, flash_medium + place->at, place->length) == 0;
 }
 
 /* The image that is to run: one that may not start ends its trial, and a start on trial is marked once it is ready. */
@@ -134,7 +134,7 @@ static void set_up(void) {
     device.driver = &driver;
     trial = (struct dfu_trial){.flash = flash_medium, .size = MEDIUM_SIZE, .driver = &driver, .tries = board_tries};
     board.device = &device, board.trial = &trial;
-    board.rules.keys = (const uint8_t (*)[SIGNED_KEY])ed25519_pub_key, board.rules.key_count = 1, board.rules.hardware = HARDWARE;
+    board.rules.keys = (const uint8_t(*)[SIGNED_KEY])ed25519_pub_key, board.rules.key_count = 1, board.rules.hardware = HARDWARE;
 }
 
 int main(void) {

@@ -116,7 +116,8 @@ static enum signed_verdict find(const struct signed_bytes *bytes, struct layout 
     if (parts != SIGNED_TAKEN)
         return parts;
     return find_values(bytes, found->body, found->protect, 1, found) && find_values(bytes, found->protect, found->end, 0, found)
-        ? SIGNED_TAKEN : SIGNED_WRONG_TLVS;
+               ? SIGNED_TAKEN
+               : SIGNED_WRONG_TLVS;
 }
 
 /* Which key of the board has this hash: NULL if none has. */

@@ -5,7 +5,8 @@
 void begin(void);
 void on_timer1(void);
 
-void on_timer1(void) {}
+void on_timer1(void) {
+}
 
 void begin(void) {
     static const char name[] = "image " NAME;

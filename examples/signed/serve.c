@@ -4,8 +4,7 @@
 /* Whether this setup closes a download whose image the device would put in place: 1 or 0; or a refusal of the library. */
 static int32_t closes(const struct dfu_device *device, const uint8_t setup[8]) {
     int32_t stalls;
-    if (setup[0] != 0x21 || setup[1] != DFU_DNLOAD || setup[6] != 0 || setup[7] != 0
-        || dfu_device_state(device) != DFU_STATE_DNLOAD_IDLE)
+    if (setup[0] != 0x21 || setup[1] != DFU_DNLOAD || setup[6] != 0 || setup[7] != 0 || dfu_device_state(device) != DFU_STATE_DNLOAD_IDLE)
         return 0;
     stalls = dfu_device_would_stall(device, setup);
     return stalls < 0 ? stalls : stalls == 0;

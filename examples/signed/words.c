@@ -7,8 +7,8 @@ uint8_t signed_status(enum signed_verdict verdict) {
 
 const char *signed_name(enum signed_verdict verdict) {
     static const char *const names[] = {
-        "taken", "no header", "wrong lengths", "wrong flags", "wrong TLVs", "wrong digest", "other key", "wrong signature", "other board",
-        "no counter", "older",
+        "taken",     "no header",       "wrong lengths", "wrong flags", "wrong TLVs", "wrong digest",
+        "other key", "wrong signature", "other board",   "no counter",  "older",
     };
     return (unsigned)verdict < sizeof names / sizeof names[0] ? names[verdict] : "?";
 }

@@ -13,7 +13,7 @@
 #include <windows.h>
 
 #define SHARED (FILE_SHARE_READ | FILE_SHARE_WRITE | FILE_SHARE_DELETE)
-#define MOST_BESIDE 100   /* names that are tried */
+#define MOST_BESIDE 100 /* names that are tried */
 #define MOST_WRITE 1048576
 
 static bool fail(const char *name, const char *why)

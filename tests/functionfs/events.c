@@ -32,7 +32,8 @@ static bool is_dropped(uint8_t old, uint8_t new)
 {
     switch (new) {
     case FUNCTIONFS_RESUME: return old == FUNCTIONFS_SUSPEND || old == new;
-    case FUNCTIONFS_SUSPEND: case FUNCTIONFS_SETUP: return old == new;
+    case FUNCTIONFS_SUSPEND:
+    case FUNCTIONFS_SETUP: return old == new;
     default: return !is_power(old);
     }
 }

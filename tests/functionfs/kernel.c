@@ -108,7 +108,7 @@ static ssize_t write_descriptors(struct endpoint *endpoint, const uint8_t *bytes
     static const uint8_t head[12] = {3, 0, 0, 0, 82, 0, 0, 0, 39, 0, 0, 0};
     bool is_right = endpoint->written == 1 ? length >= 20 && bytes[0] == 2 && bytes[4] == length && bytes[length - 1] == 0
                                            : length == 82 && memcmp(bytes, head, 12) == 0 && bytes[28] == 9 && bytes[29] == 4
-            && bytes[33] == 0xfe && bytes[34] == 1 && bytes[37] == 9 && bytes[38] == 0x21;
+                                                 && bytes[33] == 0xfe && bytes[34] == 1 && bytes[37] == 9 && bytes[38] == 0x21;
     if (!is_right || getenv("GADGET_OLD_KERNEL") != NULL) {
         errno = EINVAL;
         return -1;

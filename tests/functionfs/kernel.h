@@ -11,8 +11,8 @@
 
 struct endpoint {
     const char *gadget;
-    int file, signals;      /* the program's endpoint 0, and its eventfd; -1 */
-    int written;            /* how many of descriptors and strings were taken */
+    int file, signals; /* the program's endpoint 0, and its eventfd; -1 */
+    int written;       /* how many of descriptors and strings were taken */
     bool is_joined, is_enabled;
     uint8_t types[MOST_EVENTS];
     size_t count;

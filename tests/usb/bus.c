@@ -12,11 +12,11 @@
 #include <time.h>
 #include <unistd.h>
 
-#define BOUND 100000 /* transfers of a run: a program that sends more goes round in a circle */
+#define BOUND 100000  /* transfers of a run: a program that sends more goes round in a circle */
 #define REST_MS 10000 /* pass on the device once the program has ended */
 
 static const struct model *model;
-struct seen *seen = &(struct seen){ 0 };
+struct seen *seen = &(struct seen){0};
 static unsigned transfers, idle_lists;
 static uint64_t told_ns;
 
@@ -129,7 +129,7 @@ static int leave(void)
 static int handled(const uint8_t setup[8], uint8_t *data, uint16_t length, const struct fate *fate)
 {
     bool is_in = (setup[0] & 0x80) != 0;
-    uint8_t none[8] = { 0 };
+    uint8_t none[8] = {0};
     uint8_t *out = is_in ? data : none;
     const uint8_t *body = is_in ? none : data;
     int count = 0;
@@ -147,19 +147,12 @@ static int handled(const uint8_t setup[8], uint8_t *data, uint16_t length, const
 static int meets(const struct fate *fate, const uint8_t setup[8], uint8_t *data, uint16_t length, unsigned timeout)
 {
     switch (fate->kind) {
-    case FATE_SWAP:
-        seen->is_swapped = true;
-        return leave();
-    case FATE_LEAVE:
-        return leave();
-    case FATE_CUT:
-        handled(setup, data, length, fate);
-        return leave();
-    case FATE_STALL:
-        return USB_ERROR_PIPE;
+    case FATE_SWAP: seen->is_swapped = true; return leave();
+    case FATE_LEAVE: return leave();
+    case FATE_CUT: handled(setup, data, length, fate); return leave();
+    case FATE_STALL: return USB_ERROR_PIPE;
     case FATE_LOST_OUT:
-    case FATE_DEAF:
-        return wait_in_vain(timeout);
+    case FATE_DEAF: return wait_in_vain(timeout);
     case FATE_LOST_BACK:
     case FATE_MUTE: {
         uint8_t unheard[65536];
@@ -167,15 +160,14 @@ static int meets(const struct fate *fate, const uint8_t setup[8], uint8_t *data,
         handled(setup, unheard, length, fate);
         return wait_in_vain(timeout);
     }
-    default:
-        return handled(setup, data, length, fate);
+    default: return handled(setup, data, length, fate);
     }
 }
 
 /* As libusb does it, no signal cuts it short. It is no time of the device. */
 static void pass_untold(unsigned ms)
 {
-    struct timespec left = { ms / 1000, (long)(ms % 1000) * 1000000 };
+    struct timespec left = {ms / 1000, (long)(ms % 1000) * 1000000};
     while (nanosleep(&left, &left) != 0)
         ;
     told_ns += ms * UINT64_C(1000000);
@@ -184,7 +176,7 @@ static void pass_untold(unsigned ms)
 int bus_transfer(const uint8_t setup[8], uint8_t *data, uint16_t length, unsigned timeout)
 {
     idle_lists = 0;
-    uint8_t none[8] = { 0 }, *at = data != NULL && length > 0 ? data : none;
+    uint8_t none[8] = {0}, *at = data != NULL && length > 0 ? data : none;
     if (transfers == BOUND)
         fail_loudly("%d transfers were made, and the program is not done", BOUND);
     if (!seen->is_app && settings.setting >= 0 && seen->setting != settings.setting)

@@ -9,7 +9,7 @@
 struct seen {
     unsigned generation, away;
     bool is_app, is_there, is_swapped;
-    int setting;     /* the alternate setting that it stands in */
+    int setting;       /* the alternate setting that it stands in */
     uint64_t ended_ms; /* when the process that worked with it ended, or 0 */
 };
 

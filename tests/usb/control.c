@@ -132,8 +132,14 @@ static int standard(const libusb_device *device, uint8_t kind, uint8_t request, 
 int libusb_control_transfer(libusb_device_handle *handle, uint8_t kind, uint8_t request, uint16_t value, uint16_t index,
                             unsigned char *data, uint16_t length, unsigned int timeout)
 {
-    const uint8_t setup[8] = { kind, request, (uint8_t)value, (uint8_t)(value >> 8), (uint8_t)index, (uint8_t)(index >> 8),
-                               (uint8_t)length, (uint8_t)(length >> 8) };
+    const uint8_t setup[8] = {kind,
+                              request,
+                              (uint8_t)value,
+                              (uint8_t)(value >> 8),
+                              (uint8_t)index,
+                              (uint8_t)(index >> 8),
+                              (uint8_t)length,
+                              (uint8_t)(length >> 8)};
     int error = held(handle);
     if (error != 0)
         return settings.leaves_untold ? USB_ERROR_IO : error;

@@ -34,10 +34,15 @@ int describe_function(bool is_app, uint8_t out[9])
 {
     const uint8_t size = is_app ? settings.app_descriptor : settings.descriptor;
     const uint16_t transfer = is_app ? settings.app_transfer : settings.said;
-    const uint8_t bytes[9] = { size, 0x21, is_app ? settings.app_attributes : settings.attributes,
-                               (uint8_t)settings.detach_ms, (uint8_t)(settings.detach_ms >> 8),
-                               (uint8_t)transfer, (uint8_t)(transfer >> 8),
-                               (uint8_t)settings.version, (uint8_t)(settings.version >> 8) };
+    const uint8_t bytes[9] = {size,
+                              0x21,
+                              is_app ? settings.app_attributes : settings.attributes,
+                              (uint8_t)settings.detach_ms,
+                              (uint8_t)(settings.detach_ms >> 8),
+                              (uint8_t)transfer,
+                              (uint8_t)(transfer >> 8),
+                              (uint8_t)settings.version,
+                              (uint8_t)(settings.version >> 8)};
     memcpy(out, bytes, size);
     return size;
 }
@@ -87,7 +92,7 @@ struct libusb_config_descriptor *describe_configuration(bool is_app)
     whole->alternates[count - 1].extra = whole->function;
     whole->alternates[count - 1].extra_length = length;
     memcpy(whole->function, extra, (size_t)length);
-    whole->interface = (struct libusb_interface){ whole->alternates, count };
+    whole->interface = (struct libusb_interface){whole->alternates, count};
     whole->configuration = (struct libusb_config_descriptor){
         .bLength = 9,
         .bDescriptorType = 2,
@@ -152,14 +157,14 @@ static int own_string(unsigned number, uint8_t *out, uint16_t room)
 
 int describe_string(unsigned number, bool is_other, uint8_t *out, uint16_t room)
 {
-    static const char *const names[] = { "stand-in", "boot", "kernel", "data", "more" };
+    static const char *const names[] = {"stand-in", "boot", "kernel", "data", "more"};
     const char *text = number < INTERFACE_STRING ? is_other || bus_is_swapped() ? "OTHER" : settings.serial : "";
-    uint8_t bytes[2 + 2 * MOST_UNITS] = { 4, 3, 0x09, 0x04 };
+    uint8_t bytes[2 + 2 * MOST_UNITS] = {4, 3, 0x09, 0x04};
     if (number > INTERFACE_STRING + MOST_ALTERNATES)
         return own_string(number, out, room);
     if (number >= INTERFACE_STRING)
         text = settings.maps == NULL ? names[number - INTERFACE_STRING]
-            : map_name(number == INTERFACE_STRING ? 0 : number - INTERFACE_STRING - 1);
+                                     : map_name(number == INTERFACE_STRING ? 0 : number - INTERFACE_STRING - 1);
     if (number == INTERFACE_STRING && settings.name != NULL)
         text = bus_generation() > 1 && settings.next_name != NULL ? settings.next_name : settings.name;
     if (number == INTERFACE_STRING && bus_is_swapped() && settings.swapped_name != NULL)

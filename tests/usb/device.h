@@ -8,7 +8,7 @@ struct libusb_device {
     unsigned holders, generation;
     bool is_other; /* the second one, of which there are descriptors alone */
     bool is_app;
-    int board;     /* which of several, from 0 */
+    int board; /* which of several, from 0 */
 };
 
 struct libusb_device_handle {

@@ -55,7 +55,9 @@ static bool is_there(void)
 }
 
 /* A reset of the bus changes nothing of what ST's bootloader is at. */
-static void usb_reset(void) {}
+static void usb_reset(void)
+{
+}
 
 /* What a command has done stands once its time is over. */
 static void settle(void)
@@ -124,8 +126,8 @@ static void run(void)
 
 static int answer(uint8_t *out, uint32_t poll_ms)
 {
-    const uint8_t bytes[6] = { (uint8_t)dfuse.code, (uint8_t)poll_ms, (uint8_t)(poll_ms >> 8), (uint8_t)(poll_ms >> 16),
-                               (uint8_t)dfuse.state, 0 };
+    const uint8_t bytes[6] = {(uint8_t)dfuse.code,      (uint8_t)poll_ms,     (uint8_t)(poll_ms >> 8),
+                              (uint8_t)(poll_ms >> 16), (uint8_t)dfuse.state, 0};
     memcpy(out, bytes, sizeof bytes);
     return sizeof bytes;
 }
@@ -160,7 +162,7 @@ static int download(const uint8_t *body, uint16_t block, uint16_t length)
 
 static int upload(uint8_t *out, uint16_t block, uint16_t length)
 {
-    static const uint8_t commands[] = { 0x00, SET_ADDRESS, ERASE_PAGE };
+    static const uint8_t commands[] = {0x00, SET_ADDRESS, ERASE_PAGE};
     uint32_t address = dfuse.pointer + (uint32_t)(block - 2) * settings.transfer;
     size_t count;
     if ((dfuse.state != IDLE && dfuse.state != UPLOAD_IDLE) || block == 1)
@@ -236,14 +238,22 @@ static void make(void)
         dfuse.brought[1 + at] = (uint8_t)(settings.pending >> 8 * at);
 }
 
-static void set_interface(void) {}
-static int state(void) { return dfuse.state; }
-static int code(void) { return dfuse.code; }
+static void set_interface(void)
+{
+}
+static int state(void)
+{
+    return dfuse.state;
+}
+static int code(void)
+{
+    return dfuse.code;
+}
 
 static struct part keeps(unsigned number)
 {
     struct part memory = pages_memory();
-    const struct part parts[] = { { &dfuse, sizeof dfuse }, memory, { NULL, 0 } };
+    const struct part parts[] = {{&dfuse, sizeof dfuse}, memory, {NULL, 0}};
     return parts[number];
 }
 

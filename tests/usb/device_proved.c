@@ -10,8 +10,8 @@
 
 static struct dfu_config config;
 static uint8_t pending[4096], *medium;
-static struct dfu_driver driver = { .erase = dfu_memory_erase, .program = dfu_memory_program };
-static struct dfu_device device = { .config = &config, .block = pending, .most = sizeof pending, .driver = &driver };
+static struct dfu_driver driver = {.erase = dfu_memory_erase, .program = dfu_memory_program};
+static struct dfu_device device = {.config = &config, .block = pending, .most = sizeof pending, .driver = &driver};
 
 static void must(int32_t answer, const char *what)
 {
@@ -81,7 +81,9 @@ static void make(void)
         must(dfu_device_begin(&device), "begin");
 }
 
-static void set_interface(void) {}
+static void set_interface(void)
+{
+}
 
 static bool is_there(void)
 {
@@ -107,12 +109,12 @@ static struct part image(void)
 {
     struct dfu_place place;
     must(dfu_device_image(&device, &place), "image");
-    return (struct part){ medium + place.at, place.length };
+    return (struct part){medium + place.at, place.length};
 }
 
 static struct part keeps(unsigned number)
 {
-    const struct part parts[] = { { &device.record, sizeof device.record }, { medium, device.size }, { NULL, 0 } };
+    const struct part parts[] = {{&device.record, sizeof device.record}, {medium, device.size}, {NULL, 0}};
     return parts[number];
 }
 

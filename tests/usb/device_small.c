@@ -80,7 +80,7 @@ static void elapse(uint32_t ms)
 
 static int status(uint8_t *out, int state, uint32_t poll_ms)
 {
-    const uint8_t answer[6] = { 0, (uint8_t)poll_ms, (uint8_t)(poll_ms >> 8), (uint8_t)(poll_ms >> 16), (uint8_t)state, 0 };
+    const uint8_t answer[6] = {0, (uint8_t)poll_ms, (uint8_t)(poll_ms >> 8), (uint8_t)(poll_ms >> 16), (uint8_t)state, 0};
     memcpy(out, answer, sizeof answer);
     return sizeof answer;
 }
@@ -115,8 +115,7 @@ static int tell_status(uint8_t *out)
         if (small.leaves_ms == 0)
             reset_itself();
         return count;
-    default:
-        return status(out, small.state, small.leaves_ms);
+    default: return status(out, small.state, small.leaves_ms);
     }
 }
 
@@ -188,18 +187,26 @@ static void make(void)
     small.state = settings.starts_in_app ? APP_IDLE : IDLE;
 }
 
-static void set_interface(void) {}
-static int state(void) { return small.state; }
-static int code(void) { return 0; }
+static void set_interface(void)
+{
+}
+static int state(void)
+{
+    return small.state;
+}
+static int code(void)
+{
+    return 0;
+}
 
 static struct part image(void)
 {
-    return (struct part){ memory, small.size };
+    return (struct part){memory, small.size};
 }
 
 static struct part keeps(unsigned number)
 {
-    const struct part parts[] = { { &small, sizeof small }, { memory, settings.capacity }, { NULL, 0 } };
+    const struct part parts[] = {{&small, sizeof small}, {memory, settings.capacity}, {NULL, 0}};
     return parts[number];
 }
 

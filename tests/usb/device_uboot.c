@@ -33,8 +33,8 @@ static int refuse(int state)
 
 static int status(uint8_t *out, uint32_t poll_ms)
 {
-    const uint8_t answer[6] = { (uint8_t)uboot.code, (uint8_t)poll_ms, (uint8_t)(poll_ms >> 8), (uint8_t)(poll_ms >> 16),
-                                (uint8_t)uboot.state, 0 };
+    const uint8_t answer[6] = {(uint8_t)uboot.code,      (uint8_t)poll_ms,     (uint8_t)(poll_ms >> 8),
+                               (uint8_t)(poll_ms >> 16), (uint8_t)uboot.state, 0};
     memcpy(out, answer, sizeof answer);
     return sizeof answer;
 }
@@ -82,23 +82,16 @@ static int in_app(const struct request *request, uint8_t *out)
 static int in_idle(const struct request *request, const uint8_t *body, uint8_t *out)
 {
     switch (request->what) {
-    case DNLOAD:
-        return request->length == 0 ? refuse(ERROR) : download(request, body);
-    case UPLOAD:
-        uboot.state = UPLOAD_IDLE;
-        return upload(request, out, 0);
-    case ABORT:
-        return 0;
-    case GETSTATUS:
-        return status(out, 0);
-    case GETSTATE:
-        return tell_state(out);
+    case DNLOAD: return request->length == 0 ? refuse(ERROR) : download(request, body);
+    case UPLOAD: uboot.state = UPLOAD_IDLE; return upload(request, out, 0);
+    case ABORT: return 0;
+    case GETSTATUS: return status(out, 0);
+    case GETSTATE: return tell_state(out);
     case DETACH: /* not the standard's: it goes back to run-time mode */
         uboot.state = APP_IDLE;
         uboot.is_app = true;
         return 0;
-    default:
-        return refuse(ERROR);
+    default: return refuse(ERROR);
     }
 }
 
@@ -122,7 +115,7 @@ static int in_transfer(const struct request *request, const uint8_t *body, uint8
 /* The states that a GETSTATUS leads on from. */
 static int in_passing(const struct request *request, uint8_t *out)
 {
-    static const int next[] = { [DOWNLOAD_SYNC] = DOWNLOAD_IDLE, [BUSY] = DOWNLOAD_IDLE, [MANIFEST_SYNC] = MANIFEST, [MANIFEST] = IDLE };
+    static const int next[] = {[DOWNLOAD_SYNC] = DOWNLOAD_IDLE, [BUSY] = DOWNLOAD_IDLE, [MANIFEST_SYNC] = MANIFEST, [MANIFEST] = IDLE};
     if (request->what == GETSTATE && uboot.state != BUSY)
         return tell_state(out);
     if (request->what != GETSTATUS)
@@ -151,14 +144,16 @@ static int in_error(const struct request *request, uint8_t *out)
 static int handle(const uint8_t setup[8], const uint8_t *body, size_t length, uint8_t *out, size_t room)
 {
     static uint8_t answer[65536];
-    const struct request request = { setup[1], (uint16_t)(setup[2] | setup[3] << 8), (uint16_t)(setup[6] | setup[7] << 8) };
+    const struct request request = {setup[1], (uint16_t)(setup[2] | setup[3] << 8), (uint16_t)(setup[6] | setup[7] << 8)};
     int count;
     if (request.length > settings.transfer || (!(setup[0] & 0x80) && length != request.length))
         fail_loudly("a transfer of %u bytes, over wTransferSize, is not in this model", request.length);
     switch (uboot.state) {
-    case APP_IDLE: case APP_DETACH: count = in_app(&request, answer); break;
+    case APP_IDLE:
+    case APP_DETACH: count = in_app(&request, answer); break;
     case IDLE: count = in_idle(&request, body, answer); break;
-    case DOWNLOAD_IDLE: case UPLOAD_IDLE: count = in_transfer(&request, body, answer); break;
+    case DOWNLOAD_IDLE:
+    case UPLOAD_IDLE: count = in_transfer(&request, body, answer); break;
     case ERROR: count = in_error(&request, answer); break;
     default: count = in_passing(&request, answer);
     }
@@ -195,15 +190,30 @@ static void make(void)
     power();
 }
 
-static void elapse(uint32_t ms) { (void)ms; }
-static bool is_there(void) { return !uboot.is_gone; }
-static bool is_app(void) { return uboot.is_app; }
-static int state(void) { return uboot.state; }
-static int code(void) { return uboot.code; }
+static void elapse(uint32_t ms)
+{
+    (void)ms;
+}
+static bool is_there(void)
+{
+    return !uboot.is_gone;
+}
+static bool is_app(void)
+{
+    return uboot.is_app;
+}
+static int state(void)
+{
+    return uboot.state;
+}
+static int code(void)
+{
+    return uboot.code;
+}
 
 static struct part keeps(unsigned number)
 {
-    return number == 0 ? (struct part){ &uboot, sizeof uboot } : store_keeps(number - 1);
+    return number == 0 ? (struct part){&uboot, sizeof uboot} : store_keeps(number - 1);
 }
 
 const struct model uboot_model = {

@@ -10,7 +10,7 @@ enum { READABLE = 1, ERASABLE = 2, WRITABLE = 4 };
 
 struct range {
     uint32_t start, size, count;
-    size_t at;      /* its place in the memory */
+    size_t at; /* its place in the memory */
     unsigned may;
 };
 
@@ -37,7 +37,7 @@ static const char *add_range(const char *at, uint32_t *address)
     struct range *range = &store.ranges[store.count++];
     if (store.count == MOST_RANGES)
         fail_loudly("USB_PAGES has too many ranges");
-    *range = (struct range){ .start = *address, .at = store.size };
+    *range = (struct range){.start = *address, .at = store.size};
     range->count = number(&at, 10);
     if (*at++ != '*')
         fail_loudly("USB_PAGES has no * here: %s", at - 1);
@@ -148,5 +148,5 @@ void pages_tear(void)
 
 struct part pages_memory(void)
 {
-    return (struct part){ store.memory, store.size };
+    return (struct part){store.memory, store.size};
 }

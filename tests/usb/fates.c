@@ -6,8 +6,8 @@
 
 static enum fate_kind kind_of(const char *word)
 {
-    static const char *const words[] = { "pass", "lost-out", "lost-back", "twice", "short", "leave", "swap", "kill", "deaf", "mute",
-                                         "stuck", "cut", "stall" };
+    static const char *const words[] = {"pass", "lost-out", "lost-back", "twice", "short", "leave", "swap",
+                                        "kill", "deaf",     "mute",      "stuck", "cut",   "stall"};
     for (unsigned kind = 0; kind < sizeof words / sizeof *words; kind++)
         if (strcmp(word, words[kind]) == 0)
             return (enum fate_kind)kind;
@@ -18,7 +18,7 @@ void fates_read(const char *line)
 {
     char word[16];
     int used = 0;
-    for (struct fate fate = { 0 }; sscanf(line, " %15[a-z-] %u%n", word, &fate.number, &used) == 2; fate.bytes = 0) {
+    for (struct fate fate = {0}; sscanf(line, " %15[a-z-] %u%n", word, &fate.number, &used) == 2; fate.bytes = 0) {
         int more = 0;
         fate.kind = kind_of(word);
         line += used;

@@ -8,9 +8,9 @@
 
 struct part read_image(const char *name)
 {
-    static uint8_t one[1] = { 0 };
+    static uint8_t one[1] = {0};
     if (name == NULL)
-        return (struct part){ one, sizeof one };
+        return (struct part){one, sizeof one};
     FILE *file = fopen(name, "rb");
     if (file == NULL)
         fail_loudly("%s can't be read", name);
@@ -21,7 +21,7 @@ struct part read_image(const char *name)
     if (bytes == NULL || fread(bytes, 1, size, file) != size)
         fail_loudly("%s can't be read whole", name);
     fclose(file);
-    return (struct part){ bytes, size };
+    return (struct part){bytes, size};
 }
 
 static FILE *made(const char *name)

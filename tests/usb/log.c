@@ -15,14 +15,15 @@
 #include <stdio.h>
 #include <string.h>
 
-static const char *const states[] = { "appIDLE", "appDETACH", "dfuIDLE", "dfuDNLOAD-SYNC", "dfuDNBUSY", "dfuDNLOAD-IDLE",
-                                      "dfuMANIFEST-SYNC", "dfuMANIFEST", "dfuMANIFEST-WAIT-RESET", "dfuUPLOAD-IDLE", "dfuERROR" };
-static const char *const codes[] = { "OK", "errTARGET", "errFILE", "errWRITE", "errERASE", "errCHECK_ERASED", "errPROG", "errVERIFY",
-                                     "errADDRESS", "errNOTDONE", "errFIRMWARE", "errVENDOR", "errUSBR", "errPOR", "errUNKNOWN",
-                                     "errSTALLEDPKT" };
-static const char *const requests[] = { "DETACH", "DNLOAD", "UPLOAD", "GETSTATUS", "CLRSTATUS", "GETSTATE", "ABORT" };
-static const char *const fates[] = { "", " lost-out", " lost-back", " twice", " short", " leave", " swap", " kill", " deaf", " mute",
-                                     " stuck", " cut", " stall" };
+static const char *const states[] = {"appIDLE",        "appDETACH",        "dfuIDLE",     "dfuDNLOAD-SYNC",         "dfuDNBUSY",
+                                     "dfuDNLOAD-IDLE", "dfuMANIFEST-SYNC", "dfuMANIFEST", "dfuMANIFEST-WAIT-RESET", "dfuUPLOAD-IDLE",
+                                     "dfuERROR"};
+static const char *const codes[] = {"OK",      "errTARGET", "errFILE",    "errWRITE",     "errERASE",    "errCHECK_ERASED",
+                                    "errPROG", "errVERIFY", "errADDRESS", "errNOTDONE",   "errFIRMWARE", "errVENDOR",
+                                    "errUSBR", "errPOR",    "errUNKNOWN", "errSTALLEDPKT"};
+static const char *const requests[] = {"DETACH", "DNLOAD", "UPLOAD", "GETSTATUS", "CLRSTATUS", "GETSTATE", "ABORT"};
+static const char *const fates[] = {"",      " lost-out", " lost-back", " twice", " short", " leave", " swap",
+                                    " kill", " deaf",     " mute",      " stuck", " cut",   " stall"};
 
 #define NAME(table, number) ((unsigned)(number) < sizeof(table) / sizeof *(table) ? (table)[number] : "?")
 

@@ -16,19 +16,19 @@ struct part {
 };
 
 struct model {
-    void (*make)(void);                 /* with the old image on it, and the power on */
-    void (*power)(void);                /* the power goes and comes back */
+    void (*make)(void);  /* with the old image on it, and the power on */
+    void (*power)(void); /* the power goes and comes back */
     int (*handle)(const uint8_t setup[8], const uint8_t *body, size_t length, uint8_t *out, size_t room);
-                                        /* bytes of the answer, or STALLED */
+    /* bytes of the answer, or STALLED */
     void (*elapse)(uint32_t ms);
     void (*usb_reset)(void);
     void (*set_interface)(void);
     bool (*is_there)(void);
-    bool (*is_app)(void);               /* whether its descriptors are those of run-time mode */
-    int (*state)(void);                 /* bState */
-    int (*code)(void);                  /* bStatus */
-    struct part (*image)(void);         /* the image that stands */
-    struct part (*keeps)(unsigned);     /* by numbers from 0, the size 0 behind the last */
+    bool (*is_app)(void);                           /* whether its descriptors are those of run-time mode */
+    int (*state)(void);                             /* bState */
+    int (*code)(void);                              /* bStatus */
+    struct part (*image)(void);                     /* the image that stands */
+    struct part (*keeps)(unsigned);                 /* by numbers from 0, the size 0 behind the last */
     const uint8_t *(*string)(unsigned, unsigned *); /* a string descriptor of its own, and its bytes; it may have none */
 };
 

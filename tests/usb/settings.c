@@ -149,7 +149,7 @@ static struct ids ids(const char *name, const char *otherwise)
     unsigned vendor, product, release;
     if (sscanf(text(name, otherwise), "%4x:%4x:%4x", &vendor, &product, &release) != 3)
         fail_loudly("%s is vendor:product:release", name);
-    return (struct ids){ (uint16_t)vendor, (uint16_t)product, (uint16_t)release };
+    return (struct ids){(uint16_t)vendor, (uint16_t)product, (uint16_t)release};
 }
 
 static void read_path(const char *path)
@@ -170,8 +170,8 @@ static void read_path(const char *path)
 
 static void read_app(void)
 {
-    int has = which("USB_APP", (const char *const[4]){ "dfu", "plain", "none" });
-    int stalls = which("USB_APP_STALLS", (const char *const[4]){ "nothing", "status", "all" });
+    int has = which("USB_APP", (const char *const[4]){"dfu", "plain", "none"});
+    int stalls = which("USB_APP_STALLS", (const char *const[4]){"nothing", "status", "all"});
     settings.app_has_dfu = has == 0;
     settings.app_has_usb = has < 2;
     settings.app_stalls_status = stalls > 0;
@@ -186,7 +186,7 @@ static void read_app(void)
 
 static void read_device(void)
 {
-    static const char *const devices[4] = { "proved", "uboot", "small", "dfuse" };
+    static const char *const devices[4] = {"proved", "uboot", "small", "dfuse"};
     int kind = which("USB_DEVICE", devices);
     bool is_proved = kind == 0;
     settings.device = devices[kind];
@@ -225,7 +225,7 @@ static void read_dfuse(void)
     settings.erase_ms = number("USB_ERASE", 0, 10);
     settings.tells_times = !is_first("USB_TOLD", "nothing", "all", "all");
     settings.stalls_early = is_first("USB_EARLY", "stall", "busy", "busy");
-    settings.cells = which("USB_CELLS", (const char *const[4]){ "and", "fail", "any" });
+    settings.cells = which("USB_CELLS", (const char *const[4]){"and", "fail", "any"});
     settings.fail_code = (int)number("USB_CODE", 3, 10);
     settings.erase_sets_pointer = is_first("USB_POINTER", "erase", "set", "set");
     settings.is_protected = number("USB_PROTECTED", 0, 10) != 0;
@@ -244,7 +244,7 @@ static unsigned count_maps(void)
 
 void settings_read(void)
 {
-    settings = (struct settings){ 0 };
+    settings = (struct settings){0};
     read_device();
     settings.app = ids("USB_IDS", "1209:0001:0100");
     settings.dfu = ids("USB_DFU_IDS", text("USB_IDS", "1209:0001:0100"));

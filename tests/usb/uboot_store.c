@@ -12,12 +12,12 @@
 
 static struct {
     bool is_begun;
-    uint16_t next;       /* the number of the next block */
-    uint32_t gathered;   /* bytes in the buffer */
-    uint64_t offset;     /* where they will be written */
-    uint32_t left;       /* bytes that an upload has yet to read */
-    uint32_t writes;     /* how many writes there were */
-    uint32_t length;     /* bytes of the image */
+    uint16_t next;        /* the number of the next block */
+    uint32_t gathered;    /* bytes in the buffer */
+    uint64_t offset;      /* where they will be written */
+    uint32_t left;        /* bytes that an upload has yet to read */
+    uint32_t writes;      /* how many writes there were */
+    uint32_t length;      /* bytes of the image */
     uint32_t file_length; /* bytes of the file that is being written */
 } store;
 
@@ -139,17 +139,13 @@ int store_read(uint8_t *out, size_t room, uint16_t number)
 
 struct part store_image(void)
 {
-    return (struct part){ medium, store.length };
+    return (struct part){medium, store.length};
 }
 
 struct part store_keeps(unsigned number)
 {
     const struct part parts[] = {
-        { &store, sizeof store },
-        { buffer, settings.buffer },
-        { medium, settings.capacity },
-        { file, settings.capacity },
-        { NULL, 0 },
+        {&store, sizeof store}, {buffer, settings.buffer}, {medium, settings.capacity}, {file, settings.capacity}, {NULL, 0},
     };
     return parts[number];
 }

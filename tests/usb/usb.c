@@ -32,7 +32,7 @@ int libusb_set_option(libusb_context *context, int option, ...)
 
 const struct libusb_version *libusb_get_version(void)
 {
-    static const struct libusb_version version = { 1, 0, 26, 0, "", "stand-in" };
+    static const struct libusb_version version = {1, 0, 26, 0, "", "stand-in"};
     return &version;
 }
 
@@ -53,7 +53,7 @@ static libusb_device *listed(int board, bool is_other)
     libusb_device *device = calloc(1, sizeof *device);
     if (device == NULL)
         fail_loudly("no memory for a device");
-    *device = (libusb_device){ 1, bus_generation(), is_other, bus_is_app(), board };
+    *device = (libusb_device){1, bus_generation(), is_other, bus_is_app(), board};
     return device;
 }
 
@@ -140,10 +140,10 @@ void libusb_free_config_descriptor(struct libusb_config_descriptor *found)
 
 const char *libusb_error_name(int error)
 {
-    static const char *const names[] = { "LIBUSB_SUCCESS", "LIBUSB_ERROR_IO", "LIBUSB_ERROR_INVALID_PARAM", "LIBUSB_ERROR_ACCESS",
-                                         "LIBUSB_ERROR_NO_DEVICE", "LIBUSB_ERROR_NOT_FOUND", "LIBUSB_ERROR_BUSY", "LIBUSB_ERROR_TIMEOUT",
-                                         "LIBUSB_ERROR_OVERFLOW", "LIBUSB_ERROR_PIPE", "LIBUSB_ERROR_INTERRUPTED", "LIBUSB_ERROR_NO_MEM",
-                                         "LIBUSB_ERROR_NOT_SUPPORTED" };
+    static const char *const names[] = {
+        "LIBUSB_SUCCESS",           "LIBUSB_ERROR_IO",     "LIBUSB_ERROR_INVALID_PARAM", "LIBUSB_ERROR_ACCESS",   "LIBUSB_ERROR_NO_DEVICE",
+        "LIBUSB_ERROR_NOT_FOUND",   "LIBUSB_ERROR_BUSY",   "LIBUSB_ERROR_TIMEOUT",       "LIBUSB_ERROR_OVERFLOW", "LIBUSB_ERROR_PIPE",
+        "LIBUSB_ERROR_INTERRUPTED", "LIBUSB_ERROR_NO_MEM", "LIBUSB_ERROR_NOT_SUPPORTED"};
     return error <= 0 && error >= USB_ERROR_NOT_SUPPORTED ? names[-error] : "LIBUSB_ERROR_OTHER";
 }
 

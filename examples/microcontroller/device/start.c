@@ -52,8 +52,9 @@ __attribute__((naked)) static void on_call(void) {
 
 /* An exception of the image's: its number is that of its word. */
 __attribute__((naked)) static void forward(void) {
-    __asm__ volatile(".syntax unified\nldr r0, =image\nldr r0, [r0]\n"
-                     "mrs r1, ipsr\nlsls r1, r1, #2\nldr r0, [r0, r1]\nbx r0");
+    __asm__ volatile(
+        ".syntax unified\nldr r0, =image\nldr r0, [r0]\n"
+        "mrs r1, ipsr\nlsls r1, r1, #2\nldr r0, [r0, r1]\nbx r0");
 }
 
 /* Memory begins as zeros; the stack's words say by their value how deep it went. */
@@ -85,7 +86,9 @@ void image_start(const uint8_t *at, size_t length) {
     NVIC_ENABLE = 1u << UART0 | 1u << TIMER0;
     /* The image has a stack of its own; that of the bootloader begins anew, for its exceptions. */
     __asm__ volatile("msr psp, %0\nmsr msp, %1\nmovs r0, #2\nmsr control, r0\nisb\nbx %2"
-                     : : "r"(table[0]), "r"(__stack), "r"(table[1]) : "r0", "memory");
+                     :
+                     : "r"(table[0]), "r"(__stack), "r"(table[1])
+                     : "r0", "memory");
     __builtin_unreachable();
 }
 
@@ -93,10 +96,7 @@ typedef void (*handler)(void);
 #define FOUR(it) it, it, it, it
 
 __attribute__((section(".vectors"), used)) static const handler vectors[IMAGE_WORDS] = {
-    (handler)__stack, (handler)on_reset, on_fault, on_fault, FOUR(on_fault), on_fault, on_fault, on_fault, on_call, on_fault, on_fault,
-    forward, forward,
-    forward, forward, on_serial, forward, FOUR(forward),
-    on_time, forward, forward, forward, FOUR(forward),
-    FOUR(forward), FOUR(forward),
-    FOUR(forward), FOUR(forward),
+    (handler)__stack, (handler)on_reset, on_fault, on_fault, FOUR(on_fault), on_fault,      on_fault,      on_fault,      on_call,
+    on_fault,         on_fault,          forward,  forward,  forward,        forward,       on_serial,     forward,       FOUR(forward),
+    on_time,          forward,           forward,  forward,  FOUR(forward),  FOUR(forward), FOUR(forward), FOUR(forward), FOUR(forward),
 };

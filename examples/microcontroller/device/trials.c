@@ -10,7 +10,10 @@
 
 static const struct dfu_driver driver = {(void *)MEDIUM, flash_erase, flash_program};
 static const struct dfu_trial trial = {
-    .flash = (const uint8_t *)MEDIUM, .size = MEDIUM_SIZE, .driver = &driver, .tries = {16, PAGE, TRIES},
+    .flash = (const uint8_t *)MEDIUM,
+    .size = MEDIUM_SIZE,
+    .driver = &driver,
+    .tries = {16, PAGE, TRIES},
 };
 
 /* Where the image begins in the medium that was started last: it runs elsewhere, so that it can't know by itself. */

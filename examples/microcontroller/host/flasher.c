@@ -14,9 +14,11 @@ enum {
     MOST_FILE = 1 << 18,
     ANSWER_MS = 3000,   /* a request that has no answer then is lost */
     CONNECT_MS = 60000, /* how long a device may be away */
-    ABOUT_MS = 300, ABOUT_TURNS = 30,
+    ABOUT_MS = 300,
+    ABOUT_TURNS = 30,
     START_MS = 5000, /* how long an image may take to begin */
-    ACTIONS = 100000, RESTARTS = 100
+    ACTIONS = 100000,
+    RESTARTS = 100
 };
 
 static uint8_t file[MOST_FILE], answer[65535];
@@ -57,8 +59,7 @@ static int connect_device(uint8_t about[FRAME_ABOUT_LENGTH]) {
 
 static uint32_t seen_of(enum link_outcome outcome, const struct dfu_action *action) {
     switch (outcome) {
-    case LINK_ANSWERED:
-        return action->what == DFU_RESET ? DFU_SEEN_RESET : action->setup[0] & 0x80 ? DFU_SEEN_BYTES : DFU_SEEN_ACK;
+    case LINK_ANSWERED: return action->what == DFU_RESET ? DFU_SEEN_RESET : action->setup[0] & 0x80 ? DFU_SEEN_BYTES : DFU_SEEN_ACK;
     case LINK_STALLED: return DFU_SEEN_STALL;
     case LINK_SILENT: return DFU_SEEN_NOTHING;
     default: return DFU_SEEN_RESTART;

@@ -25,14 +25,14 @@ static uint64_t now_us(void)
 
 static void rest(unsigned us)
 {
-    const struct timespec time = { us / 1000000u, (long)(us % 1000000u) * 1000 };
+    const struct timespec time = {us / 1000000u, (long)(us % 1000000u) * 1000};
     nanosleep(&time, NULL);
 }
 
 /* As a program's transfer does it: the time is passed on first. */
 static int transfer(uint8_t kind, uint8_t request, uint8_t value, uint8_t *data, uint16_t length)
 {
-    const uint8_t setup[8] = { kind, request, value, 0, 0, 0, (uint8_t)length, (uint8_t)(length >> 8) };
+    const uint8_t setup[8] = {kind, request, value, 0, 0, 0, (uint8_t)length, (uint8_t)(length >> 8)};
     bus_pass_time();
     return bus_transfer(setup, data, length, 1000);
 }
@@ -48,7 +48,7 @@ static void demand(uint8_t request, uint8_t value, uint8_t *data, uint16_t lengt
 /* bState, or -1 for a stall. */
 static int state_by(uint8_t request)
 {
-    uint8_t answer[6] = { 0 };
+    uint8_t answer[6] = {0};
     uint16_t length = request == GETSTATUS ? 6 : 1;
     return transfer(0xa1, request, 0, answer, length) == length ? answer[request == GETSTATUS ? 4 : 0] : -1;
 }
