@@ -9,7 +9,7 @@
  * transfer that is lost is not answered, until the program's time for it is over.
  *
  * usage: attached [PORT]    (as root, until SIGTERM; at this port of the controller, 0 to 7, or 0. The settings are those of the stand-in,
- * in tests/usb/settings.c) */
+ * in tests/usb/settings.h) */
 #define _GNU_SOURCE
 #include "abi.h"
 #include "bus.h"
