@@ -136,7 +136,7 @@ int32_t machine_handle(struct machine *machine, const uint8_t setup[8], const ui
     return settle(machine, dfu_device_handle(&machine->device, setup, body, out, MOST_TRANSFER), out, MOST_TRANSFER);
 }
 
-/* A byte of the image is on the disk as soon as it was taken, since the medium's unit is a byte: none is held back in the record. */
+/* A byte of the image is on the disk as soon as it was taken, since the medium's unit is a byte: none is held back in memory. */
 bool machine_closes(struct machine *machine, const uint8_t setup[8], struct dfu_place *place)
 {
     return setup[0] == 0x21 && setup[1] == DFU_DNLOAD && setup[6] == 0 && setup[7] == 0 && machine_state(machine) == DFU_STATE_DNLOAD_IDLE

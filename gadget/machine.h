@@ -18,7 +18,7 @@ struct machine {
     struct dfu_config config;
     struct dfu_device device;
     struct dfu_driver driver;
-    uint8_t block[MOST_TRANSFER];
+    uint8_t block[DFU_BLOCK_SIZE(MOST_TRANSFER, MACHINE_UNIT)];
     const struct medium *medium;
     struct dfu_place place; /* of the active image */
     bool is_installed;      /* another image was put in place, and nobody has looked at this yet */

@@ -100,7 +100,7 @@ enum dfu_result {
     DFU_TOO_LARGE = -7,   /**< the image is longer than a slot's data */
     DFU_NOT_WRITTEN = -8, /**< an operation of a format failed, or other bytes were read back */
     DFU_NOT_LONG = -9,    /**< the host sends no more bytes with this setup than a block may have */
-    DFU_NO_BLOCK = -10,   /**< the block's memory has fewer bytes than the transfer size */
+    DFU_NO_BLOCK = -10,   /**< the block's memory has fewer bytes than the transfer size and the unit together */
     DFU_ASKS = -11,       /**< operations of the flash are due: next, carry it out, took, until that answers otherwise */
     DFU_ASKED = -12,      /**< operations are due, and come first */
     DFU_NO_CLOSE = -13,   /**< the setup closes no download */
@@ -166,8 +166,7 @@ struct dfu_record {
     uint32_t asked;       /**< 0, or 1 more than wLength of the GETSTATUS that waits */
     uint8_t generation;   /**< of what is due: the image's generation; of a format its part, 0 to 4 */
     uint8_t close;        /**< of what is due: whether the gate is closed first, 1 or 0 */
-    uint16_t held_length; /**< so many bytes at the front of held were put, and make no whole unit yet */
-    uint8_t held[256];    /**< these bytes */
+    uint16_t held_length; /**< so many bytes behind the transfer size in the block's memory were put, and make no whole unit yet */
 };
 
 /** @brief An operation of the flash that is due. */
@@ -195,7 +194,8 @@ int32_t dfu_core_power_on(const struct dfu_config *config, struct dfu_record *re
 int32_t dfu_core_begin(const struct dfu_config *config, struct dfu_record *record, const uint8_t *flash, size_t size);
 
 /** @brief Answers a setup with its body.
- * @param block  memory of `most` bytes, at least the transfer size, in which a block waits to be written
+ * @param block  memory of `most` bytes, at least the transfer size and the unit together: in the first of them a block waits to be
+ *               written, and behind the transfer size bytes that were put wait until a unit is whole
  * @param body   the whole data stage, `length` bytes; of length 0 if the host reads
  * @param out    room for the answer: at least 6 bytes and the transfer size. It is not body, and not block
  * @return how many bytes of out are the answer, 0 if it is acknowledged or has none; DFU_STALL; DFU_ASKS;
@@ -222,10 +222,11 @@ int32_t dfu_core_usb_reset(const struct dfu_config *config, struct dfu_record *r
 int32_t dfu_core_next(const struct dfu_config *config, const struct dfu_record *record, const uint8_t *block, size_t most,
                       const uint8_t *flash, size_t size, struct dfu_ask *ask);
 
-/** @brief That operation was carried out, or failed if `failed` is not 0. It is read back.
+/** @brief That operation was carried out, or failed if `failed` is not 0. It is read back. Of the block's memory only the bytes behind
+ *         the transfer size may change.
  * @return DFU_ASKS if the next one is due; the answer of the call that asked, its bytes in out;
  *         DFU_NO_ROOM (out has less than 6 bytes), DFU_NO_CONFIG, DFU_NO_BLOCK, DFU_NO_DEVICE */
-int32_t dfu_core_took(const struct dfu_config *config, struct dfu_record *record, const uint8_t *block, size_t most,
+int32_t dfu_core_took(const struct dfu_config *config, struct dfu_record *record, uint8_t *block, size_t most,
                       const uint8_t *flash, size_t size, uint32_t failed, uint8_t *out, size_t room);
 
 /** @brief Whether dfu_core_handle will stall this setup, whatever body of wLength bytes comes with it. The flash has size bytes.
@@ -250,7 +251,8 @@ int32_t dfu_core_refuse_close(const struct dfu_config *config, struct dfu_record
 int32_t dfu_core_refuse(const struct dfu_config *config, struct dfu_record *record, uint32_t status);
 
 /** @brief Where the image is that was taken and may be refused: in dfuDNLOAD-IDLE, in dfuMANIFEST-SYNC before it is in place, and in
- *         dfuMANIFEST. Its bytes are those of the place, and after them the first held_length bytes of the record's `held`.
+ *         dfuMANIFEST. Its bytes are those of the place, and after them, in the block's memory behind the transfer size, as many as
+ *         the record's held_length says.
  * @return 0; DFU_NO_CONFIG, DFU_NO_DEVICE, DFU_ASKED, DFU_NO_MEDIUM, DFU_NO_DEVICE, as dfu_core_handle; DFU_NO_CANDIDATE */
 int32_t dfu_core_candidate(const struct dfu_config *config, const struct dfu_record *record, const uint8_t *flash, size_t size,
                            struct dfu_place *place);

@@ -6,7 +6,7 @@
  * The flash is mapped into memory for reading, and written by a driver of two functions. Two slots hold an image each: a download goes
  * to the spare one, and becomes active in one step at its end. So whenever power is lost, the old image or the whole new one is active.
  *
- *     static uint8_t block[1024], data[1024];   // of wTransferSize bytes each, apart: TWO BUFFERS
+ *     static uint8_t block[DFU_BLOCK_SIZE(1024, 16)], data[1024];   // wTransferSize 1,024, unit 16. They are apart: TWO BUFFERS
  *     static struct dfu_device dfu = {.config = &config, .flash = flash, .size = size, .block = block, .most = sizeof block,
  *                                     .driver = &driver};
  *
@@ -68,16 +68,16 @@
  * - DFU_NO_STATUS: a mistake of the program. DFU_NO_CANDIDATE: there is nothing to check.
  *
  * A check of images. A program that takes its maker's images alone checks each one before its close: if dfu_device_would_stall says 0
- * of a DNLOAD with wLength 0 in dfuDNLOAD-IDLE, it checks the bytes of dfu_device_candidate, of which the last may be in record.held, and
- * calls dfu_device_refuse_close if they fail, or else dfu_device_handle. A program that never asks takes every image. And such a check
- * is no secure boot: who can write the flash can write an image. So check it again before it is started.
+ * of a DNLOAD with wLength 0 in dfuDNLOAD-IDLE, it checks the bytes of dfu_device_candidate, of which the last may be in the block's
+ * memory, and calls dfu_device_refuse_close if they fail, or else dfu_device_handle. A program that never asks takes every image. And
+ * such a check is no secure boot: who can write the flash can write an image. So check it again before it is started.
  *
  * Images are read by power_on, begin, image and format_start, at the start and the end of the work that puts one in place, and by the
  * first operation of a download. No other call reads one. So an image that fades under its standing header while the device runs is
  * found at the next power-on.
  *
- * Memory: sizeof(struct dfu_device), 352 bytes with pointers of 32 bits, and the two buffers: 480 bytes in all for blocks of 64,
- * 2,400 for 1,024, and 8,544 for 4,096.
+ * Memory: sizeof(struct dfu_device), 96 bytes with pointers of 32 bits, and the two buffers: in all, with a unit of 16, 240 bytes for
+ * blocks of 64, 2,160 for 1,024, and 8,304 for 4,096.
  */
 #ifndef DFU_DEVICE_H
 #define DFU_DEVICE_H
@@ -111,6 +111,10 @@ extern "C" {
  *  which: bring it to the one place for which it is linked by dfu_install.h. */
 #define DFU_MEDIUM_SIZE(unit, sector, capacity) (2 * (2 * DFU_GATE(unit, sector) + (capacity)))
 
+/** @brief Bytes of the block's memory: a block, and behind it a unit, in which bytes wait until it is whole. With less a call answers
+ *  DFU_NO_BLOCK; the bytes behind these are never touched. */
+#define DFU_BLOCK_SIZE(transfer, unit) ((transfer) + (unit))
+
 /** @brief Erases that a block costs at most: the gate's, and each sector's that begins in it. */
 #define DFU_BLOCK_ERASES(transfer, sector) \
     ((sector) == 0 ? 0 : 1 + ((transfer) + (sector) - 1) / ((sector) + ((sector) == 0)))
@@ -134,10 +138,10 @@ struct dfu_device {
     const struct dfu_config *config; /**< what it is set up with */
     const uint8_t *flash;            /**< both slots, mapped for reading */
     size_t size;                     /**< bytes of flash, DFU_MEDIUM_SIZE */
-    uint8_t *block;                  /**< memory in which a block waits to be written */
-    size_t most;                     /**< bytes of it, at least the transfer size */
+    uint8_t *block;                  /**< memory in which a block waits to be written, and the rest of the ones before */
+    size_t most;                     /**< bytes of it, at least DFU_BLOCK_SIZE */
     const struct dfu_driver *driver; /**< NULL for a program that carries out what is asked by itself */
-    struct dfu_record record;        /**< private, but for held and held_length of a candidate */
+    struct dfu_record record;        /**< private, but for held_length of a candidate */
     uint32_t unused;                 /**< fills the struct up to a multiple of 8 bytes */
 };
 

@@ -12,7 +12,7 @@ const ERASE = 1
 const ERASED = 0xff
 const MOST_BODY = 65536
 const MOST_ANSWER = 4096
-const MOST_BLOCK = 4096
+const MOST_BLOCK = 4096 + 256 // a block, and behind it a unit
 
 // A device is refused: `number` is that of dfu_core.h.
 export class Refused extends Error {
@@ -36,6 +36,7 @@ export class Device extends Library {
     this.kept = this.record('dfu_record')
     this.ask = this.record('dfu_ask')
     this.block = this.reserve(MOST_BLOCK)
+    this.transfer = whole.transfer
     this.gate = Math.max(16, whole.unit, whole.sector) // bytes of a slot's gate, and of its header
     this.size = 2 * (2 * this.gate + capacity)
     this.medium = this.reserve(this.size)
@@ -111,7 +112,7 @@ export class Device extends Library {
     taken(number)
     const { at, length } = this.read('dfu_place', this.place)
     const { held_length: count } = this.read('dfu_record', this.kept)
-    return [...this.copy(this.medium + at, length), ...this.copy(this.kept + LAYOUT.dfu_record.fields.held.at, count)]
+    return [...this.copy(this.medium + at, length), ...this.copy(this.block + this.transfer, count)]
   }
 
   // A program that takes only images that begin with these bytes: whether it refuses the image that this setup closes.

@@ -23,7 +23,7 @@ export const RECORDS = {
     'u32 manifest_ms, u32 least, u32 unit, u32 sector',
   dfu_record:
     'u32 version, u32 mode, u32 first, u32 second, u32 put_end, u32 slot, u16 number, u16 length, u8[16] header, u32 work, ' +
-    'u32 spare, u32 sum, u32 done, u32 asked, u8 generation, u8 close, u16 held_length, u8[256] held',
+    'u32 spare, u32 sum, u32 done, u32 asked, u8 generation, u8 close, u16 held_length',
   dfu_ask: 'u32 kind, u32 at, u32 length, u8[256] bytes',
   dfu_place: 'u32 at, u32 length',
 }

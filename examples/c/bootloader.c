@@ -24,7 +24,7 @@ static const struct dfu_config config = {
 
 /* What lasts through a loss of power, and what need not: two buffers, and the device. */
 static uint8_t flash[DFU_MEDIUM_SIZE(1, 0, 1024)];
-static uint8_t block[64], data[64];
+static uint8_t block[DFU_BLOCK_SIZE(64, 1)], data[64];
 static const struct dfu_driver driver = DFU_MEMORY_DRIVER(flash);
 static struct dfu_device dfu = {
     .config = &config, .flash = flash, .size = sizeof flash, .block = block, .most = sizeof block, .driver = &driver};

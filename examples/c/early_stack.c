@@ -25,7 +25,7 @@ static uint8_t flash[DFU_MEDIUM_SIZE(1, 0, 1024)];
 static const struct dfu_driver driver = DFU_MEMORY_DRIVER(flash);
 
 /* The block, and the one buffer of endpoint 0. */
-static uint8_t block[64], endpoint[64];
+static uint8_t block[DFU_BLOCK_SIZE(64, 1)], endpoint[64];
 static struct dfu_device dfu = {
     .config = &config, .flash = flash, .size = sizeof flash, .block = block, .most = sizeof block, .driver = &driver};
 

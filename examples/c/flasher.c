@@ -24,7 +24,7 @@ static const struct dfu_config config = {
 };
 static const uint8_t descriptor[9] = {9, 0x21, 7, 255, 0, 64, 0, 0x10, 1};
 static const struct dfu_ids ids = {0x0100, 1, 0x1209};
-static uint8_t flash[DFU_MEDIUM_SIZE(1, 0, 65536)], block[64], file[65536 + 255], answer[65535];
+static uint8_t flash[DFU_MEDIUM_SIZE(1, 0, 65536)], block[DFU_BLOCK_SIZE(64, 1)], file[65536 + 255], answer[65535];
 static const struct dfu_driver driver = DFU_MEMORY_DRIVER(flash);
 static struct dfu_device device = {
     .config = &config, .flash = flash, .size = sizeof flash, .block = block, .most = sizeof block, .driver = &driver};

@@ -51,7 +51,7 @@ static int program(void *own, uint32_t at, const uint8_t *from, uint32_t length)
 }
 
 /* What need not last through a loss of power. */
-static uint8_t block[BLOCK], data[BLOCK], image[IMAGE];
+static uint8_t block[DFU_BLOCK_SIZE(BLOCK, PAGE)], data[BLOCK], image[IMAGE];
 static const struct dfu_driver driver = {part, erase, program};
 static struct dfu_device dfu = {
     .config = &config, .flash = part, .size = sizeof part, .block = block, .most = sizeof block, .driver = &driver};

@@ -22,7 +22,7 @@ static const struct dfu_config config = {
     .unit = PAGE,
     .sector = SECTOR,
 };
-static uint8_t part[DFU_MEDIUM_SIZE(PAGE, SECTOR, CAPACITY)], block[TRANSFER], out[TRANSFER];
+static uint8_t part[DFU_MEDIUM_SIZE(PAGE, SECTOR, CAPACITY)], block[DFU_BLOCK_SIZE(TRANSFER, PAGE)], out[TRANSFER];
 static int is_shown;
 
 static int erase(void *own, uint32_t at, uint32_t length) {

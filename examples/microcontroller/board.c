@@ -16,6 +16,6 @@ const struct dfu_config board_config = {
     .busy_ms = DFU_BLOCK_ERASES(TRANSFER, PAGE) * ERASE_MS + DFU_BLOCK_PROGRAMS(TRANSFER) * PROGRAM_MS,
     .manifest_ms = DFU_COMMIT_ERASES(PAGE) * ERASE_MS + DFU_COMMIT_PROGRAMS * PROGRAM_MS,
     .least = 256,
-    .unit = 16,
+    .unit = UNIT,
     .sector = PAGE,
 };

@@ -13,12 +13,13 @@
 #define FLASH_SIZE 0x40000u
 #define PAGE 1024u
 #define TRANSFER 256 /* wTransferSize */
+#define UNIT 16      /* bytes programmed at a time */
 
 /* The flash after the bootloader is the device's medium: two slots, each with a page for its gate, one for its header, and the rest for
  * the image. After it comes the run area, to which images are linked, and the last two pages are the application's own. */
 #define CAPACITY ((TRIES ? 76 : 78) * PAGE)
 #define MEDIUM (TRIES ? 0x5000u : 0x4000u)
-#define MEDIUM_SIZE DFU_MEDIUM_SIZE(16, PAGE, CAPACITY)
+#define MEDIUM_SIZE DFU_MEDIUM_SIZE(UNIT, PAGE, CAPACITY)
 #define RUN (MEDIUM + MEDIUM_SIZE)
 
 /* The memory after the bootloader's is the image's. */

@@ -16,8 +16,8 @@ const struct dfu_config board_config = {
     .busy_ms = DFU_BLOCK_ERASES(TRANSFER, PAGE) * ERASE_MS + DFU_BLOCK_PROGRAMS(TRANSFER) * PROGRAM_MS,
     .manifest_ms = DFU_COMMIT_ERASES(PAGE) * ERASE_MS + DFU_COMMIT_PROGRAMS * PROGRAM_MS,
     .least = 256,
-    .unit = 16,
+    .unit = UNIT,
     .sector = PAGE,
 };
 
-const struct dfu_tries board_tries = {.unit = 16, .sector = PAGE, .tries = TRIES};
+const struct dfu_tries board_tries = {.unit = UNIT, .sector = PAGE, .tries = TRIES};

@@ -8,6 +8,7 @@
 #define FLASH_SIZE 0x40000u
 #define PAGE 1024u
 #define TRANSFER 256 /* wTransferSize */
+#define UNIT 16      /* bytes programmed at a time */
 #define HARDWARE 7   /* the board's number, which TLV 00a0h of its images has */
 #define TRIES 3
 
@@ -15,7 +16,7 @@
  * slot and the run area have the whole signed image, so that it is checked again before each start. */
 #define CAPACITY (64 * PAGE)
 #define MEDIUM 0xe000u
-#define MEDIUM_SIZE DFU_MEDIUM_SIZE(16, PAGE, CAPACITY)
+#define MEDIUM_SIZE DFU_MEDIUM_SIZE(UNIT, PAGE, CAPACITY)
 #define RUN (MEDIUM + MEDIUM_SIZE)
 
 /* The memory after the bootloader's is the image's. */

@@ -21,7 +21,7 @@ static const struct dfu_driver run_driver = {(void *)RUN, flash_erase, flash_pro
 static struct dfu_device device;
 static struct dfu_trial trial;
 static struct signed_board board;
-static uint8_t block[TRANSFER], answer[TRANSFER];
+static uint8_t block[DFU_BLOCK_SIZE(TRANSFER, UNIT)], answer[TRANSFER];
 static struct frame request;
 static uint32_t running; /* where the image that runs begins in the medium */
 

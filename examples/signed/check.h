@@ -20,7 +20,7 @@
 #include <stddef.h>
 #include <stdint.h>
 
-/* An image in two parts, as a device has it that writes whole units: on flash, and the last few bytes in its record. Either may have no
+/* An image in two parts, as a device has it that writes whole units: on flash, and the last few bytes in memory. Either may have no
  * bytes; then its pointer is not read. */
 struct signed_bytes {
     const uint8_t *front;

@@ -41,7 +41,7 @@ static int32_t check(struct signed_board *board) {
     if (refusal != 0)
         return refusal;
     bytes = bytes_at(device, &place);
-    bytes.tail = device->record.held;
+    bytes.tail = device->block + device->config->transfer;
     bytes.tail_length = device->record.held_length;
     board->verdict = signed_check(&board->rules, &bytes, &image);
     return 0;

@@ -13,7 +13,7 @@ static struct dfu_config config = {
     .version = DFU_VERSION, .device = 0x0100, .product = 1, .vendor = 0x1209, .detach_ms = 255, .transfer = 100,
     .attributes = 7, .busy_ms = 5, .manifest_ms = 10, .least = 1, .unit = 1,
 };
-static uint8_t pending[100], medium[DFU_MEDIUM_SIZE(1, 0, 160)], last[sizeof medium];
+static uint8_t pending[DFU_BLOCK_SIZE(100, 16)], medium[DFU_MEDIUM_SIZE(1, 0, 160)], last[sizeof medium];
 static const struct dfu_driver driver = DFU_MEMORY_DRIVER(medium);
 static struct dfu_device device = {.config = &config, .flash = medium, .size = sizeof medium, .block = pending, .most = sizeof pending,
                                    .driver = &driver};

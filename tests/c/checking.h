@@ -41,14 +41,14 @@ static void image_is(const char *what, const uint8_t *image, uint32_t length) {
                      && memcmp(board.flash + place.at, image, length) == 0);
 }
 
-/* The candidate is this image: its bytes on the flash, then those that the record holds. */
+/* The candidate is this image: its bytes on the flash, then those that are held back. */
 static void candidate_is(const char *what, const uint8_t *image, uint32_t length) {
     struct dfu_place place;
     uint32_t unit = config.unit, whole = length - length % unit;
     expect(what, dfu_core_candidate(&config, &board.record, board.flash, board.size, &place) == 0 && place.length == whole
                      && board.record.held_length == length - whole && place.at + (size_t)place.length <= board.size
                      && memcmp(board.flash + place.at, image, whole) == 0
-                     && memcmp(board.record.held, image + whole, length - whole) == 0);
+                     && memcmp(board.pending + config.transfer, image + whole, length - whole) == 0);
 }
 
 static void no_candidate(const char *what) {
@@ -84,7 +84,6 @@ static void errs(const char *what, int32_t code) {
                      && memcmp(board.pending, before.pending, sizeof board.pending) == 0
                      && board.record.put_end == before.record.put_end && board.record.slot == before.record.slot
                      && board.record.held_length == before.record.held_length && board.record.work == 0
-                     && memcmp(board.record.held, before.record.held, sizeof board.record.held) == 0
                      && memcmp(board.record.header, before.record.header, sizeof board.record.header) == 0);
 }
 

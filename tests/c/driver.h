@@ -24,7 +24,7 @@ static inline uint32_t roll(uint32_t sides) {
 /* Flash, and a device on it. */
 struct board {
     struct dfu_record record;
-    uint8_t flash[MOST_FLASH], pending[MOST_BLOCK], out[MOST_BLOCK];
+    uint8_t flash[MOST_FLASH], pending[DFU_BLOCK_SIZE(MOST_BLOCK, 256)], out[MOST_BLOCK];
     size_t size;
     uint32_t unit, sector;
 };

@@ -94,7 +94,7 @@ static void names(void) {
 
 /* What wants NULL for nothing, and what stands in every mode where a device is asked without a medium. */
 static void nothing(void) {
-    static uint8_t medium[DFU_MEDIUM_SIZE(1, 0, 1024)], block[64], out[64];
+    static uint8_t medium[DFU_MEDIUM_SIZE(1, 0, 1024)], block[DFU_BLOCK_SIZE(64, 1)], out[64];
     static const uint8_t setup[8] = {0xa1, 3, 0, 0, 0, 0, 6, 0}, download[8] = {0x21, 1, 0, 0, 0, 0, 65, 0}, detach[8] = {0x21, 0, 255};
     struct dfu_record record;
     struct dfu_session session;
@@ -107,12 +107,12 @@ static void nothing(void) {
     is("no medium to start from", dfu_core_power_on(&config, &record, NULL, 0), DFU_NO_MEDIUM);
     is("start", dfu_core_begin(&config, &record, medium, sizeof medium), 0);
     is("no block", dfu_core_handle(&config, &record, NULL, 0, medium, sizeof medium, setup, NULL, 0, out, 64), DFU_NO_BLOCK);
-    is("no room", dfu_core_handle(&config, &record, block, 64, medium, sizeof medium, setup, NULL, 0, NULL, 0), DFU_NO_ROOM);
-    is("no medium", dfu_core_handle(&config, &record, block, 64, NULL, 0, setup, NULL, 0, out, 64), DFU_NO_MEDIUM);
+    is("no room", dfu_core_handle(&config, &record, block, sizeof block, medium, sizeof medium, setup, NULL, 0, NULL, 0), DFU_NO_ROOM);
+    is("no medium", dfu_core_handle(&config, &record, block, sizeof block, NULL, 0, setup, NULL, 0, out, 64), DFU_NO_MEDIUM);
     is("no time", dfu_core_elapse(&config, &record, NULL, 0, NULL, 0, 1), DFU_NO_BLOCK);
-    is("no reset", dfu_core_usb_reset(&config, &record, block, 64, NULL, 0), DFU_NO_MEDIUM);
+    is("no reset", dfu_core_usb_reset(&config, &record, block, sizeof block, NULL, 0), DFU_NO_MEDIUM);
     is("no place", dfu_core_image(&config, NULL, 0, &place), DFU_NO_MEDIUM);
-    is("status", dfu_core_handle(&config, &record, block, 64, medium, sizeof medium, setup, NULL, 0, out, 64), 6);
+    is("status", dfu_core_handle(&config, &record, block, sizeof block, medium, sizeof medium, setup, NULL, 0, out, 64), 6);
     for (uint32_t mode = 0; mode < 14; mode++) {
         struct dfu_record it = record, old;
         it.mode = mode, it.number = 0, old = it;
@@ -124,8 +124,8 @@ static void nothing(void) {
         is("too long", dfu_core_too_long(&config, &it, download), mode == 13 ? DFU_NO_DEVICE : DFU_STALL);
         is("stalled", dfu_core_state(&it), mode == 13 ? DFU_NO_DEVICE : mode < 2 ? 0 : mode == 10 ? 8 : 10);
     }
-    is("nothing is due", dfu_core_next(&config, &record, block, 64, medium, sizeof medium, &ask), DFU_NO_DEVICE);
-    is("nothing took", dfu_core_took(&config, &record, block, 64, NULL, 0, 0, out, 64), DFU_NO_DEVICE);
+    is("nothing is due", dfu_core_next(&config, &record, block, sizeof block, medium, sizeof medium, &ask), DFU_NO_DEVICE);
+    is("nothing took", dfu_core_took(&config, &record, block, sizeof block, NULL, 0, 0, out, 64), DFU_NO_DEVICE);
     is("host: no file", dfu_host_file(NULL, 0, &file), DFU_FILE_TOO_SHORT);
     is("host: no descriptor", dfu_host_upload(&session, NULL, 0, 1, 0), DFU_SHORT);
     memset(&session, 0, sizeof session);

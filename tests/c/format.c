@@ -55,16 +55,16 @@ static uint32_t carry(const struct dfu_ask *ask, const struct fate *fate) {
 
 /* While writes of a format are due each call for a device is refused, and changes nothing. */
 static void others(uint32_t length) {
-    static uint8_t block[64], out[64];
+    static uint8_t block[DFU_BLOCK_SIZE(64, 256)], out[64];
     const uint8_t setup[8] = {0xa1, 3, 0, 0, 0, 0, 6, 0};
     const struct fate none = {WELL, 0, 0, 0};
     struct dfu_record kept = record;
     struct dfu_ask ask = {7, 7, 7, {7}};
-    expect("asked", dfu_core_handle(&config, &record, block, 64, flash, size, setup, block, 0, out, 64) == DFU_ASKED
-                        && dfu_core_elapse(&config, &record, block, 64, flash, size, 9) == DFU_ASKED
-                        && dfu_core_usb_reset(&config, &record, block, 64, flash, size) == DFU_ASKED
-                        && dfu_core_next(&config, &record, block, 64, flash, size, &ask) == DFU_ASKED
-                        && dfu_core_took(&config, &record, block, 64, flash, size, 0, out, 64) == DFU_ASKED
+    expect("asked", dfu_core_handle(&config, &record, block, sizeof block, flash, size, setup, block, 0, out, 64) == DFU_ASKED
+                        && dfu_core_elapse(&config, &record, block, sizeof block, flash, size, 9) == DFU_ASKED
+                        && dfu_core_usb_reset(&config, &record, block, sizeof block, flash, size) == DFU_ASKED
+                        && dfu_core_next(&config, &record, block, sizeof block, flash, size, &ask) == DFU_ASKED
+                        && dfu_core_took(&config, &record, block, sizeof block, flash, size, 0, out, 64) == DFU_ASKED
                         && dfu_core_would_stall(&config, &record, size, setup) == DFU_ASKED && ask.kind == 7
                         && memcmp(&kept, &record, sizeof kept) == 0, length, &none);
 }

@@ -31,7 +31,7 @@ static int is_newest(const uint8_t *mine, const uint8_t *other) {
 }
 
 /* Carries out what is asked for: the answer, or DFU_ASKS if next or took refuses with this record, medium and room. */
-static int32_t settle(const struct dfu_config *used, struct dfu_record *record, const uint8_t *block, size_t most, uint8_t *medium,
+static int32_t settle(const struct dfu_config *used, struct dfu_record *record, uint8_t *block, size_t most, uint8_t *medium,
                       uint8_t *out, size_t room) {
     int32_t result = DFU_ASKS;
     while (result == DFU_ASKS) {
@@ -49,7 +49,7 @@ static int32_t settle(const struct dfu_config *used, struct dfu_record *record, 
 
 int main(int count, char **words) {
     /* A guard on both sides of each. */
-    static uint8_t field[64 + 192 + 64], given[64 + 8 + 64], held[64 + 12 + 64], start[192];
+    static uint8_t field[64 + 192 + 64], given[64 + 8 + 64], held[64 + DFU_BLOCK_SIZE(8, 17) + 4 + 64], start[192];
     static uint8_t field_before[sizeof field], given_before[sizeof given], held_before[sizeof held];
     static struct dfu_record records[3], record_before;
     struct dfu_record *record = &records[1];
@@ -77,7 +77,7 @@ int main(int count, char **words) {
         record->version = DFU_VERSION + (roll(16) == 0), record->mode = roll(14), record->first = roll(12), record->second = roll(20);
         record->put_end = roll(12), record->slot = roll(8) ? 0 : roll(3);
         record->number = (uint16_t)roll(18), record->length = (uint16_t)roll(14);
-        record->held[0] = 1, record->held[1] = 2, record->held[2] = 3;
+        block[8] = 1, block[9] = 2, block[10] = 3;
         record->held_length = (uint16_t)(roll(8) ? record->put_end % used.unit : roll(300));
         /* Seven of eight note a header that stands on the medium. */
         if (roll(8))
@@ -93,7 +93,7 @@ int main(int count, char **words) {
             used.version++;
         if (fault == 5)
             used.unit = 17;
-        size_t most = fault == 3 ? roll(8) : 8 + roll(5);
+        size_t least = DFU_BLOCK_SIZE(8, used.unit), most = fault == 3 ? roll((uint32_t)least) : least + roll(5);
         memcpy(field_before, field, sizeof field);
         memcpy(given_before, given, sizeof given);
         memcpy(held_before, held, sizeof held);
@@ -112,7 +112,7 @@ int main(int count, char **words) {
         *(result >= -1 ? &answered : &refused) += 1;
         if (room < 8 && what > 2 && result != DFU_NO_ROOM)
             return printf("garbled: call %ld has no room and answered %d\n", call, (int)result), 1;
-        if (most < 8 && what < 2 && result >= -1)
+        if (most < least && what < 2 && result >= -1)
             return printf("garbled: call %ld has no block and answered %d\n", call, (int)result), 1;
         if (result < -1 && result != DFU_ASKS && (memcmp(field_before, field, sizeof field) != 0
             || memcmp(given_before, given, sizeof given) != 0

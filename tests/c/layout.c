@@ -31,7 +31,7 @@ AT(dfu_config, least, 24);
 AT(dfu_config, unit, 28);
 AT(dfu_config, sector, 32);
 
-SIZE(dfu_record, 324);
+SIZE(dfu_record, 68);
 AT(dfu_record, version, 0);
 AT(dfu_record, mode, 4);
 AT(dfu_record, first, 8);
@@ -49,7 +49,6 @@ AT(dfu_record, asked, 60);
 AT(dfu_record, generation, 64);
 AT(dfu_record, close, 65);
 AT(dfu_record, held_length, 66);
-AT(dfu_record, held, 68);
 
 SIZE(dfu_ask, 268);
 AT(dfu_ask, kind, 0);
@@ -62,7 +61,7 @@ AT(dfu_place, at, 0);
 AT(dfu_place, length, 4);
 
 /* The context has pointers: with those of 32 bits the memory is the one that dfu_device.h names. */
-SIZE(dfu_device, sizeof(void *) == 4 ? 352 : 376);
+SIZE(dfu_device, sizeof(void *) == 4 ? 96 : 120);
 AT(dfu_device, config, 0);
 AT(dfu_device, flash, sizeof(void *));
 AT(dfu_device, size, 2 * sizeof(void *));
@@ -70,7 +69,7 @@ AT(dfu_device, block, 3 * sizeof(void *));
 AT(dfu_device, most, 4 * sizeof(void *));
 AT(dfu_device, driver, 5 * sizeof(void *));
 AT(dfu_device, record, 6 * sizeof(void *));
-AT(dfu_device, unused, 6 * sizeof(void *) + 324);
+AT(dfu_device, unused, 6 * sizeof(void *) + 68);
 
 SIZE(dfu_driver, 3 * sizeof(void *));
 AT(dfu_driver, own, 0);

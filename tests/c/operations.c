@@ -105,30 +105,30 @@ static void refusals(void) {
     dfu_core_handle(config, device, board.pending, most, flash, 192, setup, (const uint8_t *)"", 0, out, room)
     expect("no room", HANDLE(&other, &device, 0, none, 19) == DFU_NO_ROOM);
     expect("no config", HANDLE(&other, &device, 0, none, 20) == DFU_NO_CONFIG);
-    expect("no block", HANDLE(&config, &device, 19, none, 20) == DFU_NO_BLOCK);
-    expect("no medium", HANDLE(&config, &device, 20, none, 20) == DFU_NO_MEDIUM);
-    expect("another unit", HANDLE(&large, &device, 20, board.flash, 20) == DFU_NO_MEDIUM);
-    expect("no unit", HANDLE(&three, &device, 20, board.flash, 20) == DFU_NO_CONFIG);
-    expect("no sectors", HANDLE(&odd, &device, 19, none, 20) == DFU_NO_CONFIG && HANDLE(&odd, &device, 20, none, 19) == DFU_NO_ROOM);
-    expect("other sectors", HANDLE(&sectors, &device, 20, board.flash, 20) == DFU_NO_MEDIUM);
+    expect("no block", HANDLE(&config, &device, 35, none, 20) == DFU_NO_BLOCK && HANDLE(&large, &device, 83, none, 20) == DFU_NO_BLOCK);
+    expect("no medium", HANDLE(&config, &device, 36, none, 20) == DFU_NO_MEDIUM);
+    expect("another unit", HANDLE(&large, &device, 84, board.flash, 20) == DFU_NO_MEDIUM);
+    expect("no unit", HANDLE(&three, &device, 36, board.flash, 20) == DFU_NO_CONFIG);
+    expect("no sectors", HANDLE(&odd, &device, 35, none, 20) == DFU_NO_CONFIG && HANDLE(&odd, &device, 36, none, 19) == DFU_NO_ROOM);
+    expect("other sectors", HANDLE(&sectors, &device, 36, board.flash, 20) == DFU_NO_MEDIUM);
     device = board.record, device.held_length = 257;
-    expect("held", HANDLE(&config, &device, 20, none, 20) == DFU_NO_DEVICE);
+    expect("held", HANDLE(&config, &device, 36, none, 20) == DFU_NO_DEVICE);
     device = board.record, device.length = 21;
-    expect("length", HANDLE(&config, &device, 20, none, 20) == DFU_NO_DEVICE);
+    expect("length", HANDLE(&config, &device, 36, none, 20) == DFU_NO_DEVICE);
     device = board.record, device.work = 4;
-    expect("work", HANDLE(&config, &device, 20, none, 20) == DFU_NO_DEVICE);
+    expect("work", HANDLE(&config, &device, 36, none, 20) == DFU_NO_DEVICE);
     device.work = 3;
     expect("a format is due", HANDLE(&other, &device, 0, none, 20) == DFU_ASKED);
     device = board.record, device.work = 1, device.close = 2;
-    expect("close", HANDLE(&config, &device, 20, none, 20) == DFU_NO_DEVICE);
+    expect("close", HANDLE(&config, &device, 36, none, 20) == DFU_NO_DEVICE);
     device = board.record, device.work = 2, device.asked = 65537;
-    expect("asked", HANDLE(&config, &device, 20, none, 20) == DFU_NO_DEVICE);
+    expect("asked", HANDLE(&config, &device, 36, none, 20) == DFU_NO_DEVICE);
     device.asked = 65536;
-    expect("work is due", HANDLE(&config, &device, 20, none, 20) == DFU_ASKED);
+    expect("work is due", HANDLE(&config, &device, 36, none, 20) == DFU_ASKED);
     device = board.record, device.version++;
-    expect("version", HANDLE(&config, &device, 20, none, 20) == DFU_NO_DEVICE);
+    expect("version", HANDLE(&config, &device, 36, none, 20) == DFU_NO_DEVICE);
     device = board.record, device.mode = 6, device.first = 4;
-    expect("no device of this flash", HANDLE(&config, &device, 20, board.flash, 20) == DFU_NO_DEVICE);
+    expect("no device of this flash", HANDLE(&config, &device, 36, board.flash, 20) == DFU_NO_DEVICE);
     expect("took", dfu_core_took(&other, &device, board.pending, 0, none, 192, 0, out, 5) == DFU_NO_ROOM
                        && dfu_core_took(&other, &device, board.pending, 0, none, 192, 0, out, 6) == DFU_NO_CONFIG
                        && dfu_core_took(&config, &device, board.pending, 0, none, 192, 0, out, 6) == DFU_NO_BLOCK);

@@ -9,7 +9,7 @@
 #define MODES 13
 
 static struct dfu_config config = {DFU_VERSION, 0x0100, 1, 0x1209, 255, 8, 7, 0, 5, 10, 4, 1, 0};
-static uint8_t pending[64], medium[DFU_MEDIUM_SIZE(1, 0, 16)], mediums[MODES][sizeof medium], out[16];
+static uint8_t pending[DFU_BLOCK_SIZE(8, 1)], medium[DFU_MEDIUM_SIZE(1, 0, 16)], mediums[MODES][sizeof medium], out[16];
 static const struct dfu_driver driver = DFU_MEMORY_DRIVER(medium);
 static struct dfu_device device = {.config = &config, .flash = medium, .size = sizeof medium, .block = pending, .most = sizeof pending,
                                    .driver = &driver};

@@ -5,7 +5,7 @@
 #include "memory.h"
 
 static struct dfu_config config = {DFU_VERSION, 0x0100, 1, 0x1209, 255, 8, 7, 0, 5, 10, 1, 1, 0};
-static uint8_t medium[DFU_MEDIUM_SIZE(1, 0, 64)], pending[16], out[16];
+static uint8_t medium[DFU_MEDIUM_SIZE(1, 0, 64)], pending[DFU_BLOCK_SIZE(8, 16)], out[16];
 static const struct dfu_driver driver = DFU_MEMORY_DRIVER(medium);
 static struct dfu_device device = {.config = &config, .flash = medium, .size = sizeof medium, .block = pending, .most = sizeof pending,
                                    .driver = &driver};
@@ -68,7 +68,7 @@ static void refusals(void) {
     static uint8_t before[sizeof medium], none[100], zeros[100];
     struct dfu_device other = device;
     struct dfu_place place = {7, 7};
-    other.flash = none, other.size = sizeof none, other.most = 7;
+    other.flash = none, other.size = sizeof none, other.most = 8;
     config.transfer = 0;
     ask("NO_CONFIG", STATUS, "", 0, DFU_NO_CONFIG, "", 0);
     config.transfer = 17;
@@ -80,7 +80,7 @@ static void refusals(void) {
     config.version = DFU_VERSION;
     expect("NO_BLOCK", elapse_in_memory(&other, 1) == DFU_NO_BLOCK && dfu_device_usb_reset(&other) == DFU_NO_BLOCK
         && dfu_device_handle(&other, none, none, out, sizeof out) == DFU_NO_BLOCK);
-    other.most = 8;
+    other.most = 9;
     expect("NO_MEDIUM", elapse_in_memory(&other, 1) == DFU_NO_MEDIUM && dfu_device_power_on(&other) == DFU_NO_MEDIUM
         && dfu_device_image(&other, &place) == DFU_NO_MEDIUM && place.at == 7 && place.length == 7);
     expect("NO_MEDIUM: unchanged", memcmp(none, zeros, sizeof none) == 0);
@@ -94,9 +94,9 @@ static void refusals(void) {
         && dfu_device_answered(&other) == DFU_NO_DEVICE && dfu_device_work(&other) == DFU_NO_DEVICE
         && dfu_device_serve(&other, (const uint8_t *)STATUS, none, out, sizeof out) == DFU_NO_DEVICE
         && dfu_device_reset(&other) == DFU_NO_DEVICE);
-    other.record = device.record, other.record.mode = 3, other.record.first = 0, other.record.length = 9, other.most = 8;
-    expect("a block that is longer than its memory", dfu_device_usb_reset(&other) == DFU_NO_DEVICE
-        && (other.most = 9, dfu_device_usb_reset(&other) == 0));
+    other.record = device.record, other.record.mode = 3, other.record.first = 0, other.record.length = 9;
+    expect("a block that is longer than any may be", dfu_device_usb_reset(&other) == DFU_NO_DEVICE
+        && (other.record.length = 8, dfu_device_usb_reset(&other) == 0));
     other.record.mode = 13;
     expect("no mode", dfu_device_state(&other) == DFU_NO_DEVICE && dfu_device_code(&other) == DFU_NO_DEVICE);
     other.size = 65;
@@ -120,7 +120,7 @@ static void units(void) {
     ask("DNLOAD of 8", "\x21\x01\0\0\0\0\x08\0", "abcdefgh", 8, 0, "", 3);
     ask("poll", STATUS, "", 0, 6, "\0\x05\0\0\x04\0", 4);
     expect("busy", elapse_in_memory(&device, 5) == 0);
-    expect("8 bytes are held back", device.record.held_length == 8 && memcmp(device.record.held, "abcdefgh", 8) == 0 && spare[0] == 0xee);
+    expect("8 bytes are held back", device.record.held_length == 8 && memcmp(pending + 8, "abcdefgh", 8) == 0 && spare[0] == 0xee);
     ask("written", STATUS, "", 0, 6, "\0\0\0\0\x05\0", 5);
     ask("DNLOAD of 4", "\x21\x01\x01\0\0\0\x04\0", "ijkl", 4, 0, "", 3);
     ask("poll", STATUS, "", 0, 6, "\0\x05\0\0\x04\0", 4);
@@ -129,7 +129,7 @@ static void units(void) {
     ask("DNLOAD of 8", "\x21\x01\x02\0\0\0\x08\0", "mnopqrst", 8, 0, "", 3);
     ask("poll", STATUS, "", 0, 6, "\0\x05\0\0\x04\0", 4);
     expect("busy", elapse_in_memory(&device, 5) == 0);
-    expect("a unit is written, and 4 bytes are held back", device.record.held_length == 4 && memcmp(device.record.held, "qrst", 4) == 0
+    expect("a unit is written, and 4 bytes are held back", device.record.held_length == 4 && memcmp(pending + 8, "qrst", 4) == 0
         && memcmp(spare, "abcdefghijklmnop\xee", 17) == 0);
     ask("written", STATUS, "", 0, 6, "\0\0\0\0\x05\0", 5);
     ask("close", "\x21\x01\x03\0\0\0\0\0", "", 0, 0, "", 6);

@@ -14,7 +14,7 @@ static const struct dfu_config config = {
 static const uint8_t descriptor[9] = {9, 0x21, 7, 255, 0, 8, 0, 0x10, 1};
 static const struct dfu_ids ids = {0x0100, 1, 0x1209};
 static const uint8_t ones[20] = {255, 255, 255, 255, 255, 255, 255, 255, 255, 255, 0, 1, 'U', 'F', 'D', 16, 113, 200, 81, 12};
-static uint8_t pending[8], medium[DFU_MEDIUM_SIZE(1, 0, 1024)], buffer[64], answer[64];
+static uint8_t pending[DFU_BLOCK_SIZE(8, 1)], medium[DFU_MEDIUM_SIZE(1, 0, 1024)], buffer[64], answer[64];
 static const struct dfu_driver driver = DFU_MEMORY_DRIVER(medium);
 static struct dfu_device device = {.config = &config, .flash = medium, .size = sizeof medium, .block = pending, .most = sizeof pending,
                                    .driver = &driver};

@@ -11,7 +11,7 @@
 static const struct dfu_config config = {DFU_VERSION, 0x0100, 1, 0x1209, 255, 4096, 7, 0, 0, 10, 1, 256, 0};
 static struct dfu_place place;
 static struct dfu_ask due;
-static uint8_t medium[DFU_MEDIUM_SIZE(256, 0, 256 * 400)], out[4096], block[4096], pending[4096];
+static uint8_t medium[DFU_MEDIUM_SIZE(256, 0, 256 * 400)], out[4096], block[4096], pending[DFU_BLOCK_SIZE(4096, 256)];
 static uint8_t painted[1 << 20] __attribute__((aligned(4096)));
 static const struct dfu_driver driver = DFU_MEMORY_DRIVER(medium);
 static struct dfu_device device = {.config = &config, .flash = medium, .size = sizeof medium, .block = pending, .most = sizeof pending,

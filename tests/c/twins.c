@@ -11,7 +11,7 @@ static const uint32_t units[] = {1, 16, 64, 256};
 
 /* The device over plain memory; what its buffer of data has before a call. */
 static struct dfu_config in_place;
-static uint8_t medium[MOST_FLASH], pending[MOST_BLOCK], data[MOST_BLOCK];
+static uint8_t medium[MOST_FLASH], pending[DFU_BLOCK_SIZE(MOST_BLOCK, 256)], data[MOST_BLOCK];
 static const struct dfu_driver driver = DFU_MEMORY_DRIVER(medium);
 static struct dfu_device plain = {.config = &in_place, .flash = medium, .block = pending, .most = sizeof pending, .driver = &driver};
 
@@ -45,7 +45,7 @@ static int is_same(const struct board *board, const uint8_t *body) {
     const struct dfu_record *one = &plain.record, *two = &board->record;
     struct dfu_place here, there;
     if (memcmp(one, two, offsetof(struct dfu_record, work)) != 0 || one->work != 0 || two->work != 0 || one->held_length != two->held_length
-        || memcmp(one->held, two->held, one->held_length) != 0)
+        || memcmp(pending + config.transfer, board->pending + config.transfer, one->held_length) != 0)
         return 0;
     if (memcmp(board->pending, pending, one->length) != 0 || memcmp(body ? body : board->out, data, sizeof data) != 0)
         return 0;

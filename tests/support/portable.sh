@@ -49,7 +49,7 @@ suite() {
     objects=$2
     times=$3
     shift 3
-    for name in rows operations questions time power sessions format cuts; do
+    for name in rows operations questions lent time power sessions format cuts; do
         [ "$name" != cuts ] || [ "${is_short-0}" -eq 0 ] || continue
         is "$label: $name is built" program "$name" "$objects" "$top/tests/c/$name.c" "$@"
         is "$label: $name" runs "$name"

@@ -9,7 +9,7 @@
 #include <string.h>
 
 static struct dfu_config config;
-static uint8_t pending[4096], *medium;
+static uint8_t pending[DFU_BLOCK_SIZE(4096, 256)], *medium;
 static struct dfu_driver driver = {.erase = dfu_memory_erase, .program = dfu_memory_program};
 static struct dfu_device device = {.config = &config, .block = pending, .most = sizeof pending, .driver = &driver};
 

@@ -1,6 +1,7 @@
 mod Steps
 mod Bits
 mod Noting
+pub mod Room
 mod Carrying
 mod Came
 mod Rows

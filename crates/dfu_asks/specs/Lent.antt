@@ -1,6 +1,7 @@
 -- A device that asks, with what is in the memory that its caller lends.
-use Rattle.std.specs.Prelude.{◌≡◌, ℕ, List, take, Option}
+use Rattle.std.specs.Prelude.{◌≡◌, ℕ, ◌≤◌, List, length, take, Option}
 use Rattle.dfu_slots.specs.declared.unit.Unit.{Unit as WriteUnit}
+use Rattle.dfu_slots.specs.Units.{unit_size}
 use Rattle.dfu_device.specs.declared.mode.Mode.{Mode}
 use Rattle.dfu_device.specs.Setting.{Setting}
 use Rattle.dfu_asks.specs.declared.sector.Sector.{Sector}
@@ -33,6 +34,10 @@ lent a block held = record {
   noted = a.noted;
   work = a.work;
 }
+
+-- Memory for the bytes that are held back has room for a unit.
+abbrev pub HasRoom : WriteUnit → List ℕ → Type 0
+HasRoom unit held = unit_size unit ≤ length held
 
 -- It is set up as it was.
 pub record IsSetUpAs (a a' : Asking) : Type 0 where

@@ -5,7 +5,7 @@ ghost use Rattle.dfu_asks.specs.declared.work.Work.{Work};
 ghost use Rattle.dfu_asks.specs.Jobs.{steps_for};
 ghost use Rattle.dfu_asks.specs.Carried.{total, carried, IsReached};
 ghost use Rattle.dfu_asks.specs.Cuts.{IsNext};
-ghost use Rattle.dfu_asks.specs.Lent.{lent, IsSetUpAs};
+ghost use Rattle.dfu_asks.specs.Lent.{lent, HasRoom, IsSetUpAs};
 ghost use Rattle.dfu_asks.specs.Asks.{device_of, IsWorking, IsBrokenOff, NotesAfter, IsAnswered, Gives, writes_in, steps_in};
 ghost use Rattle.dfu_asks.specs.Calls.{Comes, HasAtMost};
 
@@ -17,8 +17,16 @@ use dfu_device::Answer;
 use dfu_slots::WriteFault;
 
 impl Asking {
+    /// The bytes held back, of the memory that they are in.
+    pub(crate) fn held_in<'a>(&self, held: &'a [u8]) -> &'a [u8]
+        ensures bytes { result.now ≡ take self.now.held_len held.now }
+        ensures few { length result.now ≤ 256 }
+    {
+        &held[..self.held_len.min(held.len())]
+    }
+
     /// What the writes of a job are made of.
-    pub(crate) fn stock<'a>(&self, block: &'a [u8], held: &'a [u8; 256]) -> Stock<'a>
+    pub(crate) fn stock<'a>(&self, block: &'a [u8], held: &'a [u8]) -> Stock<'a>
         ensures steps { (w : Work) → steps_for w.job result ≡ steps_in (lent self.now block.now held.now) w }
         ensures sector { result.sector ≡ self.now.sector }
         ensures few { length result.held.now ≤ 256 }
@@ -28,7 +36,7 @@ impl Asking {
             unit: self.unit,
             sector: self.sector,
             put_end: self.put_end,
-            held: &held[..self.held_len],
+            held: self.held_in(held),
             block: &block[..self.block_len.min(block.len())],
         }
     }
@@ -38,7 +46,7 @@ impl Asking {
         &self,
         work: &Work,
         block: &[u8],
-        held: &[u8; 256],
+        held: &[u8],
         flash: &[u8],
     ) -> (usize, bool)
         ensures next { 0 < result.0 →
@@ -57,11 +65,12 @@ impl Asking {
     pub(crate) fn advance(
         &mut self,
         block: &[u8],
-        held: &mut [u8; 256],
+        held: &mut [u8],
         flash: &[u8],
         out: &mut [u8],
     ) -> Reply
-        requires { 6 ≤ length out.old }
+        requires room { 6 ≤ length out.old }
+        requires memory { HasRoom self.old.unit held.old }
         ensures outcome { let a = lent self.old block.now held.old in (work : Work) (len : ℕ) (s : SlotsState) (was : List ℕ) →
             self.old.work ≡ Some work → IsWorking a work len s was →
             flash.now ≡ carried was (writes_in a work) work.done → IsReached (steps_in a work) work.done →

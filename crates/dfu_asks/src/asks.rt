@@ -8,7 +8,7 @@ ghost use Rattle.dfu_asks.specs.Mapped.{grain_of, mapped, IsInSpare, IsHeldBack}
 ghost use Rattle.dfu_asks.specs.Steps.{Step};
 ghost use Rattle.dfu_asks.specs.Carried.{IsPiece, IsSound};
 ghost use Rattle.dfu_asks.specs.Jobs.{asked, IsFit};
-ghost use Rattle.dfu_asks.specs.Lent.{lent, IsSetUpAs};
+ghost use Rattle.dfu_asks.specs.Lent.{lent, HasRoom, IsSetUpAs};
 ghost use Rattle.dfu_asks.specs.Asks.{grain_in, steps_in, device_of};
 ghost use Rattle.dfu_asks.specs.Calls.{Asks, Took, AsksOn, HasAtMost};
 ghost use Rattle.dfu_asks.specs.Refused.{IsLeft, IsNotTaken, IsTaken};
@@ -93,7 +93,7 @@ impl Asking {
     pub fn next(
         &self,
         block: &[u8],
-        held: &[u8; 256],
+        held: &[u8],
         flash: &[u8],
         out: &mut [u8; 256],
     ) -> Option<Piece>
@@ -141,11 +141,12 @@ impl Asking {
     pub fn took(
         &mut self,
         block: &[u8],
-        held: &mut [u8; 256],
+        held: &mut [u8],
         flash: &[u8],
         failed: bool,
         out: &mut [u8],
     ) -> Result<Reply, Refusal>
+        requires { HasRoom self.old.unit held.old }
         ensures outcome { IfOk result
             (λ r. (len : ℕ) (s : SlotsState) (was before : List ℕ)
             (asks : Asks (lent self.old block.now held.old) len s was before) (p : Step) →

@@ -10,7 +10,7 @@ ghost use Rattle.dfu_device.specs.Lent.{answer_room};
 ghost use Rattle.dfu_asks.specs.declared.work.Work.{Work};
 ghost use Rattle.dfu_asks.specs.Mapped.{grain_of, mapped};
 ghost use Rattle.dfu_asks.specs.Noted.{IsView};
-ghost use Rattle.dfu_asks.specs.Lent.{lent, IsSetUpAs};
+ghost use Rattle.dfu_asks.specs.Lent.{lent, HasRoom, IsSetUpAs};
 ghost use Rattle.dfu_asks.specs.Asks.{device_in, IsDevice};
 ghost use Rattle.dfu_asks.specs.Calls.{Called, HasAtMost};
 ghost use Rattle.dfu_asks.specs.Refused.{IsKept, IsThere, Fits, IsRefused, IsServed};
@@ -72,7 +72,7 @@ impl Asking {
         ensures held { IfOk result (λ r. self.now.held_len ≤ self.now.put_end) }
         ensures no_medium { IfErr result (λ e. e ≡ Refusal.NoMedium → ¬ IsThere self.now flash.now) }
         ensures no_device { IfErr result (λ e. e ≢ Refusal.NoMedium → (e ≡ Refusal.NoDevice) × IsThere self.now flash.now
-            × ((block held : List ℕ) → length block ≡ room → length held ≡ 256 → ¬ IsKept self.now block held flash.now)) }
+            × ((block held : List ℕ) → length block ≡ room → HasRoom self.now.unit held → ¬ IsKept self.now block held flash.now)) }
     {
         let Some(medium) = Mapped::with_sector(flash, self.unit, self.sector) else {
             return Err(Refusal::NoMedium);
@@ -90,7 +90,7 @@ impl Asking {
     fn respond(
         &mut self,
         block: &mut [u8],
-        held: &mut [u8; 256],
+        held: &mut [u8],
         medium: &Mapped<'_>,
         view: &View,
         setup: &[u8; 8],
@@ -105,6 +105,7 @@ impl Asking {
         requires block { self.old.block_len ≤ length block.old }
         requires end { self.old.put_end ≤ view.now.room }
         requires held { self.old.held_len ≤ self.old.put_end }
+        requires memory { HasRoom self.old.unit held.old }
         ensures outcome { let a = lent self.old block.old held.old in
             let flash = medium.now.bytes.now in IsKept self.old block.old held.old flash →
             Called a flash out.old (λ x sent d'. Handles setup.now body.now (device_in a flash) x sent d')
@@ -140,12 +141,13 @@ impl Asking {
     pub fn handle(
         &mut self,
         block: &mut [u8],
-        held: &mut [u8; 256],
+        held: &mut [u8],
         flash: &[u8],
         setup: &[u8; 8],
         body: &[u8],
         out: &mut [u8],
     ) -> Result<Reply, Refusal>
+        requires { HasRoom self.old.unit held.old }
         ensures outcome { let a = lent self.old block.old held.old in IfOk result (λ r. IsKept self.old block.old held.old flash.now →
             Called a flash.now out.old (λ x sent d'. Handles setup.now body.now (device_in a flash.now) x sent d')
             (lent self.new block.new held.new) out.new r) }
@@ -177,10 +179,11 @@ impl Asking {
     pub fn elapse(
         &mut self,
         block: &mut [u8],
-        held: &mut [u8; 256],
+        held: &mut [u8],
         flash: &[u8],
         ms: u32,
     ) -> Result<Reply, Refusal>
+        requires { HasRoom self.old.unit held.old }
         ensures outcome { let a = lent self.old block.old held.old in IfOk result (λ r. IsKept self.old block.old held.old flash.now →
             (out : List ℕ) × Called a flash.now (replicate 6 0)
             (λ x sent d'. (x ≡ Answer.Ack) × (sent ≡ []) × Elapses ms (device_in a flash.now) d')
@@ -208,7 +211,8 @@ impl Asking {
     /// # Errors
     ///
     /// As `elapse`.
-    pub fn usb_reset(&mut self, block: &[u8], held: &[u8; 256], flash: &[u8]) -> Result<(), Refusal>
+    pub fn usb_reset(&mut self, block: &[u8], held: &[u8], flash: &[u8]) -> Result<(), Refusal>
+        requires { HasRoom self.old.unit held.now }
         ensures row { let before = device_in (lent self.old block.now held.now) flash.now in
             OnOk result (device_in (lent self.new block.now held.now) flash.now ≡ record before { stage = reset_stage before.stage }) }
         ensures is { OnOk result (IsKept self.old block.now held.now flash.now → IsKept self.new block.now held.now flash.now) }

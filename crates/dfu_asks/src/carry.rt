@@ -9,7 +9,7 @@ ghost use Rattle.dfu_asks.specs.declared.work.Work.{Work};
 ghost use Rattle.dfu_asks.specs.declared.noted.Noted.{Noted};
 ghost use Rattle.dfu_asks.specs.Mapped.{grain_of, mapped};
 ghost use Rattle.dfu_asks.specs.Noted.{IsView, noted_at};
-ghost use Rattle.dfu_asks.specs.Lent.{lent, IsSetUpAs};
+ghost use Rattle.dfu_asks.specs.Lent.{lent, HasRoom, IsSetUpAs};
 ghost use Rattle.dfu_asks.specs.Due.{IsSureOrDue, SendsWithin, wanted};
 ghost use Rattle.dfu_asks.specs.Asks.{device_in, store_in, IsReply, Gives};
 ghost use Rattle.dfu_asks.specs.Calls.{Called, HasAtMost};
@@ -91,7 +91,7 @@ impl Asking {
         asked: Option<u16>,
         body: &[u8],
         block: &mut [u8],
-        held: &mut [u8; 256],
+        held: &mut [u8],
         medium: &Mapped<'_>,
         view: &View,
         out: &mut [u8],
@@ -104,6 +104,7 @@ impl Asking {
         requires block { self.old.block_len ≤ length block.old }
         requires end { self.old.put_end ≤ view.now.room }
         requires held { self.old.held_len ≤ self.old.put_end }
+        requires memory { HasRoom self.old.unit held.old }
         ensures outcome { let a = lent self.old block.old held.old in
             let flash = medium.now.bytes.now in
             let w = device_in a flash in

@@ -4,7 +4,7 @@ ghost use Rattle.dfu_slots.specs.Image.{HasImage};
 ghost use Rattle.dfu_slots.specs.Writes.{put_rest};
 ghost use Rattle.dfu_asks.specs.Mapped.{grain_of, mapped};
 ghost use Rattle.dfu_asks.specs.Noted.{IsNoted};
-ghost use Rattle.dfu_asks.specs.Lent.{lent, IsSetUpAs};
+ghost use Rattle.dfu_asks.specs.Lent.{lent, HasRoom, IsSetUpAs};
 ghost use Rattle.dfu_asks.specs.Asks.{is_block, capped, done_mode, failed_mode, IsFinished, IsBrokenOff, NotesAfter, IsAnswered, Gives};
 
 use crate::{Asking, Noted, Sector};
@@ -64,8 +64,10 @@ fn failed_mode(mode: Mode, fault: WriteFault) -> Mode
 }
 
 // Keeps what makes no whole unit of the bytes held and a block after them, and answers how many bytes that are.
-fn keep_rest(unit: Unit, held: &mut [u8; 256], held_len: usize, block: &[u8]) -> usize
-    requires held { held_len ≤ 256 }
+fn keep_rest(unit: Unit, held: &mut [u8], held_len: usize, block: &[u8]) -> usize
+    requires few { held_len ≤ 256 }
+    requires held { held_len ≤ length held.old }
+    requires room { HasRoom unit held.old }
     requires block { length block.now ≤ 4096 }
     ensures held { take result held.new ≡ put_rest unit (take held_len held.old) block.now }
     ensures few { result ≤ 256 }
@@ -100,7 +102,8 @@ fn note(noted: &mut Noted, mode: Mode, flash: &[u8], unit: Unit, sector: Sector)
 
 impl Asking {
     // How many bytes are held back after a row whose writes worked, and where the puts end. These bytes are kept in their memory.
-    fn rest_after(&self, block: &[u8], held: &mut [u8; 256]) -> (usize, u32)
+    fn rest_after(&self, block: &[u8], held: &mut [u8]) -> (usize, u32)
+        requires { HasRoom self.now.unit held.old }
         ensures held { let a = lent self.now block.now held.old in
             take result.0 held.new ≡ (if is_block a.mode then put_rest a.unit a.held a.block else []) }
         ensures end { let a = lent self.now block.now held.old in
@@ -111,12 +114,14 @@ impl Asking {
             return (0, 0);
         }
         let len = self.block_len.min(block.len());
-        let rest = keep_rest(self.unit, held, self.held_len, &block[..len]);
+        let held_len = self.held_len.min(held.len());
+        let rest = keep_rest(self.unit, held, held_len, &block[..len]);
         (rest, self.put_end.saturating_add(len as u32))
     }
 
     /// All is written.
-    pub(crate) fn finish(&mut self, block: &[u8], held: &mut [u8; 256], flash: &[u8])
+    pub(crate) fn finish(&mut self, block: &[u8], held: &mut [u8], flash: &[u8])
+        requires { HasRoom self.old.unit held.old }
         ensures finished { IsFinished (lent self.old block.now held.old) (lent self.new block.now held.new) }
         ensures notes { NotesAfter self.old.mode flash.now (lent self.old block.now held.old) (lent self.new block.now held.new) }
         ensures same { IsSetUpAs self.old self.new }

@@ -5,7 +5,7 @@ ghost use Rattle.dfu_device.specs.Parts.{stage_of, is_put};
 ghost use Rattle.dfu_asks.specs.declared.work.Work.{Work};
 ghost use Rattle.dfu_asks.specs.Mapped.{grain_of, mapped};
 ghost use Rattle.dfu_asks.specs.Noted.{IsView};
-ghost use Rattle.dfu_asks.specs.Lent.{lent, IsSetUpAs};
+ghost use Rattle.dfu_asks.specs.Lent.{lent, HasRoom, IsSetUpAs};
 ghost use Rattle.dfu_asks.specs.Due.{IsDueStage};
 ghost use Rattle.dfu_asks.specs.Asks.{device_in, store_in, IsDevice, IsBlockJob, IsCommitJob, IsJobOf};
 ghost use Rattle.dfu_asks.specs.Calls.{Comes, HasAtMost};
@@ -29,12 +29,13 @@ fn register_of(flash: &[u8], from: usize, size: usize, held: &[u8]) -> u32
 
 impl Asking {
     // The job of a commit of all that was put.
-    fn commit_job(&self, held: &[u8; 256], medium: &Mapped<'_>, view: &View) -> Job
+    fn commit_job(&self, held: &[u8], medium: &Mapped<'_>, view: &View) -> Job
         requires unit { medium.now.unit ≡ self.now.unit }
         requires sector { medium.now.sector ≡ self.now.sector }
         requires view { IsView view.now self.now.noted (mapped (grain_of self.now.unit self.now.sector) medium.now.bytes.now) }
         requires end { self.now.put_end ≤ view.now.room }
         requires held { self.now.held_len ≤ self.now.put_end }
+        requires memory { HasRoom self.now.unit held.now }
         ensures { (block : List ℕ) → let a = lent self.now block held.now in IsDevice a medium.now.bytes.now →
             IsCommitJob self.now.put_end (store_in a medium.now.bytes.now) result self.now.put_end a.held }
     {
@@ -43,7 +44,7 @@ impl Asking {
         Job::Commit {
             spare: view.spare,
             generation: self.noted.header[0].wrapping_add(1),
-            register: register_of(medium.bytes, from, size, &held[..self.held_len]),
+            register: register_of(medium.bytes, from, size, self.held_in(held)),
         }
     }
 
@@ -73,12 +74,13 @@ impl Asking {
     }
 
     // The job of the row that is due, and what is held back and put then.
-    fn begin_job(&self, held: &[u8; 256], medium: &Mapped<'_>, view: &View) -> (Job, usize, u32)
+    fn begin_job(&self, held: &[u8], medium: &Mapped<'_>, view: &View) -> (Job, usize, u32)
         requires unit { medium.now.unit ≡ self.now.unit }
         requires sector { medium.now.sector ≡ self.now.sector }
         requires view { IsView view.now self.now.noted (mapped (grain_of self.now.unit self.now.sector) medium.now.bytes.now) }
         requires end { self.now.put_end ≤ view.now.room }
         requires held { self.now.held_len ≤ self.now.put_end }
+        requires memory { HasRoom self.now.unit held.now }
         ensures due { (block spare unwritten : List ℕ) (asked : Option ℕ) (len : ℕ) → let a = lent self.now block held.now in
             IsDevice a medium.now.bytes.now → IsDueStage (stage_of self.now.mode spare unwritten) asked len →
             IsJobOf self.now.mode (store_in a medium.now.bytes.now) result.0 result.2 (take result.1 held.now) }
@@ -100,7 +102,7 @@ impl Asking {
         &mut self,
         asked: Option<u16>,
         block: &[u8],
-        held: &mut [u8; 256],
+        held: &mut [u8],
         medium: &Mapped<'_>,
         view: &View,
         out: &mut [u8],
@@ -111,6 +113,7 @@ impl Asking {
         requires view { IsView view.now self.old.noted (mapped (grain_of self.old.unit self.old.sector) medium.now.bytes.now) }
         requires end { self.old.put_end ≤ view.now.room }
         requires held { self.old.held_len ≤ self.old.put_end }
+        requires memory { HasRoom self.old.unit held.old }
         ensures outcome { let a = lent self.old block.now held.old in
             let flash = medium.now.bytes.now in
             let d = device_in a flash in

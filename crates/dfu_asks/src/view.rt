@@ -2,6 +2,7 @@
 ghost use Rattle.std.specs.Prelude.{◌≡◌, ◌≤◌, ◌↔◌, ℕ, List, length, IsTrue, IfSome, IfNone};
 ghost use Rattle.dfu_asks.specs.Mapped.{grain_of, mapped};
 ghost use Rattle.dfu_asks.specs.Noted.{Stands, IsView};
+ghost use Rattle.dfu_asks.specs.Lent.{HasRoom};
 ghost use Rattle.dfu_asks.specs.Refused.{IsKept, Fits};
 
 use crate::{Asking, Mapped, Noted};
@@ -75,7 +76,7 @@ impl Asking {
         requires unit { medium.now.unit ≡ self.now.unit }
         requires sector { medium.now.sector ≡ self.now.sector }
         requires view { IsView view.now self.now.noted (mapped (grain_of self.now.unit self.now.sector) medium.now.bytes.now) }
-        ensures kept { (block held : List ℕ) → length block ≡ room → length held ≡ 256 →
+        ensures kept { (block held : List ℕ) → length block ≡ room → HasRoom self.now.unit held →
             IsKept self.now block held medium.now.bytes.now → IsTrue result }
         ensures fits { IsTrue result → Fits self.now room }
         ensures end { IsTrue result → self.now.put_end ≤ view.now.room }

@@ -19,7 +19,7 @@ use Rattle.dfu_asks.specs.declared.work.Work.{Work}
 use Rattle.dfu_asks.specs.declared.job.Job.{Job}
 use Rattle.dfu_asks.specs.declared.job.Job.TheVariants as job
 use Rattle.dfu_slots.specs.Units.{gate_room}
-use Rattle.dfu_asks.specs.Lent.{LentAsking, lent}
+use Rattle.dfu_asks.specs.Lent.{LentAsking}
 use Rattle.dfu_asks.specs.Asks.{grain_in, store_in, device_in, IsDevice}
 use Rattle.dfu_device_c.specs.declared.config.DfuConfig.{DfuConfig}
 use Rattle.dfu_device_c.specs.Config.{setting_of, transfer_of, grain_of}
@@ -48,11 +48,11 @@ module _ (c : DfuConfig) (r : DfuRecord) (size : ℕ) (setup : List ℕ) (p : Se
     → Some b ≡ verdict (plan (profile_of (setting_of c) (size / 2 - 2 * gate_room (grain_of c))) image
     (stage_of m spare unwritten) (meant q body))) where
   -- So it is said of the device.
-  stalls_device : (block flash : List ℕ) (k : Asking) → IsKept c r k → IsDevice (with_memory r block k) flash → length flash ≡ size
+  stalls_device : (block flash : List ℕ) (k : Asking) → IsKept c r k → IsDevice (with_memory block k) flash → length flash ≡ size
       → (body : List ℕ)
-      → length body ≡ body_length p → Asks p q → Some b ≡ verdict (setup_plan (device_in (with_memory r block k) flash) p q body)
+      → length body ≡ body_length p → Asks p q → Some b ≡ verdict (setup_plan (device_in (with_memory block k) flash) p q body)
   stalls_device block flash k kept device size_is body fits asks =
-      let a : LentAsking = with_memory r block k in
+      let a : LentAsking = with_memory block k in
       let store = store_in a flash in
       let d = device_in a flash in
       let same : m ≡ a.mode = the_mode a.mode kept.mode in
@@ -71,7 +71,7 @@ module _ (c : DfuConfig) (r : DfuRecord) (size : ℕ) (setup : List ℕ) (p : Se
   -- So the call says of each device that these are whether it stalls the setup.
   pub told_stall : (result : ℤ) → (b ≡ true → result ≡ pos 1) → (b ≡ false → result ≡ pos 0) → ToldStall c r size setup result
   told_stall result is_one is_zero block flash k kept device size_is body body_is =
-      told_row setup p q b the_setup the_request result is_one is_zero (device_in (with_memory r block k) flash) body body_is
+      told_row setup p q b the_setup the_request result is_one is_zero (device_in (with_memory block k) flash) body body_is
       (stalls_device block flash k kept device size_is body)
 
 -- No work is due if the record has the number of none.
@@ -99,9 +99,7 @@ module _ (c : DfuConfig) (r r' : DfuRecord) (setup : List ℕ) (p : Setup) (m : 
     subst (λ x. IsKept c x a) (sym same) kept,
     none_kept r a.work idle kept.work,
     refl,
-    λ block flash device body body_is. subst (λ (x : DfuRecord). IsDevice (with_memory x block a) flash
-        × Handles setup body (device_in (with_memory r block a) flash) answer.Stall [] (device_in (with_memory x block a) flash)) (sym same)
-        (device, long_elsewhere setup p is (device_in (with_memory r block a) flash) other body),
+    λ block flash device body body_is. (device, long_elsewhere setup p is (device_in (with_memory block a) flash) other body),
   )
 
   -- Another one.
@@ -114,9 +112,6 @@ module _ (c : DfuConfig) (r r' : DfuRecord) (setup : List ℕ) (p : Setup) (m : 
   }) (a : Asking) (kept : IsKept c r a) where
     abbrev after : Asking
     after = record a { mode = after_long m }
-
-    same_bytes : r'.held ≡ r.held
-    same_bytes = ap (λ (x : DfuRecord). x.held) rest
 
     -- What is left to be written is in neither record.
     after_work : HasWork r' a.work
@@ -138,11 +133,11 @@ module _ (c : DfuConfig) (r r' : DfuRecord) (setup : List ℕ) (p : Setup) (m : 
     }
 
     -- The device and the row of a body that long.
-    after_row : (block flash : List ℕ) → IsDevice (with_memory r block a) flash → (body : List ℕ) → length body ≡ body_length p
-        → IsDevice (with_memory r block after) flash
-        × Handles setup body (device_in (with_memory r block a) flash) answer.Stall [] (device_in (with_memory r block after) flash)
+    after_row : (block flash : List ℕ) → IsDevice (with_memory block a) flash → (body : List ℕ) → length body ≡ body_length p
+        → IsDevice (with_memory block after) flash
+        × Handles setup body (device_in (with_memory block a) flash) answer.Stall [] (device_in (with_memory block after) flash)
     after_row block flash device body fits =
-        let l : LentAsking = with_memory r block a in
+        let l : LentAsking = with_memory block a in
         let s = store_in l flash in (
           record {
             store = device.store;
@@ -166,8 +161,5 @@ module _ (c : DfuConfig) (r r' : DfuRecord) (setup : List ℕ) (p : Setup) (m : 
     after_kept index moved rest a kept,
     none_kept r a.work idle kept.work,
     refl,
-    λ block flash device body body_is. subst (λ (h : List ℕ). IsDevice (lent (record a { mode = after_long m }) block h) flash
-        × Handles setup body (device_in (with_memory r block a) flash) answer.Stall []
-        (device_in (lent (record a { mode = after_long m }) block h) flash)) (sym (same_bytes index moved rest a kept))
-        (after_row index moved rest a kept block flash device body (body_is p is)),
+    λ block flash device body body_is. after_row index moved rest a kept block flash device body (body_is p is),
   )

@@ -7,9 +7,7 @@ use Rattle.dfu_device.specs.Shown.{Shown}
 use Rattle.dfu_device.specs.Rows.{Transfer}
 use Rattle.dfu_asks.specs.declared.asking.Asking.{Asking}
 use Rattle.dfu_asks.specs.Carried.{IsPiece}
-use Rattle.dfu_asks.specs.Asks.{device_in, device_of, steps_in}
-use Rattle.dfu_asks.specs.Refused.{IsKept as IsWhole}
-use Rattle.dfu_asks.specs.Calls.{Took}
+use Rattle.dfu_asks.specs.Asks.{device_in, steps_in}
 use Rattle.dfu_board.specs.Board.{Answers}
 use Rattle.dfu_board.specs.Happens.{said_by}
 use Rattle.dfu_device_c.specs.declared.ask.DfuAsk.{DfuAsk}
@@ -17,6 +15,7 @@ use Rattle.dfu_device_c.specs.declared.config.DfuConfig.{DfuConfig}
 use Rattle.dfu_device_c.specs.Config.{transfer_of, IsConfig}
 use Rattle.dfu_device_c.specs.Addressed.{addressed}
 use Rattle.dfu_device_c.specs.Kept.{IsKept, with_memory}
+use Rattle.dfu_device_c.specs.Calls.{IsIntact}
 use Rattle.dfu_device_c.specs.Writes.{step_of, HandsOut, RefusesPiece, refuses_unfound, refuses_piece}
 use Rattle.dfu_device_c.specs.declared.refusal.Refusal.TheVariants as refusal
 use Rattle.dfu_device_c.specs.Idle.{RefusesSetup}
@@ -39,10 +38,10 @@ handle_turn b a setup body out n out' b' sound called (inl g) =
     record {
       config = called.config;
       after = g.after;
-      sound = sound_on b a b' b'.block _ sound called.config refl g;
+      sound = sound_on b a b' _ sound called.config g;
       says = said_by does.reply out';
       happens = served_step (board_of b a) (board_of b' g.after) (Transfer (addressed b.config.interface setup) body) out out' does.reply
-          does.idle (fits_of b a sound g.room) called.flash does.called;
+          does.idle (fits_of b a sound (omega (arith, g.room))) called.flash does.called;
       told = reply_says n out' does.reply does.number_is;
     }
 handle_turn b a setup body out n out' b' sound called (inr (inl (denied, out_is))) =
@@ -60,10 +59,10 @@ elapse_turn b a ms n out' b' sound called (inl g) =
     record {
       config = called.config;
       after = g.after;
-      sound = sound_on b a b' b'.block _ sound called.config refl g;
+      sound = sound_on b a b' _ sound called.config g;
       says = said_by does.reply [];
       happens = passed_step (board_of b a) (board_of b' g.after) ms (replicate 6 0) does.reply
-          does.idle (fits_of b a sound g.room) called.flash does.called;
+          does.idle (fits_of b a sound (omega (arith, g.room))) called.flash does.called;
       told = passed_says n does.reply does.number_is;
     }
 elapse_turn b a ms n out' b' sound called (inr denied) =
@@ -75,19 +74,19 @@ pub reset_turn : (b : CoreBoard) (a : Asking) (n : ℤ) (out' : List ℕ) (b' : 
     → IsCalled b b' → Reset b n b' → IsTurn b a CoreReset n out' b'
 reset_turn b a n out' b' sound called (inl g) =
     let does = goes_on b a b'.kept b'.block _ sound g in
-    let was : Shown = device_in (with_memory b.kept b.block a) b.flash in
+    let was : Shown = device_in (with_memory b.block a) b.flash in
     record {
       config = called.config;
       after = g.after;
-      sound = sound_on b a b' b'.block _ sound called.config refl g;
+      sound = sound_on b a b' _ sound called.config g;
       says = Answers answer.Ack [];
       happens = record {
         idle = does.0;
-        fits = fits_of b a sound g.room;
+        fits = fits_of b a sound (omega (arith, g.room));
         flash = called.flash;
-        row = subst (λ (f : List ℕ). device_in (with_memory b'.kept b'.block g.after) f ≡ record was { stage = reset_stage was.stage })
+        row = subst (λ (f : List ℕ). device_in (with_memory b'.block g.after) f ≡ record was { stage = reset_stage was.stage })
             (sym called.flash) does.3;
-        is = λ whole. subst (λ (f : List ℕ). IsWhole g.after b'.block b'.kept.held f) (sym called.flash) (does.4 whole);
+        is = λ whole. subst (λ (f : List ℕ). IsIntact b'.block f g.after) (sym called.flash) (does.4 whole);
         work = does.2;
         says_is = refl;
       };
@@ -100,9 +99,9 @@ reset_turn b a n out' b' sound called (inr denied) =
 -- What is handed out is due in the device that the record is.
 pub handed_work : (b : CoreBoard) (a : Asking) (flash : List ℕ) (n : ℤ) (ask : DfuAsk) → IsSound b a
     → (h : HandsOut b.config b.kept b.block flash n ask)
-    → (a.work ≡ Some h.work) × IsPiece (steps_in (with_memory b.kept b.block a) h.work) h.work.done (step_of ask)
+    → (a.work ≡ Some h.work) × IsPiece (steps_in (with_memory b.block a) h.work) h.work.done (step_of ask)
 handed_work b a flash n ask sound h =
-    subst (λ (x : Asking). (x.work ≡ Some h.work) × IsPiece (steps_in (with_memory b.kept b.block x) h.work) h.work.done (step_of ask))
+    subst (λ (x : Asking). (x.work ≡ Some h.work) × IsPiece (steps_in (with_memory b.block x) h.work) h.work.done (step_of ask))
     (one_device b.config b.kept h.asking a h.is sound.kept) (h.work_is, h.piece)
 
 -- A call of dfu_core_took that is refused for its piece has the number of a refusal.
@@ -112,29 +111,25 @@ piece_refused b Why n (refuses_piece x is config room kept why) = inr (inr (refu
 
 -- dfu_core_took.
 pub took_turn : (b : CoreBoard) (a : Asking) (failed : ℕ) (out : List ℕ) (n : ℤ) (out' : List ℕ) (b' : CoreBoard)
-    → IsSound b a → IsCalled b b' → b'.block ≡ b.block → Told b failed out n out' b'
+    → IsSound b a → IsCalled b b' → Told b failed out n out' b'
     → IsTurn b a (CoreTook failed out) n out' b'
-took_turn b a failed out n out' b' sound called block (inl g) =
-    let does = goes_on b a b'.kept b.block _ sound g in
-    let l = with_memory b.kept b.block a in
+took_turn b a failed out n out' b' sound called (inl g) =
+    let does = goes_on b a b'.kept b'.block _ sound g in
     record {
       config = called.config;
       after = g.after;
-      sound = sound_on b a b' b.block _ sound called.config block g;
+      sound = sound_on b a b' _ sound called.config g;
       says = said_by does.reply out';
       happens = told_step (board_of b a) (board_of b' g.after) (not (failed == 0)) out out' does.reply does.work
           does.left
-          called.flash
-          (λ len s was before asks p is torn.
-          subst (λ (x : List ℕ). Took (device_of l s) len s was p.write (not (failed == 0)) b.flash out (with_memory b'.kept x g.after) out'
-          does.reply) (sym block) (does.took len s was before asks p is torn));
+          called.flash does.took;
       told = reply_says n out' does.reply does.number_is;
     }
-took_turn b a failed out n out' b' sound called block (inr (inl (denied, kept, out_is))) =
+took_turn b a failed out n out' b' sound called (inr (inl (denied, kept, block, out_is))) =
     unchanged b a _ n out' b' sound called.config called.flash kept block (λ same. same)
     (piece_refused b _ n denied)
-took_turn b a failed out n out' b' sound called block (inr (inr denied)) =
-    unchanged b a _ n out' b' sound called.config called.flash denied.unchanged block (λ same. same)
+took_turn b a failed out n out' b' sound called (inr (inr denied)) =
+    unchanged b a _ n out' b' sound called.config called.flash denied.unchanged denied.block_is (λ same. same)
     (inl denied.number_is)
 
 -- A setup that is refused has the number of a refusal.
@@ -150,14 +145,14 @@ pub long_turn : (b : CoreBoard) (a : Asking) (setup body : List ℕ) (n : ℤ) (
 long_turn b a setup body n out' b' sound called block room is_body (inl (is, idle, long, takes)) =
     let t = takes a sound.kept in
     let own = addressed b.config.interface setup in
-    let before = with_memory b.kept b.block a in
+    let before = with_memory b.block a in
     record {
       config = called.config;
       after = t.0;
       sound = record {
         config = subst (λ (c : DfuConfig). IsConfig c) (sym called.config) sound.config;
         kept = subst (λ (c : DfuConfig). IsKept c b'.kept t.0) (sym called.config) t.1;
-        short = omega (arith, sound.short, t.3, ap (λ (l : List ℕ). length l) block);
+        short = omega (arith, sound.short, t.3, ap transfer_of called.config);
       };
       says = Answers answer.Stall [];
       happens = record {
@@ -171,7 +166,7 @@ long_turn b a setup body n out' b' sound called block room is_body (inl (is, idl
               [],
               subst (λ (x : List ℕ). Called before b.flash []
                   (λ y sent d'. Handles own body (device_in before b.flash) y sent d')
-                  (with_memory b'.kept x t.0) [] (reply.Answered answer.Stall 0)) (sym block)
+                  (with_memory x t.0) [] (reply.Answered answer.Stall 0)) (sym block)
                   (called_ended answer.Stall 0 (record {
                     gave = record { sent = []; count_is = refl; out_is = refl; row = row.1 };
                     work = t.2;

@@ -1,5 +1,5 @@
 -- Each step of a board in C is one of a board.
-use Rattle.std.specs.Prelude.{◌≡◌, ℕ, ℤ, Bool, true, false, List, [], length}
+use Rattle.std.specs.Prelude.{◌≡◌, ℕ, ℤ, Bool, true, false, List, []}
 use Rattle.std.proofs.Common.{inl, inr, refl, sym, ap, ◌∙◌, subst, arith}
 use Rattle.dfu_device.specs.declared.answer.Answer.TheVariants as answer
 use Rattle.dfu_device.specs.Parts.{stage_of}
@@ -11,9 +11,9 @@ use Rattle.dfu_board.specs.Board.{Nothing, Answers}
 use Rattle.dfu_board.specs.Happens.{start_stage, Starts, IsObjected}
 use Rattle.dfu_device_c.specs.declared.config.DfuConfig.{DfuConfig}
 use Rattle.dfu_device_c.specs.declared.record.DfuRecord.{DfuRecord}
-use Rattle.dfu_device_c.specs.Config.{IsConfig}
+use Rattle.dfu_device_c.specs.Config.{transfer_of, IsConfig}
 use Rattle.dfu_device_c.specs.Addressed.{addressed}
-use Rattle.dfu_device_c.specs.Kept.{IsKept, with_memory}
+use Rattle.dfu_device_c.specs.Kept.{IsKept, block_in, held_in, with_memory}
 use Rattle.dfu_device_c.specs.Writes.{step_of}
 use Rattle.dfu_device_c.specs.Power.{Powers}
 use Rattle.dfu_device_c.specs.Idle.{IsIdle}
@@ -38,21 +38,21 @@ objected : (b : CoreBoard) (a : Asking) (cause : Cause) (x : Answer) (b' : CoreB
     → IsIdle b.config b.kept → TakesCause b.config b.kept cause x b'.kept → IsObjectedTo b a cause x b'
 objected b a cause x b' sound called block idle takes =
     let t = takes a sound.kept in
-    let before = with_memory b.kept b.block a in
+    let before = with_memory b.block a in
     record {
       after = t.0;
       sound = record {
         config = subst (λ (c : DfuConfig). IsConfig c) (sym called.config) sound.config;
         kept = subst (λ (c : DfuConfig). IsKept c b'.kept t.0) (sym called.config) t.1;
-        short = omega (arith, sound.short, t.3, ap (λ (l : List ℕ). length l) block);
+        short = omega (arith, sound.short, t.3, ap transfer_of called.config);
       };
       is = record {
         idle = no_work b.kept a.work sound.kept.work idle.idle;
         flash = called.flash;
-        row = λ device. subst (λ (l : List ℕ). IsDevice (with_memory b'.kept l t.0) b'.flash
-            × Row (device_in before b.flash) cause x [] (device_in (with_memory b'.kept l t.0) b'.flash)) (sym block)
-            (subst (λ (f : List ℕ). IsDevice (with_memory b'.kept b.block t.0) f
-            × Row (device_in before b.flash) cause x [] (device_in (with_memory b'.kept b.block t.0) f)) (sym called.flash)
+        row = λ device. subst (λ (l : List ℕ). IsDevice (with_memory l t.0) b'.flash
+            × Row (device_in before b.flash) cause x [] (device_in (with_memory l t.0) b'.flash)) (sym block)
+            (subst (λ (f : List ℕ). IsDevice (with_memory b.block t.0) f
+            × Row (device_in before b.flash) cause x [] (device_in (with_memory b.block t.0) f)) (sym called.flash)
             (t.4 b.block b.flash device));
         work = t.2;
         says_is = refl;
@@ -116,7 +116,7 @@ write_turn b a n out' b' sound w =
         config = subst (λ (c : DfuConfig). IsConfig c) (sym w.config) sound.config;
         kept = subst (λ (c : DfuConfig). IsKept c b'.kept a) (sym w.config)
             (subst (λ (r : DfuRecord). IsKept b.config r a) (sym w.kept) sound.kept);
-        short = omega (arith, sound.short, ap (λ (l : List ℕ). length l) w.block);
+        short = omega (arith, sound.short, ap transfer_of w.config);
       };
       says = Nothing;
       happens = (
@@ -126,8 +126,8 @@ write_turn b a n out' b' sound w =
           handed = (w.handed.work, at.0, at.1);
           torn = w.torn;
           asking = refl;
-          block = w.block;
-          held = ap (λ (r : DfuRecord). r.held) w.kept;
+          block = ap (λ (l : List ℕ). block_in a l) w.block;
+          held = ap (λ (l : List ℕ). held_in a l) w.block;
         },
       );
       told = (w.handed.number_is, refl);
@@ -183,5 +183,5 @@ turn b a (CoreTooLong setup body) n out' b' sound is = long_turn b a setup body 
 turn b a (CoreRefuseClose setup status) n out' b' sound is = close_turn b a setup status n out' b' sound is.0 is.1 is.2
 turn b a (CoreRefuse status) n out' b' sound is = refuse_turn b a status n out' b' sound is.0 is.1 is.2
 turn b a CoreWrite n out' b' sound is = write_turn b a n out' b' sound is
-turn b a (CoreTook failed out) n out' b' sound is = took_turn b a failed out n out' b' sound is.0 is.1 is.2
+turn b a (CoreTook failed out) n out' b' sound is = took_turn b a failed out n out' b' sound is.0 is.1
 turn b a (CoreRestart begins) n out' b' sound is = restart_turn b a begins n out' b' is.0 is.1

@@ -5,7 +5,7 @@ use Rattle.dfu_asks.specs.declared.asking.Asking.{Asking}
 use Rattle.dfu_asks.specs.Lent.{IsSetUpAs}
 use Rattle.dfu_asks.specs.Refused.{Fits}
 use Rattle.dfu_device_c.specs.declared.config.DfuConfig.{DfuConfig}
-use Rattle.dfu_device_c.specs.Config.{transfer_of, IsConfig}
+use Rattle.dfu_device_c.specs.Config.{transfer_of, block_size, IsConfig}
 use Rattle.dfu_device_c.specs.declared.record.DfuRecord.{DfuRecord}
 use Rattle.dfu_device_c.specs.declared.refusal.Refusal.{Refusal}
 use Rattle.dfu_device_c.specs.Kept.{IsKept, IsSetUp}
@@ -14,8 +14,8 @@ use Rattle.dfu_device_c.specs.Numbers.{refusal_number}
 
 -- A call took the device of a record to one that was kept.
 pub goes : (c : DfuConfig) (r : DfuRecord) (block : List ℕ) (r' : DfuRecord) (block' : List ℕ) (a a' : Asking) (Does : Asking → Asking → Type 0)
-    → IsConfig c → transfer_of c ≤ length block → IsKept c r a → IsSetUpAs a a'
-    → (IsSetUp c a'.config a'.unit a'.sector → IsKept c r' a') → (Fits a (length block) → Fits a' (length block'))
+    → IsConfig c → block_size c ≤ length block → IsKept c r a → IsSetUpAs a a'
+    → (IsSetUp c a'.config a'.unit a'.sector → IsKept c r' a') → (Fits a (transfer_of c) → Fits a' (transfer_of c))
     → Does a a' → Goes c r block r' block' Does
 goes c r block r' block' a a' Does config room was same kept fits does = record {
   config = config;
@@ -34,7 +34,7 @@ goes c r block r' block' a a' Does config room was same kept fits does = record 
 
 -- A call for the device of a record was refused.
 pub refuses : (c : DfuConfig) (r : DfuRecord) (block flash : List ℕ) (r' : DfuRecord) (block' : List ℕ) (a : Asking) (why : Refusal) (result : ℤ)
-    → IsConfig c → transfer_of c ≤ length block → IsKept c r a → IsRefusedAsking why r block flash a → result ≡ refusal_number why → r' ≡ r
+    → IsConfig c → block_size c ≤ length block → IsKept c r a → IsRefusedAsking why block flash a → result ≡ refusal_number why → r' ≡ r
     → block' ≡ block → Refuses c r block flash result r' block'
 refuses c r block flash r' block' a why result config room kept cause is same block_is = record {
   why = why;
@@ -43,7 +43,3 @@ refuses c r block flash r' block' a why result config room kept cause is same bl
   unchanged = same;
   block_is = block_is;
 }
-
--- A record with the same bytes held back is the same.
-pub same_record : (r : DfuRecord) (held : List ℕ) → held ≡ r.held → record r { held = held } ≡ r
-same_record r held is = λ i. record r { held = is i }

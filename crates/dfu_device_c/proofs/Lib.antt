@@ -4,6 +4,7 @@ pub mod Verdicts
 pub mod LongSetups
 pub mod Kept
 pub mod Found
+pub mod Split
 pub mod Handed
 pub mod Asked
 pub mod Moved

@@ -6,7 +6,7 @@ use Rattle.dfu_device.specs.Parts.{is_filled}
 use Rattle.dfu_device.specs.Rows.{Cause, Row}
 use Rattle.dfu_asks.specs.declared.asking.Asking.{Asking}
 use Rattle.dfu_asks.specs.declared.work.Work.{Work}
-use Rattle.dfu_asks.specs.Lent.{LentAsking, lent}
+use Rattle.dfu_asks.specs.Lent.{LentAsking}
 use Rattle.dfu_asks.specs.Asks.{store_in, device_in, IsDevice}
 use Rattle.dfu_device_c.specs.declared.config.DfuConfig.{DfuConfig}
 use Rattle.dfu_device_c.specs.declared.record.DfuRecord.{DfuRecord}
@@ -24,9 +24,6 @@ module _ (c : DfuConfig) (r r' : DfuRecord) (m m' : Mode) (the_mode : (x : Mode)
       second = r'.second;
       number = r'.number;
     }) where
-  same_bytes : r'.held ≡ r.held
-  same_bytes = ap (λ (x : DfuRecord). x.held) rest
-
   -- What is left to be written is in neither record.
   moved_work : (a : Asking) → IsKept c r a → HasWork r' a.work
   moved_work a kept = subst (λ (w : Option Work). HasWork r' w) (sym (none_kept r a.work idle kept.work))
@@ -60,10 +57,8 @@ module _ (c : DfuConfig) (r r' : DfuRecord) (m m' : Mode) (the_mode : (x : Mode)
     none_kept r a.work idle kept.work,
     refl,
     λ block flash device.
-        let l : LentAsking = with_memory r block a in
-        let led = leads l flash kept.set_up.config_is (the_mode a.mode kept.mode) device in
-        subst (λ (h : List ℕ). IsDevice (lent (record a { mode = m' }) block h) flash
-        × Row (device_in l flash) cause x [] (device_in (lent (record a { mode = m' }) block h) flash)) (sym same_bytes) (
+        let l : LentAsking = with_memory block a in
+        let led = leads l flash kept.set_up.config_is (the_mode a.mode kept.mode) device in (
           record {
             store = device.store;
             sound = moved_sound (store_in l flash) a.mode m' (length l.block) device.sound led.0;

@@ -1,6 +1,7 @@
 -- What a step of a board in C is, as one of a board; and a call that changes nothing.
 use Rattle.std.specs.Prelude.{◌≡◌, ◌≤◌, ℕ, ℤ, List, length}
-use Rattle.std.proofs.Common.{sym, ap, subst, arith}
+use Rattle.std.proofs.Common.{sym, ◌∙◌, ap, subst, arith}
+use Rattle.std.proofs.lemmas.List.{length-take-le}
 use Rattle.dfu_device.specs.Setting.{Setting}
 use Rattle.dfu_asks.specs.declared.asking.Asking.{Asking}
 use Rattle.dfu_asks.specs.Refused.{Fits}
@@ -9,17 +10,17 @@ use Rattle.dfu_board.specs.Happens.{Happens}
 use Rattle.dfu_device_c.specs.declared.config.DfuConfig.{DfuConfig}
 use Rattle.dfu_device_c.specs.declared.record.DfuRecord.{DfuRecord}
 use Rattle.dfu_device_c.specs.Config.{transfer_of, IsConfig}
-use Rattle.dfu_device_c.specs.Kept.{IsKept}
+use Rattle.dfu_device_c.specs.Kept.{IsKept, block_in, held_in}
 use Rattle.dfu_device_c.specs.Calls.{Goes}
 use Rattle.dfu_device_c.specs.Board.{CoreBoard, CoreEvent}
 use Rattle.dfu_device_c.specs.Steps.{board_of, event_of, EventSays}
 use Rattle.dfu_device_c.proofs.Same.{one_device}
 
--- A board in C is a board with this device, whose block is in the memory for it.
+-- A board in C is a board with this device, whose block is no longer than any may be.
 pub record IsSound (b : CoreBoard) (a : Asking) : Type 0 where
   pub config : IsConfig b.config
   pub kept : IsKept b.config b.kept a
-  pub short : a.block_len ≤ length b.block
+  pub short : a.block_len ≤ transfer_of b.config
 
 -- A step of a board in C is one of a board, which leads to this device.
 pub record IsTurn (b : CoreBoard) (a : Asking) (e : CoreEvent) (n : ℤ) (out : List ℕ) (b' : CoreBoard) : Type 0 where
@@ -30,15 +31,23 @@ pub record IsTurn (b : CoreBoard) (a : Asking) (e : CoreEvent) (n : ℤ) (out : 
   pub happens : Happens (board_of b a) (event_of b.config e) says (board_of b' after)
   pub told : EventSays e n out says
 
--- The memory has room for the block, if it has for the transfer size.
-pub fits_of : (b : CoreBoard) (a : Asking) → IsSound b a → transfer_of b.config ≤ length b.block → Fits a (length b.block)
-fits_of b a sound room = record {
+transfer_in : (b : CoreBoard) (a : Asking) → IsSound b a → a.config.functional.transfer ≡ transfer_of b.config
+transfer_in b a sound = ap (λ (s : Setting). s.functional.transfer) sound.kept.set_up.config_is
+
+-- Memory of the transfer size has room for the block.
+fits_in : (b : CoreBoard) (a : Asking) → IsSound b a → Fits a (transfer_of b.config)
+fits_in b a sound = record {
   block = sound.short;
-  transfer =
-      let size : a.config.functional.transfer ≡ transfer_of b.config =
-      ap (λ (s : Setting). s.functional.transfer) sound.kept.set_up.config_is in
-      omega (arith, size, room, sound.config.allowed.transfer.most);
+  transfer = omega (arith, transfer_in b a sound, sound.config.allowed.transfer.most);
 }
+
+-- So has the memory of the block, if it has for the transfer size.
+pub fits_of : (b : CoreBoard) (a : Asking) → IsSound b a → transfer_of b.config ≤ length b.block → Fits a (length (block_in a b.block))
+fits_of b a sound room =
+    let size = transfer_in b a sound in
+    let count : length (block_in a b.block) ≡ a.config.functional.transfer =
+    length-take-le a.config.functional.transfer b.block (omega (arith, size, room)) in
+    subst (λ (n : ℕ). Fits a n) (sym (count ∙ size)) (fits_in b a sound)
 
 -- Nothing changed.
 still : (b : CoreBoard) (a : Asking) (b' : CoreBoard) → IsSound b a → b'.config ≡ b.config → b'.flash ≡ b.flash → b'.kept ≡ b.kept
@@ -48,9 +57,9 @@ still b a b' sound config flash kept block = (
     config = subst (λ (c : DfuConfig). IsConfig c) (sym config) sound.config;
     kept = subst (λ (c : DfuConfig). IsKept c b'.kept a) (sym config)
         (subst (λ (r : DfuRecord). IsKept b.config r a) (sym kept) sound.kept);
-    short = omega (arith, sound.short, ap (λ (l : List ℕ). length l) block);
+    short = omega (arith, sound.short, ap transfer_of config);
   },
-  λ i. record { asking = a; block = block i; held = (kept i).held; flash = flash i },
+  λ i. record { asking = a; block = block_in a (block i); held = held_in a (block i); flash = flash i },
 )
 
 -- A call that is refused changes nothing.
@@ -69,14 +78,14 @@ goes_on b a r' block' Does sound g =
     subst (λ (x : Asking). Does x g.after) (one_device b.config b.kept g.before a g.was sound.kept) g.does
 
 -- Then the board is that device.
-pub sound_on : (b : CoreBoard) (a : Asking) (b' : CoreBoard) (block' : List ℕ) (Does : Asking → Asking → Type 0) → IsSound b a
-    → b'.config ≡ b.config → b'.block ≡ block' → (g : Goes b.config b.kept b.block b'.kept block' Does) → IsSound b' g.after
-sound_on b a b' block' Does sound config block g =
+pub sound_on : (b : CoreBoard) (a : Asking) (b' : CoreBoard) (Does : Asking → Asking → Type 0) → IsSound b a
+    → b'.config ≡ b.config → (g : Goes b.config b.kept b.block b'.kept b'.block Does) → IsSound b' g.after
+sound_on b a b' Does sound config g =
     let same : g.before ≡ a = one_device b.config b.kept g.before a g.was sound.kept in
-    let short : g.after.block_len ≤ length block' =
-    (g.fits (subst (λ (x : Asking). Fits x (length b.block)) (sym same) (fits_of b a sound g.room))).block in
+    let short : g.after.block_len ≤ transfer_of b.config =
+    (g.fits (subst (λ (x : Asking). Fits x (transfer_of b.config)) (sym same) (fits_in b a sound))).block in
     record {
       config = subst (λ (c : DfuConfig). IsConfig c) (sym config) sound.config;
       kept = subst (λ (c : DfuConfig). IsKept c b'.kept g.after) (sym config) g.is;
-      short = omega (arith, short, ap (λ (l : List ℕ). length l) block);
+      short = omega (arith, short, ap transfer_of config);
     }

@@ -17,38 +17,38 @@ use Rattle.dfu_device_c.specs.declared.config.DfuConfig.{DfuConfig}
 use Rattle.dfu_device_c.specs.declared.record.DfuRecord.{DfuRecord}
 use Rattle.dfu_device_c.specs.declared.refusal.Refusal.{Refusal}
 use Rattle.dfu_device_c.specs.declared.refusal.Refusal.TheVariants as refusal
-use Rattle.dfu_device_c.specs.Config.{transfer_of, IsConfig}
-use Rattle.dfu_device_c.specs.Kept.{IsKept}
+use Rattle.dfu_device_c.specs.Config.{transfer_of, block_size, IsConfig}
+use Rattle.dfu_device_c.specs.Kept.{IsKept, block_in, held_in}
 use Rattle.dfu_device_c.specs.Formatting.{FORMAT}
 use Rattle.dfu_device_c.specs.Numbers.{refusal_number, reply_number, passed_number, NO_ROOM}
 
 -- By this there is no device that asks, if the memory of its block has so many bytes: a format is due; or else the
--- configuration is not allowed; or else the memory has too little room; or else the record is none of such a device with a block
--- that fits in it.
+-- configuration is not allowed; or else the memory has too little room; or else the record is none of such a device with a block of at
+-- most the transfer size.
 abbrev pub IsUnfound : Refusal → DfuConfig → DfuRecord → ℕ → Type 0
 IsUnfound refusal.Asked c r room = r.work ≡ FORMAT
 IsUnfound refusal.NoConfig c r room = (r.work ≢ FORMAT) × ¬ IsConfig c
-IsUnfound refusal.NoBlock c r room = (r.work ≢ FORMAT) × IsConfig c × (room < transfer_of c)
-IsUnfound refusal.NoDevice c r room = (r.work ≢ FORMAT) × IsConfig c × (transfer_of c ≤ room)
-    × ((a : Asking) → IsKept c r a → room < a.block_len)
+IsUnfound refusal.NoBlock c r room = (r.work ≢ FORMAT) × IsConfig c × (room < block_size c)
+IsUnfound refusal.NoDevice c r room = (r.work ≢ FORMAT) × IsConfig c × (block_size c ≤ room)
+    × ((a : Asking) → IsKept c r a → transfer_of c < a.block_len)
 IsUnfound e c r room = ⊥
 
--- A record and the memory of its block are a device that asks, as the last call left it on this flash.
-abbrev pub IsIntact : DfuRecord → List ℕ → List ℕ → Asking → Type 0
-IsIntact r block flash a = IsWhole a block r.held flash
+-- This memory of its block is as the last call of a device that asks left it on this flash.
+abbrev pub IsIntact : (memory flash : List ℕ) → Asking → Type 0
+IsIntact memory flash a = IsWhole a (block_in a memory) (held_in a memory) flash
 
 -- By this a call for a device that asks is refused: writes are due; or else the noted header is not in an open slot of the flash; or else
 -- the device is not as the last call left it.
-abbrev pub IsRefusedAsking : Refusal → DfuRecord → (block flash : List ℕ) → Asking → Type 0
-IsRefusedAsking refusal.Asked r block flash a = IsSome a.work
-IsRefusedAsking refusal.NoMedium r block flash a = (a.work ≡ None) × ¬ IsThere a flash
-IsRefusedAsking refusal.NoDevice r block flash a = (a.work ≡ None) × IsThere a flash × ¬ IsIntact r block flash a
-IsRefusedAsking e r block flash a = ⊥
+abbrev pub IsRefusedAsking : Refusal → (block flash : List ℕ) → Asking → Type 0
+IsRefusedAsking refusal.Asked block flash a = IsSome a.work
+IsRefusedAsking refusal.NoMedium block flash a = (a.work ≡ None) × ¬ IsThere a flash
+IsRefusedAsking refusal.NoDevice block flash a = (a.work ≡ None) × IsThere a flash × ¬ IsIntact block flash a
+IsRefusedAsking e block flash a = ⊥
 
 -- By this a call is refused: there is no device that asks; or else what is refused is a call for that device.
 abbrev pub IsRefused : Refusal → DfuConfig → DfuRecord → (block flash : List ℕ) → Type 0
 IsRefused e c r block flash = IsUnfound e c r (length block)
-    ⊎ ((a : Asking) × IsConfig c × IsKept c r a × (transfer_of c ≤ length block) × IsRefusedAsking e r block flash a)
+    ⊎ ((a : Asking) × IsConfig c × IsKept c r a × (block_size c ≤ length block) × IsRefusedAsking e block flash a)
 
 -- A call with this number was refused, and left the record and the block as they were.
 pub record Refuses (c : DfuConfig) (r : DfuRecord) (block flash : List ℕ) (result : ℤ) (r' : DfuRecord) (block' : List ℕ) : Type 0 where
@@ -62,12 +62,12 @@ pub record Refuses (c : DfuConfig) (r : DfuRecord) (block flash : List ℕ) (res
 pub record Goes (c : DfuConfig) (r : DfuRecord) (block : List ℕ) (r' : DfuRecord) (block' : List ℕ) (Does : Asking → Asking → Type 0)
     : Type 0 where
   pub config : IsConfig c
-  pub room : transfer_of c ≤ length block
+  pub room : block_size c ≤ length block
   pub before : Asking
   pub after : Asking
   pub was : IsKept c r before
   pub is : IsKept c r' after
-  pub fits : Fits before (length block) → Fits after (length block')
+  pub fits : Fits before (transfer_of c) → Fits after (transfer_of c)
   pub does : Does before after
 
 -- No writes were due, and the number says what came of a call, which is a row, or asks for its writes, of a device that is as the last

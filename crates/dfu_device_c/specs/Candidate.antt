@@ -6,13 +6,12 @@ use Rattle.dfu_asks.specs.declared.asking.Asking.{Asking}
 use Rattle.dfu_asks.specs.declared.refusal.Refusal.{Refusal as Why}
 use Rattle.dfu_asks.specs.Asks.{device_in}
 use Rattle.dfu_asks.specs.Refused.{IsRefused}
-use Rattle.dfu_asks.specs.Refused.{IsKept as IsWhole}
 use Rattle.dfu_device_c.specs.declared.config.DfuConfig.{DfuConfig}
 use Rattle.dfu_device_c.specs.declared.place.DfuPlace.{DfuPlace}
 use Rattle.dfu_device_c.specs.declared.record.DfuRecord.{DfuRecord}
 use Rattle.dfu_device_c.specs.declared.refusal.Refusal.{Refusal}
-use Rattle.dfu_device_c.specs.Calls.{IsUnfound}
-use Rattle.dfu_device_c.specs.Kept.{IsKept, with_memory}
+use Rattle.dfu_device_c.specs.Calls.{IsUnfound, IsIntact}
+use Rattle.dfu_device_c.specs.Kept.{IsKept, block_in, held_in, with_memory}
 use Rattle.dfu_device_c.specs.Numbers.{NO_CANDIDATE, refusal_number, refusal_of}
 
 -- This place as dfu_device has it.
@@ -25,18 +24,18 @@ pub record HasCandidate (c : DfuConfig) (r : DfuRecord) (flash : List ℕ) (resu
   pub asking : Asking
   pub is : IsKept c r asking
   pub within : place.at + place.length ≤ length flash
-  pub there : (block : List ℕ) → IsWhole asking block r.held flash
-      → IsCandidate (device_in (with_memory r block asking) flash) (candidate_at place)
+  pub there : (block : List ℕ) → IsIntact block flash asking
+      → IsCandidate (device_in (with_memory block asking) flash) (candidate_at place)
 
 -- The device that the record is has none.
 pub record HasNone (c : DfuConfig) (r : DfuRecord) (flash : List ℕ) (result : ℤ) : Type 0 where
   pub number_is : result ≡ NO_CANDIDATE
   pub asking : Asking
   pub is : IsKept c r asking
-  pub none : (block : List ℕ) → candidate_in (device_in (with_memory r block asking) flash).stage ≡ None
+  pub none : (block : List ℕ) → candidate_in (device_in (with_memory block asking) flash).stage ≡ None
 
 -- The record is no device, for this reason; or its flash is not that of the device, or writes are due.
 abbrev pub RefusesCandidate : DfuConfig → DfuRecord → List ℕ → ℤ → Type 0
-RefusesCandidate c r flash result = ((e : Refusal) × (result ≡ refusal_number e) × IsUnfound e c r 4096)
+RefusesCandidate c r flash result = ((e : Refusal) × (result ≡ refusal_number e) × IsUnfound e c r 4352)
     ⊎ ((a : Asking) × IsKept c r a × (e : Why) × (result ≡ refusal_number (refusal_of e))
-    × ((block : List ℕ) → IsRefused e a block r.held flash 0 0))
+    × ((block : List ℕ) → IsRefused e a (block_in a block) (held_in a block) flash 0 0))

@@ -1,5 +1,5 @@
 -- What a program in C sets a device up with.
-use Rattle.std.specs.Prelude.{◌≡◌, ◌==◌, ◌%◌, ◌^◌, ◌≤◌, ℕ, if◌then◌else◌}
+use Rattle.std.specs.Prelude.{◌≡◌, ◌==◌, ◌+◌, ◌%◌, ◌^◌, ◌≤◌, ℕ, if◌then◌else◌}
 use Rattle.dfu_wire.specs.Functional.{functional_of}
 use Rattle.dfu_slots.specs.declared.unit.Unit.{Unit as WriteUnit}
 use Rattle.dfu_slots.specs.declared.unit.Unit.TheVariants.{Byte, U16, U64, U256}
@@ -28,6 +28,10 @@ transfer_of c = (setting_of c).functional.transfer
 -- The unit in which the flash is written, by its size; if no unit has that size, the byte.
 unfoldable pub unit_of : DfuConfig → WriteUnit
 unit_of c = if c.unit == 16 then U16 else if c.unit == 64 then U64 else if c.unit == 256 then U256 else Byte
+
+-- The fewest bytes of the memory of a block: the most of a block, and behind them a unit's for those held back.
+abbrev pub block_size : DfuConfig → ℕ
+block_size c = transfer_of c + unit_size (unit_of c)
 
 -- Flash may be erased so many bytes at a time; 0 says that it is written over in place.
 abbrev pub IsSector : ℕ → Type 0

@@ -33,6 +33,6 @@ pub record IsDue (due ms : ℕ) (d d' : Shown) : Type 0 where
 pub record ToldDue (c : DfuConfig) (r : DfuRecord) (result : ℤ) : Type 0 where
   pub due : ℕ
   pub number_is : result ≡ pos due
-  pub told : (block flash : List ℕ) (a : Asking) → IsKept c r a → IsDevice (with_memory r block a) flash → (ms : ℕ) (d' : Shown)
-      → Elapses ms (device_in (with_memory r block a) flash) d'
-      → IsDue due ms (device_in (with_memory r block a) flash) d'
+  pub told : (block flash : List ℕ) (a : Asking) → IsKept c r a → IsDevice (with_memory block a) flash → (ms : ℕ) (d' : Shown)
+      → Elapses ms (device_in (with_memory block a) flash) d'
+      → IsDue due ms (device_in (with_memory block a) flash) d'

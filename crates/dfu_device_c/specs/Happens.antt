@@ -31,28 +31,28 @@ pub record IsCalled (b b' : CoreBoard) : Type 0 where
 -- What the clause of dfu_core_handle says, with this setup, body and buffer.
 abbrev pub Handled : CoreBoard → (setup body out : List ℕ) → ℤ → List ℕ → CoreBoard → Type 0
 Handled b setup body out n out' b' =
-    Goes b.config b.kept b.block b'.kept b'.block (λ a a'. let before = with_memory b.kept b.block a in
-    Replied (IsIntact b.kept b.block b.flash a) before b.flash out
+    Goes b.config b.kept b.block b'.kept b'.block (λ a a'. let before = with_memory b.block a in
+    Replied (IsIntact b.block b.flash a) before b.flash out
     (λ x sent d'. Handles (addressed b.config.interface setup) body (device_in before b.flash) x sent d') reply_number n
-    (with_memory b'.kept b'.block a') out')
+    (with_memory b'.block a') out')
     ⊎ (Refuses b.config b.kept b.block b.flash n b'.kept b'.block × (out' ≡ out))
     ⊎ HasNoRoom (answer_room (setting_of b.config)) b.kept b.block out n b'.kept b'.block out'
 
 -- What the clause of dfu_core_elapse says, with so many milliseconds.
 abbrev pub Elapsed : CoreBoard → (ms : ℕ) → ℤ → CoreBoard → Type 0
 Elapsed b ms n b' =
-    Goes b.config b.kept b.block b'.kept b'.block (λ a a'. let before = with_memory b.kept b.block a in
-    Passed (IsIntact b.kept b.block b.flash a) before b.flash
-    (λ x sent d'. (x ≡ answer.Ack) × (sent ≡ []) × Elapses ms (device_in before b.flash) d') n (with_memory b'.kept b'.block a'))
+    Goes b.config b.kept b.block b'.kept b'.block (λ a a'. let before = with_memory b.block a in
+    Passed (IsIntact b.block b.flash a) before b.flash
+    (λ x sent d'. (x ≡ answer.Ack) × (sent ≡ []) × Elapses ms (device_in before b.flash) d') n (with_memory b'.block a'))
     ⊎ Refuses b.config b.kept b.block b.flash n b'.kept b'.block
 
 -- What the clause of dfu_core_usb_reset says.
 abbrev pub Reset : CoreBoard → ℤ → CoreBoard → Type 0
 Reset b n b' =
-    Goes b.config b.kept b.block b'.kept b'.block (λ a a'. let before = device_in (with_memory b.kept b.block a) b.flash in
+    Goes b.config b.kept b.block b'.kept b'.block (λ a a'. let before = device_in (with_memory b.block a) b.flash in
     (a.work ≡ None) × (n ≡ pos 0) × (a'.work ≡ None)
-    × (device_in (with_memory b'.kept b'.block a') b.flash ≡ record before { stage = reset_stage before.stage })
-    × (IsIntact b.kept b.block b.flash a → IsIntact b'.kept b'.block b.flash a'))
+    × (device_in (with_memory b'.block a') b.flash ≡ record before { stage = reset_stage before.stage })
+    × (IsIntact b.block b.flash a → IsIntact b'.block b.flash a'))
     ⊎ Refuses b.config b.kept b.block b.flash n b'.kept b'.block
 
 -- What the clause of dfu_core_too_long says, with this setup.
@@ -65,10 +65,11 @@ TookLong b setup n b' =
 -- What the clause of dfu_core_took says, with this number for a failure and this buffer.
 abbrev pub Told : CoreBoard → (failed : ℕ) (out : List ℕ) → ℤ → List ℕ → CoreBoard → Type 0
 Told b failed out n out' b' =
-    Goes b.config b.kept b.block b'.kept b.block
-    (λ a a'. Went (with_memory b.kept b.block a) b.flash (not (failed == 0)) out n (with_memory b'.kept b.block a') out')
-    ⊎ (RefusesPiece b.config b.kept b.block (λ a. ¬ IsAtWork (with_memory b.kept b.block a)) n × (b'.kept ≡ b.kept) × (out' ≡ out))
-    ⊎ HasNoRoom 6 b.kept b.block out n b'.kept b.block out'
+    Goes b.config b.kept b.block b'.kept b'.block
+    (λ a a'. Went (with_memory b.block a) b.flash (not (failed == 0)) out n (with_memory b'.block a') out')
+    ⊎ (RefusesPiece b.config b.kept b.block (λ a. ¬ IsAtWork (with_memory b.block a)) n
+    × (b'.kept ≡ b.kept) × (b'.block ≡ b.block) × (out' ≡ out))
+    ⊎ HasNoRoom 6 b.kept b.block out n b'.kept b'.block out'
 
 -- The flash changes in the range of a write that dfu_core_next hands out, and nowhere else. Any bytes may stand there then: the write may
 -- be carried out, whole or in part, or fail, or lie.
@@ -96,7 +97,7 @@ CoreHappens b (CoreRefuseClose setup status) n out' b' = IsCalled b b' × (b'.bl
     × WasClosed b.config b.kept (addressed b.config.interface setup) status n b'.kept
 CoreHappens b (CoreRefuse status) n out' b' = IsCalled b b' × (b'.block ≡ b.block) × WasRefused b.config b.kept status n b'.kept
 CoreHappens b CoreWrite n out' b' = IsWritten b n b'
-CoreHappens b (CoreTook failed out) n out' b' = IsCalled b b' × (b'.block ≡ b.block) × Told b failed out n out' b'
+CoreHappens b (CoreTook failed out) n out' b' = IsCalled b b' × Told b failed out n out' b'
 CoreHappens b (CoreRestart begins) n out' b' = IsCalled b b' × Powers b.config (start_mode begins) b.flash n b'.kept
 
 -- These steps come to a board in C, each beginning where the one before ended.

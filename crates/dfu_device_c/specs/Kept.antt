@@ -1,5 +1,5 @@
 -- The device that asks which a record is.
-use Rattle.std.specs.Prelude.{◌≡◌, ◌+◌, ◌^◌, ◌<◌, ℕ, Bool, true, false, List, Option, Some, None}
+use Rattle.std.specs.Prelude.{◌≡◌, ◌+◌, ◌^◌, ◌<◌, ℕ, Bool, true, false, List, take, drop, Option, Some, None}
 use Rattle.dfu_slots.specs.declared.unit.Unit.{Unit as WriteUnit}
 use Rattle.dfu_device.specs.Setting.{Setting}
 use Rattle.dfu_asks.specs.declared.sector.Sector.{Sector}
@@ -56,6 +56,14 @@ pub record IsKept (c : DfuConfig) (r : DfuRecord) (a : Asking) : Type 0 where
   pub noted : HasNote r a.noted
   pub work : HasWork r a.work
 
--- The device with these bytes in the memory of its block, and those in its record that are held back.
-abbrev pub with_memory : DfuRecord → List ℕ → Asking → LentAsking
-with_memory r block a = lent a block r.held
+-- Of the memory of a device's block, the bytes that are the block's.
+abbrev pub block_in : Asking → List ℕ → List ℕ
+block_in a memory = take a.config.functional.transfer memory
+
+-- And those behind them, for the bytes that are held back.
+abbrev pub held_in : Asking → List ℕ → List ℕ
+held_in a memory = drop a.config.functional.transfer memory
+
+-- The device with these bytes in the memory of its block.
+abbrev pub with_memory : List ℕ → Asking → LentAsking
+with_memory memory a = lent a (block_in a memory) (held_in a memory)

@@ -15,7 +15,7 @@ use Rattle.dfu_device_c.specs.Kept.{IsKept, with_memory}
 abbrev pub TakesLong : DfuConfig → DfuRecord → List ℕ → DfuRecord → Type 0
 TakesLong c r setup r' = (a : Asking) → IsKept c r a → (a' : Asking) × IsKept c r' a' × (a'.work ≡ None)
     × (a'.block_len ≡ a.block_len)
-    × ((block flash : List ℕ) → IsDevice (with_memory r block a) flash
+    × ((block flash : List ℕ) → IsDevice (with_memory block a) flash
     → (body : List ℕ) → ((p : Setup) → IsSetup p setup → length body ≡ body_length p)
-    → IsDevice (with_memory r' block a') flash
-    × Handles setup body (device_in (with_memory r block a) flash) answer.Stall [] (device_in (with_memory r' block a') flash))
+    → IsDevice (with_memory block a') flash
+    × Handles setup body (device_in (with_memory block a) flash) answer.Stall [] (device_in (with_memory block a') flash))

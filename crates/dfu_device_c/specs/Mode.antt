@@ -47,5 +47,4 @@ blank = record {
   generation = 0;
   close = 0;
   held_length = 0;
-  held = replicate 256 0;
 }

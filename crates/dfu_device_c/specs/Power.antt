@@ -28,8 +28,8 @@ pub record Powers (c : DfuConfig) (mode : Mode) (flash : List ℕ) (result : ℤ
   pub is : IsKept c r' after
   pub mode_is : after.mode ≡ mode
   pub work : after.work ≡ None
-  pub device : (block : List ℕ) → IsDevice (with_memory r' block after) flash
-  pub shows : (block : List ℕ) → device_in (with_memory r' block after) flash
+  pub device : (block : List ℕ) → IsDevice (with_memory block after) flash
+  pub shows : (block : List ℕ) → device_in (with_memory block after) flash
       ≡ record (powered_on (setting_of c) (mapped (grain_of c) flash)) { stage = stage_of mode [] [] }
   pub rest : r' ≡ record blank { mode = r'.mode; slot = r'.slot; header = r'.header }
 

@@ -27,13 +27,13 @@ Objects status = code_byte (objection_code (objection_in status)) ≡ status
 -- long as before.
 abbrev pub TakesCause : DfuConfig → DfuRecord → Cause → Answer → DfuRecord → Type 0
 TakesCause c r cause x r' = (a : Asking) → IsKept c r a → (a' : Asking) × IsKept c r' a' × (a'.work ≡ None) × (a'.block_len ≡ a.block_len)
-    × ((block flash : List ℕ) → IsDevice (with_memory r block a) flash → IsDevice (with_memory r' block a') flash
-    × Row (device_in (with_memory r block a) flash) cause x [] (device_in (with_memory r' block a') flash))
+    × ((block flash : List ℕ) → IsDevice (with_memory block a) flash → IsDevice (with_memory block a') flash
+    × Row (device_in (with_memory block a) flash) cause x [] (device_in (with_memory block a') flash))
 
 -- No device that the record is has a download that this setup closes.
 abbrev pub ClosesNone : DfuConfig → DfuRecord → List ℕ → Type 0
-ClosesNone c r setup = (a : Asking) → IsKept c r a → (block flash : List ℕ) → IsDevice (with_memory r block a) flash
-    → ¬ ClosesDownload setup (device_in (with_memory r block a) flash)
+ClosesNone c r setup = (a : Asking) → IsKept c r a → (block flash : List ℕ) → IsDevice (with_memory block a) flash
+    → ¬ ClosesDownload setup (device_in (with_memory block a) flash)
 
 -- Refused as dfu_core_would_stall; or else the status is of no objection.
 abbrev pub RefusesStatus : DfuConfig → DfuRecord → ℕ → ℤ → Type 0

@@ -13,8 +13,8 @@ use Rattle.dfu_device_c.specs.Kept.{IsKept, with_memory}
 -- The result says how each device that the record is, whose flash has so many bytes, answers this setup, whatever its body is. Where it
 -- asks for writes it will not stall.
 abbrev pub ToldStall : DfuConfig → DfuRecord → ℕ → List ℕ → ℤ → Type 0
-ToldStall c r size setup result = (block flash : List ℕ) (a : Asking) → IsKept c r a → IsDevice (with_memory r block a) flash
+ToldStall c r size setup result = (block flash : List ℕ) (a : Asking) → IsKept c r a → IsDevice (with_memory block a) flash
     → length flash ≡ size
     → (body : List ℕ) → IsBodyOf setup body → (x : Answer) (sent : List ℕ) (d' : Shown)
-    → Handles setup body (device_in (with_memory r block a) flash) x sent d'
+    → Handles setup body (device_in (with_memory block a) flash) x sent d'
     → SaysStall result x

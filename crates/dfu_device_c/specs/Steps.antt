@@ -5,14 +5,14 @@ use Rattle.dfu_board.specs.Board.{Board, Event, Handle, Elapse, UsbReset, Refuse
 use Rattle.dfu_device_c.specs.declared.config.DfuConfig.{DfuConfig}
 use Rattle.dfu_device_c.specs.declared.refusal.Refusal.{Refusal}
 use Rattle.dfu_device_c.specs.Addressed.{addressed}
-use Rattle.dfu_device_c.specs.Kept.{IsKept}
+use Rattle.dfu_device_c.specs.Kept.{IsKept, block_in, held_in}
 use Rattle.dfu_device_c.specs.Numbers.{refusal_number, answer_number, ASKS, NO_ROOM, NOT_LONG, NO_CLOSE, NO_STATUS}
 use Rattle.dfu_device_c.specs.Refuse.{objection_in}
 use Rattle.dfu_device_c.specs.Board.{CoreBoard, CoreEvent, CoreHandle, CoreElapse, CoreReset, CoreTooLong, CoreRefuseClose, CoreRefuse, CoreWrite, CoreTook, CoreRestart, CoreStep}
 
 -- The board that a board in C is, if its record is this device.
 abbrev pub board_of : CoreBoard → Asking → Board
-board_of b a = record { asking = a; block = b.block; held = b.kept.held; flash = b.flash }
+board_of b a = record { asking = a; block = block_in a b.block; held = held_in a b.block; flash = b.flash }
 
 -- A board is what a board in C is.
 pub record IsBoardOf (b : CoreBoard) (x : Board) : Type 0 where

@@ -14,7 +14,7 @@ use Rattle.dfu_device_c.specs.declared.ask.DfuAsk.{DfuAsk}
 use Rattle.dfu_device_c.specs.declared.config.DfuConfig.{DfuConfig}
 use Rattle.dfu_device_c.specs.declared.record.DfuRecord.{DfuRecord}
 use Rattle.dfu_device_c.specs.declared.refusal.Refusal.{Refusal}
-use Rattle.dfu_device_c.specs.Config.{transfer_of, IsConfig}
+use Rattle.dfu_device_c.specs.Config.{block_size, IsConfig}
 use Rattle.dfu_device_c.specs.Kept.{IsKept, with_memory}
 use Rattle.dfu_device_c.specs.Calls.{IsUnfound}
 use Rattle.dfu_device_c.specs.Numbers.{refusal_number, NO_DEVICE}
@@ -30,13 +30,13 @@ step_of ask = record {
 pub record HandsOut (c : DfuConfig) (r : DfuRecord) (block flash : List ℕ) (result : ℤ) (ask : DfuAsk) : Type 0 where
   pub number_is : result ≡ pos 0
   pub config : IsConfig c
-  pub room : transfer_of c ≤ length block
+  pub room : block_size c ≤ length block
   pub asking : Asking
   pub is : IsKept c r asking
   pub work : Work
   pub work_is : asking.work ≡ Some work
   pub kind : (ask.kind ≡ 1) ⊎ (ask.kind ≡ 2)
-  pub piece : IsPiece (steps_in (with_memory r block asking) work) work.done (step_of ask)
+  pub piece : IsPiece (steps_in (with_memory block asking) work) work.done (step_of ask)
   pub some : 0 < ask.length
   pub most : ask.kind ≡ 2 → ask.length ≤ 256
   pub sector : IsSound c.sector (step_of ask)
@@ -58,5 +58,5 @@ IsAtWork a = (flash : List ℕ) × IsAsking a flash
 -- There is no device that asks; or else it is refused with DFU_NO_DEVICE, for this.
 pub data RefusesPiece (c : DfuConfig) (r : DfuRecord) (block : List ℕ) (Why : Asking → Type 0) (result : ℤ) : Type 0 where
   refuses_unfound : (e : Refusal) → result ≡ refusal_number e → IsUnfound e c r (length block) → RefusesPiece c r block Why result
-  refuses_piece : (a : Asking) → result ≡ NO_DEVICE → IsConfig c → transfer_of c ≤ length block → IsKept c r a → Why a
+  refuses_piece : (a : Asking) → result ≡ NO_DEVICE → IsConfig c → block_size c ≤ length block → IsKept c r a → Why a
       → RefusesPiece c r block Why result

@@ -7,11 +7,15 @@ use crate::exports::refused;
 use crate::keeping::found;
 use crate::place::DfuPlace;
 use crate::record::DfuRecord;
+use crate::refusal::Refusal;
+
+// As much memory as any block needs, with those held back.
+const MOST: usize = 4096 + 256;
 
 /// Where the image is that was taken, as `Device::candidate`: 0, and `place` has its bytes in the flash, after which come the `held_length`
-/// ones that the record holds back.
+/// ones that are held back, behind the transfer size in the memory of the block.
 ///
-/// Refused as `dfu_core_elapse` with memory of 4,096 bytes for the block; then with -20 if no image was taken that may be refused.
+/// Refused as `dfu_core_elapse` with the most memory that a block needs; then with -20 if no image was taken that may be refused.
 #[unsafe(no_mangle)]
 pub extern "C" fn dfu_core_candidate(
     config: &DfuConfig,
@@ -23,7 +27,8 @@ pub extern "C" fn dfu_core_candidate(
         ⊎ ((place.new ≡ place.old) × (HasNone config.now device.now flash.now result
         ⊎ RefusesCandidate config.now device.now flash.now result)) }
 {
-    let read = found(config, device, 4096);
+    let mut read = Err(Refusal::NoDevice);
+    found(config, device, MOST, &mut read);
     let asking = match &read {
         Ok(asking) => asking,
         Err(refusal) => return refusal.number(),

@@ -45,9 +45,9 @@ pub extern "C" fn dfu_core_handle(
     out: &mut [u8],
 ) -> i32
     ensures outcome { Goes config.now device.old block.old device.new block.new
-        (λ a a'. let before = with_memory device.old block.old a in Replied (IsIntact device.old block.old flash.now a) before flash.now out.old
+        (λ a a'. let before = with_memory block.old a in Replied (IsIntact block.old flash.now a) before flash.now out.old
         (λ x sent d'. Handles (addressed config.now.interface setup.now) body.now (device_in before flash.now) x sent d') reply_number result
-        (with_memory device.new block.new a') out.new)
+        (with_memory block.new a') out.new)
         ⊎ (Refuses config.now device.old block.old flash.now result device.new block.new × (out.new ≡ out.old))
         ⊎ HasNoRoom (answer_room (setting_of config.now)) device.old block.old out.old result device.new block.new out.new }
     ensures short { length out.old < answer_room (setting_of config.now) → result ≡ NO_ROOM }
@@ -55,13 +55,15 @@ pub extern "C" fn dfu_core_handle(
     if out.len() < numbers::room_for(config) {
         return numbers::NO_ROOM;
     }
-    let mut read = found(config, device, block.len());
+    let mut read = Err(Refusal::NoDevice);
+    found(config, device, block.len(), &mut read);
     let asking = match &mut read {
         Ok(asking) => asking,
         Err(refusal) => return refusal.number(),
     };
     let setup = addressed(config.interface, setup);
-    match asking.handle(block, &mut device.held, flash, &setup, body, out) {
+    let (front, held) = block.split_at_mut(usize::from(config.transfer));
+    match asking.handle(front, held, flash, &setup, body, out) {
         Ok(Reply::Asks) => {
             keep(asking, device);
             numbers::ASKS
@@ -84,17 +86,19 @@ pub extern "C" fn dfu_core_elapse(
     ms: u32,
 ) -> i32
     ensures outcome { Goes config.now device.old block.old device.new block.new
-        (λ a a'. let before = with_memory device.old block.old a in Passed (IsIntact device.old block.old flash.now a) before flash.now
+        (λ a a'. let before = with_memory block.old a in Passed (IsIntact block.old flash.now a) before flash.now
         (λ x sent d'. (x ≡ Answer.Ack) × (sent ≡ []) × Elapses ms (device_in before flash.now) d') result
-        (with_memory device.new block.new a'))
+        (with_memory block.new a'))
         ⊎ Refuses config.now device.old block.old flash.now result device.new block.new }
 {
-    let mut read = found(config, device, block.len());
+    let mut read = Err(Refusal::NoDevice);
+    found(config, device, block.len(), &mut read);
     let asking = match &mut read {
         Ok(asking) => asking,
         Err(refusal) => return refusal.number(),
     };
-    match asking.elapse(block, &mut device.held, flash, ms) {
+    let (front, held) = block.split_at_mut(usize::from(config.transfer));
+    match asking.elapse(front, held, flash, ms) {
         Ok(Reply::Asks) => {
             keep(asking, device);
             numbers::ASKS
@@ -116,17 +120,19 @@ pub extern "C" fn dfu_core_usb_reset(
     flash: &[u8],
 ) -> i32
     ensures outcome { Goes config.now device.old block.old device.new block.new
-        (λ a a'. let before = device_in (with_memory device.old block.old a) flash.now in (a.work ≡ None) × (result ≡ pos 0) × (a'.work ≡ None)
-        × (device_in (with_memory device.new block.new a') flash.now ≡ record before { stage = reset_stage before.stage })
-        × (IsIntact device.old block.old flash.now a → IsIntact device.new block.new flash.now a'))
+        (λ a a'. let before = device_in (with_memory block.old a) flash.now in (a.work ≡ None) × (result ≡ pos 0) × (a'.work ≡ None)
+        × (device_in (with_memory block.new a') flash.now ≡ record before { stage = reset_stage before.stage })
+        × (IsIntact block.old flash.now a → IsIntact block.new flash.now a'))
         ⊎ Refuses config.now device.old block.old flash.now result device.new block.new }
 {
-    let mut read = found(config, device, block.len());
+    let mut read = Err(Refusal::NoDevice);
+    found(config, device, block.len(), &mut read);
     let asking = match &mut read {
         Ok(asking) => asking,
         Err(refusal) => return refusal.number(),
     };
-    match asking.usb_reset(block, &device.held, flash) {
+    let (front, held) = block.split_at(usize::from(config.transfer));
+    match asking.usb_reset(front, held, flash) {
         Ok(_) => {
             keep(asking, device);
             0

@@ -3,7 +3,7 @@ ghost use Rattle.std.specs.Prelude.{◌≡◌, ◌≤◌, ◌<◌, IfOk, IfErr, 
 ghost use Rattle.dfu_asks.specs.declared.asking.Asking.{Asking as Device};
 ghost use Rattle.dfu_asks.specs.declared.noted.Noted.{Noted as Note};
 ghost use Rattle.dfu_device_c.specs.declared.config.DfuConfig.{DfuConfig as Given};
-ghost use Rattle.dfu_device_c.specs.Config.{transfer_of, IsConfig};
+ghost use Rattle.dfu_device_c.specs.Config.{block_size, IsConfig};
 ghost use Rattle.dfu_device_c.specs.Kept.{IsFlag, IsKept, IsSetUp, HasNote};
 ghost use Rattle.dfu_device_c.specs.Calls.{IsUnfound};
 
@@ -36,12 +36,13 @@ fn noted_in(kept: &DfuRecord) -> Option<Noted>
     })
 }
 
-// The device that asks which a record is.
+// The device that asks which a record is, if its block is no longer than any may be.
 fn asking_of(settings: Settings, kept: &DfuRecord) -> Option<Asking>
+    requires { kept.now.length ≤ 4096 }
     ensures some { IfSome result (λ a. (c : Given) → IsSetUp c settings.config settings.unit settings.sector → IsKept c kept.now a) }
     ensures none { IfNone result ((c : Given) (a : Device) → ¬ IsKept c kept.now a) }
 {
-    if kept.held_length > 256 || kept.length > 4096 {
+    if kept.held_length > 256 {
         return None;
     }
     let mode = mode_of(kept)?;
@@ -62,35 +63,44 @@ fn asking_of(settings: Settings, kept: &DfuRecord) -> Option<Asking>
 
 /// The device that asks which a record is, if the memory of its block has so much room; or why there is none.
 #[inline(never)]
-pub(crate) fn found(config: &DfuConfig, kept: &DfuRecord, room: usize) -> Result<Asking, Refusal>
-    ensures ok { IfOk result (λ a. IsKept config.now kept.now a) }
-    ensures config { OnOk result (IsConfig config.now) }
-    ensures room { OnOk result (transfer_of config.now ≤ room) }
-    ensures err { IfErr result (λ e. IsUnfound e config.now kept.now room) }
+pub(crate) fn found(
+    config: &DfuConfig,
+    kept: &DfuRecord,
+    room: usize,
+    read: &mut Result<Asking, Refusal>,
+)
+    ensures ok { IfOk read.new (λ a. IsKept config.now kept.now a) }
+    ensures config { OnOk read.new (IsConfig config.now) }
+    ensures room { OnOk read.new (block_size config.now ≤ room) }
+    ensures err { IfErr read.new (λ e. IsUnfound e config.now kept.now room) }
 {
     if kept.work == WORK {
-        return Err(Refusal::Asked);
+        *read = Err(Refusal::Asked);
+        return;
     }
     let Some(settings) = settings_of(config) else {
-        return Err(Refusal::NoConfig);
+        *read = Err(Refusal::NoConfig);
+        return;
     };
-    if room < usize::from(config.transfer) {
-        return Err(Refusal::NoBlock);
+    if room < usize::from(config.transfer) + settings.unit.size() as usize {
+        *read = Err(Refusal::NoBlock);
+        return;
+    }
+    if kept.length > config.transfer {
+        *read = Err(Refusal::NoDevice);
+        return;
     }
     let Some(asking) = asking_of(settings, kept) else {
-        return Err(Refusal::NoDevice);
+        *read = Err(Refusal::NoDevice);
+        return;
     };
-    if asking.block_len > room {
-        return Err(Refusal::NoDevice);
-    }
-    Ok(asking)
+    *read = Ok(asking);
 }
 
-/// Keeps a device that asks in its record. The bytes held back are there already.
+/// Keeps a device that asks in its record.
 #[inline(never)]
 pub(crate) fn keep(asking: &Asking, kept: &mut DfuRecord)
-    ensures kept { (c : Given) → IsSetUp c asking.now.config asking.now.unit asking.now.sector → IsKept c kept.new asking.now }
-    ensures held { kept.new.held ≡ kept.old.held }
+    ensures { (c : Given) → IsSetUp c asking.now.config asking.now.unit asking.now.sector → IsKept c kept.new asking.now }
 {
     set_mode(kept, asking.mode);
     set_work(kept, asking.work);

@@ -56,10 +56,8 @@ pub struct DfuRecord {
     pub generation: u8,
     /// Whether the gate of the spare slot is closed first: 1, or 0.
     pub close: u8,
-    /// How many bytes are held back until a unit is whole: fewer than a unit has.
+    /// How many bytes behind the block's in its memory are held back until a unit is whole: fewer than a unit has.
     pub held_length: u16,
-    /// These bytes, at the front.
-    pub held: [u8; 256],
 }
 
 /// A record in which all is 0 but its version.
@@ -84,6 +82,5 @@ pub(crate) fn blank() -> DfuRecord
         generation: 0,
         close: 0,
         held_length: 0,
-        held: [0; 256],
     }
 }

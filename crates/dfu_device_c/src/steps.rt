@@ -77,13 +77,13 @@ pub fn next(
 pub fn took(
     config: &DfuConfig,
     device: &mut DfuRecord,
-    block: &[u8],
+    block: &mut [u8],
     flash: &[u8],
     failed: u32,
     out: &mut [u8],
 ) -> i32
-    ensures step { CoreHappens (board config.now device.old block.now flash.now) (CoreTook failed out.old) result out.new
-        (board config.now device.new block.now flash.now) }
+    ensures step { CoreHappens (board config.now device.old block.old flash.now) (CoreTook failed out.old) result out.new
+        (board config.now device.new block.new flash.now) }
 {
     dfu_core_took(config, device, block, flash, failed, out)
 }

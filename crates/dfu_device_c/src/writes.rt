@@ -1,7 +1,8 @@
 //! The writes that are due: the next one, and how it went.
-ghost use Rattle.std.specs.Prelude.{◌≡◌, ◌⊎◌, ◌<◌, not, ◌==◌, length, if◌then◌else◌};
+ghost use Rattle.std.specs.Prelude.{◌≡◌, ◌⊎◌, ◌<◌, not, ◌==◌, length, take, if◌then◌else◌};
 ghost use Rattle.dfu_device_c.specs.Calls.{Goes, Went, HasNoRoom};
 ghost use Rattle.dfu_device_c.specs.Numbers.{NO_ROOM};
+ghost use Rattle.dfu_device_c.specs.Config.{transfer_of};
 ghost use Rattle.dfu_device_c.specs.Kept.{with_memory};
 ghost use Rattle.dfu_device_c.specs.Writes.{HandsOut, RefusesPiece, IsHeldBack, IsAtWork};
 
@@ -37,10 +38,11 @@ pub extern "C" fn dfu_core_next(
     ask: &mut DfuAsk,
 ) -> i32
     ensures outcome { HandsOut config.now device.now block.now flash.now result ask.new
-        ⊎ (RefusesPiece config.now device.now block.now (λ a. IsHeldBack (with_memory device.now block.now a) flash.now) result
+        ⊎ (RefusesPiece config.now device.now block.now (λ a. IsHeldBack (with_memory block.now a) flash.now) result
         × (ask.new ≡ ask.old)) }
 {
-    let read = found(config, device, block.len());
+    let mut read = Err(Refusal::NoDevice);
+    found(config, device, block.len(), &mut read);
     let asking = match &read {
         Ok(asking) => asking,
         Err(refusal) => return refusal.number(),
@@ -48,7 +50,8 @@ pub extern "C" fn dfu_core_next(
     if flash.len() > 0xffff_ffff {
         return Refusal::NoDevice.number();
     }
-    let Some(piece) = asking.next(block, &device.held, flash, &mut ask.bytes) else {
+    let (front, held) = block.split_at(usize::from(config.transfer));
+    let Some(piece) = asking.next(front, held, flash, &mut ask.bytes) else {
         return Refusal::NoDevice.number();
     };
     ask.kind = kind_of(piece.erases);
@@ -58,35 +61,38 @@ pub extern "C" fn dfu_core_next(
 }
 
 /// The write that `dfu_core_next` gave was carried out, or failed if `failed` is not 0; as `Asking::took`: -11, and the next
-/// one is due; or the answer of the call that asked.
+/// one is due; or the answer of the call that asked. Of the block's memory only the bytes behind the transfer size may change.
 ///
 /// Refused with -5 if `out` has less room than 6 bytes; then as every call, and with -4 if no write is due.
 #[unsafe(no_mangle)]
 pub extern "C" fn dfu_core_took(
     config: &DfuConfig,
     device: &mut DfuRecord,
-    block: &[u8],
+    block: &mut [u8],
     flash: &[u8],
     failed: u32,
     out: &mut [u8],
 ) -> i32
-    ensures outcome { Goes config.now device.old block.now device.new block.now
-        (λ a a'. Went (with_memory device.old block.now a) flash.now (not (failed == 0)) out.old result (with_memory device.new block.now a')
+    ensures outcome { Goes config.now device.old block.old device.new block.new
+        (λ a a'. Went (with_memory block.old a) flash.now (not (failed == 0)) out.old result (with_memory block.new a')
         out.new)
-        ⊎ (RefusesPiece config.now device.old block.now (λ a. ¬ IsAtWork (with_memory device.old block.now a)) result
-        × (device.new ≡ device.old) × (out.new ≡ out.old))
-        ⊎ HasNoRoom 6 device.old block.now out.old result device.new block.now out.new }
+        ⊎ (RefusesPiece config.now device.old block.old (λ a. ¬ IsAtWork (with_memory block.old a)) result
+        × (device.new ≡ device.old) × (block.new ≡ block.old) × (out.new ≡ out.old))
+        ⊎ HasNoRoom 6 device.old block.old out.old result device.new block.new out.new }
+    ensures block { take (transfer_of config.now) block.new ≡ take (transfer_of config.now) block.old }
     ensures short { length out.old < 6 → result ≡ NO_ROOM }
 {
     if out.len() < 6 {
         return numbers::NO_ROOM;
     }
-    let mut read = found(config, device, block.len());
+    let mut read = Err(Refusal::NoDevice);
+    found(config, device, block.len(), &mut read);
     let asking = match &mut read {
         Ok(asking) => asking,
         Err(refusal) => return refusal.number(),
     };
-    match asking.took(block, &mut device.held, flash, failed != 0, out) {
+    let (front, held) = block.split_at_mut(usize::from(config.transfer));
+    match asking.took(front, held, flash, failed != 0, out) {
         Ok(Reply::Asks) => {
             keep(asking, device);
             numbers::ASKS

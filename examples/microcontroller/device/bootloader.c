@@ -17,7 +17,7 @@
 static const struct dfu_driver driver = {(void *)MEDIUM, flash_erase, flash_program};
 static const struct dfu_driver run_driver = {(void *)RUN, flash_erase, flash_program};
 static struct dfu_device device;
-static uint8_t block[TRANSFER], answer[TRANSFER];
+static uint8_t block[DFU_BLOCK_SIZE(TRANSFER, UNIT)], answer[TRANSFER];
 static struct frame request;
 
 /* Whether the upgrade runs, or the image. */

@@ -73,6 +73,6 @@ static int program(void *own, uint32_t at, const uint8_t *bytes, uint32_t length
 
 const struct dfu_driver flash_driver = {NULL, erase, program};
 
-static uint8_t block[4096];
+static uint8_t block[DFU_BLOCK_SIZE(4096, 256)];
 struct dfu_device device = {
     .config = &config, .flash = flash, .size = sizeof flash, .block = block, .most = sizeof block, .driver = &flash_driver};

@@ -59,7 +59,6 @@ static struct landed_asking old_record(const struct dfu_config *c, const struct 
         .held_length = r->held_length}, .sector = c->sector, .work = r->work, .spare = r->spare, .sum = r->sum, .done = r->done,
         .asked = r->asked, .generation = r->generation, .close = r->close};
     memcpy(old.device.header, r->header, sizeof r->header);
-    memcpy(old.device.held, r->held, sizeof r->held);
     return old;
 }
 
@@ -70,7 +69,6 @@ static void bring_back(struct dfu_record *r, const struct landed_asking *old) {
     r->mode = d->mode, r->first = d->first, r->second = d->second, r->put_end = d->put_end, r->slot = d->slot, r->number = d->number;
     r->length = d->length, r->held_length = d->held_length;
     memcpy(r->header, d->header, sizeof r->header);
-    memcpy(r->held, d->held, sizeof r->held);
     r->work = old->work, r->spare = old->spare, r->sum = old->sum, r->done = old->done, r->asked = old->asked;
     r->generation = old->generation, r->close = old->close;
 }
@@ -85,8 +83,23 @@ static void old_setup(const struct dfu_config *c, const uint8_t setup[8], uint8_
         old[5] = 1;
 }
 
+/* The bytes held back stood in the record, and the memory of the block had the block alone. */
+static size_t own_of(const struct dfu_config *c, size_t most) {
+    size_t own = most < c->unit ? 0 : most - c->unit;
+    return own < c->transfer ? own : c->transfer;
+}
+
+static size_t held_of(const struct dfu_config *c, size_t most) {
+    size_t held = most < c->transfer ? 0 : most - c->transfer;
+    return held < 256 ? held : 256;
+}
+
 #define OLD(record) struct landed_config c = old_config(config); struct landed_asking a = old_record(config, record)
 #define BACK(number) do { int32_t n = (number); bring_back(record, &a); return n; } while (0)
+#define OLD_WITH(record) OLD(record); const size_t own = own_of(config, most), held = held_of(config, most); \
+    memcpy(a.device.held, block + config->transfer, held)
+#define BACK_WITH(number) do { int32_t n = (number); bring_back(record, &a); memcpy(block + config->transfer, a.device.held, held); \
+    return n; } while (0)
 
 static int32_t number(int32_t n) {
     return n == WRONG_SECTOR ? DFU_NO_CONFIG : n;
@@ -103,9 +116,10 @@ int32_t landed_begin(const struct dfu_config *config, struct dfu_record *record,
     static const uint8_t detach[8] = {0x21, 0, 0xff, 0xff};
     static uint8_t out[4096];
     OLD(record);
+    const size_t own = own_of(config, most);
     int32_t result = number(dfu_asking_power_on(&c, &a, config->sector, flash, size));
-    if (result == 0 && (dfu_asking_handle(&c, &a, block, most, flash, size, detach, block, 0, out, sizeof out) != 0
-        || dfu_asking_usb_reset(&c, &a, block, most, flash, size) != 0))
+    if (result == 0 && (dfu_asking_handle(&c, &a, block, own, flash, size, detach, block, 0, out, sizeof out) != 0
+        || dfu_asking_usb_reset(&c, &a, block, own, flash, size) != 0))
         return -100;
     BACK(result);
 }
@@ -113,37 +127,37 @@ int32_t landed_begin(const struct dfu_config *config, struct dfu_record *record,
 int32_t landed_handle(const struct dfu_config *config, struct dfu_record *record, uint8_t *block, size_t most, const uint8_t *flash,
                       size_t size, const uint8_t setup[8], const uint8_t *body, size_t length, uint8_t *out, size_t room) {
     uint8_t old[8];
-    OLD(record);
+    OLD_WITH(record);
     old_setup(config, setup, old);
-    BACK(dfu_asking_handle(&c, &a, block, most, flash, size, old, body, length, out, room));
+    BACK_WITH(dfu_asking_handle(&c, &a, block, own, flash, size, old, body, length, out, room));
 }
 
 int32_t landed_elapse(const struct dfu_config *config, struct dfu_record *record, uint8_t *block, size_t most, const uint8_t *flash,
                       size_t size, uint32_t ms) {
-    OLD(record);
-    BACK(dfu_asking_elapse(&c, &a, block, most, flash, size, ms));
+    OLD_WITH(record);
+    BACK_WITH(dfu_asking_elapse(&c, &a, block, own, flash, size, ms));
 }
 
 int32_t landed_usb_reset(const struct dfu_config *config, struct dfu_record *record, uint8_t *block, size_t most, const uint8_t *flash,
                          size_t size) {
-    OLD(record);
-    BACK(dfu_asking_usb_reset(&c, &a, block, most, flash, size));
+    OLD_WITH(record);
+    BACK_WITH(dfu_asking_usb_reset(&c, &a, block, own, flash, size));
 }
 
 int32_t landed_next(const struct dfu_config *config, const struct dfu_record *record, const uint8_t *block, size_t most,
                     const uint8_t *flash, size_t size, struct dfu_ask *ask) {
-    OLD(record);
+    OLD_WITH(record);
     struct landed_ask old;
     memcpy(&old, ask, sizeof old);
-    int32_t n = dfu_asking_next(&c, &a, block, most, flash, size, &old);
+    int32_t n = dfu_asking_next(&c, &a, block, own, flash, size, &old);
     memcpy(ask, &old, sizeof old);
     return n;
 }
 
-int32_t landed_took(const struct dfu_config *config, struct dfu_record *record, const uint8_t *block, size_t most, const uint8_t *flash,
+int32_t landed_took(const struct dfu_config *config, struct dfu_record *record, uint8_t *block, size_t most, const uint8_t *flash,
                     size_t size, uint32_t failed, uint8_t *out, size_t room) {
-    OLD(record);
-    BACK(dfu_asking_took(&c, &a, block, most, flash, size, failed, out, room));
+    OLD_WITH(record);
+    BACK_WITH(dfu_asking_took(&c, &a, block, own, flash, size, failed, out, room));
 }
 
 int32_t landed_would_stall(const struct dfu_config *config, const struct dfu_record *record, size_t size, const uint8_t setup[8]) {
@@ -222,19 +236,19 @@ int32_t landed_memory_power_on(const struct dfu_config *config, struct dfu_recor
 int32_t landed_memory_handle(const struct dfu_config *config, struct dfu_record *record, uint8_t *block, size_t most, uint8_t *medium,
                              size_t size, const uint8_t setup[8], const uint8_t *body, size_t length, uint8_t *out, size_t room) {
     uint8_t old[8];
-    OLD(record);
+    OLD_WITH(record);
     old_setup(config, setup, old);
-    BACK(dfu_device_handle(&c, &a.device, block, most, medium, size, old, body, length, out, room));
+    BACK_WITH(dfu_device_handle(&c, &a.device, block, own, medium, size, old, body, length, out, room));
 }
 
 int32_t landed_memory_elapse(const struct dfu_config *config, struct dfu_record *record, uint8_t *block, size_t most, uint8_t *medium,
                              size_t size, uint32_t ms) {
-    OLD(record);
-    BACK(dfu_device_elapse(&c, &a.device, block, most, medium, size, ms));
+    OLD_WITH(record);
+    BACK_WITH(dfu_device_elapse(&c, &a.device, block, own, medium, size, ms));
 }
 
 int32_t landed_memory_usb_reset(const struct dfu_config *config, struct dfu_record *record, uint8_t *block, size_t most, uint8_t *medium,
                                 size_t size) {
-    OLD(record);
-    BACK(dfu_device_usb_reset(&c, &a.device, block, most, medium, size));
+    OLD_WITH(record);
+    BACK_WITH(dfu_device_usb_reset(&c, &a.device, block, own, medium, size));
 }

@@ -15,7 +15,7 @@ int32_t landed_usb_reset(const struct dfu_config *config, struct dfu_record *rec
                          size_t size);
 int32_t landed_next(const struct dfu_config *config, const struct dfu_record *record, const uint8_t *block, size_t most,
                     const uint8_t *flash, size_t size, struct dfu_ask *ask);
-int32_t landed_took(const struct dfu_config *config, struct dfu_record *record, const uint8_t *block, size_t most, const uint8_t *flash,
+int32_t landed_took(const struct dfu_config *config, struct dfu_record *record, uint8_t *block, size_t most, const uint8_t *flash,
                     size_t size, uint32_t failed, uint8_t *out, size_t room);
 int32_t landed_would_stall(const struct dfu_config *config, const struct dfu_record *record, size_t size, const uint8_t setup[8]);
 int32_t landed_too_long(const struct dfu_config *config, struct dfu_record *record, const uint8_t setup[8]);

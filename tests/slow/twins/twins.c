@@ -102,7 +102,7 @@ static int32_t settle_both(int32_t answer) {
 }
 
 static void power_on_both(void) {
-    int is_in_idle = roll(2) && garbled.transfer <= sizeof one.pending && !is_plain;
+    int is_in_idle = roll(2) && garbled.transfer <= MOST_BLOCK && !is_plain;
     if (is_in_idle)
         same("begin", dfu_core_begin(&garbled, &one.record, one.flash, one.size),
              landed_begin(&garbled, &two.record, two.pending, sizeof two.pending, two.flash, two.size));
@@ -173,12 +173,11 @@ static void plain_is(int32_t answer, int32_t of_plain) {
     in_memory++;
     if (answer != of_plain || memcmp(one.flash, plain.flash, one.size) != 0 || memcmp(one.out, plain.out, sizeof one.out) != 0)
         stop("the device over memory");
-    struct dfu_record ours = one.record, its = plain.record;
     /* (of what is carried out nothing is due; the bytes behind those held back, and behind the block, are nobody's) */
-    memset(ours.held + ours.held_length, 0, sizeof ours.held - ours.held_length);
-    memset(its.held + its.held_length, 0, sizeof its.held - its.held_length);
-    if (memcmp(&ours, &its, offsetof(struct dfu_record, work)) != 0 || ours.held_length != its.held_length
-        || memcmp(ours.held, its.held, sizeof ours.held) != 0 || memcmp(one.pending, plain.pending, ours.length) != 0)
+    const struct dfu_record *ours = &one.record, *its = &plain.record;
+    const uint8_t *held = one.pending + config.transfer, *its_held = plain.pending + config.transfer;
+    if (memcmp(ours, its, offsetof(struct dfu_record, work)) != 0 || ours->held_length != its->held_length
+        || memcmp(held, its_held, ours->held_length) != 0 || memcmp(one.pending, plain.pending, ours->length) != 0)
         stop("the record of the device over memory");
 }
 

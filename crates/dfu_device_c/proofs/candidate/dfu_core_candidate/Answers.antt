@@ -2,6 +2,7 @@ use Rattle.std.specs.Prelude.{Option, Some, None, IfSome, IfNone}
 use Rattle.std.proofs.Common.{◌≡◌, inl, inr, refl, ap, subst, ◌∙◌, w32, arith}
 use Rattle.std.proofs.lemmas.Int.{to_z-of_z}
 use Rattle.dfu_device_c.specs.declared.refusal.Refusal.{Refusal}
+use Rattle.dfu_device_c.specs.Kept.{block_in, held_in}
 use Rattle.dfu_device_c.specs.Numbers.{refusal_number}
 use Rattle.dfu_device_c.proofs.Found.{is_found}
 use Rattle.dfu_device_c.proofs.candidate.dfu_core_candidate.Goals as goal
@@ -18,9 +19,10 @@ returns-in-Ok-Some c = record {
   outcome = inl (record {
     number_is = refl;
     asking = c.in-Ok.asking;
-    is = (is_found _ _ _ _ _ c.in-Ok.is c.found-read.ensures.ok c.found-read.ensures.config c.found-read.ensures.room).ok;
+    is = (is_found _ _ _ _ _ c.in-Ok.is c.found.ensures.ok c.found.ensures.config c.found.ensures.room).ok;
     within = of_some _ _ _ c.in-Ok-Some.field-0-is c.in-Ok-Some.ensures.within;
-    there = λ block whole. of_some _ _ _ c.in-Ok-Some.field-0-is (c.in-Ok-Some.ensures.some block c.args.device.now.held whole);
+    there = λ block whole. of_some _ _ _ c.in-Ok-Some.field-0-is
+        (c.in-Ok-Some.ensures.some (block_in c.in-Ok.asking block) (held_in c.in-Ok.asking block) whole);
   });
 }
 
@@ -31,8 +33,9 @@ returns-in-Ok-None c = record {
     inl (record {
       number_is = refl;
       asking = c.in-Ok.asking;
-      is = (is_found _ _ _ _ _ c.in-Ok.is c.found-read.ensures.ok c.found-read.ensures.config c.found-read.ensures.room).ok;
-      none = λ block. of_none _ _ c.in-Ok-None.field-0-is (c.in-Ok-None.ensures.none block c.args.device.now.held);
+      is = (is_found _ _ _ _ _ c.in-Ok.is c.found.ensures.ok c.found.ensures.config c.found.ensures.room).ok;
+      none = λ block. of_none _ _ c.in-Ok-None.field-0-is
+          (c.in-Ok-None.ensures.none (block_in c.in-Ok.asking block) (held_in c.in-Ok.asking block));
     }),
   );
 }
@@ -43,11 +46,11 @@ returns-in-Err-candidate c = record {
     refl,
     inr (inr (
       c.in-Ok.asking,
-      (is_found _ _ _ _ _ c.in-Ok.is c.found-read.ensures.ok c.found-read.ensures.config c.found-read.ensures.room).ok,
+      (is_found _ _ _ _ _ c.in-Ok.is c.found.ensures.ok c.found.ensures.config c.found.ensures.room).ok,
       c.in-Err-candidate.refusal,
       to_z-of_z w32 _ (omega (arith, c.number-in-Err-candidate.type_inv)) ∙ c.number-in-Err-candidate.ensures
           ∙ ap (λ (e : Refusal). refusal_number e) c.refused.ensures,
-      λ block. c.in-Err-candidate.ensures.refused block c.args.device.now.held,
+      λ block. c.in-Err-candidate.ensures.refused (block_in c.in-Ok.asking block) (held_in c.in-Ok.asking block),
     )),
   );
 }

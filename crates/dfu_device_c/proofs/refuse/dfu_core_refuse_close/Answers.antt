@@ -16,7 +16,7 @@ returns-then-not-may_close c =
     let r = c.args.device.now in
     let none : ClosesNone k r c.addressed-own.result = λ a kept block flash device closes. elim c.then-not-may_close.branch [
       | then-not-may_close-via-then-not-may_close w ↦ false≢true (sym w.if-not-may_close.true
-          ∙ may_is k c.in-Ok.mode c.in-Ok.mode c.in-Some.objection (with_memory r block a) flash kept.set_up.config_is
+          ∙ may_is k c.in-Ok.mode c.in-Ok.mode c.in-Some.objection (with_memory block a) flash kept.set_up.config_is
           (c.in-Ok.ensures.only a.mode kept.mode) device c.may_close.result c.may_close.ensures ∙ closes.1)
       | then-not-may_close-via-else-not-may_close+then-not-is_close w ↦
           false≢true (sym w.if-not-is_close.true ∙ w.is_close.ensures.1 closes.0)

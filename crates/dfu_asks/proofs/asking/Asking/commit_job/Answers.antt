@@ -1,5 +1,4 @@
 use Rattle.std.proofs.Common.{◌≡◌, ℕ, ◌+◌, ◌-◌, ◌*◌, ◌%◌, List, ◌++◌, length, take, slice_index, slice_range, refl, sym, ◌∙◌, ap, arith}
-use Rattle.std.proofs.lemmas.List.{length-take-le}
 use Rattle.dfu_suffix.specs.Register.{register}
 use Rattle.dfu_slots.specs.Layout.{generation, next_generation}
 use Rattle.dfu_slots.specs.Image.{gate_of, spare_at}
@@ -9,6 +8,7 @@ use Rattle.dfu_asks.specs.Lent.{lent}
 use Rattle.dfu_asks.specs.Asks.{store_in}
 use Rattle.dfu_asks.specs.declared.job.Job.TheVariants.{Commit}
 use Rattle.dfu_asks.proofs.Noting.{noted_spare}
+use Rattle.dfu_asks.proofs.Room.{held_size}
 use Rattle.dfu_device.proofs.Candidates.{put_is}
 use Rattle.dfu_asks.proofs.asking.Asking.commit_job.Goals as goal
 
@@ -26,8 +26,9 @@ returns c = λ block is.
     ap (λ (h : List ℕ). (slice_index h 0 + 1) % 256) is.noted.header in
     let from : c.data_at-from.result ≡ spare_at (gate_of s.medium) s.medium.bytes + 2 * gate_of s.medium =
     omega (arith, c.data_at-from.ensures, spare, ap gate_of same) in
-    let held : a.held_len ≡ length l.held = sym (length-take-le a.held_len c.args.held.now (omega (arith, a.few, c.told-held))) in
+    let held : a.held_len ≡ length l.held =
+    sym (held_size a.unit a.held_len a.put_end c.args.held.now c.requires.memory is.store.puts.part) in
     let size : a.put_end - a.held_len ≡ s.put_end - length s.held = omega (arith, held) in
     let reg : c.register_of.result ≡ register (take s.put_end (spare_of s)) = c.register_of.ensures
-    ∙ (λ i. register (slice_range flash (from i) (from i + size i) ++ s.held)) ∙ ap register (sym (put_is s is.store)) in
+    ∙ (λ i. register (slice_range flash (from i) (from i + size i) ++ c.held_in.ensures.bytes i)) ∙ ap register (sym (put_is s is.store)) in
     record { job_is = λ i. Commit (spare i) (gen i) (reg i); end_is = refl; held_is = refl }

@@ -13,6 +13,7 @@ use Rattle.dfu_asks.specs.Lent.{lent}
 use Rattle.dfu_asks.specs.Asks.{store_in}
 use Rattle.dfu_asks.proofs.Calling.{is_false}
 use Rattle.dfu_asks.proofs.Noting.{noted_spare, begun_is}
+use Rattle.dfu_asks.proofs.Room.{held_size}
 use Rattle.dfu_asks.proofs.asking.Asking.is_fit.Goals as goal
 
 pub returns-then-not-has_puts-clause-kept : goal.returns-then-not-has_puts-clause-kept
@@ -25,7 +26,7 @@ returns-then-not-has_puts-clause-kept c = λ block held room size kept.
     λ i. mapped (record { unit = c.requires.unit i; sector = (c.requires.sector i).size }) c.args.medium.now.bytes.now in
     let spare : c.args.view.now.spare ≡ spare_at (gate_of m) m.bytes = c.requires.view.spare ∙ noted_spare a.noted s.medium kept.is.noted
     ∙ sym (ap (λ (x : MediumState). spare_at (gate_of x) x.bytes) same) in
-    let count : length l.held ≡ a.held_len = length-take-le a.held_len held (omega (arith, size, a.few)) in
+    let count : length l.held ≡ a.held_len = held_size a.unit a.held_len a.put_end held size kept.is.store.puts.part in
     absurd (is_false c.has_puts.result c.if-not-has_puts.true ((c.has_puts.ensures.puts l.held count spare).1
     (subst (λ (x : MediumState). HasPuts (store_of x l.held a.put_end)) (sym same) kept.is.store.puts)))
 
