@@ -93,10 +93,11 @@ void machine_again(struct machine *machine)
     machine_power_on(machine, machine->medium, machine_is_upgrade(machine));
 }
 
-/* A download ends a trial first: it would write over the image that was confirmed. False if the setup is to be stalled. */
+/* A download ends a trial first: it would write over the image that was confirmed. So does an upload if no start is left: a host would
+   verify an image that starts no more. False if the setup is to be stalled. */
 static bool make_room(struct machine *machine, const uint8_t setup[8])
 {
-    int32_t answer = dfu_trial_download(&machine->trial, &machine->device, setup);
+    int32_t answer = dfu_trial_transfer(&machine->trial, &machine->device, setup);
     if (answer != 0) {
         if (answer != DFU_NOT_WRITTEN)
             note(machine, answer);
@@ -104,7 +105,7 @@ static bool make_room(struct machine *machine, const uint8_t setup[8])
     }
     if (is_gate_noted(machine))
         return true;
-    say_event("trial: ended by a download");
+    say_event(setup[1] == DFU_DNLOAD ? "trial: ended by a download" : "trial: ended by an upload, since no start was left");
     note(machine, dfu_device_image(&machine->device, &machine->place));
     note_gate(machine);
     return machine->refusal == 0;

@@ -34,7 +34,7 @@ int32_t machine_power_on(struct machine *machine, const struct medium *medium, b
 /* Another program may have ended a trial since: then the device gets power anew, in the mode that it is in. */
 void machine_again(struct machine *machine);
 
-/* What is to be done with a setup before its data stage. If it begins a download while an image is on trial, the trial ends. */
+/* What is to be done with a setup before its data stage. A trial may end by it: see dfu_trial_transfer. */
 enum plan { PLAN_ANSWER, PLAN_STALL, PLAN_TAKE };
 enum plan machine_plan(struct machine *machine, const uint8_t setup[8]);
 

@@ -10,7 +10,7 @@
  *     struct dfu_place place;
  *
  *     the bootloader, before it starts an image:     if (dfu_trial_boot(&trial, &place) == 0) start what place says
- *     the bootloader, before each dfu_device_serve:  if (dfu_trial_download(&trial, &dfu, setup) != 0) stall the setup
+ *     the bootloader, before each dfu_device_serve:  if (dfu_trial_transfer(&trial, &dfu, setup) != 0) stall the setup
  *     the application, once it knows that it works:  dfu_trial_accept(&trial, the offset of its first byte in flash)
  *     the bootloader, if the image must not run:     dfu_trial_give_up(&trial)
  *
@@ -18,7 +18,12 @@
  *   `tries` times; then its gate is erased, and the confirmed one runs.
  * - A start is marked before it, and read back: if the mark does not read set, the confirmed image runs, and no start is lost.
  * - A download ends a trial first: until then the spare slot is that of the confirmed image, which would be written over.
- * - A host that verifies resets the board twice, so it starts the new image twice: with one try it would end with the old image.
+ * - An upload ends a trial that has no start left, as the next start would. So a host reads what the next start runs, and if it reports
+ *   Verified its last reset starts the payload. Two things can part them: the mark of that start fails, and the image before runs this
+ *   once; or the power goes between that mark and the image, and the host does not see it.
+ * - A host that verifies starts the new image twice, and a loss of power that it sees spends one start more, or two if it falls into a
+ *   start. So 2 tries are enough if the power stays, and 2 more for each loss; with fewer it may report Different, and the image before
+ *   runs. An image that confirms itself is past all this.
  * - With a run area (dfu_install.h) settle the image that dfu_trial_look gives as `active` before dfu_trial_boot, so that losses of power
  *   in the copy use up no start. If dfu_trial_boot gives another place, settle and start that.
  * - An application that has no linker symbol for its place takes the one that the bootloader started.
@@ -84,6 +89,11 @@ static inline int32_t dfu_trial_end(const struct dfu_trial *t, struct dfu_ask *a
     return dfu_core_trial_end(&t->tries, t->flash, t->size, ask);
 }
 
+/** @brief As dfu_core_trial_upload. */
+static inline int32_t dfu_trial_upload(const struct dfu_trial *t, struct dfu_ask *ask) {
+    return dfu_core_trial_upload(&t->tries, t->flash, t->size, ask);
+}
+
 /** @brief What is started now: by the driver the start is marked before, or the trial ended.
  * @return 0: place has it; DFU_ASKS: an operation is due, and there is no driver; the refusals of dfu_core_trial_look */
 static inline int32_t dfu_trial_boot(const struct dfu_trial *t, struct dfu_place *place) {
@@ -126,19 +136,22 @@ static inline int32_t dfu_trial_give_up(const struct dfu_trial *t) {
     return n;
 }
 
-/** @brief Before dfu_device_serve: if the setup begins a download and an image is on trial, the trial ends by the driver, and the device is
- *         given power anew, in dfuIDLE.
+/** @brief Before dfu_device_serve: if the setup begins a download and an image is on trial, or it begins an upload and no start of that is
+ *         left, the trial ends by the driver, and the device is given power anew, in dfuIDLE.
  * @return 0: serve the setup; else stall it: as dfu_trial_give_up, dfu_core_begin and dfu_core_would_stall */
-static inline int32_t dfu_trial_download(const struct dfu_trial *t, struct dfu_device *d, const uint8_t setup[8]) {
-    struct dfu_standing standing;
+static inline int32_t dfu_trial_transfer(const struct dfu_trial *t, struct dfu_device *d, const uint8_t setup[8]) {
+    const int is_upload = setup[0] == 0xa1 && setup[1] == DFU_UPLOAD;
     int32_t n;
-    if (setup[0] != 0x21 || setup[1] != DFU_DNLOAD || dfu_device_state(d) != DFU_STATE_IDLE)
+    if ((!is_upload && (setup[0] != 0x21 || setup[1] != DFU_DNLOAD)) || dfu_device_state(d) != DFU_STATE_IDLE)
         return 0;
     n = dfu_device_would_stall(d, setup);
     if (n != 0)
         return n == 1 ? 0 : n;
-    n = dfu_trial_look(t, &standing);
-    if (n != 0 || standing.on_trial == 0)
+    { /* (its memory is free again before the trial ends) */
+        struct dfu_ask ask;
+        n = is_upload ? dfu_trial_upload(t, &ask) : dfu_trial_end(t, &ask);
+    }
+    if (n != DFU_ASKS)
         return n;
     n = dfu_trial_give_up(t);
     return n == 0 ? dfu_device_begin(d) : n;

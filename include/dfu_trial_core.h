@@ -71,6 +71,11 @@ int32_t dfu_core_trial_confirm(const struct dfu_tries *tries, const uint8_t *fla
  * @return 0: nothing is on trial; DFU_ASKS: ask has the operation; the refusals of dfu_core_trial_look, and ask is as it was */
 int32_t dfu_core_trial_end(const struct dfu_tries *tries, const uint8_t *flash, size_t size, struct dfu_ask *ask);
 
+/** @brief What comes before an upload: without a start left the trial ends, as the next start would end it. So what a host reads is what
+ *         the next start runs.
+ * @return 0: it may begin; DFU_ASKS: ask has the operation; the refusals of dfu_core_trial_look, and ask is as it was */
+int32_t dfu_core_trial_upload(const struct dfu_tries *tries, const uint8_t *flash, size_t size, struct dfu_ask *ask);
+
 #ifdef __cplusplus
 }
 #endif

@@ -73,7 +73,7 @@ static void confirm(uint32_t at) {
 
 static int32_t request(uint8_t kind, uint8_t what, const uint8_t *body, uint8_t length) {
     const uint8_t setup[8] = {kind, what, 0, 0, 0, 0, length, 0};
-    if (dfu_trial_download(&trial, &dfu, setup) != 0)
+    if (dfu_trial_transfer(&trial, &dfu, setup) != 0)
         return DFU_STALL;
     return dfu_device_serve(&dfu, setup, body, out, sizeof out);
 }

@@ -52,7 +52,7 @@ int32_t signed_serve(struct signed_board *board, const uint8_t setup[8], const u
     struct dfu_device *device = board->device;
     int32_t n = dfu_device_work(device);
     if (n == 0 && board->trial != NULL)
-        n = dfu_trial_download(board->trial, device, setup);
+        n = dfu_trial_transfer(board->trial, device, setup);
     if (n == 0)
         n = closes(device, setup);
     if (n == 1) {

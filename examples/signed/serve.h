@@ -14,7 +14,7 @@ struct signed_board {
 };
 
 /* As dfu_device_serve, for a device that has a driver. A DNLOAD that begins while an image is on trial ends the trial first
- * (dfu_trial_download). At the close of a download the image is checked, and its security counter is compared with that of the confirmed
+ * (dfu_trial_transfer). At the close of a download the image is checked, and its security counter is compared with that of the confirmed
  * image: the active one, if none is on trial. One that is refused is stalled, and the device is in dfuERROR with errTARGET or errFILE. */
 int32_t signed_serve(struct signed_board *board, const uint8_t setup[8], const uint8_t *body, uint8_t *out, size_t room);
 

@@ -79,7 +79,7 @@ static struct dfu_trial trial = {.flash = part, .size = sizeof part, .driver = &
 
 static int32_t request(uint8_t kind, uint8_t what, const uint8_t *body, uint16_t length) {
     const uint8_t setup[8] = {kind, what, 0, 0, 0, 0, (uint8_t)length, 0};
-    const int32_t ended = dfu_trial_download(&trial, &device, setup);
+    const int32_t ended = dfu_trial_transfer(&trial, &device, setup);
     return ended != 0 ? DFU_STALL : dfu_device_serve(&device, setup, body, out, sizeof out);
 }
 static void power_comes(const uint8_t *image, size_t length) {

@@ -43,3 +43,6 @@ mod Harmed
 pub mod Closing
 pub mod Objecting
 pub mod Refusals
+mod Placing
+mod Placed
+mod Accepting

@@ -27,4 +27,5 @@ pub mod CleanInstall
 pub mod NextSession
 pub mod CleanSteps
 pub mod OneResult
+pub mod Accepting
 pub mod inside

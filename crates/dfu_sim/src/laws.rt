@@ -8,6 +8,7 @@ ghost use Rattle.dfu_sim.specs.CleanSteps.{StepsInstall, StepsStand};
 ghost use Rattle.dfu_sim.specs.NextSession.{SessionsGoOn};
 ghost use Rattle.dfu_sim.specs.Giving.{UploadsGive, RestIsSteady};
 ghost use Rattle.dfu_sim.specs.Simulation.{OnlyOffered, Simulation};
+ghost use Rattle.dfu_sim.specs.Accepting.{LinkAccepts, OffersAccepted};
 ghost use Rattle.dfu_sim.specs.OneAnswer.{OneEvent, OneRefusal, RefusedIsNoPlay};
 ghost use Rattle.dfu_sim.specs.OneResult.{OneResult};
 ghost use Rattle.dfu_sim.specs.Power.{PowerComesBack};
@@ -42,6 +43,18 @@ pub fn clean_steps()
 pub fn only_offered()
     ensures { OnlyOffered }
 {}
+
+/// Whatever events come to a `World`, and whatever check the program of its device makes: if each image
+/// that the check refuses was refused before an action of the host or a time could put it in place, the
+/// active image is the one before, or one that the check accepts. With the headline it is the factory
+/// image, or one whole payload that was offered and that the check accepts. A program that never asks
+/// takes every image.
+pub fn worlds_take_what_is_accepted()
+    ensures image { LinkAccepts }
+    ensures offered { OffersAccepted }
+{
+    active_image_is_one();
+}
 
 /// Agreement is no empty word: some session machine agrees with each link, and where no session is
 /// live and no bytes are closed, one to which nothing was offered. Where the image that is shown is

@@ -7,5 +7,6 @@ mod Keeping
 mod Outcomes
 mod Starts
 mod Unique
+mod Uploading
 mod Downloading
 mod Lists

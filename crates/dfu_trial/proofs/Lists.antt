@@ -1,14 +1,14 @@
 -- What comes one after another leaves the images that are trusted.
-use Rattle.std.proofs.Common.{◌≡◌, ◌⊎◌, inl, inr, ⊎_elim, ℕ, ◌+◌, ◌≤◌, ◌==◌, Bool, true, false, List, [], ◌∷◌, Option, Some, None, refl, sym, ◌∙◌, ap, subst, arith, if◌then◌else◌}
-use Rattle.std.proofs.lemmas.Bool.{true≢false}
+use Rattle.std.proofs.Common.{◌≡◌, ◌⊎◌, inl, inr, ⊎_elim, ℕ, ◌+◌, ◌≤◌, ◌==◌, nat_lt, Bool, true, false, List, [], ◌∷◌, Option, Some, None, refl, sym, ◌∙◌, ap, subst, arith, if◌then◌else◌}
+use Rattle.std.proofs.lemmas.Bool.{true≢false, ltb-true}
 use Rattle.dfu_slots.specs.Units.{Grain}
 use Rattle.dfu_slots.specs.Medium.{MediumState}
 use Rattle.dfu_slots.specs.Image.{HasImage}
 use Rattle.dfu_trial.specs.Marks.{is_set, AreTries}
 use Rattle.dfu_trial.specs.Trial.{image_at}
-use Rattle.dfu_trial.specs.Calls.{IsStanding, image_place, sets, start_of, confirm_of, end_of}
+use Rattle.dfu_trial.specs.Calls.{IsStanding, image_place, sets, start_of, confirm_of, end_of, upload_of, active_slot}
 use Rattle.dfu_trial.specs.Laws.{Carried, CarriedIf, GoesOn, HasStarted, IsBack, Starts as StartsBy}
-use Rattle.dfu_trial.specs.Lists.{TrialEvent, Starts, Confirms, Ends, Downloads, TrialStep, RanBy, ConfirmedBy, IsDownload, NewPlaced, TrialGoes, CameAll, Trust, Alone, Tried, AreTrusted, MayBecome, AllTrusted}
+use Rattle.dfu_trial.specs.Lists.{TrialEvent, Starts, Confirms, Ends, Uploads, Downloads, TrialStep, RanBy, ConfirmedBy, GivenBy, IsDownload, NewPlaced, TrialGoes, CameAll, Trust, Alone, Tried, AreTrusted, IsOnOrBack, MayGive, MayBecome, AllTrusted}
 use Rattle.dfu_trial.specs.declared.standing.Settled.{Settled}
 use Rattle.dfu_trial.specs.declared.standing.Trial.{Trial}
 use Rattle.dfu_trial.specs.declared.standing.Standing.{Standing}
@@ -21,6 +21,7 @@ use Rattle.dfu_trial.proofs.Slots.{active_there}
 use Rattle.dfu_trial.proofs.Outcomes.{confirms_or_goes_on, ends_or_goes_on}
 use Rattle.dfu_trial.proofs.Starts.{starts_so}
 use Rattle.dfu_trial.proofs.Unique.{same_standing}
+use Rattle.dfu_trial.proofs.Uploading.{asks_by, is_left}
 use Rattle.dfu_trial.proofs.Downloading.{downloaded}
 
 -- A medium with these images has an active one.
@@ -35,6 +36,20 @@ trusted_has m tries (Tried base image runs) are =
 pub trusted_first : (m : MediumState) (tries : ℕ) (s : Settled) → IsStanding m tries (standing.Settled s) → s.is_confirmed ≡ true
     → AreTrusted m tries (Alone (image_at m s.slot))
 trusted_first m tries s stands confirmed = (s, stands, confirmed, refl)
+
+-- What an upload gives is what is trusted.
+given_trusted : (now : MediumState) (tries : ℕ) (next : Trust) (given : Option (List ℕ)) → AreTrusted now tries next
+    → GivenBy now tries given → MayGive tries given next
+given_trusted now tries next None has by = tt
+given_trusted now tries (Alone base) (Some image) has by =
+    sym by.image_is ∙ ap (λ (x : Standing). image_at now (active_slot x))
+    (same_standing now tries by.standing (standing.Settled has.0) by.stands has.1) ∙ has.3
+given_trusted now tries (Tried base new runs) (Some image) has by =
+    let same = same_standing now tries by.standing (standing.OnTrial has.0) by.stands has.1 in
+    let left = is_left tries has.0 (subst (λ (x : Standing). upload_of tries x ≡ None) same by.asks) in (
+      sym by.image_is ∙ ap (λ (x : Standing). image_at now (active_slot x)) same ∙ has.3,
+      omega (arith, has.4, ltb-true has.0.starts tries left),
+    )
 
 -- What comes of a step: the images that are trusted afterwards, and how they came to be.
 abbrev Next : MediumState → ℕ → Trust → TrialEvent → MediumState → Type 0
@@ -72,6 +87,11 @@ module _ (m now : MediumState) (tries : ℕ) (are : AreTries m.grain tries) wher
 
     alone_ends : CarriedIf m (end_of (standing.Settled s)) now → Next m tries (Alone base) Ends now
     alone_ends carried = (Alone base, refl, stays carried)
+
+    alone_uploads : (given : Option (List ℕ)) → CarriedIf m (upload_of tries (standing.Settled s)) now → GivenBy now tries given
+        → Next m tries (Alone base) (Uploads given) now
+    alone_uploads given carried by =
+        (Alone base, (refl, given_trusted now tries (Alone base) given (stays carried) by), stays carried)
 
     alone_downloads : (image : List ℕ) → IsDownload m tries image now → Next m tries (Alone base) (Downloads image) now
     alone_downloads image d =
@@ -174,6 +194,25 @@ module _ (m now : MediumState) (tries : ℕ) (are : AreTries m.grain tries) wher
         (λ back. (Alone base, inr refl, is_back back))
         (ends_or_goes_on m now tries t are has.1 carried)
 
+    -- Without a start left an upload ends the trial; else it leaves it.
+    uploads_leave : (b : Bool) → nat_lt t.starts tries ≡ b → CarriedIf m (upload_of tries (standing.OnTrial t)) now
+        → (next : Trust) × IsOnOrBack base image runs next × AreTrusted now tries next
+    uploads_leave true is carried = (
+      Tried base image runs,
+      inl refl,
+      unchanged (subst (λ (o : Option Operation). CarriedIf m o now) (asks_by tries t true is) carried),
+    )
+    uploads_leave false is carried = ⊎_elim
+        (λ on. (Tried base image runs, inl refl, goes_on on))
+        (λ back. (Alone base, inr refl, is_back back))
+        (ends_or_goes_on m now tries t are has.1 (subst (λ (o : Option Operation). CarriedIf m o now) (asks_by tries t false is) carried))
+
+    tried_uploads : (given : Option (List ℕ)) → CarriedIf m (upload_of tries (standing.OnTrial t)) now → GivenBy now tries given
+        → Next m tries (Tried base image runs) (Uploads given) now
+    tried_uploads given carried by =
+        let left = uploads_leave (nat_lt t.starts tries) refl carried in
+        (left.0, (left.1, given_trusted now tries left.0 given left.2 by), left.2)
+
     -- A download is none while an image is on trial.
     tried_downloads : (new : List ℕ) → IsDownload m tries new now → ⊥
     tried_downloads new d = d.stands.none (record { at = t.slot; base = t.base; trial = has.1.0 })
@@ -192,6 +231,9 @@ module _ (m now : MediumState) (tries : ℕ) (are : AreTries m.grain tries) wher
   steps_on (Alone base) Ends has came =
       alone_ends base has (subst (λ (x : Standing). CarriedIf m (end_of x) now)
       (same_standing m tries came.0 (standing.Settled has.0) came.1 has.1) came.2)
+  steps_on (Alone base) (Uploads given) has came =
+      alone_uploads base has given (subst (λ (x : Standing). CarriedIf m (upload_of tries x) now)
+      (same_standing m tries came.0 (standing.Settled has.0) came.1 has.1) came.2) came.3
   steps_on (Alone base) (Downloads image) has came = alone_downloads base has image came
   steps_on (Tried base image runs) (Starts ran) has came =
       let same = same_standing m tries came.0 (standing.OnTrial has.0) came.1 has.1 in
@@ -204,6 +246,9 @@ module _ (m now : MediumState) (tries : ℕ) (are : AreTries m.grain tries) wher
   steps_on (Tried base image runs) Ends has came =
       tried_ends base image runs has (subst (λ (x : Standing). CarriedIf m (end_of x) now)
       (same_standing m tries came.0 (standing.OnTrial has.0) came.1 has.1) came.2)
+  steps_on (Tried base image runs) (Uploads given) has came =
+      tried_uploads base image runs has given (subst (λ (x : Standing). CarriedIf m (upload_of tries x) now)
+      (same_standing m tries came.0 (standing.OnTrial has.0) came.1 has.1) came.2) came.3
   steps_on (Tried base image runs) (Downloads new) has came = absurd (tried_downloads base image runs has new came)
 
 -- An operation leaves the grain.
@@ -225,6 +270,7 @@ grain_stays : (tries : ℕ) (m now : MediumState) (event : TrialEvent) → Trial
 grain_stays tries m now (Starts ran) came = grain_if m now (start_of m.grain tries came.0).operation came.2
 grain_stays tries m now (Confirms at) came = grain_confirmed m now (confirm_of m.grain came.0 at) came.2
 grain_stays tries m now Ends came = grain_if m now (end_of came.0) came.2
+grain_stays tries m now (Uploads given) came = grain_if m now (upload_of tries came.0) came.2
 grain_stays tries m now (Downloads image) came = came.grain
 
 -- A list of them.

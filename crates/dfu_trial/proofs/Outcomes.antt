@@ -7,7 +7,7 @@ use Rattle.dfu_slots.specs.Image.{capacity_of}
 use Rattle.dfu_slots.proofs.Sectors.{room_sector}
 use Rattle.dfu_trial.specs.Marks.{mark_size, mark_at, is_set, starts, AreTries}
 use Rattle.dfu_trial.specs.Calls.{IsStanding, sets, runs_in}
-use Rattle.dfu_trial.specs.Laws.{GoesOn, HasStarted, IsConfirmed, IsBack, AfterMark, Carried}
+use Rattle.dfu_trial.specs.Laws.{GoesOn, HasStarted, IsConfirmed, IsBack, AfterMark, Carried, IsUnmarked}
 use Rattle.dfu_trial.specs.declared.starting.Starting.{Starting}
 use Rattle.dfu_trial.specs.declared.operation.Operation.TheVariants.{Close}
 use Rattle.dfu_trial.specs.declared.standing.Trial.{Trial}
@@ -38,8 +38,14 @@ module _ (m now : MediumState) (tries : ℕ) (t : Trial) (are : AreTries m.grain
   unfolding is_set
   runs_so b is = ap (λ (b : Bool). if b then t.slot else t.base) is
 
-  pub mark_runs : AfterMark m tries t now (runs_in now starting starting.operation)
-  mark_runs = elim (cases_Bool (is_set w t.slot next)) [
+  unmarked : is_set w t.slot next ≡ false → IsUnmarked now starting.operation
+  unfolding is_set
+  unmarked is = is
+
+  -- The image on trial runs; or its mark does not read set.
+  pub mark_told : (HasStarted m tries t now × (runs_in now starting starting.operation ≡ t.slot))
+      ⊎ (GoesOn m tries t now × (runs_in now starting starting.operation ≡ t.base) × IsUnmarked now starting.operation)
+  mark_told = elim (cases_Bool (is_set w t.slot next)) [
     | inl set ↦ inl (
       subst (λ (x : Grain). HasStarted m tries t (record now { grain = x })) (sym grain)
           (mark_starts m now tries t are stands next (omega (arith, lt)) keeps refl set),
@@ -49,7 +55,14 @@ module _ (m now : MediumState) (tries : ℕ) (t : Trial) (are : AreTries m.grain
       subst (λ (x : Grain). GoesOn m tries t (record now { grain = x })) (sym grain)
           (mark_goes_on m now tries t are stands next (omega (arith, lt)) keeps (unset ∙ sym was_unset)),
       runs_so false unset,
+      unmarked unset,
     )
+  ]
+
+  pub mark_runs : AfterMark m tries t now (runs_in now starting starting.operation)
+  mark_runs = elim mark_told [
+    | inl on ↦ inl on
+    | inr same ↦ inr (same.0, same.1)
   ]
 
 -- What comes of a confirmation, and of an end.

@@ -74,6 +74,16 @@ abbrev pub end_of : Standing → Option Operation
 end_of (standing.Settled s) = None
 end_of (standing.OnTrial t) = Some (Close t.slot)
 
+-- What an upload asks for first: without a start left the trial ends, as the next start would end it. Else nothing.
+abbrev pub upload_of : ℕ → Standing → Option Operation
+upload_of tries (standing.Settled s) = None
+upload_of tries (standing.OnTrial t) = if nat_lt t.starts tries then None else Some (Close t.slot)
+
+-- The slot of the active image, which an upload reads.
+abbrev pub active_slot : Standing → ℕ
+active_slot (standing.Settled s) = s.slot
+active_slot (standing.OnTrial t) = t.slot
+
 -- The medium takes this operation: its range lies in the medium, a mark is whole in units, and all its bytes are FFh; a sector begins
 -- where one is erased.
 abbrev pub IsTaken : MediumState → Operation → Type 0

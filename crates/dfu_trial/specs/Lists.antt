@@ -5,8 +5,8 @@ use Rattle.dfu_slots.specs.Layout.{slot_size, ArePlaces}
 use Rattle.dfu_slots.specs.Image.{slot_of, IsNewest}
 use Rattle.dfu_trial.specs.Marks.{is_set}
 use Rattle.dfu_trial.specs.Trial.{IsFilled, image_at}
-use Rattle.dfu_trial.specs.Calls.{IsSettled, IsStanding, start_of, runs_in, confirm_of, end_of}
-use Rattle.dfu_trial.specs.Laws.{Carried, CarriedIf}
+use Rattle.dfu_trial.specs.Calls.{IsSettled, IsStanding, start_of, runs_in, confirm_of, end_of, upload_of}
+use Rattle.dfu_trial.specs.Laws.{Carried, CarriedIf, IsNext}
 use Rattle.dfu_trial.specs.declared.standing.Trial.{Trial}
 use Rattle.dfu_trial.specs.declared.standing.Settled.{Settled}
 use Rattle.dfu_trial.specs.declared.standing.Standing.{Standing}
@@ -23,6 +23,8 @@ pub data TrialEvent : Type 0 where
   Confirms : (at : ℕ) → TrialEvent
   -- A trial ends.
   Ends : TrialEvent
+  -- An upload begins, and gives this image; None if it is stalled, since the trial that was to end goes on.
+  Uploads : (given : Option (List ℕ)) → TrialEvent
   -- A download of this image goes on, to whatever point.
   Downloads : (image : List ℕ) → TrialEvent
 
@@ -41,6 +43,11 @@ abbrev pub ConfirmedBy : MediumState → Confirmation → MediumState → Type 0
 ConfirmedBy m (confirm.By operation) now = Carried m operation now
 ConfirmedBy m confirm.Confirmed now = now ≡ m
 ConfirmedBy m confirm.Elsewhere now = now ≡ m
+
+-- What an upload gives, unless it is stalled: the image that the next start is to run.
+abbrev pub GivenBy : MediumState → ℕ → Option (List ℕ) → Type 0
+GivenBy now tries None = Unit {0}
+GivenBy now tries (Some image) = IsNext now tries image
 
 -- The image that is written is not put in place: the confirmed one in the first slot is the newest. Or it is: it is the newest, and no mark
 -- of its slot is set, since the sector of its header was erased before that was written.
@@ -65,6 +72,7 @@ TrialGoes tries m (Starts ran) now = (s : Standing) × IsStanding m tries s × C
     × RanBy (start_of m.grain tries s) now ran
 TrialGoes tries m (Confirms at) now = (s : Standing) × IsStanding m tries s × ConfirmedBy m (confirm_of m.grain s at) now
 TrialGoes tries m Ends now = (s : Standing) × IsStanding m tries s × CarriedIf m (end_of s) now
+TrialGoes tries m (Uploads given) now = (s : Standing) × IsStanding m tries s × CarriedIf m (upload_of tries s) now × GivenBy now tries given
 TrialGoes tries m (Downloads image) now = IsDownload m tries image now
 
 -- Such things came one after another, in any order.
@@ -96,6 +104,12 @@ MayStart tries (Tried base image runs) now (Some slot) next =
     ((image_at now slot ≡ image) × (runs < tries) × (next ≡ Tried base image (runs + 1)))
     ⊎ ((image_at now slot ≡ base) × IsOnOrBack base image runs next)
 
+-- What an upload gives is the confirmed image if nothing is on trial, or that on trial, of which a start is left.
+abbrev pub MayGive : ℕ → Option (List ℕ) → Trust → Type 0
+MayGive tries None next = Unit {0}
+MayGive tries (Some image) (Alone base) = image ≡ base
+MayGive tries (Some image) (Tried base new runs) = (image ≡ new) × (runs < tries)
+
 -- What may become of the images by what comes. Only a download brings an image on trial, with no run of it; so one whose trial ended runs
 -- no more unless it comes again.
 abbrev pub MayBecome : ℕ → Trust → TrialEvent → MediumState → Trust → Type 0
@@ -104,6 +118,8 @@ MayBecome tries (Alone base) (Confirms at) now next = next ≡ Alone base
 MayBecome tries (Tried base image runs) (Confirms at) now next = (next ≡ Tried base image runs) ⊎ (next ≡ Alone image)
 MayBecome tries (Alone base) Ends now next = next ≡ Alone base
 MayBecome tries (Tried base image runs) Ends now next = IsOnOrBack base image runs next
+MayBecome tries (Alone base) (Uploads given) now next = (next ≡ Alone base) × MayGive tries given next
+MayBecome tries (Tried base image runs) (Uploads given) now next = IsOnOrBack base image runs next × MayGive tries given next
 MayBecome tries (Alone base) (Downloads new) now next = (next ≡ Alone base) ⊎ (next ≡ Tried base new 0)
 MayBecome tries (Tried base image runs) (Downloads new) now next = ⊥
 

@@ -1,7 +1,7 @@
 //! How a trial ends.
 ghost use Rattle.std.specs.Prelude.{◌≡◌, IfSome};
 ghost use Rattle.dfu_trial.specs.Marks.{AreTries};
-ghost use Rattle.dfu_trial.specs.Calls.{IsStanding, IsTaken, end_of};
+ghost use Rattle.dfu_trial.specs.Calls.{IsStanding, IsTaken, end_of, upload_of};
 
 use crate::{Operation, Standing};
 use dfu_slots::Medium;
@@ -20,6 +20,25 @@ impl Standing {
         match self {
             Standing::Settled(_) => None,
             Standing::OnTrial(trial) => Some(Operation::Close(trial.slot)),
+        }
+    }
+    /// Tells what comes before an upload: without a start left the trial ends, as the next start would end it, so that a host reads the
+    /// image that the next start runs. None if nothing is on trial or a start is left. It reads nothing.
+    pub fn upload<M: Medium>(self, _medium: &M, tries: u32) -> Option<Operation>
+        requires tries { AreTries (M.state _medium.now).grain tries }
+        requires stands { IsStanding (M.state _medium.now) tries self }
+        ensures value { result ≡ upload_of tries self }
+        ensures taken { IfSome result (λ operation. IsTaken (M.state _medium.now) operation) }
+    {
+        match self {
+            Standing::Settled(_) => None,
+            Standing::OnTrial(trial) => {
+                if trial.starts < tries {
+                    None
+                } else {
+                    Some(Operation::Close(trial.slot))
+                }
+            }
         }
     }
 }

@@ -3,8 +3,8 @@ ghost use Rattle.std.specs.Prelude.{◌≡◌, ◌⊎◌, ℕ, true, List};
 ghost use Rattle.dfu_slots.specs.Medium.{MediumState};
 ghost use Rattle.dfu_slots.specs.Image.{HasImage};
 ghost use Rattle.dfu_trial.specs.Marks.{AreTries};
-ghost use Rattle.dfu_trial.specs.Calls.{IsStanding, sets, start_of, runs_in};
-ghost use Rattle.dfu_trial.specs.Laws.{Carried, CarriedIf, GoesOn, IsConfirmed, IsBack, Starts};
+ghost use Rattle.dfu_trial.specs.Calls.{IsStanding, sets, start_of, runs_in, upload_of};
+ghost use Rattle.dfu_trial.specs.Laws.{Carried, CarriedIf, GoesOn, IsConfirmed, IsBack, Starts, Uploads, IsNext, RunsOrIsNext};
 ghost use Rattle.dfu_trial.specs.Trial.{image_at};
 ghost use Rattle.dfu_trial.specs.Lists.{TrialStep, CameAll, Trust, Alone, AreTrusted, AllTrusted};
 ghost use Rattle.dfu_trial.specs.declared.standing.Settled.{Settled};
@@ -37,7 +37,18 @@ pub fn a_trial_ends_or_goes_on()
         Carried m (Close t.slot) now → GoesOn m tries t now ⊎ IsBack m t now }
 {}
 
-/// Starts, confirmations, ends and downloads in any order, with whatever becomes of each operation, once an image was confirmed. What runs
+/// An upload, whatever becomes of what it asks for: the next start is to run the image that it gives, or the trial that was to end goes on.
+/// And the start of such an image, whatever becomes of its mark: it runs, or the mark does not read set, and it is still the next one.
+pub fn an_upload_gives_what_starts_next()
+    ensures upload { (m now : MediumState) (tries : ℕ) (s : Standing) → AreTries m.grain tries → IsStanding m tries s →
+        CarriedIf m (upload_of tries s) now → Uploads m tries s now }
+    ensures start { (m now : MediumState) (tries : ℕ) (image : List ℕ) (s : Standing) → AreTries m.grain tries → IsNext m tries image →
+        IsStanding m tries s → CarriedIf m (start_of m.grain tries s).operation now →
+        RunsOrIsNext image tries (start_of m.grain tries s).operation now
+        (runs_in now (start_of m.grain tries s) (start_of m.grain tries s).operation) }
+{}
+
+/// Starts, confirmations, ends, uploads and downloads in any order, with whatever becomes of each operation, once an image was confirmed. What runs
 /// is the image that was confirmed last, or that on trial, fewer than `tries` times before; and some image is active after each.
 pub fn what_was_confirmed_runs_or_the_newest_on_trial()
     ensures first { (m : MediumState) (tries : ℕ) (s : Settled) → IsStanding m tries (AreSettled s) → s.is_confirmed ≡ true →

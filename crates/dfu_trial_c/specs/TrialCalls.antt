@@ -1,6 +1,6 @@
 -- What comes of the calls of a program in C for a trial.
 use Rattle.std.specs.Prelude.{◌≡◌, ℕ, ℤ, pos, List, Some}
-use Rattle.dfu_trial.specs.Calls.{start_of, confirm_of, end_of}
+use Rattle.dfu_trial.specs.Calls.{start_of, confirm_of, end_of, upload_of}
 use Rattle.dfu_trial.specs.declared.standing.Standing.{Standing}
 use Rattle.dfu_trial.specs.declared.confirming.Confirmation.{Confirmation}
 use Rattle.dfu_trial.specs.declared.confirming.Confirmation.TheVariants as confirm
@@ -49,3 +49,9 @@ pub record ToldEnd (t : DfuTries) (flash : List ℕ) (result : ℤ) (before afte
   pub standing : Standing
   pub stands : HasStanding t flash standing
   pub asks : IsTrialAsked t.sector (end_of standing) result before after
+
+-- It is told what comes before an upload.
+pub record ToldUpload (t : DfuTries) (flash : List ℕ) (result : ℤ) (before after : DfuAsk) : Type 0 where
+  pub standing : Standing
+  pub stands : HasStanding t flash standing
+  pub asks : IsTrialAsked t.sector (upload_of t.tries standing) result before after

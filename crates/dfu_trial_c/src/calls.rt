@@ -1,6 +1,6 @@
 //! The calls for a trial, as a program in C makes them: `include/dfu_trial_core.h` says each for a reader of C.
 ghost use Rattle.std.specs.Prelude.{◌≡◌, ◌⊎◌};
-ghost use Rattle.dfu_trial_c.specs.TrialCalls.{RefusesTrial, ToldStanding, ToldStart, ToldConfirm, ToldEnd};
+ghost use Rattle.dfu_trial_c.specs.TrialCalls.{RefusesTrial, ToldStanding, ToldStart, ToldConfirm, ToldEnd, ToldUpload};
 
 use crate::ask::{DfuAsk, tell};
 use crate::flash::looked;
@@ -87,6 +87,25 @@ pub extern "C" fn dfu_core_trial_end(tries: &DfuTries, flash: &[u8], ask: &mut D
     match looked(tries, flash) {
         Ok(looked) => tell(
             looked.standing.end(&looked.medium, tries.tries),
+            tries.sector,
+            ask,
+        ),
+        Err(refusal) => refusal.number(),
+    }
+}
+
+/// What comes before an upload: 0 if it may begin; or -11 if the image on trial has no start left, and `ask` has the operation that ends
+/// the trial.
+///
+/// Refused as `dfu_core_trial_look`.
+#[unsafe(no_mangle)]
+pub extern "C" fn dfu_core_trial_upload(tries: &DfuTries, flash: &[u8], ask: &mut DfuAsk) -> i32
+    ensures outcome { ToldUpload tries.now flash.now result ask.old ask.new
+        ⊎ (RefusesTrial tries.now flash.now result × (ask.new ≡ ask.old)) }
+{
+    match looked(tries, flash) {
+        Ok(looked) => tell(
+            looked.standing.upload(&looked.medium, tries.tries),
             tries.sector,
             ask,
         ),

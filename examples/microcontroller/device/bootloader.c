@@ -38,7 +38,7 @@ static int32_t setup_came(void) {
     size_t stage = setup[0] & 0x80 ? 0 : (size_t)(setup[6] | setup[7] << 8);
     if (stage != (size_t)request.length - FRAME_HEAD - 8)
         return NO_ANSWER;
-    if (TRIES > 0 && trials_download(&device, setup) != 0)
+    if (TRIES > 0 && trials_transfer(&device, setup) != 0)
         return DFU_STALL;
     return checked(dfu_device_serve(&device, setup, body, answer, sizeof answer));
 }

@@ -19,8 +19,8 @@ static const struct dfu_trial trial = {
 /* Where the image begins in the medium that was started last: it runs elsewhere, so that it can't know by itself. */
 static uint32_t started;
 
-int32_t trials_download(struct dfu_device *device, const uint8_t setup[8]) {
-    return dfu_trial_download(&trial, device, setup);
+int32_t trials_transfer(struct dfu_device *device, const uint8_t setup[8]) {
+    return dfu_trial_transfer(&trial, device, setup);
 }
 
 int trials_active(int is_trial_wanted, struct dfu_place *place) {

@@ -5,7 +5,7 @@
 #include "dfu_trial.h"
 
 /* Before a setup is served: 0, or it is to be stalled. */
-int32_t trials_download(struct dfu_device *device, const uint8_t setup[8]);
+int32_t trials_transfer(struct dfu_device *device, const uint8_t setup[8]);
 
 /* The active image, which comes to the run area before a start is marked: 0 if there is none, or if it is not on trial, and only one on
  * trial is wanted. */

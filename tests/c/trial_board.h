@@ -1,0 +1,154 @@
+/* A board that runs new images on trial, in simulated flash whose power may go: at each point of what it does, counted from 0. */
+#include "dfu_host.h"
+#include "dfu_trial.h"
+#include <setjmp.h>
+#include <stdio.h>
+#include <string.h>
+
+enum { SECTOR = 256, CAPACITY = 256, SLOT = 2 * SECTOR + CAPACITY, TRANSFER = 64, LENGTH = 150 };
+enum { BASE = 7, OTHER = 20, PAYLOAD = 33 }; /* the images, by their first bytes */
+enum { NEVER = -1 };
+enum behaviour { QUIET, CONFIRMS, FAULTS, BEHAVIOURS }; /* what the payload does when it runs */
+enum harm { FAILS, LIES, HARMS };
+
+static struct dfu_config config = {.version = DFU_VERSION, .device = 0x0100, .product = 1, .vendor = 0x1209, .detach_ms = 255,
+    .transfer = TRANSFER, .attributes = 7, .least = 1, .unit = 16, .sector = SECTOR};
+static uint8_t part[2 * SLOT], block[TRANSFER], out[TRANSFER];
+static enum behaviour behaviour;
+static int wrong, is_without, is_blind, is_armed;
+
+/* The moments of a session: at which the power goes, or the operation that fails or lies. */
+static long points, cuts[2], operations, harm_at;
+static enum harm harm;
+static jmp_buf power;
+static int lost; /* how often it went */
+
+/* What the board did: the image that its last start ran first, the one that runs, whether it is within a reset by the host, and was as the
+ * power went, how often the payload ran since it was put in place, whether the image before came back since, and whether a mark was harmed. */
+static int is_upgrading, first_ran, running, is_in_reset, was_in_reset, runs, is_back, is_mark_harmed;
+
+static void expect(const char *what, int is);
+
+static int is_now(void) {
+    return lost < 2 && points++ == cuts[lost];
+}
+static void power_goes(void) {
+    was_in_reset = is_in_reset;
+    lost++;
+    longjmp(power, 1);
+}
+static void point(void) {
+    if (is_now())
+        power_goes();
+}
+
+/* One that is cut leaves the front of what was meant, or the back. */
+static int operate(uint32_t kind, uint32_t at, const uint8_t *bytes, uint32_t length) {
+    const int is_mark = kind == DFU_PROGRAM && at % SLOT > SECTOR && at % SLOT < 2 * SECTOR, is_harmed = operations++ == harm_at;
+    if (kind == DFU_ERASE && at % SLOT == SECTOR)
+        runs = is_back = 0; /* another header comes */
+    if (is_harmed) {
+        is_mark_harmed = is_mark;
+        return harm == FAILS;
+    }
+    point();
+    for (uint32_t tear = 0; tear < 2; tear++) {
+        if (!is_now())
+            continue;
+        for (uint32_t i = 0; i < length; i++)
+            if ((i < length / 3) == (tear == 0))
+                part[at + i] = kind == DFU_ERASE ? 0xff : bytes[i];
+        power_goes();
+    }
+    for (uint32_t i = 0; i < length; i++)
+        part[at + i] = kind == DFU_ERASE ? 0xff : bytes[i];
+    point();
+    return 0;
+}
+static int erase(void *own, uint32_t at, uint32_t length) {
+    (void)own;
+    return operate(DFU_ERASE, at, NULL, length);
+}
+static int program(void *own, uint32_t at, const uint8_t *bytes, uint32_t length) {
+    (void)own;
+    return operate(DFU_PROGRAM, at, bytes, length);
+}
+static const struct dfu_driver driver = {NULL, erase, program};
+static struct dfu_device device = {.config = &config, .flash = part, .size = sizeof part, .block = block, .most = sizeof block,
+    .driver = &driver};
+static struct dfu_trial trial = {.flash = part, .size = sizeof part, .driver = &driver, .tries = {16, SECTOR, 2}};
+
+static void fill(uint8_t *image, int number) {
+    for (int i = 0; i < LENGTH; i++)
+        image[i] = (uint8_t)(number + 7 * i);
+}
+static int number_of(const struct dfu_place *place) {
+    uint8_t image[LENGTH];
+    fill(image, part[place->at]);
+    return place->length == LENGTH && memcmp(part + place->at, image, LENGTH) == 0 ? part[place->at] : -1;
+}
+
+/* An image runs. */
+static void run(const struct dfu_place *place) {
+    struct dfu_standing standing;
+    running = number_of(place);
+    expect("one of the images starts", running == BASE || running == OTHER || running == PAYLOAD);
+    if (running == PAYLOAD && is_armed && behaviour != CONFIRMS) {
+        runs++;
+        expect("the payload starts at most so many times", runs <= (int)trial.tries.tries);
+        expect("the payload does not start again once its trial ended", !is_back);
+    }
+    is_back |= running == BASE && dfu_trial_look(&trial, &standing) == 0 && standing.on_trial == 0;
+    if (running == PAYLOAD && behaviour == CONFIRMS)
+        dfu_trial_accept(&trial, place->at);
+}
+/* The processor begins as the application: an image is started. After a fault it begins again. */
+static void start(void) {
+    struct dfu_place place = {0, 0};
+    is_upgrading = 0, first_ran = 0;
+    do {
+        memset(&device.record, 0xa5, sizeof device.record);
+        expect("some image starts", dfu_trial_boot(&trial, &place) == 0);
+        expect("the device gets power", dfu_device_power_on(&device) == 0);
+        point();
+        run(&place);
+        if (first_ran == 0)
+            first_ran = running;
+    } while (running == PAYLOAD && behaviour == FAULTS);
+}
+/* What runs is as the state says: each change of it is a reset of the processor. */
+static void go_on(void) {
+    const int is_upgrade = dfu_device_state(&device) > DFU_STATE_APP_DETACH;
+    if (is_upgrade == is_upgrading)
+        return;
+    if (!is_upgrade) {
+        start();
+        return;
+    }
+    is_upgrading = 1;
+    expect("the upgrade begins", dfu_device_begin(&device) == 0);
+}
+static int32_t serve(const uint8_t setup[8], const uint8_t *body) {
+    const int is_passed_by = is_without && setup[1] == DFU_UPLOAD;
+    if (!is_passed_by && dfu_trial_transfer(&trial, &device, setup) != 0)
+        return DFU_STALL;
+    return dfu_device_serve(&device, setup, body, out, sizeof out);
+}
+
+/* Whether the payload is the next image to be started: it is active, and on trial with a start left. */
+static int is_next(void) {
+    struct dfu_standing s;
+    return dfu_trial_look(&trial, &s) == 0 && number_of(&s.active) == PAYLOAD && s.on_trial == 1 && s.left > 0;
+}
+/* How many starts are marked in the second slot, to which every new image comes beside a confirmed one. */
+static uint32_t spent(void) {
+    const uint32_t size = config.unit > 16 ? config.unit : 16;
+    uint32_t count = 0;
+    for (uint32_t i = 1; i <= trial.tries.tries; i++) {
+        int is_set = 0;
+        for (uint32_t j = 0; j < size; j++)
+            is_set |= part[SLOT + SECTOR + (i + 1) * size + j] != 0xff;
+        count += (uint32_t)is_set;
+    }
+    return count;
+}
