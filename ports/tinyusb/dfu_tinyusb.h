@@ -5,18 +5,39 @@
  *
  * It is the program's one DFU interface, with one setting and no endpoint. Compile dfu_tinyusb.c beside TinyUSB and libdfu_device.
  *
- *     static struct dfu_device dfu = {..};        as dfu_device.h has it, with a driver for the flash
- *     dfu_device_power_on(&dfu) or dfu_device_begin(&dfu)
- *     dfu_tinyusb_start(&dfu)                     before tud_init
- *     for (;;) {
- *         tud_task();                             requests are answered, and the flash is erased and written, in here
- *         dfu_tinyusb_task(milliseconds());
- *         if (dfu_tinyusb_leaves()) {             a device with bitWillDetach: it comes back in DFU mode
- *             tud_disconnect();
- *             wait 100 ms or more
- *             tud_connect();
+ *     extern struct dfu_device dfu;               // as dfu_device.h has it, with a driver for the flash
+ *     bool is_asked(void);                        // whether a button is held, or the application has set its flag
+ *     void start_image(void);                     // the active image (docs/PORTING.md, step 7)
+ *     void restart(void);                         // resets the processor
+ *     void wait_ms(uint32_t ms);
+ *     uint32_t milliseconds(void);
+ *
+ *     int main(void) {
+ *         bool upgrades = false;
+ *         if (dfu_device_power_on(&dfu) == 0 && !is_asked())
+ *             start_image();                      // it comes back if there is none that can be started
+ *         if (dfu_device_begin(&dfu) != 0 || dfu_tinyusb_start(&dfu) != 0)
+ *             return 1;                           // DFU_NO_MEDIUM is a new board: dfu_device_format first
+ *         tud_init(0);
+ *         for (;;) {
+ *             tud_task();                         // requests are answered, and the flash is erased and written, in here
+ *             dfu_tinyusb_task(milliseconds());
+ *             if (dfu_tinyusb_protocol() == 2) {
+ *                 upgrades = true;
+ *             } else if (upgrades) {              // the host reset the bus: the upgrade is over
+ *                 tud_disconnect();
+ *                 restart();
+ *             }
+ *             if (dfu_tinyusb_leaves()) {
+ *                 tud_disconnect();
+ *                 wait_ms(100);
+ *                 tud_connect();
+ *             }
  *         }
  *     }
+ *
+ * That is a bootloader. A program that is its own application begins with dfu_device_power_on in place of dfu_device_begin, and starts no
+ * image before the loop; it leaves with bitWillDetach, to come back in DFU mode.
  *
  * The descriptors are the program's (dfu_tinyusb_descriptors.h): of run-time mode or of DFU mode, as dfu_tinyusb_protocol says when they
  * are asked for. All calls but dfu_tinyusb_event come from the task that calls tud_task, which wants DFU_STACK bytes of stack and

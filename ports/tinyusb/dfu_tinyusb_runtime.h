@@ -4,14 +4,22 @@
  * @brief A class driver of TinyUSB (0.18 or later) over dfu_runtime.h: run-time mode of an application, whose bootloader is another
  *        program. No library is linked. Compile dfu_tinyusb_runtime.c beside TinyUSB, and not dfu_tinyusb.c.
  *
- *     static struct dfu_runtime dfu = {.detach_ms = 1000, .interface_number = 2, .attributes = 15};
- *     dfu_tinyusb_runtime_start(&dfu)             before tud_init
- *     for (;;) {
- *         tud_task();
- *         dfu_tinyusb_task(milliseconds());
- *         if (dfu_tinyusb_leaves()) {
- *             tud_disconnect();
- *             set the bootloader's flag, and restart after 100 ms or more; it begins with dfu_device_begin
+ *     void to_bootloader(void);                   // sets its flag, and resets the processor; it begins with dfu_device_begin
+ *     void wait_ms(uint32_t ms);
+ *     uint32_t milliseconds(void);
+ *
+ *     int main(void) {
+ *         static struct dfu_runtime dfu = {.detach_ms = 1000, .interface_number = 2, .attributes = 15};
+ *         dfu_tinyusb_runtime_start(&dfu);
+ *         tud_init(0);
+ *         for (;;) {
+ *             tud_task();
+ *             dfu_tinyusb_task(milliseconds());
+ *             if (dfu_tinyusb_leaves()) {
+ *                 tud_disconnect();
+ *                 wait_ms(100);
+ *                 to_bootloader();
+ *             }
  *         }
  *     }
  *

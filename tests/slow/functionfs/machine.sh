@@ -1,4 +1,4 @@
-# How tests/slow/linux-gadget makes a machine of QEMU, and runs it; it reads this file.
+# How tests/slow/linux-gadget, linux-usb and tinyusb make a machine of QEMU, and run it; they read this file.
 # shellcheck shell=sh disable=SC2154
 
 # choose PROCESSOR: what it is called elsewhere, its packages in $packages, and the words of QEMU.
@@ -137,4 +137,18 @@ machine() {
         -drive "file=$work/disk,format=raw,if=virtio,cache=writethrough" \
         -drive "file=$work/log,format=raw,if=virtio,cache=unsafe" \
         -append "console=$console quiet panic=-1 part=$1" < /dev/null > "$work/said" 2>&1
+}
+
+# used: the processor's time that the machine $emulator has had, in hundredths of a second.
+used() {
+    sed 's/.*) //' "/proc/$emulator/stat" 2> /dev/null | awk '{ used = $12 + $13 } END { print used + 0 }'
+}
+# run_on: it runs for a while of chance, up to 0.65 s of a processor's time, in a minute at most: other work of this computer makes the
+# while longer, and the machine does as much in it.
+run_on() {
+    ends=$(($(used) + $(od -An -N2 -tu2 /dev/urandom | tr -d ' ') / 1000)) waits=0
+    while [ "$(used)" -lt "$ends" ] && [ "$waits" -lt 3000 ]; do
+        sleep 0.02
+        waits=$((waits + 1))
+    done
 }

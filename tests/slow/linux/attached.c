@@ -212,8 +212,8 @@ int main(int count, char **words)
             usleep(50000);
             continue;
         }
-        struct pollfd wait = { .fd = line, .events = POLLIN };
-        bool is_ready = poll(&wait, 1, 1) > 0, is_there = true;
+        struct pollfd wait = { .fd = line, .events = POLLIN }; /* (a request comes at once; what comes by time may be 20 ms late) */
+        bool is_ready = poll(&wait, 1, 20) > 0, is_there = true;
         bus_pass_time();
         if (is_ready && bus_generation() == generation)
             is_there = serve();

@@ -1,5 +1,5 @@
-/* An application with the run-time driver of ports/tinyusb at Linux's raw-gadget: application FLASH. It becomes the program `board`, which
- * begins in dfuIDLE, once a host has sent it there. */
+/* An application with the run-time driver of ports/tinyusb at Linux's raw-gadget: application FLASH. It becomes the program BOOTLOADER, or
+ * `board`, which begins in dfuIDLE, once a host has sent it there. */
 #define _GNU_SOURCE
 #include "board.h"
 #include "dfu_tinyusb_runtime.h"
@@ -27,7 +27,7 @@ int main(int count, char **words)
         if (dfu_tinyusb_leaves()) {
             tud_disconnect();
             setenv("DFU_MODE", "1", 1);
-            board_become("./board", words[1]);
+            board_become(getenv("BOOTLOADER") != NULL ? getenv("BOOTLOADER") : "./board", words[1]);
         }
         board_wait();
     }

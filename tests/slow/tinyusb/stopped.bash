@@ -29,7 +29,7 @@ begin() {
 stops() {
     begin
     for ((looked = 0; looked < $1; looked++)); do
-        sleep "0.$(od -An -N2 -tu2 /dev/urandom | tr -d ' ')"
+        run_on
         kill -STOP "$emulator" 2> /dev/null || break
         cp "$work/disk" "$work/copy"
         kill -CONT "$emulator"

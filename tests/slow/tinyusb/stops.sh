@@ -7,7 +7,7 @@ start 'DFU_MODE=1 ATTRIBUTES=07 ERASE_MS=4 BUSY=1 TRANSFER=1024'
 echo 'begins'
 turn=0
 while :; do
-    for name in one two; do
+    for name in two one; do
         is_back
         ./dfu-flash --no-verify $name.dfu > out 2> errors || echo "    $turn $name: $(tail -n 1 out) $(tail -n 1 errors)"
         turn=$((turn + 1))

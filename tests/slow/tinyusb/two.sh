@@ -29,6 +29,14 @@ for attributes in 0f 07 03 0b 05 01; do
     session $flash "ATTRIBUTES=$attributes" ./dfu-flash --quiet two.dfu
     session $util "ATTRIBUTES=$attributes" dfu-util -D two.dfu
 done
+# The loop that dfu_tinyusb.h shows.
+program=./shown BOOTLOADER=./shown
+export BOOTLOADER
+session 0 ATTRIBUTES=07 ./dfu-flash --quiet two.dfu
+session 0 ATTRIBUTES=0f ./dfu-flash --quiet two.dfu
+row 'the loop is restarted after the upgrade' 1 "$(told 'becomes ./shown')"
+session 0 ATTRIBUTES=07 dfu-util -D two.dfu
+program=./board BOOTLOADER=./board
 # Requests in run-time mode.
 start ATTRIBUTES=07
 asked 000000000000 a103000000000600
