@@ -1,8 +1,12 @@
-use Rattle.std.proofs.Common.{refl, length}
+use Rattle.std.proofs.Common.{refl, length, rules}
 use Rattle.dfu_board.specs.Steps.{board}
 use Rattle.dfu_board_sim.specs.Standing.{board_of}
 use Rattle.dfu_board_sim.proofs.Resting.{room_on, took_as}
+use Rattle.dfu_asks.proofs.Room.{has_room}
 use Rattle.dfu_board_sim.proofs.calls.took.Goals as goal
+
+pub took-requires : goal.took-requires
+took-requires c = has_room c.args.chip.now.asking.unit c.args.chip.now.held (search rules)
 
 pub returns-clause-took : goal.returns-clause-took
 returns-clause-took c = λ p tried.
