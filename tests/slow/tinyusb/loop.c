@@ -28,7 +28,7 @@ uint32_t tusb_time_millis_api(void)
 void board_log(const char *format, ...)
 {
     va_list words;
-    if (out == NULL)
+    if (out == NULL && (getenv("LOG") == NULL || (out = fopen(getenv("LOG"), "ae")) == NULL))
         return;
     va_start(words, format);
     fprintf(out, "%u ", now_ms());
@@ -41,8 +41,6 @@ void board_log(const char *format, ...)
 void board_begin(void)
 {
     const tusb_rhport_init_t init = {.role = TUSB_ROLE_DEVICE, .speed = TUSB_SPEED_HIGH};
-    if (getenv("LOG") != NULL)
-        out = fopen(getenv("LOG"), "ae");
     sem_init(&wake, 0, 0);
     if (!tusb_rhport_init(0, &init))
         exit(1);

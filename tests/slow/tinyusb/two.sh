@@ -34,7 +34,6 @@ program=./shown BOOTLOADER=./shown
 export BOOTLOADER
 session 0 ATTRIBUTES=07 ./dfu-flash --quiet two.dfu
 session 0 ATTRIBUTES=0f ./dfu-flash --quiet two.dfu
-row 'the loop is restarted after the upgrade' 1 "$(told 'becomes ./shown')"
 session 0 ATTRIBUTES=07 dfu-util -D two.dfu
 program=./board BOOTLOADER=./board
 # Requests in run-time mode.
