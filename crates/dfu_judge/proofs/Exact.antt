@@ -1,55 +1,20 @@
 -- The step of a judge is exact: it holds a device where some run of it ends.
-use Rattle.std.specs.Prelude.{◌≡◌, ◌⊎◌, ◌↔◌, ℕ, ◌==◌, ◌&&◌, ◌||◌, Bool, true, List, [], ◌∷◌, ◌++◌}
+use Rattle.std.specs.Prelude.{◌≡◌, ◌⊎◌, ◌↔◌, ℕ, ◌&&◌, ◌||◌, Bool, true, List, [], ◌∷◌, ◌++◌}
 use Rattle.std.specs.List.{list_any}
 use Rattle.std.proofs.Common.{refl, sym, ap, ◌∙◌, inl, inr}
-use Rattle.std.proofs.lemmas.Bool.{or_cases, or_left, or_right, and_parts, and_from, eq-eqb, eqb-true}
-use Rattle.std.proofs.lemmas.List.Folds.{Any-from_list_any, list_any-from_Any}
+use Rattle.std.proofs.lemmas.Bool.{or_cases, or_left, or_right, and_parts, and_from}
 use Rattle.dfu_judge.specs.declared.place.Place.{Place}
 use Rattle.dfu_judge.specs.declared.row.Row.{Row}
-use Rattle.dfu_judge.specs.declared.row.Drift.{Drift}
 use Rattle.dfu_judge.specs.declared.event.Event.{Event}
 use Rattle.dfu_judge.specs.declared.standard.TheConstants.{STANDARD}
 use Rattle.dfu_judge.specs.declared.marks.TheConstants.{MARKS}
 use Rattle.dfu_judge.specs.declared.habits.TheConstants.{HABITS}
 use Rattle.dfu_judge.specs.declared.drifts.TheConstants.{DRIFTS}
-use Rattle.dfu_judge.specs.Fits.{place_number, stays}
-use Rattle.dfu_judge.specs.Held.{meets, stands}
-use Rattle.dfu_judge.specs.MayAnswer.{GoesBy, MayAnswer, MovesBy, MayMove, Run, ComesTo}
-use Rattle.dfu_judge.proofs.Places.{same_place}
+use Rattle.dfu_judge.specs.Fits.{stays}
+use Rattle.dfu_judge.specs.Held.{stands}
+use Rattle.dfu_judge.specs.MayAnswer.{GoesBy, MayAnswer, MayMove, Run, ComesTo}
+use Rattle.dfu_judge.proofs.Goings.{goes_by, led_by, moves_by, moved_by}
 use Rattle.dfu_judge.specs.inside.Stepped.{leads, answered, stepped}
-
--- A row that leads there is one by which a device goes.
-goes_by : (rows : List Row) (held : List (List ℕ)) (e : Event) (n : Place) (a r : ℕ) → list_any (leads held e n a r) rows ≡ true
-    → (p : Place) × (stands held p a r ≡ true) × GoesBy rows a r p e n
-goes_by rows held e n a r some =
-    let (k, row, in', is, led) = Any-from_list_any (leads held e n a r) rows some in
-    let there = and_parts _ _ led in
-    let speaks = and_parts _ _ there.1 in
-    let from = and_parts _ _ speaks.1 in (
-      row.from,
-      from.0,
-      record {
-        row = row;
-        listed = (k, in', is);
-        begins = refl;
-        ends = same_place row.next n (eqb-true _ _ there.0);
-        speaks = speaks.0;
-        of_it = from.1;
-      },
-    )
-
--- Where a device goes by a row, the row leads there.
-led_by : (rows : List Row) (held : List (List ℕ)) (e : Event) (p n : Place) (a r : ℕ) → stands held p a r ≡ true → GoesBy rows a r p e n
-    → list_any (leads held e n a r) rows ≡ true
-led_by rows held e p n a r is g =
-    list_any-from_Any (leads held e n a r) rows (
-      g.listed.0,
-      g.row,
-      g.listed.1,
-      g.listed.2,
-      and_from _ _ (eq-eqb _ _ (ap place_number g.ends)) (and_from _ _ g.speaks (and_from _ _ (ap (λ
-          (q : Place). stands held q a r) g.begins ∙ is) g.of_it)),
-    )
 
 -- Some row of three lists leads there, or the device stays.
 abbrev led_of : (s m h : List Row) (held : List (List ℕ)) (e : Event) (n : Place) (a r : ℕ) → Bool
@@ -64,11 +29,11 @@ MayBy s m h a r p e n = GoesBy s a r p e n ⊎ GoesBy m a r p e n ⊎ GoesBy h a
 led_there : (s m h : List Row) (held : List (List ℕ)) (e : Event) (n : Place) (a r : ℕ) → led_of s m h held e n a r ≡ true
     → (p : Place) × (stands held p a r ≡ true) × MayBy s m h a r p e n
 led_there s m h held e n a r some = elim (or_cases _ _ some) [
-  | inr by_h ↦ let (p, is, g) = goes_by h held e n a r by_h in (p, is, inr (inr (inl g)))
+  | inr by_h ↦ let (p, is, g) = goes_by h (λ (q : Place). stands held q a r) e n a r by_h in (p, is, inr (inr (inl g)))
   | inl some ↦ elim (or_cases _ _ some) [
-    | inr by_m ↦ let (p, is, g) = goes_by m held e n a r by_m in (p, is, inr (inl g))
+    | inr by_m ↦ let (p, is, g) = goes_by m (λ (q : Place). stands held q a r) e n a r by_m in (p, is, inr (inl g))
     | inl some ↦ elim (or_cases _ _ some) [
-      | inr by_s ↦ let (p, is, g) = goes_by s held e n a r by_s in (p, is, inl g)
+      | inr by_s ↦ let (p, is, g) = goes_by s (λ (q : Place). stands held q a r) e n a r by_s in (p, is, inl g)
       | inl stayed ↦ let both = and_parts _ _ stayed in (n, both.1, inr (inr (inr (refl, both.0))))
     ]
   ]
@@ -76,9 +41,9 @@ led_there s m h held e n a r some = elim (or_cases _ _ some) [
 
 led_back : (s m h : List Row) (held : List (List ℕ)) (e : Event) (p n : Place) (a r : ℕ) → stands held p a r ≡ true → MayBy s m h a r p e n
     → led_of s m h held e n a r ≡ true
-led_back s m h held e p n a r is (inl g) = or_left _ _ (or_left _ _ (or_right _ _ (led_by s held e p n a r is g)))
-led_back s m h held e p n a r is (inr (inl g)) = or_left _ _ (or_right _ _ (led_by m held e p n a r is g))
-led_back s m h held e p n a r is (inr (inr (inl g))) = or_right _ _ (led_by h held e p n a r is g)
+led_back s m h held e p n a r is (inl g) = or_left _ _ (or_left _ _ (or_right _ _ (led_by s (λ (q : Place). stands held q a r) e p n a r is g)))
+led_back s m h held e p n a r is (inr (inl g)) = or_left _ _ (or_right _ _ (led_by m (λ (q : Place). stands held q a r) e p n a r is g))
+led_back s m h held e p n a r is (inr (inr (inl g))) = or_right _ _ (led_by h (λ (q : Place). stands held q a r) e p n a r is g)
 led_back s m h held e p n a r is (inr (inr (inr (same, stay)))) =
     or_left _ _ (or_left _ _ (or_left _ _ (and_from _ _ stay (ap (λ (q : Place). stands held q a r) same ∙ is))))
 
@@ -89,41 +54,6 @@ answered_exact held e n a r = (
   led_there STANDARD MARKS HABITS held e n a r,
   λ x. led_back STANDARD MARKS HABITS held e x.0 n a r x.1 x.2,
 )
-
--- A move that leads there is one that a device makes.
-moves_by : (moves : List Drift) (held : Place → Bool) (n : Place) (a r : ℕ)
-    → (held n || list_any (λ (d : Drift). (place_number d.next == place_number n) && (held d.from && meets d.when a r)) moves) ≡ true
-    → (p : Place) × (held p ≡ true) × ((n ≡ p) ⊎ MovesBy moves a r p n)
-moves_by moves held n a r some = elim (or_cases _ _ some) [
-  | inl stayed ↦ (n, stayed, inl refl)
-  | inr moved ↦
-      let (k, row, in', is, led) =
-      Any-from_list_any (λ (d : Drift). (place_number d.next == place_number n) && (held d.from && meets d.when a r)) moves moved in
-      let there = and_parts _ _ led in
-      let from = and_parts _ _ there.1 in (
-        row.from,
-        from.0,
-        inr (record {
-          row = row;
-          listed = (k, in', is);
-          begins = refl;
-          ends = same_place row.next n (eqb-true _ _ there.0);
-          of_it = from.1;
-        }),
-      )
-]
-
-moved_by : (moves : List Drift) (held : Place → Bool) (p n : Place) (a r : ℕ) → held p ≡ true → (n ≡ p) ⊎ MovesBy moves a r p n
-    → (held n || list_any (λ (d : Drift). (place_number d.next == place_number n) && (held d.from && meets d.when a r)) moves) ≡ true
-moved_by moves held p n a r is (inl same) = or_left _ _ (ap held same ∙ is)
-moved_by moves held p n a r is (inr m) =
-    or_right _ _ (list_any-from_Any (λ (d : Drift). (place_number d.next == place_number n) && (held d.from && meets d.when a r)) moves (
-      m.listed.0,
-      m.row,
-      m.listed.1,
-      m.listed.2,
-      and_from _ _ (eq-eqb _ _ (ap place_number m.ends)) (and_from _ _ (ap held m.begins ∙ is) m.of_it),
-    ))
 
 -- One event more: a run ends where the device was held, was led, and moved.
 pub stepped_exact : (held : List (List ℕ)) (e : Event) (n : Place) (a r : ℕ)

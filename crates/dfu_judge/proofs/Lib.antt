@@ -2,10 +2,11 @@ mod Everywhere
 mod Exact
 mod Fields
 pub mod ForCallers
+pub mod Goings
 mod Joined
 mod Least
 mod Requests
-mod Places
-mod Somewhere
+pub mod Places
+pub mod Somewhere
 mod Verdicts
 mod Words

@@ -11,7 +11,7 @@ use Rattle.dfu_judge.specs.inside.Stepped.{some_below, some_held, anywhere}
 use Rattle.dfu_judge.proofs.Places.{place_of, number_back, number_below}
 
 -- Where a test passes at a number, it passes at some number.
-some_there : (p : ℕ → Bool) (n k : ℕ) → k < n → p k ≡ true → some_below p n ≡ true
+pub some_there : (p : ℕ → Bool) (n k : ℕ) → k < n → p k ≡ true → some_below p n ≡ true
 some_there p zero k below is_so = absurd (omega arith)
 some_there p (suc n) k below is_so = elim (cases_eq k n) [
   | inl same ↦ or_right _ _ (ap p (sym same) ∙ is_so)
@@ -19,7 +19,7 @@ some_there p (suc n) k below is_so = elim (cases_eq k n) [
 ]
 
 -- Where a test passes at some number, there is one.
-some_from : (p : ℕ → Bool) (n : ℕ) → some_below p n ≡ true → (k : ℕ) × (k < n) × (p k ≡ true)
+pub some_from : (p : ℕ → Bool) (n : ℕ) → some_below p n ≡ true → (k : ℕ) × (k < n) × (p k ≡ true)
 some_from p zero is_so = absurd cc
 some_from p (suc n) is_so = elim (or_cases (some_below p n) (p n) is_so) [
   | inl before ↦ let (k, below, passes) = some_from p n before in (k, omega arith, passes)

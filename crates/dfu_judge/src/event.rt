@@ -107,7 +107,7 @@ fn has_numbers(request: &Request, value: u16) -> bool
 }
 
 /// Whether a row speaks of an event: of what was asked, and of what was seen.
-pub(crate) fn speaks_of(row: &Row, event: &Event) -> bool
+pub fn speaks_of(row: &Row, event: &Event) -> bool
     ensures { result ≡ fits row.now event.now }
 {
     is_asked(row.asked, event) && is_shown(row, event)

@@ -45,7 +45,7 @@ mod whole;
 
 pub use asked::Asked;
 pub use drifts::DRIFTS;
-pub use event::{Answer, Event};
+pub use event::{Answer, Event, speaks_of};
 pub use habits::HABITS;
 pub use judge::Judge;
 pub use log::{Line, LineFault, read_line, why_unread};

@@ -1,57 +1,20 @@
 -- The step of a judge is exact: a device may stand where some run of it ends.
-use Rattle.std.specs.Prelude.{◌≡◌, ◌⊎◌, ◌↔◌, ℕ, ◌==◌, ◌&&◌, ◌||◌, Bool, true, List, [], ◌∷◌, ◌++◌}
+use Rattle.std.specs.Prelude.{◌≡◌, ◌⊎◌, ◌↔◌, ◌&&◌, ◌||◌, Bool, true, List, [], ◌∷◌, ◌++◌}
 use Rattle.std.specs.List.{list_any}
 use Rattle.std.proofs.Common.{refl, sym, ap, ◌∙◌, inl, inr}
-use Rattle.std.proofs.lemmas.Bool.{or_cases, or_left, or_right, and_parts, and_from, eq-eqb, eqb-true}
-use Rattle.std.proofs.lemmas.List.Folds.{Any-from_list_any, list_any-from_Any}
+use Rattle.std.proofs.lemmas.Bool.{or_cases, or_left, or_right, and_parts, and_from}
 use Rattle.dfu_judge.specs.declared.place.Place.{Place}
 use Rattle.dfu_judge.specs.declared.row.Row.{Row}
-use Rattle.dfu_judge.specs.declared.row.Drift.{Drift}
 use Rattle.dfu_judge.specs.declared.event.Event.{Event}
 use Rattle.dfu_judge.specs.declared.standard.TheConstants.{STANDARD}
 use Rattle.dfu_judge.specs.declared.marks.TheConstants.{MARKS}
 use Rattle.dfu_judge.specs.declared.habits.TheConstants.{HABITS}
 use Rattle.dfu_judge.specs.declared.drifts.TheConstants.{DRIFTS}
-use Rattle.dfu_judge.specs.Fits.{place_number}
-use Rattle.dfu_judge.specs.MayAnswer.{MovesBy}
 use Rattle.dfuse_judge.specs.declared.rows.TheConstants.{DFUSE}
-use Rattle.dfuse_judge.specs.Runs.{dfuse_attributes, dfuse_habits, of_dfuse, rests, DfuseAnswer, DfuseRun, DfuseComesTo, GoesByDfuse, MayMoveDfuse}
+use Rattle.dfuse_judge.specs.Runs.{dfuse_attributes, dfuse_habits, rests, DfuseAnswer, DfuseRun, DfuseComesTo, GoesByDfuse, MayMoveDfuse}
 use Rattle.dfuse_judge.specs.Verdicts.{may_stand}
 use Rattle.dfuse_judge.specs.inside.Stepped.{leads_to, led_or_rests, after_event}
-use Rattle.dfuse_judge.proofs.Places.{same_place}
-
--- A row that leads there is one by which a device goes.
-goes_by : (rows : List Row) (at : List Bool) (e : Event) (n : Place) → list_any (leads_to at e n) rows ≡ true
-    → (p : Place) × (may_stand at p ≡ true) × GoesByDfuse rows p e n
-goes_by rows at e n some =
-    let (k, row, in', is, led) = Any-from_list_any (leads_to at e n) rows some in
-    let there = and_parts _ _ led in
-    let speaks = and_parts _ _ there.1 in
-    let from = and_parts _ _ speaks.1 in (
-      row.from,
-      from.0,
-      record {
-        row = row;
-        listed = (k, in', is);
-        begins = refl;
-        ends = same_place row.next n (eqb-true _ _ there.0);
-        speaks = speaks.0;
-        of_it = from.1;
-      },
-    )
-
--- Where a device goes by a row, the row leads there.
-led_by : (rows : List Row) (at : List Bool) (e : Event) (p n : Place) → may_stand at p ≡ true → GoesByDfuse rows p e n
-    → list_any (leads_to at e n) rows ≡ true
-led_by rows at e p n is g =
-    list_any-from_Any (leads_to at e n) rows (
-      g.listed.0,
-      g.row,
-      g.listed.1,
-      g.listed.2,
-      and_from _ _ (eq-eqb _ _ (ap place_number g.ends)) (and_from _ _ g.speaks (and_from _ _ (ap (λ
-          (q : Place). may_stand at q) g.begins ∙ is) g.of_it)),
-    )
+use Rattle.dfu_judge.proofs.Goings.{goes_by, led_by, moves_by, moved_by}
 
 -- Some row of four lists leads there, or the device stays.
 abbrev led_of : (s m h d : List Row) (at : List Bool) (e : Event) (n : Place) → Bool
@@ -68,13 +31,13 @@ MayBy s m h d p e n =
 led_there : (s m h d : List Row) (at : List Bool) (e : Event) (n : Place) → led_of s m h d at e n ≡ true
     → (p : Place) × (may_stand at p ≡ true) × MayBy s m h d p e n
 led_there s m h d at e n some = elim (or_cases _ _ some) [
-  | inr by_d ↦ let (p, is, g) = goes_by d at e n by_d in (p, is, inr (inr (inr (inl g))))
+  | inr by_d ↦ let (p, is, g) = goes_by d (may_stand at) e n dfuse_attributes dfuse_habits by_d in (p, is, inr (inr (inr (inl g))))
   | inl some ↦ elim (or_cases _ _ some) [
-    | inr by_h ↦ let (p, is, g) = goes_by h at e n by_h in (p, is, inr (inr (inl g)))
+    | inr by_h ↦ let (p, is, g) = goes_by h (may_stand at) e n dfuse_attributes dfuse_habits by_h in (p, is, inr (inr (inl g)))
     | inl some ↦ elim (or_cases _ _ some) [
-      | inr by_m ↦ let (p, is, g) = goes_by m at e n by_m in (p, is, inr (inl g))
+      | inr by_m ↦ let (p, is, g) = goes_by m (may_stand at) e n dfuse_attributes dfuse_habits by_m in (p, is, inr (inl g))
       | inl some ↦ elim (or_cases _ _ some) [
-        | inr by_s ↦ let (p, is, g) = goes_by s at e n by_s in (p, is, inl g)
+        | inr by_s ↦ let (p, is, g) = goes_by s (may_stand at) e n dfuse_attributes dfuse_habits by_s in (p, is, inl g)
         | inl stayed ↦ let both = and_parts _ _ stayed in (n, both.1, inr (inr (inr (inr (refl, both.0)))))
       ]
     ]
@@ -83,10 +46,10 @@ led_there s m h d at e n some = elim (or_cases _ _ some) [
 
 led_back : (s m h d : List Row) (at : List Bool) (e : Event) (p n : Place) → may_stand at p ≡ true → MayBy s m h d p e n
     → led_of s m h d at e n ≡ true
-led_back s m h d at e p n is (inl g) = or_left _ _ (or_left _ _ (or_left _ _ (or_right _ _ (led_by s at e p n is g))))
-led_back s m h d at e p n is (inr (inl g)) = or_left _ _ (or_left _ _ (or_right _ _ (led_by m at e p n is g)))
-led_back s m h d at e p n is (inr (inr (inl g))) = or_left _ _ (or_right _ _ (led_by h at e p n is g))
-led_back s m h d at e p n is (inr (inr (inr (inl g)))) = or_right _ _ (led_by d at e p n is g)
+led_back s m h d at e p n is (inl g) = or_left _ _ (or_left _ _ (or_left _ _ (or_right _ _ (led_by s (may_stand at) e p n dfuse_attributes dfuse_habits is g))))
+led_back s m h d at e p n is (inr (inl g)) = or_left _ _ (or_left _ _ (or_right _ _ (led_by m (may_stand at) e p n dfuse_attributes dfuse_habits is g)))
+led_back s m h d at e p n is (inr (inr (inl g))) = or_left _ _ (or_right _ _ (led_by h (may_stand at) e p n dfuse_attributes dfuse_habits is g))
+led_back s m h d at e p n is (inr (inr (inr (inl g)))) = or_right _ _ (led_by d (may_stand at) e p n dfuse_attributes dfuse_habits is g)
 led_back s m h d at e p n is (inr (inr (inr (inr (same, stay))))) =
     or_left _ _ (or_left _ _ (or_left _ _ (or_left _ _ (and_from _ _ stay (ap (λ (q : Place). may_stand at q) same ∙ is)))))
 
@@ -98,54 +61,15 @@ answered_exact at e n = (
   λ x. led_back STANDARD MARKS HABITS DFUSE at e x.0 n x.1 x.2,
 )
 
--- A move that leads there is one that a device makes.
-moves_by : (moves : List Drift) (held : Place → Bool) (n : Place)
-    → (held n || list_any (λ (d : Drift). (place_number d.next == place_number n) && (held d.from && of_dfuse d.when)) moves)
-    ≡ true → (p : Place) × (held p ≡ true) × ((n ≡ p) ⊎ MovesBy moves dfuse_attributes dfuse_habits p n)
-moves_by moves held n some = elim (or_cases _ _ some) [
-  | inl stayed ↦ (n, stayed, inl refl)
-  | inr moved ↦
-      let (k, row, in', is, led) =
-      Any-from_list_any (λ (d : Drift). (place_number d.next == place_number n) && (held d.from && of_dfuse d.when)) moves
-      moved in
-      let there = and_parts _ _ led in
-      let from = and_parts _ _ there.1 in (
-        row.from,
-        from.0,
-        inr (record {
-          row = row;
-          listed = (k, in', is);
-          begins = refl;
-          ends = same_place row.next n (eqb-true _ _ there.0);
-          of_it = from.1;
-        }),
-      )
-]
-
-moved_by : (moves : List Drift) (held : Place → Bool) (p n : Place) → held p ≡ true
-    → (n ≡ p) ⊎ MovesBy moves dfuse_attributes dfuse_habits p n
-    → (held n || list_any (λ (d : Drift). (place_number d.next == place_number n) && (held d.from && of_dfuse d.when)) moves)
-    ≡ true
-moved_by moves held p n is (inl same) = or_left _ _ (ap held same ∙ is)
-moved_by moves held p n is (inr m) =
-    or_right _ _ (list_any-from_Any (λ
-    (d : Drift). (place_number d.next == place_number n) && (held d.from && of_dfuse d.when)) moves (
-      m.listed.0,
-      m.row,
-      m.listed.1,
-      m.listed.2,
-      and_from _ _ (eq-eqb _ _ (ap place_number m.ends)) (and_from _ _ (ap held m.begins ∙ is) m.of_it),
-    ))
-
 -- One event more: a run ends where the device might stand, was led, and moved.
 stepped_exact : (at : List Bool) (e : Event) (n : Place)
     → (after_event at e n ≡ true) ↔ ((p q : Place) × (may_stand at p ≡ true) × DfuseAnswer p e q × MayMoveDfuse q n)
 stepped_exact at e n = (
   λ some.
-      let (q, is, moved) = moves_by DRIFTS (λ (p : Place). led_or_rests at e p) n some in
+      let (q, is, moved) = moves_by DRIFTS (led_or_rests at e) n dfuse_attributes dfuse_habits some in
       let (p, was, may) = (answered_exact at e q).0 is in
       (p, q, was, may, moved),
-  λ x. moved_by DRIFTS (λ (p : Place). led_or_rests at e p) x.1 n ((answered_exact at e x.1).1 (x.0, x.2, x.3)) x.4,
+  λ x. moved_by DRIFTS (led_or_rests at e) x.1 n dfuse_attributes dfuse_habits ((answered_exact at e x.1).1 (x.0, x.2, x.3)) x.4,
 )
 
 -- A run with one event more at its end.

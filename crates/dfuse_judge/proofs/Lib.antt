@@ -1,6 +1,5 @@
 mod Exact
 mod Kept
 mod Passes
-mod Places
 mod Somewhere
 mod Verdicts

@@ -8,8 +8,8 @@ ghost use Rattle.dfuse_judge.specs.Verdicts.{may_stand};
 ghost use Rattle.dfuse_judge.specs.inside.Stepped.{is_somewhere, moves_to, leads_to, after_event};
 
 use crate::rows::DFUSE;
-use crate::speaks::{is_of_dfuse, may_rest, speaks_of};
-use dfu_judge::{DRIFTS, Drift, Event, HABITS, MARKS, Place, Row, STANDARD, When};
+use crate::speaks::{is_of_dfuse, may_rest};
+use dfu_judge::{DRIFTS, Drift, Event, HABITS, MARKS, Place, Row, STANDARD, When, speaks_of};
 
 /// By place, whether a device may stand there.
 pub(crate) type Places = [bool; 12];

@@ -1,5 +1,5 @@
 -- One step of a judge of DfuSe, as it computes.
-use Rattle.std.specs.Prelude.{ℕ, ◌==◌, ◌&&◌, ◌||◌, Bool, false, zero, suc, List, slice_index_or}
+use Rattle.std.specs.Prelude.{ℕ, ◌==◌, ◌&&◌, ◌||◌, Bool, false, List, slice_index_or}
 use Rattle.std.specs.List.{list_any}
 use Rattle.dfu_judge.specs.declared.place.Place.{Place}
 use Rattle.dfu_judge.specs.declared.row.Row.{Row}
@@ -10,6 +10,7 @@ use Rattle.dfu_judge.specs.declared.marks.TheConstants.{MARKS}
 use Rattle.dfu_judge.specs.declared.habits.TheConstants.{HABITS}
 use Rattle.dfu_judge.specs.declared.drifts.TheConstants.{DRIFTS}
 use Rattle.dfu_judge.specs.Fits.{place_number, fits}
+use Rattle.dfu_judge.specs.inside.Stepped.{some_below}
 use Rattle.dfuse_judge.specs.declared.rows.TheConstants.{DFUSE}
 use Rattle.dfuse_judge.specs.Runs.{of_dfuse, rests}
 use Rattle.dfuse_judge.specs.Verdicts.{may_stand}
@@ -38,11 +39,6 @@ then_moved held n =
 abbrev pub after_event : List Bool → Event → Place → Bool
 after_event at e n = then_moved (λ (p : Place). led_or_rests at e p) n
 
--- A test passes at some number below n.
-abbrev pub passes_below : (ℕ → Bool) → ℕ → Bool
-passes_below p zero = false
-passes_below p (suc n) = passes_below p n || p n
-
 -- A device may stand somewhere.
 unfoldable pub is_somewhere : List Bool → Bool
-is_somewhere at = passes_below (λ (n : ℕ). slice_index_or at n false) 12
+is_somewhere at = some_below (λ (n : ℕ). slice_index_or at n false) 12
