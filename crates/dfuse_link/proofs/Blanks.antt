@@ -13,7 +13,7 @@ use Rattle.dfuse_host.specs.declared.seen.Seen.{Seen}
 use Rattle.dfuse_host.specs.declared.session.Session.{Session}
 use Rattle.dfuse_host.specs.Deeds.{Deed, Send, Wait, Done, deed, deed_of}
 use Rattle.dfuse_link.specs.Chips.{Chip, Order, Erases, Doing, Rests, Pending, Busy, Device, MayChange, ChangedBy, Advances, goes_on, ends, fails, Restarts}
-use Rattle.dfuse_link.specs.Reactions.{Reaction, order_of, doing_now, set_off, told_of, Reacts, stalls, stops, takes, closes, gives, lists, tells, shows, aborts, clears}
+use Rattle.dfuse_link.specs.Reactions.{Reaction, order_of, set_off, told_of, Reacts, stalls, stops, takes, closes, gives, lists, tells, shows, aborts, clears}
 use Rattle.dfuse_link.specs.Histories.{Arrives, never, again, Paired, UnderWay, none, request, Turn, sent, waited, restarted}
 use Rattle.dfuse_link.proofs.Claims.{IsQuiet, Stands, StandsIn}
 use Rattle.dfuse_link.proofs.SentClaims.{ArrivesBy}
@@ -118,12 +118,12 @@ module _ (chip : Chip) (a : ℕ) where
   told_spares (Rests state.ManifestSync) k = k
   told_spares doing k = k
 
-  mid_blank : (d mid : Device) → (mid ≡ doing_now d (set_off d.doing)) ⊎ Advances chip (doing_now d (set_off d.doing)) mid →
+  mid_blank : (d mid : Device) → (mid ≡ record d { doing = set_off d.doing }) ⊎ Advances chip (record d { doing = set_off d.doing }) mid →
       IsBlankAt chip a d → IsBlankAt chip a mid
   mid_blank d mid (inl e) k =
       subst (λ (x : Device). IsBlankAt chip a x) (sym e) (record { blank = k.blank; spares = off_spares d.doing k.spares })
   mid_blank d mid (inr w) k =
-      advances_blank (doing_now d (set_off d.doing)) mid w (record { blank = k.blank; spares = off_spares d.doing k.spares })
+      advances_blank (record d { doing = set_off d.doing }) mid w (record { blank = k.blank; spares = off_spares d.doing k.spares })
 
   reacts_blank : (d : Device) (q : Request) (body : List ℕ) (r : Reaction) (d' : Device) → Reacts chip d q body r d' →
       BringsSparing chip a q body d.pointer → IsBlankAt chip a d → IsBlankAt chip a d' × BringsSparing chip a q body d'.pointer

@@ -14,7 +14,7 @@ use Rattle.dfuse_host.proofs.ForCallers.{AnyCommand, by_command, AnyHeard, by_he
 use Rattle.dfuse_host.specs.Settling.{can_read}
 use Rattle.dfuse_host.specs.Commands.{command_of}
 use Rattle.dfuse_host.specs.Deeds.{stands_at}
-use Rattle.dfuse_link.specs.Chips.{Chip, Order, Points, Erases, Doing, Rests, Pending, Busy, Device, IsBlanked}
+use Rattle.dfuse_link.specs.Chips.{Chip, Order, Points, Erases, Doing, Rests, Pending, Busy, Device}
 
 -- A device has no order, and isn't in dfuDNLOAD-SYNC.
 abbrev pub IsQuiet : Doing → Type 0
@@ -33,6 +33,10 @@ Knows (place.Reading p) pointer = pointer ≡ p % 2 ^ 32
 abbrev pub IsOrderOf : AnyCommand → Order → Type 0
 IsOrderOf c order =
     by_command (λ _. Type 0) (λ at. order ≡ Points (at % 2 ^ 32)) (λ at. order ≡ Erases (at % 2 ^ 32)) (λ at. Unit {0}) c
+
+-- What an order to erase reaches is blank.
+abbrev pub IsBlanked : Chip → (at : ℕ) → (memory : ℕ → ℕ) → Type 0
+IsBlanked chip at memory = (a : ℕ) → chip.erases at a ≡ true → chip.blank (memory a) ≡ true
 
 -- A command to set the pointer, or to erase, is done.
 abbrev pub IsDone : Chip → AnyCommand → (pointer : ℕ) → (memory : ℕ → ℕ) → Type 0

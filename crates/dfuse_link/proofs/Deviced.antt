@@ -7,7 +7,7 @@ use Rattle.dfu_wire.specs.declared.requests.Request.TheVariants as request
 use Rattle.dfuse_host.specs.declared.place.Place.{Place}
 use Rattle.dfuse_host.proofs.ForCallers.{AnyCommand, by_command}
 use Rattle.dfuse_link.specs.Chips.{Chip, Order, Doing, Rests, Pending, Busy, state_in, Device, IsCarried, Advances, goes_on, ends, fails}
-use Rattle.dfuse_link.specs.Reactions.{Reaction, Acks, order_of, doing_now, set_off, told_of, Reacts, stalls, stops, takes, closes, gives, lists, tells, shows, aborts}
+use Rattle.dfuse_link.specs.Reactions.{Reaction, Acks, order_of, set_off, told_of, Reacts, stalls, stops, takes, closes, gives, lists, tells, shows, aborts}
 use Rattle.dfuse_link.specs.Histories.{Arrives, never, again}
 use Rattle.dfuse_link.proofs.Claims.{IsQuiet, Knows, IsOrderOf, IsDone, MayHave, Has}
 
@@ -162,12 +162,12 @@ module _ (chip : Chip) where
         (done_has s d'.pointer d'.memory (carried_done order d'.pointer d'.memory (order_is d.doing order d.pointer d.memory e h) pointed))
     advances_has d d' (fails order e e' changed) h = subst (λ (x : Doing). Has chip c x d'.pointer d'.memory) (sym e') tt
 
-    mid_has : (d mid : Device) → (mid ≡ doing_now d (set_off d.doing)) ⊎ Advances chip (doing_now d (set_off d.doing)) mid →
+    mid_has : (d mid : Device) → (mid ≡ record d { doing = set_off d.doing }) ⊎ Advances chip (record d { doing = set_off d.doing }) mid →
         Has chip c d.doing d.pointer d.memory →
         Has chip c mid.doing mid.pointer mid.memory
     mid_has d mid (inl e) h =
         subst (λ (x : Device). Has chip c x.doing x.pointer x.memory) (sym e) (set_off_has d.doing d.pointer d.memory h)
-    mid_has d mid (inr a) h = advances_has (doing_now d (set_off d.doing)) mid a (set_off_has d.doing d.pointer d.memory h)
+    mid_has d mid (inr a) h = advances_has (record d { doing = set_off d.doing }) mid a (set_off_has d.doing d.pointer d.memory h)
 
     status_has : (d d' : Device) (n : ℕ) (body : List ℕ) (r : Reaction) → Reacts chip d (request.GetStatus n) body r d' →
         Has chip c d.doing d.pointer d.memory → Has chip c d'.doing d'.pointer d'.memory

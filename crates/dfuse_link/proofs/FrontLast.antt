@@ -18,7 +18,7 @@ has_found a e [] h = absurd (none_in a e h)
 has_found a e (x ∷ xs) h = elim (first_or a x e xs h) [ inl w ↦ inl (held_in a x w.1) | inr w ↦ inr (has_found a e xs w) ]
 
 pub rest_stands : OnlyReadBack → ClosesAlways → RestStands
-rest_stands only always chip plan limits d seens l s at a e for history phase work is behind =
+rest_stands only always chip plan limits d seens l s at for history phase work a e behind is =
     let so = history_so chip only always (met d plan limits) l seens history (begins_so chip plan limits d for) in
     let same : plan ≡ l.session.plan = sym (history_plan chip (met d plan limits) l seens history) in
     let has : HasByte a l.session.plan.image.now = subst (λ (q : Plan). HasByte a q.image.now) same (has_found a e plan.image.now is) in

@@ -13,8 +13,8 @@ use Rattle.dfuse_host.specs.Settling.{stand, sending, to_write_front, to_write, 
 use Rattle.dfuse_host.specs.Table.{read_on}
 use Rattle.dfuse_host.proofs.ForCallers.{by_command, set_address, write_at}
 use Rattle.dfuse_memory.specs.Lookups.{OnePage}
-use Rattle.dfuse_link.specs.Chips.{Chip, Device, IsBlanked}
-use Rattle.dfuse_link.proofs.Claims.{IsQuiet, IsDone}
+use Rattle.dfuse_link.specs.Chips.{Chip, Device}
+use Rattle.dfuse_link.proofs.Claims.{IsBlanked, IsQuiet, IsDone}
 use Rattle.dfuse_link.proofs.GroupRows.{GoesIn, IsGroup}
 use Rattle.dfuse_link.proofs.GroupTurns.{DoneGoes}
 use Rattle.dfuse_link.proofs.FrontPages.{Mixable, start_first, page_fits}

@@ -11,7 +11,7 @@ use Rattle.dfuse_host.specs.ReadBack.{HasByte, WasRead, WasReadIn, OnlyReadBack,
 use Rattle.dfuse_host.specs.Touching.{TouchesAlways}
 use Rattle.dfuse_link.specs.Chips.{Chip, Device}
 use Rattle.dfuse_link.specs.Promises.{met}
-use Rattle.dfuse_link.specs.Fronts.{FrontIsBlank, RestIsNew, IsToErase, NoMixture, NoneButErasing}
+use Rattle.dfuse_link.specs.Fronts.{FrontIsBlank, ImageStands, IsToErase, NoMixture, NoneButErasing}
 use Rattle.dfuse_link.specs.Touched.{CarriesNone}
 use Rattle.dfuse_host.specs.declared.phase.Standing.{Standing}
 use Rattle.dfuse_host.specs.Plans.{front_end}
@@ -65,7 +65,7 @@ first_erases plan w e = subst IsToErase (sym e) tt
 
 phase_none : (chip : Chip) (plan : Plan) (first : Device) (s : Standing) (d : Device) → (IsToErase s.work → ⊥) →
     ((a : ℕ) → HasByte a plan.image.now → WasReadIn plan (On s) a → IsRight chip plan d a) → Mix chip plan first (On s) d →
-    FrontIsBlank chip plan d.memory ⊎ RestIsNew plan d.memory
+    FrontIsBlank chip plan d.memory ⊎ ImageStands plan (λ (a : ℕ). front_end plan ≤ a) d.memory
 phase_none chip plan first s d no_erase right mix = elim mix [
   | inl o ↦ absurd (no_erase (first_erases plan s.work o.0))
   | inr rest ↦ elim rest [

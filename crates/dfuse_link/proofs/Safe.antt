@@ -19,7 +19,7 @@ use Rattle.dfuse_host.specs.Deeds.{Deed, Send, Wait, Done, sends, deed_of}
 use Rattle.dfuse_host.specs.ReadBack.{WasRead}
 use Rattle.dfuse_host.proofs.ForCallers.{set_address, write_at}
 use Rattle.dfuse_link.specs.Chips.{Chip, Order, Doing, Rests, Pending, Busy, Device, MayChange, Advances, goes_on, ends, fails, Restarts}
-use Rattle.dfuse_link.specs.Reactions.{Reaction, order_of, doing_now, set_off, told_of, Reacts, stalls, stops, takes, closes, gives, lists, tells, shows, aborts, clears}
+use Rattle.dfuse_link.specs.Reactions.{Reaction, order_of, set_off, told_of, Reacts, stalls, stops, takes, closes, gives, lists, tells, shows, aborts, clears}
 use Rattle.dfuse_link.specs.Histories.{Arrives, never, again}
 use Rattle.dfuse_link.proofs.Claims.{Knows, Stands}
 use Rattle.dfuse_link.proofs.SentClaims.{pointed}
@@ -79,13 +79,13 @@ module _ (chip : Chip) (a : ℕ) where
     safe = subst (SafeAt chip a) (sym restarts.rests) (λ x. x);
   }
 
-  mid_safe : (d mid : Device) → (mid ≡ doing_now d (set_off d.doing)) ⊎ Advances chip (doing_now d (set_off d.doing)) mid →
+  mid_safe : (d mid : Device) → (mid ≡ record d { doing = set_off d.doing }) ⊎ Advances chip (record d { doing = set_off d.doing }) mid →
       SafeAt chip a d.doing →
       KeepsByte chip a d mid
   mid_safe d mid (inl e) safe =
       subst (λ (x : Device). KeepsByte chip a d x) (sym e) (record { byte = refl; safe = off_safe d.doing safe })
   mid_safe d mid (inr w) safe =
-      let k = advances_safe (doing_now d (set_off d.doing)) mid w (off_safe d.doing safe) in
+      let k = advances_safe (record d { doing = set_off d.doing }) mid w (off_safe d.doing safe) in
       record { byte = k.byte; safe = k.safe }
 
   reacts_safe : (d : Device) (q : Request) (body : List ℕ) (r : Reaction) (d' : Device) → Reacts chip d q body r d' →

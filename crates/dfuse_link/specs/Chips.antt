@@ -54,15 +54,11 @@ abbrev pub ChangedBy : Chip → Order → (memory memory' : ℕ → ℕ) → Typ
 ChangedBy chip order memory memory' =
     ((a : ℕ) → (MayChange chip order a → ⊥) → memory' a ≡ memory a) × KeepsBlanks chip order memory memory'
 
--- What an order to erase reaches is blank.
-abbrev pub IsBlanked : Chip → (at : ℕ) → (memory : ℕ → ℕ) → Type 0
-IsBlanked chip at memory = (a : ℕ) → chip.erases at a ≡ true → chip.blank (memory a) ≡ true
-
--- A device that is done with an order: the pointer is where it was to be set, or the bytes that it was to erase are blank. Behind any other
--- order the pointer may be anywhere.
+-- A device that is done with an order: the pointer is where it was to be set, or the bytes that an erase reaches are blank. Behind any
+-- other order the pointer may be anywhere.
 abbrev pub IsCarried : Chip → Order → (pointer : ℕ) → (memory : ℕ → ℕ) → Type 0
 IsCarried chip (Points at) pointer memory = pointer ≡ at
-IsCarried chip (Erases at) pointer memory = IsBlanked chip at memory
+IsCarried chip (Erases at) pointer memory = (a : ℕ) → chip.erases at a ≡ true → chip.blank (memory a) ≡ true
 IsCarried chip order pointer memory = Unit {0}
 
 -- The states in which a device may be that is done with an order, until it tells so.

@@ -17,12 +17,16 @@ use Rattle.dfuse_link.specs.Histories.{Paired, History}
 use Rattle.dfuse_link.specs.Promises.{IsFor, met}
 use Rattle.dfuse_link.specs.Touched.{IsTrueMap, CarriesNone}
 
--- While a session writes its front, each byte of an element behind the front stands in the memory.
+-- Each byte of the image at such an address stands in the memory.
+abbrev pub ImageStands : Plan → (IsThere : ℕ → Type 0) → (memory : ℕ → ℕ) → Type 0
+ImageStands plan IsThere memory =
+    (a : ℕ) (e : Element) → IsThere a → element_at a plan.image.now ≡ Some e → memory a ≡ slice_index e.bytes.now (a - e.address)
+
+-- While a session writes its front, each byte of the image behind the front stands in the memory.
 abbrev pub RestStands : Type 0
-RestStands = (chip : Chip) (plan : Plan) (limits : Limits) (d : Device) (seens : List Seen) (l : Paired) (s : Standing) (at a : ℕ)
-    (e : Element)
+RestStands = (chip : Chip) (plan : Plan) (limits : Limits) (d : Device) (seens : List Seen) (l : Paired) (s : Standing) (at : ℕ)
     → IsFor chip plan → History chip (met d plan limits) seens l → l.session.phase ≡ On s → s.work ≡ WriteFront at
-    → element_at a plan.image.now ≡ Some e → front_end plan ≤ a → l.device.memory a ≡ slice_index e.bytes.now (a - e.address)
+    → ImageStands plan (λ (a : ℕ). front_end plan ≤ a) l.device.memory
 
 -- An address of the front.
 abbrev pub IsOfFront : Plan → (a : ℕ) → Type 0
@@ -36,15 +40,6 @@ IsElsewhere plan a = page_start plan a ≡ page_start plan (image_start plan.ima
 abbrev pub ErasesFront : Chip → Plan → Type 0
 ErasesFront chip plan = (a : ℕ) → IsOfFront plan a → chip.erases (page_start plan (image_start plan.image.now)) a ≡ true
 
--- All that isn't on the front's page is as before.
-abbrev pub OthersAreOld : Plan → (first memory : ℕ → ℕ) → Type 0
-OthersAreOld plan first memory = (a : ℕ) → IsElsewhere plan a → memory a ≡ first a
-
--- Each byte of the image that isn't on the front's page stands.
-abbrev pub OthersAreNew : Plan → (memory : ℕ → ℕ) → Type 0
-OthersAreNew plan memory =
-    (a : ℕ) (e : Element) → IsElsewhere plan a → element_at a plan.image.now ≡ Some e → memory a ≡ slice_index e.bytes.now (a - e.address)
-
 -- Each byte of the front is as an erase leaves it.
 abbrev pub FrontIsBlank : Chip → Plan → (memory : ℕ → ℕ) → Type 0
 FrontIsBlank chip plan memory = (a : ℕ) → IsOfFront plan a → chip.blank (memory a) ≡ true
@@ -54,12 +49,8 @@ abbrev pub NoMixture : Type 0
 NoMixture = (chip : Chip) (plan : Plan) (limits : Limits) (d : Device) (seens : List Seen) (l : Paired) → IsFor chip plan →
     are_apart plan.map.now.ranges ≡ true → IsTrueMap chip plan → ErasesFront chip plan → CarriesNone d →
     History chip (met d plan limits) seens l →
-    OthersAreOld plan d.memory l.device.memory ⊎ (FrontIsBlank chip plan l.device.memory ⊎ OthersAreNew plan l.device.memory)
-
--- Each byte of the image behind the front stands.
-abbrev pub RestIsNew : Plan → (memory : ℕ → ℕ) → Type 0
-RestIsNew plan memory =
-    (a : ℕ) (e : Element) → front_end plan ≤ a → element_at a plan.image.now ≡ Some e → memory a ≡ slice_index e.bytes.now (a - e.address)
+    ((a : ℕ) → IsElsewhere plan a → l.device.memory a ≡ d.memory a)
+    ⊎ (FrontIsBlank chip plan l.device.memory ⊎ ImageStands plan (IsElsewhere plan) l.device.memory)
 
 -- A work is to erase a page.
 abbrev pub IsToErase : Work → Type 0
@@ -72,4 +63,4 @@ abbrev pub NoneButErasing : Type 0
 NoneButErasing = (chip : Chip) (plan : Plan) (limits : Limits) (d : Device) (seens : List Seen) (l : Paired) (s : Standing) →
     IsFor chip plan → are_apart plan.map.now.ranges ≡ true → IsTrueMap chip plan → ErasesFront chip plan → CarriesNone d →
     History chip (met d plan limits) seens l → l.session.phase ≡ On s → (IsToErase s.work → ⊥) →
-    FrontIsBlank chip plan l.device.memory ⊎ RestIsNew plan l.device.memory
+    FrontIsBlank chip plan l.device.memory ⊎ ImageStands plan (λ (a : ℕ). front_end plan ≤ a) l.device.memory

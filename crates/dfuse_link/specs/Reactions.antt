@@ -15,14 +15,14 @@ pub data Reaction : Type 0 where
   Data : (bytes : List ℕ) → Reaction
   Stalls : Reaction
 
--- The order of a number and an address: 21h sets the pointer, 41h erases.
-abbrev pub order_at : (number at : ℕ) → Order
-order_at number at = if number == 0x21 then Points at else (if number == 0x41 then Erases at else Other)
-
--- The order in the body of a DNLOAD of block 0: a number, and an address of four bytes, the low one first.
+-- The order in the body of a DNLOAD of block 0: a number, and an address of four bytes, the low one first. 21h sets the pointer, 41h erases.
 abbrev pub order_in : List ℕ → Order
 order_in [] = Other
-order_in (number ∷ address) = if length address == 4 then order_at number (from_le_bytes w32 address) else Other
+order_in (number ∷ address) =
+    if length address == 4
+    then (if number == 0x21 then Points (from_le_bytes w32 address)
+    else (if number == 0x41 then Erases (from_le_bytes w32 address) else Other))
+    else Other
 
 -- The order of a DNLOAD: bytes for the pointer from block 2 on, and in block 0 a command.
 abbrev pub order_of : Chip → (pointer block : ℕ) → (body : List ℕ) → Order
@@ -30,13 +30,9 @@ order_of chip pointer block body =
     if nat_le 2 block then Programs (pointer + (block - 2) * chip.transfer) (length body)
     else (if block == 0 then order_in body else Other)
 
--- From here DNLOAD is taken.
-abbrev pub TakesBlocks : Doing → Type 0
-TakesBlocks doing = (doing ≡ Rests state.DfuIdle) ⊎ (doing ≡ Rests state.DownloadIdle)
-
--- From here UPLOAD is answered.
-abbrev pub GivesBlocks : Doing → Type 0
-GivesBlocks doing = (doing ≡ Rests state.DfuIdle) ⊎ (doing ≡ Rests state.UploadIdle)
+-- A device rests in dfuIDLE or in this state.
+abbrev pub IsIdleOr : State → Doing → Type 0
+IsIdleOr s doing = (doing ≡ Rests state.DfuIdle) ⊎ (doing ≡ Rests s)
 
 -- From here ABORT leads to dfuIDLE: from each state of upgrade mode but dfuERROR and those in which a device works by itself.
 abbrev pub TakesAbort : Doing → Type 0
@@ -57,10 +53,6 @@ MayStall doing q = Unit {0}
 abbrev pub StandsAt : (memory : ℕ → ℕ) → (at : ℕ) → List ℕ → Type 0
 StandsAt memory at bytes = (i : ℕ) → i < length bytes → memory (at + i) ≡ slice_index bytes i
 
--- A device that does another thing.
-abbrev pub doing_now : Device → Doing → Device
-doing_now d doing = record { memory = d.memory; pointer = d.pointer; doing = doing }
-
 -- GETSTATUS starts an order.
 abbrev pub set_off : Doing → Doing
 set_off (Pending order) = Busy order
@@ -76,27 +68,29 @@ told_of doing = doing
 -- A device reacts to a request with this body. Behind a stall it goes on as before, or is in dfuERROR.
 pub data Reacts (chip : Chip) (d : Device) : Request → List ℕ → Reaction → Device → Type 0 where
   stalls : (q : Request) (body : List ℕ) → MayStall d.doing q → Reacts chip d q body Stalls d
-  stops : (q : Request) (body : List ℕ) → MayStall d.doing q → Reacts chip d q body Stalls (doing_now d (Rests state.Error))
+  stops : (q : Request) (body : List ℕ) → MayStall d.doing q → Reacts chip d q body Stalls (record d { doing = Rests state.Error })
   -- DNLOAD brings an order, and starts nothing.
-  takes : (block n : ℕ) (body : List ℕ) → TakesBlocks d.doing → 0 < length body
-      → Reacts chip d (request.Dnload block n) body Acks (doing_now d (Pending (order_of chip d.pointer block body)))
+  takes : (block n : ℕ) (body : List ℕ) → IsIdleOr state.DownloadIdle d.doing → 0 < length body
+      → Reacts chip d (request.Dnload block n) body Acks (record d { doing = Pending (order_of chip d.pointer block body) })
   -- DNLOAD of no bytes asks the device to leave.
-  closes : (block n : ℕ) → TakesBlocks d.doing → Reacts chip d (request.Dnload block n) [] Acks (doing_now d (Rests state.ManifestSync))
+  closes : (block n : ℕ) → IsIdleOr state.DownloadIdle d.doing
+      → Reacts chip d (request.Dnload block n) [] Acks (record d { doing = Rests state.ManifestSync })
   -- UPLOAD from block 2 on gives the memory's bytes from the pointer on, or the first of them.
-  gives : (block n : ℕ) (body bytes : List ℕ) (s : State) → GivesBlocks d.doing → 2 ≤ block → length bytes ≤ n
+  gives : (block n : ℕ) (body bytes : List ℕ) (s : State) → IsIdleOr state.UploadIdle d.doing → 2 ≤ block → length bytes ≤ n
       → StandsAt d.memory (d.pointer + (block - 2) * chip.transfer) bytes → (s ≡ state.DfuIdle) ⊎ (s ≡ state.UploadIdle)
-      → Reacts chip d (request.Upload block n) body (Data bytes) (doing_now d (Rests s))
+      → Reacts chip d (request.Upload block n) body (Data bytes) (record d { doing = Rests s })
   -- UPLOAD of block 0 or 1 gives other things.
-  lists : (block n : ℕ) (body bytes : List ℕ) → GivesBlocks d.doing → block < 2
-      → Reacts chip d (request.Upload block n) body (Data bytes) (doing_now d (Rests state.UploadIdle))
+  lists : (block n : ℕ) (body bytes : List ℕ) → IsIdleOr state.UploadIdle d.doing → block < 2
+      → Reacts chip d (request.Upload block n) body (Data bytes) (record d { doing = Rests state.UploadIdle })
   -- GETSTATUS starts an order, and tells how far it is, with any code and any time.
   tells : (n : ℕ) (body bytes : List ℕ) (status : StatusFields) (mid : Device)
-      → (mid ≡ doing_now d (set_off d.doing)) ⊎ Advances chip (doing_now d (set_off d.doing)) mid → IsStatus status bytes
+      → (mid ≡ record d { doing = set_off d.doing }) ⊎ Advances chip (record d { doing = set_off d.doing }) mid → IsStatus status bytes
       → status.state ≡ state_in (told_of mid.doing) → Reacts chip d (request.GetStatus n) body (Data bytes)
-      (doing_now mid (told_of mid.doing))
+      (record mid { doing = told_of mid.doing })
   -- GETSTATE changes nothing.
   shows : (n : ℕ) (body : List ℕ) → Reacts chip d (request.GetState n) body (Data (state_byte (state_in d.doing) ∷ [])) d
   -- ABORT drops an order that isn't started.
-  aborts : (body : List ℕ) → TakesAbort d.doing → Reacts chip d request.Abort body Acks (doing_now d (Rests state.DfuIdle))
+  aborts : (body : List ℕ) → TakesAbort d.doing → Reacts chip d request.Abort body Acks (record d { doing = Rests state.DfuIdle })
   -- CLRSTATUS leaves dfuERROR.
-  clears : (body : List ℕ) → d.doing ≡ Rests state.Error → Reacts chip d request.ClrStatus body Acks (doing_now d (Rests state.DfuIdle))
+  clears : (body : List ℕ) → d.doing ≡ Rests state.Error
+      → Reacts chip d request.ClrStatus body Acks (record d { doing = Rests state.DfuIdle })
