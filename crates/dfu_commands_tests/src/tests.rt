@@ -10,10 +10,7 @@ mod opened;
 mod readers;
 mod reasons;
 mod runs;
-mod script_reasons;
-mod scripts;
 mod streams;
-mod suffix_reasons;
 mod typed;
 
 use std::alloc::{AllocError, Global};
