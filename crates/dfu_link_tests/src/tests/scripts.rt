@@ -1,6 +1,5 @@
 //! Scripts by readers and writers of many kinds. What scripts print is shown by `tests/scripts`, over the program.
 
-mod given;
 mod portions;
 mod rows;
 mod streams;
