@@ -8,7 +8,7 @@ ghost use Rattle.dfu_commands.specs.BesideText.{WritesBeside, PrintsBeside};
 
 use crate::numbering::number_text;
 use crate::running::end_text;
-use dfu_link::{ScriptFault, script_beside_traced_with, script_beside_with};
+use dfu_link::{ScriptFault, Stopped, script_beside_traced_with, script_beside_with};
 use dfu_text::Exit;
 use std::alloc::Global;
 use std::io::{Read, Write};
@@ -53,13 +53,14 @@ pub(crate) fn run_beside_with_stop<R: Read + Drop, W: Write + Drop>(
     file: Option<&[u8]>,
     reader: R,
     writer: W,
+    stopped: &Stopped,
 ) -> (Exit, Option<Stop>, W)
     ensures run { WritesBeside (given_bytes file.entry) (R.remaining reader) (W.contents writer) (W.contents result.2) result.0 }
     ensures printed { PrintsBeside (given_bytes file.entry) (R.remaining reader) (W.contents writer) (W.contents result.2) result.0 }
     // If it stopped nowhere the script ran to its end.
     ensures stop { result.1 ≡ None → result.0 ≡ Exit.Done }
 {
-    let (answer, line, mut writer) = script_beside_with(alloc, file, reader, writer);
+    let (answer, line, mut writer) = script_beside_with(alloc, file, reader, writer, stopped);
     let (exit, stop) = beside_text(alloc, answer, line, &mut writer);
     (exit, stop, writer)
 }
@@ -72,6 +73,7 @@ pub(crate) fn run_beside_traced_with_stop<R: Read + Drop, W: Write + Drop, N: Wr
     reader: R,
     writer: W,
     trace: &mut N,
+    stopped: &Stopped,
 ) -> (Exit, Option<Stop>, W, bool)
     ensures run { WritesBeside (given_bytes file.entry) (R.remaining reader) (W.contents writer) (W.contents result.2) result.0 }
     ensures printed { PrintsBeside (given_bytes file.entry) (R.remaining reader) (W.contents writer) (W.contents result.2) result.0 }
@@ -79,7 +81,7 @@ pub(crate) fn run_beside_traced_with_stop<R: Read + Drop, W: Write + Drop, N: Wr
     ensures stop { result.1 ≡ None → result.0 ≡ Exit.Done }
 {
     let (answer, line, mut writer, is_traced) = script_beside_traced_with(
-        alloc, file, reader, writer, trace,
+        alloc, file, reader, writer, trace, stopped,
     );
     let (exit, stop) = beside_text(alloc, answer, line, &mut writer);
     (exit, stop, writer, is_traced)

@@ -6,7 +6,7 @@ ghost use Rattle.dfu_link.specs.Said.{given_bytes};
 ghost use Rattle.dfu_commands.specs.Buffering.{RunsBuffered};
 
 use crate::running::run_with_fault;
-use dfu_link::ScriptFault;
+use dfu_link::{ScriptFault, Stopped};
 use dfu_text::Exit;
 use std::alloc::Global;
 use std::io::{BufWriter, Read, Write};
@@ -22,7 +22,7 @@ pub fn run_buffered<R: Read + Drop, W: Write + Drop>(
 ) -> (Exit, W)
     ensures { RunsBuffered None (R.remaining reader) (writer_contents W.contents buffer) (W.contents result.1) result.0 }
 {
-    let (exit, _, writer) = run_buffered_with_fault(alloc, None, reader, buffer);
+    let (exit, _, writer) = run_buffered_with_fault(alloc, None, reader, buffer, &Stopped::new());
     (exit, writer)
 }
 
@@ -33,11 +33,12 @@ pub(crate) fn run_buffered_with_fault<R: Read + Drop, W: Write + Drop>(
     file: Option<&[u8]>,
     reader: R,
     mut buffer: BufWriter<W>,
+    stopped: &Stopped,
 ) -> (Exit, Option<ScriptFault>, W)
     ensures { RunsBuffered (given_bytes file.entry) (R.remaining reader) (writer_contents W.contents buffer) (W.contents result.2)
         result.0 }
 {
-    let (exit, fault) = run_with_fault(alloc, file, reader, &mut buffer);
+    let (exit, fault) = run_with_fault(alloc, file, reader, &mut buffer, stopped);
     match buffer.into_inner() {
         Ok(writer) => (exit, fault, writer),
         Err(error) => {

@@ -1,6 +1,6 @@
 //! Captures that `dfu judge` reads.
 
-use crate::field::number_of;
+use crate::numbering::number_of;
 use dfu_capture::{Address, CaptureFault};
 use std::io::{self, Read};
 

@@ -2,8 +2,8 @@
 
 use crate::captures::{Headed, MAX_CAPTURE, capture_line, capture_why};
 use crate::eventful::Eventful;
-use crate::field::number_of;
 use crate::line_ends::LineEnds;
+use crate::numbering::number_of;
 use crate::prefixing::Prefixed;
 use crate::watching::Watched;
 use dfu_capture::{Address, is_capture, log_of};
@@ -101,7 +101,7 @@ fn judge_text_of<R: Print + AllocGlobal, S: Read + Drop>(
     log: S,
 ) -> Answer {
     let alloc = rt.alloc();
-    let mut watched = Watched::new(alloc, log, false);
+    let mut watched = Watched::new(log);
     let mut out = Eventful::new(output(rt, judged));
     let (exit, fault) = judge_with_fault(alloc, judged.interface, &mut watched, &mut out);
     if out.is_without() {
@@ -144,7 +144,7 @@ fn judge_capture<R: Print + AllocGlobal, S: Read + Drop>(
     capture: S,
 ) -> Answer {
     let alloc = rt.alloc();
-    let mut watched = Watched::new(alloc, capture, false);
+    let mut watched = Watched::new(capture);
     match gather(alloc, &mut watched, MAX_CAPTURE) {
         Ok(bytes) => judge_bytes(rt, judged, &bytes),
         Err(fault) => Answer {

@@ -1,85 +1,77 @@
-//! Why a line of a script is none of the language.
+//! Why a script stopped, in words.
 
-use crate::form::{Form, form_of};
+use dfu_link::{Field, LineFault, Reason, SetupFault};
 use std::alloc::{AllocError, Global};
 
-/// The most bytes of a line.
-const MAX_LINE: usize = 65_536;
-
-/// The line as text, where each of its characters is printable ASCII; else what is wrong with it.
-fn plain_text(line: &[u8]) -> Result<&str, &'static str> {
-    if line.len() > MAX_LINE {
-        return Err("it has over 65,536 bytes");
-    }
-    if line.starts_with(b"\xef\xbb\xbf") {
-        return Err("it begins with a byte order mark");
-    }
-    if line.ends_with(b"\r") {
-        return Err("it ends in a carriage return, and a line ends in a line feed alone");
-    }
-    match std::str::from_utf8(line) {
-        Ok(text) if line.iter().all(|byte| matches!(*byte, b' '..=b'~')) => Ok(text),
-        _ => Err("it has a tab or another character that isn't printable ASCII"),
+/// What a word has to be.
+fn wanted(field: Field) -> &'static str {
+    match field {
+        Field::Identifier => "four hexadecimal digits",
+        Field::Attributes => "two hexadecimal digits, 00 to 0f",
+        Field::Number => "a number of 1 to 10 digits, at most 4,294,967,295",
+        Field::Short => "a number, at most 65,535",
+        Field::Unit => "1, 16, 64 or 256",
+        Field::Sector => "0 or a multiple of 256 up to 131,072",
+        Field::Capacity => "a number from 1 to 1,048,576",
+        Field::Times => "a number from 1 to 1,000,000",
+        Field::Report => "report",
+        Field::Objection => "errTARGET or errFILE",
+        Field::Bytes => "an even count of hexadecimal digits, or - for no bytes",
     }
 }
 
-/// The first word behind the name that isn't what it has to be, counted from 1.
-fn wrong_word(alloc: Global, form: &Form, words: &[&str]) -> Result<Option<String>, AllocError> {
-    for (place, field) in form.fields.iter().enumerate() {
-        let place = form.lead.saturating_add(place);
-        match words.get(place) {
-            Some(word) if !field.takes(word) => {
-                let number = place.saturating_add(1);
-                let wanted = field.wanted();
-                return Ok(Some(format!(in alloc; "its word {number} isn't {wanted}")?));
-            }
-            _ => {}
+/// What is wrong with the words of a line; it has so many.
+fn words_why(alloc: Global, fault: LineFault, words: usize) -> Result<String, AllocError> {
+    let why = match fault {
+        LineFault::Word(field, number) => {
+            let wanted = wanted(field);
+            return format!(in alloc; "its word {number} isn't {wanted}");
         }
-    }
-    Ok(None)
-}
-
-/// What is wrong with how many words there are.
-fn wrong_count(alloc: Global, form: &Form, words: &[&str]) -> Result<String, AllocError> {
-    let wanted = form.lead.saturating_add(form.fields.len());
-    match words.get(wanted) {
-        Some(word) if word.starts_with('#') => {
-            String::from_str(alloc, "a comment is a line of its own")
+        LineFault::Count(of) => {
+            return format!(in alloc; "it has {words} words in place of {of}");
         }
-        _ => {
-            let found = words.len();
-            format!(in alloc; "it has {found} words in place of {wanted}")
+        LineFault::Long => "it has over 65,536 bytes",
+        LineFault::Keyword => "its first word is none of the language",
+        LineFault::NoFate => "behind go a word is missing, as pass",
+        LineFault::Fate => "the word behind go is none of the language",
+        LineFault::NoText => "behind expect and a space the line is missing",
+        LineFault::NoFile => "FILE stands for a file only with --file",
+        LineFault::Comment => "a comment is a line of its own",
+    };
+    String::from_str(alloc, why)
+}
+
+/// What is wrong with a line with a byte that isn't printable ASCII.
+fn unprintable_why(begins: bool, ends: bool) -> &'static str {
+    if begins {
+        "it begins with a byte order mark"
+    } else if ends {
+        "it ends in a carriage return, and a line ends in a line feed alone"
+    } else {
+        "it has a tab or another character that isn't printable ASCII"
+    }
+}
+
+/// Why a line is none of the language. Of one over 65,536 bytes no reason is noted.
+pub(crate) fn line_why(alloc: Global, reason: Option<Reason>) -> Result<String, AllocError> {
+    match reason {
+        Some(Reason::Line(fault, words)) => words_why(alloc, fault, words),
+        Some(Reason::Unprintable { begins, ends }) => {
+            String::from_str(alloc, unprintable_why(begins, ends))
         }
+        _ => words_why(alloc, LineFault::Long, 0),
     }
 }
 
-/// Whether a line offers by the word `FILE`.
-fn names_file(words: &[&str]) -> bool {
-    matches!(words, ["offer" | "verify", "FILE", ..])
-}
-
-fn words_why(alloc: Global, text: &str, has_file: bool) -> Result<String, AllocError> {
-    let mut words: Vec<&str> = Vec::new(alloc);
-    for word in text.split_ascii_whitespace() {
-        words.push(word)?;
-    }
-    if !has_file && names_file(&words) {
-        return String::from_str(alloc, "FILE stands for a file only with --file");
-    }
-    match form_of(&words) {
-        Ok(form) => match wrong_word(alloc, &form, &words)? {
-            Some(why) => Ok(why),
-            None => wrong_count(alloc, &form, &words),
-        },
-        Err(why) => String::from_str(alloc, why),
-    }
-}
-
-/// Why a line that is none of the language is none: the first rule that it breaks. `has_file` says whether
-/// `--file` was given.
-pub(crate) fn line_why(alloc: Global, line: &[u8], has_file: bool) -> Result<String, AllocError> {
-    match plain_text(line) {
-        Ok(text) => words_why(alloc, text, has_file),
-        Err(why) => String::from_str(alloc, why),
+/// Why no device can be set up.
+pub(crate) fn setup_why(fault: SetupFault) -> &'static str {
+    match fault {
+        SetupFault::Transfer => "TRANSFER isn't 1 to 4,096",
+        SetupFault::Poll => "BUSY or MANIFEST is over 16,777,215",
+        SetupFault::NoTime => "MANIFEST is 0 on a device that isn't tolerant",
+        SetupFault::Least => "LEAST isn't 1 to 16,777,216",
+        SetupFault::Unit => "the capacity is no multiple of the unit",
+        SetupFault::Sector => "the capacity is no multiple of the sector",
+        SetupFault::Image => "the factory image is longer than the capacity",
     }
 }

@@ -1,4 +1,4 @@
-//! The line that names a line of a script.
+//! Numbers: of the line that names a line of a script, and in a word.
 
 ghost use Rattle.std.specs.Prelude.{◌≡◌, ◌++◌, ◌∷◌, IfOk, [], codes};
 ghost use Rattle.std.specs.Fmt.{decimal};
@@ -24,5 +24,17 @@ pub(crate) fn number_text<W: Write>(alloc: Global, text: &str, number: u32, writ
     match numbered(alloc, text, number) {
         Ok(line) => write_out(writer, line.as_bytes(), Exit::Refused),
         Err(_) => fault_text(SuffixFault::NoMemory, writer),
+    }
+}
+
+/// A number of 1 to 10 digits.
+pub(crate) fn number_of(word: &str) -> Option<u32> {
+    let digits = word.as_bytes();
+    if digits.len() > 10 || !digits.iter().all(|digit| digit.is_ascii_digit()) {
+        return None;
+    }
+    match word.parse::<u32>() {
+        Ok(number) => Some(number),
+        Err(_) => None,
     }
 }

@@ -26,7 +26,7 @@ pub(crate) fn read_file<R: Files + Input + Print + AllocGlobal>(
             });
         }
     };
-    let mut watched = Watched::new(alloc, given, false);
+    let mut watched = Watched::new(given);
     match gather(alloc, &mut watched, MAX_FILE) {
         Ok(bytes) => Ok(bytes),
         Err(fault) => Err(Answer {

@@ -7,7 +7,7 @@ ghost use Rattle.dfu_link.specs.Printed.{HasPrinted};
 ghost use Rattle.dfu_commands.specs.RunText.{WritesStop, WritesRun, WritesPrinted};
 
 use crate::numbering::number_text;
-use dfu_link::{ScriptFault, script_traced_with, script_with};
+use dfu_link::{ScriptFault, Stopped, script_traced_with, script_with};
 use dfu_suffix::SuffixFault;
 use dfu_text::{Exit, fault_text, write_out};
 use std::alloc::Global;
@@ -67,24 +67,25 @@ pub fn run_text<R: Read + Drop, W: Write>(alloc: Global, reader: R, writer: &mut
     ensures run { WritesRun None (R.remaining reader) (W.contents writer.old) (W.contents writer.new) result }
     ensures printed { WritesPrinted None (R.remaining reader) (W.contents writer.old) (W.contents writer.new) result }
 {
-    let (exit, _) = run_with_fault(alloc, None, reader, writer);
+    let (exit, _) = run_with_fault(alloc, None, reader, writer, &Stopped::new());
     exit
 }
 
 /// Does what `run_text` does, where FILE stands for the bytes of `file`, if there are any, and returns
-/// beside the end the fault at which the script stopped.
+/// beside the end the fault at which the script stopped; what is wrong with the script is noted in `stopped`.
 pub(crate) fn run_with_fault<R: Read + Drop, W: Write>(
     alloc: Global,
     file: Option<&[u8]>,
     reader: R,
     writer: &mut W,
+    stopped: &Stopped,
 ) -> (Exit, Option<ScriptFault>)
     ensures run { WritesRun (given_bytes file.entry) (R.remaining reader) (W.contents writer.old) (W.contents writer.new) result.0 }
     ensures printed { WritesPrinted (given_bytes file.entry) (R.remaining reader) (W.contents writer.old) (W.contents writer.new) result.0 }
     // Where no fault is given the script ran to its end.
     ensures fault { result.1 ≡ None → result.0 ≡ Exit.Done }
 {
-    let answer = script_with(alloc, file, reader, writer);
+    let answer = script_with(alloc, file, reader, writer, stopped);
     end_text(alloc, answer, writer)
 }
 
@@ -97,13 +98,14 @@ pub(crate) fn run_traced_with_fault<R: Read + Drop, W: Write, N: Write>(
     reader: R,
     writer: &mut W,
     trace: &mut N,
+    stopped: &Stopped,
 ) -> (Exit, Option<ScriptFault>, bool)
     ensures run { WritesRun (given_bytes file.entry) (R.remaining reader) (W.contents writer.old) (W.contents writer.new) result.0 }
     ensures printed { WritesPrinted (given_bytes file.entry) (R.remaining reader) (W.contents writer.old) (W.contents writer.new) result.0 }
     // Where no fault is given the script ran to its end.
     ensures fault { result.1 ≡ None → result.0 ≡ Exit.Done }
 {
-    let (answer, is_traced) = script_traced_with(alloc, file, reader, writer, trace);
+    let (answer, is_traced) = script_traced_with(alloc, file, reader, writer, trace, stopped);
     let (exit, fault) = end_text(alloc, answer, writer);
     (exit, fault, is_traced)
 }

@@ -4,11 +4,12 @@ ghost use Rattle.std.specs.Prelude.{◌≡◌, None};
 
 use crate::beside::{Stop, run_beside_traced_with_stop, run_beside_with_stop};
 use crate::buffering::run_buffered_with_fault;
+use crate::line::{line_why, setup_why};
 use crate::running::run_traced_with_fault;
 use crate::sharing::Shared;
 use crate::watching::Watched;
 use dfu_files::{error_reason, file_reason, open};
-use dfu_link::ScriptFault;
+use dfu_link::{Reason, ScriptFault, Stopped};
 use dfu_suffix::SuffixFault;
 use dfu_text::{Answer, Exit, fault_text};
 use std::alloc::Global;
@@ -66,11 +67,11 @@ fn stop_reason<S>(
     alloc: Global,
     name: &str,
     stop: Stop,
-    has_file: bool,
-    watched: &mut Watched<S>,
+    stopped: &Stopped,
+    watched: &Watched<S>,
 ) -> Option<String> {
     match stop {
-        Stop::Fault(fault) => fault_reason(alloc, name, fault, has_file, watched),
+        Stop::Fault(fault) => fault_reason(alloc, name, fault, stopped, watched),
         Stop::Differs(number) => line_reason(
             alloc,
             name,
@@ -85,18 +86,20 @@ fn fault_reason<S>(
     alloc: Global,
     name: &str,
     fault: ScriptFault,
-    has_file: bool,
-    watched: &mut Watched<S>,
+    stopped: &Stopped,
+    watched: &Watched<S>,
 ) -> Option<String> {
     match fault {
         ScriptFault::BadLine(number) => {
-            let why = watched.line_reason(alloc, has_file)?;
+            let why = line_why(alloc, stopped.reason()).ok()?;
             line_reason(alloc, name, number, &why)
         }
-        ScriptFault::BadConfig => {
-            let (number, why) = watched.setup_reason()?;
-            line_reason(alloc, name, number, why)
-        }
+        ScriptFault::BadConfig => match stopped.reason() {
+            Some(Reason::Setup(fault, number)) => {
+                line_reason(alloc, name, number, setup_why(fault))
+            }
+            _ => None,
+        },
         ScriptFault::Read => match &watched.error {
             Some(error) => error_reason(alloc, name, error),
             None => None,
@@ -143,6 +146,7 @@ fn run_beside<R: Read + Drop, W: Write + Drop>(
     ways: Ways<'_>,
     reader: R,
     buffer: BufWriter<W>,
+    stopped: &Stopped,
 ) -> (Exit, Option<Stop>) {
     let shared = Shared::new(buffer);
     let (exit, stop, _, is_traced) = if ways.trace {
@@ -152,9 +156,16 @@ fn run_beside<R: Read + Drop, W: Write + Drop>(
             reader,
             shared.writer(),
             &mut shared.writer(),
+            stopped,
         )
     } else {
-        let (exit, stop, writer) = run_beside_with_stop(alloc, ways.file, reader, shared.writer());
+        let (exit, stop, writer) = run_beside_with_stop(
+            alloc,
+            ways.file,
+            reader,
+            shared.writer(),
+            stopped,
+        );
         (exit, stop, writer, true)
     };
     if shared.finish() && is_traced {
@@ -171,6 +182,7 @@ fn run_traced<R: Read + Drop, W: Write + Drop>(
     file: Option<&[u8]>,
     reader: R,
     buffer: BufWriter<W>,
+    stopped: &Stopped,
 ) -> (Exit, Option<ScriptFault>) {
     let shared = Shared::new(buffer);
     let (exit, fault, is_traced) = run_traced_with_fault(
@@ -179,6 +191,7 @@ fn run_traced<R: Read + Drop, W: Write + Drop>(
         reader,
         &mut shared.writer(),
         &mut shared.writer(),
+        stopped,
     );
     if shared.finish() && is_traced {
         (exit, fault)
@@ -193,11 +206,12 @@ fn run_alone<R: Read + Drop, W: Write + Drop>(
     ways: Ways<'_>,
     reader: R,
     buffer: BufWriter<W>,
+    stopped: &Stopped,
 ) -> (Exit, Option<ScriptFault>) {
     if ways.trace {
-        return run_traced(alloc, ways.file, reader, buffer);
+        return run_traced(alloc, ways.file, reader, buffer, stopped);
     }
-    let (exit, fault, _) = run_buffered_with_fault(alloc, ways.file, reader, buffer);
+    let (exit, fault, _) = run_buffered_with_fault(alloc, ways.file, reader, buffer, stopped);
     (exit, fault)
 }
 
@@ -211,17 +225,16 @@ fn run_from<R: Print + AllocGlobal, S: Read + IsTerminal + Drop>(
 ) -> Answer {
     let alloc = rt.alloc();
     let room = if script.is_terminal() { 0 } else { BUFFER };
-    let mut watched = Watched::new(alloc, script, ways.explain);
+    let mut watched = Watched::new(script);
+    let stopped = Stopped::new();
     let (exit, stop) = if ways.board {
-        run_beside(alloc, ways, &mut watched, buffer_of(rt, room))
+        run_beside(alloc, ways, &mut watched, buffer_of(rt, room), &stopped)
     } else {
-        let (exit, fault) = run_alone(alloc, ways, &mut watched, buffer_of(rt, room));
+        let (exit, fault) = run_alone(alloc, ways, &mut watched, buffer_of(rt, room), &stopped);
         (exit, fault.map(Stop::Fault))
     };
     let reason = match stop {
-        Some(stop) if ways.explain => {
-            stop_reason(alloc, name, stop, ways.file.is_some(), &mut watched)
-        }
+        Some(stop) if ways.explain => stop_reason(alloc, name, stop, &stopped, &watched),
         _ => None,
     };
     Answer { exit, reason }

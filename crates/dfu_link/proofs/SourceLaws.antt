@@ -7,7 +7,7 @@ use Rattle.std.specs.Prelude.{IfSome, not, ◌==◌}
 use Rattle.std.specs.List.{position}
 use Rattle.std.specs.Io.KnownBytes.{Consumes, IsAtEnd, Keeps, prepend_known}
 use Rattle.dfu_link.specs.Words.{lines_of, endless, is_newline}
-use Rattle.dfu_link.specs.Lines.{line_of}
+use Rattle.dfu_link.specs.Lines.{read_line, line_of}
 use Rattle.dfu_link.specs.TextLimit.{GoesOver, IsStopped, GivesNone}
 use Rattle.dfu_link.specs.inside.Source.{source_state, Takes, TakesPiece, Next, GivesLine, StopsSource}
 use Rattle.dfu_link.specs.declared.scripting.fault.ScriptFault.TheVariants.{BadLine}
@@ -184,7 +184,7 @@ text_ended left left' room room' n x (b ∷ bs) r e true h =
 -- No line.
 
 too_long_is_none : (given : Option (List ℕ)) (line : List ℕ) → 65536 < length line → line_of given line ≡ None
-unfolding line_of
+unfolding line_of read_line
 too_long_is_none given line long = grind (arith, long)
 
 long_line : (g a b : Option (List ℕ)) (room n : ℕ) (line : List ℕ) → Consumes a b line → length line ≡ 65537 → endless line ≡ true

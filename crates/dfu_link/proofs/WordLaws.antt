@@ -9,7 +9,7 @@ use Rattle.std.specs.Char.{is_ascii_digit}
 use Rattle.std.proofs.lemmas.List.{drop_all, get_or-drop}
 use Rattle.std.proofs.lemmas.List.Elements.{All-from_get_or}
 use Rattle.std.specs.List.{slice_split, position, position_or_len, AllPass}
-use Rattle.std.specs.Prelude.{codes, IsTrue, ◌↔◌, is_some, Result, Ok, Err, ◌%◌}
+use Rattle.std.specs.Prelude.{codes, IsTrue, ◌↔◌, is_some, unwrap_or, Result, Ok, Err, ◌%◌}
 use Rattle.std.specs.Str.{bytes_eq}
 use Rattle.hex.specs.Hex.{decode_of, is_hex_digit}
 use Rattle.hex.specs.declared.error.FromHexError.{FromHexError}
@@ -153,3 +153,14 @@ pub hex_same : (w : List ℕ) (r : Bool) → length w % 2 ≡ 0 → bytes_eq w (
     → r ≡ is_some (bytes_of w)
 hex_same w r even off h = hex_by w r (decode_of w) even h refl
     ∙ ap (λ (t : Bool). is_some (cond t (Some []) (ok_of (decode_of w)))) (sym off)
+
+-- What is read of a word in two steps is there where both are.
+pub bind_some : {A B P : Type 0} (x : Option A) (f : A → Option B) (y : B) → (x >>= f) ≡ Some y → ((a : A) → x ≡ Some a → f a ≡ Some y → P)
+    → P
+bind_some None f y h k = absurd cc
+bind_some (Some a) f y h k = k a refl h
+
+-- What a guard lets through is what it was given.
+pub guard_some : (t : Bool) (x y : ℕ) → guard t x ≡ Some y → x ≡ y
+guard_some true x y h = ap (λ (o : Option ℕ). unwrap_or o x) h
+guard_some false x y h = absurd cc

@@ -6,16 +6,10 @@ use Rattle.dfu_link.specs.declared.scripting.keywords.Keyword.TheVariants as key
 use Rattle.dfu_link.specs.declared.scripting.keywords.FateKeyword.{FateKeyword}
 use Rattle.dfu_link.specs.declared.scripting.keywords.FateKeyword.TheVariants as fate
 
--- The first word of a line that isn't a comment.
-unfoldable pub keyword_of : List ℕ → Option Keyword
-keyword_of w =
-    if bytes_eq w (codes "ids") then Some key.Ids
-    else if bytes_eq w (codes "device") then Some key.Device
-    else if bytes_eq w (codes "unit") then Some key.Unit
-    else if bytes_eq w (codes "erase") then Some key.Erase
-    else if bytes_eq w (codes "capacity") then Some key.Capacity
-    else if bytes_eq w (codes "image") then Some key.Image
-    else if bytes_eq w (codes "limits") then Some key.Limits
+-- The first word of a line that isn't a comment, and says nothing of the device and its medium.
+unfoldable pub later_keyword_of : List ℕ → Option Keyword
+later_keyword_of w =
+    if bytes_eq w (codes "limits") then Some key.Limits
     else if bytes_eq w (codes "offer") then Some key.Offer
     else if bytes_eq w (codes "verify") then Some key.Verify
     else if bytes_eq w (codes "upload") then Some key.Upload
@@ -29,6 +23,17 @@ keyword_of w =
     else if bytes_eq w (codes "check") then Some key.Check
     else if bytes_eq w (codes "refuse") then Some key.Refuse
     else None
+
+-- The first word of a line that isn't a comment.
+unfoldable pub keyword_of : List ℕ → Option Keyword
+keyword_of w =
+    if bytes_eq w (codes "ids") then Some key.Ids
+    else if bytes_eq w (codes "device") then Some key.Device
+    else if bytes_eq w (codes "unit") then Some key.Unit
+    else if bytes_eq w (codes "erase") then Some key.Erase
+    else if bytes_eq w (codes "capacity") then Some key.Capacity
+    else if bytes_eq w (codes "image") then Some key.Image
+    else later_keyword_of w
 
 -- The word after `go`: that of a fate, or `until`.
 unfoldable pub fate_keyword_of : List ℕ → Option FateKeyword

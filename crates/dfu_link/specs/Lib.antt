@@ -30,6 +30,7 @@ pub use Rattle.dfu_sim.specs.OneResult
 pub mod Words
 pub mod Said
 pub mod Keywords
+pub mod Fields
 pub mod Lines
 pub mod Texts
 pub mod TextLimit

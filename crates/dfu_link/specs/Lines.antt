@@ -1,183 +1,189 @@
--- The grammar of a line: its fields, its forms, and what each form says.
-use Rattle.std.specs.Prelude.{ℕ, ◌%◌, Bool, false, length, ◌==◌, List, [], ◌∷◌, Option, Some, None, nat_le, codes, if◌then◌else◌}
+-- The grammar of a line: its forms, what each form says, and what is wrong with a line that has none.
+use Rattle.std.specs.Prelude.{◌≡◌, ℕ, Bool, false, length, ◌==◌, List, [], ◌∷◌, Option, Some, Result, Ok, Err, ok_or, nat_le, codes, if◌then◌else◌}
 use Rattle.std.specs.Str.{bytes_eq}
 use Rattle.dfu_wire.specs.Functional.{functional_of}
-use Rattle.dfu_slots.specs.declared.unit.Unit.{Unit as WriteUnit}
-use Rattle.dfu_slots.specs.declared.unit.Unit.TheVariants.{Byte, U16, U64, U256}
 use Rattle.dfu_wire.specs.Identifier.{identifier_in}
-use Rattle.dfu_device.specs.declared.objection.Objection.{Objection}
-use Rattle.dfu_device.specs.declared.objection.Objection.TheVariants.{Target, File}
 use Rattle.dfu_sim.specs.declared.aim.Aim.{Aim}
 use Rattle.dfu_sim.specs.declared.aim.Aim.TheVariants.{Install, Verify}
-use Rattle.dfu_link.specs.Words.{◌>>=◌, guard, bytes_of, number_of, pair_of, first, text_behind, ends, words_of}
 use Rattle.dfu_sim.specs.Happening.{Fate, Pass, LostOut, LostBack, Twice, TwiceLostBack, Slip, CutIn, Fail, Lie, unharmed, harmed}
+use Rattle.dfu_link.specs.Words.{ok_of, bytes_of, number_of, first, text_behind, words_of}
+use Rattle.dfu_link.specs.Fields.{small_of, count_of, attributes_of, unit_of, sector_of, objection_of, named_bytes}
 use Rattle.dfu_link.specs.Said.{Said, Blank, Sets, LimitsTo, Does, GoesOn, Show, Expects, TheIds, TheDevice, TheUnit, TheSector, TheCapacity, TheImage, TheCheck, Offer, Upload, Abort, Go, Time, Reset, Cut, Refuse}
 use Rattle.dfu_link.specs.Keywords.{keyword_of, fate_keyword_of}
 use Rattle.dfu_link.specs.declared.scripting.keywords.Keyword.{Keyword}
 use Rattle.dfu_link.specs.declared.scripting.keywords.Keyword.TheVariants as key
 use Rattle.dfu_link.specs.declared.scripting.keywords.FateKeyword.{FateKeyword}
 use Rattle.dfu_link.specs.declared.scripting.keywords.FateKeyword.TheVariants as fate
+use Rattle.dfu_link.specs.declared.scripting.wrong.Field.{Field}
+use Rattle.dfu_link.specs.declared.scripting.wrong.Field.TheVariants as a
+use Rattle.dfu_link.specs.declared.scripting.wrong.LineFault.{LineFault}
+use Rattle.dfu_link.specs.declared.scripting.wrong.LineFault.TheVariants as wrong
 
--- A field: a value, and the words after it.
-abbrev pub Field : Type 0 → Type 0
-Field A = Option (A × List (List ℕ))
+-- What is read of a line, or what is wrong with it.
+abbrev pub Read : Type 0 → Type 0
+Read A = Result A LineFault
 
--- The first word as this reads it, and the words after it.
-abbrev pub field : {A : Type 0} → (List ℕ → Option A) → List (List ℕ) → Field A
-field read words = first words >>= λ w. read w.0 >>= λ x. Some (x, w.1)
+-- One step of reading after another: what is wrong with the first is wrong with the line.
+infixl 10 ◌>>=◌
+abbrev pub ◌>>=◌ : {A B : Type 0} → Read A → (A → Read B) → Read B
+(Ok x) >>= f = f x
+(Err e) >>= f = Err e
+
+-- What the code read, seen for what it means, is what is to be read; and if it read nothing, the same is wrong.
+abbrev pub Tells : {X Y : Type 0} → (X → Y) → Read X → Read Y → Type 0
+Tells view (Ok x) read = read ≡ Ok (view x)
+Tells view (Err e) read = read ≡ Err e
+
+-- Word n of a line of so many, as this reads it, and the words after it.
+abbrev pub field : {A : Type 0} → Field → (List ℕ → Option A) → (n of : ℕ) → List (List ℕ) → Read (A × List (List ℕ))
+field f read n of words =
+    ok_or (first words) (wrong.Count of) >>= λ w. ok_or (read w.0) (wrong.Word f n) >>= λ x. Ok (x, w.1)
 
 -- A number.
-unfoldable pub number_at : List (List ℕ) → Field ℕ
-number_at words = field number_of words
+unfoldable pub number_at : (n of : ℕ) → List (List ℕ) → Read (ℕ × List (List ℕ))
+number_at n of words = field a.Number number_of n of words
 
--- A number that is at most this one.
-unfoldable pub small_at : ℕ → List (List ℕ) → Field ℕ
-small_at most words = number_at words >>= λ n. guard (nat_le n.0 most) n
+-- A number of at most 65,535.
+unfoldable pub short_at : (n of : ℕ) → List (List ℕ) → Read (ℕ × List (List ℕ))
+short_at n of words = field a.Short (small_of 65535) n of words
 
 -- Hexadecimal text.
-unfoldable pub hex_at : List (List ℕ) → Field (List ℕ)
-hex_at words = field bytes_of words
+unfoldable pub hex_at : (n of : ℕ) → List (List ℕ) → Read (List ℕ × List (List ℕ))
+hex_at n of words = field a.Bytes bytes_of n of words
 
--- The bytes that a word of an offer stands for: FILE for the bytes that are given, if they are, any other for those that it spells.
-unfoldable pub named_bytes : Option (List ℕ) → List ℕ → Option (List ℕ)
-named_bytes given word = if bytes_eq word (codes "FILE") then given else bytes_of word
+-- What is wrong with word n if it stands for no file.
+abbrev pub no_file : List ℕ → (n : ℕ) → LineFault
+no_file word n = if bytes_eq word (codes "FILE") then wrong.NoFile else wrong.Word a.Bytes n
 
 -- The bytes of a file that is offered.
-unfoldable pub file_at : Option (List ℕ) → List (List ℕ) → Field (List ℕ)
-file_at given words = field (named_bytes given) words
+unfoldable pub file_at : Option (List ℕ) → (n of : ℕ) → List (List ℕ) → Read (List ℕ × List (List ℕ))
+file_at given n of words =
+    ok_or (first words) (wrong.Count of) >>= λ w. ok_or (named_bytes given w.0) (no_file w.0 n) >>= λ x. Ok (x, w.1)
 
 -- Four hexadecimal digits.
-unfoldable pub identifier_at : List (List ℕ) → Field ℕ
-identifier_at words = field identifier_in words
+unfoldable pub identifier_at : (n of : ℕ) → List (List ℕ) → Read (ℕ × List (List ℕ))
+identifier_at n of words = field a.Identifier identifier_in n of words
 
 -- Two hexadecimal digits, 00 to 0f.
-unfoldable pub attributes_at : List (List ℕ) → Field ℕ
-attributes_at words = field pair_of words >>= λ n. guard (nat_le n.0 15) n
+unfoldable pub attributes_at : (n of : ℕ) → List (List ℕ) → Read (ℕ × List (List ℕ))
+attributes_at n of words = field a.Attributes attributes_of n of words
+
+-- A line is a comment where its first word begins with `#`.
+abbrev pub is_comment : List ℕ → Bool
+is_comment [] = false
+is_comment (byte ∷ bytes) = byte == 35
+
+-- This, if the line has no further word; it has to have so many.
+abbrev pub ends : {A : Type 0} → A → (of : ℕ) → List (List ℕ) → Read A
+ends x of [] = Ok x
+ends x of (word ∷ words) = Err (if is_comment word then wrong.Comment else wrong.Count of)
 
 -- After `ids`: the vendor, the product and the device.
-unfoldable pub ids_of : List (List ℕ) → Option Said
+unfoldable pub ids_of : List (List ℕ) → Read Said
 ids_of words = do
-  vendor ← identifier_at words
-  product ← identifier_at vendor.1
-  device ← identifier_at product.1
-  ends (Sets (TheIds (record { device = device.0; product = product.0; vendor = vendor.0 }))) device.1
+  vendor ← identifier_at 2 4 words
+  product ← identifier_at 3 4 vendor.1
+  device ← identifier_at 4 4 product.1
+  ends (Sets (TheIds (record { device = device.0; product = product.0; vendor = vendor.0 }))) 4 device.1
 
 -- After `device`: the attributes, the detach timeout, the transfer size, the fewest bytes of an image, and two times.
-unfoldable pub device_of : List (List ℕ) → Option Said
+unfoldable pub device_of : List (List ℕ) → Read Said
 device_of words = do
-  attributes ← attributes_at words
-  detach ← small_at 65535 attributes.1
-  transfer ← small_at 65535 detach.1
-  least ← number_at transfer.1
-  busy ← number_at least.1
-  manifest ← number_at busy.1
-  ends (Sets (TheDevice (functional_of attributes.0 detach.0 transfer.0 0x0110) least.0 busy.0 manifest.0)) manifest.1
+  attributes ← attributes_at 2 7 words
+  detach ← short_at 3 7 attributes.1
+  transfer ← short_at 4 7 detach.1
+  least ← number_at 5 7 transfer.1
+  busy ← number_at 6 7 least.1
+  manifest ← number_at 7 7 busy.1
+  ends (Sets (TheDevice (functional_of attributes.0 detach.0 transfer.0 0x0110) least.0 busy.0 manifest.0)) 7 manifest.1
 
--- The unit of so many bytes.
-abbrev pub unit_named : ℕ → Option WriteUnit
-unit_named n =
-    if n == 1 then Some Byte
-    else if n == 16 then Some U16
-    else if n == 64 then Some U64
-    else if n == 256 then Some U256
-    else None
+-- After `unit`: how many bytes the medium writes at a time.
+unfoldable pub unit_line : List (List ℕ) → Read Said
+unit_line words = do
+  unit ← field a.Unit unit_of 2 2 words
+  ends (Sets (TheUnit unit.0)) 2 unit.1
 
--- After `unit`: how many bytes the medium writes at a time, 1, 16, 64 or 256.
-unfoldable pub unit_of : List (List ℕ) → Option Said
-unit_of words = do
-  n ← number_at words
-  unit ← unit_named n.0
-  ends (Sets (TheUnit unit)) n.1
-
--- After `erase`: how many bytes the medium erases at a time, 0 or a multiple of 256 up to 131,072.
-unfoldable pub erase_of : List (List ℕ) → Option Said
+-- After `erase`: how many bytes the medium erases at a time.
+unfoldable pub erase_of : List (List ℕ) → Read Said
 erase_of words = do
-  n ← small_at 131072 words
-  if n.0 % 256 == 0 then ends (Sets (TheSector n.0)) n.1 else None
+  sector ← field a.Sector sector_of 2 2 words
+  ends (Sets (TheSector sector.0)) 2 sector.1
 
--- After `capacity`: a number from 1 to 1,048,576.
-unfoldable pub capacity_of : List (List ℕ) → Option Said
+-- After `capacity`: how many bytes an image may have.
+unfoldable pub capacity_of : List (List ℕ) → Read Said
 capacity_of words = do
-  n ← small_at 1048576 words
-  if nat_le 1 n.0 then ends (Sets (TheCapacity n.0)) n.1 else None
+  n ← field a.Capacity (count_of 1048576) 2 2 words
+  ends (Sets (TheCapacity n.0)) 2 n.1
 
 -- After `image`: the bytes.
-unfoldable pub image_of : List (List ℕ) → Option Said
+unfoldable pub image_of : List (List ℕ) → Read Said
 image_of words = do
-  image ← hex_at words
-  ends (Sets (TheImage image.0)) image.1
+  image ← hex_at 2 2 words
+  ends (Sets (TheImage image.0)) 2 image.1
 
 -- After `check`: the bytes.
-unfoldable pub check_of : List (List ℕ) → Option Said
+unfoldable pub check_of : List (List ℕ) → Read Said
 check_of words = do
-  front ← hex_at words
-  ends (Sets (TheCheck front.0)) front.1
+  front ← hex_at 2 2 words
+  ends (Sets (TheCheck front.0)) 2 front.1
 
 -- After `limits`: the actions, and the restarts.
-unfoldable pub limits_of : List (List ℕ) → Option Said
+unfoldable pub limits_of : List (List ℕ) → Read Said
 limits_of words = do
-  actions ← number_at words
-  restarts ← small_at 65535 actions.1
-  ends (LimitsTo actions.0 restarts.0) restarts.1
+  actions ← number_at 2 3 words
+  restarts ← short_at 3 3 actions.1
+  ends (LimitsTo actions.0 restarts.0) 3 restarts.1
 
 -- After `offer` and `verify`: the bytes of the file.
-unfoldable pub offer_of : (given : Option (List ℕ)) → Aim → List (List ℕ) → Option Said
+unfoldable pub offer_of : (given : Option (List ℕ)) → Aim → List (List ℕ) → Read Said
 offer_of given aim words = do
-  file ← file_at given words
-  ends (Does (Offer aim file.0)) file.1
+  file ← file_at given 2 2 words
+  ends (Does (Offer aim file.0)) 2 file.1
 
 -- After `time`: the milliseconds.
-unfoldable pub time_of : List (List ℕ) → Option Said
+unfoldable pub time_of : List (List ℕ) → Read Said
 time_of words = do
-  ms ← number_at words
-  ends (Does (Time ms.0)) ms.1
-
--- The word of why a program refuses an image: the status code that tells of it.
-abbrev pub objection_named : List ℕ → Option Objection
-objection_named w =
-    if bytes_eq w (codes "errTARGET") then Some Target
-    else if bytes_eq w (codes "errFILE") then Some File
-    else None
+  ms ← number_at 2 2 words
+  ends (Does (Time ms.0)) 2 ms.1
 
 -- After `refuse`: why.
-unfoldable pub refuse_of : List (List ℕ) → Option Said
+unfoldable pub refuse_of : List (List ℕ) → Read Said
 refuse_of words = do
-  word ← first words
-  why ← objection_named word.0
-  ends (Does (Refuse why)) word.1
+  why ← field a.Objection objection_of 2 2 words
+  ends (Does (Refuse why.0)) 2 why.1
 
 -- After `go pass`: how often, 1 to 1,000,000 times.
-unfoldable pub pass_of : List (List ℕ) → Option Said
+unfoldable pub pass_of : List (List ℕ) → Read Said
 pass_of words = do
-  times ← small_at 1000000 words
-  if nat_le 1 times.0 then ends (Does (Go Pass unharmed times.0)) times.1 else None
+  times ← field a.Times (count_of 1000000) 3 3 words
+  ends (Does (Go Pass unharmed times.0)) 3 times.1
 
 -- After `go slip`: the milliseconds.
-unfoldable pub slip_of : List (List ℕ) → Option Said
+unfoldable pub slip_of : List (List ℕ) → Read Said
 slip_of words = do
-  ms ← number_at words
-  ends (Does (Go (Slip ms.0) unharmed 1)) ms.1
+  ms ← number_at 3 3 words
+  ends (Does (Go (Slip ms.0) unharmed 1)) 3 ms.1
 
 -- After `go cut`, `go fail` and `go lie`: how many writes work, and the tear.
-unfoldable pub harmed_of : Fate → List (List ℕ) → Option Said
+unfoldable pub harmed_of : Fate → List (List ℕ) → Read Said
 harmed_of f words = do
-  writes ← number_at words
-  tear ← hex_at writes.1
-  ends (Does (Go f (harmed writes.0 tear.0) 1)) tear.1
+  writes ← number_at 3 4 words
+  tear ← hex_at 4 4 writes.1
+  ends (Does (Go f (harmed writes.0 tear.0) 1)) 4 tear.1
 
 -- After `go until`: the word `report`.
-unfoldable pub until_of : List (List ℕ) → Option Said
+unfoldable pub until_of : List (List ℕ) → Read Said
 until_of words = do
-  word ← first words
-  if bytes_eq word.0 (codes "report") then ends GoesOn word.1 else None
+  word ← ok_or (first words) (wrong.Count 3)
+  if bytes_eq word.0 (codes "report") then ends GoesOn 3 word.1 else Err (wrong.Word a.Report 3)
 
 -- After the word of a fate, or `until`.
-abbrev pub by_fate : FateKeyword → List (List ℕ) → Option Said
+abbrev pub by_fate : FateKeyword → List (List ℕ) → Read Said
 by_fate fate.Pass words = pass_of words
-by_fate fate.LostOut words = ends (Does (Go LostOut unharmed 1)) words
-by_fate fate.LostBack words = ends (Does (Go LostBack unharmed 1)) words
-by_fate fate.Twice words = ends (Does (Go Twice unharmed 1)) words
-by_fate fate.TwiceLostBack words = ends (Does (Go TwiceLostBack unharmed 1)) words
+by_fate fate.LostOut words = ends (Does (Go LostOut unharmed 1)) 2 words
+by_fate fate.LostBack words = ends (Does (Go LostBack unharmed 1)) 2 words
+by_fate fate.Twice words = ends (Does (Go Twice unharmed 1)) 2 words
+by_fate fate.TwiceLostBack words = ends (Does (Go TwiceLostBack unharmed 1)) 2 words
 by_fate fate.Slip words = slip_of words
 by_fate fate.Cut words = harmed_of CutIn words
 by_fate fate.Fail words = harmed_of Fail words
@@ -185,50 +191,50 @@ by_fate fate.Lie words = harmed_of Lie words
 by_fate fate.Until words = until_of words
 
 -- After `go`: a fate, or `until`.
-unfoldable pub go_of : List (List ℕ) → Option Said
+unfoldable pub go_of : List (List ℕ) → Read Said
 go_of words = do
-  word ← first words
-  k ← fate_keyword_of word.0
+  word ← ok_or (first words) wrong.NoFate
+  k ← ok_or (fate_keyword_of word.0) wrong.Fate
   by_fate k word.1
 
 -- `expect`: the line that is to be printed next, which has a byte.
-unfoldable pub expect_of : List ℕ → Option Said
+unfoldable pub expect_of : List ℕ → Read Said
 expect_of line = do
-  text ← text_behind line
-  if length text == 0 then None else Some (Expects text)
+  text ← ok_or (text_behind line) wrong.NoText
+  if length text == 0 then Err wrong.NoText else Ok (Expects text)
 
 -- After the first word of a line, or with all of it.
-abbrev pub by_keyword : (given : Option (List ℕ)) → Keyword → (line : List ℕ) → List (List ℕ) → Option Said
+abbrev pub by_keyword : (given : Option (List ℕ)) → Keyword → (line : List ℕ) → List (List ℕ) → Read Said
 by_keyword given key.Ids line words = ids_of words
 by_keyword given key.Device line words = device_of words
-by_keyword given key.Unit line words = unit_of words
+by_keyword given key.Unit line words = unit_line words
 by_keyword given key.Erase line words = erase_of words
 by_keyword given key.Capacity line words = capacity_of words
 by_keyword given key.Image line words = image_of words
 by_keyword given key.Limits line words = limits_of words
 by_keyword given key.Offer line words = offer_of given Install words
 by_keyword given key.Verify line words = offer_of given Verify words
-by_keyword given key.Upload line words = ends (Does Upload) words
-by_keyword given key.Abort line words = ends (Does Abort) words
+by_keyword given key.Upload line words = ends (Does Upload) 1 words
+by_keyword given key.Abort line words = ends (Does Abort) 1 words
 by_keyword given key.Go line words = go_of words
 by_keyword given key.Time line words = time_of words
-by_keyword given key.Reset line words = ends (Does Reset) words
-by_keyword given key.Cut line words = ends (Does Cut) words
-by_keyword given key.Show line words = ends Show words
+by_keyword given key.Reset line words = ends (Does Reset) 1 words
+by_keyword given key.Cut line words = ends (Does Cut) 1 words
+by_keyword given key.Show line words = ends Show 1 words
 by_keyword given key.Expect line words = expect_of line
 by_keyword given key.Check line words = check_of words
 by_keyword given key.Refuse line words = refuse_of words
 
--- A line is a comment where its first word begins with `#`.
-abbrev pub is_comment : List ℕ → Bool
-is_comment [] = false
-is_comment (byte ∷ bytes) = byte == 35
-
 -- What the words of a line say: nothing where there are none, or where they are a comment.
-abbrev pub says : (given : Option (List ℕ)) → (line : List ℕ) → List (List ℕ) → Option Said
-says given line [] = Some Blank
-says given line (word ∷ words) = if is_comment word then Some Blank else (keyword_of word >>= λ k. by_keyword given k line words)
+abbrev pub says : (given : Option (List ℕ)) → (line : List ℕ) → List (List ℕ) → Read Said
+says given line [] = Ok Blank
+says given line (word ∷ words) =
+    if is_comment word then Ok Blank else (ok_or (keyword_of word) wrong.Keyword >>= λ k. by_keyword given k line words)
 
--- What a line says, where these bytes are given, if it is one of the language: a line over 65,536 bytes is none.
+-- What a line says, where these bytes are given, or what is wrong with it: a line over 65,536 bytes says nothing.
+unfoldable pub read_line : (given : Option (List ℕ)) → List ℕ → Read Said
+read_line given line = if nat_le (length line) 65536 then says given line (words_of line) else Err wrong.Long
+
+-- What a line says, where these bytes are given, if it is one of the language.
 unfoldable pub line_of : (given : Option (List ℕ)) → List ℕ → Option Said
-line_of given line = if nat_le (length line) 65536 then says given line (words_of line) else None
+line_of given line = ok_of (read_line given line)

@@ -62,11 +62,6 @@ unfoldable pub text_behind : List ℕ → Option (List ℕ)
 text_behind line =
     position is_no_space line >>= λ start. position is_space (drop start line) >>= λ end. Some (drop (end + 1) (drop start line))
 
--- This, where no further word is left.
-abbrev pub ends : {A : Type 0} → A → List (List ℕ) → Option A
-ends x [] = Some x
-ends x (word ∷ words) = None
-
 -- The number that decimal digits make after those that make n.
 abbrev pub digits_value : ℕ → List ℕ → Option ℕ
 digits_value n [] = Some n

@@ -4,7 +4,7 @@ ghost use Rattle.std.specs.Prelude.{◌≡◌, IfErr};
 
 use crate::same::are_the_same;
 use crate::scripting::ScriptFault;
-use crate::seen::Difference;
+use crate::seen::Stopped;
 use dfu_asks::Sector;
 use dfu_board_sim::{BoardWorld, MemoryBoard};
 use dfu_device::Device;
@@ -17,7 +17,7 @@ use std::alloc::Global;
 #[derive(Drop)]
 pub(crate) struct Beside<'d> {
     board: Option<MemoryBoard>,
-    seen: &'d Difference,
+    seen: &'d Stopped,
 }
 
 impl<'d> Beside<'d> {
@@ -30,7 +30,7 @@ impl<'d> Beside<'d> {
         alloc: Global,
         is_wanted: bool,
         device: &Device<SimMedium>,
-        seen: &'d Difference,
+        seen: &'d Stopped,
     ) -> Result<Beside<'d>, ScriptFault>
         ensures fault { IfErr result (λ f. f ≡ ScriptFault.NoMemory) }
     {
@@ -92,7 +92,7 @@ fn board_of(alloc: Global, device: &Device<SimMedium>) -> Option<MemoryBoard> {
 pub(crate) struct Played<'f, 'd> {
     world: Option<BoardWorld<'f>>,
     pub number: u32,
-    seen: &'d Difference,
+    seen: &'d Stopped,
 }
 
 impl<'f> Played<'f, '_> {

@@ -13,6 +13,7 @@ mod watch;
 
 pub use dfu_sim::{Aim, Event, Fate, LinkFault, OfferFault, Stop, World, laws, run};
 pub use scripting::{
-    ScriptFault, script, script_beside_traced_with, script_beside_with, script_traced,
-    script_traced_with, script_with,
+    Field, LineFault, ScriptFault, SetupFault, script, script_beside_traced_with,
+    script_beside_with, script_traced, script_traced_with, script_with,
 };
+pub use seen::{Reason, Stopped};

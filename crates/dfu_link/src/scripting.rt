@@ -20,13 +20,18 @@ mod playing;
 mod reading;
 pub(crate) mod saying;
 mod setup;
+pub(crate) mod setup_fault;
 pub(crate) mod showing;
 mod source;
 mod starting;
+mod values;
 mod whole;
 mod words;
+pub(crate) mod wrong;
 
 pub use alone::{script, script_traced};
 pub use fault::ScriptFault;
 pub use on_board::{script_beside_traced_with, script_beside_with};
+pub use setup_fault::SetupFault;
 pub use whole::{script_traced_with, script_with};
+pub use wrong::{Field, LineFault};

@@ -16,7 +16,7 @@ use crate::scripting::fault::ScriptFault;
 use crate::scripting::held::{file_of, tear_of};
 use crate::scripting::line::{EventLine, Line};
 use crate::scripting::playing::{play_events, play_live};
-use crate::scripting::reading::parse;
+use crate::scripting::reading::{note_line, parse};
 use crate::scripting::showing::{image_next, show_next};
 use crate::scripting::source::Source;
 use crate::watch::Watch;
@@ -42,7 +42,10 @@ fn plain_line<'l, 'g, M: Medium, W: Write>(
         (W.contents writer.new) f) }
 {
     match parse(ahead.given, line) {
-        None => Err(ScriptFault::BadLine(number)),
+        None => {
+            note_line(ahead.stopped, ahead.given, line);
+            Err(ScriptFault::BadLine(number))
+        }
         Some(Line::Blank) => Ok(None),
         Some(Line::Set(_)) => Err(ScriptFault::LateConfig(number)),
         Some(Line::Limits { actions, restarts }) => {

@@ -6,6 +6,7 @@ ghost use Rattle.dfu_link.specs.Printed.{HasPrinted};
 
 use crate::scripting::fault::ScriptFault;
 use crate::scripting::whole::{script_traced_with, script_with};
+use crate::seen::Stopped;
 use std::alloc::Global;
 use std::io::{Read, Write};
 
@@ -28,7 +29,7 @@ pub fn script<R: Read + Drop, W: Write>(
     ensures printed { IfSome (R.remaining reader)
         (λ text. HasPrinted None text (W.contents writer.old) (W.contents writer.new) result) }
 {
-    script_with::<R, W>(alloc, None, reader, writer)
+    script_with::<R, W>(alloc, None, reader, writer, &Stopped::new())
 }
 
 /// Runs a script as `script_traced_with` does, where no bytes are given.
@@ -47,5 +48,5 @@ pub fn script_traced<R: Read + Drop, W: Write, N: Write>(
     ensures printed { IfSome (R.remaining reader)
         (λ text. HasPrinted None text (W.contents writer.old) (W.contents writer.new) result.0) }
 {
-    script_traced_with::<R, W, N>(alloc, None, reader, writer, trace)
+    script_traced_with::<R, W, N>(alloc, None, reader, writer, trace, &Stopped::new())
 }

@@ -5,6 +5,7 @@ ghost use Rattle.dfu_link.specs.inside.Expected.{expectation_of, PrintsNext, Can
 
 use crate::scripting::fault::ScriptFault;
 use crate::scripting::output::write_out;
+use crate::seen::Stopped;
 use dfu_host::Limits;
 use std::alloc::Global;
 use std::io::Write;
@@ -19,14 +20,15 @@ pub(crate) struct Expectation {
 }
 
 /// What holds for the lines to come: the bytes that FILE stands for, if they are given, those with
-/// which an image begins that the program takes, the limits of later sessions, and which line is
-/// expected.
+/// which an image begins that the program takes, the limits of later sessions, which line is
+/// expected, and where it is noted what is wrong with a line.
 #[derive(Drop)]
 pub(crate) struct Ahead<'g> {
     pub given: Option<&'g [u8]>,
     pub check: &'g [u8],
     pub limits: Limits,
     pub next: Option<Expectation>,
+    pub stopped: &'g Stopped,
 }
 
 /// Expects a line. Nothing was expected before.

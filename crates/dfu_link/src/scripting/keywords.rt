@@ -1,7 +1,7 @@
 //! The words that a line or a fate begins with.
 
 ghost use Rattle.std.specs.Prelude.{◌≡◌};
-ghost use Rattle.dfu_link.specs.Keywords.{keyword_of, fate_keyword_of};
+ghost use Rattle.dfu_link.specs.Keywords.{keyword_of, later_keyword_of, fate_keyword_of};
 
 /// The first word of a line.
 #[derive(Clone, Copy, Debug, PartialEq, Eq)]
@@ -42,23 +42,12 @@ pub(crate) enum FateKeyword {
     Until,
 }
 
-#[tactic(auto, unfolding(crate::specs::Keywords::keyword_of))]
-pub(crate) fn read_keyword(word: &[u8]) -> Option<Keyword>
-    ensures { result ≡ keyword_of word.now }
+/// The first word of a line that says nothing of the device and its medium.
+#[tactic(auto, unfolding(crate::specs::Keywords::later_keyword_of))]
+fn read_later(word: &[u8]) -> Option<Keyword>
+    ensures { result ≡ later_keyword_of word.now }
 {
-    if word == b"ids".as_slice() {
-        Some(Keyword::Ids)
-    } else if word == b"device".as_slice() {
-        Some(Keyword::Device)
-    } else if word == b"unit".as_slice() {
-        Some(Keyword::Unit)
-    } else if word == b"erase".as_slice() {
-        Some(Keyword::Erase)
-    } else if word == b"capacity".as_slice() {
-        Some(Keyword::Capacity)
-    } else if word == b"image".as_slice() {
-        Some(Keyword::Image)
-    } else if word == b"limits".as_slice() {
+    if word == b"limits".as_slice() {
         Some(Keyword::Limits)
     } else if word == b"offer".as_slice() {
         Some(Keyword::Offer)
@@ -86,6 +75,27 @@ pub(crate) fn read_keyword(word: &[u8]) -> Option<Keyword>
         Some(Keyword::Refuse)
     } else {
         None
+    }
+}
+
+#[tactic(auto, unfolding(crate::specs::Keywords::keyword_of))]
+pub(crate) fn read_keyword(word: &[u8]) -> Option<Keyword>
+    ensures { result ≡ keyword_of word.now }
+{
+    if word == b"ids".as_slice() {
+        Some(Keyword::Ids)
+    } else if word == b"device".as_slice() {
+        Some(Keyword::Device)
+    } else if word == b"unit".as_slice() {
+        Some(Keyword::Unit)
+    } else if word == b"erase".as_slice() {
+        Some(Keyword::Erase)
+    } else if word == b"capacity".as_slice() {
+        Some(Keyword::Capacity)
+    } else if word == b"image".as_slice() {
+        Some(Keyword::Image)
+    } else {
+        read_later(word)
     }
 }
 

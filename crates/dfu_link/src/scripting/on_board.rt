@@ -7,7 +7,7 @@ ghost use Rattle.dfu_link.specs.Printed.{HasPrinted};
 
 use crate::scripting::fault::ScriptFault;
 use crate::scripting::whole::run_lines;
-use crate::seen::{Difference, Until};
+use crate::seen::{Stopped, Until};
 use crate::watch::{Nobody, Trace};
 use dfu_sim::laws::image_shown;
 use std::alloc::Global;
@@ -32,6 +32,7 @@ pub fn script_beside_with<R: Read + Drop, W: Write + Drop>(
     given: Option<&[u8]>,
     reader: R,
     writer: W,
+    stopped: &Stopped,
 ) -> (Result<(), ScriptFault>, Option<u32>, W)
     // What is written is what a run of the script on the device writes, as far as it goes.
     ensures ended { IfSome (R.remaining reader)
@@ -41,28 +42,27 @@ pub fn script_beside_with<R: Read + Drop, W: Write + Drop>(
 {
     // Called for its law, which `printed` needs: no image but the one that is shown is active.
     image_shown();
-    let seen = Difference::none();
     let mut until = Until {
         inner: writer,
-        seen: &seen,
+        seen: stopped,
     };
     let answer = run_lines::<Nobody, Until<'_, R>, Until<'_, W>>(
         alloc,
         given,
         Until {
             inner: reader,
-            seen: &seen,
+            seen: stopped,
         },
         &mut until,
         &mut Nobody,
         true,
-        &seen,
+        stopped,
     );
     let Until {
         inner: writer,
         seen: _,
     } = until;
-    (answer, seen.line(), writer)
+    (answer, stopped.line(), writer)
 }
 
 /// Runs a script as `script_beside_with` does, and writes a line for each action of the host to `trace`, as `script_traced_with` does. The
@@ -78,6 +78,7 @@ pub fn script_beside_traced_with<R: Read + Drop, W: Write + Drop, N: Write>(
     reader: R,
     writer: W,
     trace: &mut N,
+    stopped: &Stopped,
 ) -> (Result<(), ScriptFault>, Option<u32>, W, bool)
     ensures ended { IfSome (R.remaining reader)
         (λ text. Ended (given_bytes given.entry) text (W.contents writer) (W.contents result.2) result.0) }
@@ -86,10 +87,9 @@ pub fn script_beside_traced_with<R: Read + Drop, W: Write + Drop, N: Write>(
 {
     // Called for its law, which `printed` needs: no image but the one that is shown is active.
     image_shown();
-    let seen = Difference::none();
     let mut until = Until {
         inner: writer,
-        seen: &seen,
+        seen: stopped,
     };
     let mut told = Trace::new(alloc, trace);
     let answer = run_lines::<Trace<'_, N>, Until<'_, R>, Until<'_, W>>(
@@ -97,17 +97,17 @@ pub fn script_beside_traced_with<R: Read + Drop, W: Write + Drop, N: Write>(
         given,
         Until {
             inner: reader,
-            seen: &seen,
+            seen: stopped,
         },
         &mut until,
         &mut told,
         true,
-        &seen,
+        stopped,
     );
     let is_traced = !told.is_broken;
     let Until {
         inner: writer,
         seen: _,
     } = until;
-    (answer, seen.line(), writer, is_traced)
+    (answer, stopped.line(), writer, is_traced)
 }

@@ -150,44 +150,28 @@ pub(crate) fn play_events<'f, T: Watch<M>, M: Faulty, W: Write>(
 {
     let limits = ahead.limits;
     let check = ahead.check;
+    let next = &mut ahead.next;
     match events {
         EventLine::Offer { aim, .. } => {
-            play::<M, W>(
-                world,
-                offered(aim, file, limits),
-                beside,
-                &mut ahead.next,
-                writer,
-            )
+            play::<M, W>(world, offered(aim, file, limits), beside, next, writer)
         }
-        EventLine::Upload => play::<M, W>(
-            world,
-            Event::Upload { limits },
-            beside,
-            &mut ahead.next,
-            writer,
-        ),
-        EventLine::Abort => play::<M, W>(world, Event::Abort, beside, &mut ahead.next, writer),
+        EventLine::Upload => play::<M, W>(world, Event::Upload { limits }, beside, next, writer),
+        EventLine::Abort => play::<M, W>(world, Event::Abort, beside, next, writer),
         EventLine::Go { fate, times } => {
-            let next = &mut ahead.next;
             play_actions::<T, M, W>(world, fate, times, check, beside, next, writer, watch)
         }
         EventLine::GoHarmed { harm, writes, .. } => {
             let fate = harmed(harm, writes, torn);
-            let next = &mut ahead.next;
             play_actions::<T, M, W>(world, fate, 1, check, beside, next, writer, watch)
         }
-        EventLine::GoOn => pass_on::<T, M, W>(world, check, beside, &mut ahead.next, writer, watch),
+        EventLine::GoOn => pass_on::<T, M, W>(world, check, beside, next, writer, watch),
         EventLine::Time(ms) => {
             watch.pass(ms);
-            play::<M, W>(world, Event::Time(ms), beside, &mut ahead.next, writer)
+            play::<M, W>(world, Event::Time(ms), beside, next, writer)
         }
-        EventLine::Reset => play::<M, W>(world, Event::Reset, beside, &mut ahead.next, writer),
-        EventLine::Cut => play::<M, W>(world, Event::Cut, beside, &mut ahead.next, writer),
-        EventLine::Refuse(objection) => {
-            let event = Event::Refuse(objection);
-            play::<M, W>(world, event, beside, &mut ahead.next, writer)
-        }
+        EventLine::Reset => play::<M, W>(world, Event::Reset, beside, next, writer),
+        EventLine::Cut => play::<M, W>(world, Event::Cut, beside, next, writer),
+        EventLine::Refuse(why) => play::<M, W>(world, Event::Refuse(why), beside, next, writer),
     }
 }
 

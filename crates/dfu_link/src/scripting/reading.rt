@@ -1,17 +1,18 @@
 //! What a line says, read.
 
-ghost use Rattle.std.specs.Prelude.{◌≡◌};
 ghost use Rattle.dfu_link.specs.Words.{Reads, words_of};
 ghost use Rattle.dfu_link.specs.Said.{given_bytes, said_of};
-ghost use Rattle.dfu_link.specs.Lines.{is_comment, says, by_keyword, line_of};
+ghost use Rattle.dfu_link.specs.Lines.{Tells, says, by_keyword, read_line, line_of};
 
-use crate::scripting::fields::ended;
+use crate::scripting::fields::{ended, is_comment};
 use crate::scripting::keywords::{Keyword, read_keyword};
 use crate::scripting::line::{EventLine, Line};
 use crate::scripting::line_forms::{
     capacity, check, device, erase, expect, go, ids, image, limits, offer, refuse, time, unit,
 };
 use crate::scripting::words::word_at;
+use crate::scripting::wrong::LineFault;
+use crate::seen::{Reason, Stopped};
 use dfu_sim::Aim;
 
 /// The most bytes of a line, without its 0Ah.
@@ -22,8 +23,8 @@ fn by_keyword<'l, 'g>(
     keyword: Keyword,
     line: &'l [u8],
     rest: &'l [u8],
-) -> Option<Line<'l, 'g>>
-    ensures { Reads said_of result (by_keyword (given_bytes given.entry) keyword line.now (words_of rest.now)) }
+) -> Result<Line<'l, 'g>, LineFault>
+    ensures { Tells said_of result (by_keyword (given_bytes given.entry) keyword line.now (words_of rest.now)) }
 {
     match keyword {
         Keyword::Ids => ids(rest),
@@ -35,51 +36,78 @@ fn by_keyword<'l, 'g>(
         Keyword::Limits => limits(rest),
         Keyword::Offer => offer(given, Aim::Install, rest),
         Keyword::Verify => offer(given, Aim::Verify, rest),
-        Keyword::Upload => ended(Line::Do(EventLine::Upload), rest),
-        Keyword::Abort => ended(Line::Do(EventLine::Abort), rest),
+        Keyword::Upload => ended(Line::Do(EventLine::Upload), 1, rest),
+        Keyword::Abort => ended(Line::Do(EventLine::Abort), 1, rest),
         Keyword::Go => go(rest),
         Keyword::Time => time(rest),
-        Keyword::Reset => ended(Line::Do(EventLine::Reset), rest),
-        Keyword::Cut => ended(Line::Do(EventLine::Cut), rest),
-        Keyword::Show => ended(Line::Show, rest),
+        Keyword::Reset => ended(Line::Do(EventLine::Reset), 1, rest),
+        Keyword::Cut => ended(Line::Do(EventLine::Cut), 1, rest),
+        Keyword::Show => ended(Line::Show, 1, rest),
         Keyword::Expect => expect(line),
         Keyword::Check => check(rest),
         Keyword::Refuse => refuse(rest),
     }
 }
 
-fn is_comment(word: &[u8]) -> bool
-    ensures { result ≡ is_comment word.now }
-{
-    match word {
-        [b'#', ..] => true,
-        _ => false,
-    }
-}
-
-fn words_say<'l, 'g>(given: Option<&'g [u8]>, line: &'l [u8]) -> Option<Line<'l, 'g>>
-    ensures { Reads said_of result (says (given_bytes given.entry) line.now (words_of line.now)) }
+fn words_say<'l, 'g>(given: Option<&'g [u8]>, line: &'l [u8]) -> Result<Line<'l, 'g>, LineFault>
+    ensures { Tells said_of result (says (given_bytes given.entry) line.now (words_of line.now)) }
 {
     match word_at(line) {
-        None => Some(Line::Blank),
+        None => Ok(Line::Blank),
         Some((word, rest)) => {
             if is_comment(word) {
-                return Some(Line::Blank);
+                return Ok(Line::Blank);
             }
-            let keyword = read_keyword(word)?;
+            let keyword = read_keyword(word).ok_or(LineFault::Keyword)?;
             by_keyword(given, keyword, line, rest)
         }
     }
 }
 
-/// What a line says where these bytes are given, or nothing where it is none of the language. A line
-/// over 65,536 bytes is none.
+/// What a line says where these bytes are given, or what is wrong with it. A line over 65,536 bytes is none of the language.
+#[tactic(auto, unfolding(crate::specs::Lines::read_line))]
+fn read_line<'l, 'g>(given: Option<&'g [u8]>, line: &'l [u8]) -> Result<Line<'l, 'g>, LineFault>
+    ensures { Tells said_of result (read_line (given_bytes given.entry) line.now) }
+{
+    if line.len() > MAX_LINE {
+        return Err(LineFault::Long);
+    }
+    words_say(given, line)
+}
+
+/// What a line says where these bytes are given, or nothing where it is none of the language.
 #[tactic(auto, unfolding(crate::specs::Lines::line_of))]
 pub(crate) fn parse<'l, 'g>(given: Option<&'g [u8]>, line: &'l [u8]) -> Option<Line<'l, 'g>>
     ensures { Reads said_of result (line_of (given_bytes given.entry) line.now) }
 {
-    if line.len() > MAX_LINE {
-        return None;
+    match read_line(given, line) {
+        Ok(said) => Some(said),
+        Err(_) => None,
     }
-    words_say(given, line)
+}
+
+/// How many words a line has.
+fn count_words(line: &[u8]) -> usize {
+    let mut words: usize = 0;
+    let mut is_in = false;
+    for byte in line {
+        let is_of_word = *byte != b' ';
+        if is_of_word && !is_in {
+            words = words.saturating_add(1);
+        }
+        is_in = is_of_word;
+    }
+    words
+}
+
+/// Notes what is wrong with a line that is none of the language where these bytes are given.
+pub(crate) fn note_line(stopped: &Stopped, given: Option<&[u8]>, line: &[u8]) {
+    if !line.iter().all(|byte| matches!(*byte, b' '..=b'~')) {
+        stopped.note_reason(Reason::Unprintable {
+            begins: line.starts_with(b"\xef\xbb\xbf"),
+            ends: line.ends_with(b"\r"),
+        });
+    } else if let Err(fault) = read_line(given, line) {
+        stopped.note_reason(Reason::Line(fault, count_words(line)));
+    }
 }

@@ -13,10 +13,20 @@ use dfu_slots::Unit;
 use dfu_wire::{Functional, Ids};
 use std::alloc::Global;
 
+/// The numbers of the lines that set something last, each 0 if none does.
+#[derive(Clone, Copy)]
+pub(crate) struct SetLines {
+    pub device: u32,
+    pub unit: u32,
+    pub sector: u32,
+    pub capacity: u32,
+    pub image: u32,
+}
+
 /// What is set: what `Config::new` takes, the unit in which the medium is written and the sectors in
 /// which it is erased, how many bytes an image may have, the image at first (the byte 00 where there
 /// is none), the bytes with which an image begins that the program takes (any where there are none),
-/// and the limits of sessions. The bytes that FILE stands for are given.
+/// and the limits of sessions. The bytes that FILE stands for are given, and the lines that set are known by their numbers.
 #[derive(Drop)]
 pub(crate) struct Setup<'g> {
     pub ids: Ids,
@@ -31,6 +41,7 @@ pub(crate) struct Setup<'g> {
     pub check: Option<Vec<u8>>,
     pub limits: Limits,
     pub given: Option<&'g [u8]>,
+    pub lines: SetLines,
 }
 
 /// What holds where no line sets anything else.
@@ -65,14 +76,22 @@ pub(crate) fn beginning(given: Option<&[u8]>) -> Setup<'_>
             restarts: 0,
         },
         given,
+        lines: SetLines {
+            device: 0,
+            unit: 0,
+            sector: 0,
+            capacity: 0,
+            image: 0,
+        },
     }
 }
 
-/// Does what a configuration line says. It takes memory for an image, and for the bytes of a check.
+/// Does what the configuration line with this number says. It takes memory for an image, and for the bytes of a check.
 pub(crate) fn set(
     alloc: Global,
     setup: &mut Setup<'_>,
     setting: ConfigLine<'_>,
+    number: u32,
 ) -> Result<(), ScriptFault>
     ensures ok { OnOk result (settings_of setup.new ≡ set (settings_of setup.old) (config_line_of setting.entry)) }
     ensures fault { IfErr result (λ f. f ≡ ScriptFault.NoMemory) }
@@ -89,11 +108,24 @@ pub(crate) fn set(
             setup.least = least;
             setup.busy_ms = busy_ms;
             setup.manifest_ms = manifest_ms;
+            setup.lines.device = number;
         }
-        ConfigLine::Unit(unit) => setup.unit = unit,
-        ConfigLine::Erase(sector) => setup.sector = sector,
-        ConfigLine::Capacity(room) => setup.room = room,
-        ConfigLine::Image(text) => setup.image = Some(bytes_of(alloc, text)?),
+        ConfigLine::Unit(unit) => {
+            setup.unit = unit;
+            setup.lines.unit = number;
+        }
+        ConfigLine::Erase(sector) => {
+            setup.sector = sector;
+            setup.lines.sector = number;
+        }
+        ConfigLine::Capacity(room) => {
+            setup.room = room;
+            setup.lines.capacity = number;
+        }
+        ConfigLine::Image(text) => {
+            setup.image = Some(bytes_of(alloc, text)?);
+            setup.lines.image = number;
+        }
         ConfigLine::Check(text) => setup.check = Some(bytes_of(alloc, text)?),
     }
     Ok(())

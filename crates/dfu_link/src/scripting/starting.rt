@@ -13,6 +13,8 @@ use crate::scripting::fault::ScriptFault;
 use crate::scripting::hex_text::HexText;
 use crate::scripting::line::{Room, Sector};
 use crate::scripting::setup::Setup;
+use crate::scripting::setup_fault::{line_of_fault, setup_fault};
+use crate::seen::{Reason, Stopped};
 use dfu_device::{Config, Device};
 use dfu_slots::{FormatFault, SimMedium, Slots, Unit};
 use std::alloc::Global;
@@ -32,7 +34,7 @@ pub(crate) fn bytes_of(alloc: Global, text: HexText<'_>) -> Result<Vec<u8>, Scri
 }
 
 /// The image at first.
-fn first_image<'s>(setup: &'s Setup<'_>) -> &'s [u8]
+pub(crate) fn first_image<'s>(setup: &'s Setup<'_>) -> &'s [u8]
     ensures { result.now ≡ image_bytes setup.now.image }
 {
     match &setup.image {
@@ -51,7 +53,7 @@ fn medium_len(unit: Unit, sector: Sector, room: Room) -> u32
 }
 
 /// Whether so much room has no whole sectors.
-fn cuts_sector(sector: Sector, room: Room) -> bool
+pub(crate) fn cuts_sector(sector: Sector, room: Room) -> bool
     ensures cuts { result ≡ true → (0 < sector.bytes) × (room.bytes % sector.bytes ≢ 0) }
     ensures whole { result ≡ false → 0 < sector.bytes → room.bytes % sector.bytes ≡ 0 }
 {
@@ -90,7 +92,7 @@ fn form(
 }
 
 /// Starts the device, in appIDLE on a formatted medium in memory.
-pub(crate) fn start(alloc: Global, setup: &Setup<'_>) -> Result<Device<SimMedium>, ScriptFault>
+fn start_device(alloc: Global, setup: &Setup<'_>) -> Result<Device<SimMedium>, ScriptFault>
     ensures ok { IfOk result (λ d. Starts (settings_of setup.now) d) }
     ensures unarmed { IfOk result (λ d. IsUnarmed d) }
     ensures fault { IfErr result (λ f. StartFalls (settings_of setup.now) f) }
@@ -113,4 +115,20 @@ pub(crate) fn start(alloc: Global, setup: &Setup<'_>) -> Result<Device<SimMedium
         first_image(setup),
     )?;
     Ok(Device::start(config, slots))
+}
+
+/// Starts the device, in appIDLE on a formatted medium in memory; why none can be set up like this is noted.
+pub(crate) fn start(
+    alloc: Global,
+    setup: &Setup<'_>,
+    stopped: &Stopped,
+) -> Result<Device<SimMedium>, ScriptFault>
+    ensures ok { IfOk result (λ d. Starts (settings_of setup.now) d) }
+    ensures unarmed { IfOk result (λ d. IsUnarmed d) }
+    ensures fault { IfErr result (λ f. StartFalls (settings_of setup.now) f) }
+{
+    if let Some(fault) = setup_fault(setup) {
+        stopped.note_reason(Reason::Setup(fault, line_of_fault(setup, fault)));
+    }
+    start_device(alloc, setup)
 }

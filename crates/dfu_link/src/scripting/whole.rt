@@ -12,11 +12,11 @@ use crate::scripting::after_start::run_on;
 use crate::scripting::expectation::Ahead;
 use crate::scripting::fault::ScriptFault;
 use crate::scripting::line::Line;
-use crate::scripting::reading::parse;
+use crate::scripting::reading::{note_line, parse};
 use crate::scripting::setup::{Setup, beginning, check_in, set, set_limits};
 use crate::scripting::source::Source;
 use crate::scripting::starting::start;
-use crate::seen::Difference;
+use crate::seen::Stopped;
 use crate::watch::{Nobody, Trace, Watch};
 use dfu_host::Limits;
 use dfu_sim::laws::image_shown;
@@ -29,6 +29,7 @@ fn configure<R: Read + Drop>(
     alloc: Global,
     setup: &mut Setup<'_>,
     source: &mut Source<R>,
+    stopped: &Stopped,
 ) -> Result<bool, ScriptFault>
     ensures ok { IfOk result (λ more. Configured (settings_of setup.old) source.old (settings_of setup.new) more source.new) }
     ensures fault { IfErr result (λ f. CannotConfigure (settings_of setup.old) source.old f) }
@@ -38,9 +39,12 @@ fn configure<R: Read + Drop>(
             return Ok(false);
         }
         match parse(setup.given, source.line()) {
-            None => return Err(ScriptFault::BadLine(source.number())),
+            None => {
+                note_line(stopped, setup.given, source.line());
+                return Err(ScriptFault::BadLine(source.number()));
+            }
             Some(Line::Blank) => {}
-            Some(Line::Set(setting)) => set(alloc, setup, setting)?,
+            Some(Line::Set(setting)) => set(alloc, setup, setting, source.number())?,
             Some(Line::Limits { actions, restarts }) => {
                 set_limits(setup, Limits { actions, restarts });
             }
@@ -59,21 +63,22 @@ pub(super) fn run_lines<T: Watch<SimMedium>, R: Read + Drop, W: Write>(
     writer: &mut W,
     watch: &mut T,
     wants_board: bool,
-    seen: &Difference,
+    stopped: &Stopped,
 ) -> Result<(), ScriptFault>
     ensures { IfSome (R.remaining reader)
         (λ text. Ended (given_bytes given.entry) text (W.contents writer.old) (W.contents writer.new) result) }
 {
     let mut source = Source::new(alloc, reader)?;
     let mut setup = beginning(given);
-    let more = configure(alloc, &mut setup, &mut source)?;
-    let device = start(alloc, &setup)?;
-    let beside = Beside::start(alloc, wants_board, &device, seen)?;
+    let more = configure(alloc, &mut setup, &mut source, stopped)?;
+    let device = start(alloc, &setup, stopped)?;
+    let beside = Beside::start(alloc, wants_board, &device, stopped)?;
     let ahead = Ahead {
         given: setup.given,
         check: check_in(&setup),
         limits: setup.limits,
         next: None,
+        stopped,
     };
     run_on::<T, R, SimMedium, W>(
         alloc,
@@ -94,6 +99,8 @@ pub(super) fn run_lines<T: Watch<SimMedium>, R: Read + Drop, W: Write>(
 /// In `offer` and `verify` the word FILE stands for the bytes that are given, of which nothing is
 /// copied. Where none are it is no word of the language.
 ///
+/// What is wrong with the script is noted in `stopped` if it stops at BadLine or BadConfig.
+///
 /// It keeps one line, one piece of 65,536 bytes that was read, and the file of the session that is
 /// live, however long the text is.
 ///
@@ -109,6 +116,7 @@ pub fn script_with<R: Read + Drop, W: Write>(
     given: Option<&[u8]>,
     reader: R,
     writer: &mut W,
+    stopped: &Stopped,
 ) -> Result<(), ScriptFault>
     // With Ok what was written is a run of what was read; with a fault, which one comes when, and what is out then.
     ensures ended { IfSome (R.remaining reader)
@@ -121,15 +129,7 @@ pub fn script_with<R: Read + Drop, W: Write>(
 {
     // Called for its law, which `printed` needs: no image but the one that is shown is active.
     image_shown();
-    run_lines::<Nobody, R, W>(
-        alloc,
-        given,
-        reader,
-        writer,
-        &mut Nobody,
-        false,
-        &Difference::none(),
-    )
+    run_lines::<Nobody, R, W>(alloc, given, reader, writer, &mut Nobody, false, stopped)
 }
 
 /// Runs a script as `script_with` does, and writes a line for each action of the host to `trace`, before what
@@ -150,6 +150,7 @@ pub fn script_traced_with<R: Read + Drop, W: Write, N: Write>(
     reader: R,
     writer: &mut W,
     trace: &mut N,
+    stopped: &Stopped,
 ) -> (Result<(), ScriptFault>, bool)
     ensures ended { IfSome (R.remaining reader)
         (λ text. Ended (given_bytes given.entry) text (W.contents writer.old) (W.contents writer.new) result.0) }
@@ -160,13 +161,7 @@ pub fn script_traced_with<R: Read + Drop, W: Write, N: Write>(
     image_shown();
     let mut told = Trace::new(alloc, trace);
     let answer = run_lines::<Trace<'_, N>, R, W>(
-        alloc,
-        given,
-        reader,
-        writer,
-        &mut told,
-        false,
-        &Difference::none(),
+        alloc, given, reader, writer, &mut told, false, stopped,
     );
     (answer, !told.is_broken)
 }

@@ -5,7 +5,7 @@ ghost use Rattle.std.specs.List.{position, AllPass};
 ghost use Rattle.hex.specs.Hex.{is_hex_digit};
 ghost use Rattle.dfu_link.specs.Words.{Reads, is_space, is_no_space, words_of, first, text_behind, number_of, bytes_of, pair_of};
 ghost use Rattle.dfu_link.specs.Said.{given_bytes, hex_bytes, offered_bytes};
-ghost use Rattle.dfu_link.specs.Lines.{named_bytes};
+ghost use Rattle.dfu_link.specs.Fields.{named_bytes};
 
 use crate::scripting::hex_text::HexText;
 use crate::scripting::line::Offered;
@@ -103,7 +103,7 @@ pub(crate) fn hex_text(word: &[u8]) -> Option<HexText<'_>>
 
 /// The file that a word of an offer stands for: FILE for the bytes that are given, which are not
 /// copied, any other for those that it spells.
-#[tactic(auto, unfolding(crate::specs::Lines::named_bytes))]
+#[tactic(auto, unfolding(crate::specs::Fields::named_bytes))]
 pub(crate) fn offered<'l, 'g>(given: Option<&'g [u8]>, word: &'l [u8]) -> Option<Offered<'l, 'g>>
     ensures { Reads offered_bytes result (named_bytes (given_bytes given.entry) word.now) }
 {

@@ -1,6 +1,6 @@
 //! The text of a row, a reader that gives it in portions, and what a row prints with its trace.
 
-use dfu_link::{ScriptFault, script_traced_with};
+use dfu_link::{ScriptFault, Stopped, script_traced_with};
 use std::alloc::{AllocError, Global};
 use std::cell::RefCell;
 use std::io::{self, ErrorKind, Read, Write};
@@ -69,6 +69,7 @@ pub fn told(alloc: Global, given: Option<&[u8]>, row: &str) -> Result<Told, Allo
         text.as_slice(),
         &mut Both(&bytes),
         &mut Both(&bytes),
+        &Stopped::new(),
     );
     Ok((end, is_traced, bytes.into_inner()))
 }

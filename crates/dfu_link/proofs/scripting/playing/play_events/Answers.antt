@@ -55,4 +55,4 @@ pub returns-in-Cut : goal.returns-in-Cut
 returns-in-Cut g c = line_acts Cut (ap said_by c.in-Cut.is) refl (c.play-in-Cut.ensures _ refl)
 
 pub returns-in-Refuse : goal.returns-in-Refuse
-returns-in-Refuse g c = line_acts (Refuse c.in-Refuse.objection) (ap said_by c.in-Refuse.is) refl (c.play-in-Refuse.ensures _ refl)
+returns-in-Refuse g c = line_acts (Refuse c.in-Refuse.why) (ap said_by c.in-Refuse.is) refl (c.play-in-Refuse.ensures _ refl)

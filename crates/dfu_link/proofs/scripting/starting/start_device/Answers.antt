@@ -2,7 +2,7 @@ use Rattle.std.proofs.Common.{◌≡◌, List, ℕ, subst, refl}
 use Rattle.dfu_link.specs.Falls.{refused}
 use Rattle.dfu_link.specs.inside.Forming.{Formed}
 use Rattle.dfu_link.specs.inside.SetupView.{grain_of, image_bytes}
-use Rattle.dfu_link.proofs.scripting.starting.start.Goals as goal
+use Rattle.dfu_link.proofs.scripting.starting.start_device.Goals as goal
 
 pub returns-in_default-clause-fault : goal.returns-in_default-clause-fault
 returns-in_default-clause-fault c = refused c.in_default.field-0 c.in_default.ensures.err

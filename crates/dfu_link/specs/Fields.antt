@@ -1,0 +1,48 @@
+-- The fields of a line: what a word stands for, if it is what its place wants.
+use Rattle.std.specs.Prelude.{ℕ, ◌%◌, ◌==◌, List, Option, Some, None, nat_le, codes, if◌then◌else◌}
+use Rattle.std.specs.Str.{bytes_eq}
+use Rattle.dfu_slots.specs.declared.unit.Unit.{Unit as WriteUnit}
+use Rattle.dfu_slots.specs.declared.unit.Unit.TheVariants.{Byte, U16, U64, U256}
+use Rattle.dfu_device.specs.declared.objection.Objection.{Objection}
+use Rattle.dfu_device.specs.declared.objection.Objection.TheVariants.{Target, File}
+use Rattle.dfu_link.specs.Words.{◌>>=◌, guard, bytes_of, number_of, pair_of}
+
+-- A number that is at most this one.
+unfoldable pub small_of : ℕ → List ℕ → Option ℕ
+small_of most word = number_of word >>= λ n. guard (nat_le n most) n
+
+-- A number from 1 to this one.
+unfoldable pub count_of : ℕ → List ℕ → Option ℕ
+count_of most word = small_of most word >>= λ n. guard (nat_le 1 n) n
+
+-- Two hexadecimal digits, 00 to 0f.
+unfoldable pub attributes_of : List ℕ → Option ℕ
+attributes_of word = pair_of word >>= λ n. guard (nat_le n 15) n
+
+-- The unit of so many bytes.
+abbrev pub unit_named : ℕ → Option WriteUnit
+unit_named n =
+    if n == 1 then Some Byte
+    else if n == 16 then Some U16
+    else if n == 64 then Some U64
+    else if n == 256 then Some U256
+    else None
+
+-- How many bytes the medium writes at a time: 1, 16, 64 or 256.
+unfoldable pub unit_of : List ℕ → Option WriteUnit
+unit_of word = number_of word >>= λ n. unit_named n
+
+-- How many bytes the medium erases at a time: 0 or a multiple of 256 up to 131,072.
+unfoldable pub sector_of : List ℕ → Option ℕ
+sector_of word = small_of 131072 word >>= λ n. guard (n % 256 == 0) n
+
+-- The word of why a program refuses an image: the status code that tells of it.
+abbrev pub objection_of : List ℕ → Option Objection
+objection_of w =
+    if bytes_eq w (codes "errTARGET") then Some Target
+    else if bytes_eq w (codes "errFILE") then Some File
+    else None
+
+-- The bytes that a word of an offer stands for: FILE for the bytes that are given, if they are, any other for those that it spells.
+unfoldable pub named_bytes : Option (List ℕ) → List ℕ → Option (List ℕ)
+named_bytes given word = if bytes_eq word (codes "FILE") then given else bytes_of word

@@ -1,0 +1,13 @@
+-- Why no device can be set up like this.
+use Rattle.std.specs.Prelude.{◌≢◌, ℕ, ◌%◌, ◌<◌, length}
+use Rattle.dfu_slots.specs.Units.{IsMultiple}
+use Rattle.dfu_link.specs.ScriptRun.{Settings}
+use Rattle.dfu_link.specs.declared.scripting.setup_fault.SetupFault.{SetupFault}
+use Rattle.dfu_link.specs.declared.scripting.setup_fault.SetupFault.TheVariants as fault
+
+-- The room for images has this fault.
+abbrev pub HasFault : SetupFault → Settings → Type 0
+HasFault fault.Unit s = ¬ IsMultiple s.grain.unit s.capacity
+HasFault fault.Sector s = (0 < s.grain.sector) × (s.capacity % s.grain.sector ≢ 0)
+HasFault fault.Image s = s.capacity < length s.image
+HasFault f s = ⊥

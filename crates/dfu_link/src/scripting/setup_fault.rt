@@ -1,0 +1,89 @@
+//! Why no device can be set up like this.
+
+ghost use Rattle.std.specs.Prelude.{IfSome};
+ghost use Rattle.dfu_link.specs.inside.SetupFaults.{HasFault};
+ghost use Rattle.dfu_link.specs.inside.SetupView.{settings_of};
+
+use crate::scripting::setup::Setup;
+use crate::scripting::starting::{cuts_sector, first_image};
+use dfu_device::{Config, ConfigFault};
+
+/// The most milliseconds of a poll time, which has 24 bits.
+const MAX_POLL: u32 = 16_777_215;
+
+/// Why no device can be set up, in the order in which it is looked for.
+#[derive(Clone, Copy, Debug, PartialEq, Eq)]
+pub enum SetupFault {
+    /// The transfer size isn't 1 to 4,096 bytes.
+    Transfer,
+    /// The milliseconds of a block, or those to put an image in place, are over 16,777,215.
+    Poll,
+    /// The milliseconds to put an image in place are 0, on a device that isn't tolerant of manifestation.
+    NoTime,
+    /// The fewest bytes of an image aren't 1 to 16,777,216.
+    Least,
+    /// The capacity is no multiple of the unit.
+    Unit,
+    /// The capacity is no multiple of the sector.
+    Sector,
+    /// The image at first has more bytes than the capacity.
+    Image,
+}
+
+/// The fault of what the device is set up with.
+fn device_fault(setup: &Setup<'_>, fault: ConfigFault) -> SetupFault {
+    match fault {
+        ConfigFault::BadTransfer => SetupFault::Transfer,
+        ConfigFault::BadLeast => SetupFault::Least,
+        ConfigFault::BadPoll => {
+            if setup.busy_ms > MAX_POLL || setup.manifest_ms > MAX_POLL {
+                SetupFault::Poll
+            } else {
+                SetupFault::NoTime
+            }
+        }
+    }
+}
+
+/// The fault of the room for images.
+fn room_fault(setup: &Setup<'_>) -> Option<SetupFault>
+    ensures { IfSome result (λ fault. HasFault fault (settings_of setup.now)) }
+{
+    let bytes = setup.room.bytes;
+    if bytes % setup.unit.size() != 0 {
+        return Some(SetupFault::Unit);
+    }
+    if cuts_sector(setup.sector, setup.room) {
+        return Some(SetupFault::Sector);
+    }
+    if first_image(setup).len() > bytes as usize {
+        return Some(SetupFault::Image);
+    }
+    None
+}
+
+/// The first fault of what is set, if it has one.
+pub(crate) fn setup_fault(setup: &Setup<'_>) -> Option<SetupFault> {
+    let config = Config::new(
+        setup.ids,
+        setup.functional,
+        setup.least,
+        setup.busy_ms,
+        setup.manifest_ms,
+    );
+    match config {
+        Ok(_) => room_fault(setup),
+        Err(fault) => Some(device_fault(setup, fault)),
+    }
+}
+
+/// The number of the line that says it: of two lines the later one, and 0 if no line sets what is wrong.
+pub(crate) fn line_of_fault(setup: &Setup<'_>, fault: SetupFault) -> u32 {
+    let lines = setup.lines;
+    match fault {
+        SetupFault::Unit => lines.capacity.max(lines.unit),
+        SetupFault::Sector => lines.capacity.max(lines.sector),
+        SetupFault::Image => lines.capacity.max(lines.image),
+        _ => lines.device,
+    }
+}
