@@ -1,5 +1,5 @@
 -- The grammar of a line: its forms, what each form says, and what is wrong with a line that has none.
-use Rattle.std.specs.Prelude.{◌≡◌, ℕ, Bool, false, length, ◌==◌, List, [], ◌∷◌, Option, Some, Result, Ok, Err, ok_or, nat_le, codes, if◌then◌else◌}
+use Rattle.std.specs.Prelude.{◌≡◌, ℕ, Bool, false, length, ◌==◌, List, [], ◌∷◌, Option, Result, Ok, Err, ok_or, nat_le, codes, if◌then◌else◌}
 use Rattle.std.specs.Str.{bytes_eq}
 use Rattle.dfu_wire.specs.Functional.{functional_of}
 use Rattle.dfu_wire.specs.Identifier.{identifier_in}

@@ -1,5 +1,5 @@
 -- Why no device can be set up like this.
-use Rattle.std.specs.Prelude.{◌≢◌, ℕ, ◌%◌, ◌<◌, length}
+use Rattle.std.specs.Prelude.{◌≢◌, ◌%◌, ◌<◌, length}
 use Rattle.dfu_slots.specs.Units.{IsMultiple}
 use Rattle.dfu_link.specs.ScriptRun.{Settings}
 use Rattle.dfu_link.specs.declared.scripting.setup_fault.SetupFault.{SetupFault}
