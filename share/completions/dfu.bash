@@ -17,7 +17,7 @@ _dfu() {
     [ "$command" != add ] || options='--vid --pid --did --format --fill --explain -h --help'
     [ "$command" != set ] || options='--vid --pid --did --explain -h --help'
     [ "$command" != run ] || options='--trace --board --file --explain -h --help'
-    [ "$command" != judge ] || options='--interface --device --json --explain -h --help'
+    [ "$command" != judge ] || options='--interface --device --dfuse --json --explain -h --help'
     case $command in check | show) options='--json --explain -h --help' ;; esac
     at=$((at + 1))
     # How many words that are no options stand before this one. In `--vid=1209` readline takes the `=`

@@ -52,6 +52,7 @@ complete -c dfu -n '__fish_seen_subcommand_from run' -l board -d 'Play each even
 complete -c dfu -r -F -n '__fish_seen_subcommand_from run' -l file -d 'The file that FILE stands for in offer and verify'
 complete -c dfu -x -n '__fish_seen_subcommand_from judge' -l interface -d 'The number of the DFU interface'
 complete -c dfu -x -n '__fish_seen_subcommand_from judge' -l device -d 'Of a capture the device'
+complete -c dfu -n '__fish_seen_subcommand_from judge' -l dfuse -d 'Judge by what DfuSe adds to USB DFU 1.1'
 complete -c dfu -n '__fish_seen_subcommand_from check show judge' -l json -d 'Print each line as a JSON object'
 complete -c dfu -n '__dfu_at show' -a 'functional status state setup configuration'
 complete -c dfu -n '__dfu_at help' -a 'check add extract set show run judge help'

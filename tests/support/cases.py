@@ -89,7 +89,7 @@ def of_judge(dice):
         return mutant(dice, dice.choice(CAPTURES), dice.choice(CAPTURES), False)
 
     is_piped, others = dice.random() < 0.2, dice.choice(((), (), ("other",)))
-    words = ["judge", "-" if is_piped else "in", *others, *some(dice, "--json")]
+    words = ["judge", "-" if is_piped else "in", *others, *some(dice, "--json"), *some(dice, "--dfuse")]
     words += dice.choice(((), (), ("--interface", dice.choice(("0", "1", "255"))), ("--device", dice.choice(("only", "1.2", "3.57")))))
     return Case(words, given(), other=given(), is_piped=is_piped)
 

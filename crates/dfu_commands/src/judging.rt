@@ -1,6 +1,7 @@
 //! `dfu judge`: the verdict on a log or a capture of a file or of standard input.
 
 use crate::captures::{Headed, MAX_CAPTURE, capture_line, capture_why};
+use crate::dfusing::judge_dfuse;
 use crate::eventful::Eventful;
 use crate::line_ends::LineEnds;
 use crate::numbering::number_of;
@@ -68,19 +69,28 @@ fn stop_reason<S>(
     }
 }
 
-/// What is to be judged of what a reader gives: the number of the interface, and of a capture the address.
+/// How files are to be judged.
+#[derive(Clone, Copy)]
+pub(crate) struct How {
+    /// The number of the interface.
+    pub interface: u8,
+    /// Of a capture the address, if one is named.
+    pub only: Option<Address>,
+    /// Whether the device is to speak DfuSe.
+    pub dfuse: bool,
+    /// Whether each line is an object.
+    pub json: bool,
+}
+
+/// What is to be judged of what a reader gives.
 #[derive(Clone, Copy)]
 struct Judged<'w> {
     /// The name of the file.
     pub name: &'w str,
     /// What stands before each line.
     pub before: &'w str,
-    /// The number of the interface.
-    pub interface: u8,
-    /// The address, where one is named.
-    pub only: Option<Address>,
-    /// Whether each line is an object.
-    pub json: bool,
+    /// How it is to be judged.
+    pub how: How,
 }
 
 /// The output for the lines of what is judged.
@@ -90,7 +100,12 @@ fn output<'o, R: Print + AllocGlobal>(
 ) -> Prefixed<'o, JsonLines<'o, Printer<'o, R>>> {
     Prefixed::new(
         judged.before,
-        JsonLines::new(rt.alloc(), judged.json, Some(judged.name), io::writer(rt)),
+        JsonLines::new(
+            rt.alloc(),
+            judged.how.json,
+            Some(judged.name),
+            io::writer(rt),
+        ),
     )
 }
 
@@ -103,7 +118,11 @@ fn judge_text_of<R: Print + AllocGlobal, S: Read + Drop>(
     let alloc = rt.alloc();
     let mut watched = Watched::new(log);
     let mut out = Eventful::new(output(rt, judged));
-    let (exit, fault) = judge_with_fault(alloc, judged.interface, &mut watched, &mut out);
+    let (exit, fault) = if judged.how.dfuse {
+        judge_dfuse(alloc, judged.how.interface, &mut watched, &mut out)
+    } else {
+        judge_with_fault(alloc, judged.how.interface, &mut watched, &mut out)
+    };
     if out.is_without() {
         let why =
             "no request of DFU at the interface is in it; record a session, or see --interface";
@@ -122,7 +141,7 @@ fn judge_text_of<R: Print + AllocGlobal, S: Read + Drop>(
 /// Judges the log of a device that is in a capture.
 fn judge_bytes<R: Print + AllocGlobal>(rt: &R, judged: Judged<'_>, capture: &[u8]) -> Answer {
     let alloc = rt.alloc();
-    match log_of(alloc, capture, judged.interface, judged.only) {
+    match log_of(alloc, capture, judged.how.interface, judged.how.only) {
         Ok(log) => judge_text_of(rt, judged, log.as_slice()),
         Err(fault) => {
             let line = capture_line(fault).as_bytes();
@@ -184,41 +203,26 @@ fn judge_file<R: Files + Input + Print + AllocGlobal>(rt: &R, judged: Judged<'_>
 }
 
 /// Judges a file, with no name before its lines.
-fn judge_bare<R: Files + Input + Print + AllocGlobal>(
-    rt: &R,
-    name: &str,
-    interface: u8,
-    only: Option<Address>,
-    json: bool,
-) -> Answer {
+fn judge_bare<R: Files + Input + Print + AllocGlobal>(rt: &R, name: &str, how: How) -> Answer {
     judge_file(
         rt,
         Judged {
             name,
             before: "",
-            interface,
-            only,
-            json,
+            how,
         },
     )
 }
 
 /// Judges one of several files, with its name before each line.
-fn judge_named<R: Files + Input + Print + AllocGlobal>(
-    rt: &R,
-    name: &str,
-    interface: u8,
-    only: Option<Address>,
-) -> Answer {
+fn judge_named<R: Files + Input + Print + AllocGlobal>(rt: &R, name: &str, how: How) -> Answer {
     match name_before(rt.alloc(), name) {
         Ok(before) => judge_file(
             rt,
             Judged {
                 name,
                 before: &before,
-                interface,
-                only,
-                json: false,
+                how,
             },
         ),
         Err(_) => Answer {
@@ -234,22 +238,20 @@ fn judge_named<R: Files + Input + Print + AllocGlobal>(
 pub(crate) fn judge_files<R: Files + Input + Print + AllocGlobal>(
     rt: &R,
     names: &[String],
-    interface: u8,
-    only: Option<Address>,
-    json: bool,
+    how: How,
 ) -> Answer {
     if let [name] = names {
-        return judge_bare(rt, name, interface, only, json);
+        return judge_bare(rt, name, how);
     }
     let mut all = Answer {
         exit: Exit::Done,
         reason: None,
     };
     for name in names {
-        let answer = if json {
-            judge_bare(rt, name, interface, only, true)
+        let answer = if how.json {
+            judge_bare(rt, name, how)
         } else {
-            judge_named(rt, name, interface, only)
+            judge_named(rt, name, how)
         };
         all = all.and(rt.alloc(), answer);
     }

@@ -8,6 +8,7 @@ mod beside;
 mod buffering;
 mod captures;
 mod changing;
+mod dfusing;
 mod eventful;
 mod hexing;
 mod identifiers;

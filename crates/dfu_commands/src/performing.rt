@@ -4,7 +4,7 @@ use crate::captures::device_in;
 use crate::changing::{perform_add, perform_extract, perform_set};
 use crate::hexing::bare;
 use crate::identifiers::IdTexts;
-use crate::judging::{interface_in, judge_files};
+use crate::judging::{How, interface_in, judge_files};
 use crate::offered::read_file;
 use crate::remembering::Remembering;
 use crate::scripts::{Ways, run_script};
@@ -60,15 +60,22 @@ fn perform_judge<R: Files + Input + Print + AllocGlobal>(
     names: &[String],
     interface: &str,
     device: &str,
+    dfuse: bool,
     json: bool,
 ) -> Answer {
-    let Some(number) = interface_in(interface) else {
+    let Some(interface) = interface_in(interface) else {
         return refused(rt, bad_interface(rt.alloc(), interface));
     };
     let Some(only) = device_in(device) else {
         return refused(rt, bad_device(rt.alloc(), device));
     };
-    judge_files(rt, names, number, only, json)
+    let how = How {
+        interface,
+        only,
+        dfuse,
+        json,
+    };
+    judge_files(rt, names, how)
 }
 
 /// Runs a script in these ways, where the words can be used: the script and its file can't both be standard input.
@@ -141,8 +148,9 @@ where
             files,
             interface,
             device,
+            dfuse,
             json,
-        } => perform_judge(rt, files, interface, device, *json),
+        } => perform_judge(rt, files, interface, device, *dfuse, *json),
     }
 }
 

@@ -8,7 +8,7 @@ fn owners(option: &str) -> Option<&'static str> {
         "--vid" | "--pid" | "--did" => Some("add and set"),
         "--format" | "--fill" => Some("add"),
         "--trace" | "--board" | "--file" => Some("run"),
-        "--interface" | "--device" => Some("judge"),
+        "--interface" | "--device" | "--dfuse" => Some("judge"),
         "--json" => Some("check, show and judge"),
         _ => None,
     }

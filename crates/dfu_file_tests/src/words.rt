@@ -126,10 +126,14 @@ fn told(alloc: Global, job: Job) -> Result<String, AllocError> {
             files,
             interface,
             device,
+            dfuse,
             json,
         } => {
             let mut line = list_told(alloc, "judge", &files)?;
             line.push_str(&joined(alloc, &[&interface, &device])?)?;
+            if dfuse {
+                line.push_str("dfuse;")?;
+            }
             push_json(&mut line, json)?;
             Ok(line)
         }
@@ -158,7 +162,7 @@ fn outcome(alloc: Global, line: &str) -> Result<String, AllocError> {
 }
 
 /// Words, and the job that they are.
-static JOBS: [(&str, &str); 52] = [
+static JOBS: [(&str, &str); 55] = [
     (
         "dfu add a b --pid 0001",
         "add;a;b;ffff;0001;ffff;none;none;",
@@ -204,6 +208,9 @@ static JOBS: [(&str, &str); 52] = [
     ("dfu judge --device=1.7 a", "judge;a;0;1.7;"),
     ("dfu judge a b", "judge;a;b;0;only;"),
     ("dfu judge --json", "judge;-;0;only;json;"),
+    ("dfu judge --dfuse a", "judge;a;0;only;dfuse;"),
+    ("dfu judge --json a --dfuse", "judge;a;0;only;dfuse;json;"),
+    ("dfu check a --dfuse", "words 2"),
     ("dfu extract a b --json", "words 2"),
     ("dfu judge a b --device 1.2 c", "judge;a;b;c;0;1.2;"),
     ("dfu", "words 2"),

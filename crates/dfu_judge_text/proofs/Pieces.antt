@@ -25,12 +25,12 @@ on_quiet interface old new text c o s out none took = record {
   judged = took.judged;
   at = took.at;
   out = subst (λ (xs : List ℕ). Appends old new xs)
-      (sym (took.out ∙ ap (λ (x : Option Departure). c.out ++ told_text s.number x) none ∙ append-nil c.out)) out;
+      (sym (took.out ∙ ap (λ (x : Option Departure). c.out ++ told_text s.lines.number x) none ∙ append-nil c.out)) out;
 }
 
 -- A byte came at which a departure was told.
 pub on_told : (interface : ℕ) (old mid new : Option (List ℕ)) (text : List ℕ) (c : Course) (n : ℕ) (d : Departure) (o : Option Departure)
-    (s : JudgingState) → Appends old mid c.out → Appends mid new (departure_text n d) → n ≡ s.number → o ≡ Some d
+    (s : JudgingState) → Appends old mid c.out → Appends mid new (departure_text n d) → n ≡ s.lines.number → o ≡ Some d
     → Took interface text c o s → Going interface old new text s
 on_told interface old mid new text c n d o s out told is some took = record {
   course = took.next;
@@ -38,7 +38,7 @@ on_told interface old mid new text c n d o s out told is some took = record {
   at = took.at;
   out = subst (λ (xs : List ℕ). Appends old new xs)
       (ap (λ (k : ℕ). c.out ++ departure_text k d) is
-      ∙ ap (λ (x : Option Departure). c.out ++ told_text s.number x) (sym some) ∙ sym took.out)
+      ∙ ap (λ (x : Option Departure). c.out ++ told_text s.lines.number x) (sym some) ∙ sym took.out)
       (Appends-trans old mid new c.out (departure_text n d) out told);
 }
 
@@ -55,7 +55,7 @@ broke_after old mid new xs ys told part = record {
 -- A byte came at which a departure wasn't told.
 pub falls_untold : (interface : ℕ) (old mid new : Option (List ℕ)) (text tail : List ℕ) (byte n : ℕ) (d : Departure)
     (o : Option Departure) (s s' : JudgingState) (f : LogFault) (g : Going interface old mid text s)
-    → Took interface (text ++ byte ∷ []) g.course o s' → o ≡ Some d → n ≡ s'.number → CannotTell (departure_text n d) mid new f
+    → Took interface (text ++ byte ∷ []) g.course o s' → o ≡ Some d → n ≡ s'.lines.number → CannotTell (departure_text n d) mid new f
     → Falls interface old new (text ++ byte ∷ tail) f
 falls_untold interface old mid new text tail byte n d o s s' NoMemory g took some is same = record {
   front = text;
@@ -72,7 +72,7 @@ falls_untold interface old mid new text tail byte n d o s s' Write g took some i
   course = took.next;
   judged = took.judged;
   stops = subst (λ (xs : List ℕ). IsOutInPart old new xs) (ap (λ (k : ℕ). g.course.out ++ departure_text k d) is
-      ∙ ap (λ (x : Option Departure). g.course.out ++ told_text s'.number x) (sym some) ∙ sym took.out)
+      ∙ ap (λ (x : Option Departure). g.course.out ++ told_text s'.lines.number x) (sym some) ∙ sym took.out)
       (broke_after old mid new g.course.out (departure_text n d) g.out part);
 }
 falls_untold interface old mid new text tail byte n d o s s' (BadLine k why) g took some is why_not = absurd why_not

@@ -1,6 +1,6 @@
 -- A log goes on by a byte.
-use Rattle.std.specs.Prelude.{◌≡◌, ◌≢◌, ℕ, ◌+◌, ◌<◌, List, [], ◌∷◌, ◌++◌, length, Bool, Option, Some, None, cond}
-use Rattle.std.proofs.Common.{refl, sym, ap, ◌∙◌, subst, arith, length-append}
+use Rattle.std.specs.Prelude.{◌≡◌, ℕ, ◌+◌, ◌<◌, List, [], ◌∷◌, ◌++◌, length, Bool, Option, Some, None, cond}
+use Rattle.std.proofs.Common.{sym, ap, ◌∙◌, subst, arith, length-append}
 use Rattle.std.proofs.lemmas.List.{append-nil}
 use Rattle.dfu_judge.specs.declared.event.Event.{Event}
 use Rattle.dfu_judge.specs.declared.verdict.Departure.{Departure}
@@ -9,8 +9,13 @@ use Rattle.dfu_judge.specs.declared.log.Line.TheVariants as line
 use Rattle.dfu_judge.specs.Line.{Says}
 use Rattle.dfu_judge.specs.MayAnswer.{CanAnswer, IsHeld, IsHeldPlain}
 use Rattle.dfu_judge.specs.Verdict.{ArePlaces, Departs}
-use Rattle.dfu_judge_text.specs.Course.{Course, Comes, goes_on, departs, Ends, says_nothing, says_elsewhere, says_event, Judges, goes, ends, ended, departing, going_on}
+use Rattle.dfu_judge_text.specs.Course.{Course, goes_on, departs, Ends, says_nothing, says_elsewhere, says_event, Judges, goes, ends, ended, departing, going_on}
 use Rattle.dfu_judge_text.specs.Texts.{is_single}
+use Rattle.dfu_judge.specs.declared.log.LineFault.{LineFault}
+use Rattle.dfu_judge_text.specs.declared.fault.LogFault.{LogFault}
+use Rattle.dfu_judge_text.specs.declared.fault.LogFault.TheVariants.{BadLine, TooLarge, NoMemory, Read, Write}
+use Rattle.dfu_judge_text.specs.Lines.{LinesState, Goes, EndsLine, Takes, IsBadLine, CannotTake}
+use Rattle.dfu_judge_text.specs.Judging.{CannotGo}
 use Rattle.dfu_judge_text.specs.inside.Going.{JudgingState, IsAt, Came, Took}
 
 counted : (events : List Event) (e : Event) (n : ℕ) → n ≡ length events → n + 1 ≡ length (events ++ e ∷ [])
@@ -55,60 +60,101 @@ come_off s w v text c e d is held same off = record {
   out = ap (λ (k : ℕ). c.out ++ Rattle.dfu_judge_text.specs.Texts.departure_text k d) (sym is.number);
 }
 
+-- What was taken at a byte that ended this line, or none.
+pub takes_as : (interface : ℕ) (s t : LinesState) (byte : ℕ) (o p : Option Line) → o ≡ p → Takes interface s t byte o
+    → Takes interface s t byte p
+takes_as interface s t byte o p same took = subst (λ (x : Option Line). Takes interface s t byte x) same took
+
 -- Where a line was ended the state is at its end.
-pub at_end : (s : JudgingState) (line text : List ℕ) (c : Course) (room : ℕ) → IsAt s text c → line ≡ [] → room + 1 ≡ s.room
-    → IsAt (record s { line = line; room = room; number = s.number + 1 }) (text ++ 10 ∷ []) (ended c)
-at_end s line text c room is none less = record {
+pub at_end : (interface byte : ℕ) (s : JudgingState) (lines : LinesState) (text : List ℕ) (c : Course) (says : Line) → IsAt s text c
+    → EndsLine interface s.lines lines byte says → IsAt (record s { lines = lines }) (text ++ 10 ∷ []) (ended c)
+at_end interface byte s lines text c says is e = record {
   whole = is.whole;
   since = is.since;
-  line = none;
-  room = omega (arith, is.room, less, length-append text (10 ∷ []));
-  number = ap (λ (k : ℕ). k + 1) is.number;
+  line = e.line;
+  room = omega (arith, is.room, e.room, length-append text (10 ∷ []));
+  number = e.number ∙ ap (λ (k : ℕ). k + 1) is.number;
   events = is.events;
   single = is.single;
 }
 
--- What is read of a line that is this one, and is this.
-pub says_of : (interface : ℕ) (given text : List ℕ) (o p : Option Line) → given ≡ text → o ≡ p → Says interface given o
-    → Says interface text p
-says_of interface given text o p same is says =
-    subst (λ (x : Option Line). Says interface text x) is (subst (λ (t : List ℕ). Says interface t o) same says)
+-- What is said of the line that was ended.
+pub said : (interface byte : ℕ) (s : JudgingState) (lines : LinesState) (text : List ℕ) (c : Course) (says : Line) → IsAt s text c
+    → EndsLine interface s.lines lines byte says → Says interface c.line (Some says)
+said interface byte s lines text c says is e = subst (λ (t : List ℕ). Says interface t (Some says)) is.line e.said
+
+-- What was taken at a byte that is a 0Ah.
+ended_by : (interface byte : ℕ) (text : List ℕ) (c : Course) (o : Option Departure) (s : JudgingState) → byte ≡ 10
+    → Took interface (text ++ 10 ∷ []) c o s → Took interface (text ++ byte ∷ []) c o s
+ended_by interface byte text c o s end took = subst (λ (k : ℕ). Took interface (text ++ k ∷ []) c o s) (sym end) took
 
 -- The end of a line at which an event came.
-pub took_event : (interface : ℕ) (s : JudgingState) (text : List ℕ) (c : Course) (e : Event) (o : _) → Judges interface text c
-    → Says interface c.line (Some (line.Came e)) → Came (text ++ 10 ∷ []) (ended c) e o s → Took interface (text ++ 10 ∷ []) c o s
-took_event interface s text c e o judged says came = record {
+pub took_event : (interface byte : ℕ) (s t : JudgingState) (lines : LinesState) (text : List ℕ) (c : Course) (e : Event)
+    (o : Option Departure) → IsAt s text c → Judges interface text c → EndsLine interface s.lines lines byte (line.Came e)
+    → Came (text ++ 10 ∷ []) (ended c) e o t → Took interface (text ++ byte ∷ []) c o t
+took_event interface byte s t lines text c e o is judged end came = ended_by interface byte text c o t end.end (record {
   next = came.next;
-  judged = ends judged (says_event e says came.comes);
+  judged = ends judged (says_event e (said interface byte s lines text c (line.Came e) is end) came.comes);
   at = came.at;
   out = came.out;
-}
+})
 
 -- The end of a line that says nothing of the device.
-pub took_none : (interface : ℕ) (s : JudgingState) (text : List ℕ) (c : Course) → Judges interface text c
-    → Ends interface c (ended c) → IsAt s (text ++ 10 ∷ []) (ended c) → Took interface (text ++ 10 ∷ []) c None s
-took_none interface s text c judged ends_it is = record {
+took_none : (interface byte : ℕ) (s : JudgingState) (text : List ℕ) (c : Course) → byte ≡ 10 → Judges interface text c
+    → Ends interface c (ended c) → IsAt s (text ++ 10 ∷ []) (ended c) → Took interface (text ++ byte ∷ []) c None s
+took_none interface byte s text c end judged ends_it is = ended_by interface byte text c None s end (record {
   next = ended c;
   judged = ends judged ends_it;
   at = is;
   out = sym (append-nil c.out);
-}
+})
+
+-- It is empty, or a comment.
+pub took_blank : (interface byte : ℕ) (s : JudgingState) (lines : LinesState) (text : List ℕ) (c : Course) → IsAt s text c
+    → Judges interface text c → EndsLine interface s.lines lines byte line.Blank
+    → Took interface (text ++ byte ∷ []) c None (record s { lines = lines })
+took_blank interface byte s lines text c is judged end =
+    took_none interface byte _ text c end.end judged (says_nothing (said interface byte s lines text c line.Blank is end))
+    (at_end interface byte s lines text c line.Blank is end)
+
+-- It is of another interface or class.
+pub took_elsewhere : (interface byte : ℕ) (s : JudgingState) (lines : LinesState) (text : List ℕ) (c : Course) → IsAt s text c
+    → Judges interface text c → EndsLine interface s.lines lines byte line.Elsewhere
+    → Took interface (text ++ byte ∷ []) c None (record s { lines = lines })
+took_elsewhere interface byte s lines text c is judged end =
+    took_none interface byte _ text c end.end judged (says_elsewhere (said interface byte s lines text c line.Elsewhere is end))
+    (at_end interface byte s lines text c line.Elsewhere is end)
 
 -- A byte that goes to its line.
-pub kept_byte : (interface : ℕ) (s : JudgingState) (line : List ℕ) (room : ℕ) (text : List ℕ) (c : Course) (byte : ℕ)
-    → IsAt s text c → Judges interface text c → byte ≢ 10 → length s.line < 262158 → line ≡ s.line ++ byte ∷ [] → room + 1 ≡ s.room
-    → Took interface (text ++ byte ∷ []) c None (record s { line = line; room = room })
-kept_byte interface s line room text c byte is judged inner short longer less = record {
+pub kept_byte : (interface byte : ℕ) (s : JudgingState) (lines : LinesState) (text : List ℕ) (c : Course) → IsAt s text c
+    → Judges interface text c → Goes s.lines lines byte → Took interface (text ++ byte ∷ []) c None (record s { lines = lines })
+kept_byte interface byte s lines text c is judged g = record {
   next = record c { line = c.line ++ byte ∷ [] };
-  judged = goes byte judged inner (subst (λ (x : List ℕ). length x < 262158) is.line short);
+  judged = goes byte judged g.inner (subst (λ (x : List ℕ). length x < 262158) is.line g.short);
   at = record {
     whole = is.whole;
     since = is.since;
-    line = longer ∙ ap (λ (x : List ℕ). x ++ byte ∷ []) is.line;
-    room = omega (arith, is.room, less, length-append text (byte ∷ []));
-    number = is.number;
+    line = g.line ∙ ap (λ (x : List ℕ). x ++ byte ∷ []) is.line;
+    room = omega (arith, is.room, g.room, length-append text (byte ∷ []));
+    number = g.number ∙ is.number;
     events = is.events;
     single = is.single;
   };
   out = sym (append-nil c.out);
 }
+
+bad_line : (interface : ℕ) (line text rest : List ℕ) (why : LineFault) → line ≡ text → IsBadLine interface line rest why
+    → IsBadLine interface text rest why
+bad_line interface line text rest why same bad = subst (λ (t : List ℕ). IsBadLine interface t rest why) same bad
+
+-- Why a byte isn't taken is why the next byte of the text isn't judged.
+pub cannot_go : (interface : ℕ) (s : JudgingState) (text : List ℕ) (c : Course) (rest : List ℕ) (fault : LogFault) → IsAt s text c
+    → CannotTake interface s.lines rest fault → CannotGo interface text c rest fault
+cannot_go interface s text c rest (BadLine n why) is (number, bad) = (
+  number ∙ ap (λ (k : ℕ). k + 1) is.number,
+  bad_line interface s.lines.line c.line rest why is.line bad,
+)
+cannot_go interface s text c rest TooLarge is none = omega (arith, is.room, none)
+cannot_go interface s text c rest NoMemory is why_not = absurd why_not
+cannot_go interface s text c rest Read is why_not = absurd why_not
+cannot_go interface s text c rest Write is why_not = absurd why_not

@@ -1,5 +1,5 @@
 -- What `dfu judge` writes of a log.
-use Rattle.std.specs.Prelude.{◌≡◌, ◌⊎◌, ℕ, ◌+◌, ◌==◌, Bool, true, false, List, [], ◌∷◌, ◌++◌, length, Option, Some, None, IfSome, codes}
+use Rattle.std.specs.Prelude.{◌≡◌, ◌⊎◌, ℕ, ◌+◌, Bool, List, [], ◌∷◌, ◌++◌, length, Option, Some, None, IfSome, codes}
 use Rattle.std.specs.Fmt.{decimal}
 use Rattle.std.specs.Io.KnownBytes.{Appends}
 use Rattle.dfu_suffix.specs.Writing.{IsOutInPart}
@@ -8,26 +8,14 @@ use Rattle.dfu_text.specs.declared.exit.Exit.{Exit}
 use Rattle.dfu_text.specs.declared.exit.Exit.TheVariants.{Done, Refused, Fault}
 use Rattle.dfu_text.specs.AnswerLines.{fault_line}
 use Rattle.dfu_text.specs.Output.{Wrote}
-use Rattle.dfu_judge.specs.declared.log.LineFault.{LineFault}
-use Rattle.dfu_judge.specs.declared.log.LineFault.TheVariants.{Long}
 use Rattle.dfu_judge.specs.declared.verdict.Verdict.{Verdict}
 use Rattle.dfu_judge.specs.declared.verdict.Verdict.TheVariants.{Kept, KeptBy}
-use Rattle.dfu_judge.specs.Line.{Says, why_unread}
 use Rattle.dfu_judge.specs.Verdict.{IsVerdict, ArePlaces}
 use Rattle.dfu_judge_text.specs.declared.fault.LogFault.{LogFault}
 use Rattle.dfu_judge_text.specs.declared.fault.LogFault.TheVariants.{BadLine, TooLarge, NoMemory, Read, Write}
+use Rattle.dfu_judge_text.specs.Lines.{IsBadLine}
 use Rattle.dfu_judge_text.specs.Course.{Course, Judges}
 use Rattle.dfu_judge_text.specs.Texts.{verdict_text}
-
--- The next byte is a 0Ah.
-abbrev pub ends_line : List ℕ → Bool
-ends_line [] = false
-ends_line (byte ∷ bytes) = byte == 10
-
--- A line is none of a log: it is ended and can't be read, or it has 262,158 bytes and goes on.
-abbrev pub IsBadLine : (interface : ℕ) (line rest : List ℕ) → LineFault → Type 0
-IsBadLine interface line rest Long = (length line ≡ 262158) × (ends_line rest ≡ false)
-IsBadLine interface line rest why = Says interface line None × (why ≡ why_unread line) × (ends_line rest ≡ true)
 
 -- Why the next byte of a text isn't judged.
 abbrev pub CannotGo : (interface : ℕ) (front : List ℕ) → Course → (rest : List ℕ) → LogFault → Type 0

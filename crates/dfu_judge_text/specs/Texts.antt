@@ -65,12 +65,15 @@ allowed_text d row = if allows d row then row_line row else []
 abbrev pub unchanged_text : Event → List ℕ
 unchanged_text e = if e.is_plain then [] else codes "allowed any other stall unchanged open" ++ 10 ∷ []
 
--- The lines of a departure are `departs LINE REQUEST in STATE..`, with the number of the line of the log and the states in which the
--- device might be, and a line for each row that says what was allowed.
-unfoldable pub departure_text : (number : ℕ) → Departure → List ℕ
-departure_text n d =
+-- The first line of a departure is `departs LINE REQUEST in STATE..`, with the number of the line of the log and the states in which the
+-- device might be.
+unfoldable pub departs_text : (number : ℕ) → Departure → List ℕ
+departs_text n d =
     codes "departs " ++ decimal n ++ (codes " " ++ asked_name d.event.asked) ++ codes " in" ++ states_text d.before ++ 10 ∷ []
-    ++ each (allowed_text d) STANDARD ++ unchanged_text d.event
+
+-- The lines of a departure are that one, and a line for each row that says what was allowed.
+unfoldable pub departure_text : (number : ℕ) → Departure → List ℕ
+departure_text n d = departs_text n d ++ each (allowed_text d) STANDARD ++ unchanged_text d.event
 
 -- How many events came, and after how many of them one state was left.
 abbrev pub counts_text : (events single : ℕ) → List ℕ

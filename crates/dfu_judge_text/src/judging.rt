@@ -1,39 +1,31 @@
 //! A log that is judged, a byte at a time.
 
-ghost use Rattle.std.specs.Prelude.{◌≡◌, ◌≢◌, ◌+◌, ◌<◌, ◌≤◌, ◌++◌, ◌∷◌, [], IfErr, IfOk, IfSome, List, None, OnOk, length, vec_capacity, ℕ};
+ghost use Rattle.std.specs.Prelude.{◌≡◌, ◌+◌, ◌<◌, ◌++◌, ◌∷◌, [], IfErr, IfOk, IfSome, List, OnOk, ℕ};
 ghost use Rattle.dfu_judge.specs.Verdict.{IsVerdict, ArePlaces};
 ghost use Rattle.dfu_judge_text.specs.Course.{Course, Judges, at_first};
 ghost use Rattle.dfu_judge_text.specs.Judging.{CannotGo, readings_of};
 ghost use Rattle.dfu_judge_text.specs.inside.Going.{Came, IsAt, Took};
 
 use crate::fault::LogFault;
+use crate::lines::LogLines;
 use crate::texts::is_single;
-use dfu_judge::{Departure, Event, Judge, Line, LineFault, Verdict, read_line, why_unread};
+use dfu_judge::{Departure, Event, Judge, Line, Verdict};
 use std::alloc::Global;
 use std::marker::Model;
 
-/// The most bytes of a line, without its 0Ah: no line that is read has more, but a comment.
-const MAX_LINE: usize = 262_158;
-
-/// The most bytes of a log, with the end of its last line.
-const MAX_LOG: u64 = 1_099_511_627_776;
-
-/// A log that is judged. It holds a line, in a buffer that is reserved once.
+/// A log that is judged.
 ///
 /// Contracts see it as a `JudgingState`.
 #[derive(Drop)]
 pub(crate) struct Judging {
     judge: Judge,
-    line: Vec<u8>,
-    // How many bytes may still come.
-    room: u64,
-    number: u64,
+    lines: LogLines,
     events: u64,
     single: u64,
 }
 
 impl Model for Judging {
-    ghost use Rattle.std.specs.Prelude.{◌≤◌, ◌+◌, length, vec_capacity};
+    ghost use Rattle.std.specs.Prelude.{◌≤◌, ◌+◌};
     ghost use Rattle.dfu_judge_text.specs.inside.Going.{JudgingState};
 
     ghost Value = { JudgingState };
@@ -41,27 +33,12 @@ impl Model for Judging {
     ghost view = { λ s. record {
       whole = s.judge.whole;
       since = s.judge.since;
-      line = s.line.items;
-      room = s.room;
-      number = s.number;
+      lines = s.lines;
       events = s.events;
       single = s.single;
     } };
 
-    ghost invariant = { λ s. (s.number + s.room ≤ 1099511627776) × (s.events + s.room ≤ 1099511627776) × (s.single ≤ s.events)
-        × (length s.line.items ≤ 262158) × (262158 ≤ vec_capacity s.line) };
-}
-
-/// Puts a byte to the end of a line that has room for it.
-fn put(line: &mut Vec<u8>, byte: u8)
-    requires room { length line.old.items < 262158 }
-    requires capacity { 262158 ≤ vec_capacity line.old }
-    ensures items { line.new.items ≡ line.old.items ++ byte ∷ [] }
-    ensures capacity { vec_capacity line.old ≤ vec_capacity line.new }
-{
-    let Ok(()) = line.push(byte) else {
-        unreachable!();
-    };
+    ghost invariant = { λ s. (s.events + s.lines.room ≤ 1099511627776) × (s.single ≤ s.events) };
 }
 
 impl Judging {
@@ -69,14 +46,10 @@ impl Judging {
     pub(crate) fn new(alloc: Global) -> Option<Judging>
         ensures { IfSome result (λ s. IsAt s [] at_first) }
     {
-        let Ok(line) = Vec::with_capacity(alloc, MAX_LINE) else {
-            return None;
-        };
+        let lines = LogLines::new(alloc)?;
         Some(Judging {
             judge: Judge::new(),
-            line,
-            room: MAX_LOG,
-            number: 0,
+            lines,
             events: 0,
             single: 0,
         })
@@ -84,37 +57,16 @@ impl Judging {
 
     /// How many lines were ended.
     pub(crate) fn number(&self) -> u64
-        ensures { result ≡ self.now.number }
+        ensures { result ≡ self.now.lines.number }
     {
-        self.number
-    }
-
-    /// A byte comes that ends no line.
-    fn keep(&mut self, byte: u8) -> Result<(), LogFault>
-        requires some { 0 < self.old.room }
-        requires inner { byte ≢ 10 }
-        ensures ok { (interface : ℕ) (text : List ℕ) (c : Course) → IsAt self.old text c → Judges interface text c
-            → OnOk result (Took interface (text ++ byte ∷ []) c None self.new) }
-        ensures err { (interface : ℕ) (text : List ℕ) (c : Course) → IsAt self.old text c
-            → IfErr result (λ f. (tail : List ℕ) → CannotGo interface text c (byte ∷ tail) f) }
-        ensures room { OnOk result (self.new.room + 1 ≡ self.old.room) }
-    {
-        if self.line.len() >= MAX_LINE {
-            return Err(LogFault::BadLine {
-                number: self.number + 1,
-                why: LineFault::Long,
-            });
-        }
-        self.room -= 1;
-        put(&mut self.line, byte);
-        Ok(())
+        self.lines.number()
     }
 
     /// An event comes.
     fn come(&mut self, event: &Event) -> Option<Departure>
-        requires slack { self.old.events + self.old.room < 1099511627776 }
+        requires slack { self.old.events + self.old.lines.room < 1099511627776 }
         ensures came { (text : List ℕ) (c : Course) → IsAt self.old text c → Came text c event.now result self.new }
-        ensures room { self.new.room ≡ self.old.room }
+        ensures lines { self.new.lines ≡ self.old.lines }
     {
         self.events += 1;
         match self.judge.take(event) {
@@ -128,31 +80,6 @@ impl Judging {
         }
     }
 
-    /// A line is ended.
-    fn end_line(&mut self, interface: u8) -> Result<Option<Departure>, LogFault>
-        requires some { 0 < self.old.room }
-        ensures ok { (text : List ℕ) (c : Course) → IsAt self.old text c → Judges interface text c
-            → IfOk result (λ o. Took interface (text ++ 10 ∷ []) c o self.new) }
-        ensures err { (text : List ℕ) (c : Course) → IsAt self.old text c
-            → IfErr result (λ f. (tail : List ℕ) → CannotGo interface text c (10 ∷ tail) f) }
-        ensures room { OnOk result (self.new.room + 1 ≡ self.old.room) }
-    {
-        let Some(line) = read_line(interface, &self.line) else {
-            return Err(LogFault::BadLine {
-                number: self.number + 1,
-                why: why_unread(&self.line),
-            });
-        };
-        self.room -= 1;
-        self.number += 1;
-        self.line.clear();
-        match line {
-            Line::Came(event) => Ok(self.come(&event)),
-            Line::Blank => Ok(None),
-            Line::Elsewhere => Ok(None),
-        }
-    }
-
     /// A byte comes. Where it ends a line at which the device departs, the departure is handed out.
     ///
     /// # Errors
@@ -163,17 +90,16 @@ impl Judging {
             → IfOk result (λ o. Took interface (text ++ byte ∷ []) c o self.new) }
         ensures err { (text : List ℕ) (c : Course) → IsAt self.old text c
             → IfErr result (λ f. (tail : List ℕ) → CannotGo interface text c (byte ∷ tail) f) }
-        ensures room { OnOk result (self.new.room + 1 ≡ self.old.room) }
+        ensures room { OnOk result (self.new.lines.room + 1 ≡ self.old.lines.room) }
     {
-        if self.room == 0 {
-            return Err(LogFault::TooLarge);
-        }
-        if byte == b'\n' {
-            return self.end_line(interface);
-        }
-        match self.keep(byte) {
-            Ok(()) => Ok(None),
+        match self.lines.take(interface, byte) {
             Err(fault) => Err(fault),
+            Ok(None) => Ok(None),
+            Ok(Some(line)) => match line {
+                Line::Came(event) => Ok(self.come(&event)),
+                Line::Blank => Ok(None),
+                Line::Elsewhere => Ok(None),
+            },
         }
     }
 

@@ -3,12 +3,18 @@
 //! `judge_text` judges what a reader gives. The crate opens no file.
 #![tactic(auto)]
 
+mod dfuse;
 mod fault;
 mod judging;
+mod lines;
 mod names;
 mod reading;
 mod telling;
 mod texts;
 
+pub use dfuse::dfuse_departure_text;
 pub use fault::LogFault;
+pub use lines::LogLines;
 pub use reading::{judge_text, judge_with_fault};
+pub use telling::stop_text;
+pub use texts::{is_single, verdict_text};

@@ -26,7 +26,7 @@ fn step<W: Write>(
         → OnOk result (Going interface old (W.contents writer.new) (text ++ byte ∷ []) judging.new) }
     ensures err { (old : Option (List ℕ)) (text : List ℕ) → Going interface old (W.contents writer.old) text judging.old
         → IfErr result (λ f. (tail : List ℕ) → Falls interface old (W.contents writer.new) (text ++ byte ∷ tail) f) }
-    ensures room { OnOk result (judging.new.room + 1 ≡ judging.old.room) }
+    ensures room { OnOk result (judging.new.lines.room + 1 ≡ judging.old.lines.room) }
 {
     match judging.take(interface, byte) {
         Ok(None) => Ok(()),
@@ -50,7 +50,7 @@ fn feed<W: Write>(
         → OnOk result (Going interface old (W.contents writer.new) (text ++ piece.now) judging.new) }
     ensures err { (old : Option (List ℕ)) (text : List ℕ) → Going interface old (W.contents writer.old) text judging.old
         → IfErr result (λ f. (tail : List ℕ) → Falls interface old (W.contents writer.new) ((text ++ piece.now) ++ tail) f) }
-    ensures room { OnOk result (judging.new.room + length piece.now ≡ judging.old.room) }
+    ensures room { OnOk result (judging.new.lines.room + length piece.now ≡ judging.old.lines.room) }
 {
     for byte in piece {
         match step(alloc, interface, judging, *byte, writer) {

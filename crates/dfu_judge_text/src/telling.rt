@@ -44,7 +44,7 @@ fn bad_line(alloc: Global, number: u64) -> Result<String, AllocError>
 }
 
 /// Writes the line for a log that was judged no further. Where the writer failed nothing more is written.
-pub(crate) fn stop_text<W: Write>(alloc: Global, fault: LogFault, writer: &mut W) -> Exit
+pub fn stop_text<W: Write>(alloc: Global, fault: LogFault, writer: &mut W) -> Exit
     ensures { WritesStop fault (W.contents writer.old) (W.contents writer.new) result }
 {
     match fault {

@@ -3,7 +3,7 @@
 ghost use Rattle.std.specs.Prelude.{◌≡◌, ◌<◌, ◌≤◌, ◌++◌, ◌∷◌, IfOk, OnOk, [], codes, cond};
 ghost use Rattle.std.specs.String.{string_bytes};
 ghost use Rattle.dfu_judge.specs.Held.{reading_bit};
-ghost use Rattle.dfu_judge_text.specs.Texts.{allowed_text, counts_text, departure_text, each, is_single, may_be_in, reading_text, readings_text, row_line, state_text, states_text, unchanged_text, verdict_text};
+ghost use Rattle.dfu_judge_text.specs.Texts.{allowed_text, counts_text, departs_text, departure_text, each, is_single, may_be_in, reading_text, readings_text, row_line, state_text, states_text, unchanged_text, verdict_text};
 
 use crate::names::{
     READINGS, STATES, answer_name, asked_name, place_name, reading_name, source_name, when_name,
@@ -32,7 +32,7 @@ fn one_if(yes: bool) -> usize
 
 /// Whether there is one state in which a device may be.
 #[tactic(auto, unfolding(crate::specs::Texts::is_single))]
-pub(crate) fn is_single(at: &[bool; 12]) -> bool
+pub fn is_single(at: &[bool; 12]) -> bool
     ensures { result ≡ is_single at.now }
 {
     let mut count = 0usize;
@@ -111,7 +111,11 @@ fn push_row(line: &mut String, row: &Row) -> Result<(), AllocError>
 }
 
 /// Adds the line of a row that says what was allowed.
-fn push_if_allowed(line: &mut String, departure: &Departure, row: &Row) -> Result<(), AllocError>
+pub(crate) fn push_if_allowed(
+    line: &mut String,
+    departure: &Departure,
+    row: &Row,
+) -> Result<(), AllocError>
     ensures { OnOk result (string_bytes line.new ≡ string_bytes line.old ++ allowed_text departure.now row.now) }
 {
     if !departure.allows(row) {
@@ -140,6 +144,24 @@ fn push_unchanged(line: &mut String, event: &Event) -> Result<(), AllocError>
     push(line, "allowed any other stall unchanged open\n")
 }
 
+/// The first line of a departure at a line of a log.
+#[tactic(auto, unfolding(crate::specs::Texts::departs_text))]
+pub(crate) fn departs_line(
+    alloc: Global,
+    number: u64,
+    departure: &Departure,
+) -> Result<String, AllocError>
+    ensures { IfOk result (λ t. string_bytes t ≡ departs_text number departure.now) }
+{
+    let mut line = String::from_str(alloc, "departs ")?;
+    made_field(&mut line, "", number.to_string(alloc)?)?;
+    field(&mut line, " ", asked_name(departure.event.asked))?;
+    push(&mut line, " in")?;
+    push_states(&mut line, &departure.before)?;
+    push(&mut line, "\n")?;
+    Ok(line)
+}
+
 /// The lines of a departure at a line of a log.
 #[tactic(auto, unfolding(crate::specs::Texts::departure_text))]
 pub(crate) fn departure_text(
@@ -149,12 +171,7 @@ pub(crate) fn departure_text(
 ) -> Result<String, AllocError>
     ensures { IfOk result (λ t. string_bytes t ≡ departure_text number departure.now) }
 {
-    let mut line = String::from_str(alloc, "departs ")?;
-    made_field(&mut line, "", number.to_string(alloc)?)?;
-    field(&mut line, " ", asked_name(departure.event.asked))?;
-    push(&mut line, " in")?;
-    push_states(&mut line, &departure.before)?;
-    push(&mut line, "\n")?;
+    let mut line = departs_line(alloc, number, departure)?;
     push_allowed(&mut line, departure)?;
     push_unchanged(&mut line, &departure.event)?;
     Ok(line)
@@ -179,7 +196,7 @@ fn end_states(line: &mut String, at: &[bool; 12]) -> Result<(), AllocError>
 
 /// The line of a verdict.
 #[tactic(auto, unfolding(crate::specs::Texts::verdict_text))]
-pub(crate) fn verdict_text(
+pub fn verdict_text(
     alloc: Global,
     verdict: Verdict,
     at: &[bool; 12],

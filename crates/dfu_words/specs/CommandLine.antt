@@ -70,11 +70,11 @@ run_app =
     (flag (codes "board"))) (unset (codes "file")))
 
 -- The command `judge` takes each FILE, `-` by default, the options `--interface`, `0` by default, and `--device`, `only` by default, and
--- the flag `--json`.
+-- the flags `--dfuse` and `--json`.
 abbrev pub judge_app : App
 judge_app =
-    explained (with_rule (with_rule (with_rule (with_rule (new_app (codes "judge")) (optional (codes "file") (codes "-")))
-    (option (codes "interface") (codes "0"))) (option (codes "device") (codes "only"))) (flag (codes "json")))
+    explained (with_rule (with_rule (with_rule (with_rule (with_rule (new_app (codes "judge")) (optional (codes "file") (codes "-")))
+    (option (codes "interface") (codes "0"))) (option (codes "device") (codes "only"))) (flag (codes "dfuse"))) (flag (codes "json")))
 
 -- The command `dfu` with no subcommand yet has to get one, and has a version.
 abbrev pub bare_app : App
@@ -118,10 +118,10 @@ States (Some p) (Show kind hex json) = (p.0 ≡ codes "show") × (first_of (code
 States (Some p) (Run script trace board file) = (p.0 ≡ codes "run") × (first_of (codes "script") p.1 ≡ Some (string_bytes script))
     × (trace ≡ is_on (first_of (codes "trace") p.1)) × (board ≡ is_on (first_of (codes "board") p.1))
     × (first_of (codes "file") p.1 ≡ option_map string_bytes file)
-States (Some p) (Judge files interface device json) =
+States (Some p) (Judge files interface device dfuse json) =
     (p.0 ≡ codes "judge") × (all_of (codes "file") p.1 ≡ Some (map string_bytes files.items))
     × (first_of (codes "interface") p.1 ≡ Some (string_bytes interface)) × (first_of (codes "device") p.1 ≡ Some (string_bytes device))
-    × (json ≡ is_on (first_of (codes "json") p.1))
+    × (dfuse ≡ is_on (first_of (codes "dfuse") p.1)) × (json ≡ is_on (first_of (codes "json") p.1))
 
 -- The rows of a subcommand, which has none where there is no subcommand.
 abbrev pub rows_in : Option (Text × List Row) → List Row

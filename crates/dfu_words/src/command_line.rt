@@ -232,6 +232,7 @@ fn judge_command<'a>(alloc: Global) -> Result<Command<'a>, AllocError>
         option(alloc, "interface", "0", help::JUDGE_INTERFACE),
     );
     let command = with(command, option(alloc, "device", "only", help::JUDGE_DEVICE));
+    let command = with(command, flag(alloc, "dfuse", help::JUDGE_DFUSE));
     let command = with(command, flag(alloc, "json", help::JSON));
     explained(alloc, command)
 }

@@ -104,6 +104,8 @@ pub(crate) const JUDGE_INTERFACE: &str = "The number of the DFU interface, 0 to 
 pub(crate) const JUDGE_DEVICE: &str =
     "Of a capture the device, BUS.DEVICE, or only: the one that speaks DFU";
 
+pub(crate) const JUDGE_DFUSE: &str = "Judge by what DfuSe adds to USB DFU 1.1";
+
 pub(crate) const JUDGE_EXAMPLE: &str = "\
 Example:
   dfu judge examples/captures/dfu-util.log

@@ -73,6 +73,8 @@ pub enum Job {
         interface: String,
         /// BUS.DEVICE, or `only`.
         device: String,
+        /// Whether it is to be a device that speaks DfuSe: `--dfuse` was given.
+        dfuse: bool,
         /// Whether each line is to be an object: `--json` was given.
         json: bool,
     },

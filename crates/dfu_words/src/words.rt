@@ -201,11 +201,13 @@ fn judge_job(alloc: Global, found: &ArgMatches<'_>) -> Result<Job, JobFault>
     let files = texts_of(alloc, found, "file")?;
     let interface = text_of(alloc, found, "interface")?;
     let device = text_of(alloc, found, "device")?;
+    let dfuse = is_on(found, "dfuse");
     let json = is_on(found, "json");
     Ok(Job::Judge {
         files,
         interface,
         device,
+        dfuse,
         json,
     })
 }

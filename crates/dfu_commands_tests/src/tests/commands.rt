@@ -6,7 +6,7 @@ use std::test::Fail;
 
 /// Words, what is printed, the calls that are made, and the end.
 #[rattlefmt::skip]
-static READ: [(&str, &str, &str, u8); 41] = [
+static READ: [(&str, &str, &str, u8); 43] = [
     ("dfu check a", "ok payload 4 suffix 16 device ffff product ffff vendor ffff dfu 0100 crc 0c51c871\n", "open a;", 0),
     ("dfu check -", "refused TooShort\n", "", 1),
     ("dfu check c", "fault Read\n", "open c;", 3),
@@ -45,6 +45,8 @@ static READ: [(&str, &str, &str, u8); 41] = [
     ("dfu judge a", "refused BadLine 1\n", "open a;", 1),
     ("dfu judge c", "fault Read\n", "open c;", 3),
     ("dfu judge a --interface x", "bad words\n", "", 2),
+    ("dfu judge --dfuse - a", "-: refused BadLine 1\na: refused BadLine 1\n", "open a;", 1),
+    ("dfu judge c --dfuse", "fault Read\n", "open c;", 3),
     ("dfu add - -", "bad words\n", "", 2),
     ("dfu add c -", "bad words\n", "", 2),
     ("dfu add - b --vid 12", "bad words\n", "", 2),

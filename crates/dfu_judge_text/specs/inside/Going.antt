@@ -1,20 +1,18 @@
 -- A log that is judged, as it stands in memory.
-use Rattle.std.specs.Prelude.{◌≡◌, ℕ, ◌+◌, List, [], ◌∷◌, ◌++◌, length, Option, Some, None}
+use Rattle.std.specs.Prelude.{◌≡◌, ℕ, ◌+◌, List, [], ◌++◌, length, Option, Some, None}
 use Rattle.std.specs.Io.KnownBytes.{Appends}
 use Rattle.dfu_judge.specs.declared.event.Event.{Event}
 use Rattle.dfu_judge.specs.declared.verdict.Departure.{Departure}
 use Rattle.dfu_judge.specs.MayAnswer.{IsHeld, IsHeldPlain}
 use Rattle.dfu_judge_text.specs.Course.{Course, Comes, Judges}
+use Rattle.dfu_judge_text.specs.Lines.{LinesState}
 use Rattle.dfu_judge_text.specs.Texts.{departure_text}
 
--- The devices that a judge holds, the line, how many bytes may still come, how many lines and events came, and after how many events one
--- state was left.
+-- The devices that a judge holds, the lines, how many events came, and after how many of them one state was left.
 pub record JudgingState : Type 0 where
   pub whole : List (List ℕ)
   pub since : List (List ℕ)
-  pub line : List ℕ
-  pub room : ℕ
-  pub number : ℕ
+  pub lines : LinesState
   pub events : ℕ
   pub single : ℕ
 
@@ -22,9 +20,9 @@ pub record JudgingState : Type 0 where
 pub record IsAt (s : JudgingState) (text : List ℕ) (c : Course) : Type 0 where
   pub whole : IsHeld s.whole c.events
   pub since : IsHeldPlain s.since c.since
-  pub line : s.line ≡ c.line
-  pub room : s.room + length text ≡ 1099511627776
-  pub number : s.number ≡ c.number
+  pub line : s.lines.line ≡ c.line
+  pub room : s.lines.room + length text ≡ 1099511627776
+  pub number : s.lines.number ≡ c.number
   pub events : s.events ≡ length c.events
   pub single : s.single ≡ c.single
 
@@ -38,14 +36,14 @@ pub record Came (text : List ℕ) (c : Course) (event : Event) (departure : Opti
   pub next : Course
   pub comes : Comes c event next
   pub at : IsAt s text next
-  pub out : next.out ≡ c.out ++ told_text s.number departure
+  pub out : next.out ≡ c.out ++ told_text s.lines.number departure
 
 -- A text was judged so far, with this departure at its last byte, if any.
 pub record Took (interface : ℕ) (text : List ℕ) (c : Course) (departure : Option Departure) (s : JudgingState) : Type 0 where
   pub next : Course
   pub judged : Judges interface text next
   pub at : IsAt s text next
-  pub out : next.out ≡ c.out ++ told_text s.number departure
+  pub out : next.out ≡ c.out ++ told_text s.lines.number departure
 
 -- A text was judged so far, and what is printed of it is out.
 pub record Going (interface : ℕ) (old new : Option (List ℕ)) (text : List ℕ) (s : JudgingState) : Type 0 where

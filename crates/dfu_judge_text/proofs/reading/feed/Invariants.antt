@@ -6,5 +6,5 @@ abbrev pub invariant-loop-byte : goal.invariant-loop-byte
 invariant-loop-byte g l = record {
   going : (old : Option (List ℕ)) (text : List ℕ) → Going l.interface old (g.W.Write.contents l.fn.writer) text l.fn.judging
       → Going l.interface old (g.W.Write.contents l.writer) (text ++ take l.byte-index l.piece) l.judging;
-  room : l.judging.room + l.byte-index ≡ l.fn.judging.room;
+  room : l.judging.lines.room + l.byte-index ≡ l.fn.judging.lines.room;
 }

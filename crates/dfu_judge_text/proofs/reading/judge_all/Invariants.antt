@@ -10,4 +10,4 @@ invariant-pieces g l =
     → Going l.interface old (g.W.Write.contents l.writer) front l.judging)
 
 abbrev pub decreases-pieces : goal.decreases-pieces
-decreases-pieces g l = l.judging.room
+decreases-pieces g l = l.judging.lines.room

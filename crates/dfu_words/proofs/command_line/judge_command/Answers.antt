@@ -6,4 +6,5 @@ returns-clause-app c =
     let e2 = c.with-command-2.ensures.app _ _ e1 c.option.ensures.rule in
     let e3 = c.with-command-3.ensures.app _ _ e2 c.option-2.ensures.rule in
     let e4 = c.with-command-4.ensures.app _ _ e3 c.flag.ensures.rule in
-    c.explained.ensures.app _ e4
+    let e5 = c.with-command-5.ensures.app _ _ e4 c.flag-2.ensures.rule in
+    c.explained.ensures.app _ e5
