@@ -1,6 +1,6 @@
 //! The text of a row, a reader that gives it in portions, and what a row prints with its trace.
 
-use dfu_link::{ScriptFault, Stopped, script_traced_with};
+use dfu_link::{ScriptFault, script_traced};
 use std::alloc::{AllocError, Global};
 use std::cell::RefCell;
 use std::io::{self, ErrorKind, Read, Write};
@@ -59,17 +59,15 @@ impl Write for Both<'_> {
 /// How a script ended, whether each line of its trace is out, and the text with the trace.
 pub type Told = (Result<(), ScriptFault>, bool, Vec<u8>);
 
-/// What a row ends with and prints with its trace, where FILE stands for these bytes.
-pub fn told(alloc: Global, given: Option<&[u8]>, row: &str) -> Result<Told, AllocError> {
+/// What a row ends with and prints with its trace.
+pub fn told(alloc: Global, row: &str) -> Result<Told, AllocError> {
     let text = text_of(alloc, row)?;
     let bytes = RefCell::new(Vec::new(alloc));
-    let (end, is_traced) = script_traced_with(
+    let (end, is_traced) = script_traced(
         alloc,
-        given,
         text.as_slice(),
         &mut Both(&bytes),
         &mut Both(&bytes),
-        &Stopped::new(),
     );
     Ok((end, is_traced, bytes.into_inner()))
 }

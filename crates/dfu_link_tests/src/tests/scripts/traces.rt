@@ -1,4 +1,4 @@
-//! Scripts with a line for each action, worked out by hand.
+//! Scripts with a line for each action, worked out by hand; `tests/scripts` has more, over the program.
 
 use super::rows::{text_of, told};
 use dfu_link::{ScriptFault, script, script_traced};
@@ -9,7 +9,7 @@ use std::test::Fail;
 
 /// What a row prints with a trace.
 fn traced(rt: &impl Abort, alloc: Global, row: &str, wanted: &str) -> Result<(), Fail> {
-    let (end, is_traced, out) = told(alloc, None, row)?;
+    let (end, is_traced, out) = told(alloc, row)?;
     assert!(rt; end.is_ok() && is_traced);
     assert_eq!(rt; std::str::from_utf8(&out)?, wanted);
     Ok(())
@@ -61,108 +61,6 @@ fn harms_are_told(rt: HostRuntime) -> Result<(), Fail> {
         rt.alloc(),
         "time 7/offer W/go pass 4/go lostback/go pass 2/go fail 0 -",
         HARMED,
-    )
-}
-
-/// An upload of the image of one byte: the part is shorter than a block, so it is the last.
-const UPLOAD: &str = "\
-# 1 Find; GETSTATUS 0 6; pass; OK 0 appIDLE; appIDLE; appIDLE; -; 0 ms
-# 2 Detach; DETACH 255 0; pass; ack; appIDLE; appDETACH; -; 0 ms
-# 3 Enter; reset; pass; -; appDETACH; dfuIDLE; -; 0 ms
-# 4 Find; GETSTATUS 0 6; lostout; -; dfuIDLE; dfuIDLE; -; 0 ms
-";
-
-#[test]
-fn lost_requests_have_no_answer(rt: HostRuntime) -> Result<(), Fail> {
-    let wanted = format!(in rt.alloc(); "{UPLOAD}image 00\n")?;
-    traced(&rt, rt.alloc(), "upload/go pass 3/go lostout", &wanted)
-}
-
-/// Flash with sectors: the first block writes nothing, as the medium's unit isn't full. The image is put in place by an
-/// erase and a write of its data, of its header, and of its gate; the first erase lies.
-const ERASED: &str = "\
-# 11 WaitManifest; wait 10; lie 0 ff; -; dfuMANIFEST; dfuMANIFEST-SYNC; \
-erased 4096 at 20480 lied, 256 at 20480, erased 4096 at 16384, 256 at 16384, erased 4096 at 12288, 256 at 12288; 15 ms
-image ffffffff
-";
-
-/// What a row prints with a trace from here on, where FILE stands for these bytes.
-fn traced_from(
-    rt: &impl Abort,
-    alloc: Global,
-    given: &[u8],
-    row: &str,
-    from: &str,
-    wanted: &str,
-) -> Result<(), Fail> {
-    let (end, is_traced, out) = told(alloc, Some(given), row)?;
-    assert!(rt; end.is_ok() && is_traced);
-    match std::str::from_utf8(&out)?.find(from) {
-        Some(at) => assert_eq!(rt; std::str::from_utf8(&out)?.get(at..), Some(wanted)),
-        None => panic!(rt; "the action isn't told"),
-    }
-    Ok(())
-}
-
-#[test]
-fn erases_are_told(rt: HostRuntime) -> Result<(), Fail> {
-    traced_from(
-        &rt,
-        rt.alloc(),
-        &[],
-        "unit 256/erase 4096/capacity 4096/offer W/go pass 10/go lie 0 ff",
-        "# 11 ",
-        ERASED,
-    )
-}
-
-/// A block of 16 sectors: each is erased, and then all are written at once. Of these 17 writes the first is left out. A slot
-/// has 256 + 256 + 4,096 bytes, so the data of the spare one begin at 5,120.
-const MANY: &str = "\
-# 7 WaitPoll 0; wait 5; pass; -; dfuDNBUSY; dfuDNLOAD-SYNC; , erased 256 at 5376, erased 256 at 5632, \
-erased 256 at 5888, erased 256 at 6144, erased 256 at 6400, erased 256 at 6656, erased 256 at 6912, \
-erased 256 at 7168, erased 256 at 7424, erased 256 at 7680, erased 256 at 7936, erased 256 at 8192, \
-erased 256 at 8448, erased 256 at 8704, erased 256 at 8960, 4096 at 5120; 5 ms
-image 00
-";
-
-/// 4,096 bytes FFh, with a suffix whose CRC another program gave.
-#[test]
-fn the_last_writes_are_told(rt: HostRuntime) -> Result<(), Fail> {
-    let mut file = vec![in rt.alloc(); 0xffu8; 4096]?;
-    file.extend_from_slice(b"\xff\xff\xff\xff\xff\xff\x00\x01\x55\x46\x44\x10\xd0\x6b\xd1\x2a")?;
-    traced_from(
-        &rt,
-        rt.alloc(),
-        &file,
-        "device 07 255 4096 1 5 10/unit 256/erase 256/capacity 4096/offer FILE/go pass 7",
-        "# 7 ",
-        MANY,
-    )
-}
-
-/// An upload in which time slips in behind an answer. Then the power is cut at an action that the device answers, and the
-/// limits allow no restart.
-const ANSWERS: &str = "\
-# 1 Find; GETSTATUS 0 6; slip 300; OK 0 appIDLE; appIDLE; appIDLE; -; 300 ms
-# 2 Detach; DETACH 255 0; pass; ack; appIDLE; appDETACH; -; 300 ms
-# 3 Enter; reset; pass; -; appDETACH; dfuIDLE; -; 300 ms
-# 4 Find; GETSTATUS 0 6; pass; OK 0 dfuIDLE; dfuIDLE; dfuIDLE; -; 300 ms
-# 5 Fetch 0; UPLOAD 0 8; pass; 1 bytes; dfuIDLE; dfuIDLE; -; 300 ms
-# 6 LastUploaded; reset; pass; -; dfuIDLE; appIDLE; -; 300 ms
-report uploaded 00
-# 7 Find; GETSTATUS 0 6; cut 0 -; -; appIDLE; appIDLE; -; 300 ms
-report restarts-spent
-image 00
-";
-
-#[test]
-fn answers_are_told(rt: HostRuntime) -> Result<(), Fail> {
-    traced(
-        &rt,
-        rt.alloc(),
-        "upload/go slip 300/go pass 5/upload/go cut 0 -",
-        ANSWERS,
     )
 }
 
