@@ -1,7 +1,5 @@
 //! A reader that keeps the error at which it failed.
 
-ghost use Rattle.std.specs.Prelude.{◌≤◌, length, IfOk};
-
 use std::io::{self, Read};
 
 /// A reader, and the error at which it failed.
