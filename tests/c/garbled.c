@@ -76,7 +76,7 @@ int main(int count, char **words) {
         memset(record, 0, sizeof *record);
         record->version = DFU_VERSION + (roll(16) == 0), record->mode = roll(14), record->first = roll(12), record->second = roll(20);
         record->put_end = roll(12), record->slot = roll(8) ? 0 : roll(3);
-        record->number = (uint16_t)roll(18), record->length = (uint16_t)roll(14);
+        record->number = (uint16_t)roll(18), record->length = (uint16_t)roll(10);
         block[8] = 1, block[9] = 2, block[10] = 3;
         record->held_length = (uint16_t)(roll(8) ? record->put_end % used.unit : roll(300));
         /* Seven of eight note a header that stands on the medium. */
@@ -128,7 +128,7 @@ int main(int count, char **words) {
             return printf("garbled: call %ld answered %d\n", call, (int)result), 1;
         for (size_t i = 0; i < 64; i++)
             if (field[i] != 0x5a || field[256 + i] != 0x5a || given[i] != 0x5a || given[72 + i] != 0x5a || held[i] != 0x5a
-                || held[64 + most + i] != 0x5a)
+                || held[64 + most + i] != held_before[64 + most + i])
                 return printf("garbled: call %ld wrote outside\n", call), 1;
         for (size_t i = 0; i < sizeof *record; i++)
             if (((uint8_t *)&records[0])[i] != 0x5a || ((uint8_t *)&records[2])[i] != 0x5a)
