@@ -1203,3 +1203,51 @@ switch_lookup:;
 dfu_trial_c_calls_dfu_core_trial_start_exit:
     return signed32(r7_0);
 }
+
+/* dfu_core_trial_upload */
+int32_t dfu_core_trial_upload(const struct dfu_tries *tries, const uint8_t *flash, size_t size, struct dfu_ask *ask) {
+    unsigned char *a0 = (unsigned char *)(uintptr_t)tries;
+    unsigned char *a1 = (unsigned char *)(uintptr_t)flash;
+    uint64_t a2 = size;
+    unsigned char *a3 = (unsigned char *)(uintptr_t)ask;
+    _Alignas(8) unsigned char r5[48];
+    _Alignas(4) unsigned char r7[16];
+    uint32_t r6_0;
+    memset(r5, 0, 48);
+    dfu_trial_c_flash_looked(r5, a0, (unsigned char *)((uintptr_t)a1 + (uintptr_t)(uint64_t)((a1 == NULL) ? 4096 : 0)), a2);
+    uint8_t r16 = *r5;
+    if (r16 != 0) goto arm_2;
+    uint8_t r20 = r5[32];
+    uint32_t r3_4_28_copyload = load32(r5 + 36);
+    uint32_t r3_7_28_copyload = load32(r5 + 44);
+    uint32_t r30 = load32(a0 + 8);
+    uint8_t narrow = (r20 != 0) ? (r3_7_28_copyload >= r30) : 0;
+    uint32_t r7_4_0_0 = (uint32_t)narrow;
+    store32(r7, r7_4_0_0);
+    store32(r7 + 4, r7_4_0_0);
+    store32(r7 + 8, (uint32_t)(narrow ? r3_4_28_copyload : 0));
+    store32(r7 + 12, 0);
+    uint32_t r34 = load32(a0 + 4);
+    uint32_t r37 = dfu_trial_c_ask_tell(r7, r34, a3);
+    r6_0 = r37;
+    goto dfu_trial_c_calls_dfu_core_trial_upload_exit;
+arm_2:;
+    uint8_t r4_0_0_copyload = r5[1];
+    switch (r4_0_0_copyload) {
+    case 0:
+        r6_0 = 0xfffffffeU;
+        goto dfu_trial_c_calls_dfu_core_trial_upload_exit;
+    case 1: goto switch_lookup;
+    case 2: goto arm_3;
+    default: never();
+    }
+arm_3:
+    r6_0 = 0xfffffffdU;
+    goto dfu_trial_c_calls_dfu_core_trial_upload_exit;
+switch_lookup:;
+    uint8_t r4_3_1_copyload = r5[2];
+    r6_0 = (uint32_t)0xfffffff0U - (uint32_t)r4_3_1_copyload;
+    goto dfu_trial_c_calls_dfu_core_trial_upload_exit;
+dfu_trial_c_calls_dfu_core_trial_upload_exit:
+    return signed32(r6_0);
+}

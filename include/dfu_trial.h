@@ -140,6 +140,7 @@ static inline int32_t dfu_trial_give_up(const struct dfu_trial *t) {
  *         left, the trial ends by the driver, and the device is given power anew, in dfuIDLE.
  * @return 0: serve the setup; else stall it: as dfu_trial_give_up, dfu_core_begin and dfu_core_would_stall */
 static inline int32_t dfu_trial_transfer(const struct dfu_trial *t, struct dfu_device *d, const uint8_t setup[8]) {
+    struct dfu_ask ask;
     const int is_upload = setup[0] == 0xa1 && setup[1] == DFU_UPLOAD;
     int32_t n;
     if ((!is_upload && (setup[0] != 0x21 || setup[1] != DFU_DNLOAD)) || dfu_device_state(d) != DFU_STATE_IDLE)
@@ -147,14 +148,12 @@ static inline int32_t dfu_trial_transfer(const struct dfu_trial *t, struct dfu_d
     n = dfu_device_would_stall(d, setup);
     if (n != 0)
         return n == 1 ? 0 : n;
-    { /* (its memory is free again before the trial ends) */
-        struct dfu_ask ask;
-        n = is_upload ? dfu_trial_upload(t, &ask) : dfu_trial_end(t, &ask);
-    }
-    if (n != DFU_ASKS)
+    n = is_upload ? dfu_trial_upload(t, &ask) : dfu_trial_end(t, &ask);
+    if (n != DFU_ASKS || !t->driver)
         return n;
-    n = dfu_trial_give_up(t);
-    return n == 0 ? dfu_device_begin(d) : n;
+    (void)dfu_device_carry_out(t->driver, &ask);
+    n = dfu_trial_end(t, &ask);
+    return n == 0 ? dfu_device_begin(d) : n == DFU_ASKS ? DFU_NOT_WRITTEN : n;
 }
 
 #ifdef __cplusplus

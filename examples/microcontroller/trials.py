@@ -68,6 +68,7 @@ class AllBuilt(Built):
 
 class Board(Trial):
     """A board with images on trial."""
+    starts = 0
 
     def boot(self, until=" at ", cut=None):
         """Power comes: which image begins, and how many starts it has left, None if it is not on trial. Or where the power went."""
@@ -101,6 +102,11 @@ class Board(Trial):
         self.flash = before
         return kinds
 
+    def starts_in(self, slot):
+        """How many starts the flash has marked of the image in this slot; a mark that is broken off counts if any bit of it is written."""
+        at = SLOTS[slot] + PAGE + 2 * UNIT
+        return sum(self.flash[at + UNIT * i:at + UNIT * (i + 1)] != b"\xff" * UNIT for i in range(MARKS - 1))
+
     def unmarked(self, slot):
         """The flash, with no mark in this slot: its image is neither confirmed nor was it started."""
         at = SLOTS[slot] + PAGE + UNIT
@@ -108,7 +114,7 @@ class Board(Trial):
 
     def install(self, number, cut=None, goes_on=True):
         """A session that brings an image, with a loss of power by `cut`: how it ended, and what began after the loss. Or it ends with
-        that loss."""
+        that loss. `starts` is then how many starts were marked in the first slot as the power went."""
         flasher = Flasher(self.built.path("flasher"), self.built.path(f"image{number}.dfu"), self.folder)
         machine = Machine(self.flash, flasher.line, self.folder)
         began = None
@@ -117,6 +123,7 @@ class Board(Trial):
                 machine.run()
             else:
                 _, self.flash = cut(machine, flasher)
+                self.starts = self.starts_in(0)
                 machine.kill()
                 line = flasher.expect("gone", "report")
                 if line != "gone" or not goes_on:
@@ -138,6 +145,21 @@ class Board(Trial):
             machine.kill()
             flasher.kill()
         return line, began
+
+    def marking(self, number):
+        """Which writes of a session that brings an image to the first slot mark a start of it; the flash stays as it was."""
+        before, at, found = self.flash, SLOTS[0] + PAGE + 2 * UNIT, []
+
+        def look(machine, flasher):
+            for turn, (_, place, _) in enumerate(self.stops(machine, flasher)):
+                if place.start < at:
+                    found.clear()  # (before the header of this image)
+                elif place.start < at + UNIT * (MARKS - 1):
+                    found.append(turn)
+            return "", machine.read(0, FLASH)
+        self.install(number, look)
+        self.flash = before
+        return found
 
     def gives_way(self, trial, base, most):
         """The image on trial begins at most so many times, and then the base, for good: how many times."""

@@ -1,8 +1,8 @@
-/* Images on trial over the device's library, in simulated flash: rows worked out by hand, each refusal, and plans of downloads, starts,
- * confirmations and ends in which each operation in turn fails, lies or is cut off, with each of twenty tears. Beside it goes the rule as
- * a machine of four numbers: the base, the image on trial, the starts that are left, and whether anything was confirmed. Whatever came,
- * some image starts; it is the base, or the one on trial with its start recorded, at most `tries` times since it was taken; and one whose
- * trial ended does not start again unless it is offered anew.
+/* Images on trial over the device's library, in simulated flash: rows worked out by hand, each refusal, and plans of downloads, uploads,
+ * starts, confirmations and ends in which each operation in turn fails, lies or is cut off, with each of twenty tears. Beside it goes the
+ * rule as a machine of four numbers: the base, the image on trial, the starts that are left, and whether anything was confirmed. Whatever
+ * came, some image starts; it is the base, or the one on trial with its start recorded, at most `tries` times since it was taken; and one
+ * whose trial ended does not start again unless it is offered anew. An upload gives the image that the next start runs.
  *
  * trial RUNS: so many runs with a fault, and prints how many there were. */
 #include "dfu_trial.h"
@@ -117,6 +117,10 @@ static void boots(const char *what, uint32_t at, uint32_t wanted) {
     runs++, count = 0;
     expect(what, dfu_trial_boot(&trial, &place) == 0 && place.at == at && count == wanted);
 }
+static void uploads(const char *what, uint8_t first, int32_t length, uint32_t wanted) {
+    runs++, dfu_device_begin(&device), count = 0;
+    expect(what, request(0xa1, DFU_UPLOAD, block, 64) == length && out[0] == first && count == wanted);
+}
 static const uint8_t factory[1] = {0}, four[4] = {0xff, 0xff, 0xff, 0xff}, other[9] = "123456789";
 static uint8_t kept[sizeof part];
 static void second_row(void) {
@@ -138,6 +142,10 @@ static void rows(void) {
     boots("row 3", 512, 1), did("row 3", DFU_ERASE, 768, 256), boots("row 3", 512, 0);
     expect("row 3", dfu_device_image(&device, &place) == 0 && place.at == 512 && place.length == 1);
     stands("row 3", 0, 0, 512, 512);
+    memcpy(part, kept, sizeof part), uploads("an upload", 0xff, 4, 0), boots("an upload", 1280, 1);
+    uploads("a start is left", 0xff, 4, 0), boots("a start is left", 1280, 1);
+    uploads("none is left", 0, 1, 1), did("none is left", DFU_ERASE, 768, 256), stands("none is left", 0, 0, 512, 512);
+    uploads("nothing is on trial", 0, 1, 0), boots("nothing is on trial", 512, 0);
     memcpy(part, kept, sizeof part), fuse = 0, harm = LIES, tear = 7;
     boots("row 4: a mark that lies", 512, 1), stands("row 4", 1, 2, 1280, 512);
     fuse = 0, harm = FAILS, tear = 2;
@@ -171,7 +179,7 @@ static void is_refused(int32_t number, uint32_t unit, uint32_t sector, uint32_t 
     expect("a refusal", dfu_core_trial_look(&with, part, sizeof part, &standing) == number
         && dfu_core_trial_start(&with, part, sizeof part, &ask, &starting) == number
         && dfu_core_trial_confirm(&with, part, sizeof part, 512, &ask) == number
-        && dfu_core_trial_end(&with, part, sizeof part, &ask) == number);
+        && dfu_core_trial_end(&with, part, sizeof part, &ask) == number && dfu_core_trial_upload(&with, part, sizeof part, &ask) == number);
     expect("a refusal changes nothing", memcmp(&ask, &ask_before, sizeof ask) == 0
         && memcmp(&standing, &standing_before, sizeof standing) == 0 && memcmp(&starting, &starting_before, sizeof starting) == 0);
 }

@@ -23,8 +23,9 @@ static enum harm harm;
 static jmp_buf power;
 static int lost; /* how often it went */
 
-/* What the board did: the image that its last start ran first, the one that runs, whether it is within a reset by the host, and was as the
- * power went, how often the payload ran since it was put in place, whether the image before came back since, and whether a mark was harmed. */
+/* What the board did: the image that its last start ran first, the one that runs, whether it is within a reset by the host, and was as
+ * the power went, how often the payload ran since it was put in place, whether the image before came back since, and whether a mark was
+ * harmed. */
 static int is_upgrading, first_ran, running, is_in_reset, was_in_reset, runs, is_back, is_mark_harmed;
 
 static void expect(const char *what, int is);

@@ -104,6 +104,16 @@ static void give_up(void) {
     expect("an end says what it came to", (n == 0) == (now.on_trial == -1));
     running = -1;
 }
+static void upload(void) {
+    const struct view was = now, after[2] = {was, was.on_trial != -1 && was.left == 0 ? ended(was) : was};
+    running = -1, dfu_device_begin(&device);
+    const int32_t n = request(0xa1, DFU_UPLOAD, block, 64);
+    if (is_off)
+        return;
+    may("an upload", 2, after);
+    const int is_spent = now.on_trial != -1 && now.left == 0, next = now.on_trial != -1 ? now.on_trial : now.base;
+    expect("an upload gives what the next start runs, or is stalled", is_spent ? n == DFU_STALL : n == next % 16 + 16 && out[0] == next);
+}
 /* After a loss of power: nothing, the end of a trial, a start, a confirmation, or an image that was offered. */
 static void after_a_loss(int offered) {
     const struct view was = now;
@@ -117,9 +127,10 @@ static void after_a_loss(int offered) {
     started = now.on_trial != -1 ? (int)trial.tries.tries - now.left : 0;
 }
 
-/* s a start, c a confirmation, e an end, and D with a letter a download of the image that begins with it. */
+/* s a start, c a confirmation, e an end, u an upload, and D with a letter a download of the image that begins with it. */
 static const char *const all[] = {
     "scDasscDbssssDcscs", "sDascDbsDcsscDdsss", "scDaDbDcscDdsDesssss", "scDasesDbsesDcsc", "DaDbscDcscDdss", "scDasscDbsssDbsscss",
+    "scDausuDbssusuDcusscu", "uscDasususususuDcscDdssuDesssssu",
 };
 static void step(char c, int image) {
     if (c == 'D')
@@ -130,6 +141,8 @@ static void step(char c, int image) {
         confirm();
     else if (c == 'e')
         give_up();
+    else if (c == 'u')
+        upload();
 }
 static unsigned long run(const char *plan, long at) {
     static uint8_t first[16];

@@ -88,7 +88,9 @@ static uint32_t offer(void) {
     uint8_t descriptor[9], none[1];
     is_gone = 0;
     expect("a descriptor", dfu_device_functional(&config, descriptor) == 9);
-    expect("a session", (is_verified ? dfu_host_verified : dfu_host_download)(&session, file, sizeof file, descriptor, 9, &ids, 1000, 9) == 0);
+    const int32_t refusal = is_verified ? dfu_host_verified(&session, file, sizeof file, descriptor, 9, &ids, 1000, 9)
+                                        : dfu_host_download(&session, file, sizeof file, descriptor, 9, &ids, 1000, 9);
+    expect("a session", refusal == 0);
     while (dfu_host_next(&session, file, LENGTH, &action) == 0 && action.what != DFU_DONE) {
         if (is_gone) /* in the work behind the answer before */
             seen = DFU_SEEN_RESTART, count = 0, is_gone = 0;
@@ -189,7 +191,7 @@ int main(int words, char **word) {
             for (behaviour = QUIET; behaviour < BEHAVIOURS; behaviour++)
                 if (behaviour != FAULTS || (is_armed && !is_blind))
                     for (int often = NEVER; often <= (is_armed ? (int)trial.tries.tries : NEVER); often++)
-                        search(often, behaviour == QUIET && is_verified && often == NEVER);
+                        search(often, behaviour == QUIET && is_verified && is_armed && !is_blind && often == NEVER);
         }
     }
     expect("2 tries are too few for a loss of power in a start, and so on", is_without || (tightest & 6) == 6);
