@@ -10,6 +10,7 @@
 
 #define MOST 3000 /* bytes of an image */
 #define ANSWER 4096
+#define PENDING DFU_BLOCK_SIZE(ANSWER, 256)
 
 static uint64_t dice, sum = 14695981039346656037u;
 static uint8_t rooms[5][2 * (600 + MOST + 300) + 8] __attribute__((aligned(8)));
@@ -153,7 +154,7 @@ static int32_t step(int32_t state) {
 
 static void look(int32_t answer) {
     struct dfu_place place = {1, 2};
-    add(&device.record, sizeof device.record), add(pending, ANSWER), add(medium, device.size);
+    add(&device.record, sizeof device.record), add(pending, PENDING), add(medium, device.size);
     add(out, answer > 0 && answer <= ANSWER ? (size_t)answer : 0);
     count(dfu_device_state(&device)), count(dfu_device_code(&device));
     count(dfu_device_image(&device, &place)), add(&place, sizeof place);
@@ -163,7 +164,7 @@ int main(int words, char **word) {
     long calls = words > 1 ? atol(word[1]) : 10000, odd = words > 3 ? atol(word[3]) : 0;
     dice = (uint64_t)(words > 2 ? atol(word[2]) : 1) * 0x9e3779b97f4a7c15u + 1;
     medium = rooms[0] + odd, out = rooms[1] + odd, body = rooms[2] + odd, image = rooms[3] + odd, pending = rooms[4] + odd;
-    driver.own = medium, device.flash = medium, device.block = pending, device.most = ANSWER;
+    driver.own = medium, device.flash = medium, device.block = pending, device.most = PENDING;
     memset(&device.record, 0xff, sizeof device.record);
     make_board();
     for (long call = 1; call <= calls; call++) {

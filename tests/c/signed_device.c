@@ -7,7 +7,7 @@
 enum { SECTOR = 1024, CAPACITY = 2048, BLOCK = 128, STATES = 16 };
 #define SIZE DFU_MEDIUM_SIZE(256, SECTOR, CAPACITY)
 
-static uint8_t flash[SIZE], before[SIZE], block[BLOCK], out[BLOCK], old[MOST];
+static uint8_t flash[SIZE], before[SIZE], block[DFU_BLOCK_SIZE(BLOCK, 256)], out[BLOCK], old[MOST];
 static struct dfu_config config = {.version = DFU_VERSION, .device = 0x0100, .product = 1, .vendor = 0x1209, .detach_ms = 255,
                                    .transfer = BLOCK, .least = 5};
 static size_t old_length;
@@ -26,7 +26,7 @@ static int program(void *own, uint32_t at, const uint8_t *from, uint32_t count) 
 }
 
 static const struct dfu_driver driver = {flash, erase, program};
-static struct dfu_device device = {.config = &config, .flash = flash, .block = block, .most = BLOCK, .driver = &driver};
+static struct dfu_device device = {.config = &config, .flash = flash, .block = block, .most = sizeof block, .driver = &driver};
 static struct dfu_trial trial = {.flash = flash, .driver = &driver};
 static struct signed_board board = {.device = &device, .rules = {(const uint8_t (*)[SIGNED_KEY])keys, 1, HARDWARE, 0}};
 
