@@ -31,6 +31,7 @@
  * What the program owes:
  * - What it owes for dfu_device.h. Only one operation at a time: no call while one of the device is due.
  * - It starts no other image than dfu_trial_boot says, and starts it once for each of these calls.
+ * - A trial that dfu_trial_boot ends changes the flash: it comes before dfu_device_power_on, or power is given again.
  * - An application confirms by its own place. An old one, which runs since a mark failed, then confirms nothing new.
  * - unit, sector and tries are those of all calls, of the bootloader and of the application.
  * - A part with ECC: a mark that a loss of power tore and that reads FFh all the same is programmed again at the next start.

@@ -9,7 +9,7 @@ from pulls import Built, Trial
 
 END, ESCAPES = 0xc0, {b"\xdb\xdc": b"\xc0", b"\xdb\xdd": b"\xdb"}
 TEXT = 6  # a frame that an image or the bootloader says
-SLOTS, PAGE, UNIT, MARKS = (0x5000, 0x18800), 1024, 16, 4  # where the slots begin; the marks of a confirmation and three starts
+SLOTS, PAGE, UNIT, MARKS = (0x5400, 0x18c00), 1024, 16, 4  # where the slots begin; the marks of a confirmation and three starts
 
 
 class Listener:

@@ -110,6 +110,17 @@ holds 'a download while an image is on trial' third
 starts 'a download while an image is on trial' "$new_runs" "$new_runs" "$new_runs" "$old_runs"
 holds 'the confirmed image is whole' old
 
+# An upload once no start is left: what it gives is what starts next.
+on_trial
+starts 'as often as it may' "$new_runs" "$new_runs" "$new_runs"
+none_left='1.0.0, on trial, 0 starts left'
+row 'an upload without a start left' "--dfu-mode --tries 3" << END
+setup a105000000000100 => application is named $none_left / upgrade is named $none_left / upgrade joins / a105 02
+setup a102000000002000 => a102 $(hex old)
+END
+is 'it is told' grep -q '^trial: ended by an upload, since no start was left$' err
+starts 'an upload without a start left' "$old_runs"
+
 # Another program ends the trial while the device is on the bus.
 on_trial
 row 'an end by another program' "--dfu-mode --tries 3" << END
