@@ -78,12 +78,12 @@ for line in $(grep -n '^a102' clean.log | cut -d : -f 1); do
 done
 # GETSTATE may be stalled while a command runs, and not behind it; DNLOAD always.
 running=$(grep -n '^a103.*0400$' clean.log | head -n 1 | cut -d : -f 1)
-done=$(grep -n '^a103.*0500$' clean.log | head -n 1 | cut -d : -f 1)
+ended=$(grep -n '^a103.*0500$' clean.log | head -n 1 | cut -d : -f 1)
 sed "${running}a a105000000000100 - stall" clean.log > stalled.log
 equal 'GETSTATE is stalled while a command runs' kept "$(judged stalled.log)"
-sed "${done}a a105000000000100 - stall" clean.log > stalled.log
-equal 'GETSTATE is stalled behind it' "departs $((done + 1)) GETSTATE" "$(judged stalled.log)"
-sed "${done}a 2101000000000800 0000000000000000 stall" clean.log > stalled.log
+sed "${ended}a a105000000000100 - stall" clean.log > stalled.log
+equal 'GETSTATE is stalled behind it' "departs $((ended + 1)) GETSTATE" "$(judged stalled.log)"
+sed "${ended}a 2101000000000800 0000000000000000 stall" clean.log > stalled.log
 equal 'a DNLOAD that is stalled' kept "$(judged stalled.log)"
 
 # dfu-util's requests, as the stand-in logged them.
