@@ -19,8 +19,8 @@
  * - A start is marked before it, and read back: if the mark does not read set, the confirmed image runs, and no start is lost.
  * - A download ends a trial first: until then the spare slot is that of the confirmed image, which would be written over.
  * - An upload ends a trial that has no start left, as the next start would. So a host reads what the next start runs, and if it reports
- *   Verified its last reset starts the payload. Two things can part them: the mark of that start fails, and the image before runs this
- *   once; or the power goes between that mark and the image, and the host does not see it.
+ *   Verified its last reset starts the payload. But for two things: the mark of that start fails, and the image before runs this once;
+ *   or the power goes in that reset, and the host does not see it.
  * - A host that verifies starts the new image twice, and a loss of power that it sees spends one start more, or two if it falls into a
  *   start. So 2 tries are enough if the power stays, and 2 more for each loss; with fewer it may report Different, and the image before
  *   runs. An image that confirms itself is past all this.
