@@ -13,7 +13,7 @@
 enum { SECTOR = 256, CAPACITY = 256, WELL = 0, FAILS, LIES, CUT, TEARS = 20 };
 static struct dfu_config config = {.version = DFU_VERSION, .device = 0x0100, .product = 1, .vendor = 0x1209, .detach_ms = 255,
     .transfer = 64, .attributes = 7, .busy_ms = 5, .manifest_ms = 10, .least = 1, .unit = 16, .sector = SECTOR};
-static uint8_t part[2 * (2 * SECTOR + CAPACITY)], block[DFU_BLOCK_SIZE(64, 16)], out[64];
+static uint8_t part[2 * (2 * SECTOR + CAPACITY)], block[DFU_BLOCK_SIZE(64, 64)], out[64];
 static unsigned long runs, operations, starts, checks;
 static int wrong, harm, tear, is_offered, is_off;
 static long fuse; /* the operation of that number suffers the harm; once the power is off there are no more */

@@ -13,7 +13,7 @@ enum harm { FAILS, LIES, HARMS };
 
 static struct dfu_config config = {.version = DFU_VERSION, .device = 0x0100, .product = 1, .vendor = 0x1209, .detach_ms = 255,
     .transfer = TRANSFER, .attributes = 7, .least = 1, .unit = 16, .sector = SECTOR};
-static uint8_t part[2 * SLOT], block[TRANSFER], out[TRANSFER];
+static uint8_t part[2 * SLOT], block[DFU_BLOCK_SIZE(TRANSFER, 64)], out[TRANSFER];
 static enum behaviour behaviour;
 static int wrong, is_without, is_blind, is_armed;
 
