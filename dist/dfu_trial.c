@@ -72,8 +72,7 @@ _Static_assert(offsetof(struct dfu_record, asked) == 60, "another layout");
 _Static_assert(offsetof(struct dfu_record, generation) == 64, "another layout");
 _Static_assert(offsetof(struct dfu_record, close) == 65, "another layout");
 _Static_assert(offsetof(struct dfu_record, held_length) == 66, "another layout");
-_Static_assert(offsetof(struct dfu_record, held) == 68, "another layout");
-_Static_assert(sizeof(struct dfu_record) == 324, "another layout");
+_Static_assert(sizeof(struct dfu_record) == 68, "another layout");
 _Static_assert(_Alignof(struct dfu_record) == 4, "another layout");
 _Static_assert(offsetof(struct dfu_ask, kind) == 0, "another layout");
 _Static_assert(offsetof(struct dfu_ask, at) == 4, "another layout");
@@ -1013,11 +1012,11 @@ dfu_trial_c_calls_dfu_core_trial_end_exit:
 }
 
 /* dfu_core_trial_look */
-int32_t dfu_core_trial_look(const struct dfu_tries *tries, const uint8_t *flash, size_t size, struct dfu_standing *told) {
+int32_t dfu_core_trial_look(const struct dfu_tries *tries, const uint8_t *flash, size_t size, struct dfu_standing *standing) {
     unsigned char *a0 = (unsigned char *)(uintptr_t)tries;
     unsigned char *a1 = (unsigned char *)(uintptr_t)flash;
     uint64_t a2 = size;
-    unsigned char *a3 = (unsigned char *)(uintptr_t)told;
+    unsigned char *a3 = (unsigned char *)(uintptr_t)standing;
     _Alignas(8) unsigned char r5[48];
     _Alignas(8) unsigned char r3[40];
     uint32_t r10_3_4_copyload, r10_5_4_copyload, r9_0_0_0, r9_0_4_0, r9_5_0_0, r9_5_4_0, r9_8_0, r9_10_0, r9_12_0, r6_0;
@@ -1086,12 +1085,12 @@ dfu_trial_c_calls_dfu_core_trial_look_exit:
 }
 
 /* dfu_core_trial_start */
-int32_t dfu_core_trial_start(const struct dfu_tries *tries, const uint8_t *flash, size_t size, struct dfu_ask *ask, struct dfu_starting *told) {
+int32_t dfu_core_trial_start(const struct dfu_tries *tries, const uint8_t *flash, size_t size, struct dfu_ask *ask, struct dfu_starting *starting) {
     unsigned char *a0 = (unsigned char *)(uintptr_t)tries;
     unsigned char *a1 = (unsigned char *)(uintptr_t)flash;
     uint64_t a2 = size;
     unsigned char *a3 = (unsigned char *)(uintptr_t)ask;
-    unsigned char *a4 = (unsigned char *)(uintptr_t)told;
+    unsigned char *a4 = (unsigned char *)(uintptr_t)starting;
     _Alignas(8) unsigned char r6[48];
     _Alignas(8) unsigned char r3[40];
     _Alignas(4) unsigned char r13[16];
