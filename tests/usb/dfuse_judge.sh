@@ -46,7 +46,7 @@ for kind in '' 'USB_ERASE=1 USB_BUSY=1' 'USB_ERASE=1 USB_BUSY=1 USB_TOLD=nothing
     done
 done
 fate='leave 9'
-recorded USB_TRANSFER=64 --address 0x08000000 --length 4096 --upload again
+recorded USB_TRANSFER=64 --address 0x08000000 --length 4096 --upload judged
 keeps 'a log of an upload'
 fate=
 random 9 > short
