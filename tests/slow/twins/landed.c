@@ -83,21 +83,16 @@ static void old_setup(const struct dfu_config *c, const uint8_t setup[8], uint8_
         old[5] = 1;
 }
 
-/* The bytes held back stood in the record, and the memory of the block had the block alone. */
-static size_t own_of(const struct dfu_config *c, size_t most) {
-    size_t own = most < c->unit ? 0 : most - c->unit;
-    return own < c->transfer ? own : c->transfer;
-}
-
-static size_t held_of(const struct dfu_config *c, size_t most) {
-    size_t held = most < c->transfer ? 0 : most - c->transfer;
-    return held < 256 ? held : 256;
+/* So many bytes of memory without these, up to a limit: the bytes held back stood in the record, and not behind the block. */
+static size_t left(size_t most, size_t without, size_t limit) {
+    size_t rest = most < without ? 0 : most - without;
+    return rest < limit ? rest : limit;
 }
 
 #define OLD(record) struct landed_config c = old_config(config); struct landed_asking a = old_record(config, record)
 #define BACK(number) do { int32_t n = (number); bring_back(record, &a); return n; } while (0)
-#define OLD_WITH(record) OLD(record); const size_t own = own_of(config, most), held = held_of(config, most); \
-    memcpy(a.device.held, block + config->transfer, held)
+#define OLD_WITH(record) OLD(record); const size_t own = left(most, config->unit, config->transfer); \
+    const size_t held = left(most, config->transfer, 256); memcpy(a.device.held, block + config->transfer, held)
 #define BACK_WITH(number) do { int32_t n = (number); bring_back(record, &a); memcpy(block + config->transfer, a.device.held, held); \
     return n; } while (0)
 
@@ -116,7 +111,7 @@ int32_t landed_begin(const struct dfu_config *config, struct dfu_record *record,
     static const uint8_t detach[8] = {0x21, 0, 0xff, 0xff};
     static uint8_t out[4096];
     OLD(record);
-    const size_t own = own_of(config, most);
+    const size_t own = left(most, config->unit, config->transfer);
     int32_t result = number(dfu_asking_power_on(&c, &a, config->sector, flash, size));
     if (result == 0 && (dfu_asking_handle(&c, &a, block, own, flash, size, detach, block, 0, out, sizeof out) != 0
         || dfu_asking_usb_reset(&c, &a, block, own, flash, size) != 0))
