@@ -1,5 +1,5 @@
 -- A blank byte stays blank, unless bytes are written there.
-use Rattle.std.proofs.Common.{◌≡◌, ℕ, ◌⊎◌, inl, inr, true, List, Option, refl, sym, ◌∙◌, subst}
+use Rattle.std.proofs.Common.{◌≡◌, ℕ, ◌⊎◌, inl, inr, true, List, Option, sym, subst}
 use Rattle.dfu_wire.specs.declared.states.State.{State}
 use Rattle.dfu_wire.specs.declared.states.State.TheVariants as state
 use Rattle.dfu_wire.specs.declared.requests.Request.{Request}
@@ -12,9 +12,10 @@ use Rattle.dfuse_host.specs.declared.step.Step.{Step}
 use Rattle.dfuse_host.specs.declared.seen.Seen.{Seen}
 use Rattle.dfuse_host.specs.declared.session.Session.{Session}
 use Rattle.dfuse_host.specs.Deeds.{Deed, Send, Wait, Done, deed, deed_of}
-use Rattle.dfuse_link.specs.Chips.{Chip, Order, Erases, Doing, Rests, Pending, Busy, Device, MayChange, ChangedBy, Advances, goes_on, ends, fails, Restarts}
+use Rattle.dfuse_link.specs.Chips.{Chip, Order, Erases, Doing, Rests, Pending, Busy, Device, ChangedBy, Advances, goes_on, ends, fails}
 use Rattle.dfuse_link.specs.Reactions.{Reaction, order_of, set_off, told_of, Reacts, stalls, stops, takes, closes, gives, lists, tells, shows, aborts, clears}
 use Rattle.dfuse_link.specs.Histories.{Arrives, never, again, Paired, UnderWay, none, request, Turn, sent, waited, restarted}
+use Rattle.dfuse_link.proofs.Changes.{MayChange, changed_stays}
 use Rattle.dfuse_link.proofs.Claims.{IsQuiet, Stands, StandsIn}
 use Rattle.dfuse_link.proofs.SentClaims.{ArrivesBy}
 use Rattle.dfuse_link.proofs.Staying.{InPhase}
@@ -45,64 +46,41 @@ quiet_spares chip a (Rests s) quiet = tt
 quiet_spares chip a (Pending order) quiet = absurd quiet
 quiet_spares chip a (Busy order) quiet = absurd quiet
 
-same_order : (o order : Order) → Busy o ≡ Busy order → o ≡ order
-same_order o order e = cc
-
-rests_no_order : (s : State) (o : Order) → Rests s ≡ Busy o → ⊥
-rests_no_order s o e = cc
-
-waits_no_order : (order o : Order) → Pending order ≡ Busy o → ⊥
-waits_no_order order o e = cc
-
 module _ (chip : Chip) (a : ℕ) where
   still : (memory memory' : ℕ → ℕ) → memory' a ≡ memory a → chip.blank (memory a) ≡ true → chip.blank (memory' a) ≡ true
   still memory memory' e h = subst (λ (n : ℕ). chip.blank n ≡ true) (sym e) h
 
-  changed_blank : (order : Order) (memory memory' : ℕ → ℕ) → Spares chip a order → ChangedBy chip order memory memory' →
+  changed_blank : (doing : Doing) (memory memory' : ℕ → ℕ) → SparesIn chip a doing → ChangedBy chip doing memory memory' →
       chip.blank (memory a) ≡ true → chip.blank (memory' a) ≡ true
-  changed_blank (Erases at) memory memory' s changed h = changed.1 a h
-  changed_blank order memory memory' s changed h = still memory memory' (changed.0 a s) h
+  changed_blank (Rests s) memory memory' k changed h = still memory memory' (changed a) h
+  changed_blank (Pending order) memory memory' k changed h = still memory memory' (changed a) h
+  changed_blank (Busy (Erases at)) memory memory' k changed h = (changed a).1 h
+  changed_blank (Busy order) memory memory' k changed h =
+      still memory memory' (changed_stays chip a (Busy order) memory memory' changed k) h
 
   order_spares : (doing : Doing) (order : Order) → doing ≡ Busy order → SparesIn chip a doing → Spares chip a order
   order_spares doing order e s = subst (SparesIn chip a) e s
 
   pub advances_blank : (d d' : Device) → Advances chip d d' → IsBlankAt chip a d → IsBlankAt chip a d'
   advances_blank d d' (goes_on order e e' changed) k = record {
-    blank = changed_blank order d.memory d'.memory (order_spares d.doing order e k.spares) changed k.blank;
+    blank = changed_blank (Busy order) d.memory d'.memory (order_spares d.doing order e k.spares) changed k.blank;
     spares = subst (SparesIn chip a) (sym e') (order_spares d.doing order e k.spares);
   }
   advances_blank d d' (ends order s e e' end changed out) k = record {
-    blank = changed_blank order d.memory d'.memory (order_spares d.doing order e k.spares) changed k.blank;
+    blank = changed_blank (Busy order) d.memory d'.memory (order_spares d.doing order e k.spares) changed k.blank;
     spares = subst (SparesIn chip a) (sym e') tt;
   }
   advances_blank d d' (fails order e e' changed) k = record {
-    blank = changed_blank order d.memory d'.memory (order_spares d.doing order e k.spares) changed k.blank;
+    blank = changed_blank (Busy order) d.memory d'.memory (order_spares d.doing order e k.spares) changed k.blank;
     spares = subst (SparesIn chip a) (sym e') tt;
   }
 
-  -- ---- restarts
-
-  busy_blank : (d d' : Device) (order : Order) → Restarts chip d d' → d.doing ≡ Busy order → Spares chip a order →
-      chip.blank (d.memory a) ≡ true → chip.blank (d'.memory a) ≡ true
-  busy_blank d d' (Erases at) restarts e s h = restarts.blanks (Erases at) e a h
-  busy_blank d d' order restarts e s h =
-      still d.memory d'.memory
-      (restarts.memory a (λ o f may. s (subst (λ (x : Order). MayChange chip x a) (same_order o order (sym f ∙ e)) may))) h
-
-  rests_blank : (d d' : Device) → Restarts chip d d' → ((order : Order) → d.doing ≡ Busy order → ⊥) → chip.blank (d.memory a) ≡ true →
-      chip.blank (d'.memory a) ≡ true
-  rests_blank d d' restarts idle h = still d.memory d'.memory (restarts.memory a (λ o f may. idle o f)) h
-
-  by_doing : (d d' : Device) (doing : Doing) → Restarts chip d d' → d.doing ≡ doing → SparesIn chip a doing →
-      chip.blank (d.memory a) ≡ true → chip.blank (d'.memory a) ≡ true
-  by_doing d d' (Rests s) restarts e k h = rests_blank d d' restarts (λ o f. rests_no_order s o (sym e ∙ f)) h
-  by_doing d d' (Pending order) restarts e k h = rests_blank d d' restarts (λ o f. waits_no_order order o (sym e ∙ f)) h
-  by_doing d d' (Busy order) restarts e k h = busy_blank d d' order restarts e k h
-
-  pub restarts_blank : (d d' : Device) → Restarts chip d d' → IsBlankAt chip a d → IsBlankAt chip a d'
-  restarts_blank d d' restarts k = record {
-    blank = by_doing d d' d.doing restarts refl k.spares k.blank;
-    spares = subst (SparesIn chip a) (sym restarts.rests) tt;
+  -- A device restarts.
+  pub restarts_blank : (d d' : Device) (s : State) → d'.doing ≡ Rests s → ChangedBy chip d.doing d.memory d'.memory →
+      IsBlankAt chip a d → IsBlankAt chip a d'
+  restarts_blank d d' s rests changed k = record {
+    blank = changed_blank d.doing d.memory d'.memory k.spares changed k.blank;
+    spares = subst (SparesIn chip a) (sym rests) tt;
   }
 
   -- ---- requests
@@ -183,5 +161,5 @@ module _ (chip : Chip) (a : ℕ) where
       phase_blank l.session Q spares l.session.phase l.device reaction l'.device q k
       (subst (λ (y : Deed). ArrivesBy chip y l.device reaction l'.device) (sym is) comes) h
   turn_blank Q l l' spares x (waited ms is same seen row) q k h = subst (λ (d : Device). IsBlankAt chip a d) (sym same) h
-  turn_blank Q l l' spares x (restarted mid way restarts seen row) q k h =
-      restarts_blank mid l'.device restarts (under_way l.session Q spares l.device mid way q k h)
+  turn_blank Q l l' spares x (restarted mid any way rests changed seen row) q k h =
+      restarts_blank mid l'.device any rests changed (under_way l.session Q spares l.device mid way q k h)

@@ -1,6 +1,6 @@
 -- The byte of an image at an address.
 use Rattle.std.proofs.Common.{◌≡◌, ℕ, suc, ◌+◌, ◌-◌, ◌<◌, ◌≤◌, ◌^◌, ◌&&◌, ◌⊎◌, inl, inr, Bool, true, false, cond, leb, List, [], ◌∷◌, get_or, take, drop, Option, Some, None, refl, sym, ap, ◌∙◌, subst, arith}
-use Rattle.std.specs.List.{All}
+use Rattle.std.specs.List.{All, AllByRecursion}
 use Rattle.std.proofs.lemmas.Bool.{leb-true}
 use Rattle.std.proofs.lemmas.Bool.Decides.{nat_tests}
 use Rattle.std.proofs.lemmas.List.{get_or-take, get_or-drop}
@@ -14,7 +14,6 @@ use Rattle.dfuse_host.specs.Images.{end_of, holds, element_at}
 use Rattle.dfuse_host.specs.Refusing.{apart_from, EachGranted}
 use Rattle.dfuse_host.specs.ReadBack.{HasByte}
 use Rattle.dfuse_link.specs.Reactions.{StandsAt}
-use Rattle.dfuse_link.specs.Promises.{HasElements}
 
 -- The byte of an element, if there is one.
 abbrev pub byte_of : (a : ℕ) → Option Element → ℕ
@@ -121,7 +120,8 @@ first_stands memory e es h = λ i within.
     is ∙ ap (byte_of (e.address + i)) (take_first (e.address + i) e es here) ∙ ap (λ (n : ℕ). get_or e.bytes.now n 0) back
 
 pub all_stands : (memory : ℕ → ℕ) (from : ℕ) (es : List Element) → apart_from from es ≡ true →
-    ((a : ℕ) → HasByte a es → memory a ≡ byte_at a es) → HasElements memory es
+    ((a : ℕ) → HasByte a es → memory a ≡ byte_at a es) →
+    AllByRecursion (λ (e : Element). StandsAt memory e.address e.bytes.now) es
 all_stands memory from [] apart h = tt
 all_stands memory from (e ∷ es) apart h =
     let both = and_true (leb from e.address) (apart_from (end_of e) es) apart in (

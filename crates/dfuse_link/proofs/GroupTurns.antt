@@ -133,7 +133,7 @@ module _ (chip : Chip) (l l' : Paired) (G : Work → Type 0) (B : Device → Typ
       (subst (λ (y : Deed). ArrivesBy chip y l.device reaction l'.device) (sym is) comes) seen row.hears)
   turn_goes x (waited ms is same seen row) g k =
       next_goes x row (wait_goes chip l.session G B l'.device r ok l.session.phase row.heard ms g is)
-  turn_goes x (histories.restarted mid way restarts seen row) g k =
+  turn_goes x (histories.restarted mid any way rests changed seen row) g k =
       next_goes x row
       (new_goes chip l.session G B l'.device r ok l.session.phase row.heard refl g
       (subst (λ (y : Seen). HearsIn l.session.plan l.session.phase y row.heard) seen row.hears))

@@ -1,6 +1,7 @@
 pub mod Blanks
 pub mod BlockEnds
 pub mod Bytes
+pub mod Changes
 pub mod Claims
 pub mod CleanLeaving
 pub mod CleanReading

@@ -1,5 +1,5 @@
 -- No mixture: at each moment the front is blank, or what isn't on its page is all old, or all new.
-use Rattle.std.proofs.Common.{ℕ, ◌≤◌, ◌⊎◌, inl, inr, refl, sym, ap, ◌∙◌, subst}
+use Rattle.std.proofs.Common.{◌≡◌, ℕ, ◌≤◌, ◌⊎◌, inl, inr, refl, sym, ap, ◌∙◌, subst}
 use Rattle.dfuse_memory.specs.Lookups.{OnePage}
 use Rattle.dfuse_host.specs.declared.plan.Plan.{Plan}
 use Rattle.dfuse_host.specs.declared.phase.Phase.{Phase}
@@ -11,7 +11,7 @@ use Rattle.dfuse_host.specs.ReadBack.{HasByte, WasRead, WasReadIn, OnlyReadBack,
 use Rattle.dfuse_host.specs.Touching.{TouchesAlways}
 use Rattle.dfuse_link.specs.Chips.{Chip, Device}
 use Rattle.dfuse_link.specs.Promises.{met}
-use Rattle.dfuse_link.specs.Fronts.{FrontIsBlank, ImageStands, IsToErase, NoMixture, NoneButErasing}
+use Rattle.dfuse_link.specs.Fronts.{FrontIsBlank, ImageStands, NoMixture, NoneButErasing}
 use Rattle.dfuse_link.specs.Touched.{CarriesNone}
 use Rattle.dfuse_host.specs.declared.phase.Standing.{Standing}
 use Rattle.dfuse_host.specs.Plans.{front_end}
@@ -52,6 +52,17 @@ no_mixture one read closes always chip plan limits d seens l for apart map erase
 
 -- ---- while no page is to be erased
 
+-- A work is to erase a page.
+abbrev pub IsToErase : Work → Type 0
+IsToErase (work.Erase at) = Unit {0}
+IsToErase (work.EraseAgain page end) = Unit {0}
+IsToErase w = ⊥
+
+is_another : (w : Work) → ((at : ℕ) → w ≡ work.Erase at → ⊥) → ((page end : ℕ) → w ≡ work.EraseAgain page end → ⊥) → IsToErase w → ⊥
+is_another (work.Erase at) first again is = first at refl
+is_another (work.EraseAgain page end) first again is = again page end refl
+is_another w first again is = is
+
 -- Behind the comparison each byte behind the front was read back.
 behind_read : (plan : Plan) (w : Work) (a : ℕ) → Behind plan w → (IsToErase w → ⊥) → front_end plan ≤ a → WasRead plan w a
 behind_read plan (work.EraseAgain page end) a b no_erase low = absurd (no_erase tt)
@@ -76,7 +87,7 @@ phase_none chip plan first s d no_erase right mix = elim mix [
 ]
 
 pub none_but_erasing : OnePage → OnlyReadBack → ClosesAlways → TouchesAlways → NoneButErasing
-none_but_erasing one read closes always chip plan limits d seens l s for apart map erases idle history phase no_erase =
+none_but_erasing one read closes always chip plan limits d seens l s for apart map erases idle history phase first again =
     let m : Mixable chip plan = record { for = for; apart = apart; map = map; erases = erases } in
     let k = history_mix one read closes always chip d (met d plan limits) l seens history
     (begins_mix always chip plan limits d m idle) in
@@ -87,4 +98,4 @@ none_but_erasing one read closes always chip plan limits d seens l s for apart m
     let right : (a : ℕ) → HasByte a plan.image.now → WasReadIn plan (On s) a → IsRight chip plan l.device a =
     subst (λ (p : Phase). (a : ℕ) → HasByte a plan.image.now → WasReadIn plan p a → IsRight chip plan l.device a) phase
     (subst (λ (q : Plan). (a : ℕ) → HasByte a q.image.now → WasReadIn q l.session.phase a → IsRight chip q l.device a) same k.so.right) in
-    phase_none chip plan d s l.device no_erase right mix
+    phase_none chip plan d s l.device (is_another s.work first again) right mix

@@ -17,17 +17,12 @@ use Rattle.dfuse_host.specs.Settling.{settle}
 use Rattle.dfuse_host.specs.Table.{state_found, on_abort, on_ask_state, on_clear_wait}
 use Rattle.dfuse_host.specs.Wire.{ReadsState, Hears}
 use Rattle.dfuse_host.proofs.ForCallers.{AnyHeard, by_heard}
-use Rattle.dfuse_link.specs.Chips.{Chip, Doing, Rests, Pending, Busy, state_in, Device, MayChange}
+use Rattle.dfuse_link.specs.Chips.{Chip, Doing, Rests, Pending, Busy, state_in, Device}
 use Rattle.dfuse_link.specs.Reactions.{Reaction, Acks, Data, Stalls, MayStall, Reacts, stalls, stops, shows, aborts, clears}
 use Rattle.dfuse_link.specs.Histories.{Arrives, never, again, IsSeenOf}
 use Rattle.dfuse_link.proofs.Claims.{SaysState}
+use Rattle.dfuse_link.proofs.Changes.{IsNow}
 use Rattle.dfuse_link.proofs.Safe.{SafeAt}
-
--- Nothing that a device carries out may change the byte; an order that isn't started may.
-abbrev pub IsNow : Chip → (a : ℕ) → Doing → Type 0
-IsNow chip a (Rests s) = Unit {0}
-IsNow chip a (Pending order) = Unit {0}
-IsNow chip a (Busy order) = MayChange chip order a → ⊥
 
 pub safe_now : (chip : Chip) (a : ℕ) (doing : Doing) → SafeAt chip a doing → IsNow chip a doing
 safe_now chip a (Rests s) safe = tt

@@ -16,7 +16,8 @@ use Rattle.dfuse_host.specs.Table.{row}
 use Rattle.dfuse_host.specs.Sessions.{budgeted, spent_at, resumed, restarted, restarted_leaving, restarted_in, told}
 use Rattle.dfuse_host.proofs.ForCallers.{AnyCommand, by_command, AnyHeard, by_heard}
 use Rattle.dfuse_link.specs.Chips.{Chip, Doing}
-use Rattle.dfuse_link.proofs.Own.{IsNow, OwnIn}
+use Rattle.dfuse_link.proofs.Changes.{IsNow}
+use Rattle.dfuse_link.proofs.Own.{OwnIn}
 
 module _ (chip : Chip) (a : ℕ) (doing : Doing) (now : IsNow chip a doing) where
   spent_own : (w : Work) (s : Step) → OwnIn chip a (spent_at w s) doing

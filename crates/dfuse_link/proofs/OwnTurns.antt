@@ -19,7 +19,8 @@ use Rattle.dfuse_link.proofs.Staying.{InPhase, turn_stays, passes_stays}
 use Rattle.dfuse_link.proofs.Passing.{passes_so}
 use Rattle.dfuse_link.proofs.Turns.{IsSo, turn_so}
 use Rattle.dfuse_link.proofs.Verified.{begins_so}
-use Rattle.dfuse_link.proofs.Own.{IsNow, OwnIn}
+use Rattle.dfuse_link.proofs.Changes.{IsNow}
+use Rattle.dfuse_link.proofs.Own.{OwnIn}
 use Rattle.dfuse_link.proofs.SentOwn.{Apart, step_none}
 
 -- ---- what is so at each moment

@@ -11,7 +11,7 @@ use Rattle.dfuse_link.specs.Promises.{HistoriesAreRows, EndsInTime, met}
 pub turn_row : (chip : Chip) (l l' : Paired) (s : Seen) → Turn chip l s l' → SessionRow l.session s l'.session
 turn_row chip l l' s (sent q body reaction is comes seen row) = row
 turn_row chip l l' s (waited ms is same seen row) = row
-turn_row chip l l' s (restarted mid way restarts seen row) = row
+turn_row chip l l' s (restarted mid any way rests changed seen row) = row
 
 pub histories_are_rows : HistoriesAreRows
 histories_are_rows chip l _ [] so_far = seen_all

@@ -1,6 +1,7 @@
 -- A byte that nothing a device has to do may change stays.
 use Rattle.std.proofs.Common.{◌≡◌, ℕ, ◌-◌, ◌%◌, ◌^◌, ◌≤◌, ◌⊎◌, inl, inr, Bool, true, false, cond, eqb, List, [], length, take, drop, Option, Some, None, refl, sym, ◌∙◌, subst, arith, length-take}
 use Rattle.std.proofs.lemmas.Bool.{eqb-true}
+use Rattle.dfu_wire.specs.declared.states.State.{State}
 use Rattle.dfu_wire.specs.declared.states.State.TheVariants as state
 use Rattle.dfu_wire.specs.declared.requests.Request.{Request}
 use Rattle.dfu_wire.specs.declared.requests.Request.TheVariants as request
@@ -18,9 +19,10 @@ use Rattle.dfuse_host.specs.Commands.{writing, bytes_in}
 use Rattle.dfuse_host.specs.Deeds.{Deed, Send, Wait, Done, sends, deed_of}
 use Rattle.dfuse_host.specs.ReadBack.{WasRead}
 use Rattle.dfuse_host.proofs.ForCallers.{set_address, write_at}
-use Rattle.dfuse_link.specs.Chips.{Chip, Order, Doing, Rests, Pending, Busy, Device, MayChange, Advances, goes_on, ends, fails, Restarts}
+use Rattle.dfuse_link.specs.Chips.{Chip, Order, Doing, Rests, Pending, Busy, Device, ChangedBy, Advances, goes_on, ends, fails}
 use Rattle.dfuse_link.specs.Reactions.{Reaction, order_of, set_off, told_of, Reacts, stalls, stops, takes, closes, gives, lists, tells, shows, aborts, clears}
 use Rattle.dfuse_link.specs.Histories.{Arrives, never, again}
+use Rattle.dfuse_link.proofs.Changes.{MayChange, changed_stays}
 use Rattle.dfuse_link.proofs.Claims.{Knows, Stands}
 use Rattle.dfuse_link.proofs.SentClaims.{pointed}
 
@@ -61,22 +63,30 @@ module _ (chip : Chip) (a : ℕ) where
 
   pub advances_safe : (d d' : Device) → Advances chip d d' → SafeAt chip a d.doing → KeepsByte chip a d d'
   advances_safe d d' (goes_on order e e' changed) safe = record {
-    byte = changed.0 a (order_safe d.doing order e safe);
+    byte = changed_stays chip a (Busy order) d.memory d'.memory changed (order_safe d.doing order e safe);
     safe = subst (SafeAt chip a) (sym e') (order_safe d.doing order e safe);
   }
   advances_safe d d' (ends order s e e' end changed pointed) safe = record {
-    byte = changed.0 a (order_safe d.doing order e safe);
+    byte = changed_stays chip a (Busy order) d.memory d'.memory changed (order_safe d.doing order e safe);
     safe = subst (SafeAt chip a) (sym e') (λ x. x);
   }
   advances_safe d d' (fails order e e' changed) safe = record {
-    byte = changed.0 a (order_safe d.doing order e safe);
+    byte = changed_stays chip a (Busy order) d.memory d'.memory changed (order_safe d.doing order e safe);
     safe = subst (SafeAt chip a) (sym e') (λ x. x);
   }
 
-  pub restarts_safe : (d d' : Device) → Restarts chip d d' → SafeAt chip a d.doing → KeepsByte chip a d d'
-  restarts_safe d d' restarts safe = record {
-    byte = restarts.memory a (λ order e may. order_safe d.doing order e safe may);
-    safe = subst (SafeAt chip a) (sym restarts.rests) (λ x. x);
+  doing_stays : (doing : Doing) (memory memory' : ℕ → ℕ) → ChangedBy chip doing memory memory' → SafeAt chip a doing →
+      memory' a ≡ memory a
+  doing_stays (Rests s) memory memory' changed safe = changed a
+  doing_stays (Pending order) memory memory' changed safe = changed a
+  doing_stays (Busy order) memory memory' changed safe = changed_stays chip a (Busy order) memory memory' changed safe
+
+  -- A device restarts.
+  pub restarts_safe : (d d' : Device) (s : State) → d'.doing ≡ Rests s → ChangedBy chip d.doing d.memory d'.memory →
+      SafeAt chip a d.doing → KeepsByte chip a d d'
+  restarts_safe d d' s rests changed safe = record {
+    byte = doing_stays d.doing d.memory d'.memory changed safe;
+    safe = subst (SafeAt chip a) (sym rests) (λ x. x);
   }
 
   mid_safe : (d mid : Device) → (mid ≡ record d { doing = set_off d.doing }) ⊎ Advances chip (record d { doing = set_off d.doing }) mid →

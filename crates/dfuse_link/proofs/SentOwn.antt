@@ -18,9 +18,10 @@ use Rattle.dfuse_host.specs.Deeds.{sends, deed_of}
 use Rattle.dfuse_host.specs.ReadBack.{HasByte}
 use Rattle.dfuse_host.specs.Touching.{IsTouched, Touches, ChangesOnly, OnlyTouched}
 use Rattle.dfuse_host.proofs.ForCallers.{AnyCommand, by_command, set_address, erase_page, write_at}
-use Rattle.dfuse_link.specs.Chips.{Chip, Order, Device, MayChange}
+use Rattle.dfuse_link.specs.Chips.{Chip, Order, Device}
 use Rattle.dfuse_link.specs.Promises.{IsFor}
 use Rattle.dfuse_link.specs.Touched.{IsTrueMap}
+use Rattle.dfuse_link.proofs.Changes.{MayChange}
 use Rattle.dfuse_link.proofs.Claims.{Knows, Stands}
 use Rattle.dfuse_link.proofs.SentClaims.{erases_order}
 use Rattle.dfuse_link.proofs.Safe.{DeedBringsNone, sets_none, part_ends}

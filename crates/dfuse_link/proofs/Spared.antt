@@ -15,8 +15,9 @@ use Rattle.dfuse_host.specs.ReadBack.{HasByte}
 use Rattle.dfuse_host.specs.Commands.{writing}
 use Rattle.dfuse_host.specs.Deeds.{sends, deed_of}
 use Rattle.dfuse_host.proofs.ForCallers.{set_address, erase_page, write_at}
-use Rattle.dfuse_link.specs.Chips.{Chip, Order, Device, MayChange}
+use Rattle.dfuse_link.specs.Chips.{Chip, Order, Device}
 use Rattle.dfuse_link.specs.Fronts.{IsOfFront, IsElsewhere}
+use Rattle.dfuse_link.proofs.Changes.{MayChange}
 use Rattle.dfuse_link.proofs.Claims.{Knows, Stands}
 use Rattle.dfuse_link.proofs.SentClaims.{pointed, erases_order}
 use Rattle.dfuse_link.proofs.Safe.{DeedBringsNone, deed_none}

@@ -13,16 +13,17 @@ use Rattle.dfuse_host.specs.Table.{row}
 use Rattle.dfuse_host.specs.Wire.{Hears}
 use Rattle.dfuse_host.specs.Sessions.{told, after, after_phase, HearsIn, SessionRow}
 use Rattle.dfuse_host.proofs.ForCallers.{AnyHeard}
-use Rattle.dfuse_link.specs.Chips.{Chip, Order, Doing, Busy, Device, Advances, Restarts}
+use Rattle.dfuse_link.specs.Chips.{Chip, Order, Doing, Busy, Device, Advances}
 use Rattle.dfuse_link.specs.Reactions.{Reaction}
 use Rattle.dfuse_link.specs.Histories.{IsSeenOf, Paired, UnderWay, none, request, Turn, sent, waited, restarted}
+use Rattle.dfuse_link.proofs.Changes.{IsNow, changed_stays}
 use Rattle.dfuse_link.proofs.Claims.{Stands, StandsIn}
 use Rattle.dfuse_link.proofs.SentClaims.{ArrivesBy}
 use Rattle.dfuse_link.proofs.Heards.{arrived_state, says_state}
 use Rattle.dfuse_link.proofs.Safe.{SafeAt, KeepsByte, DeedBringsNone, advances_safe}
 use Rattle.dfuse_link.proofs.Passing.{busy_of}
 use Rattle.dfuse_link.proofs.Turns.{by_deed}
-use Rattle.dfuse_link.proofs.Own.{IsNow, safe_now, OwnAt, OwnIn, phase_own, own_now, KeepsNow, aborts_now, states_now, clears_now, stall_heard, abort_own, clear_wait_own, ask_state_own}
+use Rattle.dfuse_link.proofs.Own.{safe_now, OwnAt, OwnIn, phase_own, own_now, KeepsNow, aborts_now, states_now, clears_now, stall_heard, abort_own, clear_wait_own, ask_state_own}
 use Rattle.dfuse_link.proofs.OwnPhases.{told_own}
 
 -- What holds of a work holds in a phase.
@@ -123,9 +124,6 @@ pub record TurnStays (chip : Chip) (a : ℕ) (l l' : Paired) : Type 0 where
   pub byte : l'.device.memory a ≡ l.device.memory a
 
 module _ (chip : Chip) (a : ℕ) where
-  restart_stays : (mid d' : Device) → Restarts chip mid d' → IsNow chip a mid.doing → d'.memory a ≡ mid.memory a
-  restart_stays mid d' restarts now = restarts.memory a (λ order e may. (subst (IsNow chip a) e now) may)
-
   own_next : (l l' : Paired) (x : Seen) (row : SessionRow l.session x l'.session) →
       OwnIn chip a (after l.session row.heard).phase l'.device.doing → OwnIn chip a l'.session.phase l'.device.doing
   own_next l l' x row own =
@@ -150,12 +148,12 @@ module _ (chip : Chip) (a : ℕ) where
           (phase_waits chip l.session a Q brings l.session.phase l.device.doing row.heard ms refl is own));
       byte = ap (λ (d : Device). d.memory a) same;
     }
-    turn_stays x (restarted mid way restarts seen row) touches k own =
+    turn_stays x (restarted mid any way rests changed seen row) touches k own =
         let stays = under_way chip l.session a Q brings l.device mid way touches k own in
         record {
           own = own_next l l' x row
-              (phase_own chip a (after l.session row.heard).phase l'.device.doing (subst (SafeAt chip a) (sym restarts.rests) (λ y. y)));
-          byte = restart_stays mid l'.device restarts stays.now ∙ stays.byte;
+              (phase_own chip a (after l.session row.heard).phase l'.device.doing (subst (SafeAt chip a) (sym rests) (λ y. y)));
+          byte = changed_stays chip a mid.doing mid.memory l'.device.memory changed stays.now ∙ stays.byte;
         }
 
 busy_safe : (chip : Chip) (a : ℕ) (doing : Doing) (order : Order) → doing ≡ Busy order → IsNow chip a doing → SafeAt chip a doing

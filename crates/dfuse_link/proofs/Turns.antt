@@ -202,12 +202,12 @@ module _ (chip : Chip) (only : OnlyReadBack) (always : ClosesAlways) where
       (waited_stands chip l.session l.session.phase l.device row.heard ms refl so.stands is))
       (λ a b was. subst (λ (d : Device). IsRight chip l.session.plan d a) (sym same) (so.right a b was))
       (λ a b reads. absurd (phase_waits l.session.plan l.session.phase row.heard ms a is reads))
-  turn_so l l' x (restarted mid way restarts seen row) so =
+  turn_so l l' x (restarted mid any way rests changed seen row) so =
       let hears = subst (λ (y : Seen). HearsIn l.session.plan l.session.phase y row.heard) seen row.hears in
       goes l l' x so row
       (restarted_stands chip l.session l.session.phase l'.device row.heard refl hears)
       (λ a b was.
       let one = under_way l.session l.session.phase l.device mid a refl way so.stands was (so.right a b was) in
-      kept_right chip l.session.plan mid l'.device a (restarts_safe chip a mid l'.device restarts one.safe)
+      kept_right chip l.session.plan mid l'.device a (restarts_safe chip a mid l'.device any rests changed one.safe)
       (kept_right chip l.session.plan l.device mid a one (so.right a b was)))
       (λ a b reads. absurd (phase_restarts l.session.plan l.session.phase row.heard a hears reads))

@@ -1,5 +1,7 @@
 -- Once Verified is reported, the image stands in the device's memory.
 use Rattle.std.proofs.Common.{◌≡◌, ℕ, List, ◌∷◌, refl, sym, ap, ◌∙◌, subst}
+use Rattle.std.specs.List.{AllByRecursion}
+use Rattle.dfuse_host.specs.declared.element.Element.{Element}
 use Rattle.dfuse_host.specs.declared.plan.Plan.{Plan}
 use Rattle.dfuse_host.specs.declared.phase.Phase.{Phase}
 use Rattle.dfuse_host.specs.declared.seen.Seen.{Seen}
@@ -8,8 +10,9 @@ use Rattle.dfuse_host.specs.declared.limits.Limits.{Limits}
 use Rattle.dfuse_host.specs.ReadBack.{WasReadIn, OnlyReadBack, ClosesAlways}
 use Rattle.dfuse_host.specs.Sessions.{SessionRow}
 use Rattle.dfuse_link.specs.Chips.{Chip, Device}
+use Rattle.dfuse_link.specs.Reactions.{StandsAt}
 use Rattle.dfuse_link.specs.Histories.{Paired, History, so_far, passes, turns}
-use Rattle.dfuse_link.specs.Promises.{HasElements, IsFor, VerifiedIsTrue, met}
+use Rattle.dfuse_link.specs.Promises.{IsFor, VerifiedIsTrue, met}
 use Rattle.dfuse_link.proofs.Rows.{turn_row}
 use Rattle.dfuse_link.proofs.Sessions.{plan_after}
 use Rattle.dfuse_link.proofs.Bytes.{all_stands}
@@ -42,6 +45,7 @@ pub verified_is_true : OnlyReadBack → ClosesAlways → VerifiedIsTrue
 verified_is_true only always chip plan limits d seens l leaving for history over =
     let so = history_so chip only always (met d plan limits) l seens history (begins_so chip plan limits d for) in
     let counts = λ (a : ℕ). subst (λ (p : Phase). WasReadIn l.session.plan p a) (sym over) tt in
-    let all : HasElements l.device.memory l.session.plan.image.now =
-    all_stands l.device.memory 0 l.session.plan.image.now (is_apart chip l.session.plan so.for) (λ a b. (so.right a b (counts a)).0) in
-    subst (λ (q : Plan). HasElements l.device.memory q.image.now) (history_plan chip (met d plan limits) l seens history) all
+    let all = all_stands l.device.memory 0 l.session.plan.image.now (is_apart chip l.session.plan so.for) (λ a b. (so.right a b (counts a)).0) in
+    subst
+    (λ (q : Plan). AllByRecursion (λ (e : Element). StandsAt l.device.memory e.address e.bytes.now) q.image.now)
+    (history_plan chip (met d plan limits) l seens history) all

@@ -1,5 +1,5 @@
 -- A DfuSe device: what it has, and what it does.
-use Rattle.std.specs.Prelude.{◌≡◌, ℕ, ◌+◌, ◌<◌, ◌≤◌, Bool, true}
+use Rattle.std.specs.Prelude.{◌≡◌, ◌⊎◌, ℕ, ◌+◌, ◌<◌, ◌≤◌, Bool, true}
 use Rattle.dfu_wire.specs.declared.states.State.{State}
 use Rattle.dfu_wire.specs.declared.states.State.TheVariants as state
 
@@ -37,22 +37,14 @@ pub record Device : Type 0 where
   pub pointer : ℕ
   pub doing : Doing
 
--- An order may change the byte of this address. It may leave anything there.
-abbrev pub MayChange : Chip → Order → (a : ℕ) → Type 0
-MayChange chip (Points at) a = ⊥
-MayChange chip (Erases at) a = chip.erases at a ≡ true
-MayChange chip (Programs at count) a = (at ≤ a) × (a < at + count)
-MayChange chip Other a = Unit {0}
-
--- An erase leaves a blank byte blank, also if it is cut off.
-abbrev pub KeepsBlanks : Chip → Order → (memory memory' : ℕ → ℕ) → Type 0
-KeepsBlanks chip (Erases at) memory memory' = (a : ℕ) → chip.blank (memory a) ≡ true → chip.blank (memory' a) ≡ true
-KeepsBlanks chip order memory memory' = Unit {0}
-
--- A memory became another one by an order alone.
-abbrev pub ChangedBy : Chip → Order → (memory memory' : ℕ → ℕ) → Type 0
-ChangedBy chip order memory memory' =
-    ((a : ℕ) → (MayChange chip order a → ⊥) → memory' a ≡ memory a) × KeepsBlanks chip order memory memory'
+-- What a memory may become while a device does this, also if that is cut off. An erase leaves each byte that it doesn't reach as it was, and
+-- each blank byte blank. A write leaves each byte out of its range as it was. An order of no known kind may change any. Else all stays.
+abbrev pub ChangedBy : Chip → Doing → (memory memory' : ℕ → ℕ) → Type 0
+ChangedBy chip (Busy (Erases at)) memory memory' = (a : ℕ) →
+    ((chip.erases at a ≡ true → ⊥) → memory' a ≡ memory a) × (chip.blank (memory a) ≡ true → chip.blank (memory' a) ≡ true)
+ChangedBy chip (Busy (Programs at count)) memory memory' = (a : ℕ) → ((at ≤ a) × (a < at + count) → ⊥) → memory' a ≡ memory a
+ChangedBy chip (Busy Other) memory memory' = Unit {0}
+ChangedBy chip doing memory memory' = (a : ℕ) → memory' a ≡ memory a
 
 -- A device that is done with an order: the pointer is where it was to be set, or the bytes that an erase reaches are blank. Behind any
 -- other order the pointer may be anywhere.
@@ -61,25 +53,15 @@ IsCarried chip (Points at) pointer memory = pointer ≡ at
 IsCarried chip (Erases at) pointer memory = (a : ℕ) → chip.erases at a ≡ true → chip.blank (memory a) ≡ true
 IsCarried chip order pointer memory = Unit {0}
 
--- The states in which a device may be that is done with an order, until it tells so.
-abbrev pub IsEnd : State → Type 0
-IsEnd state.DownloadSync = Unit {0}
-IsEnd state.DownloadBusy = Unit {0}
-IsEnd state.DownloadIdle = Unit {0}
-IsEnd s = ⊥
-
--- A device goes on with the order that it carries out: it isn't done yet, or it is, or it fails.
+-- A device goes on with the order that it carries out.
 pub data Advances (chip : Chip) (d d' : Device) : Type 0 where
-  goes_on : (order : Order) → d.doing ≡ Busy order → d'.doing ≡ Busy order → ChangedBy chip order d.memory d'.memory → Advances chip d d'
-  ends : (order : Order) (s : State) → d.doing ≡ Busy order → d'.doing ≡ Rests s → IsEnd s → ChangedBy chip order d.memory d'.memory
-      → IsCarried chip order d'.pointer d'.memory → Advances chip d d'
-  fails : (order : Order) → d.doing ≡ Busy order → d'.doing ≡ Rests state.Error → ChangedBy chip order d.memory d'.memory →
+  -- It isn't done yet.
+  goes_on : (order : Order) → d.doing ≡ Busy order → d'.doing ≡ Busy order → ChangedBy chip (Busy order) d.memory d'.memory →
       Advances chip d d'
-
--- A device restarts, in any state: its pointer is anywhere, an order that isn't started is dropped, and one that it carries out may leave
--- anything where it may change the memory.
-pub record Restarts (chip : Chip) (d d' : Device) : Type 0 where
-  pub state : State
-  pub rests : d'.doing ≡ Rests state
-  pub memory : (a : ℕ) → ((order : Order) → d.doing ≡ Busy order → MayChange chip order a → ⊥) → d'.memory a ≡ d.memory a
-  pub blanks : (order : Order) → d.doing ≡ Busy order → KeepsBlanks chip order d.memory d'.memory
+  -- It is done, and in one of these states until it tells so.
+  ends : (order : Order) (s : State) → d.doing ≡ Busy order → d'.doing ≡ Rests s →
+      (s ≡ state.DownloadSync) ⊎ ((s ≡ state.DownloadBusy) ⊎ (s ≡ state.DownloadIdle)) →
+      ChangedBy chip (Busy order) d.memory d'.memory → IsCarried chip order d'.pointer d'.memory → Advances chip d d'
+  -- It fails.
+  fails : (order : Order) → d.doing ≡ Busy order → d'.doing ≡ Rests state.Error → ChangedBy chip (Busy order) d.memory d'.memory →
+      Advances chip d d'

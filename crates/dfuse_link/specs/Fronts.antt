@@ -5,7 +5,6 @@ use Rattle.dfuse_host.specs.declared.element.Element.{Element}
 use Rattle.dfuse_host.specs.declared.plan.Plan.{Plan}
 use Rattle.dfuse_host.specs.declared.phase.Phase.TheVariants.{On}
 use Rattle.dfuse_host.specs.declared.phase.Standing.{Standing}
-use Rattle.dfuse_host.specs.declared.work.Work.{Work}
 use Rattle.dfuse_host.specs.declared.work.Work.TheVariants as work
 use Rattle.dfuse_host.specs.declared.work.Work.TheVariants.{WriteFront}
 use Rattle.dfuse_host.specs.declared.seen.Seen.{Seen}
@@ -52,15 +51,10 @@ NoMixture = (chip : Chip) (plan : Plan) (limits : Limits) (d : Device) (seens : 
     ((a : ℕ) → IsElsewhere plan a → l.device.memory a ≡ d.memory a)
     ⊎ (FrontIsBlank chip plan l.device.memory ⊎ ImageStands plan (IsElsewhere plan) l.device.memory)
 
--- A work is to erase a page.
-abbrev pub IsToErase : Work → Type 0
-IsToErase (work.Erase at) = Unit {0}
-IsToErase (work.EraseAgain page end) = Unit {0}
-IsToErase w = ⊥
-
--- While a session's work is another one than to erase, the front is blank, or all behind it stands, on its page too.
+-- While a session's work is another one than to erase, or to erase again, the front is blank, or all behind it stands, on its page too.
 abbrev pub NoneButErasing : Type 0
 NoneButErasing = (chip : Chip) (plan : Plan) (limits : Limits) (d : Device) (seens : List Seen) (l : Paired) (s : Standing) →
     IsFor chip plan → are_apart plan.map.now.ranges ≡ true → IsTrueMap chip plan → ErasesFront chip plan → CarriesNone d →
-    History chip (met d plan limits) seens l → l.session.phase ≡ On s → (IsToErase s.work → ⊥) →
+    History chip (met d plan limits) seens l → l.session.phase ≡ On s → ((at : ℕ) → s.work ≡ work.Erase at → ⊥) →
+    ((page end : ℕ) → s.work ≡ work.EraseAgain page end → ⊥) →
     FrontIsBlank chip plan l.device.memory ⊎ ImageStands plan (λ (a : ℕ). front_end plan ≤ a) l.device.memory

@@ -1,12 +1,13 @@
 -- A session with a device over a link, on which requests and answers get lost or come twice, and the device restarts.
 use Rattle.std.specs.Prelude.{◌≡◌, ℕ, List, [], ◌∷◌, Option, Some, None}
+use Rattle.dfu_wire.specs.declared.states.State.{State}
 use Rattle.dfu_wire.specs.declared.requests.Request.{Request}
 use Rattle.dfuse_host.specs.declared.seen.Seen.{Seen}
 use Rattle.dfuse_host.specs.declared.seen.Seen.TheVariants as seen
 use Rattle.dfuse_host.specs.declared.session.Session.{Session}
 use Rattle.dfuse_host.specs.Deeds.{Send, Wait, deed}
 use Rattle.dfuse_host.specs.Sessions.{SessionRow}
-use Rattle.dfuse_link.specs.Chips.{Chip, Device, Advances, Restarts}
+use Rattle.dfuse_link.specs.Chips.{Chip, Rests, Device, ChangedBy, Advances}
 use Rattle.dfuse_link.specs.Reactions.{Reaction, Acks, Data, Stalls, Reacts}
 
 -- A request comes to a device as often as it likes: never if it is lost, once, or more often. The last reaction is what counts.
@@ -34,14 +35,15 @@ pub data UnderWay (chip : Chip) (s : Session) (d : Device) : Device → Type 0 w
   request : {mid : Device} {reaction : Option Reaction} (q : Request) (body : List ℕ) → deed s.plan s.phase ≡ Send q body
       → Arrives chip q body d reaction mid → UnderWay chip s d mid
 
--- The session's action, and what is seen of it: a request was sent; a wait is over; or the device restarted, which the session is told.
+-- The session's action, and what is seen of it: a request was sent; a wait is over; or the device restarted, which the session is told. It
+-- is in any state then, and its pointer anywhere; an order that isn't started is dropped, and one that it carries out is cut off.
 pub data Turn (chip : Chip) (l : Paired) (s : Seen) (l' : Paired) : Type 0 where
   sent : (q : Request) (body : List ℕ) (reaction : Option Reaction) → deed l.session.plan l.session.phase ≡ Send q body
       → Arrives chip q body l.device reaction l'.device → IsSeenOf reaction s → SessionRow l.session s l'.session → Turn chip l s l'
   waited : (ms : ℕ) → deed l.session.plan l.session.phase ≡ Wait ms → l'.device ≡ l.device → s ≡ seen.Waited
       → SessionRow l.session s l'.session → Turn chip l s l'
-  restarted : (mid : Device) → UnderWay chip l.session l.device mid → Restarts chip mid l'.device → s ≡ seen.Restarted
-      → SessionRow l.session s l'.session → Turn chip l s l'
+  restarted : (mid : Device) (any : State) → UnderWay chip l.session l.device mid → l'.device.doing ≡ Rests any
+      → ChangedBy chip mid.doing mid.memory l'.device.memory → s ≡ seen.Restarted → SessionRow l.session s l'.session → Turn chip l s l'
 
 -- A session sees all this, one thing after the other. Between two of them the device may go on with what it carries out.
 pub data History (chip : Chip) : Paired → List Seen → Paired → Type 0 where

@@ -1,6 +1,6 @@
 -- What a session's report says of the device.
-use Rattle.std.specs.Prelude.{◌≡◌, ℕ, ◌≤◌, max, List, [], ◌∷◌, length}
-use Rattle.std.specs.List.{All}
+use Rattle.std.specs.Prelude.{◌≡◌, ◌≤◌, max, List, length}
+use Rattle.std.specs.List.{All, AllByRecursion}
 use Rattle.dfuse_memory.specs.Ranges.{IsRange}
 use Rattle.dfuse_host.specs.declared.element.Element.{Element}
 use Rattle.dfuse_host.specs.declared.plan.Plan.{Plan}
@@ -15,11 +15,6 @@ use Rattle.dfuse_link.specs.Chips.{Chip, Device}
 use Rattle.dfuse_link.specs.Reactions.{StandsAt}
 use Rattle.dfuse_link.specs.Histories.{Paired, History}
 
--- Each of these elements stands in its range of the memory.
-abbrev pub HasElements : (memory : ℕ → ℕ) → List Element → Type 0
-HasElements memory [] = Unit {0}
-HasElements memory (e ∷ es) = StandsAt memory e.address e.bytes.now × HasElements memory es
-
 -- A session can begin with this plan, whose map has ranges as each map that was read, and the device counts addresses by its blocks.
 pub record IsFor (chip : Chip) (plan : Plan) : Type 0 where
   pub sound : IsSound plan
@@ -30,11 +25,11 @@ pub record IsFor (chip : Chip) (plan : Plan) : Type 0 where
 abbrev pub met : Device → Plan → Limits → Paired
 met d plan limits = record { device = d; session = begun plan limits }
 
--- Once Verified is reported, each element of the image stands in the device's memory.
+-- Once Verified is reported, each element of the image stands in its range of the device's memory.
 abbrev pub VerifiedIsTrue : Type 0
 VerifiedIsTrue = (chip : Chip) (plan : Plan) (limits : Limits) (d : Device) (seens : List Seen) (l : Paired) (leaving : Leaving)
     → IsFor chip plan → History chip (met d plan limits) seens l → l.session.phase ≡ Over (Verified leaving)
-    → HasElements l.device.memory plan.image.now
+    → AllByRecursion (λ (e : Element). StandsAt l.device.memory e.address e.bytes.now) plan.image.now
 
 -- What the session sees are rows of it, one after the other.
 abbrev pub HistoriesAreRows : Type 0

@@ -1,0 +1,26 @@
+-- Which bytes an order may change, and that others stay.
+use Rattle.std.proofs.Common.{◌≡◌, ℕ, ◌+◌, ◌<◌, ◌≤◌, true}
+use Rattle.dfuse_link.specs.Chips.{Chip, Order, Points, Erases, Programs, Other, Doing, Rests, Pending, Busy, ChangedBy}
+
+-- An order may change the byte of this address.
+abbrev pub MayChange : Chip → Order → (a : ℕ) → Type 0
+MayChange chip (Points at) a = ⊥
+MayChange chip (Erases at) a = chip.erases at a ≡ true
+MayChange chip (Programs at count) a = (at ≤ a) × (a < at + count)
+MayChange chip Other a = Unit {0}
+
+-- Nothing that a device carries out may change the byte; an order that isn't started may.
+abbrev pub IsNow : Chip → (a : ℕ) → Doing → Type 0
+IsNow chip a (Rests s) = Unit {0}
+IsNow chip a (Pending order) = Unit {0}
+IsNow chip a (Busy order) = MayChange chip order a → ⊥
+
+-- Then it stays.
+pub changed_stays : (chip : Chip) (a : ℕ) (doing : Doing) (memory memory' : ℕ → ℕ) → ChangedBy chip doing memory memory' →
+    IsNow chip a doing → memory' a ≡ memory a
+changed_stays chip a (Rests s) memory memory' changed now = changed a
+changed_stays chip a (Pending order) memory memory' changed now = changed a
+changed_stays chip a (Busy (Points at)) memory memory' changed now = changed a
+changed_stays chip a (Busy (Erases at)) memory memory' changed now = (changed a).0 now
+changed_stays chip a (Busy (Programs at count)) memory memory' changed now = changed a now
+changed_stays chip a (Busy Other) memory memory' changed now = absurd (now tt)
