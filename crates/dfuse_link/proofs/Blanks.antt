@@ -13,12 +13,13 @@ use Rattle.dfuse_host.specs.declared.seen.Seen.{Seen}
 use Rattle.dfuse_host.specs.declared.session.Session.{Session}
 use Rattle.dfuse_host.specs.Deeds.{Deed, Send, Wait, Done, deed, deed_of}
 use Rattle.dfuse_link.specs.Chips.{Chip, Order, Erases, Doing, Rests, Pending, Busy, Device, ChangedBy, Advances, goes_on, ends, fails}
-use Rattle.dfuse_link.specs.Reactions.{Reaction, order_of, set_off, told_of, Reacts, stalls, stops, takes, closes, gives, lists, tells, shows, aborts, clears}
-use Rattle.dfuse_link.specs.Histories.{Arrives, never, again, Paired, UnderWay, none, request, Turn, sent, waited, restarted}
-use Rattle.dfuse_link.proofs.Changes.{MayChange, changed_stays}
+use Rattle.dfuse_link.specs.Reactions.{Reaction, order_of, set_off, told_of, Reacts, stalls, takes, closes, gives, lists, tells, shows, aborts, clears}
+use Rattle.dfuse_link.specs.Histories.{Arrives, never, again, UnderWay, none, request, sent, waited, restarted}
+use Rattle.dfuse_link.proofs.Changes.{MayChange, changed_stays, behind_stall}
 use Rattle.dfuse_link.proofs.Claims.{IsQuiet, Stands, StandsIn}
 use Rattle.dfuse_link.proofs.SentClaims.{ArrivesBy}
 use Rattle.dfuse_link.proofs.Staying.{InPhase}
+use Rattle.dfuse_link.proofs.Pairs.{Paired, Turned}
 
 -- An order writes nothing at an address: it erases, or may not change the byte.
 abbrev pub Spares : Chip → (a : ℕ) → Order → Type 0
@@ -105,8 +106,10 @@ module _ (chip : Chip) (a : ℕ) where
 
   reacts_blank : (d : Device) (q : Request) (body : List ℕ) (r : Reaction) (d' : Device) → Reacts chip d q body r d' →
       BringsSparing chip a q body d.pointer → IsBlankAt chip a d → IsBlankAt chip a d' × BringsSparing chip a q body d'.pointer
-  reacts_blank d _ _ _ _ (stalls q body may) new k = (k, new)
-  reacts_blank d _ _ _ _ (stops q body may) new k = (record { blank = k.blank; spares = tt }, new)
+  reacts_blank d _ _ _ _ (stalls q body doing may is) new k = (
+    behind_stall (λ (t : Doing). IsBlankAt chip a (record d { doing = t })) d.doing doing is k (record { blank = k.blank; spares = tt }),
+    new,
+  )
   reacts_blank d _ _ _ _ (takes block n body may some) new k = (record { blank = k.blank; spares = new }, new)
   reacts_blank d _ _ _ _ (closes block n may) new k = (record { blank = k.blank; spares = tt }, new)
   reacts_blank d _ _ _ _ (gives block n body bytes s may from most stands is) new k = (record { blank = k.blank; spares = tt }, tt)
@@ -154,7 +157,7 @@ module _ (chip : Chip) (a : ℕ) where
 
   -- A blank byte stays blank in a turn.
   pub turn_blank : (Q : Work → Type 0) (l l' : Paired) → ((w : Work) (p : Place) (at : Step) (d : Device) → Q w →
-      Stands chip l.session.plan w p at d → DeedSpares (deed_of l.session.plan w p at) d.pointer) → (x : Seen) → Turn chip l x l' →
+      Stands chip l.session.plan w p at d → DeedSpares (deed_of l.session.plan w p at) d.pointer) → (x : Seen) → Turned chip l x l' →
       InPhase Q l.session.phase → StandsIn chip l.session.plan l.session.phase l.device → IsBlankAt chip a l.device →
       IsBlankAt chip a l'.device
   turn_blank Q l l' spares x (sent asked body reaction is comes seen row) q k h =

@@ -1,5 +1,6 @@
--- Which bytes an order may change, and that others stay.
-use Rattle.std.proofs.Common.{◌≡◌, ℕ, ◌+◌, ◌<◌, ◌≤◌, true}
+-- Which bytes an order may change, that others stay, and what is so behind a stall.
+use Rattle.std.proofs.Common.{◌≡◌, ◌⊎◌, inl, inr, ℕ, ◌+◌, ◌<◌, ◌≤◌, true, sym, subst}
+use Rattle.dfu_wire.specs.declared.states.State.TheVariants as state
 use Rattle.dfuse_link.specs.Chips.{Chip, Order, Points, Erases, Programs, Other, Doing, Rests, Pending, Busy, ChangedBy}
 
 -- An order may change the byte of this address.
@@ -24,3 +25,9 @@ changed_stays chip a (Busy (Points at)) memory memory' changed now = changed a
 changed_stays chip a (Busy (Erases at)) memory memory' changed now = (changed a).0 now
 changed_stays chip a (Busy (Programs at count)) memory memory' changed now = changed a now
 changed_stays chip a (Busy Other) memory memory' changed now = absurd (now tt)
+
+-- What is so before a stall and in dfuERROR is so behind it.
+pub behind_stall : (P : Doing → Type 0) (before doing : Doing) → (doing ≡ before) ⊎ (doing ≡ Rests state.Error) → P before →
+    P (Rests state.Error) → P doing
+behind_stall P before doing (inl e) same error = subst P (sym e) same
+behind_stall P before doing (inr e) same error = subst P (sym e) error

@@ -28,9 +28,9 @@ use Rattle.dfuse_host.specs.Sessions.{spent, told}
 use Rattle.dfuse_host.specs.Table.{state_found, polled, begun, ended, read_on, close_polled}
 use Rattle.dfuse_host.specs.Wire.{ReadsStatus, ReadsState, Hears, compared}
 use Rattle.dfuse_host.proofs.ForCallers.{AnyHeard, by_heard, compared_as, heard_nothing}
-use Rattle.dfuse_link.specs.CleanRuns.{IsGiven, TellsStatus, TellsBusy, TellsState, one_wait}
+use Rattle.dfuse_link.specs.CleanRuns.{IsGiven, TellsStatus, TellsBusy, TellsState}
 use Rattle.dfuse_link.proofs.Heards.{one_state}
-use Rattle.dfuse_link.proofs.Lasting.{session_at, Lasts, count_as, Onward, lasts_on, asked, acked}
+use Rattle.dfuse_link.proofs.Lasting.{one_wait, session_at, Lasts, count_as, Onward, lasts_on, asked, acked}
 
 same_length : (n : ℕ) → eqb n n ≡ true
 same_length n = grind (arith, nat_tests)

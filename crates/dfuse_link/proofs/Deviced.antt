@@ -7,8 +7,9 @@ use Rattle.dfu_wire.specs.declared.requests.Request.TheVariants as request
 use Rattle.dfuse_host.specs.declared.place.Place.{Place}
 use Rattle.dfuse_host.proofs.ForCallers.{AnyCommand, by_command}
 use Rattle.dfuse_link.specs.Chips.{Chip, Order, Doing, Rests, Pending, Busy, state_in, Device, IsCarried, Advances, goes_on, ends, fails}
-use Rattle.dfuse_link.specs.Reactions.{Reaction, Acks, order_of, set_off, told_of, Reacts, stalls, stops, takes, closes, gives, lists, tells, shows, aborts}
+use Rattle.dfuse_link.specs.Reactions.{Reaction, Acks, order_of, set_off, told_of, Reacts, stalls, takes, closes, gives, lists, tells, shows, aborts}
 use Rattle.dfuse_link.specs.Histories.{Arrives, never, again}
+use Rattle.dfuse_link.proofs.Changes.{behind_stall}
 use Rattle.dfuse_link.proofs.Claims.{IsQuiet, Knows, IsOrderOf, IsDone, MayHave, Has}
 
 -- ---- what a device does
@@ -35,8 +36,9 @@ pub record KeepsQuiet (d d' : Device) : Type 0 where
 
 module _ (chip : Chip) where
   abort_quiet : (d d' : Device) (body : List ℕ) (r : Reaction) → Reacts chip d request.Abort body r d' → KeepsQuiet d d'
-  abort_quiet d _ body _ (stalls _ _ may) = record { quiet = λ h. h; pointer = refl }
-  abort_quiet d _ body _ (stops _ _ may) = record { quiet = λ h. tt; pointer = refl }
+  abort_quiet d _ body _ (stalls _ _ doing may is) =
+      behind_stall (λ (t : Doing). KeepsQuiet d (record d { doing = t })) d.doing doing is (record { quiet = λ h. h; pointer = refl })
+      (record { quiet = λ h. tt; pointer = refl })
   abort_quiet d _ body _ (aborts _ may) = record { quiet = λ h. tt; pointer = refl }
 
   behind_reading : (s : State) → (s ≡ state.DfuIdle) ⊎ (s ≡ state.UploadIdle) → IsQuiet (Rests s)
@@ -45,8 +47,9 @@ module _ (chip : Chip) where
 
   upload_quiet : (d d' : Device) (block n : ℕ) (body : List ℕ) (r : Reaction) → Reacts chip d (request.Upload block n) body r d' →
       KeepsQuiet d d'
-  upload_quiet d _ block n body _ (stalls _ _ may) = record { quiet = λ h. h; pointer = refl }
-  upload_quiet d _ block n body _ (stops _ _ may) = record { quiet = λ h. tt; pointer = refl }
+  upload_quiet d _ block n body _ (stalls _ _ doing may is) =
+      behind_stall (λ (t : Doing). KeepsQuiet d (record d { doing = t })) d.doing doing is (record { quiet = λ h. h; pointer = refl })
+      (record { quiet = λ h. tt; pointer = refl })
   upload_quiet d _ block n body _ (gives _ _ _ bytes s may from most stands is) =
       record { quiet = λ h. behind_reading s is; pointer = refl }
   upload_quiet d _ block n body _ (lists _ _ _ bytes may low) = record { quiet = λ h. tt; pointer = refl }
@@ -80,8 +83,8 @@ module _ (chip : Chip) where
   module _ (c : AnyCommand) (p : Place) where
     have_state : (d d' : Device) (n : ℕ) (body : List ℕ) (r : Reaction) → Reacts chip d (request.GetState n) body r d' →
         MayHave c d.doing × Knows p d.pointer → MayHave c d'.doing × Knows p d'.pointer
-    have_state d _ n body _ (stalls _ _ may) h = h
-    have_state d _ n body _ (stops _ _ may) h = (tt, h.1)
+    have_state d _ n body _ (stalls _ _ doing may is) h =
+        behind_stall (λ (t : Doing). MayHave c t × Knows p d.pointer) d.doing doing is h (tt, h.1)
     have_state d _ n body _ (shows _ _) h = h
 
     pub states_have : (d d' : Device) (n : ℕ) (body : List ℕ) (r : Option Reaction) → Arrives chip (request.GetState n) body d r d' →
@@ -97,8 +100,8 @@ module _ (chip : Chip) where
     have_sent : (d : Device) (block n : ℕ) (body : List ℕ) (r : Reaction) (d' : Device) → IsOf block body →
         Reacts chip d (request.Dnload block n) body r d' →
         MayHave c d.doing × Knows p d.pointer → MayHave c d'.doing × Knows p d'.pointer
-    have_sent d block n body _ _ is (stalls _ _ may) h = h
-    have_sent d block n body _ _ is (stops _ _ may) h = (tt, h.1)
+    have_sent d block n body _ _ is (stalls _ _ doing may so) h =
+        behind_stall (λ (t : Doing). MayHave c t × Knows p d.pointer) d.doing doing so h (tt, h.1)
     have_sent d block n body _ _ is (takes _ _ _ may some) h = (is d.pointer h.1, h.1)
     have_sent d block n _ _ _ is (closes _ _ may) h = (tt, h.1)
 
@@ -112,8 +115,7 @@ module _ (chip : Chip) where
     ack_has : (d : Device) (block n : ℕ) (body : List ℕ) (r : Reaction) (d' : Device) → r ≡ Acks → IsOf block body →
         ((pointer : ℕ) (memory : ℕ → ℕ) → body ≡ [] → IsDone chip c pointer memory) →
         Reacts chip d (request.Dnload block n) body r d' → Knows p d.pointer → Has chip c d'.doing d'.pointer d'.memory
-    ack_has d block n body _ _ e is some (stalls _ _ may) h = cc
-    ack_has d block n body _ _ e is some (stops _ _ may) h = cc
+    ack_has d block n body _ _ e is some (stalls _ _ doing may so) h = cc
     ack_has d block n body _ _ e is some (takes _ _ _ may any) h = is d.pointer h
     ack_has d block n _ _ _ e is some (closes _ _ may) h = some d.pointer d.memory refl
 
@@ -171,8 +173,8 @@ module _ (chip : Chip) where
 
     status_has : (d d' : Device) (n : ℕ) (body : List ℕ) (r : Reaction) → Reacts chip d (request.GetStatus n) body r d' →
         Has chip c d.doing d.pointer d.memory → Has chip c d'.doing d'.pointer d'.memory
-    status_has d _ n body _ (stalls _ _ may) h = h
-    status_has d _ n body _ (stops _ _ may) h = tt
+    status_has d _ n body _ (stalls _ _ doing may is) h =
+        behind_stall (λ (t : Doing). Has chip c t d.pointer d.memory) d.doing doing is h tt
     status_has d _ n body _ (tells _ _ bytes status mid way is same) h = told_has mid.doing mid.pointer mid.memory (mid_has d mid way h)
 
     pub statuses_have : (d d' : Device) (n : ℕ) (body : List ℕ) (r : Option Reaction) → Arrives chip (request.GetStatus n) body d r d' →

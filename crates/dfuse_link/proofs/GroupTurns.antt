@@ -22,13 +22,14 @@ use Rattle.dfuse_host.proofs.ForCallers.{AnyHeard, by_heard}
 use Rattle.dfuse_link.specs.Chips.{Chip, Device, state_in}
 use Rattle.dfuse_link.specs.Reactions.{Reaction}
 use Rattle.dfuse_link.specs.Histories as histories
-use Rattle.dfuse_link.specs.Histories.{IsSeenOf, Paired, Turn, sent, waited}
+use Rattle.dfuse_link.specs.Histories.{IsSeenOf, sent, waited}
 use Rattle.dfuse_link.proofs.Claims.{IsQuiet, IsDone, Stands, StandsIn}
 use Rattle.dfuse_link.proofs.Deviced.{statuses_have, told_done}
 use Rattle.dfuse_link.proofs.Heards.{arrived_status, says_status}
 use Rattle.dfuse_link.proofs.SentClaims.{ArrivesBy}
 use Rattle.dfuse_link.proofs.Staying.{InPhase}
 use Rattle.dfuse_link.proofs.GroupRows.{GoesIn, IsGroup, Asks, poll_goes, row_goes}
+use Rattle.dfuse_link.proofs.Pairs.{Paired, Turned}
 
 -- ---- restarts and the budget
 
@@ -125,7 +126,7 @@ module _ (chip : Chip) (l l' : Paired) (G : Work → Type 0) (B : Device → Typ
       GoesIn G (B l'.device) l'.session.phase
   next_goes x row k = subst (λ (p : Phase). GoesIn G (B l'.device) p) (sym (ap (λ (t : Session). t.phase) row.same)) k
 
-  pub turn_goes : (x : Seen) → Turn chip l x l' → InPhase G l.session.phase → StandsIn chip l.session.plan l.session.phase l.device →
+  pub turn_goes : (x : Seen) → Turned chip l x l' → InPhase G l.session.phase → StandsIn chip l.session.plan l.session.phase l.device →
       GoesIn G (B l'.device) l'.session.phase
   turn_goes x (sent q body reaction is comes seen row) g k =
       next_goes x row

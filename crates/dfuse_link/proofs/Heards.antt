@@ -14,7 +14,7 @@ use Rattle.dfuse_host.specs.declared.seen.Seen.TheVariants as seen
 use Rattle.dfuse_host.specs.Wire.{ReadsStatus, ReadsState, HearsBytes, Hears}
 use Rattle.dfuse_host.proofs.ForCallers.{AnyHeard, by_heard}
 use Rattle.dfuse_link.specs.Chips.{Chip, state_in, Device}
-use Rattle.dfuse_link.specs.Reactions.{Reaction, Acks, Data, Stalls, Reacts, stalls, stops, tells, shows}
+use Rattle.dfuse_link.specs.Reactions.{Reaction, Acks, Data, Stalls, Reacts, stalls, tells, shows}
 use Rattle.dfuse_link.specs.Histories.{Arrives, never, again, IsSeenOf}
 use Rattle.dfuse_link.proofs.Claims.{SaysState}
 
@@ -64,8 +64,7 @@ StatusSent r d = Unit {0}
 module _ (chip : Chip) where
   reacted_state : (d : Device) (n : ℕ) (body : List ℕ) (r : Reaction) (d' : Device) → Reacts chip d (request.GetState n) body r d' →
       StateSent (Some r) d'
-  reacted_state d n body _ _ (stalls _ _ may) = tt
-  reacted_state d n body _ _ (stops _ _ may) = tt
+  reacted_state d n body _ _ (stalls _ _ doing may is) = tt
   reacted_state d n body _ _ (shows _ _) = refl
 
   pub arrived_state : (d : Device) (n : ℕ) (body : List ℕ) (r : Option Reaction) (d' : Device) →
@@ -76,8 +75,7 @@ module _ (chip : Chip) where
 
   reacted_status : (d : Device) (n : ℕ) (body : List ℕ) (r : Reaction) (d' : Device) → Reacts chip d (request.GetStatus n) body r d' →
       StatusSent (Some r) d'
-  reacted_status d n body _ _ (stalls _ _ may) = tt
-  reacted_status d n body _ _ (stops _ _ may) = tt
+  reacted_status d n body _ _ (stalls _ _ doing may is) = tt
   reacted_status d n body _ _ (tells _ _ bytes status mid way is same) = record { status = status; is = is; same = same }
 
   pub arrived_status : (d : Device) (n : ℕ) (body : List ℕ) (r : Option Reaction) (d' : Device) →

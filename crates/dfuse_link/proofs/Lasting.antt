@@ -1,11 +1,13 @@
 -- How long clean runs last from a phase on.
-use Rattle.std.proofs.Common.{◌≡◌, ℕ, zero, suc, pred, ◌+◌, ◌≤◌, List, [], ◌∷◌, refl, sym, ap, ◌∙◌, subst, arith}
+use Rattle.std.proofs.Common.{◌≡◌, if◌then◌else◌, ℕ, zero, suc, pred, ◌+◌, ◌≤◌, List, [], ◌∷◌, refl, sym, ap, ◌∙◌, subst, arith}
 use Rattle.dfuse_host.specs.declared.plan.Plan.{Plan}
 use Rattle.dfuse_host.specs.declared.phase.Phase.{Phase}
 use Rattle.dfuse_host.specs.declared.phase.Phase.TheVariants.{On, Over}
 use Rattle.dfuse_host.specs.declared.work.Work.{Work}
 use Rattle.dfuse_host.specs.declared.place.Place.{Place}
 use Rattle.dfuse_host.specs.declared.step.Step.{Step}
+use Rattle.dfuse_host.specs.declared.report.Leaving.{Leaving}
+use Rattle.dfuse_host.specs.declared.report.Leaving.TheVariants as leaving
 use Rattle.dfuse_host.specs.declared.report.Report.TheVariants.{Verified}
 use Rattle.dfuse_host.specs.declared.seen.Seen.{Seen}
 use Rattle.dfuse_host.specs.declared.seen.Seen.TheVariants as seen
@@ -14,8 +16,26 @@ use Rattle.dfuse_host.specs.Settling.{stand}
 use Rattle.dfuse_host.specs.Sessions.{budgeted, spent, told}
 use Rattle.dfuse_host.specs.Wire.{Hears}
 use Rattle.dfuse_host.proofs.ForCallers.{AnyHeard}
-use Rattle.dfuse_link.specs.CleanRuns.{IsClean, CleanSession, clean_so_far, clean_on, one_wait}
-use Rattle.dfuse_link.specs.Counts.{leaving_of, EndsCounted}
+use Rattle.dfuse_link.specs.CleanRuns.{IsClean, CleanSession, clean_so_far, clean_on, waits_in}
+use Rattle.dfuse_link.specs.Counts.{EndsCounted}
+
+-- One for the end of a wait.
+abbrev pub one_wait : Seen → ℕ
+one_wait seen.Waited = 1
+one_wait s = 0
+
+waits_on : (x : Seen) (xs : List Seen) → waits_in (x ∷ xs) ≡ one_wait x + waits_in xs
+waits_on seen.Waited xs = refl
+waits_on x xs = omega arith
+
+-- A device that was asked to leave left.
+abbrev pub leaving_of : Plan → Leaving
+leaving_of plan = if plan.leaves then leaving.Left else leaving.Stayed
+
+-- What is seen in a phase of a clean run.
+abbrev IsCleanIn : Plan → Seen → Phase → Type 0
+IsCleanIn plan x (On at) = IsClean plan at.work at.step x
+IsCleanIn plan x (Over report) = ⊥
 
 -- A session in a phase, with so much left of its limits.
 abbrev pub session_at : Plan → Phase → (actions restarts : ℕ) → Session
@@ -53,7 +73,7 @@ fits plan (On at) n u (suc left) l h = refl
 over_runs : (plan : Plan) (actions restarts : ℕ) (seens : List Seen) (s : Session) →
     CleanSession (session_at plan (Over (Verified (leaving_of plan))) actions restarts) seens s → EndsCounted plan 0 0 seens s
 over_runs plan actions restarts _ _ clean_so_far = record { over = λ o. (refl, refl, refl); enough = λ h. tt }
-over_runs plan actions restarts (x ∷ xs) s (clean_on clean row rest) = absurd clean
+over_runs plan actions restarts (x ∷ xs) s (clean_on at is clean row rest) = absurd (subst (IsCleanIn plan x) (sym is) clean)
 
 -- A session that is over.
 pub lasts_over : (plan : Plan) → Lasts plan (Over (Verified (leaving_of plan))) 0 0
@@ -66,14 +86,15 @@ module _ (plan : Plan) (w : Work) (p : Place) where
       CleanSession (session_at plan (stand w p s) actions restarts) seens s' → EndsCounted plan (suc n) (k + u) seens s'
   on_runs s n u k waits on actions restarts _ _ less clean_so_far =
       record { over = λ o. absurd o; enough = λ h. absurd (omega (arith, h)) }
-  on_runs s n u k waits on actions restarts (x ∷ xs) s' less (clean_on {mid = mid} clean row rest) =
+  on_runs s n u k waits on actions restarts (x ∷ xs) s' less (clean_on {mid = mid} at is found row rest) =
+      let clean = subst (IsCleanIn plan x) (sym is) found in
       let o = on x row.heard clean row.hears in
       let fit = fits plan o.next n u (pred actions) o.lasts (omega (arith, less)) in
       let same : mid ≡ session_at plan o.next (pred actions) restarts =
       row.same ∙ o.comes actions restarts ∙ ap (λ (q : Phase). session_at plan q (pred actions) restarts) fit in
       let e = o.lasts.runs (pred actions) restarts xs s' (omega (arith, less)) (subst (λ (t : Session). CleanSession t xs s') same rest) in
       record {
-        over = λ v. let b = e.over v in (b.0, omega (arith, b.1), omega (arith, b.2, waits x clean));
+        over = λ v. let b = e.over v in (b.0, omega (arith, b.1), omega (arith, b.2, waits x clean, waits_on x xs));
         enough = λ h. e.enough (omega (arith, h));
       }
 

@@ -26,6 +26,7 @@ pub mod OnPages
 pub mod Own
 pub mod OwnPhases
 pub mod OwnTurns
+pub mod Pairs
 pub mod Passing
 pub mod ReadClaims
 pub mod RowClaims

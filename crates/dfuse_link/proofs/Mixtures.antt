@@ -12,7 +12,7 @@ use Rattle.dfuse_host.specs.ReadBack.{HasByte, WasRead, WasReadIn, OnlyReadBack,
 use Rattle.dfuse_host.specs.Sessions.{after}
 use Rattle.dfuse_host.specs.Touching.{Touches, TouchesIn, TouchesAlways}
 use Rattle.dfuse_link.specs.Chips.{Chip, Device, Advances}
-use Rattle.dfuse_link.specs.Histories.{Paired, Turn, History, so_far, passes, turns}
+use Rattle.dfuse_link.specs.Histories.{History, so_far, passes, turns}
 use Rattle.dfuse_link.specs.Fronts.{IsOfFront, IsElsewhere}
 use Rattle.dfuse_link.proofs.Blanks.{IsBlankAt, quiet_spares, advances_blank, turn_blank}
 use Rattle.dfuse_link.proofs.Bytes.{byte_at}
@@ -29,6 +29,7 @@ use Rattle.dfuse_link.proofs.Spared.{Before, erasing_none, behind_none, before_s
 use Rattle.dfuse_link.proofs.Staying.{InPhase, turn_stays, passes_stays}
 use Rattle.dfuse_link.proofs.Passing.{passes_so}
 use Rattle.dfuse_link.proofs.Turns.{IsSo, IsRight, turn_so}
+use Rattle.dfuse_link.proofs.Pairs.{Paired, Turned, pair}
 
 -- Before the front's page is erased: the other pages are as at first, and stay so.
 abbrev pub Old : Chip → Plan → Device → Phase → Device → Type 0
@@ -95,7 +96,7 @@ no_other A k = elim k [ inl a ↦ a | inr b ↦ absurd b ]
 
 module _ (one : OnePage) (read : OnlyReadBack) (closes : ClosesAlways) (always : TouchesAlways) (chip : Chip) (first : Device) where
   -- What follows, of the plan as it was.
-  module _ (l l' : Paired) (x : Seen) (turn : Turn chip l x l') (k : IsMix chip first l)
+  module _ (l l' : Paired) (x : Seen) (turn : Turned chip l x l') (k : IsMix chip first l)
       (touches : TouchesIn l.session.plan l'.session.phase) (placed : InPhase (Placed l.session.plan) l'.session.phase)
       (right : (a : ℕ) → HasByte a l.session.plan.image.now → WasReadIn l.session.plan l'.session.phase a →
       IsRight chip l.session.plan l'.device a) where
@@ -154,7 +155,7 @@ module _ (one : OnePage) (read : OnlyReadBack) (closes : ClosesAlways) (always :
       | inr rest ↦ elim rest [ inl b ↦ blank_turn b.0 b.1 | inr n ↦ new_turn n.0 n.1 ]
     ]
 
-  turn_mix : (l l' : Paired) (x : Seen) → Turn chip l x l' → IsMix chip first l → IsMix chip first l'
+  turn_mix : (l l' : Paired) (x : Seen) → Turned chip l x l' → IsMix chip first l → IsMix chip first l'
   turn_mix l l' x turn k =
       let row = turn_row chip l l' x turn in
       let plan : l'.session.plan ≡ l.session.plan =
@@ -200,13 +201,15 @@ module _ (one : OnePage) (read : OnlyReadBack) (closes : ClosesAlways) (always :
     ]
   ]
 
-  pub history_mix : (l l' : Paired) (seens : List Seen) → History chip l seens l' → IsMix chip first l → IsMix chip first l'
-  history_mix l _ _ so_far k = k
-  history_mix l l' seens (passes d more rest) k = history_mix (record { device = d; session = l.session }) l' seens rest (record {
-    so = passes_so chip l d more k.so;
+  pub history_mix : (d d' : Device) (s s' : Session) (seens : List Seen) → History chip d s seens d' s' → IsMix chip first (pair d s) →
+      IsMix chip first (pair d' s')
+  history_mix d _ s _ _ so_far k = k
+  history_mix d d' s s' seens (passes mid more rest) k = history_mix mid d' s s' seens rest (record {
+    so = passes_so chip (pair d s) mid more k.so;
     mixable = k.mixable;
     touches = k.touches;
     placed = k.placed;
-    mix = passes_mix l d more k.mix;
+    mix = passes_mix (pair d s) mid more k.mix;
   })
-  history_mix l l' (s ∷ seens) (turns {mid = mid} turn rest) k = history_mix mid l' seens rest (turn_mix l mid s turn k)
+  history_mix d d' s s' (x ∷ seens) (turns {mid = mid} {at = at} turn rest) k =
+      history_mix mid d' at s' seens rest (turn_mix (pair d s) (pair mid at) x turn k)

@@ -9,8 +9,8 @@ use Rattle.dfuse_host.specs.declared.work.Work.TheVariants as work
 use Rattle.dfuse_host.specs.declared.limits.Limits.{Limits}
 use Rattle.dfuse_host.specs.ReadBack.{HasByte, WasRead, WasReadIn, OnlyReadBack, ClosesAlways}
 use Rattle.dfuse_host.specs.Touching.{TouchesAlways}
+use Rattle.dfuse_host.specs.Sessions.{begun}
 use Rattle.dfuse_link.specs.Chips.{Chip, Device}
-use Rattle.dfuse_link.specs.Promises.{met}
 use Rattle.dfuse_link.specs.Fronts.{FrontIsBlank, ImageStands, NoMixture, NoneButErasing}
 use Rattle.dfuse_link.specs.Touched.{CarriesNone}
 use Rattle.dfuse_host.specs.declared.phase.Standing.{Standing}
@@ -23,6 +23,7 @@ use Rattle.dfuse_link.proofs.OwnTurns.{is_filled, idle_now}
 use Rattle.dfuse_link.proofs.Turns.{IsRight}
 use Rattle.dfuse_link.proofs.Verified.{begins_so, history_plan}
 use Rattle.dfuse_link.proofs.Mixtures.{Mix, IsMix, history_mix}
+use Rattle.dfuse_link.proofs.Pairs.{met}
 
 -- All is so when a session begins.
 begins_mix : (always : TouchesAlways) (chip : Chip) (plan : Plan) (limits : Limits) (d : Device) → Mixable chip plan → CarriesNone d →
@@ -36,12 +37,12 @@ begins_mix always chip plan limits d m idle = record {
 }
 
 pub no_mixture : OnePage → OnlyReadBack → ClosesAlways → TouchesAlways → NoMixture
-no_mixture one read closes always chip plan limits d seens l for apart map erases idle history =
+no_mixture one read closes always chip plan limits d d' s seens for apart map erases idle history =
     let m : Mixable chip plan = record { for = for; apart = apart; map = map; erases = erases } in
-    let k = history_mix one read closes always chip d (met d plan limits) l seens history
+    let k = history_mix one read closes always chip d d d' (begun plan limits) s seens history
     (begins_mix always chip plan limits d m idle) in
-    let mix : Mix chip plan d l.session.phase l.device =
-    subst (λ (q : Plan). Mix chip q d l.session.phase l.device) (history_plan chip (met d plan limits) l seens history) k.mix in
+    let mix : Mix chip plan d s.phase d' =
+    subst (λ (q : Plan). Mix chip q d s.phase d') (history_plan chip d d' (begun plan limits) s seens history) k.mix in
     elim mix [
       | inl o ↦ inl (λ a other. (o.1 a other).1)
       | inr rest ↦ elim rest [
@@ -87,15 +88,15 @@ phase_none chip plan first s d no_erase right mix = elim mix [
 ]
 
 pub none_but_erasing : OnePage → OnlyReadBack → ClosesAlways → TouchesAlways → NoneButErasing
-none_but_erasing one read closes always chip plan limits d seens l s for apart map erases idle history phase first again =
+none_but_erasing one read closes always chip plan limits d d' s seens here for apart map erases idle history phase first again =
     let m : Mixable chip plan = record { for = for; apart = apart; map = map; erases = erases } in
-    let k = history_mix one read closes always chip d (met d plan limits) l seens history
+    let k = history_mix one read closes always chip d d d' (begun plan limits) s seens history
     (begins_mix always chip plan limits d m idle) in
-    let same = history_plan chip (met d plan limits) l seens history in
-    let mix : Mix chip plan d (On s) l.device =
-    subst (λ (p : Phase). Mix chip plan d p l.device) phase
-    (subst (λ (q : Plan). Mix chip q d l.session.phase l.device) same k.mix) in
-    let right : (a : ℕ) → HasByte a plan.image.now → WasReadIn plan (On s) a → IsRight chip plan l.device a =
-    subst (λ (p : Phase). (a : ℕ) → HasByte a plan.image.now → WasReadIn plan p a → IsRight chip plan l.device a) phase
-    (subst (λ (q : Plan). (a : ℕ) → HasByte a q.image.now → WasReadIn q l.session.phase a → IsRight chip q l.device a) same k.so.right) in
-    phase_none chip plan d s l.device (is_another s.work first again) right mix
+    let same = history_plan chip d d' (begun plan limits) s seens history in
+    let mix : Mix chip plan d (On here) d' =
+    subst (λ (p : Phase). Mix chip plan d p d') phase
+    (subst (λ (q : Plan). Mix chip q d s.phase d') same k.mix) in
+    let right : (a : ℕ) → HasByte a plan.image.now → WasReadIn plan (On here) a → IsRight chip plan d' a =
+    subst (λ (p : Phase). (a : ℕ) → HasByte a plan.image.now → WasReadIn plan p a → IsRight chip plan d' a) phase
+    (subst (λ (q : Plan). (a : ℕ) → HasByte a q.image.now → WasReadIn q s.phase a → IsRight chip q d' a) same k.so.right) in
+    phase_none chip plan d here d' (is_another here.work first again) right mix

@@ -17,11 +17,11 @@ use Rattle.dfuse_host.specs.Settling.{settle}
 use Rattle.dfuse_host.specs.Table.{state_found, on_abort, on_ask_state, on_clear_wait}
 use Rattle.dfuse_host.specs.Wire.{ReadsState, Hears}
 use Rattle.dfuse_host.proofs.ForCallers.{AnyHeard, by_heard}
-use Rattle.dfuse_link.specs.Chips.{Chip, Doing, Rests, Pending, Busy, state_in, Device}
-use Rattle.dfuse_link.specs.Reactions.{Reaction, Acks, Data, Stalls, MayStall, Reacts, stalls, stops, shows, aborts, clears}
+use Rattle.dfuse_link.specs.Chips.{Chip, Order, Doing, Rests, Pending, Busy, state_in, Device}
+use Rattle.dfuse_link.specs.Reactions.{Reaction, Acks, Data, Stalls, Reacts, stalls, shows, aborts, clears}
 use Rattle.dfuse_link.specs.Histories.{Arrives, never, again, IsSeenOf}
 use Rattle.dfuse_link.proofs.Claims.{SaysState}
-use Rattle.dfuse_link.proofs.Changes.{IsNow}
+use Rattle.dfuse_link.proofs.Changes.{IsNow, behind_stall}
 use Rattle.dfuse_link.proofs.Safe.{SafeAt}
 
 pub safe_now : (chip : Chip) (a : ℕ) (doing : Doing) → SafeAt chip a doing → IsNow chip a doing
@@ -73,19 +73,22 @@ pub record KeepsNow (chip : Chip) (a : ℕ) (d d' : Device) : Type 0 where
 
 module _ (chip : Chip) (a : ℕ) where
   abort_now : (d : Device) (body : List ℕ) (r : Reaction) (d' : Device) → Reacts chip d request.Abort body r d' → KeepsNow chip a d d'
-  abort_now d body _ _ (stalls _ _ may) = record { byte = refl; now = λ x. x }
-  abort_now d body _ _ (stops _ _ may) = record { byte = refl; now = λ x. tt }
+  abort_now d body _ _ (stalls _ _ doing may is) =
+      behind_stall (λ (t : Doing). KeepsNow chip a d (record d { doing = t })) d.doing doing is (record { byte = refl; now = λ x. x })
+      (record { byte = refl; now = λ x. tt })
   abort_now d body _ _ (aborts _ may) = record { byte = refl; now = λ x. tt }
 
   state_now : (d : Device) (n : ℕ) (body : List ℕ) (r : Reaction) (d' : Device) → Reacts chip d (request.GetState n) body r d' →
       KeepsNow chip a d d'
-  state_now d n body _ _ (stalls _ _ may) = record { byte = refl; now = λ x. x }
-  state_now d n body _ _ (stops _ _ may) = record { byte = refl; now = λ x. tt }
+  state_now d n body _ _ (stalls _ _ doing may is) =
+      behind_stall (λ (t : Doing). KeepsNow chip a d (record d { doing = t })) d.doing doing is (record { byte = refl; now = λ x. x })
+      (record { byte = refl; now = λ x. tt })
   state_now d n body _ _ (shows _ _) = record { byte = refl; now = λ x. x }
 
   clear_now : (d : Device) (body : List ℕ) (r : Reaction) (d' : Device) → Reacts chip d request.ClrStatus body r d' → KeepsNow chip a d d'
-  clear_now d body _ _ (stalls _ _ may) = record { byte = refl; now = λ x. x }
-  clear_now d body _ _ (stops _ _ may) = record { byte = refl; now = λ x. tt }
+  clear_now d body _ _ (stalls _ _ doing may is) =
+      behind_stall (λ (t : Doing). KeepsNow chip a d (record d { doing = t })) d.doing doing is (record { byte = refl; now = λ x. x })
+      (record { byte = refl; now = λ x. tt })
   clear_now d body _ _ (clears _ e) = record { byte = refl; now = λ x. tt }
 
   pub all_now : (q : Request) (body : List ℕ) → ((d : Device) (r : Reaction) (d' : Device) → Reacts chip d q body r d' →
@@ -109,17 +112,19 @@ module _ (chip : Chip) (a : ℕ) where
       KeepsNow chip a d d'
   clears_now body d r d' comes = all_now request.ClrStatus body (λ x t y step. clear_now x body t y step) d r d' comes
 
-  not_pending : (doing : Doing) (n : ℕ) → MayStall doing (request.GetState n) → IsNow chip a doing → SafeAt chip a doing
+  not_pending : (doing : Doing) (n : ℕ) →
+      ((order : Order) (m : ℕ) → doing ≡ Pending order → request.GetState n ≡ request.GetState m → ⊥) → IsNow chip a doing →
+      SafeAt chip a doing
   not_pending (Rests s) n may now = λ x. x
-  not_pending (Pending order) n may now = absurd may
+  not_pending (Pending order) n may now = absurd (may order n refl refl)
   not_pending (Busy order) n may now = now
 
   -- A GETSTATE that is stalled shows that nothing waits to be started.
   stalled_by : (d : Device) (n : ℕ) (body : List ℕ) (r : Reaction) (d' : Device) → r ≡ Stalls →
       Reacts chip d (request.GetState n) body r d' →
       IsNow chip a d.doing → SafeAt chip a d'.doing
-  stalled_by d n body _ _ e (stalls _ _ may) now = not_pending d.doing n may now
-  stalled_by d n body _ _ e (stops _ _ may) now = λ x. x
+  stalled_by d n body _ _ e (stalls _ _ doing may is) now =
+      behind_stall (SafeAt chip a) d.doing doing is (not_pending d.doing n may now) (λ x. x)
   stalled_by d n body _ _ e (shows _ _) now = cc
 
   pub stalled_now : (d : Device) (n : ℕ) (body : List ℕ) (d' : Device) → Arrives chip (request.GetState n) body d (Some Stalls) d' →

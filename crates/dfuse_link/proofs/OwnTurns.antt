@@ -8,10 +8,10 @@ use Rattle.dfuse_host.specs.declared.session.Session.{Session}
 use Rattle.dfuse_host.specs.Refusing.{is_empty}
 use Rattle.dfuse_host.specs.ReadBack.{OnlyReadBack, ClosesAlways}
 use Rattle.dfuse_host.specs.Touching.{Touches, TouchesIn, TouchesAlways, OnlyTouched}
-use Rattle.dfuse_host.specs.Sessions.{after}
+use Rattle.dfuse_host.specs.Sessions.{begun, after}
 use Rattle.dfuse_link.specs.Chips.{Chip, Order, Doing, Busy, Device, Advances}
-use Rattle.dfuse_link.specs.Histories.{Paired, Turn, History, so_far, passes, turns}
-use Rattle.dfuse_link.specs.Promises.{IsFor, met}
+use Rattle.dfuse_link.specs.Histories.{History, so_far, passes, turns}
+use Rattle.dfuse_link.specs.Promises.{IsFor}
 use Rattle.dfuse_link.specs.Touched.{OthersStay}
 use Rattle.dfuse_link.proofs.Rows.{turn_row}
 use Rattle.dfuse_link.proofs.Sessions.{plan_after}
@@ -22,6 +22,7 @@ use Rattle.dfuse_link.proofs.Verified.{begins_so}
 use Rattle.dfuse_link.proofs.Changes.{IsNow}
 use Rattle.dfuse_link.proofs.Own.{OwnIn}
 use Rattle.dfuse_link.proofs.SentOwn.{Apart, step_none}
+use Rattle.dfuse_link.proofs.Pairs.{Paired, Turned, pair}
 
 -- ---- what is so at each moment
 
@@ -46,7 +47,7 @@ in_touches plan (Over r) h = h
 
 module _ (read : OnlyReadBack) (closes : ClosesAlways) (always : TouchesAlways) (only : OnlyTouched) (chip : Chip) (a : ℕ)
     (first : Device) where
-  turn_kept : (l l' : Paired) (x : Seen) → Turn chip l x l' → IsKept chip a first l → IsKept chip a first l'
+  turn_kept : (l l' : Paired) (x : Seen) → Turned chip l x l' → IsKept chip a first l → IsKept chip a first l'
   turn_kept l l' x turn k =
       let row = turn_row chip l l' x turn in
       let plan : l.session.plan ≡ l'.session.plan =
@@ -77,19 +78,20 @@ module _ (read : OnlyReadBack) (closes : ClosesAlways) (always : TouchesAlways) 
         byte = stays.byte ∙ k.byte;
       }
 
-  history_kept : (l l' : Paired) (seens : List Seen) → History chip l seens l' → IsKept chip a first l → IsKept chip a first l'
-  history_kept l _ _ so_far k = k
-  history_kept l l' seens (passes d more rest) k = history_kept (record { device = d; session = l.session }) l' seens rest
-      (passes_kept l d more k)
-  history_kept l l' (s ∷ seens) (turns {mid = mid} turn rest) k = history_kept mid l' seens rest (turn_kept l mid s turn k)
+  history_kept : (d d' : Device) (s s' : Session) (seens : List Seen) → History chip d s seens d' s' → IsKept chip a first (pair d s) →
+      IsKept chip a first (pair d' s')
+  history_kept d _ s _ _ so_far k = k
+  history_kept d d' s s' seens (passes mid more rest) k = history_kept mid d' s s' seens rest (passes_kept (pair d s) mid more k)
+  history_kept d d' s s' (x ∷ seens) (turns {mid = mid} {at = at} turn rest) k =
+      history_kept mid d' at s' seens rest (turn_kept (pair d s) (pair mid at) x turn k)
 
 pub idle_now : (chip : Chip) (a : ℕ) (doing : Doing) → ((order : Order) → doing ≡ Busy order → ⊥) → IsNow chip a doing
 idle_now chip a (Busy order) idle = absurd (idle order refl)
 idle_now chip a doing idle = tt
 
 pub others_stay : OnlyReadBack → ClosesAlways → TouchesAlways → OnlyTouched → OthersStay
-others_stay read closes always only chip plan limits d seens l a for map idle history untouched =
-    (history_kept read closes always only chip a d (met d plan limits) l seens history (record {
+others_stay read closes always only chip plan limits d d' s seens a for map idle history untouched =
+    (history_kept read closes always only chip a d d d' (begun plan limits) s seens history (record {
       so = begins_so chip plan limits d for;
       apart = record { untouched = untouched; map = map };
       touches = always.0 plan limits (is_filled chip plan for);

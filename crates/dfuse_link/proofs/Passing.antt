@@ -10,11 +10,11 @@ use Rattle.dfuse_host.specs.declared.step.Step.TheVariants as step
 use Rattle.dfuse_host.specs.Commands.{command_of}
 use Rattle.dfuse_host.proofs.ForCallers.{AnyCommand}
 use Rattle.dfuse_link.specs.Chips.{Chip, Order, Busy, Device, Advances, goes_on, ends, fails}
-use Rattle.dfuse_link.specs.Histories.{Paired}
 use Rattle.dfuse_link.proofs.Claims.{IsQuiet, MayHave, Stands, StandsIn}
 use Rattle.dfuse_link.proofs.Deviced.{not_busy, advances_has}
 use Rattle.dfuse_link.proofs.Safe.{advances_safe}
 use Rattle.dfuse_link.proofs.Turns.{IsSo, kept_right}
+use Rattle.dfuse_link.proofs.Pairs.{Paired}
 
 pub busy_of : (chip : Chip) (d d' : Device) → Advances chip d d' → (order : Order) × (d.doing ≡ Busy order)
 busy_of chip d d' (goes_on order e e' changed) = (order, e)

@@ -20,9 +20,9 @@ use Rattle.dfuse_host.specs.Deeds.{Deed, Send, Wait, Done, sends, deed_of}
 use Rattle.dfuse_host.specs.ReadBack.{WasRead}
 use Rattle.dfuse_host.proofs.ForCallers.{set_address, write_at}
 use Rattle.dfuse_link.specs.Chips.{Chip, Order, Doing, Rests, Pending, Busy, Device, ChangedBy, Advances, goes_on, ends, fails}
-use Rattle.dfuse_link.specs.Reactions.{Reaction, order_of, set_off, told_of, Reacts, stalls, stops, takes, closes, gives, lists, tells, shows, aborts, clears}
+use Rattle.dfuse_link.specs.Reactions.{Reaction, order_of, set_off, told_of, Reacts, stalls, takes, closes, gives, lists, tells, shows, aborts, clears}
 use Rattle.dfuse_link.specs.Histories.{Arrives, never, again}
-use Rattle.dfuse_link.proofs.Changes.{MayChange, changed_stays}
+use Rattle.dfuse_link.proofs.Changes.{MayChange, changed_stays, behind_stall}
 use Rattle.dfuse_link.proofs.Claims.{Knows, Stands}
 use Rattle.dfuse_link.proofs.SentClaims.{pointed}
 
@@ -101,8 +101,11 @@ module _ (chip : Chip) (a : ℕ) where
   reacts_safe : (d : Device) (q : Request) (body : List ℕ) (r : Reaction) (d' : Device) → Reacts chip d q body r d' →
       BringsNone chip a q body d.pointer →
       SafeAt chip a d.doing → KeepsByte chip a d d' × BringsNone chip a q body d'.pointer
-  reacts_safe d _ _ _ _ (stalls q body may) new safe = (record { byte = refl; safe = safe }, new)
-  reacts_safe d _ _ _ _ (stops q body may) new safe = (record { byte = refl; safe = λ x. x }, new)
+  reacts_safe d _ _ _ _ (stalls q body doing may is) new safe = (
+    behind_stall (λ (t : Doing). KeepsByte chip a d (record d { doing = t })) d.doing doing is (record { byte = refl; safe = safe })
+        (record { byte = refl; safe = λ x. x }),
+    new,
+  )
   reacts_safe d _ _ _ _ (takes block n body may some) new safe = (record { byte = refl; safe = new }, new)
   reacts_safe d _ _ _ _ (closes block n may) new safe = (record { byte = refl; safe = λ x. x }, new)
   reacts_safe d _ _ _ _ (gives block n body bytes s may from most stands is) new safe = (record { byte = refl; safe = λ x. x }, tt)

@@ -15,7 +15,7 @@ use Rattle.dfuse_host.specs.Sessions.{told, after, after_phase, HearsIn, Session
 use Rattle.dfuse_host.proofs.ForCallers.{AnyHeard}
 use Rattle.dfuse_link.specs.Chips.{Chip, Order, Doing, Busy, Device, Advances}
 use Rattle.dfuse_link.specs.Reactions.{Reaction}
-use Rattle.dfuse_link.specs.Histories.{IsSeenOf, Paired, UnderWay, none, request, Turn, sent, waited, restarted}
+use Rattle.dfuse_link.specs.Histories.{IsSeenOf, UnderWay, none, request, sent, waited, restarted}
 use Rattle.dfuse_link.proofs.Changes.{IsNow, changed_stays}
 use Rattle.dfuse_link.proofs.Claims.{Stands, StandsIn}
 use Rattle.dfuse_link.proofs.SentClaims.{ArrivesBy}
@@ -25,6 +25,7 @@ use Rattle.dfuse_link.proofs.Passing.{busy_of}
 use Rattle.dfuse_link.proofs.Turns.{by_deed}
 use Rattle.dfuse_link.proofs.Own.{safe_now, OwnAt, OwnIn, phase_own, own_now, KeepsNow, aborts_now, states_now, clears_now, stall_heard, abort_own, clear_wait_own, ask_state_own}
 use Rattle.dfuse_link.proofs.OwnPhases.{told_own}
+use Rattle.dfuse_link.proofs.Pairs.{Paired, Turned}
 
 -- What holds of a work holds in a phase.
 abbrev pub InPhase : (Q : Work → Type 0) → Phase → Type 0
@@ -132,7 +133,7 @@ module _ (chip : Chip) (a : ℕ) where
   module _ (Q : Work → Type 0) (l l' : Paired)
       (brings : (w : Work) (p : Place) (at : Step) (d : Device) → Q w → Stands chip l.session.plan w p at d →
       DeedBringsNone chip a (deed_of l.session.plan w p at) d.pointer) where
-    pub turn_stays : (x : Seen) → Turn chip l x l' → InPhase Q l.session.phase →
+    pub turn_stays : (x : Seen) → Turned chip l x l' → InPhase Q l.session.phase →
         StandsIn chip l.session.plan l.session.phase l.device → OwnIn chip a l.session.phase l.device.doing → TurnStays chip a l l'
     turn_stays x (sent q body reaction is comes seen row) touches k own =
         let by = subst (λ (y : Deed). ArrivesBy chip y l.device reaction l'.device) (sym is) comes in

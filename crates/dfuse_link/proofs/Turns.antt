@@ -18,7 +18,7 @@ use Rattle.dfuse_host.specs.Wire.{Hears}
 use Rattle.dfuse_host.proofs.ForCallers.{AnyHeard}
 use Rattle.dfuse_link.specs.Chips.{Chip, Device}
 use Rattle.dfuse_link.specs.Reactions.{Reaction}
-use Rattle.dfuse_link.specs.Histories.{IsSeenOf, Paired, UnderWay, none, request, Turn, sent, waited, restarted}
+use Rattle.dfuse_link.specs.Histories.{IsSeenOf, UnderWay, none, request, sent, waited, restarted}
 use Rattle.dfuse_link.specs.Promises.{IsFor}
 use Rattle.dfuse_link.proofs.Claims.{Stands, StandsIn}
 use Rattle.dfuse_link.proofs.SentClaims.{ArrivesBy}
@@ -27,6 +27,7 @@ use Rattle.dfuse_link.proofs.Sessions.{plan_after, told_claims, at_restart, rest
 use Rattle.dfuse_link.proofs.Safe.{SafeAt, KeepsByte, DeedBringsNone, arrives_safe, restarts_safe, deed_none}
 use Rattle.dfuse_link.proofs.Bytes.{byte_at, has_address}
 use Rattle.dfuse_link.proofs.ReadClaims.{read_right}
+use Rattle.dfuse_link.proofs.Pairs.{Paired, Turned}
 
 -- A byte of the memory is the image's, and nothing that the device has to do may change it.
 abbrev pub IsRight : Chip → Plan → Device → ℕ → Type 0
@@ -186,7 +187,7 @@ module _ (chip : Chip) (only : OnlyReadBack) (always : ClosesAlways) where
   under_way s p d mid a e (request {reaction = reaction} q body is comes) k was h =
       before_right chip s.plan a s.phase d reaction mid (subst (λ (x : Deed). ArrivesBy chip x d reaction mid) (sym is) comes) k was h
 
-  pub turn_so : (l l' : Paired) (x : Seen) → Turn chip l x l' → IsSo chip l → IsSo chip l'
+  pub turn_so : (l l' : Paired) (x : Seen) → Turned chip l x l' → IsSo chip l → IsSo chip l'
   turn_so l l' x (sent q body reaction is comes seen row) so =
       let by = subst (λ (y : Deed). ArrivesBy chip y l.device reaction l'.device) (sym is) comes in
       goes l l' x so row

@@ -8,44 +8,45 @@ use Rattle.dfuse_host.specs.declared.seen.Seen.{Seen}
 use Rattle.dfuse_host.specs.declared.session.Session.{Session}
 use Rattle.dfuse_host.specs.declared.limits.Limits.{Limits}
 use Rattle.dfuse_host.specs.ReadBack.{WasReadIn, OnlyReadBack, ClosesAlways}
-use Rattle.dfuse_host.specs.Sessions.{SessionRow}
+use Rattle.dfuse_host.specs.Sessions.{begun, SessionRow}
 use Rattle.dfuse_link.specs.Chips.{Chip, Device}
 use Rattle.dfuse_link.specs.Reactions.{StandsAt}
-use Rattle.dfuse_link.specs.Histories.{Paired, History, so_far, passes, turns}
-use Rattle.dfuse_link.specs.Promises.{IsFor, VerifiedIsTrue, met}
+use Rattle.dfuse_link.specs.Histories.{History, so_far, passes, turns}
+use Rattle.dfuse_link.specs.Promises.{IsFor, VerifiedIsTrue}
 use Rattle.dfuse_link.proofs.Rows.{turn_row}
 use Rattle.dfuse_link.proofs.Sessions.{plan_after}
 use Rattle.dfuse_link.proofs.Bytes.{all_stands}
 use Rattle.dfuse_link.proofs.Passing.{passes_so}
 use Rattle.dfuse_link.proofs.Turns.{IsSo, is_apart, turn_so}
+use Rattle.dfuse_link.proofs.Pairs.{met, pair}
 
 -- All is so when a session begins: no byte counts as read back.
 pub begins_so : (chip : Chip) (plan : Plan) (limits : Limits) (d : Device) → IsFor chip plan → IsSo chip (met d plan limits)
 begins_so chip plan limits d for = record { for = for; closes = tt; stands = tt; right = λ a b was. absurd was }
 
-pub history_so : (chip : Chip) → OnlyReadBack → ClosesAlways → (l l' : Paired) (seens : List Seen) → History chip l seens l' →
-    IsSo chip l → IsSo chip l'
-history_so chip only always l _ _ so_far so = so
-history_so chip only always l l' seens (passes d more rest) so =
-    history_so chip only always (record { device = d; session = l.session }) l' seens rest (passes_so chip l d more so)
-history_so chip only always l l' (s ∷ seens) (turns {mid = mid} turn rest) so =
-    history_so chip only always mid l' seens rest (turn_so chip only always l mid s turn so)
+pub history_so : (chip : Chip) → OnlyReadBack → ClosesAlways → (d d' : Device) (s s' : Session) (seens : List Seen) →
+    History chip d s seens d' s' → IsSo chip (pair d s) → IsSo chip (pair d' s')
+history_so chip only always d _ s _ _ so_far so = so
+history_so chip only always d d' s s' seens (passes mid more rest) so =
+    history_so chip only always mid d' s s' seens rest (passes_so chip (pair d s) mid more so)
+history_so chip only always d d' s s' (x ∷ seens) (turns {mid = mid} {at = at} turn rest) so =
+    history_so chip only always mid d' at s' seens rest (turn_so chip only always (pair d s) (pair mid at) x turn so)
 
 row_plan : (s s' : Session) (x : Seen) → SessionRow s x s' → s'.plan ≡ s.plan
 row_plan s s' x row = ap (λ (t : Session). t.plan) row.same ∙ plan_after s s.phase row.heard
 
 -- A session keeps its plan.
-pub history_plan : (chip : Chip) (l l' : Paired) (seens : List Seen) → History chip l seens l' → l'.session.plan ≡ l.session.plan
-history_plan chip l _ _ so_far = refl
-history_plan chip l l' seens (passes d more rest) = history_plan chip (record { device = d; session = l.session }) l' seens rest
-history_plan chip l l' (s ∷ seens) (turns {mid = mid} turn rest) =
-    history_plan chip mid l' seens rest ∙ row_plan l.session mid.session s (turn_row chip l mid s turn)
+pub history_plan : (chip : Chip) (d d' : Device) (s s' : Session) (seens : List Seen) → History chip d s seens d' s' → s'.plan ≡ s.plan
+history_plan chip d _ s _ _ so_far = refl
+history_plan chip d d' s s' seens (passes mid more rest) = history_plan chip mid d' s s' seens rest
+history_plan chip d d' s s' (x ∷ seens) (turns {mid = mid} {at = at} turn rest) =
+    history_plan chip mid d' at s' seens rest ∙ row_plan s at x (turn_row chip (pair d s) (pair mid at) x turn)
 
 pub verified_is_true : OnlyReadBack → ClosesAlways → VerifiedIsTrue
-verified_is_true only always chip plan limits d seens l leaving for history over =
-    let so = history_so chip only always (met d plan limits) l seens history (begins_so chip plan limits d for) in
-    let counts = λ (a : ℕ). subst (λ (p : Phase). WasReadIn l.session.plan p a) (sym over) tt in
-    let all = all_stands l.device.memory 0 l.session.plan.image.now (is_apart chip l.session.plan so.for) (λ a b. (so.right a b (counts a)).0) in
+verified_is_true only always chip plan limits d d' s seens leaving for history over =
+    let so = history_so chip only always d d' (begun plan limits) s seens history (begins_so chip plan limits d for) in
+    let counts = λ (a : ℕ). subst (λ (p : Phase). WasReadIn s.plan p a) (sym over) tt in
+    let all = all_stands d'.memory 0 s.plan.image.now (is_apart chip s.plan so.for) (λ a b. (so.right a b (counts a)).0) in
     subst
-    (λ (q : Plan). AllByRecursion (λ (e : Element). StandsAt l.device.memory e.address e.bytes.now) q.image.now)
-    (history_plan chip (met d plan limits) l seens history) all
+    (λ (q : Plan). AllByRecursion (λ (e : Element). StandsAt d'.memory e.address e.bytes.now) q.image.now)
+    (history_plan chip d d' (begun plan limits) s seens history) all

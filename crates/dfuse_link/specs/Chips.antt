@@ -37,8 +37,8 @@ pub record Device : Type 0 where
   pub pointer : ℕ
   pub doing : Doing
 
--- What a memory may become while a device does this, also if that is cut off. An erase leaves each byte that it doesn't reach as it was, and
--- each blank byte blank. A write leaves each byte out of its range as it was. An order of no known kind may change any. Else all stays.
+-- What a memory may become while a device does this, also if that is cut off. An erase leaves each byte that it doesn't reach as it was,
+-- and each blank byte blank. A write leaves each byte out of its range as it was. An order of no known kind may change any. Else all stays.
 abbrev pub ChangedBy : Chip → Doing → (memory memory' : ℕ → ℕ) → Type 0
 ChangedBy chip (Busy (Erases at)) memory memory' = (a : ℕ) →
     ((chip.erases at a ≡ true → ⊥) → memory' a ≡ memory a) × (chip.blank (memory a) ≡ true → chip.blank (memory' a) ≡ true)

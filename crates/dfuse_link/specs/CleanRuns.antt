@@ -6,8 +6,8 @@ use Rattle.dfu_wire.specs.declared.states.State.TheVariants as state
 use Rattle.dfu_wire.specs.State.{state_byte}
 use Rattle.dfu_wire.specs.Status.{StatusFields, IsStatus}
 use Rattle.dfuse_host.specs.declared.plan.Plan.{Plan}
-use Rattle.dfuse_host.specs.declared.phase.Phase.{Phase}
-use Rattle.dfuse_host.specs.declared.phase.Phase.TheVariants.{On, Over}
+use Rattle.dfuse_host.specs.declared.phase.Phase.TheVariants.{On}
+use Rattle.dfuse_host.specs.declared.phase.Standing.{Standing}
 use Rattle.dfuse_host.specs.declared.work.Work.{Work}
 use Rattle.dfuse_host.specs.declared.step.Step.{Step}
 use Rattle.dfuse_host.specs.declared.step.Step.TheVariants as step
@@ -57,22 +57,14 @@ IsClean plan w step.Close s = s ≡ seen.Ack
 IsClean plan w step.ClosePoll s = TellsState state.Manifest s
 IsClean plan w at s = ⊥
 
--- The same, in a phase.
-abbrev pub IsCleanIn : Plan → Phase → Seen → Type 0
-IsCleanIn plan (On at) s = IsClean plan at.work at.step s
-IsCleanIn plan (Over report) s = ⊥
-
 -- A session that isn't over sees these, one after the other, each as it is to be.
 pub data CleanSession : Session → List Seen → Session → Type 0 where
   clean_so_far : {s : Session} → CleanSession s [] s
-  clean_on : {s mid s' : Session} {seen : Seen} {more : List Seen}
-      → IsCleanIn s.plan s.phase seen → SessionRow s seen mid → CleanSession mid more s' → CleanSession s (seen ∷ more) s'
+  clean_on : {s mid s' : Session} {seen : Seen} {more : List Seen} (at : Standing) → s.phase ≡ On at
+      → IsClean s.plan at.work at.step seen → SessionRow s seen mid → CleanSession mid more s' → CleanSession s (seen ∷ more) s'
 
 -- So many of the things seen are ends of waits. The others are answers to requests.
-abbrev pub one_wait : Seen → ℕ
-one_wait seen.Waited = 1
-one_wait s = 0
-
 abbrev pub waits_in : List Seen → ℕ
 waits_in [] = 0
-waits_in (s ∷ more) = one_wait s + waits_in more
+waits_in (seen.Waited ∷ more) = 1 + waits_in more
+waits_in (s ∷ more) = waits_in more

@@ -5,7 +5,6 @@ use Rattle.dfuse_memory.specs.Ranges.{IsRange, are_apart}
 use Rattle.dfuse_host.specs.declared.plan.Plan.{Plan}
 use Rattle.dfuse_host.specs.declared.phase.Phase.TheVariants.{Over}
 use Rattle.dfuse_host.specs.declared.seen.Seen.{Seen}
-use Rattle.dfuse_host.specs.declared.report.Leaving.{Leaving}
 use Rattle.dfuse_host.specs.declared.report.Leaving.TheVariants as leaving
 use Rattle.dfuse_host.specs.declared.report.Report.TheVariants.{Verified}
 use Rattle.dfuse_host.specs.declared.session.Session.{Session}
@@ -91,13 +90,11 @@ abbrev pub requests : (plan : Plan) → PlanCounts plan → ℕ
 requests plan c =
     2 + 3 * commands plan c + 2 * (c.rest_sets + c.front_sets) + (c.rest_reads + c.front_reads) + (if plan.leaves then 2 else 0)
 
--- A device that was asked to leave left.
-abbrev pub leaving_of : Plan → Leaving
-leaving_of plan = if plan.leaves then leaving.Left else leaving.Stayed
-
--- A session is over as Verified once so much was seen, of which so many are ends of waits, and no earlier.
+-- A session is over as Verified, and as having left if it was asked to, once so much was seen, of which so many are ends of waits, and no
+-- earlier.
 pub record EndsCounted (plan : Plan) (n waits : ℕ) (seens : List Seen) (s : Session) : Type 0 where
-  pub over : IsOver s.phase → (s.phase ≡ Over (Verified (leaving_of plan))) × (length seens ≡ n) × (waits_in seens ≡ waits)
+  pub over : IsOver s.phase → (s.phase ≡ Over (Verified (if plan.leaves then leaving.Left else leaving.Stayed))) × (length seens ≡ n) ×
+      (waits_in seens ≡ waits)
   pub enough : n ≤ length seens → IsOver s.phase
 
 -- If the device works, and nothing gets lost, a session ends as Verified after exactly as many requests as are counted, and a wait for each

@@ -8,12 +8,14 @@ use Rattle.dfuse_host.specs.declared.phase.Standing.{Standing}
 use Rattle.dfuse_host.specs.declared.work.Work.TheVariants as work
 use Rattle.dfuse_host.specs.declared.work.Work.TheVariants.{WriteFront}
 use Rattle.dfuse_host.specs.declared.seen.Seen.{Seen}
+use Rattle.dfuse_host.specs.declared.session.Session.{Session}
 use Rattle.dfuse_host.specs.declared.limits.Limits.{Limits}
 use Rattle.dfuse_host.specs.Images.{element_at, image_start}
 use Rattle.dfuse_host.specs.Plans.{page_start, front_end}
+use Rattle.dfuse_host.specs.Sessions.{begun}
 use Rattle.dfuse_link.specs.Chips.{Chip, Device}
-use Rattle.dfuse_link.specs.Histories.{Paired, History}
-use Rattle.dfuse_link.specs.Promises.{IsFor, met}
+use Rattle.dfuse_link.specs.Histories.{History}
+use Rattle.dfuse_link.specs.Promises.{IsFor}
 use Rattle.dfuse_link.specs.Touched.{IsTrueMap, CarriesNone}
 
 -- Each byte of the image at such an address stands in the memory.
@@ -23,9 +25,9 @@ ImageStands plan IsThere memory =
 
 -- While a session writes its front, each byte of the image behind the front stands in the memory.
 abbrev pub RestStands : Type 0
-RestStands = (chip : Chip) (plan : Plan) (limits : Limits) (d : Device) (seens : List Seen) (l : Paired) (s : Standing) (at : ℕ)
-    → IsFor chip plan → History chip (met d plan limits) seens l → l.session.phase ≡ On s → s.work ≡ WriteFront at
-    → ImageStands plan (λ (a : ℕ). front_end plan ≤ a) l.device.memory
+RestStands = (chip : Chip) (plan : Plan) (limits : Limits) (d d' : Device) (s : Session) (seens : List Seen) (here : Standing) (at : ℕ)
+    → IsFor chip plan → History chip d (begun plan limits) seens d' s → s.phase ≡ On here → here.work ≡ WriteFront at
+    → ImageStands plan (λ (a : ℕ). front_end plan ≤ a) d'.memory
 
 -- An address of the front.
 abbrev pub IsOfFront : Plan → (a : ℕ) → Type 0
@@ -45,16 +47,16 @@ FrontIsBlank chip plan memory = (a : ℕ) → IsOfFront plan a → chip.blank (m
 
 -- At each moment the front is blank, or what isn't on its page is all old, or all new.
 abbrev pub NoMixture : Type 0
-NoMixture = (chip : Chip) (plan : Plan) (limits : Limits) (d : Device) (seens : List Seen) (l : Paired) → IsFor chip plan →
+NoMixture = (chip : Chip) (plan : Plan) (limits : Limits) (d d' : Device) (s : Session) (seens : List Seen) → IsFor chip plan →
     are_apart plan.map.now.ranges ≡ true → IsTrueMap chip plan → ErasesFront chip plan → CarriesNone d →
-    History chip (met d plan limits) seens l →
-    ((a : ℕ) → IsElsewhere plan a → l.device.memory a ≡ d.memory a)
-    ⊎ (FrontIsBlank chip plan l.device.memory ⊎ ImageStands plan (IsElsewhere plan) l.device.memory)
+    History chip d (begun plan limits) seens d' s →
+    ((a : ℕ) → IsElsewhere plan a → d'.memory a ≡ d.memory a)
+    ⊎ (FrontIsBlank chip plan d'.memory ⊎ ImageStands plan (IsElsewhere plan) d'.memory)
 
 -- While a session's work is another one than to erase, or to erase again, the front is blank, or all behind it stands, on its page too.
 abbrev pub NoneButErasing : Type 0
-NoneButErasing = (chip : Chip) (plan : Plan) (limits : Limits) (d : Device) (seens : List Seen) (l : Paired) (s : Standing) →
+NoneButErasing = (chip : Chip) (plan : Plan) (limits : Limits) (d d' : Device) (s : Session) (seens : List Seen) (here : Standing) →
     IsFor chip plan → are_apart plan.map.now.ranges ≡ true → IsTrueMap chip plan → ErasesFront chip plan → CarriesNone d →
-    History chip (met d plan limits) seens l → l.session.phase ≡ On s → ((at : ℕ) → s.work ≡ work.Erase at → ⊥) →
-    ((page end : ℕ) → s.work ≡ work.EraseAgain page end → ⊥) →
-    FrontIsBlank chip plan l.device.memory ⊎ ImageStands plan (λ (a : ℕ). front_end plan ≤ a) l.device.memory
+    History chip d (begun plan limits) seens d' s → s.phase ≡ On here → ((at : ℕ) → here.work ≡ work.Erase at → ⊥) →
+    ((page end : ℕ) → here.work ≡ work.EraseAgain page end → ⊥) →
+    FrontIsBlank chip plan d'.memory ⊎ ImageStands plan (λ (a : ℕ). front_end plan ≤ a) d'.memory

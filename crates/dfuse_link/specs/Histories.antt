@@ -24,11 +24,6 @@ IsSeenOf (Some (Data bytes)) (seen.Bytes given) = given.now ≡ bytes
 IsSeenOf (Some Stalls) seen.Stall = Unit {0}
 IsSeenOf reaction s = ⊥
 
--- A device, and the session with it.
-pub record Paired : Type 0 where
-  pub device : Device
-  pub session : Session
-
 -- What may have come to a device before it restarts: nothing, or the session's request.
 pub data UnderWay (chip : Chip) (s : Session) (d : Device) : Device → Type 0 where
   none : UnderWay chip s d d
@@ -37,17 +32,18 @@ pub data UnderWay (chip : Chip) (s : Session) (d : Device) : Device → Type 0 w
 
 -- The session's action, and what is seen of it: a request was sent; a wait is over; or the device restarted, which the session is told. It
 -- is in any state then, and its pointer anywhere; an order that isn't started is dropped, and one that it carries out is cut off.
-pub data Turn (chip : Chip) (l : Paired) (s : Seen) (l' : Paired) : Type 0 where
-  sent : (q : Request) (body : List ℕ) (reaction : Option Reaction) → deed l.session.plan l.session.phase ≡ Send q body
-      → Arrives chip q body l.device reaction l'.device → IsSeenOf reaction s → SessionRow l.session s l'.session → Turn chip l s l'
-  waited : (ms : ℕ) → deed l.session.plan l.session.phase ≡ Wait ms → l'.device ≡ l.device → s ≡ seen.Waited
-      → SessionRow l.session s l'.session → Turn chip l s l'
-  restarted : (mid : Device) (any : State) → UnderWay chip l.session l.device mid → l'.device.doing ≡ Rests any
-      → ChangedBy chip mid.doing mid.memory l'.device.memory → s ≡ seen.Restarted → SessionRow l.session s l'.session → Turn chip l s l'
+pub data Turn (chip : Chip) (d : Device) (s : Session) (x : Seen) (d' : Device) (s' : Session) : Type 0 where
+  sent : (q : Request) (body : List ℕ) (reaction : Option Reaction) → deed s.plan s.phase ≡ Send q body
+      → Arrives chip q body d reaction d' → IsSeenOf reaction x → SessionRow s x s' → Turn chip d s x d' s'
+  waited : (ms : ℕ) → deed s.plan s.phase ≡ Wait ms → d' ≡ d → x ≡ seen.Waited → SessionRow s x s' → Turn chip d s x d' s'
+  restarted : (mid : Device) (any : State) → UnderWay chip s d mid → d'.doing ≡ Rests any
+      → ChangedBy chip mid.doing mid.memory d'.memory → x ≡ seen.Restarted → SessionRow s x s' → Turn chip d s x d' s'
 
--- A session sees all this, one thing after the other. Between two of them the device may go on with what it carries out.
-pub data History (chip : Chip) : Paired → List Seen → Paired → Type 0 where
-  so_far : {l : Paired} → History chip l [] l
-  passes : {l l' : Paired} {seens : List Seen} (d : Device) → Advances chip l.device d
-      → History chip (record { device = d; session = l.session }) seens l' → History chip l seens l'
-  turns : {l mid l' : Paired} {s : Seen} {seens : List Seen} → Turn chip l s mid → History chip mid seens l' → History chip l (s ∷ seens) l'
+-- A device and a session with it, all that the session sees, one thing after the other, and the two behind it. Between two of these things
+-- the device may go on with what it carries out.
+pub data History (chip : Chip) : Device → Session → List Seen → Device → Session → Type 0 where
+  so_far : {d : Device} {s : Session} → History chip d s [] d s
+  passes : {d d' : Device} {s s' : Session} {seens : List Seen} (mid : Device) → Advances chip d mid → History chip mid s seens d' s'
+      → History chip d s seens d' s'
+  turns : {d mid d' : Device} {s at s' : Session} {x : Seen} {seens : List Seen} → Turn chip d s x mid at
+      → History chip mid at seens d' s' → History chip d s (x ∷ seens) d' s'

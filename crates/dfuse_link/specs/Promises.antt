@@ -1,4 +1,4 @@
--- What a session's report says of the device.
+-- What a session's report says of the device. In each law a session begins with d, and later d' is the device and s the session.
 use Rattle.std.specs.Prelude.{◌≡◌, ◌≤◌, max, List, length}
 use Rattle.std.specs.List.{All, AllByRecursion}
 use Rattle.dfuse_memory.specs.Ranges.{IsRange}
@@ -8,12 +8,13 @@ use Rattle.dfuse_host.specs.declared.phase.Phase.TheVariants.{Over}
 use Rattle.dfuse_host.specs.declared.seen.Seen.{Seen}
 use Rattle.dfuse_host.specs.declared.report.Leaving.{Leaving}
 use Rattle.dfuse_host.specs.declared.report.Report.TheVariants.{Verified}
+use Rattle.dfuse_host.specs.declared.session.Session.{Session}
 use Rattle.dfuse_host.specs.declared.limits.Limits.{Limits}
 use Rattle.dfuse_host.specs.Refusing.{IsSound}
 use Rattle.dfuse_host.specs.Sessions.{begun, IsOver, SessionRows}
 use Rattle.dfuse_link.specs.Chips.{Chip, Device}
 use Rattle.dfuse_link.specs.Reactions.{StandsAt}
-use Rattle.dfuse_link.specs.Histories.{Paired, History}
+use Rattle.dfuse_link.specs.Histories.{History}
 
 -- A session can begin with this plan, whose map has ranges as each map that was read, and the device counts addresses by its blocks.
 pub record IsFor (chip : Chip) (plan : Plan) : Type 0 where
@@ -21,21 +22,18 @@ pub record IsFor (chip : Chip) (plan : Plan) : Type 0 where
   pub ranges : All IsRange plan.map.now.ranges
   pub transfer : plan.transfer ≡ chip.transfer
 
--- A session begins with a device.
-abbrev pub met : Device → Plan → Limits → Paired
-met d plan limits = record { device = d; session = begun plan limits }
-
 -- Once Verified is reported, each element of the image stands in its range of the device's memory.
 abbrev pub VerifiedIsTrue : Type 0
-VerifiedIsTrue = (chip : Chip) (plan : Plan) (limits : Limits) (d : Device) (seens : List Seen) (l : Paired) (leaving : Leaving)
-    → IsFor chip plan → History chip (met d plan limits) seens l → l.session.phase ≡ Over (Verified leaving)
-    → AllByRecursion (λ (e : Element). StandsAt l.device.memory e.address e.bytes.now) plan.image.now
+VerifiedIsTrue = (chip : Chip) (plan : Plan) (limits : Limits) (d d' : Device) (s : Session) (seens : List Seen) (leaving : Leaving)
+    → IsFor chip plan → History chip d (begun plan limits) seens d' s → s.phase ≡ Over (Verified leaving)
+    → AllByRecursion (λ (e : Element). StandsAt d'.memory e.address e.bytes.now) plan.image.now
 
 -- What the session sees are rows of it, one after the other.
 abbrev pub HistoriesAreRows : Type 0
-HistoriesAreRows = (chip : Chip) (l l' : Paired) (seens : List Seen) → History chip l seens l' → SessionRows l.session seens l'.session
+HistoriesAreRows = (chip : Chip) (d d' : Device) (s s' : Session) (seens : List Seen) → History chip d s seens d' s' →
+    SessionRows s seens s'
 
 -- Whatever comes, the session is over after as many things seen as it has actions, and after one if it has none.
 abbrev pub EndsInTime : Type 0
-EndsInTime = (chip : Chip) (plan : Plan) (limits : Limits) (d : Device) (seens : List Seen) (l : Paired)
-    → History chip (met d plan limits) seens l → max 1 limits.actions ≤ length seens → IsOver l.session.phase
+EndsInTime = (chip : Chip) (plan : Plan) (limits : Limits) (d d' : Device) (s : Session) (seens : List Seen)
+    → History chip d (begun plan limits) seens d' s → max 1 limits.actions ≤ length seens → IsOver s.phase

@@ -44,11 +44,6 @@ TakesAbort (Rests state.UploadIdle) = Unit {0}
 TakesAbort (Pending order) = Unit {0}
 TakesAbort doing = ⊥
 
--- Any request may be stalled, but GETSTATE while an order isn't started.
-abbrev pub MayStall : Doing → Request → Type 0
-MayStall (Pending order) (request.GetState n) = ⊥
-MayStall doing q = Unit {0}
-
 -- The bytes from an address on are these.
 abbrev pub StandsAt : (memory : ℕ → ℕ) → (at : ℕ) → List ℕ → Type 0
 StandsAt memory at bytes = (i : ℕ) → i < length bytes → memory (at + i) ≡ slice_index bytes i
@@ -65,10 +60,12 @@ told_of (Rests state.DownloadBusy) = Rests state.DownloadIdle
 told_of (Rests state.ManifestSync) = Rests state.Manifest
 told_of doing = doing
 
--- A device reacts to a request with this body. Behind a stall it goes on as before, or is in dfuERROR.
+-- A device reacts to a request with this body.
 pub data Reacts (chip : Chip) (d : Device) : Request → List ℕ → Reaction → Device → Type 0 where
-  stalls : (q : Request) (body : List ℕ) → MayStall d.doing q → Reacts chip d q body Stalls d
-  stops : (q : Request) (body : List ℕ) → MayStall d.doing q → Reacts chip d q body Stalls (record d { doing = Rests state.Error })
+  -- Any request may be stalled, but GETSTATE while an order isn't started. The device goes on as before then, or is in dfuERROR.
+  stalls : (q : Request) (body : List ℕ) (doing : Doing)
+      → ((order : Order) (n : ℕ) → d.doing ≡ Pending order → q ≡ request.GetState n → ⊥)
+      → (doing ≡ d.doing) ⊎ (doing ≡ Rests state.Error) → Reacts chip d q body Stalls (record d { doing = doing })
   -- DNLOAD brings an order, and starts nothing.
   takes : (block n : ℕ) (body : List ℕ) → IsIdleOr state.DownloadIdle d.doing → 0 < length body
       → Reacts chip d (request.Dnload block n) body Acks (record d { doing = Pending (order_of chip d.pointer block body) })

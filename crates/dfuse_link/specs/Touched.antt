@@ -2,13 +2,15 @@
 use Rattle.std.specs.Prelude.{◌≡◌, ℕ, true, List}
 use Rattle.dfuse_host.specs.declared.plan.Plan.{Plan}
 use Rattle.dfuse_host.specs.declared.seen.Seen.{Seen}
+use Rattle.dfuse_host.specs.declared.session.Session.{Session}
 use Rattle.dfuse_host.specs.declared.limits.Limits.{Limits}
 use Rattle.dfuse_host.specs.Plans.{page_start}
 use Rattle.dfuse_host.specs.ReadBack.{HasByte}
+use Rattle.dfuse_host.specs.Sessions.{begun}
 use Rattle.dfuse_host.specs.Touching.{IsTouched}
 use Rattle.dfuse_link.specs.Chips.{Chip, Order, Busy, Device}
-use Rattle.dfuse_link.specs.Histories.{Paired, History}
-use Rattle.dfuse_link.specs.Promises.{IsFor, met}
+use Rattle.dfuse_link.specs.Histories.{History}
+use Rattle.dfuse_link.specs.Promises.{IsFor}
 
 -- The map is true of the image's pages: an erase at the begin of such a page may change no byte of another one.
 abbrev pub IsTrueMap : Chip → Plan → Type 0
@@ -21,6 +23,6 @@ CarriesNone d = (order : Order) → d.doing ≡ Busy order → ⊥
 
 -- At each moment, a byte on a page that has no byte of the image is as it was when the session began.
 abbrev pub OthersStay : Type 0
-OthersStay = (chip : Chip) (plan : Plan) (limits : Limits) (d : Device) (seens : List Seen) (l : Paired) (a : ℕ) → IsFor chip plan
-    → IsTrueMap chip plan → CarriesNone d → History chip (met d plan limits) seens l → (IsTouched plan (page_start plan a) → ⊥)
-    → l.device.memory a ≡ d.memory a
+OthersStay = (chip : Chip) (plan : Plan) (limits : Limits) (d d' : Device) (s : Session) (seens : List Seen) (a : ℕ) → IsFor chip plan
+    → IsTrueMap chip plan → CarriesNone d → History chip d (begun plan limits) seens d' s → (IsTouched plan (page_start plan a) → ⊥)
+    → d'.memory a ≡ d.memory a
