@@ -1,8 +1,8 @@
 -- What the last 16 bytes, a count and the register over all bytes say of the bytes: for `read`, and for `check`, which keeps a window.
-use Rattle.std.proofs.Common.{Option, ◌≡◌, ◌↔◌, ℕ, ◌+◌, ◌-◌, ◌≤◌, ◌||◌, Bool, true, false, not, cond, eqb, ltb, List, [], ◌∷◌, length, take, drop, get_or, Some, None, Result, Ok, Err, IfOk, refl, sym, ap, ◌∙◌, arith}
+use Rattle.std.proofs.Common.{Option, ◌≡◌, ◌↔◌, ℕ, ◌-◌, ◌≤◌, ◌||◌, Bool, true, false, not, cond, eqb, ltb, List, [], ◌∷◌, length, take, drop, get_or, Some, None, Result, Ok, Err, IfOk, refl, sym, ap, ◌∙◌, arith}
 use Rattle.std.specs.Prelude.{find}
 use Rattle.std.proofs.lemmas.Bool.{eqb-true, eq-eqb, ltb-false}
-use Rattle.std.proofs.lemmas.List.{drop-drop, length-take-le}
+use Rattle.std.proofs.lemmas.List.{length-take-le}
 use Rattle.byteorder.specs.Endian.{little_number}
 use Rattle.dfu_suffix.specs.Register.{register}
 use Rattle.dfu_suffix.specs.Grammar.{Content, tail_of, is_signed, has_fault, fault_order}
@@ -15,7 +15,7 @@ use Rattle.dfu_wire.specs.declared.ids.Ids.{Ids}
 use Rattle.dfu_suffix.specs.declared.fault.SuffixFault.{SuffixFault}
 use Rattle.dfu_suffix.specs.declared.fault.SuffixFault.TheVariants.{TooShort, NoSignature, BadLength, DfuSe, BadCrc, TooLarge}
 use Rattle.dfu_suffix.proofs.LawProofs.{last_four}
-use Rattle.dfu_suffix.proofs.Windows.{window_of, window_tail}
+use Rattle.dfu_suffix.proofs.Windows.{window_of, window_tail, last_of_tail}
 
 -- This is the summary of what was read of bytes.
 abbrev pub summary_in : List ℕ → Content → Summary
@@ -117,8 +117,7 @@ sums_up s long =
     let t = tail_of s in
     let n = length s in
     let c = content_of s in
-    let place : n - 16 + 12 ≡ n - 4 = omega arith in
-    let moved : drop 12 t ≡ drop (n - 4) s = drop-drop 12 (n - 16) s ∙ ap (λ (k : ℕ). drop k s) place in
+    let moved : drop 12 t ≡ drop (n - 4) s = last_of_tail s long in
     let paid : n - get_or t 11 0 ≡ length c.payload = sym (length-take-le (n - get_or t 11 0) s (omega arith)) in
     let same : told_by t n ≡ summary_in s c =
     said_same (n - get_or t 11 0) (length c.payload) (get_or t 11 0) (get_or t 11 0) c.dfu (little_number 4 (drop 12 t))
@@ -132,8 +131,7 @@ zero_intact s f long =
     let n = length s in
     let last = little_number 4 (drop 12 (tail_of s)) in
     let due = register (take (n - 4) s) in
-    let place : n - 16 + 12 ≡ n - 4 = omega arith in
-    let moved : drop 12 (tail_of s) ≡ drop (n - 4) s = drop-drop 12 (n - 16) s ∙ ap (λ (k : ℕ). drop k s) place in
+    let moved : drop 12 (tail_of s) ≡ drop (n - 4) s = last_of_tail s long in
     let law = last_four s f (omega arith) in
     by_zero (register s) 0 last due (λ z. ap (little_number 4) moved ∙ law.0 z, λ z. law.1 (sym (ap (little_number 4) moved) ∙ z))
 

@@ -7,6 +7,7 @@ pub mod Fours
 pub mod Tables
 pub mod SmallTable
 pub mod Combined
+pub mod UndoLaws
 pub mod Spread
 pub mod FoldSteps
 pub mod FoldRooms

@@ -213,3 +213,10 @@ four_more r x p q =
       λ e. sym (xor_zero_same r x (shifts-zero 32 (bit_xor r x) (xor_lt 32 r x p q) (step ∙ e))),
       λ e. sym step ∙ (ap (λ (z : ℕ). shifts 32 (bit_xor r z)) e ∙ (ap (shifts 32) (xor_self r) ∙ zero-shifts 32)),
     )
+
+-- Numbers that are shifted to the same are the same.
+pub shifts_same : (n a b : ℕ) → a < 2 ^ 32 → b < 2 ^ 32 → shifts n a ≡ shifts n b → a ≡ b
+shifts_same n a b p q e =
+    let none : shifts n (bit_xor a b) ≡ 0 =
+    shifts_of_xor n a b ∙ (ap (λ (z : ℕ). bit_xor z (shifts n b)) e ∙ xor_self (shifts n b)) in
+    xor_zero_same a b (shifts-zero n (bit_xor a b) (xor_lt 32 a b p q) none)

@@ -21,3 +21,9 @@ pub window_tail : (seen : List ℕ) → 16 ≤ length seen → window_of seen �
 window_tail seen h =
     let place : length seen ≡ 16 + (length seen - 16) = omega arith in
     ap (λ (k : ℕ). drop k (replicate 16 0 ++ seen)) place ∙ sym (drop-drop (length seen - 16) 16 (replicate 16 0 ++ seen))
+
+-- The last four of the tail are those of all bytes.
+pub last_of_tail : (seen : List ℕ) → 16 ≤ length seen → drop 12 (tail_of seen) ≡ drop (length seen - 4) seen
+last_of_tail seen h =
+    let place : length seen - 16 + 12 ≡ length seen - 4 = omega arith in
+    drop-drop 12 (length seen - 16) seen ∙ ap (λ (k : ℕ). drop k seen) place

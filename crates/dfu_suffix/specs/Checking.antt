@@ -1,8 +1,10 @@
 -- What checking a file answers.
-use Rattle.std.specs.Prelude.{◌≡◌, ◌↔◌, ℕ, ◌+◌, List, length, IfOk, Result, Ok, Err, ⊤}
+use Rattle.std.specs.Prelude.{◌≡◌, ◌↔◌, ℕ, ◌+◌, ◌-◌, ◌≤◌, List, length, take, drop, slice_index, IfOk, Result, Ok, Err, ⊤}
+use Rattle.byteorder.specs.Endian.{little_number}
 use Rattle.dfu_suffix.specs.Register.{register}
-use Rattle.dfu_suffix.specs.Grammar.{IsFile, First, before_crc}
+use Rattle.dfu_suffix.specs.Grammar.{IsFile, First, before_crc, tail_of}
 use Rattle.dfu_suffix.specs.declared.summary.Summary.{Summary}
+use Rattle.dfu_suffix.specs.declared.findings.Findings.{Findings}
 use Rattle.dfu_wire.specs.declared.ids.Ids.{Ids}
 use Rattle.dfu_suffix.specs.declared.fault.SuffixFault.{SuffixFault}
 use Rattle.dfu_suffix.specs.declared.fault.SuffixFault.TheVariants.{Read}
@@ -30,3 +32,14 @@ pub record Checks (bytes : List ℕ) (answer : Result Summary SuffixFault) : Typ
 abbrev pub UnlessRead : {T : Type 0} → Result T SuffixFault → Type 0 → Type 0
 UnlessRead (Err Read) P = ⊤
 UnlessRead r P = P
+
+-- The findings are those of these bytes: how many they are, bLength, dwCRC, and the register that dwCRC has to be.
+pub record Finds (bytes : List ℕ) (findings : Findings) : Type 0 where
+  pub count : findings.count ≡ length bytes
+  pub suffix : findings.suffix ≡ slice_index (tail_of bytes) 11
+  pub crc : findings.crc ≡ little_number 4 (drop (length bytes - 4) bytes)
+  pub register : findings.register ≡ register (take (length bytes - 4) bytes)
+
+-- The findings are those of these bytes, if they are enough for a suffix and not too many for a file.
+abbrev pub FindsFile : List ℕ → Findings → Type 0
+FindsFile bytes findings = 16 ≤ length bytes → length bytes ≤ 16777216 → Finds bytes findings

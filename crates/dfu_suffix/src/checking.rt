@@ -1,11 +1,12 @@
 //! Checks of a file that a reader gives.
 
 ghost use Rattle.std.specs.Prelude.{◌≢◌, Err, IfSome};
-ghost use Rattle.dfu_suffix.specs.Checking.{Checks, UnlessRead};
+ghost use Rattle.dfu_suffix.specs.Checking.{Checks, FindsFile, UnlessRead};
 ghost use Rattle.dfu_suffix.specs.declared.fault.SuffixFault.TheVariants.{NoMemory};
 
 use crate::crc::Crc;
 use crate::fault::SuffixFault;
+use crate::findings::{Findings, findings_of};
 use crate::judging::judge;
 use crate::limits::{MAX_FILE, MAX_READS, PIECE};
 use crate::summary::Summary;
@@ -20,10 +21,31 @@ use std::io::Read;
 ///
 /// TooLarge once byte 16,777,217 was read, and no read is made after that; Read at the first error
 /// of the reader, with no second try; else the fault that `read` answers for the bytes.
-pub fn check<R: Read + Drop>(mut reader: R) -> Result<Summary, SuffixFault>
+pub fn check<R: Read + Drop>(reader: R) -> Result<Summary, SuffixFault>
     // An answer other than Read is Ok exactly for a file of the grammar, with its summary, and
     // else the first fault of the bytes, however the reader cuts them.
     ensures answer { IfSome (R.remaining reader) (λ all. UnlessRead result (Checks all result)) }
+    // It is never that memory ran out, whatever the reader is.
+    ensures memory { result ≢ Err NoMemory }
+{
+    let mut findings = Findings::new();
+    check_with(reader, &mut findings)
+}
+
+/// Does what `check` does, and writes into `findings` what the reason of BadLength or BadCrc is made of. After
+/// TooShort, TooLarge and Read they say nothing of the file.
+///
+/// # Errors
+///
+/// Those of `check`.
+pub fn check_with<R: Read + Drop>(
+    mut reader: R,
+    findings: &mut Findings,
+) -> Result<Summary, SuffixFault>
+    // The answer is that of `check`.
+    ensures answer { IfSome (R.remaining reader) (λ all. UnlessRead result (Checks all result)) }
+    // Unless it is Read, the findings are those of all bytes, if these are from 16 to 16,777,216.
+    ensures findings { IfSome (R.remaining reader) (λ all. UnlessRead result (FindsFile all findings.new)) }
     // It is never that memory ran out, whatever the reader is.
     ensures memory { result ≢ Err NoMemory }
 {
@@ -33,7 +55,11 @@ pub fn check<R: Read + Drop>(mut reader: R) -> Result<Summary, SuffixFault>
     let mut buffer = [0u8; PIECE];
     for turn in 0..MAX_READS {
         match reader.read(&mut buffer) {
-            Ok(0) => return judge(&window, count, crc.value()),
+            Ok(0) => {
+                let register = crc.value();
+                *findings = findings_of(&window, count, register);
+                return judge(&window, count, register);
+            }
             Ok(taken) => {
                 if taken > MAX_FILE - count as usize {
                     return Err(SuffixFault::TooLarge);

@@ -1,7 +1,7 @@
 use Rattle.std.proofs.Common.{◌+◌, ◌<◌, ℕ, length, take, ap, arith}
 use Rattle.dfu_suffix.proofs.ReadLaws.{end_here}
-use Rattle.dfu_suffix.proofs.StreamLaws.{seen_more, seen_end, seen_over}
-use Rattle.dfu_suffix.proofs.checking.check.Goals as goal
+use Rattle.dfu_suffix.proofs.StreamLaws.{seen_more, seen_end, seen_found, seen_over, none_found}
+use Rattle.dfu_suffix.proofs.checking.check_with.Goals as goal
 
 pub returns-in-Ok-eq0-clause-answer : goal.returns-in-Ok-eq0-clause-answer
 returns-in-Ok-eq0-clause-answer g c =
@@ -9,7 +9,16 @@ returns-in-Ok-eq0-clause-answer g c =
     let test = c.in-Ok-eq0.field-0-test in
     let over = end_here (g.R.Read.remaining c.loop-turn.reader) (g.R.Read.remaining c.read.new.self) c.in-Ok-eq0.field-0
     c.read.new.buf (omega arith) room c.in-Ok-eq0.ensures.bytes in
-    seen_end _ _ _ _ _ _ _ _ c.loop-turn.invariant over c.judge.ensures.answer c.value.ensures
+    seen_end _ _ _ _ _ _ _ _ c.loop-turn.invariant over c.judge.ensures.answer c.value-register.ensures
+
+pub returns-in-Ok-eq0-clause-findings : goal.returns-in-Ok-eq0-clause-findings
+returns-in-Ok-eq0-clause-findings g c =
+    let room : 0 < length c.read.new.buf = omega arith in
+    let test = c.in-Ok-eq0.field-0-test in
+    let over = end_here (g.R.Read.remaining c.loop-turn.reader) (g.R.Read.remaining c.read.new.self) c.in-Ok-eq0.field-0
+    c.read.new.buf (omega arith) room c.in-Ok-eq0.ensures.bytes in
+    seen_found _ _ _ _ _ _ _ _ _ c.loop-turn.invariant over c.findings_of.ensures.count c.findings_of.ensures.suffix
+    c.findings_of.ensures.crc (omega arith) c.findings_of.ensures.register c.value-register.ensures
 
 pub returns-then-taken-count-clause-answer : goal.returns-then-taken-count-clause-answer
 returns-then-taken-count-clause-answer g c =
@@ -17,6 +26,13 @@ returns-then-taken-count-clause-answer g c =
     let b = c.in-Ok.ensures.bound in
     let over = c.if-taken-count.true in
     seen_over _ _ _ _ _ _ _ _ c.loop-turn.invariant p.0 (omega (arith, b.1))
+
+pub returns-then-taken-count-clause-findings : goal.returns-then-taken-count-clause-findings
+returns-then-taken-count-clause-findings g c =
+    let p = c.in-Ok.ensures.bytes in
+    let b = c.in-Ok.ensures.bound in
+    let over = c.if-taken-count.true in
+    none_found _ _ _ _ _ _ _ _ _ c.loop-turn.invariant p.0 (omega (arith, b.1))
 
 pub loop-turn-preserved : goal.loop-turn-preserved
 loop-turn-preserved g c =

@@ -1,5 +1,5 @@
 use Rattle.dfu_suffix.proofs.StreamLaws.{Seen}
-use Rattle.dfu_suffix.proofs.checking.check.Given as goal
+use Rattle.dfu_suffix.proofs.checking.check_with.Given as goal
 
 -- The bytes so far, and what is kept of them.
 abbrev pub invariant-loop-turn : goal.invariant-loop-turn

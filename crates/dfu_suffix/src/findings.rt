@@ -1,0 +1,51 @@
+//! What a check finds of a file, be it accepted or not.
+
+ghost use Rattle.std.specs.Prelude.{◌≡◌, length, drop, slice_index, bit_xor};
+ghost use Rattle.byteorder.specs.Endian.{little_number};
+ghost use Rattle.dfu_suffix.specs.Register.{shifts};
+
+use crate::fields::u32_at;
+use crate::undoing::before_four;
+
+/// What `check_with` finds of a file of 16 to 16,777,216 bytes: its length, two fields of its suffix (USB DFU 1.1,
+/// appendix B) as they are written, and the register that dwCRC has to be.
+#[derive(Clone, Copy, Debug, PartialEq, Eq)]
+pub struct Findings {
+    /// How many bytes the file has.
+    pub count: u32,
+    /// bLength, from 0 to 255.
+    pub suffix: u8,
+    /// dwCRC.
+    pub crc: u32,
+    /// The register over all bytes but the last four.
+    pub register: u32,
+}
+
+impl Findings {
+    /// Findings before any check: each is 0.
+    pub fn new() -> Findings {
+        Findings {
+            count: 0,
+            suffix: 0,
+            crc: 0,
+            register: 0,
+        }
+    }
+}
+
+/// What the last 16 of `count` bytes and the register over all of them say.
+pub(crate) fn findings_of(tail: &[u8], count: u32, register: u32) -> Findings
+    requires { length tail.now ≡ 16 }
+    ensures count { result.count ≡ count }
+    ensures suffix { result.suffix ≡ slice_index tail.now 11 }
+    ensures crc { result.crc ≡ little_number 4 (drop 12 tail.now) }
+    ensures register { shifts 32 (bit_xor result.register result.crc) ≡ register }
+{
+    let crc = u32_at(tail, 12);
+    Findings {
+        count,
+        suffix: tail[11],
+        crc,
+        register: before_four(register, crc),
+    }
+}
