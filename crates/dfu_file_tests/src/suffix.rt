@@ -4,6 +4,7 @@ mod added;
 mod checked;
 mod files;
 mod folded;
+mod found;
 mod gathered;
 mod readers;
 mod texts;

@@ -8,7 +8,7 @@ use crate::refusing::{gather_fault, refused, unread};
 use crate::replacing::{Replacement, finish};
 use dfu_image_text::{Taken, image_line, looks_like, refused_line, why};
 use dfu_images::{FileFault, format_of, image_of};
-use dfu_suffix::{SuffixFault, gather};
+use dfu_suffix::{Findings, SuffixFault, gather};
 use dfu_text::{Answer, Exit, add_with_fault, fault_text, write_out};
 use dfu_wire::Ids;
 use std::alloc::Global;
@@ -64,7 +64,7 @@ where
     }
     let reason = match (fault, &made.error) {
         (Some(SuffixFault::Write), Some(error)) => error_reason(alloc, added.to, error),
-        (Some(fault), _) => given_reason(alloc, added.file, fault, noting),
+        (Some(fault), _) => given_reason(alloc, added.file, fault, noting, &Findings::new()),
         (None, _) => None,
     };
     made.abandon();
@@ -107,7 +107,7 @@ where
     R::File: Owned,
 {
     let given: Given<R::File, R::Reader> = Given::Bytes(Held::new(bytes));
-    add_read(rt, added, &mut Noting::new(given, false), behind)
+    add_read(rt, added, &mut Noting::new(given), behind)
 }
 
 /// Adds a suffix to the image of a file, of the format that is asked for or that its first bytes look like; to the file as it is where
@@ -160,7 +160,7 @@ where
         Err(error) => return unread(rt, file, &error),
     };
     let added = Added { file, to, ids };
-    let mut noting = Noting::new(reader, false);
+    let mut noting = Noting::new(reader);
     match how.taken {
         Taken::Auto | Taken::As(_) => add_image(rt, added, how, &mut noting),
         Taken::Raw => add_read(rt, added, &mut noting, ""),

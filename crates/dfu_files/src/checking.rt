@@ -4,7 +4,7 @@ use crate::given::open;
 use crate::noting::Noting;
 use crate::reasons::{error_reason, given_reason};
 use dfu_json::JsonLines;
-use dfu_suffix::SuffixFault;
+use dfu_suffix::{Findings, SuffixFault};
 use dfu_text::{Answer, Exit, check_with_fault, fault_text, name_before, write_out};
 use std::io;
 use std::rt::Files;
@@ -21,10 +21,11 @@ fn check_file<R: Files + Input + Print + AllocGlobal>(
     let mut out = JsonLines::new(alloc, json, Some(file), io::writer(rt));
     match open(rt, file) {
         Ok(reader) => {
-            let mut noting = Noting::new(reader, explain);
-            let (exit, fault) = check_with_fault(alloc, &mut noting, &mut out);
+            let mut noting = Noting::new(reader);
+            let mut findings = Findings::new();
+            let (exit, fault) = check_with_fault(alloc, &mut noting, &mut out, &mut findings);
             let reason = match fault {
-                Some(fault) if explain => given_reason(alloc, file, fault, &noting),
+                Some(fault) if explain => given_reason(alloc, file, fault, &noting, &findings),
                 _ => None,
             };
             Answer { exit, reason }

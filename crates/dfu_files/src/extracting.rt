@@ -3,7 +3,7 @@
 use crate::given::open;
 use crate::noting::Noting;
 use crate::owner::Owned;
-use crate::refusing::{gather_fault, refused, unread};
+use crate::refusing::{gather_fault, refused, refused_bytes, unread};
 use crate::replacing::replace;
 use dfu_suffix::{SuffixFault, gather, read};
 use dfu_text::{Answer, wrote_line};
@@ -28,14 +28,14 @@ where
         Ok(reader) => reader,
         Err(error) => return unread(rt, file, &error),
     };
-    let mut noting = Noting::new(reader, explain);
+    let mut noting = Noting::new(reader);
     let bytes = match gather(alloc, &mut noting, MAX_FILE) {
         Ok(bytes) => bytes,
         Err(fault) => return refused(rt, file, gather_fault(fault), &noting),
     };
     let payload = match read(&bytes) {
         Ok(found) => found.payload(),
-        Err(fault) => return refused(rt, file, fault, &noting),
+        Err(fault) => return refused_bytes(rt, file, fault, &bytes, explain),
     };
     let count = u32::try_from(payload.len()).unwrap_or(u32::MAX);
     match wrote_line(alloc, count) {

@@ -17,7 +17,6 @@ mod refusing;
 mod replacing;
 mod setting;
 mod suffixes;
-mod sums;
 
 pub use adding::{How, add_file};
 pub use changing::{Change, with_ids};

@@ -1,28 +1,23 @@
 //! A reader that notes what a reason is made of.
 
-use crate::sums::Sums;
 use std::io::{self, Read};
 
-/// A reader, the first bytes that it gave, the error at which it failed, and where they are wanted the sums of what it gave.
+/// A reader, the first bytes that it gave, and the error at which it failed.
 #[derive(Drop)]
 pub(crate) struct Noting<R> {
     reader: R,
-    is_counting: bool,
     head: [u8; 4],
     held: usize,
-    pub sums: Sums,
     pub error: Option<io::Error>,
 }
 
 impl<R> Noting<R> {
     /// A reader of which nothing was read.
-    pub(crate) fn new(reader: R, is_counting: bool) -> Noting<R> {
+    pub(crate) fn new(reader: R) -> Noting<R> {
         Noting {
             reader,
-            is_counting,
             head: [0; 4],
             held: 0,
-            sums: Sums::new(),
             error: None,
         }
     }
@@ -49,9 +44,6 @@ impl<R: Read> Read for Noting<R> {
         match self.reader.read(buf) {
             Ok(count) => {
                 self.keep(&buf[..count]);
-                if self.is_counting {
-                    self.sums.take(&buf[..count]);
-                }
                 Ok(count)
             }
             Err(error) => {

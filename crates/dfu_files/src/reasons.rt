@@ -6,7 +6,7 @@ ghost use Rattle.dfu_text.specs.ReasonLines.{reason_line};
 
 use crate::noting::Noting;
 use crate::suffixes::{length_why, sums_why};
-use dfu_suffix::SuffixFault;
+use dfu_suffix::{Findings, SuffixFault};
 use dfu_text::reason_line;
 use std::alloc::{AllocError, Global};
 use std::io;
@@ -74,28 +74,41 @@ fn fault_why(fault: SuffixFault) -> Option<&'static str> {
     }
 }
 
+/// Why the bytes of a file are refused, by what was found of them.
+pub(crate) fn found_reason(
+    alloc: Global,
+    name: &str,
+    fault: SuffixFault,
+    findings: &Findings,
+) -> Option<String> {
+    match fault {
+        SuffixFault::BadCrc => made_reason(
+            alloc,
+            name,
+            sums_why(alloc, findings.crc, findings.register),
+        ),
+        SuffixFault::BadLength => made_reason(
+            alloc,
+            name,
+            length_why(alloc, findings.suffix, findings.count),
+        ),
+        _ => match fault_why(fault) {
+            Some(why) => file_reason(alloc, name, why),
+            None => None,
+        },
+    }
+}
+
 /// Why what a reader gave is refused, or that it failed.
 pub(crate) fn given_reason<R>(
     alloc: Global,
     name: &str,
     fault: SuffixFault,
     noting: &Noting<R>,
+    findings: &Findings,
 ) -> Option<String> {
-    let sums = &noting.sums;
-    match fault {
-        SuffixFault::BadCrc => {
-            made_reason(alloc, name, sums_why(alloc, sums.written(), sums.found()))
-        }
-        SuffixFault::BadLength => {
-            made_reason(alloc, name, length_why(alloc, sums.length(), sums.count()))
-        }
-        SuffixFault::Read => match &noting.error {
-            Some(error) => error_reason(alloc, name, error),
-            None => None,
-        },
-        _ => match fault_why(fault) {
-            Some(why) => file_reason(alloc, name, why),
-            None => None,
-        },
+    match (fault, &noting.error) {
+        (SuffixFault::Read, Some(error)) => error_reason(alloc, name, error),
+        _ => found_reason(alloc, name, fault, findings),
     }
 }

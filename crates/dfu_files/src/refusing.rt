@@ -1,8 +1,8 @@
 //! The answers where a file can't be read, or is refused.
 
 use crate::noting::Noting;
-use crate::reasons::{error_reason, given_reason};
-use dfu_suffix::{GatherFault, SuffixFault};
+use crate::reasons::{error_reason, found_reason, given_reason};
+use dfu_suffix::{Findings, GatherFault, SuffixFault, check_with};
 use dfu_text::{Answer, fault_text};
 use std::io;
 
@@ -14,7 +14,7 @@ pub(crate) fn unread<R: Print + AllocGlobal>(rt: &R, file: &str, error: &io::Err
     }
 }
 
-/// The answer where what was read of a file is refused.
+/// The answer where a file isn't read whole, or there is no memory for what is made of it.
 pub(crate) fn refused<R: Print + AllocGlobal, S>(
     rt: &R,
     file: &str,
@@ -23,7 +23,25 @@ pub(crate) fn refused<R: Print + AllocGlobal, S>(
 ) -> Answer {
     Answer {
         exit: fault_text(fault, &mut io::writer(rt)),
-        reason: given_reason(rt.alloc(), file, fault, noting),
+        reason: given_reason(rt.alloc(), file, fault, noting, &Findings::new()),
+    }
+}
+
+/// The answer where the bytes of a file are refused. They are looked at once more where the reason is wanted.
+pub(crate) fn refused_bytes<R: Print + AllocGlobal>(
+    rt: &R,
+    file: &str,
+    fault: SuffixFault,
+    bytes: &[u8],
+    explain: bool,
+) -> Answer {
+    let mut findings = Findings::new();
+    if explain {
+        let _ = check_with(bytes, &mut findings);
+    }
+    Answer {
+        exit: fault_text(fault, &mut io::writer(rt)),
+        reason: found_reason(rt.alloc(), file, fault, &findings),
     }
 }
 

@@ -4,10 +4,10 @@ use crate::changing::{Change, with_ids};
 use crate::given::open;
 use crate::noting::Noting;
 use crate::owner::Owned;
-use crate::refusing::{gather_fault, refused, unread};
+use crate::refusing::{gather_fault, refused, refused_bytes, unread};
 use crate::replacing::replace;
 use dfu_suffix::{SuffixFault, gather};
-use dfu_text::{Answer, Exit, check_with_fault};
+use dfu_text::{Answer, Exit, check_text};
 use std::rt::Files;
 
 /// The most bytes of a file.
@@ -29,18 +29,17 @@ where
         Ok(reader) => reader,
         Err(error) => return unread(rt, file, &error),
     };
-    let mut noting = Noting::new(reader, explain);
+    let mut noting = Noting::new(reader);
     let bytes = match gather(alloc, &mut noting, MAX_FILE) {
         Ok(bytes) => bytes,
         Err(fault) => return refused(rt, file, gather_fault(fault), &noting),
     };
     let text = match with_ids(alloc, &bytes, change) {
         Ok(text) => text,
-        Err(fault) => return refused(rt, file, fault, &noting),
+        Err(fault) => return refused_bytes(rt, file, fault, &bytes, explain),
     };
     let mut line = Vec::new(alloc);
-    let (exit, _) = check_with_fault(alloc, text.as_slice(), &mut line);
-    match exit {
+    match check_text(alloc, text.as_slice(), &mut line) {
         Exit::Done => replace(rt, file, &text, &line),
         _ => refused(rt, file, SuffixFault::NoMemory, &noting),
     }

@@ -1,6 +1,7 @@
 -- What `dfu check` writes.
 use Rattle.std.specs.Prelude.{◌⊎◌, ℕ, List, Option, IfSome, Result, IsOk}
-use Rattle.dfu_suffix.specs.Checking.{Checks, UnlessRead}
+use Rattle.dfu_suffix.specs.Checking.{Checks, FindsFile, UnlessRead}
+use Rattle.dfu_suffix.specs.declared.findings.Findings.{Findings}
 use Rattle.dfu_suffix.specs.declared.summary.Summary.{Summary}
 use Rattle.dfu_suffix.specs.declared.fault.SuffixFault.{SuffixFault}
 use Rattle.dfu_suffix.specs.declared.fault.SuffixFault.TheVariants.{NoMemory}
@@ -19,3 +20,8 @@ WritesCheck given old new result =
 abbrev pub HasCheckFault : Option (List ℕ) → Option SuffixFault → Type 0
 HasCheckFault given fault =
     (answer : Result Summary SuffixFault) × IfSome given (λ all. UnlessRead answer (Checks all answer)) × IsFaultOf answer fault
+
+-- The findings are of all that the reader gave, unless the answer that has this fault is Read.
+abbrev pub HasFindings : Option (List ℕ) → Option SuffixFault → Findings → Type 0
+HasFindings given fault findings =
+    (answer : Result Summary SuffixFault) × IfSome given (λ all. UnlessRead answer (FindsFile all findings)) × IsFaultOf answer fault

@@ -3,13 +3,13 @@
 ghost use Rattle.std.specs.Prelude.{◌≡◌, IfOk};
 ghost use Rattle.std.specs.String.{string_bytes};
 ghost use Rattle.dfu_text.specs.AnswerLines.{ok_line};
-ghost use Rattle.dfu_text.specs.CheckText.{HasCheckFault, WritesCheck};
+ghost use Rattle.dfu_text.specs.CheckText.{HasCheckFault, HasFindings, WritesCheck};
 
 use crate::exit::Exit;
 use crate::faults::fault_text;
 use crate::numbers::{hex4, hex8, made_field, push};
 use crate::output::write_out;
-use dfu_suffix::{SuffixFault, Summary, check};
+use dfu_suffix::{Findings, SuffixFault, Summary, check_with};
 use std::alloc::{AllocError, Global};
 use std::io::{Read, Write};
 
@@ -43,20 +43,24 @@ fn ok_line(alloc: Global, summary: &Summary) -> Result<String, AllocError>
 pub fn check_text<R: Read + Drop, W: Write>(alloc: Global, reader: R, writer: &mut W) -> Exit
     ensures { WritesCheck (R.remaining reader) (W.contents writer.old) (W.contents writer.new) result }
 {
-    let (exit, _) = check_with_fault(alloc, reader, writer);
+    let mut findings = Findings::new();
+    let (exit, _) = check_with_fault(alloc, reader, writer, &mut findings);
     exit
 }
 
-/// Does what `check_text` does, and returns beside the end the fault whose line was to be written.
+/// Does what `check_text` does, returns beside the end the fault whose line was to be written, and leaves in
+/// `findings` what the reason of BadLength or BadCrc is made of. After TooShort, TooLarge and Read they say nothing.
 pub fn check_with_fault<R: Read + Drop, W: Write>(
     alloc: Global,
     reader: R,
     writer: &mut W,
+    findings: &mut Findings,
 ) -> (Exit, Option<SuffixFault>)
     ensures line { WritesCheck (R.remaining reader) (W.contents writer.old) (W.contents writer.new) result.0 }
     ensures fault { HasCheckFault (R.remaining reader) result.1 }
+    ensures findings { HasFindings (R.remaining reader) result.1 findings.new }
 {
-    match check(reader) {
+    match check_with(reader, findings) {
         Ok(summary) => match ok_line(alloc, &summary) {
             Ok(line) => (write_out(writer, line.as_bytes(), Exit::Done), None),
             Err(_) => {

@@ -1,7 +1,7 @@
 //! Why an answer is given: the lines of reasons, and the fault beside an end.
 
 use crate::text::DIGITS;
-use dfu_suffix::SuffixFault;
+use dfu_suffix::{Findings, SuffixFault};
 use dfu_text::{add_with_fault, check_with_fault, reason_line};
 use dfu_wire::Ids;
 use std::test::Fail;
@@ -10,8 +10,9 @@ use std::test::Fail;
 fn names_the_fault(rt: HostRuntime) {
     let mut out = Vec::new(rt.alloc());
     let mut file = Vec::new(rt.alloc());
-    let (_, sound) = check_with_fault(rt.alloc(), &DIGITS[..], &mut out);
-    let (_, short) = check_with_fault(rt.alloc(), &DIGITS[..15], &mut out);
+    let mut findings = Findings::new();
+    let (_, sound) = check_with_fault(rt.alloc(), &DIGITS[..], &mut out, &mut findings);
+    let (_, short) = check_with_fault(rt.alloc(), &DIGITS[..15], &mut out, &mut findings);
     let ids = Ids {
         device: 1,
         product: 2,
