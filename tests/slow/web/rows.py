@@ -11,6 +11,7 @@ import time
 import urllib.request
 
 sys.path.insert(0, str(pathlib.Path(__file__).resolve().parent.parent.parent / 'page'))
+import dfuse_rows
 from browser import ARGUMENTS, Browser, serve
 from files import NEW, OLD, dfuse, suffixed
 
@@ -28,8 +29,9 @@ APP = 'USB_START=app'
 # A device of DfuSe has 16 pages of 1,024 bytes, and the image goes to the second one.
 DFUSE = 'USB_DEVICE=dfuse'
 PAGES = b''.join(part.ljust(1024, b'\xff') for part in (OLD, NEW, *[b''] * 14))
-# What, settings, whether it is to be compared, the title of the report, the image, the restarts. None: a restart is reported where the
-# system says more than 3 seconds late that the device left, which an emulated one may.
+# What, settings, whether it is to be compared, the title of the report or the name of the refusal, the image, the restarts. None: a
+# restart is reported where the system says more than 3 seconds late that the device left, which an emulated one may. Behind these may
+# be what more is said to the page, and is looked at, as dfuse_rows.py has it.
 ROWS = [
     ('in DFU mode', '', True, 'Verified', NEW, 0),
     ('other identifiers in DFU mode', f'{APP} USB_DFU_IDS=1209:00ff:0100', True, 'Verified', NEW, 0),
@@ -56,23 +58,45 @@ ROWS = [
     ('DfuSe, the answer to a status is lost', f'{DFUSE} USB_FATE=lost-back 7', True, 'Verified', PAGES, 0),
     ('DfuSe, it leaves while it is written', f'{DFUSE} USB_BUSY=50 USB_FATE=leave 10', True, 'Verified', PAGES, 1),
     ('DfuSe, it is protected', f'{DFUSE} USB_PROTECTED=1', True, 'Protected', PAGES[:1024].ljust(16384, b'\xff'), 0),
+    *dfuse_rows.ROWS,
 ]
+INTERFACE = pathlib.Path('/sys/bus/usb/devices/1-1:1.0/bInterfaceProtocol')
 
 
 class Device:
     """The device that `attached` has on the bus, with these settings."""
     def __init__(self, program, settings, work):
-        self.saved = work / 'saved'
-        self.saved.unlink(missing_ok=True)
+        self.saved, self.log = work / 'saved', work / 'device.log'
+        for file in (self.saved, self.log):
+            file.unlink(missing_ok=True)
         words = re.findall('(USB_[A-Z_]+)=((?:(?! USB_).)+)', settings)
-        env = {**os.environ, 'USB_IMAGE': str(work / 'old'), 'USB_SAVE': str(self.saved), 'USB_SERIAL': 'F1',
+        env = {**os.environ, 'USB_IMAGE': 'old', 'USB_SAVE': str(self.saved), 'USB_LOG': str(self.log), 'USB_SERIAL': 'F1',
                **dict(words)}
-        self.process = subprocess.Popen([program], env=env, stdout=subprocess.PIPE, stderr=subprocess.STDOUT, text=True)
+        self.process = subprocess.Popen([program], cwd=work, env=env, stdout=subprocess.PIPE, stderr=subprocess.STDOUT, text=True)
         for _ in range(100):
             if pathlib.Path('/sys/bus/usb/devices/1-1').exists():
                 break
             time.sleep(0.1)
         subprocess.run(['udevadm', 'settle'], check=False)
+
+    def mode(self, wanted):
+        """What Linux has on the bus: application or DFU mode. If it is the other one, it has ten seconds to change."""
+        for _ in range(100):
+            try:
+                found = {'01': 'application', '02': 'DFU mode'}[INTERFACE.read_text().strip()]
+            except OSError:
+                found = 'nothing'
+            if found == wanted:
+                break
+            time.sleep(0.1)
+        return found
+
+    def ending(self):
+        """Of its log: where the application was started, the state and the code at the end, and whether no request came."""
+        lines = self.log.read_text().splitlines()
+        count, rest = lines[-1].removeprefix('end ').split(' ', 1)
+        started = [line for line in lines if line.startswith('started ')]
+        return ', '.join([*started, rest, *(['no request came'] if count == '0' else [])])
 
     def end(self):
         """The image that it has then, and what it said."""
@@ -82,9 +106,11 @@ class Device:
 
 
 # One session, in one call: of a machine that is emulated each call takes its time, and so does a device that comes back, for which the
-# page asks then. The setting that is chosen is the second one. What doesn't come in ten minutes doesn't come.
-SESSION = """async (isCompared, isChosen) => {
+# page asks then. The setting that is chosen is the second one. What doesn't come in ten minutes doesn't come. It gives the title of the
+# report or the name of the refusal, the log, and what a person was shown.
+SESSION = """async (isCompared, isChosen, address, isStaying) => {
   const by = id => document.getElementById(id)
+  const shown = ids => ids.map(id => by(id).hidden ? '' : by(id).innerText).join('\\n')
   const end = Date.now() + 600000
   const until = async what => {
     while (!what()) {
@@ -94,27 +120,39 @@ SESSION = """async (isCompared, isChosen) => {
   }
   let log
   URL.createObjectURL = blob => { log = blob; return 'blob:none' }
+  by('address').value = '' // the page keeps that of the session before
   by('connect').click()
   if (isChosen) {
     await until(() => !by('settings').hidden || !by('device-refused').hidden)
     document.querySelector('#settings label:nth-of-type(2) input').click()
+    await until(() => !by('begin').disabled)
   }
   await until(() => !by('begin').disabled || !by('device-refused').hidden)
+  const before = shown(['device', 'settings', 'device-refused'])
+  if (address !== null) {
+    by('address').value = address
+    by('address').dispatchEvent(new Event('input'))
+  }
   by('verify').checked = isCompared
+  by('leave').checked = !isStaying
+  if (by('begin').disabled) return [by('device-refused').textContent.split(':')[0], '', before]
   by('begin').click()
   await until(() => document.querySelector('#report h3') !== null)
   by('log').click()
-  return [document.querySelector('#report h3').textContent, await log.text()]
+  return [document.querySelector('#report h3').textContent, await log.text(), `${before}\\n${shown(['report'])}`]
 }"""
 
 
 def row(browser, program, work, words):
-    what, settings, is_compared, title, image, restarts = words
+    what, settings, is_compared, title, image, restarts, *rest = words
+    more = rest[0] if rest else {}
     device = Device(program, settings, work)
-    give(browser, work, 'some.dfu' if DFUSE in settings else 'new.dfu')
+    give(browser, work, more.get('file', 'some.dfu' if DFUSE in settings else 'new.dfu'))
     began = time.time()
-    found = browser.wait_run(SESSION, is_compared, 'ALTERNATES' in settings)
+    is_chosen = 'ALTERNATES' in settings or more.get('chooses', False)
+    found = browser.wait_run(SESSION, is_compared, is_chosen, more.get('address'), more.get('stays', False))
     took = time.time() - began
+    mode = device.mode(more['mode']) if more else None
     saved, said = device.end()
     if isinstance(found, str): # why it came to no end
         print(f'row WRONG: {what}: {found} {said}'.replace('\n', ' ')[:600], flush=True)
@@ -122,11 +160,13 @@ def row(browser, program, work, words):
         return False
     trace = found[1].splitlines()
     seen = (found[0], saved, sum(' restarted ' in line for line in trace))
-    is_right = seen == (title, image, seen[2] if restarts is None else restarts)
-    print(f'row {"" if is_right else "WRONG: "}{what}: {seen[0]}, restarts {seen[2]}, {took:.0f} s {said}'[:600], flush=True)
-    if not is_right or 'TRACE' in os.environ:
-        print('\n'.join(f'row   {line}' for line in [repr(saved), *trace]), flush=True)
-    return is_right
+    wrong = [] if seen == (title, image, seen[2] if restarts is None else restarts) else [repr(saved)[:2000]]
+    if more:
+        wrong += dfuse_rows.differences(more, mode, device.ending(), found[2])
+    print(f'row {"WRONG: " if wrong else ""}{what}: {seen[0]}, restarts {seen[2]}, {took:.0f} s {said}'[:600], flush=True)
+    if wrong or 'TRACE' in os.environ:
+        print('\n'.join(f'row   {line}' for line in [*wrong, *trace]), flush=True)
+    return not wrong
 
 
 def open_page(browser, work):
@@ -136,7 +176,7 @@ def open_page(browser, work):
 
 def give(browser, work, name):
     browser.type('#file', str(work / name))
-    browser.wait(f'document.getElementById("fields").innerText.includes("{name}")')
+    browser.wait(f'!document.getElementById("raw").hidden || document.getElementById("fields").innerText.includes("{name}")')
 
 
 def start_browser(work):
@@ -162,6 +202,8 @@ def main(page, program):
     (work / 'old').write_bytes(OLD)
     (work / 'new.dfu').write_bytes(suffixed(NEW))
     (work / 'some.dfu').write_bytes(dfuse((0, (0x08000400, NEW))))
+    for name, payload in dfuse_rows.FILES.items():
+        (work / name).write_bytes(payload)
     browser = start_browser(work)
     browser.cdp('Page.addScriptToEvaluateOnNewDocument', source=CHOOSE)
     serve(page, PORT)
