@@ -26,8 +26,8 @@ use Rattle.dfu_asks.specs.Carried.{total, carried, IsPiece}
 use Rattle.dfu_asks.specs.Due.{IsDueRow, IsDueStage, IsSure, IsSureOrDue, Fails}
 use Rattle.dfu_asks.specs.declared.noted.Noted.{Noted}
 use Rattle.dfu_asks.specs.Noted.{IsNoted}
-use Rattle.dfu_asks.specs.Asks.{grain_in, store_in, device_in, device_of, IsDevice, IsDue, IsJobOf, IsWorking, writes_in, steps_in, IsBrokenOff, NotesAfter, IsAnswered, Gives, IsRest}
-use Rattle.dfu_asks.specs.Calls.{HasEnded, Asks, Comes, comes_asks, comes_ended, Called, called_ended, called_asks}
+use Rattle.dfu_asks.specs.Asks.{grain_in, store_in, device_in, device_of, IsDevice, IsDue, IsJobOf, IsWorking, writes_in, steps_in, IsBrokenOff, NotesAfter, IsAnswered, GivesAnswer, IsRest}
+use Rattle.dfu_asks.specs.Calls.{HasEnded, AsksWrites, DueComes, comes_asks, comes_ended, DeviceCalled, called_ended, called_asks}
 use Rattle.dfu_asks.specs.Refused.{IsTaken}
 use Rattle.dfu_asks.proofs.Steps.{job_writes_are}
 use Rattle.dfu_asks.proofs.Bits.{IsBitOf, bit_of}
@@ -88,12 +88,13 @@ begins a m b s flash xs ys j asked len mode_is block medium store sound noted du
 -- What comes of it is what the call answers, where the row that is due is the call's.
 pub called_from : (a : LentAsking) (flash out : List ℕ) (Row : Answer → List ℕ → Shown → Type 0) (now : LentAsking) (out' : List ℕ)
     (r : Reply)
-    (d : Shown) (len : ℕ) → d ≡ device_in a flash → Comes d len d.slots flash flash out now out' r → IsDueRow len (device_in a flash) Row
-    → Called a flash out Row now out' r
+    (d : Shown) (len : ℕ) → d ≡ device_in a flash → DueComes d len d.slots flash flash out now out' r → IsDueRow len (device_in a flash) Row
+    → DeviceCalled a flash out Row now out' r
 called_from a flash out Row now out' r d len is comes due =
-    from r (subst (λ (x : Shown). Comes x len x.slots flash flash out now out' r) is comes)
+    from r (subst (λ (x : Shown). DueComes x len x.slots flash flash out now out' r) is comes)
   where
-    from : (r : Reply) → Comes (device_in a flash) len (store_in a flash) flash flash out now out' r → Called a flash out Row now out' r
+    from : (r : Reply) → DueComes (device_in a flash) len (store_in a flash) flash flash out now out' r →
+        DeviceCalled a flash out Row now out' r
     from _ (comes_asks asks same out_is) = called_asks len asks same due out_is
     from _ (comes_ended x count e) = called_ended x count (record {
       gave = record {
@@ -111,8 +112,8 @@ pub due_called : (a : LentAsking) (flash out : List ℕ) (p : Plan) (asked : Opt
     (r : Reply)
     → ¬ IsSure p → IsSureOrDue p (profile (device_in a flash)) (stage_of a.mode (spare_of (store_in a flash)) a.block) asked len
     → (IsDueStage (stage_of a.mode (spare_of (store_in a flash)) a.block) asked len
-    → Comes (device_in a flash) len (store_in a flash) flash flash out now out' r)
-    → Called a flash out (λ x sent d'. Done p len (device_in a flash) x sent d') now out' r
+    → DueComes (device_in a flash) len (store_in a flash) flash flash out now out' r)
+    → DeviceCalled a flash out (λ x sent d'. Done p len (device_in a flash) x sent d') now out' r
 due_called a flash out p asked len now out' r other (inl sure) comes = absurd (other sure)
 due_called a flash out p asked len now out' r other (inr (is, stage)) comes =
     called_from a flash out (λ x sent d'. Done p len (device_in a flash) x sent d') now out' r (device_in a flash) len refl (comes stage)
@@ -120,14 +121,15 @@ due_called a flash out p asked len now out' r other (inr (is, stage)) comes =
 
 -- An answer by a setting that is the same.
 pub gives_in : (c d : Setting) (m : Mode) (asked : Option ℕ) (x : Answer) (count : ℕ) (out out' : List ℕ) → d ≡ c
-    → Gives (λ y sent. IsAnswered d m asked y sent) x count out out' → Gives (λ y sent. IsAnswered c m asked y sent) x count out out'
+    → GivesAnswer (λ y sent. IsAnswered d m asked y sent) x count out out' →
+    GivesAnswer (λ y sent. IsAnswered c m asked y sent) x count out out'
 gives_in c d m asked x count out out' same gives =
-    subst (λ (k : Setting). Gives (λ y sent. IsAnswered k m asked y sent) x count out out') same gives
+    subst (λ (k : Setting). GivesAnswer (λ y sent. IsAnswered k m asked y sent) x count out out') same gives
 
 -- A call that is answered by a row is answered by each row that follows from it.
 pub called_by : (a : LentAsking) (flash out : List ℕ) (Row Row' : Answer → List ℕ → Shown → Type 0) (now : LentAsking) (out' : List ℕ)
-    (r : Reply) → ((x : Answer) (sent : List ℕ) (d : Shown) → Row x sent d → Row' x sent d) → Called a flash out Row now out' r
-    → Called a flash out Row' now out' r
+    (r : Reply) → ((x : Answer) (sent : List ℕ) (d : Shown) → Row x sent d → Row' x sent d) → DeviceCalled a flash out Row now out' r
+    → DeviceCalled a flash out Row' now out' r
 called_by a flash out Row Row' now out' _ follows (called_ended x count e) = called_ended x count (record {
   gave = record {
     sent = e.gave.sent;
@@ -221,7 +223,7 @@ taken_from a w ss p room fits is same piece = record {
   is_left = record { work_is = is; left = piece_left a w p (subst (λ (l : List Step). IsPiece l w.done p) same piece) };
 }
 
-module _ (a : LentAsking) (len : ℕ) (s : SlotsState) (was before : List ℕ) (asks : Asks a len s was before) (p : Step)
+module _ (a : LentAsking) (len : ℕ) (s : SlotsState) (was before : List ℕ) (asks : AsksWrites a len s was before) (p : Step)
     (piece : IsPiece (steps_in a asks.work) asks.work.done p) (flash : List ℕ) (torn : Torn before p.write.at p.write.bytes flash) where
   torn_there : Torn (carried was (writes_in a asks.work) asks.work.done) p.write.at p.write.bytes flash
   torn_there = subst (λ (l : List ℕ). Torn l p.write.at p.write.bytes flash) asks.flash_is torn
@@ -229,14 +231,14 @@ module _ (a : LentAsking) (len : ℕ) (s : SlotsState) (was before : List ℕ) (
   -- It failed, or other bytes stand there: the row with that fault.
   pub piece_failed : (fault : WriteFault) (now : LentAsking) (asked : Option ℕ) (x : Answer) (count : ℕ) (out out' : List ℕ)
       → asks.work.asked ≡ asked → IsBrokenOff fault a now → NotesAfter a.mode flash a now
-      → Gives (λ y sent. IsAnswered a.config now.mode asked y sent) x count out out'
+      → GivesAnswer (λ y sent. IsAnswered a.config now.mode asked y sent) x count out out'
       → HasEnded flash x count out out' now (λ y sent w'. Fails fault len (device_of a s) y sent w')
   piece_failed fault now asked x count out out' same off notes gives =
       broken_ended a now asks.work len s was flash asks.working notes x count out out' fault
       (broken_carried (grain_in a) fault (writes_in a asks.work) was flash asks.work.done p.write
       (working_within a asks.work len s was asks.working)
       (bit_in a asks.work p piece) torn_there) off
-      (subst (λ (y : Option ℕ). Gives (λ z sent. IsAnswered a.config now.mode y z sent) x count out out') (sym same) gives)
+      (subst (λ (y : Option ℕ). GivesAnswer (λ z sent. IsAnswered a.config now.mode y z sent) x count out out') (sym same) gives)
 
   -- It stands there: the series stands one piece further.
   pub piece_stands : p.write.at + length p.write.bytes ≤ length flash

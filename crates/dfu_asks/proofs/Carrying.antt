@@ -3,7 +3,7 @@ use Rattle.std.proofs.Common.{◌≡◌, inl, inr, ℕ, ◌+◌, ◌-◌, ◌≤
 use Rattle.std.proofs.lemmas.List.{take-take, length-take-le, take_all, drop-take, take-append-drop}
 use Rattle.dfu_slots.specs.declared.fault.WriteFault.{WriteFault}
 use Rattle.dfu_slots.specs.Units.{Grain}
-use Rattle.dfu_slots.specs.Medium.{Write, Wrote, AllWrites, BrokenWrites, KeepsOutside, Torn, written}
+use Rattle.dfu_slots.specs.Medium.{Write, WroteBytes, AllWrites, BrokenWrites, KeepsOutside, Torn, written}
 use Rattle.dfu_slots.proofs.Torn.{written_torn, keeps_both, keeps_wider}
 use Rattle.dfu_slots.proofs.Within.{written_written, written_nil}
 use Rattle.dfu_asks.specs.Mapped.{mapped}
@@ -74,7 +74,7 @@ step_carried (w ∷ ws) m n p (high, inside) (inr (past, piece)) =
     ∙ (λ i. written (carried (written m w.at (sym first i)) ws (n - length w.bytes)) p.at p.bytes)
 
 module _ (u : Grain) where
-  wrote : (m : List ℕ) (w : Write) → Wrote (mapped u m) w.at w.bytes (mapped u (written m w.at w.bytes))
+  wrote : (m : List ℕ) (w : Write) → WroteBytes (mapped u m) w.at w.bytes (mapped u (written m w.at w.bytes))
   wrote m w = record { bytes = refl; failures = omega arith; fuse = refl; grain = refl; tag = refl }
 
   -- Carried out to its end the series is all its writes.

@@ -13,7 +13,7 @@ use Rattle.dfu_asks.specs.Lent.{LentAsking}
 use Rattle.dfu_asks.specs.Mapped.{mapped}
 use Rattle.dfu_asks.specs.Carried.{total, carried}
 use Rattle.dfu_asks.specs.Due.{Works, Fails}
-use Rattle.dfu_asks.specs.Asks.{grain_in, store_in, device_of, IsWorking, writes_in, IsFinished, IsBrokenOff, NotesAfter, IsAnswered, Gives, done_mode, failed_mode}
+use Rattle.dfu_asks.specs.Asks.{grain_in, store_in, device_of, IsWorking, writes_in, IsFinished, IsBrokenOff, NotesAfter, IsAnswered, GivesAnswer, done_mode, failed_mode}
 use Rattle.dfu_asks.specs.Calls.{HasEnded}
 use Rattle.dfu_asks.proofs.Carrying.{all_carried}
 use Rattle.dfu_asks.specs.Noted.{IsNoted}
@@ -24,7 +24,7 @@ use Rattle.dfu_asks.proofs.Renoted.{noted_after}
 ended : (a now : LentAsking) (asked : Option ℕ) (flash : List ℕ) (x : Answer) (count : ℕ) (out out' : List ℕ) (S : SlotsState) (M : Mode)
     (Stay : Type 0) (Row : Answer → List ℕ → Shown → Type 0)
     → now.config ≡ a.config → store_in now flash ≡ S → now.mode ≡ M → now.block ≡ a.block → now.work ≡ None
-    → Gives (λ y sent. IsAnswered a.config now.mode asked y sent) x count out out'
+    → GivesAnswer (λ y sent. IsAnswered a.config now.mode asked y sent) x count out out'
     → (IsStore S → Stay → IsNoted now.noted (mapped (grain_in now) flash))
     → ((sent : List ℕ) → IsAnswered a.config M asked x sent
     → Ends a.config S M a.block Stay (Row x sent (shows a.config S M a.block)))
@@ -52,7 +52,7 @@ module _ (a now : LentAsking) (w : Work) (len : ℕ) (s : SlotsState) (was flash
     (notes : NotesAfter a.mode flash a now) (x : Answer) (count : ℕ) (out out' : List ℕ) where
   -- All its writes worked.
   pub all_ended : AllWrites (mapped (grain_in a) was) (writes_in a w) (mapped (grain_in a) flash) → IsFinished a now
-      → Gives (λ y sent. IsAnswered a.config now.mode w.asked y sent) x count out out'
+      → GivesAnswer (λ y sent. IsAnswered a.config now.mode w.asked y sent) x count out out'
       → HasEnded flash x count out out' now (λ y sent w'. Works len (device_of a s) y sent w')
   all_ended all fin gives =
       let left = store_of (mapped (grain_in a) flash) (held_after (grain_in a) a.mode a.held a.block)
@@ -67,7 +67,7 @@ module _ (a now : LentAsking) (w : Work) (len : ℕ) (s : SlotsState) (was flash
 
   -- One of them had this fault.
   pub broken_ended : (fault : WriteFault) → BrokenWrites fault (mapped (grain_in a) was) (writes_in a w) (mapped (grain_in a) flash)
-      → IsBrokenOff fault a now → Gives (λ y sent. IsAnswered a.config now.mode w.asked y sent) x count out out'
+      → IsBrokenOff fault a now → GivesAnswer (λ y sent. IsAnswered a.config now.mode w.asked y sent) x count out out'
       → HasEnded flash x count out out' now (λ y sent w'. Fails fault len (device_of a s) y sent w')
   broken_ended fault broken off gives =
       let left = store_on (mapped (grain_in a) flash) in
@@ -82,7 +82,7 @@ module _ (a now : LentAsking) (w : Work) (len : ℕ) (s : SlotsState) (was flash
 
   -- All are carried out.
   pub carried_ended : flash ≡ carried was (writes_in a w) w.done → total (writes_in a w) ≤ w.done → IsFinished a now
-      → Gives (λ y sent. IsAnswered a.config now.mode w.asked y sent) x count out out'
+      → GivesAnswer (λ y sent. IsAnswered a.config now.mode w.asked y sent) x count out out'
       → HasEnded flash x count out out' now (λ y sent w'. Works len (device_of a s) y sent w')
   carried_ended is le fin gives = all_ended
       (subst (λ (l : List ℕ). AllWrites (mapped (grain_in a) was) (writes_in a w) (mapped (grain_in a) l)) (sym is)

@@ -19,9 +19,9 @@ use Rattle.dfu_asks.specs.declared.phase.Phase.TheVariants as phase
 use Rattle.dfu_asks.specs.declared.formatting.Formatting.{Formatting}
 use Rattle.dfu_asks.specs.Mapped.{mapped}
 use Rattle.dfu_asks.specs.Steps.{Step, step_writes, anew_steps, close_step, open_steps}
-use Rattle.dfu_asks.specs.Carried.{total, carried, AreWithin, IsPiece, IsReached, IsSound}
+use Rattle.dfu_asks.specs.Carried.{total, carried, AreWithin, IsPiece, IsReached, ErasesWhole}
 use Rattle.dfu_asks.specs.Phases.{piece_steps, image_steps, steps_from, part_steps, format_steps, grain_within, steps_left, part_left}
-use Rattle.dfu_asks.specs.Formats.{flash_of, IsUnderWay, HasFormatted}
+use Rattle.dfu_asks.specs.Formats.{flash_of, FormatUnderWay, HasFormatted}
 use Rattle.dfu_asks.proofs.Bits.{IsBitOf, bit_of}
 use Rattle.dfu_asks.proofs.Pieces.{piece_front, piece_behind, reached_none, reached_step}
 use Rattle.dfu_asks.proofs.JobPieces.{steps_total}
@@ -97,7 +97,7 @@ sound_back sector (x ∷ xs) ys all = sound_back sector xs ys all.1
 pub sized_small : (m : MediumState) → IsSized m → length m.bytes < 2 ^ 32
 sized_small m sized = omega (arith, sized.even, sized.bound, sized.whole.bound, gate_most m.grain.unit)
 
-module _ (f : Formatting) (image was flash : List ℕ) (way : IsUnderWay f image was flash) where
+module _ (f : Formatting) (image was flash : List ℕ) (way : FormatUnderWay f image was flash) where
   abbrev m : MediumState
   m = flash_of f was
 
@@ -146,7 +146,7 @@ module _ (f : Formatting) (image was flash : List ℕ) (way : IsUnderWay f image
     )
 
     -- It erases a whole sector, or programs.
-    pub way_sound : IsSound f.sector.size p
+    pub way_sound : ErasesWhole f.sector.size p
     way_sound = sound_piece f.sector.size left f.done p
         (sound_back f.sector.size way.front left
         (subst (AreSound f.sector.size) way.series (format_sound m image way.can.sized))) way.reached piece
@@ -163,7 +163,7 @@ module _ (f : Formatting) (image was flash : List ℕ) (way : IsUnderWay f image
       -- Where it stands the format stands one piece further.
       pub way_further : p.write.at + length p.write.bytes ≤ length now
           → slice_range now p.write.at (p.write.at + length p.write.bytes) ≡ p.write.bytes → (n : ℕ) → n ≡ f.done + length p.write.bytes
-          → IsUnderWay (record f { done = n }) image was now
+          → FormatUnderWay (record f { done = n }) image was now
       way_further fits stands n count =
           let old = carried was writes before in
           let lied : FailedWrite NotVerified (mapped (grain_within f) old) p.write.at p.write.bytes (mapped (grain_within f) now) =
@@ -184,7 +184,7 @@ module _ (f : Formatting) (image was flash : List ℕ) (way : IsUnderWay f image
   module _ (ended : f.done ≡ total (step_writes part)) where
     -- A part is carried out, and another one comes behind it.
     pub way_next : (next : Phase) → left ≡ part ++ steps_from (grain_within f) (length was / 2) image f.register next
-        → IsUnderWay (record f { phase = next; done = 0 }) image was flash
+        → FormatUnderWay (record f { phase = next; done = 0 }) image was flash
     way_next next follows =
         let rest = steps_from (grain_within f) (length was / 2) image f.register next in
         let count : before ≡ total (step_writes (way.front ++ part)) + 0 = omega (arith, ended, steps_total way.front part) in

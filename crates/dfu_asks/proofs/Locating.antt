@@ -11,7 +11,7 @@ use Rattle.dfu_asks.specs.declared.located.Located.{Located}
 use Rattle.dfu_asks.specs.declared.located.Located.TheVariants as located
 use Rattle.dfu_asks.specs.Steps.{Step, step_writes, marked, erase_step, program, anew_steps, some_steps}
 use Rattle.dfu_asks.specs.Carried.{total, IsPart, IsPiece}
-use Rattle.dfu_asks.specs.Located.{LeadsToErase, LeadsTo, IsWithin}
+use Rattle.dfu_asks.specs.Located.{LeadsToErase, LeadsTo, LeadsInto}
 use Rattle.dfu_asks.proofs.Steps.{before, writes_append, writes_marked, marked_append}
 use Rattle.dfu_asks.proofs.Pieces.{total_append, piece_front, piece_behind}
 
@@ -156,7 +156,7 @@ module _ (sector at n done rest : ℕ) (count : total (if sector == 0 then [] el
   )
 
   -- What is left behind the erases leads into the write, or behind it.
-  pub within_leads : (r : Located) → IsWithin n rest r → LeadsTo sector at n done r
+  pub within_leads : (r : Located) → LeadsInto n rest r → LeadsTo sector at n done r
   within_leads (located.Erase place len) none = absurd none
   within_leads (located.Program from) (same, lt) = (
     λ bytes p size part.

@@ -10,7 +10,7 @@ use Rattle.dfu_device.specs.declared.mode.Mode.{Mode}
 use Rattle.dfu_device.specs.declared.profile.Profile.{Profile as ProfileRead}
 use Rattle.dfu_device.specs.declared.decision.Decision.{Decision}
 use Rattle.dfu_device.specs.Stage.{Request, Dnload, Upload, GetStatus, GetState, Profile, Stage, InAppDetach, InDfuIdle, InDownloadSync, InDownloadBusy, InDownloadIdle, InManifestSync, InManifest, InUploadIdle}
-use Rattle.dfu_device.specs.Table.{Plan, Sure, Writes, Commits, is_empty, block_plan, upload_plan, plan, time_plan}
+use Rattle.dfu_device.specs.Table.{Plan, Sure, Writes, Commits, has_no_bytes, block_plan, upload_plan, plan, time_plan}
 use Rattle.dfu_device.specs.Shown.{Shown, profile}
 use Rattle.dfu_device.specs.Parts.{stage_of, is_sound}
 use Rattle.dfu_device.specs.Rows.{Done, meant, asked_length}
@@ -34,11 +34,12 @@ upload_sure c image place expected number size =
 -- A request that does not write calls nothing of the slot store.
 sure_plan : (c : Profile) (image : List ℕ) (st : Stage) (r : Request) → writes_now c st r ≡ false → IsSure (plan c image st r)
 sure_plan c image InDfuIdle (Dnload number body) off =
-    either_way IsSure (not c.can_download) _ _ tt (either_way IsSure (is_empty body) _ _ tt (block_sure c [] 0 number body))
+    either_way IsSure (not c.can_download) _ _ tt (either_way IsSure (has_no_bytes body) _ _ tt (block_sure c [] 0 number body))
 sure_plan c image InDfuIdle (Upload number size) off = either_way IsSure c.can_upload _ _ (upload_sure c image 0 0 number size) tt
 sure_plan c image (InDownloadSync before block number) GetStatus off = rw off tt
 sure_plan c image (InDownloadIdle taken number) (Dnload k body) off =
-    either_way IsSure (is_empty body) _ _ (either_way IsSure (nat_le c.least (length taken)) _ _ tt tt) (block_sure c taken number k body)
+    either_way IsSure (has_no_bytes body) _ _ (either_way IsSure (nat_le c.least (length taken)) _ _ tt tt)
+    (block_sure c taken number k body)
 sure_plan c image (InManifestSync taken) GetStatus off = rw off tt
 sure_plan c image (InUploadIdle place number) (Upload k size) off = upload_sure c image place number k size
 sure_plan c image st GetState off = tt

@@ -14,7 +14,7 @@ use Rattle.dfu_device.specs.declared.decision.Decision.TheVariants as decision
 use Rattle.dfu_device.specs.Cases.{either_way}
 use Rattle.dfu_device.specs.Decision.{plan_of, IsSilent}
 use Rattle.dfu_device.specs.Stage.{Profile, Request, Dnload, Upload, GetStatus, GetState, Stage, Data, InDfuIdle, InDownloadSync, InDownloadIdle, InManifestSync, InUploadIdle}
-use Rattle.dfu_device.specs.Table.{Plan, Sure, is_empty, next_number, error, block_plan, upload_plan, plan}
+use Rattle.dfu_device.specs.Table.{Plan, Sure, has_no_bytes, next_number, error, block_plan, upload_plan, plan}
 use Rattle.dfu_device.specs.Shown.{Shown}
 use Rattle.dfu_device.specs.Parts.{shows, is_filled}
 use Rattle.dfu_device.specs.Rows.{Done}
@@ -117,12 +117,12 @@ block_small c before expected number body =
 small_plan : (c : Profile) (image : List ℕ) (st : Stage) (r : Request) → IsSmall c.transfer (plan c image st r)
 small_plan c image InDfuIdle (Dnload number body) =
     either_way (IsSmall c.transfer) (not c.can_download) _ _ tt
-    (either_way (IsSmall c.transfer) (is_empty body) _ _ tt (block_small c [] 0 number body))
+    (either_way (IsSmall c.transfer) (has_no_bytes body) _ _ tt (block_small c [] 0 number body))
 small_plan c image InDfuIdle (Upload number size) =
     either_way (IsSmall c.transfer) c.can_upload _ _ (upload_small c image 0 0 number size) tt
 small_plan c image (InDownloadSync before block number) GetStatus = either_way (IsSmall c.transfer) (c.busy == 0) _ _ tt tt
 small_plan c image (InDownloadIdle taken number) (Dnload k body) =
-    either_way (IsSmall c.transfer) (is_empty body) _ _ (either_way (IsSmall c.transfer) (nat_le c.least (length taken)) _ _ tt tt)
+    either_way (IsSmall c.transfer) (has_no_bytes body) _ _ (either_way (IsSmall c.transfer) (nat_le c.least (length taken)) _ _ tt tt)
     (block_small c taken number k body)
 small_plan c image (InManifestSync taken) GetStatus = either_way (IsSmall c.transfer) (c.manifest == 0) _ _ tt tt
 small_plan c image (InUploadIdle place number) (Upload k size) = upload_small c image place number k size

@@ -29,7 +29,7 @@ use Rattle.dfu_asks.specs.Carried.{total, carried, IsPiece, IsReached}
 use Rattle.dfu_asks.specs.Series.{held_before}
 use Rattle.dfu_asks.specs.Jobs.{held_place, job_writes, job_steps}
 use Rattle.dfu_asks.specs.Asks.{IsBlockJob, IsCommitJob, IsDue, grain_in, writes_in, steps_in}
-use Rattle.dfu_asks.specs.Calls.{Asks}
+use Rattle.dfu_asks.specs.Calls.{AsksWrites}
 use Rattle.dfu_asks.proofs.Carrying.{carried_none}
 use Rattle.dfu_asks.proofs.Working.{IsNext, IsAll, next_in, all_in}
 use Rattle.dfu_asks.proofs.Steps.{before, writes_append, writes_marked, anew_writes, some_writes, job_writes_are}
@@ -246,7 +246,7 @@ pub record Goes (a : LentAsking) (flash : List ℕ) (p : Step) : Type 0 where
       ⊎ (HasImage (mapped (grain_in a) flash) × (spare_at (gate_of (mapped (grain_in a) flash)) flash ≡ slot))
 
 -- So it does where a device asks.
-pub asks_goes : (a : LentAsking) (len : ℕ) (s : SlotsState) (was flash : List ℕ) (k : Asks a len s was flash) (p : Step)
+pub asks_goes : (a : LentAsking) (len : ℕ) (s : SlotsState) (was flash : List ℕ) (k : AsksWrites a len s was flash) (p : Step)
     → IsPiece (steps_in a k.work) k.work.done p → Goes a flash p
 asks_goes a len s was flash k p piece =
     let ws = writes_in a k.work in

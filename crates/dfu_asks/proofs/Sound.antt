@@ -16,16 +16,16 @@ use Rattle.dfu_asks.specs.declared.job.Job.TheVariants as job
 use Rattle.dfu_asks.specs.Lent.{LentAsking}
 use Rattle.dfu_slots.specs.Medium.{MediumState}
 use Rattle.dfu_asks.specs.Steps.{Step, marked, program, anew_steps, some_steps, put_steps, open_steps, close_step}
-use Rattle.dfu_asks.specs.Carried.{IsPiece, IsReached, IsSound}
+use Rattle.dfu_asks.specs.Carried.{IsPiece, IsReached, ErasesWhole}
 use Rattle.dfu_asks.specs.Jobs.{held_place, job_steps}
 use Rattle.dfu_asks.specs.Asks.{grain_in, steps_in, IsBlockJob, IsCommitJob, IsDue}
-use Rattle.dfu_asks.specs.Calls.{Asks}
+use Rattle.dfu_asks.specs.Calls.{AsksWrites}
 use Rattle.dfu_asks.proofs.Inside.{place_edge}
 
 -- Each step erases one whole sector, or programs.
 abbrev pub AreSound : ℕ → List Step → Type 0
 AreSound sector [] = Unit {0}
-AreSound sector (s ∷ ss) = IsSound sector s × AreSound sector ss
+AreSound sector (s ∷ ss) = ErasesWhole sector s × AreSound sector ss
 
 pub sound_append : (sector : ℕ) (xs ys : List Step) → AreSound sector xs → AreSound sector ys → AreSound sector (xs ++ ys)
 sound_append sector [] ys a b = b
@@ -56,10 +56,10 @@ some_sound sector at bytes = by_test (length bytes == 0)
     by_test true = tt
     by_test false = anew_sound sector at bytes
 
-pub close_sound : (w : Grain) (at : ℕ) → IsEdge w.sector at → IsSound w.sector (close_step w at)
+pub close_sound : (w : Grain) (at : ℕ) → IsEdge w.sector at → ErasesWhole w.sector (close_step w at)
 close_sound w at edge = by_test (w.sector == 0) refl
   where
-    by_test : (b : Bool) → (w.sector == 0) ≡ b → IsSound w.sector (record {
+    by_test : (b : Bool) → (w.sector == 0) ≡ b → ErasesWhole w.sector (record {
       erases = if b then false else true;
       write = record { at = at; bytes = if b then gate_unit (gate_size w.unit) 0 else replicate w.sector 255 };
     })
@@ -90,7 +90,8 @@ commit_sound w spare gen crc end held b =
     (anew_sound w.sector (spare + gate_room w) header) (anew_sound w.sector spare gate))
 
 -- Behind whole pieces the next one erases a whole sector, or programs.
-pub sound_piece : (sector : ℕ) (ss : List Step) (n : ℕ) (p : Step) → AreSound sector ss → IsReached ss n → IsPiece ss n p → IsSound sector p
+pub sound_piece : (sector : ℕ) (ss : List Step) (n : ℕ) (p : Step) → AreSound sector ss → IsReached ss n → IsPiece ss n p →
+    ErasesWhole sector p
 sound_piece sector [] n p all reached none = absurd none
 sound_piece sector (s ∷ ss) n p all (inl front) (inl part) = λ e.
     let erases : s.erases ≡ true = sym part.kind ∙ e in
@@ -122,8 +123,8 @@ module _ (s : SlotsState) (store : IsStore s) (w : Grain) (grain : s.medium.grai
   due_sound m asked len due = absurd due
 
 -- So is the piece that a device asks for.
-pub asks_sound : (a : LentAsking) (len : ℕ) (s : SlotsState) (was flash : List ℕ) (k : Asks a len s was flash) (p : Step)
-    → IsPiece (steps_in a k.work) k.work.done p → IsSound a.sector.size p
+pub asks_sound : (a : LentAsking) (len : ℕ) (s : SlotsState) (was flash : List ℕ) (k : AsksWrites a len s was flash) (p : Step)
+    → IsPiece (steps_in a k.work) k.work.done p → ErasesWhole a.sector.size p
 asks_sound a len s was flash k p piece =
     sound_piece a.sector.size (steps_in a k.work) k.work.done p
     (due_sound s k.working.store (grain_in a) (ap (λ (x : MediumState). x.grain) k.working.medium)

@@ -148,7 +148,7 @@ IsAnswered c m None a out = IsReply c m reply.Ack 0 a out
 IsAnswered c m (Some len) a out = IsReply c m reply.Status len a out
 
 -- The bytes of an answer, at most six, stand at the front of a buffer.
-pub record Gives (Says : Answer → List ℕ → Type 0) (a : Answer) (count : ℕ) (out out' : List ℕ) : Type 0 where
+pub record GivesAnswer (Says : Answer → List ℕ → Type 0) (a : Answer) (count : ℕ) (out out' : List ℕ) : Type 0 where
   pub sent : List ℕ
   pub says : Says a sent
   pub count_is : count ≡ length sent

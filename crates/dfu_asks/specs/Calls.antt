@@ -34,7 +34,7 @@ HasAtMost n (reply.Answered x count) = count ≤ n
 
 -- A device asks for the writes of the row that is due in it, some of whose pieces are carried out on its flash: `was` was its flash
 -- before the first of them.
-pub record Asks (a : LentAsking) (len : ℕ) (s : SlotsState) (was flash : List ℕ) : Type 0 where
+pub record AsksWrites (a : LentAsking) (len : ℕ) (s : SlotsState) (was flash : List ℕ) : Type 0 where
   pub work : Work
   pub work_is : a.work ≡ Some work
   pub working : IsWorking a work len s was
@@ -43,33 +43,34 @@ pub record Asks (a : LentAsking) (len : ℕ) (s : SlotsState) (was flash : List 
   pub flash_is : flash ≡ carried was (writes_in a work) work.done
 
 -- What comes of a device that works for the row that is due: it asks, further on; or the row came to its end.
-pub data Comes (d : Shown) (len : ℕ) (s : SlotsState) (was flash out : List ℕ) (now : LentAsking) (out' : List ℕ) : Reply → Type 0 where
-  comes_asks : Asks now len s was flash → device_of now s ≡ d → out' ≡ out → Comes d len s was flash out now out' reply.Asks
+pub data DueComes (d : Shown) (len : ℕ) (s : SlotsState) (was flash out : List ℕ) (now : LentAsking) (out' : List ℕ) : Reply → Type 0 where
+  comes_asks : AsksWrites now len s was flash → device_of now s ≡ d → out' ≡ out → DueComes d len s was flash out now out' reply.Asks
   comes_ended : (x : Answer) (count : ℕ) → HasEnded flash x count out out' now (λ y sent w'. Works len d y sent w')
-      → Comes d len s was flash out now out' (reply.Answered x count)
+      → DueComes d len s was flash out now out' (reply.Answered x count)
 
 -- A call of a device on this flash answered by this row; or the row writes, and its writes are asked for now, from the first on.
-pub data Called (a : LentAsking) (flash out : List ℕ) (Row : Answer → List ℕ → Shown → Type 0) (now : LentAsking) (out' : List ℕ)
+pub data DeviceCalled (a : LentAsking) (flash out : List ℕ) (Row : Answer → List ℕ → Shown → Type 0) (now : LentAsking) (out' : List ℕ)
     : Reply → Type 0 where
   called_ended : (x : Answer) (count : ℕ) → HasEnded flash x count out out' now Row
-      → Called a flash out Row now out' (reply.Answered x count)
-  called_asks : (len : ℕ) → Asks now len (store_in a flash) flash flash → device_of now (store_in a flash) ≡ device_in a flash
-      → IsDueRow len (device_in a flash) Row → out' ≡ out → Called a flash out Row now out' reply.Asks
+      → DeviceCalled a flash out Row now out' (reply.Answered x count)
+  called_asks : (len : ℕ) → AsksWrites now len (store_in a flash) flash flash → device_of now (store_in a flash) ≡ device_in a flash
+      → IsDueRow len (device_in a flash) Row → out' ≡ out → DeviceCalled a flash out Row now out' reply.Asks
 
 -- The program says how a piece went, which was to be written where these bytes stood.
-pub data Took (d : Shown) (len : ℕ) (s : SlotsState) (was : List ℕ) (p : Write) (failed : Bool) (flash out : List ℕ) (now : LentAsking)
+pub data DeviceTook (d : Shown) (len : ℕ) (s : SlotsState) (was : List ℕ) (p : Write) (failed : Bool) (flash out : List ℕ)
+    (now : LentAsking)
     (out' : List ℕ) (r : Reply) : Type 0 where
   -- It stands there: the device asks on, or the row came to its end.
-  took_well : failed ≡ false → slice_range flash p.at (p.at + length p.bytes) ≡ p.bytes → Comes d len s was flash out now out' r
-      → Took d len s was p failed flash out now out' r
+  took_well : failed ≡ false → slice_range flash p.at (p.at + length p.bytes) ≡ p.bytes → DueComes d len s was flash out now out' r
+      → DeviceTook d len s was p failed flash out now out' r
   -- The write failed: the row with that fault.
   took_failed : (x : Answer) (count : ℕ) → failed ≡ true → r ≡ reply.Answered x count
       → HasEnded flash x count out out' now (λ y sent w'. Fails Failed len d y sent w')
-      → Took d len s was p failed flash out now out' r
+      → DeviceTook d len s was p failed flash out now out' r
   -- Other bytes stand there: the row with that fault.
   took_lied : (x : Answer) (count : ℕ) → failed ≡ false → ¬ (slice_range flash p.at (p.at + length p.bytes) ≡ p.bytes)
       → r ≡ reply.Answered x count → HasEnded flash x count out out' now (λ y sent w'. Fails NotVerified len d y sent w')
-      → Took d len s was p failed flash out now out' r
+      → DeviceTook d len s was p failed flash out now out' r
 
 -- A piece of this work stands there, and it was not the last one.
 pub record AsksOn (a : LentAsking) (w : Work) (p : Write) (failed : Bool) (flash : List ℕ) : Type 0 where

@@ -34,8 +34,8 @@ IsReached (s ∷ ss) n = ((n < length s.write.bytes) × (n % 256 ≡ 0) × (s.er
     ⊎ ((length s.write.bytes ≤ n) × IsReached ss (n - length s.write.bytes))
 
 -- It erases one whole sector, or programs.
-abbrev pub IsSound : ℕ → Step → Type 0
-IsSound sector p = p.erases ≡ true → (length p.write.bytes ≡ sector) × (p.write.at % sector ≡ 0)
+abbrev pub ErasesWhole : ℕ → Step → Type 0
+ErasesWhole sector p = p.erases ≡ true → (length p.write.bytes ≡ sector) × (p.write.at % sector ≡ 0)
 
 -- All writes of a series lie within so many bytes.
 abbrev pub AreWithin : List Write → ℕ → Type 0

@@ -25,7 +25,7 @@ abbrev pub step_of : Cut → Step
 step_of c = asked c.piece (drop c.from (zeroed c.source c.stock c.front))
 
 -- After so many bytes of these steps a piece comes, which has so many bytes; and whether they stand on this flash.
-pub record IsNext (steps : List Step) (done : ℕ) (flash : List ℕ) (n : ℕ) (stands : Bool) : Type 0 where
+pub record IsNextPiece (steps : List Step) (done : ℕ) (flash : List ℕ) (n : ℕ) (stands : Bool) : Type 0 where
   pub piece : Step
   pub is : IsPiece steps done piece
   pub size : length piece.write.bytes ≡ n

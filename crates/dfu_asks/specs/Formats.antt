@@ -20,7 +20,7 @@ abbrev pub flash_of : Formatting → List ℕ → MediumState
 flash_of f bytes = mapped (grain_within f) bytes
 
 -- A format puts this image on a flash, and some of its pieces are carried out: `was` was the flash before the first.
-pub record IsUnderWay (f : Formatting) (image was flash : List ℕ) : Type 0 where
+pub record FormatUnderWay (f : Formatting) (image was flash : List ℕ) : Type 0 where
   pub can : CanFormat (flash_of f was) image
   pub sum : f.register ≡ register image
   -- The parts before the one that is being carried out.
@@ -31,7 +31,7 @@ pub record IsUnderWay (f : Formatting) (image was flash : List ℕ) : Type 0 whe
 
 -- It asks for the next one, which is of that part.
 pub record AsksFormat (f : Formatting) (image was flash : List ℕ) : Type 0 where
-  pub way : IsUnderWay f image was flash
+  pub way : FormatUnderWay f image was flash
   pub left : f.done < total (step_writes (part_left f (length was) image))
 
 -- All writes of a format were made, and the image is the active one.
@@ -40,16 +40,16 @@ pub record HasFormatted (m : MediumState) (image : List ℕ) (now : MediumState)
   pub active : Active now image
 
 -- What comes of a format of which the pieces so far are carried out: it asks, further on; or it came to its end.
-abbrev pub ComesTo : Grain → Formatting → (image was flash : List ℕ) → Progress → Type 0
-ComesTo grain f image was flash Asks = AsksFormat f image was flash
-ComesTo grain f image was flash Formatted = HasFormatted (mapped grain was) image (mapped grain flash)
-ComesTo grain f image was flash (Broken fault) = ⊥
+abbrev pub FormatComesTo : Grain → Formatting → (image was flash : List ℕ) → Progress → Type 0
+FormatComesTo grain f image was flash Asks = AsksFormat f image was flash
+FormatComesTo grain f image was flash Formatted = HasFormatted (mapped grain was) image (mapped grain flash)
+FormatComesTo grain f image was flash (Broken fault) = ⊥
 
 -- The program says how a piece of a format went, which was to be written where these bytes stood.
 pub data TookPiece (f f' : Formatting) (image was flash : List ℕ) (p : Write) (failed : Bool) : Progress → Type 0 where
   -- It stands there: the format asks on, or it is done.
   format_well : (r : Progress) → failed ≡ false → slice_range flash p.at (p.at + length p.bytes) ≡ p.bytes
-      → ComesTo (grain_within f) f' image was flash r
+      → FormatComesTo (grain_within f) f' image was flash r
       → TookPiece f f' image was flash p failed r
   -- The write failed: the format was broken off by it.
   format_failed : failed ≡ true → BrokenWrites Failed (flash_of f was) (format_series (flash_of f was) image) (flash_of f flash)

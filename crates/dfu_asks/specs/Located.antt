@@ -26,7 +26,7 @@ LeadsTo sector at n done (Behind rest) =
     × (done ≤ rest + 2 * n + sector)
 
 -- So many bytes of a write of n bytes lead into it, or behind it.
-abbrev pub IsWithin : ℕ → ℕ → Located → Type 0
-IsWithin n done (Erase place len) = ⊥
-IsWithin n done (Program from) = (from ≡ done) × (from < n)
-IsWithin n done (Behind rest) = n + rest ≡ done
+abbrev pub LeadsInto : ℕ → ℕ → Located → Type 0
+LeadsInto n done (Erase place len) = ⊥
+LeadsInto n done (Program from) = (from ≡ done) × (from < n)
+LeadsInto n done (Behind rest) = n + rest ≡ done

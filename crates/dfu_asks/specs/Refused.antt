@@ -3,7 +3,7 @@ use Rattle.std.specs.Prelude.{◌≡◌, ℕ, ◌≤◌, ◌<◌, min, List, len
 use Rattle.dfu_asks.specs.declared.work.Work.{Work}
 use Rattle.dfu_asks.specs.declared.asking.Asking.{Asking}
 use Rattle.dfu_asks.specs.Lent.{LentAsking, lent}
-use Rattle.dfu_asks.specs.Noted.{Stands}
+use Rattle.dfu_asks.specs.Noted.{NotedStands}
 use Rattle.dfu_asks.specs.declared.refusal.Refusal.{Refusal}
 use Rattle.dfu_asks.specs.declared.refusal.Refusal.TheVariants as refusal
 use Rattle.dfu_asks.specs.Mapped.{grain_of, mapped}
@@ -16,20 +16,21 @@ pub record Fits (a : Asking) (room : ℕ) : Type 0 where
   pub transfer : a.config.functional.transfer ≤ min 4096 room
 
 -- What is kept is a device on this flash, with its active image noted, and this memory has room.
-pub record IsKept (a : Asking) (block held flash : List ℕ) : Type 0 where
+pub record IsKeptOn (a : Asking) (block held flash : List ℕ) : Type 0 where
   pub fits : Fits a (length block)
   pub is : IsDevice (lent a block held) flash
 
 -- The noted header stands in an open slot of this flash.
 abbrev pub IsThere : Asking → List ℕ → Type 0
-IsThere a flash = Stands a.noted (mapped (grain_of a.unit a.sector) flash)
+IsThere a flash = NotedStands a.noted (mapped (grain_of a.unit a.sector) flash)
 
 -- A call with a buffer of so many bytes, of which it needs so many, is refused for this. The causes are looked for in this order.
-abbrev pub IsRefused : Refusal → Asking → (block held flash : List ℕ) → (need room : ℕ) → Type 0
-IsRefused refusal.Asked a block held flash need room = IsSome a.work
-IsRefused refusal.NoRoom a block held flash need room = (a.work ≡ None) × (room < need)
-IsRefused refusal.NoMedium a block held flash need room = (a.work ≡ None) × (need ≤ room) × ¬ IsThere a flash
-IsRefused refusal.NoDevice a block held flash need room = (a.work ≡ None) × (need ≤ room) × IsThere a flash × ¬ IsKept a block held flash
+abbrev pub IsRefusedCall : Refusal → Asking → (block held flash : List ℕ) → (need room : ℕ) → Type 0
+IsRefusedCall refusal.Asked a block held flash need room = IsSome a.work
+IsRefusedCall refusal.NoRoom a block held flash need room = (a.work ≡ None) × (room < need)
+IsRefusedCall refusal.NoMedium a block held flash need room = (a.work ≡ None) × (need ≤ room) × ¬ IsThere a flash
+IsRefusedCall refusal.NoDevice a block held flash need room = (a.work ≡ None) × (need ≤ room) × IsThere a flash ×
+    ¬ IsKeptOn a block held flash
 
 -- What is true of each call that is not refused, whatever is kept.
 pub record IsServed (a : Asking) (block flash : List ℕ) (need room : ℕ) : Type 0 where

@@ -4,10 +4,10 @@ ghost use Rattle.dfu_slots.specs.Seen.{SlotsState};
 ghost use Rattle.dfu_asks.specs.declared.work.Work.{Work};
 ghost use Rattle.dfu_asks.specs.Jobs.{steps_for};
 ghost use Rattle.dfu_asks.specs.Carried.{total, carried, IsReached};
-ghost use Rattle.dfu_asks.specs.Cuts.{IsNext};
+ghost use Rattle.dfu_asks.specs.Cuts.{IsNextPiece};
 ghost use Rattle.dfu_asks.specs.Lent.{lent, HasRoom, IsSetUpAs};
-ghost use Rattle.dfu_asks.specs.Asks.{device_of, IsWorking, IsBrokenOff, NotesAfter, IsAnswered, Gives, writes_in, steps_in};
-ghost use Rattle.dfu_asks.specs.Calls.{Comes, HasAtMost};
+ghost use Rattle.dfu_asks.specs.Asks.{device_of, IsWorking, IsBrokenOff, NotesAfter, IsAnswered, GivesAnswer, writes_in, steps_in};
+ghost use Rattle.dfu_asks.specs.Calls.{DueComes, HasAtMost};
 
 use crate::cut::{cut_at, stands};
 use crate::next_piece::next_piece;
@@ -50,7 +50,7 @@ impl Asking {
         flash: &[u8],
     ) -> (usize, bool)
         ensures next { 0 < result.0 →
-            IsNext (steps_in (lent self.now block.now held.now) work.now) work.now.done flash.now result.0 result.1 }
+            IsNextPiece (steps_in (lent self.now block.now held.now) work.now) work.now.done flash.now result.0 result.1 }
         ensures end { work.now.done + result.0 < 2 ^ 32 }
         ensures none { result.0 ≡ 0 → total (writes_in (lent self.now block.now held.now) work.now) ≤ work.now.done }
     {
@@ -74,7 +74,7 @@ impl Asking {
         ensures outcome { let a = lent self.old block.now held.old in (work : Work) (len : ℕ) (s : SlotsState) (was : List ℕ) →
             self.old.work ≡ Some work → IsWorking a work len s was →
             flash.now ≡ carried was (writes_in a work) work.done → IsReached (steps_in a work) work.done →
-            Comes (device_of a s) len s was flash.now out.old (lent self.new block.now held.new) out.new result }
+            DueComes (device_of a s) len s was flash.now out.old (lent self.new block.now held.new) out.new result }
         ensures more { (work : Work) → self.old.work ≡ Some work →
             (result ≡ Reply.Asks) ↔ (work.done < total (writes_in (lent self.old block.now held.old) work)) }
         ensures kept { result ≡ Reply.Asks → self.new.work ≡ self.old.work }
@@ -106,7 +106,7 @@ impl Asking {
         requires { 6 ≤ length out.old }
         ensures broken { (block held : List ℕ) → IsBrokenOff fault (lent self.old block held) (lent self.new block held) }
         ensures notes { (block held : List ℕ) → NotesAfter self.old.mode flash.now (lent self.old block held) (lent self.new block held) }
-        ensures gives { Gives (λ x sent. IsAnswered self.old.config self.new.mode asked x sent) result.0 result.1 out.old out.new }
+        ensures gives { GivesAnswer (λ x sent. IsAnswered self.old.config self.new.mode asked x sent) result.0 result.1 out.old out.new }
         ensures same { IsSetUpAs self.old self.new }
         ensures block { self.new.block_len ≡ self.old.block_len }
     {

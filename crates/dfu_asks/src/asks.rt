@@ -6,11 +6,11 @@ ghost use Rattle.dfu_slots.specs.Image.{Active};
 ghost use Rattle.dfu_slots.specs.Seen.{SlotsState};
 ghost use Rattle.dfu_asks.specs.Mapped.{grain_of, mapped, IsInSpare, IsHeldBack};
 ghost use Rattle.dfu_asks.specs.Steps.{Step};
-ghost use Rattle.dfu_asks.specs.Carried.{IsPiece, IsSound};
+ghost use Rattle.dfu_asks.specs.Carried.{IsPiece, ErasesWhole};
 ghost use Rattle.dfu_asks.specs.Jobs.{asked, IsFit};
 ghost use Rattle.dfu_asks.specs.Lent.{lent, HasRoom, IsSetUpAs};
 ghost use Rattle.dfu_asks.specs.Asks.{grain_in, steps_in, device_of};
-ghost use Rattle.dfu_asks.specs.Calls.{Asks, Took, AsksOn, HasAtMost};
+ghost use Rattle.dfu_asks.specs.Calls.{AsksWrites, DeviceTook, AsksOn, HasAtMost};
 ghost use Rattle.dfu_asks.specs.Refused.{IsLeft, IsNotTaken, IsTaken};
 ghost use Rattle.dfu_asks.specs.declared.work.Work.{Work};
 
@@ -55,7 +55,7 @@ fn is_spare(flash: &[u8], unit: Unit, sector: Sector, at: u64, len: u64) -> bool
 pub(crate) fn is_sound(sector: Sector, piece: Piece) -> bool
     requires some { 0 < piece.len }
     requires small { piece.at < 2 ^ 43 }
-    ensures { (bytes : List ℕ) → IsTrue result ↔ IsSound sector.size (asked piece bytes) }
+    ensures { (bytes : List ℕ) → IsTrue result ↔ ErasesWhole sector.size (asked piece bytes) }
 {
     if !piece.erases {
         return true;
@@ -100,7 +100,7 @@ impl Asking {
         ensures piece { IfSome result (λ p. (w : Work) → self.now.work ≡ Some w →
             IsPiece (steps_in (lent self.now block.now held.now) w) w.done (asked p out.new)) }
         ensures most { IfSome result (λ p. IsFit self.now.sector.size p out.new) }
-        ensures sector { IfSome result (λ p. IsSound self.now.sector.size (asked p out.new)) }
+        ensures sector { IfSome result (λ p. ErasesWhole self.now.sector.size (asked p out.new)) }
         ensures spare { IfSome result (λ p. (image : List ℕ) →
             Active (mapped (grain_in (lent self.now block.now held.now)) flash.now) image →
             IsInSpare (mapped (grain_in (lent self.now block.now held.now)) flash.now) p.at p.len) }
@@ -108,11 +108,11 @@ impl Asking {
         ensures due { IfSome result (λ p. (w : Work) × IsLeft (lent self.now block.now held.now) w) }
         ensures none { IfNone result ((w : Work) (p : Step) → self.now.work ≡ Some w →
             IsPiece (steps_in (lent self.now block.now held.now) w) w.done p →
-            IsSound self.now.sector.size p →
+            ErasesWhole self.now.sector.size p →
             IsHeldBack (mapped (grain_in (lent self.now block.now held.now)) flash.now) p.write.at (length p.write.bytes)) }
         ensures unchanged { IfNone result (out.new ≡ out.old) }
         ensures goes { IfNone result ((len : ℕ) (s : SlotsState) (was : List ℕ) →
-            ¬ Asks (lent self.now block.now held.now) len s was flash.now) }
+            ¬ AsksWrites (lent self.now block.now held.now) len s was flash.now) }
     {
         let work = self.work?;
         let mut cut = cut_at(self.stock(block, held), work.done);
@@ -149,10 +149,10 @@ impl Asking {
         requires { HasRoom self.old.unit held.old }
         ensures outcome { IfOk result
             (λ r. (len : ℕ) (s : SlotsState) (was before : List ℕ)
-            (asks : Asks (lent self.old block.now held.old) len s was before) (p : Step) →
+            (asks : AsksWrites (lent self.old block.now held.old) len s was before) (p : Step) →
             IsPiece (steps_in (lent self.old block.now held.old) asks.work) asks.work.done p →
             Torn before p.write.at p.write.bytes flash.now →
-            Took (device_of (lent self.old block.now held.old) s) len s was p.write failed flash.now out.old
+            DeviceTook (device_of (lent self.old block.now held.old) s) len s was p.write failed flash.now out.old
             (lent self.new block.now held.new) out.new r) }
         ensures on { IfOk result (λ r. (w : Work) (p : Step) → self.old.work ≡ Some w →
             IsPiece (steps_in (lent self.old block.now held.old) w) w.done p →

@@ -12,8 +12,8 @@ ghost use Rattle.dfu_asks.specs.Mapped.{grain_of, mapped};
 ghost use Rattle.dfu_asks.specs.Noted.{IsView};
 ghost use Rattle.dfu_asks.specs.Lent.{lent, HasRoom, IsSetUpAs};
 ghost use Rattle.dfu_asks.specs.Asks.{device_in, IsDevice};
-ghost use Rattle.dfu_asks.specs.Calls.{Called, HasAtMost};
-ghost use Rattle.dfu_asks.specs.Refused.{IsKept, IsThere, Fits, IsRefused, IsServed};
+ghost use Rattle.dfu_asks.specs.Calls.{DeviceCalled, HasAtMost};
+ghost use Rattle.dfu_asks.specs.Refused.{IsKeptOn, IsThere, Fits, IsRefusedCall, IsServed};
 
 use crate::view::{View, look};
 use crate::{Asking, Mapped, Noted, Refusal, Reply, Sector};
@@ -72,7 +72,7 @@ impl Asking {
         ensures held { IfOk result (λ r. self.now.held_len ≤ self.now.put_end) }
         ensures no_medium { IfErr result (λ e. e ≡ Refusal.NoMedium → ¬ IsThere self.now flash.now) }
         ensures no_device { IfErr result (λ e. e ≢ Refusal.NoMedium → (e ≡ Refusal.NoDevice) × IsThere self.now flash.now
-            × ((block held : List ℕ) → length block ≡ room → HasRoom self.now.unit held → ¬ IsKept self.now block held flash.now)) }
+            × ((block held : List ℕ) → length block ≡ room → HasRoom self.now.unit held → ¬ IsKeptOn self.now block held flash.now)) }
     {
         let Some(medium) = Mapped::with_sector(flash, self.unit, self.sector) else {
             return Err(Refusal::NoMedium);
@@ -107,8 +107,8 @@ impl Asking {
         requires held { self.old.held_len ≤ self.old.put_end }
         requires memory { HasRoom self.old.unit held.old }
         ensures outcome { let a = lent self.old block.old held.old in
-            let flash = medium.now.bytes.now in IsKept self.old block.old held.old flash →
-            Called a flash out.old (λ x sent d'. Handles setup.now body.now (device_in a flash) x sent d')
+            let flash = medium.now.bytes.now in IsKeptOn self.old block.old held.old flash →
+            DeviceCalled a flash out.old (λ x sent d'. Handles setup.now body.now (device_in a flash) x sent d')
             (lent self.new block.new held.new) out.new result }
         ensures first { result ≡ Reply.Asks → (w : Work) × (self.new.work ≡ Some w) × (w.done ≡ 0) }
         ensures few { HasAtMost 65535 result }
@@ -148,13 +148,13 @@ impl Asking {
         out: &mut [u8],
     ) -> Result<Reply, Refusal>
         requires { HasRoom self.old.unit held.old }
-        ensures outcome { let a = lent self.old block.old held.old in IfOk result (λ r. IsKept self.old block.old held.old flash.now →
-            Called a flash.now out.old (λ x sent d'. Handles setup.now body.now (device_in a flash.now) x sent d')
+        ensures outcome { let a = lent self.old block.old held.old in IfOk result (λ r. IsKeptOn self.old block.old held.old flash.now →
+            DeviceCalled a flash.now out.old (λ x sent d'. Handles setup.now body.now (device_in a flash.now) x sent d')
             (lent self.new block.new held.new) out.new r) }
         ensures first { IfOk result (λ r. r ≡ Reply.Asks → (w : Work) × (self.new.work ≡ Some w) × (w.done ≡ 0)) }
         ensures served { OnOk result (IsServed self.old block.old flash.now (answer_room self.old.config) (length out.old)) }
         ensures refused { IfErr result (λ e.
-            IsRefused e self.old block.old held.old flash.now (answer_room self.old.config) (length out.old)) }
+            IsRefusedCall e self.old block.old held.old flash.now (answer_room self.old.config) (length out.old)) }
         ensures asked { IsSome self.old.work → IsErrOf result Refusal.Asked }
         ensures few { IfOk result (λ r. HasAtMost 65535 r) }
         ensures same { IsSetUpAs self.old self.new }
@@ -184,13 +184,13 @@ impl Asking {
         ms: u32,
     ) -> Result<Reply, Refusal>
         requires { HasRoom self.old.unit held.old }
-        ensures outcome { let a = lent self.old block.old held.old in IfOk result (λ r. IsKept self.old block.old held.old flash.now →
-            (out : List ℕ) × Called a flash.now (replicate 6 0)
+        ensures outcome { let a = lent self.old block.old held.old in IfOk result (λ r. IsKeptOn self.old block.old held.old flash.now →
+            (out : List ℕ) × DeviceCalled a flash.now (replicate 6 0)
             (λ x sent d'. (x ≡ Answer.Ack) × (sent ≡ []) × Elapses ms (device_in a flash.now) d')
             (lent self.new block.new held.new) out r) }
         ensures first { IfOk result (λ r. r ≡ Reply.Asks → (w : Work) × (self.new.work ≡ Some w) × (w.done ≡ 0)) }
         ensures served { OnOk result (IsServed self.old block.old flash.now 0 0) }
-        ensures refused { IfErr result (λ e. IsRefused e self.old block.old held.old flash.now 0 0) }
+        ensures refused { IfErr result (λ e. IsRefusedCall e self.old block.old held.old flash.now 0 0) }
         ensures asked { IsSome self.old.work → IsErrOf result Refusal.Asked }
         ensures same { IsSetUpAs self.old self.new }
         ensures fits { OnOk result (Fits self.new (length block.new)) }
@@ -215,10 +215,10 @@ impl Asking {
         requires { HasRoom self.old.unit held.now }
         ensures row { let before = device_in (lent self.old block.now held.now) flash.now in
             OnOk result (device_in (lent self.new block.now held.now) flash.now ≡ record before { stage = reset_stage before.stage }) }
-        ensures is { OnOk result (IsKept self.old block.now held.now flash.now → IsKept self.new block.now held.now flash.now) }
+        ensures is { OnOk result (IsKeptOn self.old block.now held.now flash.now → IsKeptOn self.new block.now held.now flash.now) }
         ensures work { OnOk result (self.new.work ≡ None) }
         ensures served { OnOk result (IsServed self.old block.now flash.now 0 0) }
-        ensures refused { IfErr result (λ e. IsRefused e self.old block.now held.now flash.now 0 0) }
+        ensures refused { IfErr result (λ e. IsRefusedCall e self.old block.now held.now flash.now 0 0) }
         ensures asked { IsSome self.old.work → IsErrOf result Refusal.Asked }
         ensures same { IsSetUpAs self.old self.new }
         ensures fits { OnOk result (Fits self.new (length block.now)) }

@@ -3,7 +3,7 @@ ghost use Rattle.std.specs.Prelude.{◌≡◌, ◌+◌, ◌≤◌, ℕ, List, le
 ghost use Rattle.dfu_device.specs.Candidate.{candidate_in, IsCandidate};
 ghost use Rattle.dfu_asks.specs.Lent.{lent};
 ghost use Rattle.dfu_asks.specs.Asks.{device_in};
-ghost use Rattle.dfu_asks.specs.Refused.{IsKept, IsRefused};
+ghost use Rattle.dfu_asks.specs.Refused.{IsKeptOn, IsRefusedCall};
 
 use crate::view::look;
 use crate::{Asking, Mapped, Refusal};
@@ -18,12 +18,12 @@ impl Asking {
     ///
     /// As `elapse`, but that the memory of the block is not looked at.
     pub fn candidate(&self, flash: &[u8]) -> Result<Option<Candidate>, Refusal>
-        ensures some { (block held : List ℕ) → IsKept self.now block held flash.now →
+        ensures some { (block held : List ℕ) → IsKeptOn self.now block held flash.now →
             IfOk result (λ r. IfSome r (λ c. IsCandidate (device_in (lent self.now block held) flash.now) c)) }
         ensures none { (block held : List ℕ) →
             IfOk result (λ r. IfNone r (candidate_in (device_in (lent self.now block held) flash.now).stage ≡ None)) }
         ensures within { IfOk result (λ r. IfSome r (λ c. c.at + c.stored ≤ length flash.now)) }
-        ensures refused { (block held : List ℕ) → IfErr result (λ e. IsRefused e self.now block held flash.now 0 0) }
+        ensures refused { (block held : List ℕ) → IfErr result (λ e. IsRefusedCall e self.now block held flash.now 0 0) }
     {
         if self.work.is_some() {
             return Err(Refusal::Asked);

@@ -11,9 +11,9 @@ ghost use Rattle.dfu_asks.specs.Mapped.{grain_of, mapped};
 ghost use Rattle.dfu_asks.specs.Noted.{IsView, noted_at};
 ghost use Rattle.dfu_asks.specs.Lent.{lent, HasRoom, IsSetUpAs};
 ghost use Rattle.dfu_asks.specs.Due.{IsSureOrDue, SendsWithin, wanted};
-ghost use Rattle.dfu_asks.specs.Asks.{device_in, store_in, IsReply, Gives};
-ghost use Rattle.dfu_asks.specs.Calls.{Called, HasAtMost};
-ghost use Rattle.dfu_asks.specs.Refused.{IsKept};
+ghost use Rattle.dfu_asks.specs.Asks.{device_in, store_in, IsReply, GivesAnswer};
+ghost use Rattle.dfu_asks.specs.Calls.{DeviceCalled, HasAtMost};
+ghost use Rattle.dfu_asks.specs.Refused.{IsKeptOn};
 
 use crate::view::View;
 use crate::{Asking, Mapped, Reply};
@@ -67,7 +67,7 @@ impl Asking {
         out: &mut [u8],
     ) -> (Answer, usize)
         requires { 6 ≤ length out.old }
-        ensures { Gives (λ x sent. IsReply self.now.config self.now.mode reply asked x sent) result.0 result.1 out.old out.new }
+        ensures { GivesAnswer (λ x sent. IsReply self.now.config self.now.mode reply asked x sent) result.0 result.1 out.old out.new }
     {
         match reply {
             dfu_device::Reply::Ack => (Answer::Ack, 0),
@@ -111,10 +111,10 @@ impl Asking {
             let s = store_in a flash in
             let p = plan_of (profile w) (image_of s) (spare_of s) a.block body.now decision in
             let len = wanted asked in
-            IsKept self.old block.old held.old flash →
+            IsKeptOn self.old block.old held.old flash →
             IsPossible self.old.config.functional.transfer (length a.block) (length body.now) s decision →
             IsSureOrDue p (profile w) w.stage asked len → SendsWithin decision (image_of s) (length out.old) →
-            Called a flash out.old (λ x sent d'. Done p len w x sent d') (lent self.new block.new held.new) out.new result }
+            DeviceCalled a flash out.old (λ x sent d'. Done p len w x sent d') (lent self.new block.new held.new) out.new result }
         ensures first { result ≡ Reply.Asks → (w : Work) × (self.new.work ≡ Some w) × (w.done ≡ 0) }
         ensures few { HasAtMost 65535 result }
         ensures same { IsSetUpAs self.old self.new }

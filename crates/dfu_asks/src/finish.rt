@@ -5,7 +5,7 @@ ghost use Rattle.dfu_slots.specs.Writes.{put_rest};
 ghost use Rattle.dfu_asks.specs.Mapped.{grain_of, mapped};
 ghost use Rattle.dfu_asks.specs.Noted.{IsNoted};
 ghost use Rattle.dfu_asks.specs.Lent.{lent, HasRoom, IsSetUpAs};
-ghost use Rattle.dfu_asks.specs.Asks.{is_block, capped, done_mode, failed_mode, IsFinished, IsBrokenOff, NotesAfter, IsAnswered, Gives};
+ghost use Rattle.dfu_asks.specs.Asks.{is_block, capped, done_mode, failed_mode, IsFinished, IsBrokenOff, NotesAfter, IsAnswered, GivesAnswer};
 
 use crate::{Asking, Noted, Sector};
 use dfu_device::{Answer, Config, Mode, Reply};
@@ -153,7 +153,7 @@ impl Asking {
     /// Answers the GETSTATUS that asked for so many bytes, if one did, with its bytes at the front of a buffer.
     pub(crate) fn answer(&self, asked: Option<u16>, out: &mut [u8]) -> (Answer, usize)
         requires { 6 ≤ length out.old }
-        ensures { Gives (λ x sent. IsAnswered self.now.config self.now.mode asked x sent) result.0 result.1 out.old out.new }
+        ensures { GivesAnswer (λ x sent. IsAnswered self.now.config self.now.mode asked x sent) result.0 result.1 out.old out.new }
     {
         match asked {
             None => self.give(Reply::Ack, 0, out),

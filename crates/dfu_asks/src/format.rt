@@ -6,11 +6,11 @@ ghost use Rattle.dfu_slots.specs.Medium.{Torn};
 ghost use Rattle.dfu_slots.specs.Changes.{CanFormat, IsFormatFault};
 ghost use Rattle.dfu_asks.specs.Mapped.{grain_of, mapped};
 ghost use Rattle.dfu_asks.specs.Steps.{Step, step_writes};
-ghost use Rattle.dfu_asks.specs.Carried.{total, IsPiece, IsSound};
+ghost use Rattle.dfu_asks.specs.Carried.{total, IsPiece, ErasesWhole};
 ghost use Rattle.dfu_asks.specs.Jobs.{asked, IsFit};
 ghost use Rattle.dfu_asks.specs.Cuts.{step_of, IsCut};
 ghost use Rattle.dfu_asks.specs.Phases.{grain_within, part_left, steps_left, part_steps, steps_from};
-ghost use Rattle.dfu_asks.specs.Formats.{IsUnderWay, AsksFormat, ComesTo, TookPiece, IsSameFormat};
+ghost use Rattle.dfu_asks.specs.Formats.{FormatUnderWay, AsksFormat, FormatComesTo, TookPiece, IsSameFormat};
 
 use crate::asks::is_sound;
 use crate::cut::{Cut, cut_at, fill, stands};
@@ -139,7 +139,7 @@ impl Formatting {
     pub fn next(&self, flash: &[u8], image: &[u8], out: &mut [u8; 256]) -> Option<Piece>
         ensures piece { IfSome result (λ p. IsPiece (steps_left self.now (length flash.now) image.now) self.now.done (asked p out.new)) }
         ensures most { IfSome result (λ p. IsFit self.now.sector.size p out.new) }
-        ensures sector { IfSome result (λ p. IsSound self.now.sector.size (asked p out.new)) }
+        ensures sector { IfSome result (λ p. ErasesWhole self.now.sector.size (asked p out.new)) }
         ensures within { IfSome result (λ p. (p.at + p.len ≤ length flash.now) × (length flash.now < 2 ^ 32)) }
         ensures unchanged { IfNone result (out.new ≡ out.old) }
         ensures goes { IfNone result ((was : List ℕ) → ¬ AsksFormat self.now image.now was flash.now) }
@@ -192,9 +192,9 @@ impl Formatting {
     fn advance(&mut self, size: usize, image: &[u8]) -> Progress
         requires flash { size < 2 ^ 32 }
         requires image { length image.now ≤ 2 ^ 24 }
-        ensures outcome { (was flash : List ℕ) → length was ≡ size → IsUnderWay self.old image.now was flash →
+        ensures outcome { (was flash : List ℕ) → length was ≡ size → FormatUnderWay self.old image.now was flash →
             self.old.done ≤ total (step_writes (part_left self.old (length was) image.now)) →
-            ComesTo (grain_within self.old) self.new image.now was flash result }
+            FormatComesTo (grain_within self.old) self.new image.now was flash result }
         ensures same { IsSameFormat self.old self.new }
         ensures ended { result ≢ Progress.Asks → self.new.phase ≡ Phase.Ended }
     {
@@ -208,9 +208,9 @@ impl Formatting {
     // A part is carried out: goes on with the one behind it, if there is one.
     fn go_on(&mut self, image: &[u8]) -> Progress
         requires { length image.now ≤ 2 ^ 24 }
-        ensures outcome { (was flash : List ℕ) → IsUnderWay self.old image.now was flash →
+        ensures outcome { (was flash : List ℕ) → FormatUnderWay self.old image.now was flash →
             self.old.done ≡ total (step_writes (part_left self.old (length was) image.now)) →
-            ComesTo (grain_within self.old) self.new image.now was flash result }
+            FormatComesTo (grain_within self.old) self.new image.now was flash result }
         ensures same { IsSameFormat self.old self.new }
         ensures ended { result ≢ Progress.Asks → self.new.phase ≡ Phase.Ended }
     {

@@ -1,6 +1,6 @@
 //! Where so many bytes of a write and of the erases before it lead.
 ghost use Rattle.std.specs.Prelude.{◌≡◌, ◌+◌, ◌%◌, ◌^◌, ◌≤◌, ◌<◌};
-ghost use Rattle.dfu_asks.specs.Located.{LeadsToErase, LeadsTo, IsWithin};
+ghost use Rattle.dfu_asks.specs.Located.{LeadsToErase, LeadsTo, LeadsInto};
 
 use crate::Sector;
 
@@ -73,7 +73,7 @@ fn locate_erase(sector: u32, at: u64, len: usize, done: usize) -> Located
 
 // Where so many bytes of a write of `len` bytes lead, behind its erases.
 fn locate_write(len: usize, rest: usize) -> Located
-    ensures { IsWithin len rest result }
+    ensures { LeadsInto len rest result }
 {
     if rest < len {
         Located::Program { from: rest }

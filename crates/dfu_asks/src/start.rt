@@ -8,7 +8,7 @@ ghost use Rattle.dfu_asks.specs.Noted.{IsView};
 ghost use Rattle.dfu_asks.specs.Lent.{lent, HasRoom, IsSetUpAs};
 ghost use Rattle.dfu_asks.specs.Due.{IsDueStage};
 ghost use Rattle.dfu_asks.specs.Asks.{device_in, store_in, IsDevice, IsBlockJob, IsCommitJob, IsJobOf};
-ghost use Rattle.dfu_asks.specs.Calls.{Comes, HasAtMost};
+ghost use Rattle.dfu_asks.specs.Calls.{DueComes, HasAtMost};
 
 use crate::view::View;
 use crate::{Asking, Job, Mapped, Reply, Work};
@@ -118,7 +118,7 @@ impl Asking {
             let flash = medium.now.bytes.now in
             let d = device_in a flash in
             (len : ℕ) → IsDevice a flash → IsDueStage d.stage asked len →
-            Comes d len (store_in a flash) flash flash out.old (lent self.new block.now held.new) out.new result }
+            DueComes d len (store_in a flash) flash flash out.old (lent self.new block.now held.new) out.new result }
         ensures first { result ≡ Reply.Asks → (w : Work) × (self.new.work ≡ Some w) × (w.done ≡ 0) }
         ensures few { HasAtMost 6 result }
         ensures same { IsSetUpAs self.old self.new }

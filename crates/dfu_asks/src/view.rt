@@ -1,9 +1,9 @@
 //! What a call sees of its flash by what is noted, with no image read.
 ghost use Rattle.std.specs.Prelude.{◌≡◌, ◌≤◌, ◌↔◌, ℕ, List, length, IsTrue, IfSome, IfNone};
 ghost use Rattle.dfu_asks.specs.Mapped.{grain_of, mapped};
-ghost use Rattle.dfu_asks.specs.Noted.{Stands, IsView};
+ghost use Rattle.dfu_asks.specs.Noted.{NotedStands, IsView};
 ghost use Rattle.dfu_asks.specs.Lent.{HasRoom};
-ghost use Rattle.dfu_asks.specs.Refused.{IsKept, Fits};
+ghost use Rattle.dfu_asks.specs.Refused.{IsKeptOn, Fits};
 
 use crate::{Asking, Mapped, Noted};
 use dfu_device::{PutSoFar, is_filled};
@@ -39,11 +39,11 @@ fn are_same(one: &[u8], other: &[u8; 16]) -> bool
 #[inline(never)]
 pub(crate) fn look(medium: &Mapped<'_>, noted: &Noted) -> Option<View>
     ensures stands { let m = mapped (grain_of medium.now.unit medium.now.sector) medium.now.bytes.now in
-        IfSome result (λ v. Stands noted.now m) }
+        IfSome result (λ v. NotedStands noted.now m) }
     ensures view { let m = mapped (grain_of medium.now.unit medium.now.sector) medium.now.bytes.now in
         IfSome result (λ v. IsView v noted.now m) }
     ensures none { let m = mapped (grain_of medium.now.unit medium.now.sector) medium.now.bytes.now in
-        IfNone result (¬ Stands noted.now m) }
+        IfNone result (¬ NotedStands noted.now m) }
 {
     if !is_sized(medium) {
         return None;
@@ -77,7 +77,7 @@ impl Asking {
         requires sector { medium.now.sector ≡ self.now.sector }
         requires view { IsView view.now self.now.noted (mapped (grain_of self.now.unit self.now.sector) medium.now.bytes.now) }
         ensures kept { (block held : List ℕ) → length block ≡ room → HasRoom self.now.unit held →
-            IsKept self.now block held medium.now.bytes.now → IsTrue result }
+            IsKeptOn self.now block held medium.now.bytes.now → IsTrue result }
         ensures fits { IsTrue result → Fits self.now room }
         ensures end { IsTrue result → self.now.put_end ≤ view.now.room }
         ensures held { IsTrue result → self.now.held_len ≤ self.now.put_end }

@@ -6,7 +6,7 @@ use Rattle.dfu_board.specs.Keeps.{IsClosed, RunKeeps}
 use Rattle.dfu_slots.specs.Seen.{image_of}
 use Rattle.dfu_device.specs.Shown.{Shown}
 use Rattle.dfu_device.specs.History.{IsRow}
-use Rattle.dfu_device.specs.History.{Step as TableRow}
+use Rattle.dfu_device.specs.History.{HistoryStep as TableRow}
 use Rattle.dfu_board.specs.Accepts.{Heeds, RunAccepts, HeedsRow, HistoryAccepts}
 use Rattle.dfu_board.proofs.Closing.{row_leads}
 

@@ -12,7 +12,7 @@ use Rattle.dfu_device.specs.Taken.{taken_of}
 use Rattle.dfu_device.specs.TakenHistory.{RowTakes}
 use Rattle.dfu_asks.specs.Asks.{store_in}
 use Rattle.dfu_board.specs.Board.{Board, lent_on, medium_on, device_on, state_on, BoardStep}
-use Rattle.dfu_board.specs.Happens.{start_stage, IsOn, IsRun}
+use Rattle.dfu_board.specs.Happens.{start_stage, IsPoweredOn, IsRun}
 use Rattle.dfu_board.specs.Keeps.{taken_by, IsClosed, HasKept, RunKeeps, is_manifesting, RunStays, has_manifested, RunInstalls}
 use Rattle.dfu_board.specs.Refines.{StandsFor, IdleRefines, RunRefines}
 use Rattle.dfu_board.proofs.Cut.{WriteLaws, cut_off}
@@ -78,7 +78,7 @@ none_manifests (InManifest taken passed) t off m = absurd (cc)
 none_manifests st t off m = m
 
 module _ (laws : WriteLaws) (takes : RowTakes) (only : OneImage) where
-  begun : (b : Board) → IsOn b → KeptAt (image_of (device_on b).slots) [] [] (device_on b)
+  begun : (b : Board) → IsPoweredOn b → KeptAt (image_of (device_on b).slots) [] [] (device_on b)
   begun b on = record {
     taken = subst (λ (x : Shown). [] ≡ taken_of (situation x)) (sym on.device)
         (sym (start_takes on.begins (image_of (store_on (medium_on b)))));
@@ -87,7 +87,7 @@ module _ (laws : WriteLaws) (takes : RowTakes) (only : OneImage) where
   }
 
   -- A run from power on.
-  ran : (b b' : Board) (steps : List BoardStep) → IsOn b → IsRun b steps b'
+  ran : (b b' : Board) (steps : List BoardStep) → IsPoweredOn b → IsRun b steps b'
       → RanOn (KeptAt (image_of (device_on b).slots) []) [] steps b' None (device_on b)
   ran b b' steps on run =
       run_on laws takes (KeptAt (image_of (device_on b).slots) []) (kept_step (image_of (device_on b).slots) []) [] steps b b' None
@@ -161,7 +161,7 @@ module _ (laws : WriteLaws) (takes : RowTakes) (only : OneImage) where
   run_keeps b b' steps image on active run =
       run_stays b b b' [] steps image on refl (ap is_manifesting (state b on) ∙ start_plain on.begins) active run
     where
-      state : (b : Board) → (on : IsOn b) → state_on b ≡ state_of (start_stage on.begins)
+      state : (b : Board) → (on : IsPoweredOn b) → state_on b ≡ state_of (start_stage on.begins)
       state b on = state_stands b None (device_on b) (on_idle b on) ∙ ap (λ (x : Shown). state_of x.stage) on.device
 
   -- A step that leads out of manifestation without a fault has put in place all that was taken.

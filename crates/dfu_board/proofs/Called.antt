@@ -11,17 +11,17 @@ use Rattle.dfu_device.specs.Stage.{state_of}
 use Rattle.dfu_device.specs.Shown.{Shown, situation}
 use Rattle.dfu_device.specs.Rows.{Cause, Transfer, Passing, BusReset, RefusingClose, Refusing, Row}
 use Rattle.dfu_device.specs.History.{IsHistory}
-use Rattle.dfu_device.specs.History.{Step as TableRow}
+use Rattle.dfu_device.specs.History.{HistoryStep as TableRow}
 use Rattle.dfu_device.specs.Taken.{taken_of, held_in, acknowledged, is_dnload}
 use Rattle.dfu_device.specs.TakenHistory.{RowTakes}
 use Rattle.dfu_asks.specs.declared.reply.Reply.{Reply}
 use Rattle.dfu_asks.specs.Due.{IsDueRow}
 use Rattle.dfu_asks.specs.Asks.{store_in}
-use Rattle.dfu_asks.specs.Calls.{Called, called_ended, called_asks}
+use Rattle.dfu_asks.specs.Calls.{DeviceCalled, called_ended, called_asks}
 use Rattle.dfu_board.specs.Board.{Board, lent_on, device_on, Event, Handle, Elapse, UsbReset, RefuseClose, Refuse, Says, Answers}
-use Rattle.dfu_board.specs.Happens.{said_by, IsServedBy, IsReset, IsObjected}
-use Rattle.dfu_board.specs.Keeps.{block_in}
-use Rattle.dfu_board.specs.Refines.{TellsCall, Tells, IsIdle, StandsFor}
+use Rattle.dfu_board.specs.Happens.{reply_said, IsServedBy, IsReset, IsObjected}
+use Rattle.dfu_board.specs.Keeps.{acknowledged_body}
+use Rattle.dfu_board.specs.Refines.{TellsCall, TellsRows, IsIdle, StandsFor}
 use Rattle.dfu_board.specs.Accepts.{IsPending}
 use Rattle.dfu_board.proofs.Closing.{row_leads}
 use Rattle.dfu_board.proofs.Installs.{Manifests, IsOver, never_both, row_puts}
@@ -78,8 +78,9 @@ module _ (takes : RowTakes) where
       let o = h.outcome (record { fits = h.fits; is = k.is }) in
       from o.0 o.1 h.reply o.2 o.3
     where
-      from : (out out' : List ℕ) (r : Reply) → Called (lent_on b) b.flash out (λ x sent d'. Row (device_on b) cause x sent d') (lent_on b') out' r
-          → says ≡ said_by r out' → CallTurned b' None d cause says
+      from : (out out' : List ℕ) (r : Reply) → DeviceCalled (lent_on b) b.flash out (λ x sent d'. Row (device_on b) cause x sent d')
+          (lent_on b') out' r
+          → says ≡ reply_said r out' → CallTurned b' None d cause says
       from out out' _ (called_ended x count e) is = row_turn b' d cause says x e.gave.sent
           (subst (λ (z : Shown). Row z cause x e.gave.sent (device_on b')) k.device
           (row_there b' b.flash x count out out' (λ x sent d'. Row (device_on b) cause x sent d') h.flash e))
@@ -125,8 +126,8 @@ module _ (takes : RowTakes) where
 
 -- A call as the event that it is: it takes the same block, and closes a download as that event does.
 pub of_call : (b' : Board) (due : Option Cause) (d : Shown) (e : Event) (cause : Cause) (says : Says)
-    → ((rows : List TableRow) (due' : Option Cause) → TellsCall cause due says rows due' → Tells due e says rows due')
-    → block_by cause says ≡ block_in e says → ((setup : List ℕ) → cause ≡ Transfer setup [] → e ≡ Handle setup [])
+    → ((rows : List TableRow) (due' : Option Cause) → TellsCall cause due says rows due' → TellsRows due e says rows due')
+    → block_by cause says ≡ acknowledged_body e says → ((setup : List ℕ) → cause ≡ Transfer setup [] → e ≡ Handle setup [])
     → CallTurned b' due d cause says → Turned b' due d e says
 of_call b' due d e cause says tells block closes c = record {
   rows = c.rows;
@@ -152,7 +153,7 @@ pub of_handle : (b' : Board) (d : Shown) (setup body : List ℕ) (says : Says) �
 of_handle b' d setup body says c =
     of_call b' None d (Handle setup body) (Transfer setup body) says (λ rows due' t. t) (same_block says) same_event c
   where
-    same_block : (says : Says) → block_by (Transfer setup body) says ≡ block_in (Handle setup body) says
+    same_block : (says : Says) → block_by (Transfer setup body) says ≡ acknowledged_body (Handle setup body) says
     same_block (Answers a out) = refl
     same_block says = refl
 

@@ -11,7 +11,7 @@ use Rattle.dfu_device.specs.declared.answer.Answer.{Answer}
 use Rattle.dfu_device.specs.declared.objection.Objection.{Objection}
 use Rattle.dfu_device.specs.declared.answer.Answer.TheVariants as answer
 use Rattle.dfu_device.specs.Stage.{Request, Dnload, Upload, GetStatus, GetState, OtherRequest, Reply, Ack, Profile, Stage, InAppDetach, InDfuIdle, InDownloadSync, InDownloadBusy, InDownloadIdle, InManifestSync, InManifestSyncComplete, InManifest, InManifestWaitReset, InUploadIdle, InError}
-use Rattle.dfu_device.specs.Table.{Plan, Sure, Writes, Commits, is_empty, block_plan, further_plan, upload_plan, plan, time_plan, reset_stage, refuse_stage, commit_code}
+use Rattle.dfu_device.specs.Table.{Plan, Sure, Writes, Commits, has_no_bytes, block_plan, further_plan, upload_plan, plan, time_plan, reset_stage, refuse_stage, commit_code}
 use Rattle.dfu_device.specs.Shown.{Shown, profile, situation}
 use Rattle.dfu_device.specs.Rows.{meant, asked_length, Answers, Done, is_served, setup_plan, handled_as, Cause, Transfer, Passing, BusReset, RefusingClose, Refusing, PowerOn, Row}
 use Rattle.dfu_device.specs.Taken.{taken_in, taken_of, is_dnload}
@@ -76,7 +76,7 @@ row_closes : (c : Profile) (image : List ℕ) (st : Stage) (r : Request) → Clo
 row_closes c image InDfuIdle (Dnload number body) =
     let P : Plan → Type 0 = Closes image InDfuIdle (Dnload number body) in
     either_way P (not c.can_download) _ _ (λ t m. absurd m)
-    (either_way P (is_empty body) _ _ (λ t m. absurd m) (block_closes c image InDfuIdle [] 0 number body))
+    (either_way P (has_no_bytes body) _ _ (λ t m. absurd m) (block_closes c image InDfuIdle [] 0 number body))
 row_closes c image InDfuIdle (Upload number size) = either_way (Closes image InDfuIdle (Upload number size)) c.can_upload _ _
     (upload_closes c image InDfuIdle 0 0 number size) (λ t m. absurd m)
 row_closes c image (InDownloadSync before block number) GetStatus =

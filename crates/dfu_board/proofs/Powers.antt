@@ -13,12 +13,12 @@ use Rattle.dfu_device.specs.Stage.{InAppIdle, InAppDetach, state_of}
 use Rattle.dfu_device.specs.Shown.{Shown, profile, situation}
 use Rattle.dfu_device.specs.Rows.{Cause, Transfer, BusReset, PowerOn, handled_as}
 use Rattle.dfu_device.specs.History.{IsHistory}
-use Rattle.dfu_device.specs.History.{Step as TableRow}
+use Rattle.dfu_device.specs.History.{HistoryStep as TableRow}
 use Rattle.dfu_device.specs.Taken.{taken_in, taken_of, held_in}
 use Rattle.dfu_asks.specs.Lent.{IsSetUpAs}
 use Rattle.dfu_asks.specs.Mapped.{grain_of, mapped}
 use Rattle.dfu_board.specs.Board.{Board, medium_on, device_on, Restart, Says}
-use Rattle.dfu_board.specs.Happens.{start_stage, IsOn, Starts}
+use Rattle.dfu_board.specs.Happens.{start_stage, IsPoweredOn, BoardStarts}
 use Rattle.dfu_board.specs.Refines.{IsStart, IsAtWork, IsIdle}
 use Rattle.dfu_board.proofs.Cut.{WriteLaws, cut_off}
 use Rattle.dfu_board.specs.Accepts.{IsPending}
@@ -38,7 +38,7 @@ abbrev started : Shown → Bool → Shown
 started w begins = record (powered w) { stage = start_stage begins }
 
 start_there : (b b' : Board) (w : Shown) → w.config ≡ b.asking.config → w.slots.medium ≡ medium_on b → IsSetUpAs b.asking b'.asking
-    → b'.flash ≡ b.flash → (begins : Bool) → Starts begins b' → device_on b' ≡ started w begins
+    → b'.flash ≡ b.flash → (begins : Bool) → BoardStarts begins b' → device_on b' ≡ started w begins
 start_there b b' w config medium same flash begins (on, is) =
     let again : medium_on b' ≡ w.slots.medium = (λ i. mapped (grain_of (same.unit i) (same.sector i)) (flash i)) ∙ sym medium in
     let set : b'.asking.config ≡ w.config = same.config ∙ sym config in
@@ -115,7 +115,7 @@ power_rows w w' true e =
 -- What holds of it.
 
 -- A board that got power stands for a device.
-pub on_idle : (b : Board) → IsOn b → IsIdle b (device_on b)
+pub on_idle : (b : Board) → IsPoweredOn b → IsIdle b (device_on b)
 on_idle b on = record { work = on.work; is = on.is; device = refl }
 
 -- Nothing is taken in it.
@@ -136,7 +136,7 @@ start_over true other over = other refl
 start_over false other over = false≢true over
 
 -- Nothing waits in a board that just got power.
-pub none_waits : (b : Board) (t : List ℕ) → IsOn b → IsPending (device_on b).stage t → ⊥
+pub none_waits : (b : Board) (t : List ℕ) → IsPoweredOn b → IsPending (device_on b).stage t → ⊥
 none_waits b t on m = start_waits on.begins t (subst (λ (x : Shown). IsPending x.stage t) on.device m)
 
 -- Power leaves the image.
@@ -145,7 +145,7 @@ image_left w w' begins e = ap (λ (x : Shown). image_of x.slots) e ∙ same_imag
 
 -- Of a board with nothing due.
 pub restarts : (b b' : Board) (d : Shown) (begins : Bool) (says : Says) → IsIdle b d → IsSetUpAs b.asking b'.asking
-    → b'.flash ≡ b.flash → Starts begins b' → Turned b' None d (Restart begins) says
+    → b'.flash ≡ b.flash → BoardStarts begins b' → Turned b' None d (Restart begins) says
 restarts b b' d begins says k same flash on =
     let there = start_there b b' d (ap (λ (x : Shown). x.config) (sym k.device)) (ap (λ (x : Shown). x.slots.medium) (sym k.device))
     same flash begins on in
@@ -166,7 +166,7 @@ restarts b b' d begins says k same flash on =
 
 -- Of one at work.
 pub cuts : (laws : WriteLaws) (b b' : Board) (cause : Cause) (d : Shown) (begins : Bool) (says : Says) → IsAtWork b cause d
-    → IsSetUpAs b.asking b'.asking → b'.flash ≡ b.flash → Starts begins b' → Turned b' (Some cause) d (Restart begins) says
+    → IsSetUpAs b.asking b'.asking → b'.flash ≡ b.flash → BoardStarts begins b' → Turned b' (Some cause) d (Restart begins) says
 cuts laws b b' cause d begins says k same flash on =
     let c = cut_off laws b cause d k in
     let there = start_there b b' c.after c.config (ap (λ (s : SlotsState). s.medium) c.slots) same flash begins on in

@@ -10,12 +10,12 @@ use Rattle.dfu_device.specs.declared.mode.Mode.{Mode}
 use Rattle.dfu_device.specs.declared.mode.Mode.TheVariants as mode
 use Rattle.dfu_device.specs.Rows.{Cause}
 use Rattle.dfu_device.specs.History.{IsHistory}
-use Rattle.dfu_device.specs.History.{Step as TableRow}
+use Rattle.dfu_device.specs.History.{HistoryStep as TableRow}
 use Rattle.dfu_device.specs.Taken.{taken_of, held_in}
 use Rattle.dfu_device.specs.TakenHistory.{RowTakes}
 use Rattle.dfu_board.specs.Board.{Board, state_on, BoardStep}
 use Rattle.dfu_board.specs.Happens.{IsRun}
-use Rattle.dfu_board.specs.Keeps.{block_in, taken_by, IsClosed}
+use Rattle.dfu_board.specs.Keeps.{acknowledged_body, taken_by, IsClosed}
 use Rattle.dfu_board.specs.Refines.{TellsAll, StandsFor}
 use Rattle.dfu_board.proofs.Cut.{WriteLaws}
 use Rattle.dfu_board.specs.Accepts.{IsPending}
@@ -47,7 +47,7 @@ pub record KeptAt (image : List ℕ) (old steps : List BoardStep) (d : Shown) : 
 
 taken_append : (t : List ℕ) (xs ys : List BoardStep) → taken_by t (xs ++ ys) ≡ taken_by (taken_by t xs) ys
 taken_append t [] ys = refl
-taken_append t (x ∷ xs) ys = taken_append (held_in (state_on x.after) (t ++ block_in x.event x.says)) xs ys
+taken_append t (x ∷ xs) ys = taken_append (held_in (state_on x.after) (t ++ acknowledged_body x.event x.says)) xs ys
 
 longer : (old steps : List BoardStep) (s : BoardStep) (t : List ℕ) → IsClosed old steps t → IsClosed old (steps ++ s ∷ []) t
 longer old steps s t c = record {
@@ -66,7 +66,7 @@ kept_step image old steps s due d k x =
     record {
       taken = ap (λ (l : List BoardStep). taken_by [] l) (sym (append_assoc old steps (s ∷ [])))
           ∙ taken_append [] (old ++ steps) (s ∷ [])
-          ∙ (λ i. held_in (state_stands s.after x.due' x.device x.stands i) (k.taken i ++ block_in s.event s.says))
+          ∙ (λ i. held_in (state_stands s.after x.due' x.device x.stands i) (k.taken i ++ acknowledged_body s.event s.says))
           ∙ sym x.taken;
       waits = λ t m. elim (x.waits t m) [
         | inl before ↦ longer old steps s t (k.waits t before)

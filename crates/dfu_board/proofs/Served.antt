@@ -16,12 +16,12 @@ use Rattle.dfu_asks.specs.Mapped.{grain_of, mapped}
 use Rattle.dfu_asks.specs.Steps.{Step}
 use Rattle.dfu_asks.specs.Carried.{IsPiece}
 use Rattle.dfu_asks.specs.Asks.{device_in, device_of, IsDevice, steps_in}
-use Rattle.dfu_asks.specs.Calls.{Asks, Called, called_ended, called_asks, Took}
-use Rattle.dfu_asks.specs.Refused.{IsKept, IsServed, IsTaken}
+use Rattle.dfu_asks.specs.Calls.{AsksWrites, DeviceCalled, called_ended, called_asks, DeviceTook}
+use Rattle.dfu_asks.specs.Refused.{IsKeptOn, IsServed, IsTaken}
 use Rattle.dfu_asks.specs.Lent.{lent}
 use Rattle.dfu_board.specs.Board.{Board, lent_on, device_on, Answers}
-use Rattle.dfu_board.specs.Happens.{IsServedBy, IsTold, Starts, IsRefusedOr}
-use Rattle.dfu_board.specs.Steps.{board, said}
+use Rattle.dfu_board.specs.Happens.{IsServedBy, IsTold, BoardStarts, IsRefusedOr}
+use Rattle.dfu_board.specs.Steps.{board, result_said}
 
 -- What follows in one case of a refusal follows in each.
 pub on_err : {T E P Q : Type 0} (r : Result T E) → (P → Q) → OnErr r P → OnErr r Q
@@ -31,10 +31,10 @@ on_err (Err e) follows p = follows p
 -- `handle`.
 pub call_step : (b b' : Board) (cause : Cause) (need room : ℕ) (out out' : List ℕ) (r : Result Reply Refusal) → b'.flash ≡ b.flash
     → OnOk r (IsServed b.asking b.block b.flash need room)
-    → IfOk r (λ y. IsKept b.asking b.block b.held b.flash
-    → Called (lent_on b) b.flash out (λ x sent d'. Row (device_on b) cause x sent d') (lent_on b') out' y)
+    → IfOk r (λ y. IsKeptOn b.asking b.block b.held b.flash
+    → DeviceCalled (lent_on b) b.flash out (λ x sent d'. Row (device_on b) cause x sent d') (lent_on b') out' y)
     → OnErr r (b' ≡ b)
-    → IsRefusedOr (said r out') b b' (IsServedBy b cause (said r out') b')
+    → IsRefusedOr (result_said r out') b b' (IsServedBy b cause (result_said r out') b')
 call_step b b' cause need room out out' (Ok reply.Asks) flash served outcome same = record {
   idle = served.work;
   fits = served.fits;
@@ -54,10 +54,10 @@ call_step b b' cause need room out out' (Err e) flash served outcome same = same
 -- `elapse`, which gives no bytes.
 pub elapse_step : (b b' : Board) (ms : ℕ) (zeros : List ℕ) (r : Result Reply Refusal) → b'.flash ≡ b.flash
     → OnOk r (IsServed b.asking b.block b.flash 0 0)
-    → IfOk r (λ y. IsKept b.asking b.block b.held b.flash
-    → (out : List ℕ) × Called (lent_on b) b.flash zeros (λ x sent d'. Row (device_on b) (Passing ms) x sent d') (lent_on b') out y)
+    → IfOk r (λ y. IsKeptOn b.asking b.block b.held b.flash
+    → (out : List ℕ) × DeviceCalled (lent_on b) b.flash zeros (λ x sent d'. Row (device_on b) (Passing ms) x sent d') (lent_on b') out y)
     → OnErr r (b' ≡ b)
-    → IsRefusedOr (said r []) b b' (IsServedBy b (Passing ms) (said r []) b')
+    → IsRefusedOr (result_said r []) b b' (IsServedBy b (Passing ms) (result_said r []) b')
 elapse_step b b' ms zeros (Ok reply.Asks) flash served outcome same = record {
   idle = served.work;
   fits = served.fits;
@@ -74,14 +74,15 @@ elapse_step b b' ms zeros (Ok (reply.Answered x count)) flash served outcome sam
 }
   where
     of_none : (out : List ℕ) (r : Reply) → r ≡ reply.Answered x count
-        → Called (lent_on b) b.flash zeros (λ y sent d'. Row (device_on b) (Passing ms) y sent d') (lent_on b') out r → count ≡ 0
+        → DeviceCalled (lent_on b) b.flash zeros (λ y sent d'. Row (device_on b) (Passing ms) y sent d') (lent_on b') out r → count ≡ 0
     of_none out _ is (called_ended y n e) =
         let one : n ≡ count = cc in
         sym one ∙ e.gave.count_is ∙ ap (λ (l : List ℕ). length l) e.gave.row.1
     of_none out _ is (called_asks len asks device due out_is) = absurd (cc)
 
     no_bytes : (out : List ℕ)
-        → Called (lent_on b) b.flash zeros (λ y sent d'. Row (device_on b) (Passing ms) y sent d') (lent_on b') out (reply.Answered x count)
+        → DeviceCalled (lent_on b) b.flash zeros (λ y sent d'. Row (device_on b) (Passing ms) y sent d') (lent_on b') out
+        (reply.Answered x count)
         → Answers x (take count []) ≡ Answers x (take count out)
     no_bytes out called =
         let none = of_none out (reply.Answered x count) refl called in
@@ -91,11 +92,11 @@ elapse_step b b' ms zeros (Err e) flash served outcome same = same
 -- `took`.
 pub told_step : (b b' : Board) (failed : Bool) (room : ℕ) (out out' : List ℕ) (r : Result Reply Refusal) → b'.flash ≡ b.flash
     → OnOk r (IsTaken (lent_on b) room)
-    → IfOk r (λ y. (len : ℕ) (s : SlotsState) (was before : List ℕ) (asks : Asks (lent_on b) len s was before) (p : Step)
+    → IfOk r (λ y. (len : ℕ) (s : SlotsState) (was before : List ℕ) (asks : AsksWrites (lent_on b) len s was before) (p : Step)
     → IsPiece (steps_in (lent_on b) asks.work) asks.work.done p → Torn before p.write.at p.write.bytes b.flash
-    → Took (device_of (lent_on b) s) len s was p.write failed b.flash out (lent_on b') out' y)
+    → DeviceTook (device_of (lent_on b) s) len s was p.write failed b.flash out (lent_on b') out' y)
     → OnErr r (b' ≡ b)
-    → IsRefusedOr (said r out') b b' (IsTold b failed (said r out') b')
+    → IsRefusedOr (result_said r out') b b' (IsTold b failed (result_said r out') b')
 told_step b b' failed room out out' (Ok reply.Asks) flash taken outcome same = record {
   work = taken.work;
   left = taken.is_left;
@@ -129,7 +130,7 @@ pub on_step : (r : Option Asking) (block held flash : List ℕ) (config : Settin
     → IfSome r (λ a. IsDevice (lent a block held) flash)
     → IfSome r (λ a. (a.work ≡ None) × (a.block_len ≡ 0) × (a.config ≡ config) × (a.unit ≡ unit))
     → IfSome r (λ a. a.sector ≡ sector)
-    → IfSome r (λ a. Starts false (board a block held flash))
+    → IfSome r (λ a. BoardStarts false (board a block held flash))
 on_step (Some a) block held flash config unit sector device is kept sector_is = (
   record {
     begins = false;

@@ -9,15 +9,15 @@ use Rattle.dfu_device.specs.Stage.{Stage, InDownloadSync, InDownloadSyncWritten,
 use Rattle.dfu_device.specs.Shown.{Shown, situation}
 use Rattle.dfu_device.specs.Rows.{Cause}
 use Rattle.dfu_device.specs.History.{IsHistory}
-use Rattle.dfu_device.specs.History.{Step as TableRow}
+use Rattle.dfu_device.specs.History.{HistoryStep as TableRow}
 use Rattle.dfu_device.specs.Taken.{taken_in, taken_of, held_in, is_dnload}
 use Rattle.dfu_asks.specs.declared.work.Work.{Work}
 use Rattle.dfu_asks.specs.Lent.{LentAsking}
 use Rattle.dfu_asks.specs.Asks.{device_in, IsDevice}
 use Rattle.dfu_asks.specs.Calls.{HasEnded}
 use Rattle.dfu_board.specs.Board.{Board, lent_on, device_on, Event, Handle, Restart, Says, Answers}
-use Rattle.dfu_board.specs.Keeps.{block_in}
-use Rattle.dfu_board.specs.Refines.{TellsCall, Tells, IsIdle, StandsFor}
+use Rattle.dfu_board.specs.Keeps.{acknowledged_body}
+use Rattle.dfu_board.specs.Refines.{TellsCall, TellsRows, IsIdle, StandsFor}
 use Rattle.dfu_board.specs.Accepts.{IsPending}
 use Rattle.dfu_board.proofs.Installs.{Manifests, IsOver, never_both}
 
@@ -56,16 +56,17 @@ pub record Turned (b' : Board) (due : Option Cause) (d : Shown) (e : Event) (say
   pub due' : Option Cause
   pub device : Shown
   pub history : IsHistory d rows device
-  pub tells : Tells due e says rows due'
+  pub tells : TellsRows due e says rows due'
   pub stands : StandsFor b' due' device
-  pub taken : taken_of (situation device) ≡ held_in (state_of device.stage) (taken_of (situation d) ++ block_in e says)
+  pub taken : taken_of (situation device) ≡ held_in (state_of device.stage) (taken_of (situation d) ++ acknowledged_body e says)
   pub waits : (t : List ℕ) → IsPending device.stage t → IsPending d.stage t ⊎ (IsClosingCall e says × (t ≡ taken_of (situation d)))
   pub image : (image_of device.slots ≡ image_of d.slots) ⊎ IsPending d.stage (image_of device.slots)
   pub puts : e ≢ Restart true → Manifests d.stage → IsOver device.stage → image_of device.slots ≡ taken_of (situation d)
 
 -- A step with no row.
-pub stays : (b' : Board) (due due' : Option Cause) (d : Shown) (e : Event) (says : Says) → Tells due e says [] due' → StandsFor b' due' d
-    → block_in e says ≡ [] → Turned b' due d e says
+pub stays : (b' : Board) (due due' : Option Cause) (d : Shown) (e : Event) (says : Says) → TellsRows due e says [] due' →
+    StandsFor b' due' d
+    → acknowledged_body e says ≡ [] → Turned b' due d e says
 stays b' due due' d e says tells stands none = record {
   rows = [];
   due' = due';

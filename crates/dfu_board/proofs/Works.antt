@@ -17,9 +17,9 @@ use Rattle.dfu_asks.specs.Steps.{Step}
 use Rattle.dfu_asks.specs.Carried.{IsPiece}
 use Rattle.dfu_asks.specs.Due.{Works, Fails}
 use Rattle.dfu_asks.specs.Asks.{device_of, steps_in}
-use Rattle.dfu_asks.specs.Calls.{HasEnded, Comes, comes_asks, comes_ended, took_well, took_failed, took_lied}
+use Rattle.dfu_asks.specs.Calls.{HasEnded, DueComes, comes_asks, comes_ended, took_well, took_failed, took_lied}
 use Rattle.dfu_board.specs.Board.{Board, lent_on, device_on, Report, Says, Answers}
-use Rattle.dfu_board.specs.Happens.{said_by, IsWritten, IsTold}
+use Rattle.dfu_board.specs.Happens.{reply_said, FlashIsWritten, IsTold}
 use Rattle.dfu_board.specs.Refines.{TellsCall, IsAtWork}
 use Rattle.dfu_board.proofs.Pieces.{piece_alone}
 use Rattle.dfu_board.proofs.Cut.{WriteLaws, next_of}
@@ -27,7 +27,7 @@ use Rattle.dfu_board.proofs.Due.{DueLeads, works_lead, fails_lead}
 use Rattle.dfu_board.proofs.Turns.{one_work, Turned, stays, idle_there, row_there, said_there, one_row, tells_answer}
 
 -- A write in the range of the piece that is due leaves a board at work.
-pub writes_on : (b b' : Board) (cause : Cause) (d : Shown) → IsAtWork b cause d → IsWritten b b' → IsAtWork b' cause d
+pub writes_on : (b b' : Board) (cause : Cause) (d : Shown) → IsAtWork b cause d → FlashIsWritten b b' → IsAtWork b' cause d
 writes_on b b' cause d k h =
     let w = h.handed.0 in
     let same : w ≡ k.asks.work = one_work w k.asks.work b.asking.work h.handed.1 k.asks.work_is in
@@ -78,7 +78,8 @@ module _ (laws : WriteLaws) (b b' : Board) (cause : Cause) (d : Shown) (failed :
         puts = λ other on over. got.1.puts over;
       }
 
-  comes_to : (r : Reply) → Comes (device_of (lent_on b) k.s) k.len k.s k.was b.flash h.out (lent_on b') h.out' r → says ≡ said_by r h.out'
+  comes_to : (r : Reply) → DueComes (device_of (lent_on b) k.s) k.len k.s k.was b.flash h.out (lent_on b') h.out' r →
+      says ≡ reply_said r h.out'
       → Turned b' (Some cause) d (Report failed) says
   comes_to _ (comes_asks asks same out_is) is =
       stays b' (Some cause) (Some cause) d (Report failed) says
@@ -115,6 +116,6 @@ module _ (laws : WriteLaws) (b b' : Board) (cause : Cause) (d : Shown) (failed :
       let next = next_of laws b cause d k in
       elim (h.outcome k.len k.s k.was k.stood k.asks next.piece next.is next.torn) [
         | took_well fine there comes ↦ comes_to h.reply comes h.says_is
-        | took_failed x count fails reply_is e ↦ fell Failed x count e (h.says_is ∙ ap (λ (r : Reply). said_by r h.out') reply_is)
-        | took_lied x count fine lies reply_is e ↦ fell NotVerified x count e (h.says_is ∙ ap (λ (r : Reply). said_by r h.out') reply_is)
+        | took_failed x count fails reply_is e ↦ fell Failed x count e (h.says_is ∙ ap (λ (r : Reply). reply_said r h.out') reply_is)
+        | took_lied x count fine lies reply_is e ↦ fell NotVerified x count e (h.says_is ∙ ap (λ (r : Reply). reply_said r h.out') reply_is)
       ]

@@ -5,10 +5,10 @@ use Rattle.dfu_slots.specs.Seen.{image_of}
 use Rattle.dfu_device.specs.Stage.{Stage, InAppIdle, InManifestSync, InManifest, InError}
 use Rattle.dfu_device.specs.Shown.{Shown}
 use Rattle.dfu_device.specs.History.{IsHistory}
-use Rattle.dfu_device.specs.History.{Step as TableRow}
+use Rattle.dfu_device.specs.History.{HistoryStep as TableRow}
 use Rattle.dfu_slots.specs.Image.{Active}
 use Rattle.dfu_board.specs.Board.{Board, BoardStep, medium_on}
-use Rattle.dfu_board.specs.Happens.{IsOn, IsRun}
+use Rattle.dfu_board.specs.Happens.{IsPoweredOn, IsRun}
 use Rattle.dfu_board.specs.Keeps.{taken_by, IsClose, IsClosed}
 
 -- The program lets no close go by of bytes that the check refuses: each download that one of these steps closed, after the old steps, is of
@@ -27,7 +27,7 @@ pub record HasAccepted (check : List ℕ → Bool) (image : List ℕ) (old steps
 -- Whatever steps come to a board that just got power, and whatever the check is that its program heeds: the image is the one that it has
 -- then, or one that the check accepts.
 abbrev pub RunAccepts : Type 0
-RunAccepts = (check : List ℕ → Bool) (b b' : Board) (steps : List BoardStep) (image : List ℕ) → IsOn b → Active (medium_on b) image
+RunAccepts = (check : List ℕ → Bool) (b b' : Board) (steps : List BoardStep) (image : List ℕ) → IsPoweredOn b → Active (medium_on b) image
     → IsRun b steps b' → Heeds check [] steps → HasAccepted check image [] steps b'
 
 -- These bytes wait to be put in place in a stage.

@@ -15,14 +15,14 @@ use Rattle.dfu_asks.specs.Lent.{IsSetUpAs}
 use Rattle.dfu_asks.specs.Steps.{Step}
 use Rattle.dfu_asks.specs.Carried.{IsPiece}
 use Rattle.dfu_asks.specs.Asks.{device_of, IsDevice, steps_in}
-use Rattle.dfu_asks.specs.Calls.{Asks, Called, Took}
-use Rattle.dfu_asks.specs.Refused.{Fits, IsKept, IsLeft}
+use Rattle.dfu_asks.specs.Calls.{AsksWrites, DeviceCalled, DeviceTook}
+use Rattle.dfu_asks.specs.Refused.{Fits, IsKeptOn, IsLeft}
 use Rattle.dfu_board.specs.Board.{Board, lent_on, medium_on, device_on, Event, Handle, Elapse, UsbReset, RefuseClose, Refuse, Write, Report, Restart, Says, Nothing, WritesDue, Answers, BoardStep}
 
 -- What a reply says, with these bytes in the buffer of the call.
-abbrev pub said_by : Reply → List ℕ → Says
-said_by reply.Asks out = WritesDue
-said_by (reply.Answered a count) out = Answers a (take count out)
+abbrev pub reply_said : Reply → List ℕ → Says
+reply_said reply.Asks out = WritesDue
+reply_said (reply.Answered a count) out = Answers a (take count out)
 
 -- A call of `handle` or `elapse` that is not refused, by the clauses `served` and `outcome`: the row of its cause answers it, or its
 -- writes are due.
@@ -31,9 +31,9 @@ pub record IsServedBy (b : Board) (cause : Cause) (says : Says) (b' : Board) : T
   pub fits : Fits b.asking (length b.block)
   pub flash : b'.flash ≡ b.flash
   pub reply : Reply
-  pub outcome : IsKept b.asking b.block b.held b.flash → (out out' : List ℕ)
-      × Called (lent_on b) b.flash out (λ x sent d'. Row (device_on b) cause x sent d') (lent_on b') out' reply
-      × (says ≡ said_by reply out')
+  pub outcome : IsKeptOn b.asking b.block b.held b.flash → (out out' : List ℕ)
+      × DeviceCalled (lent_on b) b.flash out (λ x sent d'. Row (device_on b) cause x sent d') (lent_on b') out' reply
+      × (says ≡ reply_said reply out')
 
 -- A call of `usb_reset` that is not refused, by its clauses `served`, `row`, `is` and `work`.
 pub record IsReset (b : Board) (says : Says) (b' : Board) : Type 0 where
@@ -41,7 +41,7 @@ pub record IsReset (b : Board) (says : Says) (b' : Board) : Type 0 where
   pub fits : Fits b.asking (length b.block)
   pub flash : b'.flash ≡ b.flash
   pub row : device_on b' ≡ record (device_on b) { stage = reset_stage (device_on b).stage }
-  pub is : IsKept b.asking b.block b.held b.flash → IsKept b'.asking b'.block b'.held b'.flash
+  pub is : IsKeptOn b.asking b.block b.held b.flash → IsKeptOn b'.asking b'.block b'.held b'.flash
   pub work : b'.asking.work ≡ None
   pub says_is : says ≡ Answers answer.Ack []
 
@@ -59,7 +59,7 @@ IsHanded b p = (w : Work) × (b.asking.work ≡ Some w) × IsPiece (steps_in (le
 
 -- The flash changes in the range of that piece, and nowhere else. Any bytes may stand there then: the piece may be carried out, whole
 -- or in part, or fail, or lie.
-pub record IsWritten (b : Board) (b' : Board) : Type 0 where
+pub record FlashIsWritten (b : Board) (b' : Board) : Type 0 where
   pub piece : Step
   pub handed : IsHanded b piece
   pub torn : Torn b.flash piece.write.at piece.write.bytes b'.flash
@@ -75,10 +75,10 @@ pub record IsTold (b : Board) (failed : Bool) (says : Says) (b' : Board) : Type 
   pub reply : Reply
   pub out : List ℕ
   pub out' : List ℕ
-  pub outcome : (len : ℕ) (s : SlotsState) (was before : List ℕ) (asks : Asks (lent_on b) len s was before) (p : Step)
+  pub outcome : (len : ℕ) (s : SlotsState) (was before : List ℕ) (asks : AsksWrites (lent_on b) len s was before) (p : Step)
       → IsPiece (steps_in (lent_on b) asks.work) asks.work.done p → Torn before p.write.at p.write.bytes b.flash
-      → Took (device_of (lent_on b) s) len s was p.write failed b.flash out (lent_on b') out' reply
-  pub says_is : says ≡ said_by reply out'
+      → DeviceTook (device_of (lent_on b) s) len s was p.write failed b.flash out (lent_on b') out' reply
+  pub says_is : says ≡ reply_said reply out'
 
 -- Where a device stands that gets power: in dfuIDLE if it begins for a host, else in appIDLE.
 abbrev pub start_stage : Bool → Stage
@@ -86,15 +86,15 @@ start_stage true = InDfuIdle
 start_stage false = InAppIdle
 
 -- It just got power, by the clauses `device`, `is` and `work` of `power_on`; and if it begins for a host, it was put into dfuIDLE then.
-pub record IsOn (b : Board) : Type 0 where
+pub record IsPoweredOn (b : Board) : Type 0 where
   pub begins : Bool
   pub device : device_on b ≡ record (powered_on b.asking.config (medium_on b)) { stage = start_stage begins }
   pub is : IsDevice (lent_on b) b.flash
   pub work : b.asking.work ≡ None
 
 -- It just got power, and begins for a host or not.
-abbrev pub Starts : Bool → Board → Type 0
-Starts begins b = (on : IsOn b) × (on.begins ≡ begins)
+abbrev pub BoardStarts : Bool → Board → Type 0
+BoardStarts begins b = (on : IsPoweredOn b) × (on.begins ≡ begins)
 
 -- Nothing is said and nothing changes, as if a call is refused; or else this.
 abbrev pub IsRefusedOr : Says → Board → Board → Type 0 → Type 0
@@ -108,9 +108,9 @@ Happens b (Elapse ms) says b' = IsRefusedOr says b b' (IsServedBy b (Passing ms)
 Happens b UsbReset says b' = IsRefusedOr says b b' (IsReset b says b')
 Happens b (RefuseClose setup why) says b' = IsRefusedOr says b b' (IsObjected b (RefusingClose setup why) answer.Stall says b')
 Happens b (Refuse why) says b' = IsRefusedOr says b b' (IsObjected b (Refusing why) answer.Ack says b')
-Happens b Write says b' = (says ≡ Nothing) × IsWritten b b'
+Happens b Write says b' = (says ≡ Nothing) × FlashIsWritten b b'
 Happens b (Report failed) says b' = IsRefusedOr says b b' (IsTold b failed says b')
-Happens b (Restart begins) says b' = (says ≡ Nothing) × (b'.flash ≡ b.flash) × Starts begins b'
+Happens b (Restart begins) says b' = (says ≡ Nothing) × (b'.flash ≡ b.flash) × BoardStarts begins b'
 
 -- These steps come to a board, each beginning where the one before ended, and each leaves it set up as it was.
 abbrev pub IsRun : Board → List BoardStep → Board → Type 0

@@ -7,18 +7,18 @@ use Rattle.dfu_device.specs.declared.answer.Answer.TheVariants as answer
 use Rattle.dfu_device.specs.Rows.{Transfer}
 use Rattle.dfu_device.specs.Taken.{held_in, is_dnload, acknowledged}
 use Rattle.dfu_board.specs.Board.{Board, medium_on, state_on, Event, Handle, Restart, Says, Answers, BoardStep}
-use Rattle.dfu_board.specs.Happens.{IsOn, IsRun}
+use Rattle.dfu_board.specs.Happens.{IsPoweredOn, IsRun}
 
 -- The body of a DNLOAD that was acknowledged; of anything else no bytes.
-abbrev pub block_in : Event → Says → List ℕ
-block_in (Handle setup body) (Answers a out) = acknowledged (Transfer setup body) a
-block_in event says = []
+abbrev pub acknowledged_body : Event → Says → List ℕ
+acknowledged_body (Handle setup body) (Answers a out) = acknowledged (Transfer setup body) a
+acknowledged_body event says = []
 
 -- The bytes taken behind these, after these steps: each step adds the block that it acknowledged, and one that ends in a state in which
 -- no download is under way drops them all.
 abbrev pub taken_by : List ℕ → List BoardStep → List ℕ
 taken_by taken [] = taken
-taken_by taken (s ∷ rest) = taken_by (held_in (state_on s.after) (taken ++ block_in s.event s.says)) rest
+taken_by taken (s ∷ rest) = taken_by (held_in (state_on s.after) (taken ++ acknowledged_body s.event s.says)) rest
 
 -- A step acknowledged a DNLOAD of length 0, which closes a download.
 pub record IsClose (s : BoardStep) : Type 0 where
@@ -44,7 +44,7 @@ pub record HasKept (image : List ℕ) (old steps : List BoardStep) (b : Board) :
 
 -- Whatever steps come to a board that just got power, its image is the one that it has then, or one that is closed later.
 abbrev pub RunKeeps : Type 0
-RunKeeps = (b b' : Board) (steps : List BoardStep) (image : List ℕ) → IsOn b → Active (medium_on b) image → IsRun b steps b'
+RunKeeps = (b b' : Board) (steps : List BoardStep) (image : List ℕ) → IsPoweredOn b → Active (medium_on b) image → IsRun b steps b'
     → HasKept image [] steps b'
 
 -- In these states an image may wait to be put in place.
@@ -55,7 +55,7 @@ is_manifesting state = false
 
 -- So from any later time on, if its state is another one then: no image comes back that was closed before that time.
 abbrev pub RunStays : Type 0
-RunStays = (b mid b' : Board) (old steps : List BoardStep) (image : List ℕ) → IsOn b → IsRun b old mid
+RunStays = (b mid b' : Board) (old steps : List BoardStep) (image : List ℕ) → IsPoweredOn b → IsRun b old mid
     → is_manifesting (state_on mid) ≡ false → Active (medium_on mid) image → IsRun mid steps b' → HasKept image old steps b'
 
 -- In these states manifestation is over, and no fault is told.
@@ -67,6 +67,6 @@ has_manifested state = false
 -- If a step leads from a state in which an image may wait to one of these, all bytes taken are the active image; but for power that comes
 -- back to a device that begins in dfuIDLE.
 abbrev pub RunInstalls : Type 0
-RunInstalls = (b mid b' : Board) (steps : List BoardStep) (last : BoardStep) → IsOn b → IsRun b steps mid
+RunInstalls = (b mid b' : Board) (steps : List BoardStep) (last : BoardStep) → IsPoweredOn b → IsRun b steps mid
     → is_manifesting (state_on mid) ≡ true → IsRun mid (last ∷ []) b' → last.event ≢ Restart true → has_manifested (state_on b') ≡ true
     → Active (medium_on b') (taken_by [] steps)

@@ -13,15 +13,15 @@ use Rattle.dfu_device.specs.Stage.{state_of}
 use Rattle.dfu_device.specs.Shown.{Shown, situation}
 use Rattle.dfu_device.specs.Rows.{Cause, Transfer, Passing, BusReset, RefusingClose, Refusing, PowerOn, Row}
 use Rattle.dfu_device.specs.History.{IsHistory}
-use Rattle.dfu_device.specs.History.{Step as TableRow}
+use Rattle.dfu_device.specs.History.{HistoryStep as TableRow}
 use Rattle.dfu_device.specs.Taken.{taken_of}
 use Rattle.dfu_asks.specs.Steps.{Step}
 use Rattle.dfu_asks.specs.Carried.{IsPiece}
 use Rattle.dfu_asks.specs.Due.{IsDueRow}
 use Rattle.dfu_asks.specs.Asks.{device_of, IsDevice, steps_in}
-use Rattle.dfu_asks.specs.Calls.{Asks}
+use Rattle.dfu_asks.specs.Calls.{AsksWrites}
 use Rattle.dfu_board.specs.Board.{Board, lent_on, medium_on, device_on, state_on, Event, Handle, Elapse, UsbReset, RefuseClose, Refuse, Write, Report, Restart, Says, Nothing, WritesDue, Answers, BoardStep}
-use Rattle.dfu_board.specs.Happens.{IsOn, IsRun}
+use Rattle.dfu_board.specs.Happens.{IsPoweredOn, IsRun}
 use Rattle.dfu_board.specs.Keeps.{is_manifesting}
 
 -- There is one row, of this cause, with this answer.
@@ -57,7 +57,7 @@ IsStart true rows = IsBegin rows
 IsStart false rows = IsOne PowerOn answer.Ack [] rows
 
 -- The first row is of this cause, and nobody saw its answer. Then come those of the power that came back.
-pub record IsCut (cause : Cause) (begins : Bool) (rows : List TableRow) : Type 0 where
+pub record AreCutRows (cause : Cause) (begins : Bool) (rows : List TableRow) : Type 0 where
   pub row : TableRow
   pub rest : List TableRow
   pub rows_are : rows ≡ row ∷ rest
@@ -72,23 +72,23 @@ TellsCall cause due WritesDue rows due' = (rows ≡ []) × (due' ≡ Some cause)
 TellsCall cause due (Answers a out) rows due' = IsOne cause a out rows × (due' ≡ None)
 
 -- The rows of an event, if the row of this cause, or none, is due before it; and what is due after it.
-abbrev pub Tells : Option Cause → Event → Says → List TableRow → Option Cause → Type 0
-Tells due (Handle setup body) says rows due' = TellsCall (Transfer setup body) due says rows due'
-Tells due (Elapse ms) says rows due' = TellsCall (Passing ms) due says rows due'
-Tells due UsbReset says rows due' = TellsCall BusReset due says rows due'
-Tells due (RefuseClose setup why) says rows due' = TellsCall (RefusingClose setup why) due says rows due'
-Tells due (Refuse why) says rows due' = TellsCall (Refusing why) due says rows due'
-Tells due Write says rows due' = (rows ≡ []) × (due' ≡ due)
-Tells (Some cause) (Report failed) says rows due' = TellsCall cause (Some cause) says rows due'
-Tells None (Report failed) says rows due' = (rows ≡ []) × (due' ≡ None)
-Tells (Some cause) (Restart begins) says rows due' = IsCut cause begins rows × (due' ≡ None)
-Tells None (Restart begins) says rows due' = IsStart begins rows × (due' ≡ None)
+abbrev pub TellsRows : Option Cause → Event → Says → List TableRow → Option Cause → Type 0
+TellsRows due (Handle setup body) says rows due' = TellsCall (Transfer setup body) due says rows due'
+TellsRows due (Elapse ms) says rows due' = TellsCall (Passing ms) due says rows due'
+TellsRows due UsbReset says rows due' = TellsCall BusReset due says rows due'
+TellsRows due (RefuseClose setup why) says rows due' = TellsCall (RefusingClose setup why) due says rows due'
+TellsRows due (Refuse why) says rows due' = TellsCall (Refusing why) due says rows due'
+TellsRows due Write says rows due' = (rows ≡ []) × (due' ≡ due)
+TellsRows (Some cause) (Report failed) says rows due' = TellsCall cause (Some cause) says rows due'
+TellsRows None (Report failed) says rows due' = (rows ≡ []) × (due' ≡ None)
+TellsRows (Some cause) (Restart begins) says rows due' = AreCutRows cause begins rows × (due' ≡ None)
+TellsRows None (Restart begins) says rows due' = IsStart begins rows × (due' ≡ None)
 
 -- The rows of these steps, in their order, and what is due after them.
 abbrev pub TellsAll : Option Cause → List BoardStep → List TableRow → Option Cause → Type 0
 TellsAll due [] rows due' = (rows ≡ []) × (due' ≡ due)
 TellsAll due (s ∷ rest) rows due' = (first later : List TableRow) × (mid : Option Cause) × (rows ≡ first ++ later)
-    × Tells due s.event s.says first mid × TellsAll mid rest later due'
+    × TellsRows due s.event s.says first mid × TellsAll mid rest later due'
 
 -- A board carries out the writes of this device's row for this cause: some pieces stand on its flash, and in the range of the next one
 -- anything may stand.
@@ -97,7 +97,7 @@ pub record IsAtWork (b : Board) (cause : Cause) (d : Shown) : Type 0 where
   pub s : SlotsState
   pub was : List ℕ
   pub stood : List ℕ
-  pub asks : Asks (lent_on b) len s was stood
+  pub asks : AsksWrites (lent_on b) len s was stood
   pub device : device_of (lent_on b) s ≡ d
   pub row : IsDueRow len d (λ x sent d'. Row d cause x sent d')
   pub torn : (p : Step) → IsPiece (steps_in (lent_on b) asks.work) asks.work.done p → Torn stood p.write.at p.write.bytes b.flash
@@ -134,4 +134,4 @@ IdleRefines = (b b' : Board) (d : Shown) (steps : List BoardStep) → IsIdle b d
 
 -- Whatever steps come to a board that just got power, they are rows of the device table.
 abbrev pub RunRefines : Type 0
-RunRefines = (b b' : Board) (steps : List BoardStep) → IsOn b → IsRun b steps b' → HasRefined (device_on b) steps b'
+RunRefines = (b b' : Board) (steps : List BoardStep) → IsPoweredOn b → IsRun b steps b' → HasRefined (device_on b) steps b'

@@ -5,16 +5,16 @@ use Rattle.dfu_asks.specs.declared.asking.Asking.{Asking}
 use Rattle.dfu_asks.specs.declared.refusal.Refusal.{Refusal}
 use Rattle.dfu_asks.specs.declared.reply.Reply.{Reply}
 use Rattle.dfu_board.specs.Board.{Board, Says, Nothing, Answers}
-use Rattle.dfu_board.specs.Happens.{said_by}
+use Rattle.dfu_board.specs.Happens.{reply_said}
 
 -- The board of these parts.
 abbrev pub board : Asking → (block held flash : List ℕ) → Board
 board a block held flash = record { asking = a; block = block; held = held; flash = flash }
 
 -- What the result of a call says, with these bytes in its buffer.
-abbrev pub said : Result Reply Refusal → List ℕ → Says
-said (Ok r) out = said_by r out
-said (Err e) out = Nothing
+abbrev pub result_said : Result Reply Refusal → List ℕ → Says
+result_said (Ok r) out = reply_said r out
+result_said (Err e) out = Nothing
 
 -- What the result of `usb_reset` says.
 abbrev pub said_of_reset : Result (Unit {0}) Refusal → Says

@@ -6,13 +6,13 @@ ghost use Rattle.dfu_slots.specs.Image.{HasImage};
 ghost use Rattle.dfu_slots.specs.Seen.{SlotsState};
 ghost use Rattle.dfu_device.specs.Lent.{answer_room};
 ghost use Rattle.dfu_asks.specs.Lent.{lent, IsSetUpAs};
-ghost use Rattle.dfu_asks.specs.Calls.{Asks};
-ghost use Rattle.dfu_asks.specs.Refused.{IsRefused, IsNotTaken};
+ghost use Rattle.dfu_asks.specs.Calls.{AsksWrites};
+ghost use Rattle.dfu_asks.specs.Refused.{IsRefusedCall, IsNotTaken};
 ghost use Rattle.dfu_asks.specs.Mapped.{grain_of, mapped};
 ghost use Rattle.dfu_asks.specs.Jobs.{asked};
 ghost use Rattle.dfu_board.specs.Board.{Board, BoardStep, Handle, Elapse, UsbReset, RefuseClose, Refuse, Write, Report, Restart, Nothing, medium_on};
-ghost use Rattle.dfu_board.specs.Happens.{IsHanded, IsOn, Starts, Happens, IsRun};
-ghost use Rattle.dfu_board.specs.Steps.{board, said, said_of_reset, said_of_close};
+ghost use Rattle.dfu_board.specs.Happens.{IsHanded, IsPoweredOn, BoardStarts, Happens, IsRun};
+ghost use Rattle.dfu_board.specs.Steps.{board, result_said, said_of_reset, said_of_close};
 
 use crate::laws::boards_keep_an_image;
 use dfu_asks::{Asking, Piece, Refusal, Reply, Sector};
@@ -29,10 +29,10 @@ pub fn handle(
     body: &[u8],
     out: &mut [u8],
 ) -> Result<Reply, Refusal>
-    ensures step { Happens (board asking.old block.old held.old flash.now) (Handle setup.now body.now) (said result out.new)
+    ensures step { Happens (board asking.old block.old held.old flash.now) (Handle setup.now body.now) (result_said result out.new)
         (board asking.new block.new held.new flash.now) }
     ensures refused { IfErr result (λ e.
-        IsRefused e asking.old block.old held.old flash.now (answer_room asking.old.config) (length out.old)) }
+        IsRefusedCall e asking.old block.old held.old flash.now (answer_room asking.old.config) (length out.old)) }
     ensures same { IsSetUpAs asking.old asking.new }
 {
     asking.handle(block, held, flash, setup, body, out)
@@ -46,9 +46,9 @@ pub fn elapse(
     flash: &[u8],
     ms: u32,
 ) -> Result<Reply, Refusal>
-    ensures step { Happens (board asking.old block.old held.old flash.now) (Elapse ms) (said result [])
+    ensures step { Happens (board asking.old block.old held.old flash.now) (Elapse ms) (result_said result [])
         (board asking.new block.new held.new flash.now) }
-    ensures refused { IfErr result (λ e. IsRefused e asking.old block.old held.old flash.now 0 0) }
+    ensures refused { IfErr result (λ e. IsRefusedCall e asking.old block.old held.old flash.now 0 0) }
     ensures same { IsSetUpAs asking.old asking.new }
 {
     asking.elapse(block, held, flash, ms)
@@ -63,7 +63,7 @@ pub fn usb_reset(
 ) -> Result<(), Refusal>
     ensures step { Happens (board asking.old block.now held.now flash.now) UsbReset (said_of_reset result)
         (board asking.new block.now held.now flash.now) }
-    ensures refused { IfErr result (λ e. IsRefused e asking.old block.now held.now flash.now 0 0) }
+    ensures refused { IfErr result (λ e. IsRefusedCall e asking.old block.now held.now flash.now 0 0) }
     ensures same { IsSetUpAs asking.old asking.new }
 {
     asking.usb_reset(block, held, flash)
@@ -104,7 +104,8 @@ pub fn next(
     ensures piece { IfSome result (λ p. IsHanded (board asking.now block.now held.now flash.now) (asked p out.new)) }
     ensures written { IfSome result (λ p. (now : List ℕ) → Torn flash.now (asked p out.new).write.at (asked p out.new).write.bytes now →
         Happens (board asking.now block.now held.now flash.now) Write Nothing (board asking.now block.now held.now now)) }
-    ensures goes { IfNone result ((len : ℕ) (s : SlotsState) (was : List ℕ) → ¬ Asks (lent asking.now block.now held.now) len s was flash.now) }
+    ensures goes { IfNone result ((len : ℕ) (s : SlotsState) (was : List ℕ) →
+        ¬ AsksWrites (lent asking.now block.now held.now) len s was flash.now) }
 {
     asking.next(block, held, flash, out)
 }
@@ -118,7 +119,7 @@ pub fn took(
     failed: bool,
     out: &mut [u8],
 ) -> Result<Reply, Refusal>
-    ensures step { Happens (board asking.old block.now held.old flash.now) (Report failed) (said result out.new)
+    ensures step { Happens (board asking.old block.now held.old flash.now) (Report failed) (result_said result out.new)
         (board asking.new block.now held.new flash.now) }
     ensures refused { IfErr result (λ e. IsNotTaken e (lent asking.old block.now held.old) (length out.old)) }
     ensures same { IsSetUpAs asking.old asking.new }
@@ -129,12 +130,12 @@ pub fn took(
 /// `Asking::power_on` makes a board that just got power and stands in appIDLE, whatever is in its memories. It does so on the flash that
 /// any steps left.
 pub fn power_on(config: Config, unit: Unit, sector: Sector, flash: &[u8]) -> Option<Asking>
-    ensures on { (block held : List ℕ) → IfSome result (λ a. Starts false (board a block held flash.now)) }
+    ensures on { (block held : List ℕ) → IfSome result (λ a. BoardStarts false (board a block held flash.now)) }
     ensures step { (b : Board) (block held : List ℕ) → b.flash ≡ flash.now →
         IfSome result (λ a. Happens b (Restart false) Nothing (board a block held flash.now)) }
     ensures set_up { IfSome result (λ a. (a.config ≡ config) × (a.unit ≡ unit) × (a.sector ≡ sector)) }
     ensures none { IfNone result (¬ HasImage (mapped (grain_of unit sector) flash.now)) }
-    ensures starts { (b b' : Board) (steps : List BoardStep) → IsOn b → IsRun b steps b' →
+    ensures starts { (b b' : Board) (steps : List BoardStep) → IsPoweredOn b → IsRun b steps b' →
         medium_on b' ≡ mapped (grain_of unit sector) flash.now → IsSome result }
 {
     // Called for its clause `keeps`.

@@ -12,7 +12,7 @@ use Rattle.dfu_host.specs.declared.report.Report.TheVariants.{Uploaded}
 use Rattle.dfu_host.specs.Phases.{Phase, Fetch, Over, OverUploaded, Heard, Part, NoRoom, Restarted}
 use Rattle.dfu_host.specs.Table.{deed}
 use Rattle.dfu_host.specs.Host.{HostState, after, wants_memory}
-use Rattle.dfu_sim.specs.Session.{Machine, NoOne, Loading, IsOneOf, SaysInPlace, SaysNoPromise, Says, says_not, said, AGo, Step, goes, stops, and_then}
+use Rattle.dfu_sim.specs.Session.{Machine, NoOne, Loading, IsOneOf, SaysInPlace, SaysNoPromise, SaysReport, says_not, said, AGo, MachineStep, goes, stops, and_then}
 use Rattle.dfu_sim.specs.Happening.{Fate, Pass, Goes, unharmed}
 use Rattle.dfu_sim.specs.Course.{course_of}
 use Rattle.dfu_sim.specs.Play.{given, Took, settled, took, told, remembered, has_room, over, acted, Play}
@@ -34,12 +34,12 @@ use Rattle.dfu_board_play.proofs.Timed.{DeviceWell}
 abbrev pub StaysLive : Session → Session → Type 0
 StaysLive before now = (live_of now ≡ live_of before) ⊎ (live_of now ≡ NoOne)
 
-says_lives : {tolerant : Bool} {m m' : Machine} {report : Option Report} → Says tolerant m report m'
+says_lives : {tolerant : Bool} {m m' : Machine} {report : Option Report} → SaysReport tolerant m report m'
     → (m'.live ≡ m.live) ⊎ (m'.live ≡ NoOne)
 says_lives says_not = inl refl
 says_lives s = inr refl
 
-go_lives : {tolerant : Bool} {t : ℕ} {m m' : Machine} {report : Option Report} → Step tolerant t AGo m report m'
+go_lives : {tolerant : Bool} {t : ℕ} {m m' : Machine} {report : Option Report} → MachineStep tolerant t AGo m report m'
     → (m'.live ≡ m.live) ⊎ (m'.live ≡ NoOne)
 go_lives (goes b d s) = elim (says_lives s) [
   | inl same ↦ inl (same ∙ ends_live d ∙ begins_live b)

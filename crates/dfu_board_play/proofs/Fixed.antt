@@ -7,7 +7,7 @@ use Rattle.dfu_device.specs.Shown.{Shown, profile, profile_of}
 use Rattle.dfu_device.specs.Rows.{Cause, Transfer, Passing, BusReset, RefusingClose, Refusing, PowerOn, Row, Handles, handled_as, setup_plan, asked_length}
 use Rattle.dfu_device.specs.Came.{came, time_came}
 use Rattle.dfu_device.specs.History.{IsHistory}
-use Rattle.dfu_device.specs.History.{Step as TableRow}
+use Rattle.dfu_device.specs.History.{HistoryStep as TableRow}
 
 handled_profile : (setup body : List ℕ) (d d' : Shown) (a : Answer) (out : List ℕ) → Handles setup body d a out d' → profile d' ≡ profile d
 handled_profile setup body d d' a out (handled_as p q reads asks done) =

@@ -3,10 +3,10 @@ use Rattle.std.specs.Prelude.{◌≡◌, ◌⊎◌, ℕ, Bool, List, [], ◌∷�
 use Rattle.std.proofs.Common.{inl, inr, refl, sym, ap, ◌∙◌, subst}
 use Rattle.dfu_device.specs.declared.answer.Answer.{Answer}
 use Rattle.dfu_device.specs.Rows.{Cause}
-use Rattle.dfu_device.specs.History.{Step as TableRow}
+use Rattle.dfu_device.specs.History.{HistoryStep as TableRow}
 use Rattle.dfu_board.specs.Board.{Event, Restart, Says, WritesDue, BoardStep}
-use Rattle.dfu_board.specs.Refines.{TellsCall, Tells, TellsAll}
-use Rattle.dfu_board_play.specs.Calls.{CarriesOn, WorksOff, ends, carries_on, IsCall, at_once, with_writes, IsCutOff, power_goes, still_due, IsBroken, broken}
+use Rattle.dfu_board.specs.Refines.{TellsCall, TellsRows, TellsAll}
+use Rattle.dfu_board_play.specs.Calls.{CarriesOn, WorksOff, ends, carries_on, IsCall, at_once, with_writes, IsCutOff, power_goes, still_due, IsBrokenCall, broken}
 use Rattle.dfu_board_play.proofs.Served.{IsOf, tells_of, carried}
 
 -- Lists.
@@ -49,7 +49,7 @@ pub part_tells : (call : Event) (cause : Cause) (steps : List BoardStep) (rows :
     → IsPartOf call steps → TellsAll None steps rows due → rows ≡ []
 part_tells call cause [] rows due is p t = t.0
 part_tells call cause (s ∷ rest) rows due is p (first, later, mid, are, t, more) =
-    let told = tells_of call cause None mid s.says first is (subst (λ (x : Event). Tells None x s.says first mid) p.0 t) in
+    let told = tells_of call cause None mid s.says first is (subst (λ (x : Event). TellsRows None x s.says first mid) p.0 t) in
     let x : (first ≡ []) × (mid ≡ Some cause) = subst (λ (y : Says). TellsCall cause None y first mid) p.1 told in
     are ∙ (λ i. x.0 i ++ later)
     ∙ all_carried cause rest later due p.2 (subst (λ (z : Option Cause). TellsAll z rest later due) x.1 more)
@@ -112,7 +112,7 @@ cut_after _ (still_due s rest c w) =
     }
 
 -- A call that is broken off is cut after its first steps.
-pub broken_after : (call : Event) (steps : List BoardStep) → IsBroken call steps → IsCutAfter call steps
+pub broken_after : (call : Event) (steps : List BoardStep) → IsBrokenCall call steps → IsCutAfter call steps
 broken_after call _ (broken s rest event says w) =
     let x = cut_after rest w in
     record {
@@ -133,7 +133,7 @@ cut_front (x ∷ xs) rest _ (still_due s more c w) e = elim (cut_front xs rest m
 ]
 
 -- The first steps of it are such a part, or all.
-pub broken_front : (call : Event) (front rest steps : List BoardStep) → IsBroken call steps → front ++ rest ≡ steps
+pub broken_front : (call : Event) (front rest steps : List BoardStep) → IsBrokenCall call steps → front ++ rest ≡ steps
     → IsPartOf call front ⊎ (rest ≡ [])
 broken_front call [] rest steps br e = inl tt
 broken_front call (x ∷ xs) rest _ (broken s more event says w) e =

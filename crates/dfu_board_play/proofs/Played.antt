@@ -22,7 +22,7 @@ use Rattle.dfu_sim.proofs.Objecting.{refusal_sound, refusal_fact}
 use Rattle.dfu_board.specs.Board.{Board, Handle, Elapse, UsbReset, Refuse, Event, Says, BoardStep}
 use Rattle.dfu_board.specs.Refines.{IsIdle, IdleRefines}
 use Rattle.dfu_board_play.specs.Calls.{Reaches}
-use Rattle.dfu_board_play.specs.Comes.{BoardLink, IsUnderWay, left, Comes, passes, sends, objects, refuses, waits, resets, is_reset, restarts}
+use Rattle.dfu_board_play.specs.Comes.{BoardLink, IsUnderWay, left, BoardComes, passes, sends, objects, refuses, waits, resets, is_reset, restarts}
 use Rattle.dfu_board_play.proofs.Served.{IsOf, served}
 use Rattle.dfu_board_play.proofs.Fixed.{row_profile}
 use Rattle.dfu_board_play.proofs.Timed.{DeviceWell, timed}
@@ -104,7 +104,7 @@ module _ (refines : IdleRefines) (simulation : Simulation) (only : OnlyOffered) 
 
   -- What holds holds again, whatever comes.
   pub went_on : (first : List ℕ) (last : Option (List ℕ)) (l l' : BoardLink) (d : Shown) (steps : List BoardStep) (answer : Answered)
-      → Stands c first past last l d → Comes l steps answer l' → WentOn c first past last answer l'
+      → Stands c first past last l d → BoardComes l steps answer l' → WentOn c first past last answer l'
   went_on first last l _ d steps _ s (passes {ms = ms} {a = a} {out = out} {b' = b'} serves) =
       let x = served refines l.board b' d (Elapse ms) (Passing ms) steps a out refl s.idle serves in
       let y = time_came ms d x.device x.row.2 in

@@ -6,7 +6,7 @@ use Rattle.dfu_sim.specs.Play.{Answered}
 use Rattle.dfu_board.specs.Board.{Board, Event, Handle, Says, BoardStep}
 use Rattle.dfu_board.specs.Happens.{IsRun}
 use Rattle.dfu_board_play.specs.Calls.{Reaches, lost, once, twice, Objects, refused_once, refused_twice, Stops, behind, within, within_second}
-use Rattle.dfu_board_play.specs.Comes.{BoardLink, Comes, passes, sends, objects, refuses, waits, resets, is_reset, restarts}
+use Rattle.dfu_board_play.specs.Comes.{BoardLink, BoardComes, passes, sends, objects, refuses, waits, resets, is_reset, restarts}
 use Rattle.dfu_board_play.specs.Plays.{starts, offers, uploads, aborts as gives_up, goes_on, PlaysRun}
 
 run_append : (b mid b' : Board) (xs ys : List BoardStep) → IsRun b xs mid → IsRun mid ys b' → IsRun b (xs ++ ys) b'
@@ -52,7 +52,8 @@ stops_run call b b' _ (within_second {first = first} {second = second} {mid = mi
     run_append b mid b' first second serves.run run
 
 -- So is what comes next over a link.
-pub comes_run : (l l' : BoardLink) (steps : List BoardStep) (answer : Answered) → Comes l steps answer l' → IsRun l.board steps l'.board
+pub comes_run : (l l' : BoardLink) (steps : List BoardStep) (answer : Answered) → BoardComes l steps answer l' →
+    IsRun l.board steps l'.board
 comes_run l _ steps _ (passes serves) = serves.run
 comes_run l _ steps _ (sends {setup = setup} {body = body} {says = says} {b' = b'} live is asked reaches hears room) =
     reaches_run (Handle setup body) l.board b' steps says reaches

@@ -24,13 +24,13 @@ use Rattle.dfu_sim.specs.Simulation.{Simulation, OnlyOffered}
 use Rattle.dfu_board.specs.Board.{Board, Handle, RefuseClose, Says, Answers, BoardStep}
 use Rattle.dfu_board.specs.Refines.{IsIdle, IdleRefines}
 use Rattle.dfu_board_play.specs.Calls.{Reaches, lost, once, twice, Objects, refused_once, refused_twice}
-use Rattle.dfu_board_play.specs.Comes.{HearsBack}
+use Rattle.dfu_board_play.specs.Comes.{HearsSentBack}
 use Rattle.dfu_board_play.proofs.Served.{served}
 use Rattle.dfu_board_play.proofs.Fixed.{row_profile}
 use Rattle.dfu_board_play.proofs.Acted.{ActedWell, acted_well}
 
 -- Nothing may always be heard.
-pub hears_nothing : (d : Deed) (says : Says) → HearsBack d says NothingHeard
+pub hears_nothing : (d : Deed) (says : Says) → HearsSentBack d says NothingHeard
 hears_nothing d (Answers a out) = inl refl
 hears_nothing d says = refl
 
@@ -50,7 +50,7 @@ module _ (refines : IdleRefines) (simulation : Simulation) (only : OnlyOffered) 
 
   -- It came once.
   once_well : (d' : Shown) (a : Answer) (out : List ℕ) (heard : Heard) → Handles setup body d a out d'
-      → HearsBack (Send q body) (Answers a out) heard → (heard ≡ NoRoom → IsTrue (wants_memory h.phase)) → Acted d' heard
+      → HearsSentBack (Send q body) (Answers a out) heard → (heard ≡ NoRoom → IsTrue (wants_memory h.phase)) → Acted d' heard
   once_well d' a out heard row hears room = elim hears [
     | inl none ↦ acted_well simulation only c sized past d d' h heard LostBack e sound offered f refl
         (subst (λ (y : Deed). Acts y (course_of LostBack) d d' heard) (sym is)
@@ -62,7 +62,7 @@ module _ (refines : IdleRefines) (simulation : Simulation) (only : OnlyOffered) 
 
   -- It came twice.
   twice_well : (mid d' : Shown) (a x : Answer) (out said : List ℕ) (heard : Heard) → Handles setup body d x said mid
-      → Handles setup body mid a out d' → HearsBack (Send q body) (Answers a out) heard
+      → Handles setup body mid a out d' → HearsSentBack (Send q body) (Answers a out) heard
       → (heard ≡ NoRoom → IsTrue (wants_memory h.phase)) → Acted d' heard
   twice_well mid d' a x out said heard row more hears room = elim hears [
     | inl none ↦ acted_well simulation only c sized past d d' h heard TwiceLostBack e sound offered f refl
@@ -75,7 +75,7 @@ module _ (refines : IdleRefines) (simulation : Simulation) (only : OnlyOffered) 
 
   -- It came once, and the program refused the image that it closes.
   refused_well : (why : Objection) (d' : Shown) (a : Answer) (out : List ℕ) (heard : Heard) → Row d (RefusingClose setup why) a out d'
-      → HearsBack (Send q body) (Answers a out) heard → (heard ≡ NoRoom → IsTrue (wants_memory h.phase)) → Acted d' heard
+      → HearsSentBack (Send q body) (Answers a out) heard → (heard ≡ NoRoom → IsTrue (wants_memory h.phase)) → Acted d' heard
   refused_well why d' a out heard row hears room = elim hears [
     | inl none ↦ acted_well simulation only c sized past d d' h heard (Refusing why LostBack) e sound offered f refl
         (subst (λ (y : Deed). Acts y (course_of (Refusing why LostBack)) d d' heard) (sym is)
@@ -88,7 +88,7 @@ module _ (refines : IdleRefines) (simulation : Simulation) (only : OnlyOffered) 
   -- It came a second time then.
   refused_again : (why : Objection) (mid d' : Shown) (a x : Answer) (out said : List ℕ) (heard : Heard)
       → Row d (RefusingClose setup why) x said mid
-      → Handles setup body mid a out d' → HearsBack (Send q body) (Answers a out) heard
+      → Handles setup body mid a out d' → HearsSentBack (Send q body) (Answers a out) heard
       → (heard ≡ NoRoom → IsTrue (wants_memory h.phase)) → Acted d' heard
   refused_again why mid d' a x out said heard row more hears room = elim hears [
     | inl none ↦ acted_well simulation only c sized past d d' h heard (Refusing why TwiceLostBack) e sound offered f refl
@@ -108,7 +108,7 @@ module _ (refines : IdleRefines) (simulation : Simulation) (only : OnlyOffered) 
 
   -- In each of these ways.
   pub sent_well : (b b' : Board) (steps : List BoardStep) (says : Says) (heard : Heard) → IsIdle b d
-      → Reaches (Handle setup body) b steps says b' → HearsBack (Send q body) says heard
+      → Reaches (Handle setup body) b steps says b' → HearsSentBack (Send q body) says heard
       → (heard ≡ NoRoom → IsTrue (wants_memory h.phase)) → Sent b' heard
   sent_well b _ _ _ heard k lost hears room = record { device = d; idle = k; profile_is = e; acted = lost_well heard hears room }
   sent_well b b' steps _ heard k (once {a = a} {out = out} serves) hears room =
@@ -133,7 +133,7 @@ module _ (refines : IdleRefines) (simulation : Simulation) (only : OnlyOffered) 
 
   -- And where the program refused the image that it closes.
   pub objected_well : (why : Objection) (b b' : Board) (steps : List BoardStep) (says : Says) (heard : Heard) → IsIdle b d
-      → Objects setup body why b steps says b' → HearsBack (Send q body) says heard
+      → Objects setup body why b steps says b' → HearsSentBack (Send q body) says heard
       → (heard ≡ NoRoom → IsTrue (wants_memory h.phase)) → Sent b' heard
   objected_well why b b' steps _ heard k (refused_once {a = a} {out = out} serves) hears room =
       let x = served refines b b' d (RefuseClose setup why) (RefusingClose setup why) steps a out refl k serves in

@@ -5,9 +5,9 @@ use Rattle.dfu_device.specs.declared.answer.Answer.{Answer}
 use Rattle.dfu_device.specs.Shown.{Shown}
 use Rattle.dfu_device.specs.Rows.{Cause, Transfer, Passing, BusReset, RefusingClose, Refusing, Row}
 use Rattle.dfu_device.specs.History.{IsHistory}
-use Rattle.dfu_device.specs.History.{Step as TableRow}
+use Rattle.dfu_device.specs.History.{HistoryStep as TableRow}
 use Rattle.dfu_board.specs.Board.{Board, Event, Handle, Elapse, UsbReset, RefuseClose, Refuse, Write, Report, Restart, Says, Nothing, WritesDue, Answers, BoardStep}
-use Rattle.dfu_board.specs.Refines.{IsOne, TellsCall, Tells, TellsAll, IsIdle, StandsFor, IdleRefines}
+use Rattle.dfu_board.specs.Refines.{IsOne, TellsCall, TellsRows, TellsAll, IsIdle, StandsFor, IdleRefines}
 use Rattle.dfu_board_play.specs.Calls.{CarriesOn, WorksOff, ends, carries_on, IsCall, at_once, with_writes, Serves}
 
 -- The call of this cause.
@@ -21,7 +21,7 @@ IsOf event cause = ⊥
 
 -- Its event tells of its rows.
 pub tells_of : (call : Event) (cause : Cause) (due due' : Option Cause) (says : Says) (rows : List TableRow) → IsOf call cause
-    → Tells due call says rows due' → TellsCall cause due says rows due'
+    → TellsRows due call says rows due' → TellsCall cause due says rows due'
 tells_of (Handle setup body) cause due due' says rows is t = subst (λ (x : Cause). TellsCall x due says rows due') (sym is) t
 tells_of (Elapse ms) cause due due' says rows is t = subst (λ (x : Cause). TellsCall x due says rows due') (sym is) t
 tells_of UsbReset cause due due' says rows is t = subst (λ (x : Cause). TellsCall x due says rows due') (sym is) t
@@ -36,7 +36,7 @@ refused cause due due' says rows e t = subst (λ (x : Says). TellsCall cause (So
 
 -- Nor has what carries on the writes.
 pub carried : (e : Event) (says : Says) (due : Cause) (due' : Option Cause) (rows : List TableRow) → CarriesOn e says
-    → Tells (Some due) e says rows due' → (rows ≡ []) × (due' ≡ Some due)
+    → TellsRows (Some due) e says rows due' → (rows ≡ []) × (due' ≡ Some due)
 carried Write says due due' rows c t = t
 carried (Report failed) (Answers a out) due due' rows c t = elim c [ ]
 carried (Report failed) Nothing due due' rows c t = t
@@ -68,7 +68,7 @@ works_off : (cause : Cause) (a : Answer) (out : List ℕ) (steps : List BoardSte
     → WorksOff a out steps → TellsAll (Some cause) steps rows due → IsOne cause a out rows × (due ≡ None)
 works_off cause a out _ rows due (ends s failed event says) (first, later, mid, are, t, more) =
     answered cause (Some cause) mid due s.says a out rows first later says
-    (subst (λ (x : Event). Tells (Some cause) x s.says first mid) event t) are more.0 more.1
+    (subst (λ (x : Event). TellsRows (Some cause) x s.says first mid) event t) are more.0 more.1
 works_off cause a out _ rows due (carries_on s rest c w) (first, later, mid, are, t, more) =
     let x = carried s.event s.says cause mid first c t in
     let same : rows ≡ later = are ∙ (λ i. x.0 i ++ later) in
@@ -80,9 +80,9 @@ call_tells : (call : Event) (cause : Cause) (a : Answer) (out : List ℕ) (steps
     → IsOne cause a out rows × (due ≡ None)
 call_tells call cause a out _ rows due is (at_once s event says) (first, later, mid, are, t, more) =
     answered cause None mid due s.says a out rows first later says
-    (tells_of call cause None mid s.says first is (subst (λ (x : Event). Tells None x s.says first mid) event t)) are more.0 more.1
+    (tells_of call cause None mid s.says first is (subst (λ (x : Event). TellsRows None x s.says first mid) event t)) are more.0 more.1
 call_tells call cause a out _ rows due is (with_writes s rest event says w) (first, later, mid, are, t, more) =
-    let told = tells_of call cause None mid s.says first is (subst (λ (x : Event). Tells None x s.says first mid) event t) in
+    let told = tells_of call cause None mid s.says first is (subst (λ (x : Event). TellsRows None x s.says first mid) event t) in
     let x : (first ≡ []) × (mid ≡ Some cause) = subst (λ (y : Says). TellsCall cause None y first mid) says told in
     let same : rows ≡ later = are ∙ (λ i. x.0 i ++ later) in
     let y = works_off cause a out rest later due w (subst (λ (z : Option Cause). TellsAll z rest later due) x.1 more) in

@@ -7,7 +7,7 @@ use Rattle.dfu_device.specs.Stage.{Profile, Stage, InManifestSync, InManifest, s
 use Rattle.dfu_device.specs.Outcome.{Situation, Works}
 use Rattle.dfu_device.specs.Shown.{Shown, profile, situation}
 use Rattle.dfu_device.specs.History.{IsHistory}
-use Rattle.dfu_device.specs.History.{Step as TableRow}
+use Rattle.dfu_device.specs.History.{HistoryStep as TableRow}
 use Rattle.dfu_asks.specs.Asks.{store_in}
 use Rattle.dfu_host.specs.declared.limits.Limits.{Limits}
 use Rattle.dfu_host.specs.declared.report.Report.{Report}
@@ -15,9 +15,9 @@ use Rattle.dfu_host.specs.Phases.{Goal, ToFetch}
 use Rattle.dfu_host.specs.Host.{HostState, aborted}
 use Rattle.dfu_sim.specs.declared.aim.Aim.{Aim}
 use Rattle.dfu_sim.specs.declared.aim.Aim.TheVariants.{Install, Verify}
-use Rattle.dfu_sim.specs.Session.{Machine, Live, Loading, IsOneOf, AnAbort, Step, aborts}
+use Rattle.dfu_sim.specs.Session.{Machine, Live, Loading, IsOneOf, AnAbort, MachineStep, aborts}
 use Rattle.dfu_sim.specs.Happening.{Offers, Uploads, Aborts}
-use Rattle.dfu_sim.specs.Opening.{goal_of, opened}
+use Rattle.dfu_sim.specs.Opening.{goal_of_aim, opened}
 use Rattle.dfu_sim.specs.Play.{silent}
 use Rattle.dfu_sim.specs.Bench.{Session, Nobody, Hosted}
 use Rattle.dfu_sim.specs.Agreement.{live_goal, live_of, IsLiveOffer}
@@ -25,7 +25,7 @@ use Rattle.dfu_sim.specs.LinkAgreement.{IsSound}
 use Rattle.dfu_sim.specs.Fact.{SessionFact}
 use Rattle.dfu_sim.specs.Simulation.{Simulation, OnlyOffered}
 use Rattle.dfu_board.specs.Board.{Board, lent_on, medium_on, device_on, state_on, BoardStep}
-use Rattle.dfu_board.specs.Happens.{IsOn}
+use Rattle.dfu_board.specs.Happens.{IsPoweredOn}
 use Rattle.dfu_board.specs.Refines.{IsIdle, IdleRefines}
 use Rattle.dfu_board_play.specs.Comes.{BoardLink}
 use Rattle.dfu_board_play.specs.Plays.{opened_on, Plays, starts, offers, uploads, aborts as gives_up, goes_on, PlaysInstall, PlaysGive, PlaysKnow, PlaysKnowWithin}
@@ -37,7 +37,7 @@ use Rattle.dfu_board_play.proofs.Throughout.{comes_known}
 
 -- Sessions that begin.
 
-goal_live : (aim : Aim) (payload : List ℕ) → live_goal (goal_of aim payload) ≡ Loading payload
+goal_live : (aim : Aim) (payload : List ℕ) → live_goal (goal_of_aim aim payload) ≡ Loading payload
 goal_live Install payload = refl
 goal_live Verify payload = refl
 
@@ -53,7 +53,8 @@ more_known : (x payload first : List ℕ) (past : List (List ℕ)) → (x ≡ fi
 more_known x payload first past (inl e) = inl e
 more_known x payload first past (inr one) = inr (inr one)
 
-abort_lives : {tolerant : Bool} {t : ℕ} {m m' : Machine} {report : Option Report} → Step tolerant t AnAbort m report m' → m'.live ≡ m.live
+abort_lives : {tolerant : Bool} {t : ℕ} {m m' : Machine} {report : Option Report} → MachineStep tolerant t AnAbort m report m' →
+    m'.live ≡ m.live
 abort_lives aborts = refl
 
 module _ (refines : IdleRefines) (simulation : Simulation) (only : OnlyOffered) (c : Profile) (sized : 0 < c.transfer) where
@@ -65,10 +66,10 @@ module _ (refines : IdleRefines) (simulation : Simulation) (only : OnlyOffered) 
 
   -- What holds of a session that begins.
   offer_fact : (past : List (List ℕ)) (s : Situation) (aim : Aim) (payload : List ℕ) (limits : Limits) → IsSound past s.stage
-      → 0 < length payload → SessionFact c s (opened c (goal_of aim payload) limits.actions limits.restarts)
+      → 0 < length payload → SessionFact c s (opened c (goal_of_aim aim payload) limits.actions limits.restarts)
   offer_fact past s aim payload limits sound some =
       (simulation c (record { device = s; session = Nobody })
-      (record { device = s; session = opened c (goal_of aim payload) limits.actions limits.restarts }) []
+      (record { device = s; session = opened c (goal_of_aim aim payload) limits.actions limits.restarts }) []
       (machine simulation only c sized past s Nobody) (Offers aim payload limits) silent sized tt
       (agrees simulation only c sized past s Nobody sound tt)
       (record { allowed = some; first = Works; second = Works; room = true; same = refl })).fact
@@ -119,7 +120,8 @@ module _ (refines : IdleRefines) (simulation : Simulation) (only : OnlyOffered) 
     };
   }
 
-  stands : (first : List ℕ) (b : Board) (steps : List BoardStep) (past : List (List ℕ)) (last : Option (List ℕ)) (l : BoardLink) → IsOn b
+  stands : (first : List ℕ) (b : Board) (steps : List BoardStep) (past : List (List ℕ)) (last : Option (List ℕ)) (l : BoardLink) →
+      IsPoweredOn b
       → profile (device_on b) ≡ c → image_of (device_on b).slots ≡ first → Plays b steps past last l → StandsSo first past last l
   stands first b _ _ _ _ on e i starts = record {
     device = device_on b;
@@ -135,7 +137,7 @@ module _ (refines : IdleRefines) (simulation : Simulation) (only : OnlyOffered) 
   }
   stands first b steps _ _ _ on e i (offers {past = past} {last = last} {l = l} aim payload limits p none some) =
       let x = stands first b steps past last l on e i p in
-      begins first past (payload ∷ past) last (Some payload) l (goal_of aim payload) limits x
+      begins first past (payload ∷ past) last (Some payload) l (goal_of_aim aim payload) limits x
       (offer_fact past (situation x.device) aim payload limits x.stands.sound some)
       (λ y same. some_is payload y (sym (goal_live aim payload) ∙ same))
       (subst (λ (y : Live). IsLiveOffer (payload ∷ past) y) (sym (goal_live aim payload)) (inl refl))

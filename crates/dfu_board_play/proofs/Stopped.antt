@@ -9,16 +9,16 @@ use Rattle.dfu_device.specs.Stage.{Profile, Stage, InManifestSync, InManifestSyn
 use Rattle.dfu_device.specs.Shown.{Shown, profile, situation}
 use Rattle.dfu_device.specs.Rows.{Cause}
 use Rattle.dfu_device.specs.History.{IsHistory}
-use Rattle.dfu_device.specs.History.{Step as TableRow}
+use Rattle.dfu_device.specs.History.{HistoryStep as TableRow}
 use Rattle.dfu_device.specs.Taken.{taken_in, taken_of}
 use Rattle.dfu_asks.specs.Mapped.{grain_of, mapped}
 use Rattle.dfu_sim.specs.Session.{IsOneOf}
 use Rattle.dfu_sim.specs.LinkAgreement.{IsSound}
 use Rattle.dfu_board.specs.Board.{Board, medium_on, Event, Restart, Says, Answers, BoardStep}
-use Rattle.dfu_board.specs.Happens.{start_stage, Starts, Happens, IsRun}
+use Rattle.dfu_board.specs.Happens.{start_stage, BoardStarts, Happens, IsRun}
 use Rattle.dfu_board.specs.Keeps.{is_manifesting}
 use Rattle.dfu_board.specs.Refines.{IsIdle, StandsFor, IdleRefines}
-use Rattle.dfu_board_play.specs.Calls.{IsBroken, Reaches, once, Stops, behind, within, within_second}
+use Rattle.dfu_board_play.specs.Calls.{IsBrokenCall, Reaches, once, Stops, behind, within, within_second}
 use Rattle.dfu_board_play.proofs.Served.{IsOf}
 use Rattle.dfu_board_play.proofs.Fixed.{history_profile}
 use Rattle.dfu_board_play.proofs.Parts.{IsPartOf, part_tells, broken_after}
@@ -45,10 +45,10 @@ start_sound past false = tt
 
 -- What happens as the power comes back.
 power_happens : (b b' : Board) (s : BoardStep) (begins : Bool) → IsRun b (s ∷ []) b' → s.event ≡ Restart begins
-    → (b'.flash ≡ b.flash) × Starts begins b'
+    → (b'.flash ≡ b.flash) × BoardStarts begins b'
 power_happens b b' s begins run event =
     let happens = subst (λ (e : Event). Happens b e s.says s.after) event run.1 in
-    subst (λ (x : Board). (x.flash ≡ b.flash) × Starts begins x) (sym run.3) (happens.1, happens.2)
+    subst (λ (x : Board). (x.flash ≡ b.flash) × BoardStarts begins x) (sym run.3) (happens.1, happens.2)
 
 module _ (refines : IdleRefines) (past : List (List ℕ)) where
   -- Within a call the active image is that of the device, or one of the offers.
@@ -108,7 +108,7 @@ module _ (refines : IdleRefines) (past : List (List ℕ)) where
             ]
 
     stops_within : (b b' : Board) (d : Shown) (call : Event) (cause : Cause) (steps : List BoardStep) → IsIdle b d → profile d ≡ c
-        → IsSound past d.stage → IsOf call cause → IsBroken call steps → IsRun b steps b' → Became c past (situation d) b'
+        → IsSound past d.stage → IsOf call cause → IsBrokenCall call steps → IsRun b steps b' → Became c past (situation d) b'
     stops_within b b' d call cause steps k e sound is br run =
         let x = broken_after call steps br in
         stopped b b' d call cause x.front x.power x.begins k e sound is x.part x.event

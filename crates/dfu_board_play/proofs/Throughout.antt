@@ -14,7 +14,7 @@ use Rattle.dfu_sim.specs.Simulation.{Simulation, OnlyOffered}
 use Rattle.dfu_board.specs.Board.{Board, Handle, Elapse, UsbReset, RefuseClose, Refuse, Event, Says, BoardStep}
 use Rattle.dfu_board.specs.Refines.{IsIdle, IdleRefines}
 use Rattle.dfu_board_play.specs.Calls.{Reaches, Objects, refused_once, refused_twice}
-use Rattle.dfu_board_play.specs.Comes.{BoardLink, IsUnderWay, Comes, passes, sends, objects, refuses, waits, resets, is_reset, restarts}
+use Rattle.dfu_board_play.specs.Comes.{BoardLink, IsUnderWay, BoardComes, passes, sends, objects, refuses, waits, resets, is_reset, restarts}
 use Rattle.dfu_board_play.specs.Plays.{HasKnown}
 use Rattle.dfu_board_play.proofs.Served.{served}
 use Rattle.dfu_board_play.proofs.Became.{Became}
@@ -52,7 +52,7 @@ module _ (refines : IdleRefines) (simulation : Simulation) (only : OnlyOffered) 
 
   -- The image is known after each of the steps that come next, if it is at their end.
   pub comes_known : (l l' : BoardLink) (d : Shown) (steps : List BoardStep) (answer : Answered) → Stands c first past last l d
-      → HasKnown first past l'.board → Comes l steps answer l' → Through refines c first past l.board steps
+      → HasKnown first past l'.board → BoardComes l steps answer l' → Through refines c first past l.board steps
   comes_known l _ d steps _ s at (passes {ms = ms} {a = a} {out = out} {b' = b'} serves) =
       call_known refines c first past l.board b' d (Elapse ms) (Passing ms) steps a out s.idle
       (record { sound = s.sound; known = s.known }) refl serves at

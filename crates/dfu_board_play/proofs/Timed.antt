@@ -11,7 +11,7 @@ use Rattle.dfu_host.specs.Host.{IsOn}
 use Rattle.dfu_sim.specs.Bench.{Session, Nobody, Hosted}
 use Rattle.dfu_sim.specs.Session.{IsOneOf}
 use Rattle.dfu_sim.specs.LinkAgreement.{IsSound}
-use Rattle.dfu_sim.specs.Fact.{IsIdle, Fetches, FetchFact, CompareFact, GoalFact, SessionFact}
+use Rattle.dfu_sim.specs.Fact.{IsDfuIdle, Fetches, FetchFact, CompareFact, GoalFact, SessionFact}
 use Rattle.dfu_sim.proofs.Kept.{fact_time}
 
 -- The image of a device stays or becomes one of the offers, and bytes that were closed are one of them.
@@ -74,8 +74,8 @@ module _ (c : Profile) (s : Situation) (ms : ℕ) (luck : Luck) where
   fetches n kept image (InUploadIdle place number) f = f
   fetches n kept image stage f = elim f [ ]
 
-  idles : (kept image : List ℕ) (stage : Stage) → (kept ≡ image) × IsIdle stage
-      → let d = (outcome image (time_plan c stage ms) luck).after in (kept ≡ d.image) × IsIdle d.stage
+  idles : (kept image : List ℕ) (stage : Stage) → (kept ≡ image) × IsDfuIdle stage
+      → let d = (outcome image (time_plan c stage ms) luck).after in (kept ≡ d.image) × IsDfuIdle d.stage
   idles kept image InDfuIdle f = f
   idles kept image stage f = elim f.1 [ ]
 

@@ -12,7 +12,7 @@ use Rattle.dfu_sim.specs.LinkAgreement.{IsSound}
 use Rattle.dfu_board.specs.Board.{Board, UsbReset, Event, Says, Answers, BoardStep}
 use Rattle.dfu_board.specs.Happens.{IsRun}
 use Rattle.dfu_board.specs.Refines.{IsIdle, IdleRefines}
-use Rattle.dfu_board_play.specs.Calls.{Serves, IsBroken, Reaches, lost, once, twice, Stops, behind, within, within_second}
+use Rattle.dfu_board_play.specs.Calls.{Serves, IsBrokenCall, Reaches, lost, once, twice, Stops, behind, within, within_second}
 use Rattle.dfu_board_play.specs.Plays.{HasKnown}
 use Rattle.dfu_board_play.proofs.Served.{IsOf}
 use Rattle.dfu_board_play.proofs.Parts.{front_of, tail_of, IsPartOf, no_rest, call_front, broken_front}
@@ -87,7 +87,7 @@ module _ (refines : IdleRefines) (c : Profile) (first : List ℕ) (past : List (
   ]
 
   broken_known : (b b' : Board) (d : Shown) (call : Event) (cause : Cause) (steps : List BoardStep) → IsIdle b d → KnownOf first past d
-      → IsOf call cause → IsRun b steps b' → IsBroken call steps → HasKnown first past b' → Through b steps
+      → IsOf call cause → IsRun b steps b' → IsBrokenCall call steps → HasKnown first past b' → Through b steps
   broken_known b b' d call cause steps k known is all br at front rest mid e run = elim (broken_front call front rest steps br e) [
     | inl part ↦ part_known b mid d call cause front k known is part run
     | inr none ↦ all_known b b' mid steps front rest all at e none run

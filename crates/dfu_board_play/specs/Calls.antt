@@ -31,8 +31,8 @@ pub data IsCutOff : List BoardStep → Type 0 where
   still_due : (s : BoardStep) (rest : List BoardStep) → CarriesOn s.event s.says → IsCutOff rest → IsCutOff (s ∷ rest)
 
 -- These steps are a call that asks for writes, and the power goes before it is answered.
-pub data IsBroken (call : Event) : List BoardStep → Type 0 where
-  broken : (s : BoardStep) (rest : List BoardStep) → s.event ≡ call → s.says ≡ WritesDue → IsCutOff rest → IsBroken call (s ∷ rest)
+pub data IsBrokenCall (call : Event) : List BoardStep → Type 0 where
+  broken : (s : BoardStep) (rest : List BoardStep) → s.event ≡ call → s.says ≡ WritesDue → IsCutOff rest → IsBrokenCall call (s ∷ rest)
 
 -- A call comes to a board, and this board is left.
 pub record Serves (b : Board) (call : Event) (steps : List BoardStep) (a : Answer) (out : List ℕ) (b' : Board) : Type 0 where
@@ -59,6 +59,6 @@ pub data Objects (setup body : List ℕ) (why : Objection) (b : Board) : List Bo
 pub data Stops (call : Event) (b : Board) : List BoardStep → Board → Type 0 where
   behind : {steps : List BoardStep} {says : Says} {mid b' : Board} (power : BoardStep) (begins : Bool) → Reaches call b steps says mid
       → IsRun mid (power ∷ []) b' → power.event ≡ Restart begins → Stops call b (steps ++ power ∷ []) b'
-  within : {steps : List BoardStep} {b' : Board} → IsRun b steps b' → IsBroken call steps → Stops call b steps b'
+  within : {steps : List BoardStep} {b' : Board} → IsRun b steps b' → IsBrokenCall call steps → Stops call b steps b'
   within_second : {first second : List BoardStep} {a : Answer} {out : List ℕ} {mid b' : Board} → Serves b call first a out mid
-      → IsRun mid second b' → IsBroken call second → Stops call b (first ++ second) b'
+      → IsRun mid second b' → IsBrokenCall call second → Stops call b (first ++ second) b'

@@ -19,9 +19,9 @@ pub record BoardLink : Type 0 where
   pub session : Session
 
 -- What a host hears of what is sent back: the answer, or nothing if it is lost.
-abbrev pub HearsBack : Deed → Says → Heard → Type 0
-HearsBack d (Answers a out) heard = (heard ≡ NothingHeard) ⊎ HearsAnswer d a out heard
-HearsBack d says heard = heard ≡ NothingHeard
+abbrev pub HearsSentBack : Deed → Says → Heard → Type 0
+HearsSentBack d (Answers a out) heard = (heard ≡ NothingHeard) ⊎ HearsAnswer d a out heard
+HearsSentBack d says heard = heard ≡ NothingHeard
 
 -- The calls that may be under way as the bus is reset or the power goes: the program tells of time that passed, or the host sends its
 -- request.
@@ -35,37 +35,37 @@ abbrev pub left : Board → Took → BoardLink
 left b t = record { board = b; session = t.session }
 
 -- What comes next, with the steps of the board, and what is reported then: a report or none, and with Uploaded the bytes.
-pub data Comes (l : BoardLink) : List BoardStep → Answered → BoardLink → Type 0 where
+pub data BoardComes (l : BoardLink) : List BoardStep → Answered → BoardLink → Type 0 where
   -- Time passes at the board.
   passes : {ms : ℕ} {steps : List BoardStep} {a : Answer} {out : List ℕ} {b' : Board} → Serves l.board (Elapse ms) steps a out b'
-      → Comes l steps silent (record { board = b'; session = l.session })
+      → BoardComes l steps silent (record { board = b'; session = l.session })
   -- The host sends its request, as the bytes of a setup that asks for it, and takes what it hears. It finds no memory only if its phase
   -- wants some.
   sends : {h : HostState} {q : Request} {setup body : List ℕ} {steps : List BoardStep} {says : Says} {b' : Board} {heard : Heard}
       → l.session ≡ Hosted h → deed h.task h.phase ≡ Send q body → IsAsked q setup
-      → Reaches (Handle setup body) l.board steps says b' → HearsBack (Send q body) says heard
-      → (heard ≡ NoRoom → IsTrue (wants_memory h.phase)) → Comes l steps (took h heard).answer (left b' (took h heard))
+      → Reaches (Handle setup body) l.board steps says b' → HearsSentBack (Send q body) says heard
+      → (heard ≡ NoRoom → IsTrue (wants_memory h.phase)) → BoardComes l steps (took h heard).answer (left b' (took h heard))
   -- The host sends a request that closes a download, and the board's program refuses the image.
   objects : {h : HostState} {q : Request} {setup body : List ℕ} {why : Objection} {steps : List BoardStep} {says : Says} {b' : Board}
       {heard : Heard}
       → l.session ≡ Hosted h → deed h.task h.phase ≡ Send q body → IsAsked q setup
-      → Objects setup body why l.board steps says b' → HearsBack (Send q body) says heard
-      → (heard ≡ NoRoom → IsTrue (wants_memory h.phase)) → Comes l steps (took h heard).answer (left b' (took h heard))
+      → Objects setup body why l.board steps says b' → HearsSentBack (Send q body) says heard
+      → (heard ≡ NoRoom → IsTrue (wants_memory h.phase)) → BoardComes l steps (took h heard).answer (left b' (took h heard))
   -- The board's program refuses the image that was closed, if one was.
   refuses : {why : Objection} {steps : List BoardStep} {a : Answer} {out : List ℕ} {b' : Board} → Serves l.board (Refuse why) steps a out b'
-      → Comes l steps silent (record { board = b'; session = l.session })
+      → BoardComes l steps silent (record { board = b'; session = l.session })
   -- The host's wait is over, whatever time passed at the board.
   waits : {h : HostState} {ms : ℕ} → l.session ≡ Hosted h → deed h.task h.phase ≡ Wait ms
-      → Comes l [] (took h Waited).answer (left l.board (took h Waited))
+      → BoardComes l [] (took h Waited).answer (left l.board (took h Waited))
   -- The host resets the bus.
   resets : {h : HostState} {steps : List BoardStep} {a : Answer} {out : List ℕ} {b' : Board} → l.session ≡ Hosted h
       → deed h.task h.phase ≡ Reset → Serves l.board UsbReset steps a out b'
-      → Comes l steps (took h WasReset).answer (left b' (took h WasReset))
+      → BoardComes l steps (took h WasReset).answer (left b' (took h WasReset))
   -- The bus is reset by another cause, with this call under way, to which the board comes to an end first. A live host hears of the reset
   -- and of no answer.
   is_reset : {call : Event} {steps more : List BoardStep} {says : Says} {a : Answer} {out : List ℕ} {mid b' : Board}
       → IsUnderWay l.session call → Reaches call l.board steps says mid → Serves mid UsbReset more a out b'
-      → Comes l (steps ++ more) (told l.session).answer (left b' (told l.session))
+      → BoardComes l (steps ++ more) (told l.session).answer (left b' (told l.session))
   -- The power goes and comes back, with this call under way. A live host hears of that and of no answer.
   restarts : {call : Event} {steps : List BoardStep} {b' : Board} → IsUnderWay l.session call → Stops call l.board steps b'
-      → Comes l steps (told l.session).answer (left b' (told l.session))
+      → BoardComes l steps (told l.session).answer (left b' (told l.session))

@@ -7,12 +7,12 @@ use Rattle.dfu_host.specs.Phases.{Goal, ToFetch}
 use Rattle.dfu_host.specs.Host.{HostState, started, aborted}
 use Rattle.dfu_sim.specs.declared.aim.Aim.{Aim}
 use Rattle.dfu_sim.specs.Bench.{Nobody, Hosted}
-use Rattle.dfu_sim.specs.Opening.{goal_of}
+use Rattle.dfu_sim.specs.Opening.{goal_of_aim}
 use Rattle.dfu_sim.specs.Play.{Answered}
 use Rattle.dfu_sim.specs.Session.{IsOneOf, SaysInPlace}
 use Rattle.dfu_board.specs.Board.{Board, medium_on, state_on, BoardStep}
-use Rattle.dfu_board.specs.Happens.{IsOn, IsRun}
-use Rattle.dfu_board_play.specs.Comes.{BoardLink, Comes}
+use Rattle.dfu_board.specs.Happens.{IsPoweredOn, IsRun}
+use Rattle.dfu_board_play.specs.Comes.{BoardLink, BoardComes}
 
 -- A session with this goal begins, by the descriptor of the board's device.
 abbrev pub opened_on : Board → Goal → Limits → BoardLink
@@ -26,7 +26,7 @@ pub data Plays (b : Board) : List BoardStep → List (List ℕ) → Option (List
   -- A payload is offered, to be installed, or to be installed and verified.
   offers : {steps : List BoardStep} {past : List (List ℕ)} {last : Option (List ℕ)} {l : BoardLink} (aim : Aim) (payload : List ℕ)
       (limits : Limits) → Plays b steps past last l → l.session ≡ Nobody → 0 < length payload
-      → Plays b steps (payload ∷ past) (Some payload) (opened_on l.board (goal_of aim payload) limits)
+      → Plays b steps (payload ∷ past) (Some payload) (opened_on l.board (goal_of_aim aim payload) limits)
   -- An upload begins.
   uploads : {steps : List BoardStep} {past : List (List ℕ)} {last : Option (List ℕ)} {l : BoardLink} (limits : Limits)
       → Plays b steps past last l → l.session ≡ Nobody → Plays b steps past None (opened_on l.board ToFetch limits)
@@ -36,7 +36,7 @@ pub data Plays (b : Board) : List BoardStep → List (List ℕ) → Option (List
       → Plays b steps past last (record { board = l.board; session = Hosted (aborted h) })
   -- The next thing comes.
   goes_on : {steps more : List BoardStep} {past : List (List ℕ)} {last : Option (List ℕ)} {l l' : BoardLink} {answer : Answered}
-      → Plays b steps past last l → Comes l more answer l' → Plays b (steps ++ more) past last l'
+      → Plays b steps past last l → BoardComes l more answer l' → Plays b (steps ++ more) past last l'
 
 -- The last session began with a payload. That is the active image of the board's flash, and the board is in appIDLE.
 pub record IsInPlace (last : Option (List ℕ)) (b : Board) : Type 0 where
@@ -48,14 +48,14 @@ pub record IsInPlace (last : Option (List ℕ)) (b : Board) : Type 0 where
 -- If Installed or Verified is reported, it is so.
 abbrev pub PlaysInstall : Type 0
 PlaysInstall = (b : Board) (steps more : List BoardStep) (past : List (List ℕ)) (last : Option (List ℕ)) (l l' : BoardLink)
-    (answer : Answered) → IsOn b → 0 < b.asking.config.functional.transfer → Plays b steps past last l → Comes l more answer l'
+    (answer : Answered) → IsPoweredOn b → 0 < b.asking.config.functional.transfer → Plays b steps past last l → BoardComes l more answer l'
     → SaysInPlace answer.report → IsInPlace last l'.board
 
 -- The bytes that come with Uploaded are the active image.
 abbrev pub PlaysGive : Type 0
 PlaysGive = (b : Board) (steps more : List BoardStep) (past : List (List ℕ)) (last : Option (List ℕ)) (l l' : BoardLink)
-    (answer : Answered) (bytes : List ℕ) → IsOn b → 0 < b.asking.config.functional.transfer → Plays b steps past last l
-    → Comes l more answer l' → answer.gave ≡ Some bytes → Active (medium_on l'.board) bytes
+    (answer : Answered) (bytes : List ℕ) → IsPoweredOn b → 0 < b.asking.config.functional.transfer → Plays b steps past last l
+    → BoardComes l more answer l' → answer.gave ≡ Some bytes → Active (medium_on l'.board) bytes
 
 -- The active image of a board's flash is this one, or one of these.
 pub record HasKnown (image : List ℕ) (past : List (List ℕ)) (b : Board) : Type 0 where
@@ -66,14 +66,14 @@ pub record HasKnown (image : List ℕ) (past : List (List ℕ)) (b : Board) : Ty
 -- The active image is the one that it was at first, or the whole of a payload offered so far.
 abbrev pub PlaysKnow : Type 0
 PlaysKnow = (b : Board) (steps : List BoardStep) (past : List (List ℕ)) (last : Option (List ℕ)) (l : BoardLink) (image : List ℕ)
-    → IsOn b → 0 < b.asking.config.functional.transfer → Active (medium_on b) image → Plays b steps past last l
+    → IsPoweredOn b → 0 < b.asking.config.functional.transfer → Active (medium_on b) image → Plays b steps past last l
     → HasKnown image past l.board
 
 -- So it is at each step of what comes next, also between two writes of a call that is under way: after the first of its steps.
 abbrev pub PlaysKnowWithin : Type 0
 PlaysKnowWithin = (b mid : Board) (steps front rest : List BoardStep) (past : List (List ℕ)) (last : Option (List ℕ)) (l l' : BoardLink)
-    (answer : Answered) (image : List ℕ) → IsOn b → 0 < b.asking.config.functional.transfer → Active (medium_on b) image
-    → Plays b steps past last l → Comes l (front ++ rest) answer l' → IsRun l.board front mid → HasKnown image past mid
+    (answer : Answered) (image : List ℕ) → IsPoweredOn b → 0 < b.asking.config.functional.transfer → Active (medium_on b) image
+    → Plays b steps past last l → BoardComes l (front ++ rest) answer l' → IsRun l.board front mid → HasKnown image past mid
 
 -- All that comes to the board is a run of it, so what holds of runs holds.
 abbrev pub PlaysRun : Type 0

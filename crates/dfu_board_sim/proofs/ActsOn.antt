@@ -13,8 +13,8 @@ use Rattle.dfu_sim.specs.declared.fate.Fate.{Fate as GivenFate}
 use Rattle.dfu_sim.specs.declared.fate.Fate.TheVariants as given
 use Rattle.dfu_sim.specs.Happening.{Fate, fate_of}
 use Rattle.dfu_board.specs.Board.{Board, Handle, Elapse, RefuseClose, Answers}
-use Rattle.dfu_board_sim.specs.Served.{HasServed, IsCut}
-use Rattle.dfu_board_sim.specs.Acts.{HasSent, HasWaited, HasReset, Acts, HasEnded, HasActed, HasObjected, HasGone}
+use Rattle.dfu_board_sim.specs.Served.{HasServed, PowerIsCut}
+use Rattle.dfu_board_sim.specs.Acts.{HasSent, HasWaited, HasReset, BoardActs, EndsRefused, HasActed, HasObjected, HasGone}
 
 -- A host that is not done asks for something.
 pub not_done : (task : Task) (phase : Phase) (report : Report) → IsOn phase → Spells (deed task phase) (action.Done report) → ⊥
@@ -29,37 +29,38 @@ not_done task phase report on spells = spells
 
 module _ (fate : Fate) (h : HostState) (b b' : Board) (h' : HostState) where
   pub acts_send : (d : Deed) (setup : List ℕ) (given : Bor (List ℕ)) → Spells d (action.Send setup given)
-      → HasSent fate h setup given.now b b' h' → Acts false fate h d b b' h'
+      → HasSent fate h setup given.now b b' h' → BoardActs false fate h d b b' h'
   acts_send (Send q body) setup given e s = (setup, e.0, subst (λ (x : List ℕ). HasSent fate h setup x b b' h') e.1 s)
   acts_send d setup given e s = elim e [ ]
 
-  pub acts_wait : (d : Deed) (given : ℕ) → Spells d (action.Wait given) → HasWaited fate h given b b' h' → Acts false fate h d b b' h'
+  pub acts_wait : (d : Deed) (given : ℕ) → Spells d (action.Wait given) → HasWaited fate h given b b' h' → BoardActs false fate h d b b' h'
   acts_wait (Wait ms) given e s = subst (λ (n : ℕ). HasWaited fate h n b b' h') e s
   acts_wait d given e s = elim e [ ]
 
-  pub acts_reset : (d : Deed) → Spells d action.Reset → HasReset fate h b b' h' → Acts false fate h d b b' h'
+  pub acts_reset : (d : Deed) → Spells d action.Reset → HasReset fate h b b' h' → BoardActs false fate h d b b' h'
   acts_reset Reset e s = s
   acts_reset d e s = elim e [ ]
 
   pub cuts_send : (d : Deed) (setup : List ℕ) (given : Bor (List ℕ)) → Spells d (action.Send setup given)
-      → IsCut (Handle setup given.now) b b' → h' ≡ after h Restarted → Acts true fate h d b b' h'
+      → PowerIsCut (Handle setup given.now) b b' → h' ≡ after h Restarted → BoardActs true fate h d b b' h'
   cuts_send (Send q body) setup given e s told =
-      ((setup, e.0, subst (λ (x : List ℕ). IsCut (Handle setup x) b b') e.1 s), told)
+      ((setup, e.0, subst (λ (x : List ℕ). PowerIsCut (Handle setup x) b b') e.1 s), told)
   cuts_send d setup given e s told = elim e [ ]
 
-  pub cuts_wait : (d : Deed) (given : ℕ) → Spells d (action.Wait given) → IsCut (Elapse given) b b' → h' ≡ after h Restarted
-      → Acts true fate h d b b' h'
-  cuts_wait (Wait ms) given e s told = (subst (λ (n : ℕ). IsCut (Elapse n) b b') e s, told)
+  pub cuts_wait : (d : Deed) (given : ℕ) → Spells d (action.Wait given) → PowerIsCut (Elapse given) b b' → h' ≡ after h Restarted
+      → BoardActs true fate h d b b' h'
+  cuts_wait (Wait ms) given e s told = (subst (λ (n : ℕ). PowerIsCut (Elapse n) b b') e s, told)
   cuts_wait d given e s told = elim e [ ]
 
-  pub cuts_reset : (d : Deed) → Spells d action.Reset → IsCut (Elapse 0) b b' → h' ≡ after h Restarted → Acts true fate h d b b' h'
+  pub cuts_reset : (d : Deed) → Spells d action.Reset → PowerIsCut (Elapse 0) b b' → h' ≡ after h Restarted →
+      BoardActs true fate h d b b' h'
   cuts_reset Reset e s told = (s, told)
   cuts_reset d e s told = elim e [ ]
 
   -- The program refused the image that a request closes.
   pub objects_send : (why : Objection) (mid : Board) (d : Deed) (setup : List ℕ) (given : Bor (List ℕ)) → deed h.task h.phase ≡ d
       → Spells d (action.Send setup given) → HasServed b (RefuseClose setup why) (Answers answer.Stall []) mid
-      → HasEnded fate h setup given.now mid b' h' → HasObjected why fate h b b' h'
+      → EndsRefused fate h setup given.now mid b' h' → HasObjected why fate h b b' h'
   objects_send why mid (Send q body) setup given is e served ends = record {
     q = q;
     setup = setup;

@@ -22,26 +22,26 @@ use Rattle.dfu_sim.specs.declared.event.Event.TheVariants as event
 use Rattle.dfu_sim.specs.declared.fault.LinkFault.{LinkFault}
 use Rattle.dfu_host.specs.declared.limits.Limits.{Limits}
 use Rattle.dfu_host.specs.Phases.{ToFetch}
-use Rattle.dfu_sim.specs.Opening.{goal_of}
+use Rattle.dfu_sim.specs.Opening.{goal_of_aim}
 use Rattle.dfu_sim.specs.Refusing.{IsOffered}
 use Rattle.dfu_sim.specs.Comes.{Means}
 use Rattle.dfu_sim.specs.Happening.{Fate, Refusing, Happening, happening, fate_of}
 use Rattle.dfu_device.specs.Setting.{Setting}
-use Rattle.dfu_sim.specs.Headline.{Begun, begun, WithOffer, AsUpload, IsPayload, WasOffered, IsLastPayload, HeadlineSays}
+use Rattle.dfu_sim.specs.Headline.{Begun, begun_now, WithOffer, AsUpload, IsPayload, WasOffered, IsLastPayload, HeadlineSays}
 use Rattle.dfu_sim.specs.Play.{Answered as LinkAnswered, silent, settled, told}
 use Rattle.dfu_sim.specs.Session.{IsOneOf, SaysInPlace}
 use Rattle.dfu_board.specs.Board.{Event as CallEvent}
 use Rattle.dfu_board.specs.Board.{Board, medium_on, state_on, Handle, Elapse, RefuseClose, Says, Nothing, WritesDue, Answers, BoardStep}
-use Rattle.dfu_board.specs.Happens.{IsOn}
+use Rattle.dfu_board.specs.Happens.{IsPoweredOn}
 use Rattle.dfu_board_play.specs.Calls.{Reaches, lost, once, twice, Objects, refused_once, refused_twice, behind}
-use Rattle.dfu_board_play.specs.Comes.{BoardLink, left, IsUnderWay, Comes, passes, sends, objects, refuses, waits, resets, is_reset, restarts, HearsBack}
+use Rattle.dfu_board_play.specs.Comes.{BoardLink, left, IsUnderWay, BoardComes, passes, sends, objects, refuses, waits, resets, is_reset, restarts, HearsSentBack}
 use Rattle.dfu_board_play.specs.Plays.{Plays, starts, offers, uploads, aborts as gives_up, goes_on, opened_on, IsInPlace, PlaysInstall, PlaysKnow}
 use Rattle.dfu_board_sim.specs.declared.fates.Handling.{Handling}
 use Rattle.dfu_board_sim.specs.declared.fates.Handling.TheVariants.{Unseen, Once, Again, Late}
 use Rattle.dfu_board_sim.specs.Fates.{handling_of, comes_back, is_cut}
-use Rattle.dfu_board_sim.specs.Served.{HasServed, IsHandled, Slips, IsCut}
-use Rattle.dfu_board_sim.specs.Acts.{HearsOf, Acts, ComesAgain, HasActed, HasObjected, HasGone}
-use Rattle.dfu_board_sim.specs.Link.{LinkOn, bench_on, GoesOn, Happens, HasCome, was_refused, has_happened}
+use Rattle.dfu_board_sim.specs.Served.{HasServed, IsHandled, SlipsOnBoard, PowerIsCut}
+use Rattle.dfu_board_sim.specs.Acts.{HearsOf, BoardActs, ComesAgain, HasActed, HasObjected, HasGone}
+use Rattle.dfu_board_sim.specs.Link.{LinkOn, bench_on, HostGoesOn, HappensOnLink, LinkComes, was_refused, has_happened}
 use Rattle.dfu_board_sim.specs.Headline.{HoldsSince, StepKeeps, HoldsAtPower}
 
 -- The last payload was offered.
@@ -74,7 +74,7 @@ last_is x payload e = cc
 
 module _ (installs : PlaysInstall) (knows : PlaysKnow) where
   module _ (factory : List ℕ) (past : List Begun) (l : BoardLink) (first : Board) (steps : List BoardStep) (payloads : List (List ℕ))
-      (last : Option (List ℕ)) (on : IsOn first) (some : 0 < first.asking.config.functional.transfer)
+      (last : Option (List ℕ)) (on : IsPoweredOn first) (some : 0 < first.asking.config.functional.transfer)
       (active : Active (medium_on first) factory) (plays : Plays first steps payloads last l)
       (offered : (x : List ℕ) → IsOneOf x payloads → WasOffered past x)
       (is_last : (x : List ℕ) → last ≡ Some x → IsLastPayload past x) where
@@ -123,7 +123,7 @@ module _ (installs : PlaysInstall) (knows : PlaysKnow) where
   module _ {factory : List ℕ} {past : List Begun} where
     -- The next thing comes.
     pub comes_keep : {before : Option Report} {l : BoardLink} (l' : BoardLink) (more : List BoardStep) (answer : LinkAnswered)
-        → HoldsSince factory past before l → Comes l more answer l' → HoldsSince factory past answer.report l'
+        → HoldsSince factory past before l → BoardComes l more answer l' → HoldsSince factory past answer.report l'
     comes_keep {l = l} l' more answer k comes =
         holds_of factory past l' k.first (k.steps ++ more) k.payloads k.last k.on k.some k.active (goes_on k.plays comes) k.offered
         k.is_last answer.report (installs k.first k.steps more k.payloads k.last l l' answer k.on k.some k.plays comes)
@@ -144,7 +144,7 @@ module _ (installs : PlaysInstall) (knows : PlaysKnow) where
         subst (λ (b : Board). HoldsSince factory past r (record { board = b; session = l.session })) (sym e) k
 
     slips_keep : (r : Option Report) (l : BoardLink) (handling : Handling) (b' : Board) → HoldsSince factory past r l
-        → Slips handling l.board b' → HoldsSince factory past r (record { board = b'; session = l.session })
+        → SlipsOnBoard handling l.board b' → HoldsSince factory past r (record { board = b'; session = l.session })
     slips_keep r l Unseen b' k e = same_board r l b' k e
     slips_keep r l Once b' k e = same_board r l b' k e
     slips_keep r l Again b' k e = same_board r l b' k e
@@ -165,7 +165,7 @@ module _ (installs : PlaysInstall) (knows : PlaysKnow) where
       same_host b' h' next e held = subst (λ (x : HostState). Held b' x) (sym e) held
 
       cut_keeps : (b' : Board) (h' : HostState) (call : CallEvent)
-          → IsUnderWay (Hosted h) call → IsCut call b b' → h' ≡ after h Restarted → Held b' h'
+          → IsUnderWay (Hosted h) call → PowerIsCut call b b' → h' ≡ after h Restarted → Held b' h'
       cut_keeps b' h' call way cut e = same_host b' h' (after h Restarted) e
           (comes_keep (at b' (after h Restarted)) cut.steps (settled (after h Restarted) (after h Restarted).phase).answer k
           (restarts way cut.stops))
@@ -181,7 +181,7 @@ module _ (installs : PlaysInstall) (knows : PlaysKnow) where
       )
       reached (Late ms) call says mid s = (s.steps, subst (λ (x : Says). Reaches call b s.steps x mid) (sym s.says_is) (once s.serves))
 
-      hears_back : (back : Bool) (d : Deed) (says : Says) (heard : Heard) → HearsOf back d says heard → HearsBack d says heard
+      hears_back : (back : Bool) (d : Deed) (says : Says) (heard : Heard) → HearsOf back d says heard → HearsSentBack d says heard
       hears_back true d (Answers a out) heard e = inr e
       hears_back false d (Answers a out) heard e = inl e
       hears_back true d Nothing heard e = e
@@ -189,7 +189,8 @@ module _ (installs : PlaysInstall) (knows : PlaysKnow) where
       hears_back true d WritesDue heard e = e
       hears_back false d WritesDue heard e = e
 
-      acts_keep : (cut : Bool) (fate : Fate) (d : Deed) (b' : Board) (h' : HostState) → deed h.task h.phase ≡ d → Acts cut fate h d b b' h'
+      acts_keep : (cut : Bool) (fate : Fate) (d : Deed) (b' : Board) (h' : HostState) → deed h.task h.phase ≡ d →
+          BoardActs cut fate h d b b' h'
           → Held b' h'
       acts_keep true fate (Send q body) b' h' e acts = cut_keeps b' h' (Handle acts.0.0 body) (q, e, acts.0.1) acts.0.2 acts.1
       acts_keep true fate (Wait ms) b' h' e acts = cut_keeps b' h' (Elapse ms) tt acts.0 acts.1
@@ -260,7 +261,7 @@ module _ (installs : PlaysInstall) (knows : PlaysKnow) where
       gone_keeps fate b' h' acted = acts_keep (is_cut fate) fate (deed h.task h.phase) b' h' refl acted
 
     pub go_keeps : {before : Option Report} (fate : Fate) (l l' : BoardLink) (answer : LinkAnswered) → HoldsSince factory past before l
-        → GoesOn fate l l' answer → HoldsSince factory past answer.report l'
+        → HostGoesOn fate l l' answer → HoldsSince factory past answer.report l'
     go_keeps {before = before} fate l l' answer k g =
         let start : HoldsSince factory past before (record { board = l.board; session = Hosted g.host }) =
         subst (λ (s : Session). HoldsSince factory past before (record { board = l.board; session = s })) g.live k in
@@ -273,9 +274,9 @@ module _ (installs : PlaysInstall) (knows : PlaysKnow) where
 
     offer_keeps : {before : Option Report} (aim : Aim) (file payload : List ℕ) (limits : Limits) (l : BoardLink) (s : Setting)
         → IsOffered s aim file payload → HoldsSince factory past before l → l.session ≡ Nobody → 0 < length payload
-        → HoldsSince factory (WithOffer file ∷ past) None (opened_on l.board (goal_of aim payload) limits)
+        → HoldsSince factory (WithOffer file ∷ past) None (opened_on l.board (goal_of_aim aim payload) limits)
     offer_keeps aim file payload limits l s o k none bytes =
-        holds_of factory (WithOffer file ∷ past) (opened_on l.board (goal_of aim payload) limits) k.first k.steps (payload ∷ k.payloads)
+        holds_of factory (WithOffer file ∷ past) (opened_on l.board (goal_of_aim aim payload) limits) k.first k.steps (payload ∷ k.payloads)
         (Some payload) k.on k.some k.active (offers aim payload limits k.plays none bytes)
         (λ x one. elim (one) [
           | inl same ↦ inl (payload_is x payload file s aim o same)
@@ -303,41 +304,42 @@ module _ (installs : PlaysInstall) (knows : PlaysKnow) where
         (subst (λ (s : Session). HoldsSince factory past said.report (record { board = b'; session = s })) (sym e) k)
 
     event_keeps : {before : Option Report} (w w' : LinkOn) (given : Event) (e : Happening) (answer : LinkAnswered)
-        → Means w.link.board.asking.config (happening given) e → Happens e w.link w'.link answer → HoldsSince factory past before w.link
-        → HoldsSince factory (begun given past) answer.report w'.link
+        → Means w.link.board.asking.config (happening given) e → HappensOnLink e w.link w'.link answer →
+        HoldsSince factory past before w.link
+        → HoldsSince factory (begun_now given past) answer.report w'.link
     event_keeps w w' (event.Offer file limits) e answer means happens k =
-        let h = subst (λ (x : Happening). Happens x w.link w'.link answer) means.2 happens in
+        let h = subst (λ (x : Happening). HappensOnLink x w.link w'.link answer) means.2 happens in
         became h.2 h.3 (offer_keeps Install file.now means.0 limits w.link w.link.board.asking.config means.1 k h.0 h.1)
     event_keeps w w' (event.OfferVerified file limits) e answer means happens k =
-        let h = subst (λ (x : Happening). Happens x w.link w'.link answer) means.2 happens in
+        let h = subst (λ (x : Happening). HappensOnLink x w.link w'.link answer) means.2 happens in
         became h.2 h.3 (offer_keeps Verify file.now means.0 limits w.link w.link.board.asking.config means.1 k h.0 h.1)
     event_keeps w w' (event.Upload limits) e answer means happens k =
-        let h = subst (λ (x : Happening). Happens x w.link w'.link answer) means.1 happens in
+        let h = subst (λ (x : Happening). HappensOnLink x w.link w'.link answer) means.1 happens in
         became h.1 h.2 (upload_keeps limits w.link k h.0)
     event_keeps w w' event.Abort e answer means happens k =
-        let h = subst (λ (x : Happening). Happens x w.link w'.link answer) means happens in
+        let h = subst (λ (x : Happening). HappensOnLink x w.link w'.link answer) means happens in
         became h.2 h.3 (abort_keeps w.link h.0 k h.1)
     event_keeps w w' (event.Go fate) e answer means happens k =
-        go_keeps (fate_of fate) w.link w'.link answer k (subst (λ (x : Happening). Happens x w.link w'.link answer) means happens)
+        go_keeps (fate_of fate) w.link w'.link answer k (subst (λ (x : Happening). HappensOnLink x w.link w'.link answer) means happens)
     event_keeps w w' (event.GoRefused fate why) e answer means happens k =
         go_keeps (Refusing why (fate_of fate)) w.link w'.link answer k
-        (subst (λ (x : Happening). Happens x w.link w'.link answer) means happens)
+        (subst (λ (x : Happening). HappensOnLink x w.link w'.link answer) means happens)
     event_keeps w w' (event.Refuse why) e answer means happens k =
-        let h = subst (λ (x : Happening). Happens x w.link w'.link answer) means happens in
+        let h = subst (λ (x : Happening). HappensOnLink x w.link w'.link answer) means happens in
         left_keeps h.2 h.3 (comes_keep (record { board = w'.link.board; session = w.link.session }) h.1.steps silent k (refuses h.1.serves))
     event_keeps w w' (event.Time ms) e answer means happens k =
-        let h = subst (λ (x : Happening). Happens x w.link w'.link answer) means happens in
+        let h = subst (λ (x : Happening). HappensOnLink x w.link w'.link answer) means happens in
         left_keeps h.2 h.3 (comes_keep (record { board = w'.link.board; session = w.link.session }) h.1.steps silent k (passes h.1.serves))
     event_keeps w w' event.Reset e answer means happens k =
-        let h = subst (λ (x : Happening). Happens x w.link w'.link answer) means happens in
+        let h = subst (λ (x : Happening). HappensOnLink x w.link w'.link answer) means happens in
         left_keeps h.2 h.3 (comes_keep (left w'.link.board (told w.link.session)) ([] ++ h.1.steps) (told w.link.session).answer k
         (is_reset {call = Elapse 0} tt lost h.1.serves))
     event_keeps w w' event.Cut e answer means happens k =
-        let h = subst (λ (x : Happening). Happens x w.link w'.link answer) means happens in
+        let h = subst (λ (x : Happening). HappensOnLink x w.link w'.link answer) means happens in
         left_keeps h.1 h.2 (comes_keep (left w'.link.board (told w.link.session)) ([] ++ h.0.power ∷ []) (told w.link.session).answer k
         (restarts {call = Elapse 0} tt (behind h.0.power false lost h.0.run h.0.is)))
 
-  pub step_keeps : (w w' : LinkOn) (given : Event) (result : Result (Option Report) LinkFault) → HasCome w (happening given) w' result
+  pub step_keeps : (w w' : LinkOn) (given : Event) (result : Result (Option Report) LinkFault) → LinkComes w (happening given) w' result
       → StepKeeps w given w' result
   step_keeps w _ given _ (was_refused why) = refl
   step_keeps w w' given _ (has_happened e answer means happens up) = λ factory past before k. event_keeps w w' given e answer means happens k

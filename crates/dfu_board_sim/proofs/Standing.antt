@@ -13,8 +13,8 @@ use Rattle.dfu_asks.specs.declared.noted.Noted.{Noted}
 use Rattle.dfu_asks.specs.declared.work.Work.{Work}
 use Rattle.dfu_asks.specs.declared.refusal.Refusal.{Refusal}
 use Rattle.dfu_asks.specs.declared.refusal.Refusal.TheVariants as refusal
-use Rattle.dfu_asks.specs.Noted.{noted_at, IsNoted, Stands}
-use Rattle.dfu_asks.specs.Refused.{IsRefused}
+use Rattle.dfu_asks.specs.Noted.{noted_at, IsNoted, NotedStands}
+use Rattle.dfu_asks.specs.Refused.{IsRefusedCall}
 use Rattle.dfu_board.specs.Board.{Board, medium_on}
 use Rattle.dfu_board_sim.specs.Standing.{IsAtRest}
 
@@ -26,7 +26,7 @@ told_length s len has fits = ⊎_elim
     has.well_formed
 
 -- The header that is noted of an active image stands in an open slot.
-pub noted_stands : (n : Noted) (m : MediumState) → IsNoted n m → HasImage m → Stands n m
+pub noted_stands : (n : Noted) (m : MediumState) → IsNoted n m → HasImage m → NotedStands n m
 noted_stands n m noted has =
     let a = has.active in
     let place : a.at ≡ noted_at n m.bytes =
@@ -51,7 +51,7 @@ no_work None none some = absurd (cc)
 
 -- A board at rest has no cause to refuse a call with room for its answer.
 pub never_refused : (b : Board) (e : Refusal) (need room : ℕ) → IsAtRest b → need ≤ room
-    → IsRefused e b.asking b.block b.held b.flash need room → ⊥
+    → IsRefusedCall e b.asking b.block b.held b.flash need room → ⊥
 never_refused b refusal.Asked need room rest fits why = no_work b.asking.work rest.idle why
 never_refused b refusal.NoRoom need room rest fits why = absurd (omega (arith, why.1, fits))
 never_refused b refusal.NoMedium need room rest fits why =

@@ -7,19 +7,19 @@ use Rattle.dfu_device.specs.declared.answer.Answer.TheVariants as answer
 use Rattle.dfu_asks.specs.declared.reply.Reply.TheVariants as reply
 use Rattle.dfu_asks.specs.declared.work.Work.{Work}
 use Rattle.dfu_asks.specs.Lent.{LentAsking, lent, IsSetUpAs}
-use Rattle.dfu_asks.specs.Calls.{Asks}
+use Rattle.dfu_asks.specs.Calls.{AsksWrites}
 use Rattle.dfu_asks.specs.Steps.{Step}
 use Rattle.dfu_asks.specs.Carried.{IsPiece}
 use Rattle.dfu_asks.specs.Asks.{steps_in}
 use Rattle.dfu_board.specs.Board.{Board, lent_on, Event, UsbReset, RefuseClose, Write, Report, Restart, Says, Nothing, WritesDue, Answers, BoardStep}
 use Rattle.dfu_device.specs.declared.objection.Objection.{Objection}
 use Rattle.dfu_device.specs.Rows.{Cause, RefusingClose}
-use Rattle.dfu_board.specs.Happens.{Happens, IsObjected, IsHanded, Starts, IsRun}
+use Rattle.dfu_board.specs.Happens.{Happens, IsObjected, IsHanded, BoardStarts, IsRun}
 use Rattle.dfu_board.specs.Steps.{said_of_close}
 use Rattle.dfu_board_play.specs.Calls.{WorksOff, ends, carries_on, at_once, with_writes, IsCutOff, power_goes, still_due, broken, Serves, behind, within, lost, once}
-use Rattle.dfu_board_sim.specs.Standing.{board_of, HasRoom, HasRun, IsAtRest, IsDue, IsTried, Holds, Stands, IsRestarted}
+use Rattle.dfu_board_sim.specs.Standing.{board_of, BlockHasRoom, HasRun, IsAtRest, WritesAreDue, IsTried, ChipHolds, ChipStands, IsRestarted}
 use Rattle.dfu_board_sim.specs.declared.chip.Chip.{Chip}
-use Rattle.dfu_board_sim.specs.Served.{done_in, AreDue, HasTried, IsTakenAs, HasWorked, HasCalled, HasServed, IsCut, says_of}
+use Rattle.dfu_board_sim.specs.Served.{done_in, AreDue, HasTried, IsTakenAs, HasWorked, HasCalled, HasServed, PowerIsCut, says_of}
 use Rattle.dfu_board_sim.specs.declared.came.Came.{Came}
 use Rattle.dfu_board_sim.specs.declared.came.Came.TheVariants.{Answered, NoAnswer}
 
@@ -59,9 +59,9 @@ pub record IsWorking (b b' : Board) : Type 0 where
   pub steps : List BoardStep
   pub run : IsRun b steps b'
   pub stay : AreDue steps
-  pub due : IsDue b'
+  pub due : WritesAreDue b'
 
-pub begins : (b : Board) → IsDue b → IsWorking b b
+pub begins : (b : Board) → WritesAreDue b → IsWorking b b
 begins b due = record { steps = []; run = refl; stay = tt; due = due }
 
 -- The next piece is written somehow.
@@ -84,13 +84,14 @@ some_same w w' x is is' = one (sym is ∙ is')
     one e = cc
 
 -- Then that piece is tried.
-tries : (b b' : Board) (p : Step) → IsDue b → IsHanded b p → Torn b.flash p.write.at p.write.bytes b'.flash
+tries : (b b' : Board) (p : Step) → WritesAreDue b → IsHanded b p → Torn b.flash p.write.at p.write.bytes b'.flash
     → lent_on b' ≡ lent_on b → IsTried p b'
 tries b b' p due handed torn same =
     let one : handed.0 ≡ due.asks.work = some_same handed.0 due.asks.work b.asking.work handed.1 due.asks.work_is in
     let piece : IsPiece (steps_in (lent_on b) due.asks.work) due.asks.work.done p =
     subst (λ (w : Work). IsPiece (steps_in (lent_on b) w) w.done p) one handed.2 in
-    subst (λ (l : LentAsking). (asks : Asks l due.len due.s due.was b.flash) → IsPiece (steps_in l asks.work) asks.work.done p → IsTried p b') same
+    subst (λ (l : LentAsking). (asks : AsksWrites l due.len due.s due.was b.flash) → IsPiece (steps_in l asks.work) asks.work.done p →
+    IsTried p b') same
     (λ asks piece. record {
       len = due.len;
       s = due.s;
@@ -101,7 +102,7 @@ tries b b' p due handed torn same =
       torn = torn;
     }) due.asks piece
 
-pub has_tried : (b b' : Board) (p : Step) → IsDue b → IsHanded b p → 1 ≤ length p.write.bytes
+pub has_tried : (b b' : Board) (p : Step) → WritesAreDue b → IsHanded b p → 1 ≤ length p.write.bytes
     → Torn b.flash p.write.at p.write.bytes b'.flash → b'.asking ≡ b.asking → b'.block ≡ b.block → b'.held ≡ b.held → HasTried b b'
 has_tried b b' p due handed some torn asking block held = record {
   piece = p;
@@ -177,7 +178,8 @@ module _ (b mid : Board) (call : Event) (same : IsSetUpAs b.asking mid.asking) w
       (first ∷ [], record { run = (refl, step, same, refl); is = at_once first refl refl })
 
 -- The power goes within the writes of a call.
-pub cut_within : (b mid b' : Board) (call : Event) (out : List ℕ) → HasCalled b call out NoAnswer mid → IsRestarted mid b' → IsCut call b b'
+pub cut_within : (b mid b' : Board) (call : Event) (out : List ℕ) → HasCalled b call out NoAnswer mid → IsRestarted mid b' →
+    PowerIsCut call b b'
 cut_within b mid b' call out k power =
     record {
       steps = (k.0 ∷ k.1) ++ power.power ∷ [];
@@ -204,7 +206,7 @@ rests_of b b' call out NoAnswer k here = absurd (here refl)
 
 -- The power goes behind a call, or within it.
 pub cut_of : (b mid b' : Board) (call : Event) (out : List ℕ) (came : Came) → HasCalled b call out came mid → IsRestarted mid b'
-    → IsCut call b b'
+    → PowerIsCut call b b'
 cut_of b mid b' call out (Answered a count) k power = record {
   steps = k.0 ++ power.power ∷ [];
   stops = behind power.power false (once k.1) power.run power.is;
@@ -212,7 +214,7 @@ cut_of b mid b' call out (Answered a count) k power = record {
 cut_of b mid b' call out NoAnswer k power = cut_within b mid b' call out k power
 
 -- The power goes with no call under way.
-pub cut_idly : (b b' : Board) (call : Event) → IsRestarted b b' → IsCut call b b'
+pub cut_idly : (b b' : Board) (call : Event) → IsRestarted b b' → PowerIsCut call b b'
 cut_idly b b' call power = record { steps = [] ++ power.power ∷ []; stops = behind power.power false lost power.run power.is }
 
 -- A reset of the bus.
@@ -239,7 +241,7 @@ module _ (b b' : Board) (call : Event) (cause : Cause) (a : Answer) (same : IsSe
   pub objected_ran : HasRun b → HasRun b'
   objected_ran ran = let one = called_once b b' call same a [] step in ran_on b b' one.0 ran one.1.run
 
-  pub objected_rests : HasRoom b' → IsAtRest b → IsAtRest b'
+  pub objected_rests : BlockHasRoom b' → IsAtRest b → IsAtRest b'
   objected_rests room rest = record {
     kept = record {
       fits = room.fits;
@@ -254,7 +256,7 @@ module _ (b b' : Board) (setup : List ℕ) (why : Objection) (same : IsSetUpAs b
   closed_ran true step ran = objected_ran b b' (RefuseClose setup why) (RefusingClose setup why) answer.Stall same step step ran
   closed_ran false step ran = subst (λ (x : Board). HasRun x) (sym step) ran
 
-  pub closed_rests : (closes : Bool) → Happens b (RefuseClose setup why) (said_of_close (Ok closes)) b' → HasRoom b' → IsAtRest b
+  pub closed_rests : (closes : Bool) → Happens b (RefuseClose setup why) (said_of_close (Ok closes)) b' → BlockHasRoom b' → IsAtRest b
       → IsAtRest b'
   closed_rests true step room rest =
       objected_rests b b' (RefuseClose setup why) (RefusingClose setup why) answer.Stall same step step room rest
@@ -262,7 +264,7 @@ module _ (b b' : Board) (setup : List ℕ) (why : Objection) (same : IsSetUpAs b
 
 -- The power.
 
-pub restarted : (b b' : Board) → b'.flash ≡ b.flash → Starts false b' → IsSetUpAs b.asking b'.asking → IsRestarted b b'
+pub restarted : (b b' : Board) → b'.flash ≡ b.flash → BoardStarts false b' → IsSetUpAs b.asking b'.asking → IsRestarted b b'
 restarted b b' flash on same = record {
   power = record { before = b; event = Restart false; says = Nothing; after = b' };
   is = refl;
@@ -270,8 +272,8 @@ restarted b b' flash on same = record {
 }
 
 -- What stands after a call that a board answered.
-pub called_stands : (c c' : Chip) (call : Event) (out : List ℕ) (came : Came) → Stands c → Holds c'
-    → HasCalled (board_of c) call out came (board_of c') → (came ≡ NoAnswer → ⊥) → Stands c'
+pub called_stands : (c c' : Chip) (call : Event) (out : List ℕ) (came : Came) → ChipStands c → ChipHolds c'
+    → HasCalled (board_of c) call out came (board_of c') → (came ≡ NoAnswer → ⊥) → ChipStands c'
 called_stands c c' call out came stands holds k here = record {
   holds = holds;
   ran = called_ran (board_of c) (board_of c') call out came stands.ran k;

@@ -13,7 +13,7 @@ use Rattle.dfu_board.specs.Board.{Board, Handle, Elapse, UsbReset, RefuseClose, 
 use Rattle.dfu_board_sim.specs.declared.fates.Handling.{Handling}
 use Rattle.dfu_board_sim.specs.declared.fates.Handling.TheVariants.{Unseen, Once, Again, Late}
 use Rattle.dfu_board_sim.specs.Fates.{handling_of, comes_back, is_cut, waits_for}
-use Rattle.dfu_board_sim.specs.Served.{HasServed, IsHandled, Slips, IsCut}
+use Rattle.dfu_board_sim.specs.Served.{HasServed, IsHandled, SlipsOnBoard, PowerIsCut}
 
 -- What a host hears of what a board says: the answer if it comes back, else nothing.
 abbrev pub HearsOf : (back : Bool) → Deed → Says → Heard → Type 0
@@ -33,7 +33,7 @@ pub record HasSent (fate : Fate) (h : HostState) (setup body : List ℕ) (b b' :
   pub mid : Board
   pub handled : IsHandled (handling_of fate) (Handle setup body) b says mid
   pub heard : HasHeard h (comes_back fate) says h'
-  pub slips : Slips (handling_of fate) mid b'
+  pub slips : SlipsOnBoard (handling_of fate) mid b'
 
 -- A wait of this fate, in which the power does not go.
 pub record HasWaited (fate : Fate) (h : HostState) (ms : ℕ) (b b' : Board) (h' : HostState) : Type 0 where
@@ -46,24 +46,24 @@ pub record HasReset (fate : Fate) (h : HostState) (b b' : Board) (h' : HostState
   pub says : Says
   pub mid : Board
   pub resets : HasServed b UsbReset says mid
-  pub slips : Slips (handling_of fate) mid b'
+  pub slips : SlipsOnBoard (handling_of fate) mid b'
   pub same : h' ≡ after h WasReset
 
 -- The next action of a host, by its fate. If the power goes in a reset of the bus, nothing is left of the reset.
-abbrev pub Acts : (cut : Bool) → Fate → HostState → Deed → Board → Board → HostState → Type 0
-Acts true fate h (Send q body) b b' h' =
-    ((setup : List ℕ) × IsAsked q setup × IsCut (Handle setup body) b b') × (h' ≡ after h Restarted)
-Acts true fate h (Wait ms) b b' h' = IsCut (Elapse ms) b b' × (h' ≡ after h Restarted)
-Acts true fate h Reset b b' h' = IsCut (Elapse 0) b b' × (h' ≡ after h Restarted)
-Acts true fate h (Done report) b b' h' = ⊥
-Acts false fate h (Send q body) b b' h' = (setup : List ℕ) × IsAsked q setup × HasSent fate h setup body b b' h'
-Acts false fate h (Wait ms) b b' h' = HasWaited fate h ms b b' h'
-Acts false fate h Reset b b' h' = HasReset fate h b b' h'
-Acts false fate h (Done report) b b' h' = ⊥
+abbrev pub BoardActs : (cut : Bool) → Fate → HostState → Deed → Board → Board → HostState → Type 0
+BoardActs true fate h (Send q body) b b' h' =
+    ((setup : List ℕ) × IsAsked q setup × PowerIsCut (Handle setup body) b b') × (h' ≡ after h Restarted)
+BoardActs true fate h (Wait ms) b b' h' = PowerIsCut (Elapse ms) b b' × (h' ≡ after h Restarted)
+BoardActs true fate h Reset b b' h' = PowerIsCut (Elapse 0) b b' × (h' ≡ after h Restarted)
+BoardActs true fate h (Done report) b b' h' = ⊥
+BoardActs false fate h (Send q body) b b' h' = (setup : List ℕ) × IsAsked q setup × HasSent fate h setup body b b' h'
+BoardActs false fate h (Wait ms) b b' h' = HasWaited fate h ms b b' h'
+BoardActs false fate h Reset b b' h' = HasReset fate h b b' h'
+BoardActs false fate h (Done report) b b' h' = ⊥
 
 -- The same of any action, as the host asked for it.
 abbrev pub HasActed : Fate → HostState → Board → Board → HostState → Type 0
-HasActed fate h b b' h' = Acts (is_cut fate) fate h (deed h.task h.phase) b b' h'
+HasActed fate h b b' h' = BoardActs (is_cut fate) fate h (deed h.task h.phase) b b' h'
 
 -- The same request comes a second time once the program has refused its image, or it does not. What the board says at last.
 abbrev pub ComesAgain : Handling → (setup body : List ℕ) → Board → Says → Board → Type 0
@@ -73,12 +73,12 @@ ComesAgain Again setup body b says b' = HasServed b (Handle setup body) says b'
 ComesAgain (Late ms) setup body b says b' = (says ≡ Answers answer.Stall []) × (b' ≡ b)
 
 -- What is left of a request of this fate, in which the power does not go, once the program has refused its image.
-pub record HasEnded (fate : Fate) (h : HostState) (setup body : List ℕ) (b b' : Board) (h' : HostState) : Type 0 where
+pub record EndsRefused (fate : Fate) (h : HostState) (setup body : List ℕ) (b b' : Board) (h' : HostState) : Type 0 where
   pub says : Says
   pub mid : Board
   pub again : ComesAgain (handling_of fate) setup body b says mid
   pub heard : HasHeard h (comes_back fate) says h'
-  pub slips : Slips (handling_of fate) mid b'
+  pub slips : SlipsOnBoard (handling_of fate) mid b'
 
 -- The host sends a request that closes a download, and the board's program refuses the image.
 pub record HasObjected (why : Objection) (fate : Fate) (h : HostState) (b b' : Board) (h' : HostState) : Type 0 where
@@ -89,7 +89,7 @@ pub record HasObjected (why : Objection) (fate : Fate) (h : HostState) (b b' : B
   pub asked : IsAsked q setup
   pub mid : Board
   pub refused : HasServed b (RefuseClose setup why) (Answers answer.Stall []) mid
-  pub ends : HasEnded fate h setup body mid b' h'
+  pub ends : EndsRefused fate h setup body mid b' h'
 
 -- The next action of a host, by its fate: if the program is to refuse an image, it did, or the action went as any other. If the power goes
 -- in a request that closes a download, nothing is left of the refusal.

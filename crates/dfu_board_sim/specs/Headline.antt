@@ -6,9 +6,9 @@ use Rattle.dfu_sim.specs.declared.event.Event.{Event}
 use Rattle.dfu_sim.specs.declared.fault.LinkFault.{LinkFault}
 use Rattle.dfu_sim.specs.Bench.{Nobody}
 use Rattle.dfu_sim.specs.Session.{IsOneOf}
-use Rattle.dfu_sim.specs.Headline.{Begun, begun, WasOffered, IsLastPayload, HeadlineSays}
+use Rattle.dfu_sim.specs.Headline.{Begun, begun_now, WasOffered, IsLastPayload, HeadlineSays}
 use Rattle.dfu_board.specs.Board.{Board, medium_on, BoardStep}
-use Rattle.dfu_board.specs.Happens.{IsOn}
+use Rattle.dfu_board.specs.Happens.{IsPoweredOn}
 use Rattle.dfu_board_play.specs.Comes.{BoardLink}
 use Rattle.dfu_board_play.specs.Plays.{Plays}
 use Rattle.dfu_board_sim.specs.Link.{LinkOn, bench_on}
@@ -20,7 +20,7 @@ pub record HoldsSince (factory : List ℕ) (past : List Begun) (report : Option 
   pub steps : List BoardStep
   pub payloads : List (List ℕ)
   pub last : Option (List ℕ)
-  pub on : IsOn first
+  pub on : IsPoweredOn first
   pub some : 0 < first.asking.config.functional.transfer
   pub active : Active (medium_on first) factory
   pub plays : Plays first steps payloads last l
@@ -31,10 +31,10 @@ pub record HoldsSince (factory : List ℕ) (past : List Begun) (report : Option 
 -- If the headline holds before an event, it holds after it, with what the event reports. A refused event changes nothing.
 abbrev pub StepKeeps : LinkOn → Event → LinkOn → Result (Option Report) LinkFault → Type 0
 StepKeeps w event w' (Ok report) = (factory : List ℕ) (past : List Begun) (before : Option Report)
-    → HoldsSince factory past before w.link → HoldsSince factory (begun event past) report w'.link
+    → HoldsSince factory past before w.link → HoldsSince factory (begun_now event past) report w'.link
 StepKeeps w event w' (Err fault) = w' ≡ w
 
 -- The headline holds of a board that just got power, with no session. The factory image is the one that is active then.
 abbrev pub HoldsAtPower : Type 0
-HoldsAtPower = (b : Board) (factory : List ℕ) → IsOn b → 0 < b.asking.config.functional.transfer → Active (medium_on b) factory
+HoldsAtPower = (b : Board) (factory : List ℕ) → IsPoweredOn b → 0 < b.asking.config.functional.transfer → Active (medium_on b) factory
     → HoldsSince factory [] None (record { board = b; session = Nobody })

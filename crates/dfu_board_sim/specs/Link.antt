@@ -5,7 +5,7 @@ use Rattle.dfu_host.specs.Phases.{ToFetch}
 use Rattle.dfu_host.specs.Host.{HostState, aborted}
 use Rattle.dfu_sim.specs.declared.fault.LinkFault.{LinkFault}
 use Rattle.dfu_sim.specs.Bench.{Bench, Nobody, Hosted}
-use Rattle.dfu_sim.specs.Opening.{goal_of}
+use Rattle.dfu_sim.specs.Opening.{goal_of_aim}
 use Rattle.dfu_sim.specs.Happening.{Fate, Happening, Offers, Uploads, Aborts, Goes, Passes, Resets, Cuts, Refuses}
 use Rattle.dfu_sim.specs.Play.{Answered, silent, settled, told, given}
 use Rattle.dfu_sim.specs.Comes.{Means}
@@ -15,7 +15,7 @@ use Rattle.dfu_board.specs.Board.{Board, device_on, Elapse, UsbReset, Refuse, Sa
 use Rattle.dfu_board_play.specs.Comes.{BoardLink}
 use Rattle.dfu_board_play.specs.Plays.{opened_on}
 use Rattle.dfu_board_sim.specs.declared.chip.Chip.{Chip}
-use Rattle.dfu_board_sim.specs.Standing.{Stands, IsRestarted}
+use Rattle.dfu_board_sim.specs.Standing.{ChipStands, IsRestarted}
 use Rattle.dfu_board_sim.specs.Served.{HasServed}
 use Rattle.dfu_board_sim.specs.Acts.{HasGone}
 
@@ -33,7 +33,7 @@ abbrev pub bench_on : BoardLink → Bench
 bench_on l = record { device = device_on l.board; session = l.session }
 
 -- The host's next action on a link, and the end of its session if the host is done then.
-pub record GoesOn (fate : Fate) (l l' : BoardLink) (answer : Answered) : Type 0 where
+pub record HostGoesOn (fate : Fate) (l l' : BoardLink) (answer : Answered) : Type 0 where
   pub host : HostState
   pub live : l.session ≡ Hosted host
   pub next : HostState
@@ -42,28 +42,28 @@ pub record GoesOn (fate : Fate) (l l' : BoardLink) (answer : Answered) : Type 0 
   pub answered : answer ≡ (settled next next.phase).answer
 
 -- Each event on a link.
-abbrev pub Happens : Happening → BoardLink → BoardLink → Answered → Type 0
-Happens (Offers aim payload limits) l l' answer = (l.session ≡ Nobody) × (0 < length payload)
-    × (l' ≡ opened_on l.board (goal_of aim payload) limits) × (answer ≡ silent)
-Happens (Uploads limits) l l' answer = (l.session ≡ Nobody) × (l' ≡ opened_on l.board ToFetch limits) × (answer ≡ silent)
-Happens Aborts l l' answer = (host : HostState) × (l.session ≡ Hosted host)
+abbrev pub HappensOnLink : Happening → BoardLink → BoardLink → Answered → Type 0
+HappensOnLink (Offers aim payload limits) l l' answer = (l.session ≡ Nobody) × (0 < length payload)
+    × (l' ≡ opened_on l.board (goal_of_aim aim payload) limits) × (answer ≡ silent)
+HappensOnLink (Uploads limits) l l' answer = (l.session ≡ Nobody) × (l' ≡ opened_on l.board ToFetch limits) × (answer ≡ silent)
+HappensOnLink Aborts l l' answer = (host : HostState) × (l.session ≡ Hosted host)
     × (l' ≡ record { board = l.board; session = Hosted (aborted host) }) × (answer ≡ silent)
-Happens (Goes fate harm) l l' answer = GoesOn fate l l' answer
-Happens (Passes ms) l l' answer = (says : Says) × HasServed l.board (Elapse ms) says l'.board × (l'.session ≡ l.session)
+HappensOnLink (Goes fate harm) l l' answer = HostGoesOn fate l l' answer
+HappensOnLink (Passes ms) l l' answer = (says : Says) × HasServed l.board (Elapse ms) says l'.board × (l'.session ≡ l.session)
     × (answer ≡ silent)
-Happens Resets l l' answer = (says : Says) × HasServed l.board UsbReset says l'.board × (l'.session ≡ (told l.session).session)
+HappensOnLink Resets l l' answer = (says : Says) × HasServed l.board UsbReset says l'.board × (l'.session ≡ (told l.session).session)
     × (answer ≡ (told l.session).answer)
-Happens Cuts l l' answer = IsRestarted l.board l'.board × (l'.session ≡ (told l.session).session) × (answer ≡ (told l.session).answer)
-Happens (Refuses why) l l' answer = (says : Says) × HasServed l.board (Refuse why) says l'.board × (l'.session ≡ l.session)
+HappensOnLink Cuts l l' answer = IsRestarted l.board l'.board × (l'.session ≡ (told l.session).session) × (answer ≡ (told l.session).answer)
+HappensOnLink (Refuses why) l l' answer = (says : Says) × HasServed l.board (Refuse why) says l'.board × (l'.session ≡ l.session)
     × (answer ≡ silent)
 
 -- What comes of an event: it is refused and nothing changes, or it happens; and what its caller is told.
-pub data HasCome (w : LinkOn) (h : Happening) : LinkOn → Result (Option Report) LinkFault → Type 0 where
-  was_refused : {fault : LinkFault} → IsRefused (bench_on w.link) h fault → HasCome w h w (Err fault)
+pub data LinkComes (w : LinkOn) (h : Happening) : LinkOn → Result (Option Report) LinkFault → Type 0 where
+  was_refused : {fault : LinkFault} → IsRefused (bench_on w.link) h fault → LinkComes w h w (Err fault)
   has_happened : (event : Happening) {w' : LinkOn} (answer : Answered) → Means w.link.board.asking.config h event
-      → Happens event w.link w'.link answer → w'.up ≡ given answer.gave w.up → HasCome w h w' (Ok answer.report)
+      → HappensOnLink event w.link w'.link answer → w'.up ≡ given answer.gave w.up → LinkComes w h w' (Ok answer.report)
 
 -- What holds of a link between events.
 pub record HoldsOn (c : Chip) (live : Option HostState) : Type 0 where
-  pub stands : Stands c
+  pub stands : ChipStands c
   pub on : IsOnIn (session_of live)

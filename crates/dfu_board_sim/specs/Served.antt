@@ -8,13 +8,13 @@ use Rattle.dfu_asks.specs.declared.work.Work.{Work}
 use Rattle.dfu_asks.specs.Lent.{IsSetUpAs}
 use Rattle.dfu_asks.specs.Steps.{Step}
 use Rattle.dfu_board.specs.Board.{Board, state_on, Event, Elapse, Report, Says, Nothing, WritesDue, Answers, BoardStep}
-use Rattle.dfu_board.specs.Happens.{Happens, IsRun, said_by}
+use Rattle.dfu_board.specs.Happens.{Happens, IsRun, reply_said}
 use Rattle.dfu_board_play.specs.Calls.{CarriesOn, WorksOff, Serves, Stops}
 use Rattle.dfu_board_sim.specs.declared.came.Came.{Came}
 use Rattle.dfu_board_sim.specs.declared.came.Came.TheVariants.{Answered, NoAnswer}
 use Rattle.dfu_board_sim.specs.declared.fates.Handling.{Handling}
 use Rattle.dfu_board_sim.specs.declared.fates.Handling.TheVariants.{Unseen, Once, Again, Late}
-use Rattle.dfu_board_sim.specs.Standing.{IsAtRest, IsDue, IsTried}
+use Rattle.dfu_board_sim.specs.Standing.{IsAtRest, WritesAreDue, IsTried}
 
 -- How many bytes of the writes that are due are carried out.
 abbrev pub done_in : Option Work → ℕ
@@ -37,15 +37,15 @@ pub record HasTried (b b' : Board) : Type 0 where
   pub done : done_in b'.asking.work ≡ done_in b.asking.work
 
 -- The program told how a piece went: the writes stay due, further on, or the board has answered.
-abbrev pub IsNext : Board → Step → Reply → Board → Type 0
-IsNext b p reply.Asks b' = IsDue b' × (done_in b'.asking.work ≡ done_in b.asking.work + length p.write.bytes)
-IsNext b p (reply.Answered x count) b' = IsAtRest b'
+abbrev pub IsAfterPiece : Board → Step → Reply → Board → Type 0
+IsAfterPiece b p reply.Asks b' = WritesAreDue b' × (done_in b'.asking.work ≡ done_in b.asking.work + length p.write.bytes)
+IsAfterPiece b p (reply.Answered x count) b' = IsAtRest b'
 
 -- The program tells how this piece went, as a step of a board.
 pub record IsTakenAs (b : Board) (failed : Bool) (p : Step) (out : List ℕ) (r : Reply) (b' : Board) : Type 0 where
-  pub step : Happens b (Report failed) (said_by r out) b'
+  pub step : Happens b (Report failed) (reply_said r out) b'
   pub same : IsSetUpAs b.asking b'.asking
-  pub next : IsNext b p r b'
+  pub next : IsAfterPiece b p r b'
 
 -- The writes that were due: they are carried out, and the board has answered; or the power is to go now.
 abbrev pub HasWorked : Board → (out : List ℕ) → Came → Board → Type 0
@@ -68,7 +68,7 @@ pub record HasServed (b : Board) (call : Event) (says : Says) (b' : Board) : Typ
   pub says_is : says ≡ Answers answer out
 
 -- The power goes with this call under way, and comes back.
-pub record IsCut (call : Event) (b b' : Board) : Type 0 where
+pub record PowerIsCut (call : Event) (b b' : Board) : Type 0 where
   pub steps : List BoardStep
   pub stops : Stops call b steps b'
 
@@ -89,8 +89,8 @@ abbrev pub TimeSlips : ℕ → Board → Board → Type 0
 TimeSlips ms b b' = ((state_on b ≡ AppIdle) × (b' ≡ b)) ⊎ ((state_on b ≢ AppIdle) × (says : Says) × HasServed b (Elapse ms) says b')
 
 -- The time that slips in behind it passes, or none.
-abbrev pub Slips : Handling → Board → Board → Type 0
-Slips Unseen b b' = b' ≡ b
-Slips Once b b' = b' ≡ b
-Slips Again b b' = b' ≡ b
-Slips (Late ms) b b' = TimeSlips ms b b'
+abbrev pub SlipsOnBoard : Handling → Board → Board → Type 0
+SlipsOnBoard Unseen b b' = b' ≡ b
+SlipsOnBoard Once b b' = b' ≡ b
+SlipsOnBoard Again b b' = b' ≡ b
+SlipsOnBoard (Late ms) b b' = TimeSlips ms b b'

@@ -6,8 +6,8 @@ ghost use Rattle.dfu_host.specs.Phases.{Restarted};
 ghost use Rattle.dfu_board.specs.Board.{Handle, Elapse};
 ghost use Rattle.dfu_sim.specs.Happening.{fate_of};
 ghost use Rattle.dfu_board_sim.specs.Fates.{is_cut, waits_for};
-ghost use Rattle.dfu_board_sim.specs.Standing.{board_of, Stands};
-ghost use Rattle.dfu_board_sim.specs.Served.{IsCut};
+ghost use Rattle.dfu_board_sim.specs.Standing.{board_of, ChipStands};
+ghost use Rattle.dfu_board_sim.specs.Served.{PowerIsCut};
 ghost use Rattle.dfu_board_sim.specs.Acts.{HasSent, HasWaited, HasReset, HasActed};
 
 use crate::calls::usb_reset;
@@ -21,10 +21,10 @@ use dfu_sim::Fate;
 
 /// A request of a fate in which the power doesn't go.
 fn send(chip: &mut Chip, host: &mut Host<'_>, fate: Fate<'_>, setup: &[u8; 8], body: &[u8])
-    requires stands { Stands chip.old }
+    requires stands { ChipStands chip.old }
     requires whole { is_cut (fate_of fate) ≡ false }
     ensures sent { HasSent (fate_of fate.entry) host.old setup.now body.now (board_of chip.old) (board_of chip.new) host.new }
-    ensures stands { Stands chip.new }
+    ensures stands { ChipStands chip.new }
 {
     let mut harm = Harm::of(fate);
     let mut out = [0; 4096];
@@ -45,10 +45,10 @@ fn time_of(handling: Handling, ms: u32) -> u32
 
 /// A wait of a fate in which the power doesn't go.
 fn wait(chip: &mut Chip, host: &mut Host<'_>, fate: Fate<'_>, ms: u32)
-    requires stands { Stands chip.old }
+    requires stands { ChipStands chip.old }
     requires whole { is_cut (fate_of fate) ≡ false }
     ensures waited { HasWaited (fate_of fate.entry) host.old ms (board_of chip.old) (board_of chip.new) host.new }
-    ensures stands { Stands chip.new }
+    ensures stands { ChipStands chip.new }
 {
     let mut harm = Harm::of(fate);
     pass(chip, &mut harm, time_of(handling_of(fate), ms));
@@ -57,9 +57,9 @@ fn wait(chip: &mut Chip, host: &mut Host<'_>, fate: Fate<'_>, ms: u32)
 
 /// A reset of the bus of a fate in which the power doesn't go.
 fn reset_bus(chip: &mut Chip, host: &mut Host<'_>, fate: Fate<'_>)
-    requires stands { Stands chip.old }
+    requires stands { ChipStands chip.old }
     ensures reset { HasReset (fate_of fate.entry) host.old (board_of chip.old) (board_of chip.new) host.new }
-    ensures stands { Stands chip.new }
+    ensures stands { ChipStands chip.new }
 {
     usb_reset(chip);
     tell_reset(host);
@@ -68,11 +68,11 @@ fn reset_bus(chip: &mut Chip, host: &mut Host<'_>, fate: Fate<'_>)
 
 /// The next action of a host that is not done, if the power doesn't go in it.
 fn act_whole(chip: &mut Chip, host: &mut Host<'_>, fate: Fate<'_>)
-    requires stands { Stands chip.old }
+    requires stands { ChipStands chip.old }
     requires on { IsOn host.old.phase }
     requires whole { is_cut (fate_of fate) ≡ false }
     ensures acted { HasActed (fate_of fate.entry) host.old (board_of chip.old) (board_of chip.new) host.new }
-    ensures stands { Stands chip.new }
+    ensures stands { ChipStands chip.new }
 {
     match host.next() {
         Action::Send { setup, body } => send(chip, host, fate, &setup, body),
@@ -84,11 +84,11 @@ fn act_whole(chip: &mut Chip, host: &mut Host<'_>, fate: Fate<'_>)
 
 /// The next action of a host that is not done, if the power goes in it. Nothing is left of a reset of the bus then.
 fn act_cut(chip: &mut Chip, host: &mut Host<'_>, fate: Fate<'_>)
-    requires stands { Stands chip.old }
+    requires stands { ChipStands chip.old }
     requires on { IsOn host.old.phase }
     requires cut { is_cut (fate_of fate) ≡ true }
     ensures acted { HasActed (fate_of fate.entry) host.old (board_of chip.old) (board_of chip.new) host.new }
-    ensures stands { Stands chip.new }
+    ensures stands { ChipStands chip.new }
 {
     let mut harm = Harm::of(fate);
     match host.next() {
@@ -110,10 +110,10 @@ fn act_cut(chip: &mut Chip, host: &mut Host<'_>, fate: Fate<'_>)
 
 /// The next action of a host that is not done, by its fate.
 pub(crate) fn act(chip: &mut Chip, host: &mut Host<'_>, fate: Fate<'_>)
-    requires stands { Stands chip.old }
+    requires stands { ChipStands chip.old }
     requires on { IsOn host.old.phase }
     ensures acted { HasActed (fate_of fate.entry) host.old (board_of chip.old) (board_of chip.new) host.new }
-    ensures stands { Stands chip.new }
+    ensures stands { ChipStands chip.new }
 {
     if is_cut(fate) {
         act_cut(chip, host, fate);

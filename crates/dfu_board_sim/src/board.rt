@@ -3,10 +3,10 @@
 ghost use Rattle.std.specs.Prelude.{◌≡◌, ℕ, List, length, IfSome, IfNone};
 ghost use Rattle.dfu_slots.specs.Image.{HasImage};
 ghost use Rattle.dfu_asks.specs.Mapped.{grain_of, mapped};
-ghost use Rattle.dfu_board.specs.Happens.{IsOn};
+ghost use Rattle.dfu_board.specs.Happens.{IsPoweredOn};
 ghost use Rattle.dfu_board.specs.Steps.{board};
 ghost use Rattle.dfu_device.specs.Setting.{IsAllowed};
-ghost use Rattle.dfu_board_sim.specs.Standing.{board_of, Stands};
+ghost use Rattle.dfu_board_sim.specs.Standing.{board_of, ChipStands};
 
 use crate::chip::Chip;
 use dfu_asks::{Asking, Sector};
@@ -26,23 +26,23 @@ pub struct MemoryBoard {
 
 impl Model for MemoryBoard {
     ghost use Rattle.dfu_board.specs.Board.{Board};
-    ghost use Rattle.dfu_board_sim.specs.Standing.{board_of, Stands};
+    ghost use Rattle.dfu_board_sim.specs.Standing.{board_of, ChipStands};
 
     ghost Value = { Board };
 
     ghost view = { λ b. board_of b.chip };
 
-    ghost invariant = { λ b. Stands b.chip };
+    ghost invariant = { λ b. ChipStands b.chip };
 }
 
 /// What is kept of a board that just got power.
 fn fresh(asking: Asking, ids: Ids, block: [u8; 4096], held: [u8; 256], flash: Vec<u8>) -> Chip
-    requires on { (b h : List ℕ) → IsOn (board asking b h flash.items) }
+    requires on { (b h : List ℕ) → IsPoweredOn (board asking b h flash.items) }
     requires room { length block ≡ 4096 }
     requires ids { ids ≡ asking.config.ids }
     requires allowed { IsAllowed asking.config }
-    ensures stands { Stands result }
-    ensures on { IsOn (board_of result) }
+    ensures stands { ChipStands result }
+    ensures on { IsPoweredOn (board_of result) }
     ensures flash { result.flash.items ≡ flash.items }
     ensures asking { result.asking ≡ asking }
 {
@@ -69,7 +69,7 @@ impl MemoryBoard {
     ) -> Option<MemoryBoard>
         requires ids { ids ≡ config.ids }
         requires allowed { IsAllowed config }
-        ensures on { IfSome result (λ b. IsOn b) }
+        ensures on { IfSome result (λ b. IsPoweredOn b) }
         ensures flash { IfSome result (λ b. b.flash ≡ flash.items) }
         ensures set_up { IfSome result (λ b. (b.asking.config ≡ config) × (b.asking.unit ≡ unit) × (b.asking.sector ≡ sector)) }
         ensures none { IfNone result (¬ HasImage (mapped (grain_of unit sector) flash.items)) }

@@ -6,7 +6,7 @@ ghost use Rattle.dfu_asks.specs.Jobs.{asked};
 ghost use Rattle.dfu_asks.specs.Steps.{Step};
 ghost use Rattle.dfu_board.specs.Board.{Handle, Elapse, UsbReset, RefuseClose, Refuse, Answers};
 ghost use Rattle.dfu_board.specs.Happens.{IsHanded};
-ghost use Rattle.dfu_board_sim.specs.Standing.{board_of, Holds, Stands, IsDue, IsTried};
+ghost use Rattle.dfu_board_sim.specs.Standing.{board_of, ChipHolds, ChipStands, WritesAreDue, IsTried};
 ghost use Rattle.dfu_board_sim.specs.Served.{done_in, HasTried, IsTakenAs, HasWorked, HasCalled, HasServed};
 
 use crate::came::Came;
@@ -19,7 +19,7 @@ use dfu_device::Objection;
 
 /// The next piece of the writes that are due, with its bytes.
 fn next(chip: &Chip, bytes: &mut [u8; 256]) -> Piece
-    requires { IsDue (board_of chip.now) }
+    requires { WritesAreDue (board_of chip.now) }
     ensures handed { IsHanded (board_of chip.now) (asked result bytes.new) }
     ensures inside { result.at + result.len ≤ length chip.now.flash.items }
     ensures count { length (asked result bytes.new).write.bytes ≡ result.len }
@@ -46,10 +46,10 @@ fn done(chip: &Chip) -> u32
 
 /// Carries out the next piece of the writes that are due, or what becomes of it.
 fn try_next(chip: &mut Chip, harm: &mut Harm<'_>) -> Turn
-    requires due { IsDue (board_of chip.old) }
-    requires holds { Holds chip.old }
+    requires due { WritesAreDue (board_of chip.old) }
+    requires holds { ChipHolds chip.old }
     ensures tries { HasTried (board_of chip.old) (board_of chip.new) }
-    ensures holds { Holds chip.new }
+    ensures holds { ChipHolds chip.new }
     ensures same { harm.new.kind ≡ harm.old.kind }
     ensures cut { result ≡ Turn.PowerGone → harm.old.kind ≡ Kind.CutsPower }
 {
@@ -61,11 +61,11 @@ fn try_next(chip: &mut Chip, harm: &mut Harm<'_>) -> Turn
 /// The piece was carried out, or failed.
 fn took(chip: &mut Chip, failed: bool, out: &mut [u8]) -> Reply
     requires tried { (p : Step) × IsTried p (board_of chip.old) }
-    requires holds { Holds chip.old }
+    requires holds { ChipHolds chip.old }
     requires room { 6 ≤ length out.old }
     ensures took { (p : Step) → IsTried p (board_of chip.old) →
         IsTakenAs (board_of chip.old) failed p out.new result (board_of chip.new) }
-    ensures holds { Holds chip.new }
+    ensures holds { ChipHolds chip.new }
 {
     match chip
         .asking
@@ -78,11 +78,11 @@ fn took(chip: &mut Chip, failed: bool, out: &mut [u8]) -> Reply
 
 /// Carries out the writes that are due, piece by piece, until the board answers or the power goes.
 fn work_off(chip: &mut Chip, harm: &mut Harm<'_>, out: &mut [u8]) -> Came
-    requires due { IsDue (board_of chip.old) }
-    requires holds { Holds chip.old }
+    requires due { WritesAreDue (board_of chip.old) }
+    requires holds { ChipHolds chip.old }
     requires room { 6 ≤ length out.old }
     ensures worked { HasWorked (board_of chip.old) out.new result (board_of chip.new) }
-    ensures holds { Holds chip.new }
+    ensures holds { ChipHolds chip.new }
     ensures same { harm.new.kind ≡ harm.old.kind }
     ensures cut { result ≡ Came.NoAnswer → harm.old.kind ≡ Kind.CutsPower }
 {
@@ -108,9 +108,9 @@ pub(crate) fn handle(
     body: &[u8],
     out: &mut [u8; 4096],
 ) -> Came
-    requires { Stands chip.old }
+    requires { ChipStands chip.old }
     ensures called { HasCalled (board_of chip.old) (Handle setup.now body.now) out.new result (board_of chip.new) }
-    ensures holds { Holds chip.new }
+    ensures holds { ChipHolds chip.new }
     ensures same { harm.new.kind ≡ harm.old.kind }
     ensures cut { result ≡ Came.NoAnswer → harm.old.kind ≡ Kind.CutsPower }
 {
@@ -131,9 +131,9 @@ pub(crate) fn handle(
 
 /// So many milliseconds pass.
 pub(crate) fn elapse(chip: &mut Chip, harm: &mut Harm<'_>, ms: u32) -> Came
-    requires { Stands chip.old }
+    requires { ChipStands chip.old }
     ensures called { (out : List ℕ) × HasCalled (board_of chip.old) (Elapse ms) out result (board_of chip.new) }
-    ensures holds { Holds chip.new }
+    ensures holds { ChipHolds chip.new }
     ensures same { harm.new.kind ≡ harm.old.kind }
     ensures cut { result ≡ Came.NoAnswer → harm.old.kind ≡ Kind.CutsPower }
 {
@@ -155,9 +155,9 @@ pub(crate) fn elapse(chip: &mut Chip, harm: &mut Harm<'_>, ms: u32) -> Came
 
 /// The bus is reset.
 pub(crate) fn usb_reset(chip: &mut Chip)
-    requires { Stands chip.old }
+    requires { ChipStands chip.old }
     ensures served { HasServed (board_of chip.old) UsbReset (Answers answer.Ack []) (board_of chip.new) }
-    ensures stands { Stands chip.new }
+    ensures stands { ChipStands chip.new }
 {
     match steps::usb_reset(&mut chip.asking, &chip.block, &chip.held, &chip.flash) {
         Ok(()) => {}
@@ -167,11 +167,11 @@ pub(crate) fn usb_reset(chip: &mut Chip)
 
 /// The program refuses the image that this setup closes. False, with nothing changed, if it closes none.
 pub(crate) fn refuse_close(chip: &mut Chip, setup: &[u8; 8], objection: Objection) -> bool
-    requires { Stands chip.old }
+    requires { ChipStands chip.old }
     ensures refused { result ≡ true →
         HasServed (board_of chip.old) (RefuseClose setup.now objection) (Answers answer.Stall []) (board_of chip.new) }
     ensures unchanged { result ≡ false → board_of chip.new ≡ board_of chip.old }
-    ensures stands { Stands chip.new }
+    ensures stands { ChipStands chip.new }
 {
     match steps::refuse_close(&mut chip.asking, setup, objection) {
         Ok(closes) => closes,
@@ -181,9 +181,9 @@ pub(crate) fn refuse_close(chip: &mut Chip, setup: &[u8; 8], objection: Objectio
 
 /// The program refuses the image that was closed, if one was.
 pub(crate) fn refuse(chip: &mut Chip, objection: Objection)
-    requires { Stands chip.old }
+    requires { ChipStands chip.old }
     ensures served { HasServed (board_of chip.old) (Refuse objection) (Answers answer.Ack []) (board_of chip.new) }
-    ensures stands { Stands chip.new }
+    ensures stands { ChipStands chip.new }
 {
     match steps::refuse(&mut chip.asking, objection) {
         Ok(()) => {}

@@ -2,8 +2,8 @@
 
 ghost use Rattle.std.specs.Prelude.{◌≡◌, ◌≢◌, true, false};
 ghost use Rattle.dfu_board.specs.Board.{state_on, Handle, Elapse, Says};
-ghost use Rattle.dfu_board_sim.specs.Standing.{board_of, Stands};
-ghost use Rattle.dfu_board_sim.specs.Served.{IsHandled, HasServed, TimeSlips, Slips, IsCut, says_of};
+ghost use Rattle.dfu_board_sim.specs.Standing.{board_of, ChipStands};
+ghost use Rattle.dfu_board_sim.specs.Served.{IsHandled, HasServed, TimeSlips, SlipsOnBoard, PowerIsCut, says_of};
 
 use crate::calls::{elapse, handle};
 use crate::came::Came;
@@ -22,11 +22,11 @@ pub(crate) fn reach(
     body: &[u8],
     out: &mut [u8; 4096],
 ) -> Came
-    requires stands { Stands chip.old }
+    requires stands { ChipStands chip.old }
     requires whole { harm.old.kind ≢ Kind.CutsPower }
     ensures handled { IsHandled handling (Handle setup.now body.now) (board_of chip.old) (says_of result out.new)
         (board_of chip.new) }
-    ensures stands { Stands chip.new }
+    ensures stands { ChipStands chip.new }
 {
     match handling {
         Handling::Unseen => Came::NoAnswer,
@@ -41,10 +41,10 @@ pub(crate) fn reach(
 
 /// So many milliseconds pass, and the power doesn't go.
 pub(crate) fn pass(chip: &mut Chip, harm: &mut Harm<'_>, ms: u32)
-    requires stands { Stands chip.old }
+    requires stands { ChipStands chip.old }
     requires whole { harm.old.kind ≢ Kind.CutsPower }
     ensures served { (says : Says) × HasServed (board_of chip.old) (Elapse ms) says (board_of chip.new) }
-    ensures stands { Stands chip.new }
+    ensures stands { ChipStands chip.new }
 {
     let _ = elapse(chip, harm, ms);
 }
@@ -62,9 +62,9 @@ fn is_idle(chip: &Chip) -> bool
 
 /// So many milliseconds slip in. In appIDLE no time counts, and nothing is called.
 fn slip_time(chip: &mut Chip, ms: u32)
-    requires { Stands chip.old }
+    requires { ChipStands chip.old }
     ensures slips { TimeSlips ms (board_of chip.old) (board_of chip.new) }
-    ensures stands { Stands chip.new }
+    ensures stands { ChipStands chip.new }
 {
     if is_idle(chip) {
         return;
@@ -74,9 +74,9 @@ fn slip_time(chip: &mut Chip, ms: u32)
 
 /// The time passes that slips in behind a request or a reset.
 pub(crate) fn slip(chip: &mut Chip, handling: Handling)
-    requires { Stands chip.old }
-    ensures slips { Slips handling (board_of chip.old) (board_of chip.new) }
-    ensures stands { Stands chip.new }
+    requires { ChipStands chip.old }
+    ensures slips { SlipsOnBoard handling (board_of chip.old) (board_of chip.new) }
+    ensures stands { ChipStands chip.new }
 {
     match handling {
         Handling::Unseen | Handling::Once | Handling::Again => {}
@@ -86,9 +86,9 @@ pub(crate) fn slip(chip: &mut Chip, handling: Handling)
 
 /// The power goes with a request under way.
 pub(crate) fn cut_request(chip: &mut Chip, harm: &mut Harm<'_>, setup: &[u8; 8], body: &[u8])
-    requires { Stands chip.old }
-    ensures cut { IsCut (Handle setup.now body.now) (board_of chip.old) (board_of chip.new) }
-    ensures stands { Stands chip.new }
+    requires { ChipStands chip.old }
+    ensures cut { PowerIsCut (Handle setup.now body.now) (board_of chip.old) (board_of chip.new) }
+    ensures stands { ChipStands chip.new }
 {
     let mut out = [0; 4096];
     let _ = handle(chip, harm, setup, body, &mut out);
@@ -97,9 +97,9 @@ pub(crate) fn cut_request(chip: &mut Chip, harm: &mut Harm<'_>, setup: &[u8; 8],
 
 /// The power goes while so many milliseconds pass.
 pub(crate) fn cut_wait(chip: &mut Chip, harm: &mut Harm<'_>, ms: u32)
-    requires { Stands chip.old }
-    ensures cut { IsCut (Elapse ms) (board_of chip.old) (board_of chip.new) }
-    ensures stands { Stands chip.new }
+    requires { ChipStands chip.old }
+    ensures cut { PowerIsCut (Elapse ms) (board_of chip.old) (board_of chip.new) }
+    ensures stands { ChipStands chip.new }
 {
     let _ = elapse(chip, harm, ms);
     power_cycle(chip);
@@ -107,9 +107,9 @@ pub(crate) fn cut_wait(chip: &mut Chip, harm: &mut Harm<'_>, ms: u32)
 
 /// The power goes with no call under way.
 pub(crate) fn cut_idle(chip: &mut Chip)
-    requires { Stands chip.old }
-    ensures cut { IsCut (Elapse 0) (board_of chip.old) (board_of chip.new) }
-    ensures stands { Stands chip.new }
+    requires { ChipStands chip.old }
+    ensures cut { PowerIsCut (Elapse 0) (board_of chip.old) (board_of chip.new) }
+    ensures stands { ChipStands chip.new }
 {
     power_cycle(chip);
 }

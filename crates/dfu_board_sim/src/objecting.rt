@@ -4,9 +4,9 @@ ghost use Rattle.std.specs.Prelude.{◌≡◌, ◌≢◌, ◌⊎◌, false, true
 ghost use Rattle.dfu_host.specs.Host.{IsOn};
 ghost use Rattle.dfu_sim.specs.Happening.{fate_of, refused_in};
 ghost use Rattle.dfu_board_sim.specs.Fates.{handling_of, is_cut};
-ghost use Rattle.dfu_board_sim.specs.Standing.{board_of, Stands};
+ghost use Rattle.dfu_board_sim.specs.Standing.{board_of, ChipStands};
 ghost use Rattle.dfu_board_sim.specs.Served.{says_of};
-ghost use Rattle.dfu_board_sim.specs.Acts.{ComesAgain, HasEnded, HasActed, HasObjected, HasGone};
+ghost use Rattle.dfu_board_sim.specs.Acts.{ComesAgain, EndsRefused, HasActed, HasObjected, HasGone};
 
 use crate::acting::act;
 use crate::calls::{handle, refuse_close};
@@ -38,10 +38,10 @@ fn again(
     body: &[u8],
     out: &mut [u8; 4096],
 ) -> Came
-    requires stands { Stands chip.old }
+    requires stands { ChipStands chip.old }
     requires seen { handling ≢ Handling.Unseen }
     ensures again { ComesAgain handling setup.now body.now (board_of chip.old) (says_of result out.new) (board_of chip.new) }
-    ensures stands { Stands chip.new }
+    ensures stands { ChipStands chip.new }
 {
     match handling {
         Handling::Unseen => unreachable!(),
@@ -53,10 +53,10 @@ fn again(
 
 /// What is left of a request once the program has refused its image.
 fn end_refused(chip: &mut Chip, host: &mut Host<'_>, fate: Fate<'_>, setup: &[u8; 8], body: &[u8])
-    requires stands { Stands chip.old }
+    requires stands { ChipStands chip.old }
     requires seen { handling_of (fate_of fate) ≢ Handling.Unseen }
-    ensures ended { HasEnded (fate_of fate.entry) host.old setup.now body.now (board_of chip.old) (board_of chip.new) host.new }
-    ensures stands { Stands chip.new }
+    ensures ended { EndsRefused (fate_of fate.entry) host.old setup.now body.now (board_of chip.old) (board_of chip.new) host.new }
+    ensures stands { ChipStands chip.new }
 {
     let mut out = [0; 4096];
     let came = again(chip, handling_of(fate), setup, body, &mut out);
@@ -67,12 +67,12 @@ fn end_refused(chip: &mut Chip, host: &mut Host<'_>, fate: Fate<'_>, setup: &[u8
 /// The next action of a host that is not done, whose request the board sees and in which the power doesn't go. The program refuses the
 /// image that it closes, if it closes one.
 fn act_seen(chip: &mut Chip, host: &mut Host<'_>, fate: Fate<'_>, objection: Objection)
-    requires stands { Stands chip.old }
+    requires stands { ChipStands chip.old }
     requires on { IsOn host.old.phase }
     requires seen { handling_of (fate_of fate) ≢ Handling.Unseen }
     ensures gone { HasActed (fate_of fate.entry) host.old (board_of chip.old) (board_of chip.new) host.new
         ⊎ HasObjected objection (fate_of fate.entry) host.old (board_of chip.old) (board_of chip.new) host.new }
-    ensures stands { Stands chip.new }
+    ensures stands { ChipStands chip.new }
 {
     match host.next() {
         Action::Send { setup, body } => {
@@ -89,11 +89,11 @@ fn act_seen(chip: &mut Chip, host: &mut Host<'_>, fate: Fate<'_>, objection: Obj
 /// The next action of a host that is not done, by its fate. The program refuses the image that it closes, if it closes one. If the power
 /// goes in it, nothing is left of that.
 fn act_refused(chip: &mut Chip, host: &mut Host<'_>, fate: Fate<'_>, objection: Objection)
-    requires stands { Stands chip.old }
+    requires stands { ChipStands chip.old }
     requires on { IsOn host.old.phase }
     ensures gone { HasActed (fate_of fate.entry) host.old (board_of chip.old) (board_of chip.new) host.new
         ⊎ HasObjected objection (fate_of fate.entry) host.old (board_of chip.old) (board_of chip.new) host.new }
-    ensures stands { Stands chip.new }
+    ensures stands { ChipStands chip.new }
 {
     if is_cut(fate) {
         act(chip, host, fate);
@@ -111,10 +111,10 @@ pub(crate) fn act_by(
     fate: Fate<'_>,
     refusing: Option<Objection>,
 )
-    requires stands { Stands chip.old }
+    requires stands { ChipStands chip.old }
     requires on { IsOn host.old.phase }
     ensures gone { HasGone (refused_in refusing (fate_of fate.entry)) host.old (board_of chip.old) (board_of chip.new) host.new }
-    ensures stands { Stands chip.new }
+    ensures stands { ChipStands chip.new }
 {
     match refusing {
         None => act(chip, host, fate),

@@ -4,7 +4,7 @@ ghost use Rattle.std.specs.Prelude.{◌≡◌};
 ghost use Rattle.dfu_sim.specs.Happening.{Offers, Uploads, Aborts, Goes, fate_of, harm_in, refused_in, happening};
 ghost use Rattle.dfu_sim.specs.Standing.{IsOnIn, session_of};
 ghost use Rattle.dfu_board_sim.specs.Standing.{board_of};
-ghost use Rattle.dfu_board_sim.specs.Link.{link_on, HasCome, HoldsOn};
+ghost use Rattle.dfu_board_sim.specs.Link.{link_on, LinkComes, HoldsOn};
 
 use crate::calls::{refuse, usb_reset};
 use crate::chip::Chip;
@@ -29,7 +29,7 @@ fn offer<'f>(
     limits: Limits,
 ) -> Result<Option<Report>, LinkFault>
     requires { HoldsOn chip.now host.old }
-    ensures come { HasCome (link_on (board_of chip.now) host.old gave.now) (Offers aim file.now limits)
+    ensures come { LinkComes (link_on (board_of chip.now) host.old gave.now) (Offers aim file.now limits)
         (link_on (board_of chip.now) host.new gave.now) result }
     ensures on { IsOnIn (session_of host.new) }
 {
@@ -54,7 +54,7 @@ fn upload<'f>(
     limits: Limits,
 ) -> Result<Option<Report>, LinkFault>
     requires { HoldsOn chip.now host.old }
-    ensures come { HasCome (link_on (board_of chip.now) host.old gave.now) (Uploads limits)
+    ensures come { LinkComes (link_on (board_of chip.now) host.old gave.now) (Uploads limits)
         (link_on (board_of chip.now) host.new gave.now) result }
     ensures on { IsOnIn (session_of host.new) }
 {
@@ -77,7 +77,7 @@ fn abort<'f>(
     gave: &Option<Host<'f>>,
 ) -> Result<Option<Report>, LinkFault>
     requires { HoldsOn chip.now host.old }
-    ensures come { HasCome (link_on (board_of chip.now) host.old gave.now) Aborts (link_on (board_of chip.now) host.new gave.now) result }
+    ensures come { LinkComes (link_on (board_of chip.now) host.old gave.now) Aborts (link_on (board_of chip.now) host.new gave.now) result }
     ensures on { IsOnIn (session_of host.new) }
 {
     match host {
@@ -98,7 +98,7 @@ fn go<'f>(
     refusing: Option<Objection>,
 ) -> Result<Option<Report>, LinkFault>
     requires { HoldsOn chip.old host.old }
-    ensures come { HasCome (link_on (board_of chip.old) host.old gave.old)
+    ensures come { LinkComes (link_on (board_of chip.old) host.old gave.old)
         (Goes (refused_in refusing (fate_of fate.entry)) (harm_in fate.entry)) (link_on (board_of chip.new) host.new gave.new) result }
     ensures holds { HoldsOn chip.new host.new }
 {
@@ -118,7 +118,7 @@ pub(crate) fn come<'f>(
     event: Event<'f, '_>,
 ) -> Result<Option<Report>, LinkFault>
     requires { HoldsOn chip.old host.old }
-    ensures come { HasCome (link_on (board_of chip.old) host.old gave.old) (happening event.entry)
+    ensures come { LinkComes (link_on (board_of chip.old) host.old gave.old) (happening event.entry)
         (link_on (board_of chip.new) host.new gave.new) result }
     ensures holds { HoldsOn chip.new host.new }
 {

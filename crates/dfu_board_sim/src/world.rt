@@ -4,7 +4,7 @@ ghost use Rattle.std.specs.Prelude.{◌≡◌, [], true, false};
 ghost use Rattle.dfu_sim.specs.Bench.{Nobody};
 ghost use Rattle.dfu_sim.specs.Happening.{happening};
 ghost use Rattle.dfu_sim.specs.Refusing.{IsLive};
-ghost use Rattle.dfu_board_sim.specs.Link.{HasCome};
+ghost use Rattle.dfu_board_sim.specs.Link.{LinkComes};
 ghost use Rattle.dfu_board_sim.specs.Headline.{StepKeeps};
 
 use crate::board::MemoryBoard;
@@ -64,7 +64,7 @@ impl<'f> BoardWorld<'f> {
     ///
     /// A refused event changes nothing. The faults are those of `dfu_sim::World::step`, looked for in the same order.
     pub fn step(&mut self, event: Event<'f, '_>) -> Result<Option<Report>, LinkFault>
-        ensures come { HasCome self.old (happening event.entry) self.new result }
+        ensures come { LinkComes self.old (happening event.entry) self.new result }
         ensures headline { StepKeeps self.old event.entry self.new result }
     {
         // Called for its laws, which `headline` needs.

@@ -5,11 +5,11 @@
 ghost use Rattle.std.specs.Prelude.{◌≡◌, IfSome, codes};
 ghost use Rattle.std.specs.Fmt.{decimal};
 ghost use Rattle.std.specs.String.{string_bytes};
-ghost use Rattle.dfu_text.specs.ReasonLines.{reason_line};
+ghost use Rattle.dfu_output.specs.ReasonLines.{reason_line};
 
-use dfu_commands::run_explained;
+use dfu_cli::run_explained;
+use dfu_output::{Exit, bad_words, fault_text, reason_line};
 use dfu_suffix::SuffixFault;
-use dfu_text::{Exit, bad_words, fault_text, reason_line};
 use std::alloc::Global;
 use std::env::{Env, FillError};
 use std::io::{self, ErrorKind, IsTerminal};

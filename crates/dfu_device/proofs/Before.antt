@@ -8,7 +8,7 @@ use Rattle.dfu_wire.specs.Request.{Asks}
 use Rattle.dfu_device.specs.Stage.{Stall}
 use Rattle.dfu_device.specs.Decision.{HasLength}
 use Rattle.dfu_device.specs.Shown.{Shown}
-use Rattle.dfu_device.specs.Rows.{Answers, Done, Serves, is_served, body_length, setup_plan, asked_length}
+use Rattle.dfu_device.specs.Rows.{Answers, Done, ServesRequest, is_served, body_length, setup_plan, asked_length}
 
 served_is : (p : Setup) (q : Asked) (body : List ℕ) → q ≢ asked.NotDfu → is_served p q body ≡ (length body == body_length p)
 served_is p asked.NotDfu body other = absurd (other refl)
@@ -25,7 +25,7 @@ refused_class p q body n w a out other off says = refused p q body n w a out (se
 
 -- A request of the class whose body fits goes by the table.
 pub served_class : (p : Setup) (q : Asked) (body : List ℕ) (w w' : Shown) (a : Answer) (out : List ℕ) → q ≢ asked.NotDfu
-    → (length body == body_length p) ≡ true → Serves q body w a out w' → Done (setup_plan w p q body) (asked_length q) w a out w'
+    → (length body == body_length p) ≡ true → ServesRequest q body w a out w' → Done (setup_plan w p q body) (asked_length q) w a out w'
 served_class p q body w w' a out other on row = rw (served_is p q body other ∙ on) row
 
 -- The body of a DNLOAD has the length that the request says.

@@ -8,7 +8,7 @@ use Rattle.dfu_device.specs.Setting.{Setting}
 use Rattle.dfu_device.specs.declared.mode.Mode.{Mode}
 use Rattle.dfu_device.specs.declared.mode.Mode.TheVariants as mode
 use Rattle.dfu_device.specs.Parts.{shows, stage_of, is_put, is_filled, is_sound}
-use Rattle.dfu_device.specs.Decision.{IsAtRest}
+use Rattle.dfu_device.specs.Decision.{TakesNothing}
 use Rattle.dfu_device.specs.Table.{commit_code}
 use Rattle.dfu_device.specs.Rows.{Committed, FailedCommit}
 use Rattle.dfu_device.proofs.Calls.{called_one}
@@ -39,7 +39,7 @@ commit_calls : (s now : SlotsState) (n : ℕ) (ending : Ending) → n ≤ length
 commit_calls s now n ending fits d =
     subst (λ (k : ℕ). Called s (Commit k ∷ []) ending now) (sym (length-take-le n (spare_of s) fits)) (called_one s now (Commit n) ending d)
 
-rested : (m : Mode) → IsAtRest m → (xs ys : List ℕ)
+rested : (m : Mode) → TakesNothing m → (xs ys : List ℕ)
     → stage_of m xs ys ≡ stage_of m [] []
 rested m three xs ys = elim three [ inl e ↦ rw e refl | inr other ↦ elim other [ inl e ↦ rw e refl | inr e ↦ rw e refl ] ]
 
@@ -47,7 +47,7 @@ shaped_sound : (s : SlotsState) → is_shaped s ≡ true → IsTrue (is_shaped s
 shaped_sound s shape = grind (arith, common_steps)
 
 -- A machine that goes on to dfuIDLE, to dfuMANIFEST-SYNC when complete, or to dfuMANIFEST-WAIT-RESET is sound.
-pub rested_sound : (m : Mode) (b : ℕ) (s : SlotsState) → IsAtRest m
+pub rested_sound : (m : Mode) (b : ℕ) (s : SlotsState) → TakesNothing m
     → is_shaped s ≡ true → IsTrue (is_sound m b s)
 rested_sound m b s three shape =
     let sound : IsTrue (is_shaped s && true) = shaped_sound s shape in
@@ -88,7 +88,7 @@ block_room n b number s filled = record { some = grind (arith, common_steps); ro
 -- A commit that worked is what the table says of it.
 pub committed : (config : Setting) (s now : SlotsState) (next : Mode) (block : List ℕ) (n : ℕ) → IsReady s n
     → DidCall s (Commit n) AllWorked now → image_of now ≡ take n (spare_of s) → room_of now ≡ room_of s
-    → IsAtRest next
+    → TakesNothing next
     → Committed (take n (spare_of s)) config s (stage_of next [] []) (shows config now next block)
 committed config s now next block n ready d image room three = record {
   config_is = refl;

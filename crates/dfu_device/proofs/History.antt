@@ -4,32 +4,33 @@ use Rattle.std.proofs.Common.{refl, sym, ap, ◌∙◌, subst}
 use Rattle.std.proofs.lemmas.List.{append_assoc, append-nil}
 use Rattle.std.proofs.lemmas.Bool.{false≢true}
 use Rattle.dfu_device.specs.Shown.{Shown}
-use Rattle.dfu_device.specs.History.{Step, IsRow, IsHistory, parts_of, AllInside, Gathered, from_start, since}
+use Rattle.dfu_device.specs.History.{HistoryStep, IsRow, IsHistory, joined_parts, AllInside, Gathered, from_start, since}
 use Rattle.dfu_device.proofs.Cases.{by_cases}
 
 -- The steps after the first one.
-abbrev pub behind : List Step → List Step
+abbrev pub behind : List HistoryStep → List HistoryStep
 behind [] = []
 behind (s ∷ h) = h
 
-module _ (inside : Step → Bool) (part : Step → List ℕ) where
-  all_with : (h : List Step) (s : Step) → AllInside inside h → inside s ≡ true → AllInside inside (h ++ s ∷ [])
+module _ (inside : HistoryStep → Bool) (part : HistoryStep → List ℕ) where
+  all_with : (h : List HistoryStep) (s : HistoryStep) → AllInside inside h → inside s ≡ true → AllInside inside (h ++ s ∷ [])
   all_with [] s all on = (on, tt)
   all_with (x ∷ h) s all on = (all.0, all_with h s all.1 on)
 
-  parts_with : (h : List Step) (s : Step) → parts_of part (h ++ s ∷ []) ≡ parts_of part h ++ part s
+  parts_with : (h : List HistoryStep) (s : HistoryStep) → joined_parts part (h ++ s ∷ []) ≡ joined_parts part h ++ part s
   parts_with [] s = append-nil (part s)
-  parts_with (x ∷ h) s = ap (λ (l : List ℕ). part x ++ l) (parts_with h s) ∙ sym (append_assoc (part x) (parts_of part h) (part s))
+  parts_with (x ∷ h) s = ap (λ (l : List ℕ). part x ++ l) (parts_with h s) ∙ sym (append_assoc (part x) (joined_parts part h) (part s))
 
-  goes_on : (h : List Step) (s : Step) (t : List ℕ) → Gathered inside part h t → inside s ≡ true
+  goes_on : (h : List HistoryStep) (s : HistoryStep) (t : List ℕ) → Gathered inside part h t → inside s ≡ true
       → Gathered inside part (h ++ s ∷ []) (t ++ part s)
   goes_on h s t (from_start all is) on = from_start (all_with h s all on) (ap (λ (l : List ℕ). l ++ part s) is ∙ sym (parts_with h s))
   goes_on h s t (since old last recent split off all is) on =
-      since old last (recent ++ s ∷ []) (ap (λ (l : List Step). l ++ s ∷ []) split ∙ append_assoc old (last ∷ recent) (s ∷ [])) off
+      since old last (recent ++ s ∷ []) (ap (λ (l : List HistoryStep). l ++ s ∷ []) split ∙ append_assoc old (last ∷ recent) (s ∷ [])) off
       (all_with recent s all on) (ap (λ (l : List ℕ). l ++ part s) is ∙ sym (parts_with recent s))
 
   -- A step more gathers its part more where it ends inside, and nothing where it ends outside.
-  pub step_gathers : (h : List Step) (s : Step) (t now : List ℕ) → Gathered inside part h t → (inside s ≡ true → now ≡ t ++ part s)
+  pub step_gathers : (h : List HistoryStep) (s : HistoryStep) (t now : List ℕ) → Gathered inside part h t →
+      (inside s ≡ true → now ≡ t ++ part s)
       → (inside s ≡ false → now ≡ []) → Gathered inside part (h ++ s ∷ []) now
   step_gathers h s t now gathered on off =
       by_cases (inside s)
@@ -38,23 +39,25 @@ module _ (inside : Step → Bool) (part : Step → List ℕ) where
 
   -- So a history that goes on gathers what its steps do, where each row does so of what a device shows.
   pub history_gathers : (of : Shown → List ℕ)
-      → ((h : List Step) (s : Step) → Gathered inside part h (of s.before) → IsRow s → Gathered inside part (h ++ s ∷ []) (of s.after))
-      → (g h : List Step) (w w' : Shown) → Gathered inside part g (of w) → IsHistory w h w' → Gathered inside part (g ++ h) (of w')
+      → ((h : List HistoryStep) (s : HistoryStep) → Gathered inside part h (of s.before) → IsRow s →
+      Gathered inside part (h ++ s ∷ []) (of s.after))
+      → (g h : List HistoryStep) (w w' : Shown) → Gathered inside part g (of w) → IsHistory w h w' → Gathered inside part (g ++ h) (of w')
   history_gathers of step g [] w w' gathered same =
-      subst (λ (l : List Step). Gathered inside part l (of w')) (sym (append-nil g))
+      subst (λ (l : List HistoryStep). Gathered inside part l (of w')) (sym (append-nil g))
       (subst (λ (z : Shown). Gathered inside part g (of z)) (sym same) gathered)
   history_gathers of step g (s ∷ rest) w w' gathered (starts, row, more) =
       let before : Gathered inside part g (of s.before) = subst (λ (z : Shown). Gathered inside part g (of z)) (sym starts) gathered in
-      subst (λ (l : List Step). Gathered inside part l (of w')) (append_assoc g (s ∷ []) rest)
+      subst (λ (l : List HistoryStep). Gathered inside part l (of w')) (append_assoc g (s ∷ []) rest)
       (history_gathers of step (g ++ s ∷ []) rest s.after w' (step g s before row) more)
 
   -- Where all steps end inside, none of them ends outside.
-  none_outside : (old : List Step) (last : Step) (recent : List Step) → AllInside inside (old ++ last ∷ recent) → inside last ≡ false → ⊥
+  none_outside : (old : List HistoryStep) (last : HistoryStep) (recent : List HistoryStep) → AllInside inside (old ++ last ∷ recent) →
+      inside last ≡ false → ⊥
   none_outside [] last recent all off = false≢true (sym off ∙ all.0)
   none_outside (x ∷ old) last recent all off = none_outside old last recent all.1 off
 
   -- So the last one that ends outside is one.
-  same_recent : (old : List Step) (last : Step) (recent past : List Step) (end : Step) (late : List Step)
+  same_recent : (old : List HistoryStep) (last : HistoryStep) (recent past : List HistoryStep) (end : HistoryStep) (late : List HistoryStep)
       → old ++ last ∷ recent ≡ past ++ end ∷ late → inside last ≡ false → inside end ≡ false → AllInside inside recent
       → AllInside inside late
       → recent ≡ late
@@ -67,11 +70,11 @@ module _ (inside : Step → Bool) (part : Step → List ℕ) where
       same_recent old last recent past end late (ap behind e) off out all every
 
   -- A history gathers one list of bytes.
-  pub one_gathered : (h : List Step) (a b : List ℕ) → Gathered inside part h a → Gathered inside part h b → a ≡ b
+  pub one_gathered : (h : List HistoryStep) (a b : List ℕ) → Gathered inside part h a → Gathered inside part h b → a ≡ b
   one_gathered h a b (from_start all is) (from_start every same) = is ∙ sym same
   one_gathered h a b (from_start all is) (since old last recent split off every same) =
       absurd (none_outside old last recent (subst (AllInside inside) split all) off)
   one_gathered h a b (since old last recent split off all is) (from_start every same) =
       absurd (none_outside old last recent (subst (AllInside inside) split every) off)
   one_gathered h a b (since old last recent split off all is) (since past end late parts out every same) =
-      is ∙ ap (parts_of part) (same_recent old last recent past end late (sym split ∙ parts) off out all every) ∙ sym same
+      is ∙ ap (joined_parts part) (same_recent old last recent past end late (sym split ∙ parts) off out all every) ∙ sym same

@@ -16,19 +16,19 @@ use Rattle.dfu_device.specs.Outcome.{Luck, Outcome, outcome}
 use Rattle.dfu_device.specs.Shown.{Shown, profile}
 use Rattle.dfu_device.specs.Rows.{meant, asked_length, Answers, is_served, Handles, handled_as, Elapses, Cause, Transfer, Passing, BusReset, RefusingClose, Refusing, PowerOn, Row}
 use Rattle.dfu_device.specs.Came.{Came, asked_came, not_served, time_came}
-use Rattle.dfu_device.specs.RowForms.{Fits, given, RowForm, row_form, time_form, row_fits}
-use Rattle.dfu_device.specs.History.{Step, IsRow, IsHistory, Gathered, from_start}
+use Rattle.dfu_device.specs.RowForms.{ReplyFits, reply_given, RowForm, row_form, time_form, row_fits}
+use Rattle.dfu_device.specs.History.{HistoryStep, IsRow, IsHistory, Gathered, from_start}
 use Rattle.dfu_device.proofs.History.{step_gathers, history_gathers}
 use Rattle.dfu_device.proofs.Cases.{by_cases}
 
 -- The reply to a setup that goes by the table is of the kind that its request has.
 pub reply_fits : (q : Asked) (body : List ℕ) (len : ℕ) (w : Shown) (a : Answer) (out : List ℕ) (w' : Shown)
     (x : Came (plan (profile w) (image_of w.slots) w.stage (meant q body)) len w a out w')
-    → Fits (profile w).transfer x.reply (meant q body)
+    → ReplyFits (profile w).transfer x.reply (meant q body)
 reply_fits q body len w a out w' x =
     let p : Plan = plan (profile w) (image_of w.slots) w.stage (meant q body) in
-    subst (λ (o : Outcome). Fits (profile w).transfer o.reply (meant q body)) x.same
-    (given (λ (reply : Reply). Fits (profile w).transfer reply (meant q body)) (image_of w.slots) p x.luck
+    subst (λ (o : Outcome). ReplyFits (profile w).transfer o.reply (meant q body)) x.same
+    (reply_given (λ (reply : Reply). ReplyFits (profile w).transfer reply (meant q body)) (image_of w.slots) p x.luck
     (row_fits (profile w) (image_of w.slots) w.stage (meant q body) p (row_form (profile w) (image_of w.slots) w.stage (meant q body))))
 
 -- In which states bytes are held, which they are by image and state, what a reply makes of them, and what a cause with its answer adds.
@@ -52,7 +52,7 @@ module _ (inside : State → Bool) (held : List ℕ → Stage → List ℕ) (joi
         → Joins (held i st) r (outcome i p luck)
     -- What a setup adds, by its answer.
     pub answered : (p : Setup) (q : Asked) (setup body before : List ℕ) (most len : ℕ) (reply : Reply) (a : Answer) (out : List ℕ)
-        → IsSetup p setup → Asks p q → is_served p q body ≡ true → Fits most reply (meant q body) → Answers len reply a out
+        → IsSetup p setup → Asks p q → is_served p q body ≡ true → ReplyFits most reply (meant q body) → Answers len reply a out
         → joined before (meant q body) reply ≡ before ++ own (Transfer setup body) a out
     -- Where it is stalled, and where nothing is asked, nothing is added.
     pub stalled : (setup body out : List ℕ) → own (Transfer setup body) answer.Stall out ≡ []
@@ -118,15 +118,15 @@ module _ (inside : State → Bool) (held : List ℕ → Stage → List ℕ) (joi
         (known.resets (image_of (store_on w.slots.medium)) (held_by w ++ own PowerOn a out) InAppIdle)
 
     -- A step ends where bytes are held.
-    abbrev ends_inside : Step → Bool
+    abbrev ends_inside : HistoryStep → Bool
     ends_inside s = inside (state_of s.after.stage)
 
     -- What a step adds.
-    abbrev own_of : Step → List ℕ
+    abbrev own_of : HistoryStep → List ℕ
     own_of s = own s.cause s.answer s.out
 
     -- A step more gathers what it adds.
-    pub step_adds : (h : List Step) (s : Step) → Gathered ends_inside own_of h (held_by s.before) → IsRow s
+    pub step_adds : (h : List HistoryStep) (s : HistoryStep) → Gathered ends_inside own_of h (held_by s.before) → IsRow s
         → Gathered ends_inside own_of (h ++ s ∷ []) (held_by s.after)
     step_adds h s gathered row =
         let both : List ℕ = held_by s.before ++ own_of s in
@@ -135,10 +135,10 @@ module _ (inside : State → Bool) (held : List ℕ → Stage → List ℕ) (joi
         (λ on. now ∙ ap (λ (b : Bool). if b then both else []) on) (λ off. now ∙ ap (λ (b : Bool). if b then both else []) off)
 
     -- A history that goes on gathers what its steps add.
-    pub history_adds : (g h : List Step) (w w' : Shown) → Gathered ends_inside own_of g (held_by w) → IsHistory w h w'
+    pub history_adds : (g h : List HistoryStep) (w w' : Shown) → Gathered ends_inside own_of g (held_by w) → IsHistory w h w'
         → Gathered ends_inside own_of (g ++ h) (held_by w')
     history_adds g h w w' gathered run = history_gathers ends_inside own_of held_by step_adds g h w w' gathered run
 
     -- A device that holds no bytes at first holds at last what its history gathers.
-    pub start_adds : (h : List Step) (w w' : Shown) → held_by w ≡ [] → IsHistory w h w' → Gathered ends_inside own_of h (held_by w')
+    pub start_adds : (h : List HistoryStep) (w w' : Shown) → held_by w ≡ [] → IsHistory w h w' → Gathered ends_inside own_of h (held_by w')
     start_adds h w w' none run = history_adds [] h w w' (from_start tt none) run

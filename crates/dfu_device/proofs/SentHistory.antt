@@ -13,8 +13,8 @@ use Rattle.dfu_device.specs.declared.objection.Objection.{Objection}
 use Rattle.dfu_device.specs.Stage.{Request, Reply, Data, Stall, Stage, InAppDetach, InManifestSync, InManifest, InUploadIdle, state_of}
 use Rattle.dfu_device.specs.Table.{reset_stage, refuse_stage}
 use Rattle.dfu_device.specs.Rows.{meant, Answers, is_served, Refusing, Transfer}
-use Rattle.dfu_device.specs.RowForms.{Fits}
-use Rattle.dfu_device.specs.Sent.{is_uploading, sent_in, sent_by, still_sent, is_upload, piece, uploads, piece_of}
+use Rattle.dfu_device.specs.RowForms.{ReplyFits}
+use Rattle.dfu_device.specs.Sent.{is_uploading, sent_in, upload_sent, still_sent, is_upload, piece, uploads, upload_piece}
 use Rattle.dfu_device.proofs.SentRow.{form_sends}
 use Rattle.dfu_device.proofs.FirstBytes.{is_numbered, begins_as}
 use Rattle.dfu_device.proofs.RowGathers.{Gathers, row_adds, step_adds, start_adds}
@@ -35,8 +35,8 @@ no_piece setup body answer.Bytes out off = ap (λ (b : Bool). if b then out else
 no_piece setup body a out off = refl
 
 answered : (p : Setup) (q : Asked) (setup body t : List ℕ) (most len : ℕ) (reply : Reply) (a : Answer) (out : List ℕ) → IsSetup p setup
-    → Asks p q → is_served p q body ≡ true → Fits most reply (meant q body) → Answers len reply a out
-    → t ++ sent_by (meant q body) reply ≡ t ++ piece (Transfer setup body) a out
+    → Asks p q → is_served p q body ≡ true → ReplyFits most reply (meant q body) → Answers len reply a out
+    → t ++ upload_sent (meant q body) reply ≡ t ++ piece (Transfer setup body) a out
 answered p (asked.Upload block count) setup body t most len (Data bytes) a out reads asks on fits says =
     ap (λ (l : List ℕ). t ++ l) (sym (ap (λ (x : Answer). piece (Transfer setup body) x out) says.0
     ∙ ap (λ (b : Bool). if b then out else []) (upload_as p (asked.Upload block count) setup body reads asks on) ∙ says.1))
@@ -63,7 +63,7 @@ refusal_sends why i st a out = sent_already i st
 
 -- What was sent before, with what a reply sends.
 abbrev joined : List ℕ → Request → Reply → List ℕ
-joined sent r reply = sent ++ sent_by r reply
+joined sent r reply = sent ++ upload_sent r reply
 
 known : Gathers is_uploading sent_in joined piece
 known = record {
@@ -93,4 +93,4 @@ history_sends = start_adds is_uploading sent_in joined piece known
 
 -- A history sends one list of bytes.
 pub one_sent : OneSent
-one_sent = one_gathered uploads piece_of
+one_sent = one_gathered uploads upload_piece

@@ -7,7 +7,7 @@ use Rattle.std.proofs.lemmas.List.{append-nil, length-take, take_all, take-appen
 use Rattle.dfu_device.specs.Stage.{Data, Request, Upload, Reply, Profile, Stage, InDfuIdle, state_of}
 use Rattle.dfu_device.specs.Table.{Plan}
 use Rattle.dfu_device.specs.Outcome.{Luck, Outcome, outcome}
-use Rattle.dfu_device.specs.Sent.{sent_in, sent_of, sent_by, still_sent, sent_after}
+use Rattle.dfu_device.specs.Sent.{sent_in, sent_of, upload_sent, still_sent, sent_after}
 use Rattle.dfu_device.specs.RowForms.{IsQuiet, counted, quiet_given, RowForm, quiet, takes, closes, sends, ends}
 
 -- Whatever the medium does, what counts as sent after a plan is what was sent before with what it sends.
@@ -15,7 +15,7 @@ abbrev pub Sends : List ℕ → Stage → Request → Plan → Type 0
 Sends i st r p = (luck : Luck) → sent_of (outcome i p luck).after ≡ sent_after (sent_in i st) r (outcome i p luck)
 
 -- A quiet reply sends nothing.
-none_sent : (r : Request) (reply : Reply) → IsQuiet reply r → sent_by r reply ≡ []
+none_sent : (r : Request) (reply : Reply) → IsQuiet reply r → upload_sent r reply ≡ []
 none_sent (Upload number size) (Data bytes) still = absurd still
 none_sent (Upload number size) reply still = refl
 none_sent r reply still = refl

@@ -17,8 +17,8 @@ use Rattle.dfu_device.specs.Outcome.{Outcome}
 use Rattle.dfu_device.specs.Shown.{Shown, profile, situation}
 use Rattle.dfu_device.specs.Rows.{meant, asked_length, Answers, is_served, Cause, Refusing, Transfer}
 use Rattle.dfu_device.specs.Came.{Came, asked_came, time_came}
-use Rattle.dfu_device.specs.RowForms.{Fits, RowForm, row_form, time_form}
-use Rattle.dfu_device.specs.Taken.{taken_in, taken_of, is_downloading, added, held_in, taken_after, is_dnload, acknowledged, downloads, block_of}
+use Rattle.dfu_device.specs.RowForms.{ReplyFits, RowForm, row_form, time_form}
+use Rattle.dfu_device.specs.Taken.{taken_in, taken_of, is_downloading, dnload_added, held_in, taken_after, is_dnload, acknowledged, downloads, block_of}
 use Rattle.dfu_device.proofs.TakenRow.{form_keeps}
 use Rattle.dfu_device.proofs.FirstBytes.{is_numbered, begins_as}
 use Rattle.dfu_device.proofs.RowGathers.{Gathers, row_adds, step_adds, history_adds, start_adds}
@@ -61,8 +61,8 @@ no_block setup body answer.Ack off = ap (λ (b : Bool). if b then body else []) 
 no_block setup body a off = refl
 
 answered : (p : Setup) (q : Asked) (setup body t : List ℕ) (most len : ℕ) (reply : Reply) (a : Answer) (out : List ℕ) → IsSetup p setup
-    → Asks p q → is_served p q body ≡ true → Fits most reply (meant q body) → Answers len reply a out
-    → added t (meant q body) reply ≡ t ++ acknowledged (Transfer setup body) a
+    → Asks p q → is_served p q body ≡ true → ReplyFits most reply (meant q body) → Answers len reply a out
+    → dnload_added t (meant q body) reply ≡ t ++ acknowledged (Transfer setup body) a
 answered p (asked.Dnload block count) setup body t most len Ack a out reads asks on fits says =
     ap (λ (b : Bool). t ++ (if b then body else [])) (sym (dnload_as p (asked.Dnload block count) setup body reads asks on))
     ∙ ap (λ (x : Answer). t ++ acknowledged (Transfer setup body) x) (sym says.0)
@@ -96,7 +96,7 @@ refusal_takes why image st a out = held_already image st
 abbrev block_by : Cause → Answer → List ℕ → List ℕ
 block_by cause a out = acknowledged cause a
 
-known : Gathers is_downloading taken_in added block_by
+known : Gathers is_downloading taken_in dnload_added block_by
 known = record {
   form = form_keeps;
   answered = answered;
@@ -110,21 +110,21 @@ known = record {
 
 -- Each row takes the body that it acknowledges.
 pub row_takes : RowTakes
-row_takes = row_adds is_downloading taken_in added block_by known
+row_takes = row_adds is_downloading taken_in dnload_added block_by known
 
 -- A whole history.
 
 -- A step more takes its acknowledged body more.
 pub step_takes : StepTakes
-step_takes = step_adds is_downloading taken_in added block_by known
+step_takes = step_adds is_downloading taken_in dnload_added block_by known
 
 -- A history that goes on takes what its steps acknowledge.
 pub history_takes : HistoryTakes
-history_takes = history_adds is_downloading taken_in added block_by known
+history_takes = history_adds is_downloading taken_in dnload_added block_by known
 
 -- A device that has taken nothing at first has taken what its history says.
 pub start_takes : StartTakes
-start_takes = start_adds is_downloading taken_in added block_by known
+start_takes = start_adds is_downloading taken_in dnload_added block_by known
 
 -- A history takes one list of bytes.
 pub one_taken : OneTaken

@@ -5,7 +5,7 @@ use Rattle.std.proofs.lemmas.List.{append-nil}
 use Rattle.dfu_device.specs.Stage.{Request, Dnload, Reply, Ack, Profile, Stage, state_of}
 use Rattle.dfu_device.specs.Table.{Plan}
 use Rattle.dfu_device.specs.Outcome.{Luck, outcome}
-use Rattle.dfu_device.specs.Taken.{taken_in, taken_of, added, held_in, taken_after}
+use Rattle.dfu_device.specs.Taken.{taken_in, taken_of, dnload_added, held_in, taken_after}
 use Rattle.dfu_device.specs.RowForms.{IsQuiet, counted, quiet_given, RowForm, quiet, takes, closes, sends, ends}
 
 -- Whatever the medium does, what a plan leaves taken is what was taken with what it acknowledged.
@@ -13,7 +13,7 @@ abbrev pub Keeps : List ℕ → Stage → Request → Plan → Type 0
 Keeps i st r p = (luck : Luck) → taken_of (outcome i p luck).after ≡ taken_after (taken_in i st) r (outcome i p luck)
 
 -- A quiet reply adds nothing.
-none_added : (t : List ℕ) (r : Request) (reply : Reply) → IsQuiet reply r → added t r reply ≡ t
+none_added : (t : List ℕ) (r : Request) (reply : Reply) → IsQuiet reply r → dnload_added t r reply ≡ t
 none_added t (Dnload number body) Ack still = absurd still
 none_added t (Dnload number body) reply still = refl
 none_added t r reply still = refl

@@ -12,7 +12,7 @@ use Rattle.dfu_device.specs.Table.{plan}
 use Rattle.dfu_device.specs.Shown.{Shown, profile, situation}
 use Rattle.dfu_device.specs.Rows.{meant, asked_length, Answers, is_served, Handles, handled_as, Cause, Row}
 use Rattle.dfu_device.specs.Came.{Came, asked_came, not_served}
-use Rattle.dfu_device.specs.RowForms.{Fits, row_form}
+use Rattle.dfu_device.specs.RowForms.{ReplyFits, row_form}
 use Rattle.dfu_device.specs.Sent.{sent_of, is_upload}
 use Rattle.dfu_device.specs.Uploaded.{UploadEnds, UploadGives}
 use Rattle.dfu_device.proofs.Told.{bytes_no_stall}
@@ -24,7 +24,7 @@ use Rattle.dfu_device.proofs.Cases.{by_cases}
 
 -- An UPLOAD that is answered by bytes is answered by these bytes of the image.
 piece_answered : (q : Asked) (body : List ℕ) (most len : ℕ) (reply : Reply) (a : Answer) (out : List ℕ) → is_numbered 0xa1 2 q ≡ true
-    → a ≡ answer.Bytes → Fits most reply (meant q body) → Answers len reply a out → reply ≡ Data out
+    → a ≡ answer.Bytes → ReplyFits most reply (meant q body) → Answers len reply a out → reply ≡ Data out
 piece_answered (asked.Upload number size) body most len (Data bytes) a out on is fits says = ap Data (sym says.1)
 piece_answered (asked.Upload number size) body most len Stall a out on is fits says = absurd (bytes_no_stall (sym is ∙ says.0))
 piece_answered (asked.Upload number size) body most len reply a out on is fits says = absurd fits

@@ -86,8 +86,8 @@ DecidesTime p m ms d = (image spare block : List ℕ)
     → plan_of (profile_in p) image spare block [] d ≡ time_plan (profile_in p) (stage_of m spare block) ms
 
 -- A mode in which nothing is taken.
-abbrev pub IsAtRest : Mode → Type 0
-IsAtRest m = (m ≡ mode.DfuIdle) ⊎ (m ≡ mode.ManifestSyncComplete) ⊎ (m ≡ mode.ManifestWaitReset)
+abbrev pub TakesNothing : Mode → Type 0
+TakesNothing m = (m ≡ mode.DfuIdle) ⊎ (m ≡ mode.ManifestSyncComplete) ⊎ (m ≡ mode.ManifestWaitReset)
 
 -- A decision can be carried out, with blocks of at most `transfer` bytes, where the block that is not written and the body have so many.
 abbrev pub IsPossible : (transfer block body : ℕ) → SlotsState → Decision → Type 0
@@ -95,7 +95,7 @@ IsPossible transfer block body s (decision.Sure r m) = IsTrue (is_filled m block
 IsPossible transfer block body s (decision.Holds m) = (body ≤ transfer) × IsTrue (is_filled m body s)
 IsPossible transfer block body s (decision.Sends place size number) = Unit {0}
 IsPossible transfer block body s (decision.Writes r written number late) = IsTrue (is_filled (mode.DownloadSync written number) block s)
-IsPossible transfer block body s (decision.Commits r written m) = IsTrue (is_filled (mode.ManifestSync written) block s) × IsAtRest m
+IsPossible transfer block body s (decision.Commits r written m) = IsTrue (is_filled (mode.ManifestSync written) block s) × TakesNothing m
 
 -- What is decided in this mode, on a body of so many bytes, can be carried out.
 abbrev pub Allows : ProfileRead → Mode → (body : ℕ) → Decision → Type 0

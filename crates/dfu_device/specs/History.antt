@@ -5,7 +5,7 @@ use Rattle.dfu_device.specs.Shown.{Shown}
 use Rattle.dfu_device.specs.Rows.{Cause, Row}
 
 -- A step of a history: a row, from a device by a cause to an answer and a device.
-pub record Step : Type 0 where
+pub record HistoryStep : Type 0 where
   pub before : Shown
   pub cause : Cause
   pub answer : Answer
@@ -13,28 +13,28 @@ pub record Step : Type 0 where
   pub after : Shown
 
 -- The step is a row of the device table.
-abbrev pub IsRow : Step → Type 0
+abbrev pub IsRow : HistoryStep → Type 0
 IsRow s = Row s.before s.cause s.answer s.out s.after
 
 -- A history: steps, each beginning where the one before ended.
-abbrev pub IsHistory : Shown → List Step → Shown → Type 0
+abbrev pub IsHistory : Shown → List HistoryStep → Shown → Type 0
 IsHistory w [] w' = w' ≡ w
 IsHistory w (s ∷ rest) w' = (s.before ≡ w) × IsRow s × IsHistory s.after rest w'
 
 -- The parts of these steps, joined.
-abbrev pub parts_of : (Step → List ℕ) → List Step → List ℕ
-parts_of part [] = []
-parts_of part (s ∷ rest) = part s ++ parts_of part rest
+abbrev pub joined_parts : (HistoryStep → List ℕ) → List HistoryStep → List ℕ
+joined_parts part [] = []
+joined_parts part (s ∷ rest) = part s ++ joined_parts part rest
 
 -- All these steps end inside.
-abbrev pub AllInside : (Step → Bool) → List Step → Type 0
+abbrev pub AllInside : (HistoryStep → Bool) → List HistoryStep → Type 0
 AllInside inside [] = Unit {0}
 AllInside inside (s ∷ rest) = (inside s ≡ true) × AllInside inside rest
 
 -- These bytes are gathered by a history: the parts of the steps after the last one that ends outside.
-pub data Gathered (inside : Step → Bool) (part : Step → List ℕ) (h : List Step) (bytes : List ℕ) : Type 0 where
+pub data Gathered (inside : HistoryStep → Bool) (part : HistoryStep → List ℕ) (h : List HistoryStep) (bytes : List ℕ) : Type 0 where
   -- No step ends outside.
-  from_start : AllInside inside h → bytes ≡ parts_of part h → Gathered inside part h bytes
+  from_start : AllInside inside h → bytes ≡ joined_parts part h → Gathered inside part h bytes
   -- The last step that ends outside, with those before it and those after it.
-  since : (old : List Step) (last : Step) (recent : List Step) → h ≡ old ++ last ∷ recent
-      → inside last ≡ false → AllInside inside recent → bytes ≡ parts_of part recent → Gathered inside part h bytes
+  since : (old : List HistoryStep) (last : HistoryStep) (recent : List HistoryStep) → h ≡ old ++ last ∷ recent
+      → inside last ≡ false → AllInside inside recent → bytes ≡ joined_parts part recent → Gathered inside part h bytes

@@ -7,7 +7,7 @@ use Rattle.dfu_wire.specs.declared.codes.Code.{Code}
 use Rattle.dfu_wire.specs.declared.codes.Code.TheVariants.{Address as ErrAddress, NotDone as ErrNotDone, StalledPkt as ErrStalledPkt}
 use Rattle.dfu_slots.specs.declared.fault.WriteFault.{WriteFault}
 use Rattle.dfu_device.specs.Stage.{Request, Dnload, Upload, GetStatus, ClrStatus, GetState, OtherRequest, Reply, Ack, StatusOf, StateOf, Data, Stall, Profile, Stage, InAppDetach, InDfuIdle, InDownloadSync, InDownloadBusy, InDownloadIdle, InManifestSync, InManifestSyncComplete, InManifest, InManifestWaitReset, InUploadIdle, InError, state_of}
-use Rattle.dfu_device.specs.Table.{Plan, Sure, Writes, Commits, ack, error, is_empty, block_plan, further_plan, upload_plan, plan, time_plan}
+use Rattle.dfu_device.specs.Table.{Plan, Sure, Writes, Commits, ack, error, has_no_bytes, block_plan, further_plan, upload_plan, plan, time_plan}
 use Rattle.dfu_device.specs.Outcome.{Situation, Luck, Works, FailsOld, FailsNew, outcome}
 use Rattle.dfu_device.specs.Shown.{written_in}
 use Rattle.dfu_device.specs.Taken.{taken_in, taken_of, held_in}
@@ -24,26 +24,26 @@ EachReply P (Writes before block reply stage bad) = P reply × ((fault : WriteFa
 EachReply P (Commits taken reply stage bad) = P reply × ((fault : WriteFault) → P (bad fault))
 
 -- What holds of each reply that a plan may give holds of the one that is given, whatever the medium does.
-pub given : (P : Reply → Type 0) (image : List ℕ) (p : Plan) (luck : Luck) → EachReply P p → P (outcome image p luck).reply
-given P image (Sure reply stage) luck each = each
-given P image (Writes before block reply stage bad) Works each = each.0
-given P image (Writes before block reply stage bad) (FailsOld fault) each = each.1 fault
-given P image (Writes before block reply stage bad) (FailsNew fault) each = each.1 fault
-given P image (Commits taken reply stage bad) Works each = each.0
-given P image (Commits taken reply stage bad) (FailsOld fault) each = each.1 fault
-given P image (Commits taken reply stage bad) (FailsNew fault) each = each.1 fault
+pub reply_given : (P : Reply → Type 0) (image : List ℕ) (p : Plan) (luck : Luck) → EachReply P p → P (outcome image p luck).reply
+reply_given P image (Sure reply stage) luck each = each
+reply_given P image (Writes before block reply stage bad) Works each = each.0
+reply_given P image (Writes before block reply stage bad) (FailsOld fault) each = each.1 fault
+reply_given P image (Writes before block reply stage bad) (FailsNew fault) each = each.1 fault
+reply_given P image (Commits taken reply stage bad) Works each = each.0
+reply_given P image (Commits taken reply stage bad) (FailsOld fault) each = each.1 fault
+reply_given P image (Commits taken reply stage bad) (FailsNew fault) each = each.1 fault
 
 -- A reply is of the kind that the request has, and has at most so many bytes of an image.
-abbrev pub Fits : ℕ → Reply → Request → Type 0
-Fits most Stall r = Unit {0}
-Fits most Ack GetStatus = ⊥
-Fits most Ack GetState = ⊥
-Fits most Ack (Upload number size) = ⊥
-Fits most Ack r = Unit {0}
-Fits most (StatusOf code poll state) GetStatus = Unit {0}
-Fits most (StateOf state) GetState = Unit {0}
-Fits most (Data bytes) (Upload number size) = length bytes ≤ most
-Fits most reply r = ⊥
+abbrev pub ReplyFits : ℕ → Reply → Request → Type 0
+ReplyFits most Stall r = Unit {0}
+ReplyFits most Ack GetStatus = ⊥
+ReplyFits most Ack GetState = ⊥
+ReplyFits most Ack (Upload number size) = ⊥
+ReplyFits most Ack r = Unit {0}
+ReplyFits most (StatusOf code poll state) GetStatus = Unit {0}
+ReplyFits most (StateOf state) GetState = Unit {0}
+ReplyFits most (Data bytes) (Upload number size) = length bytes ≤ most
+ReplyFits most reply r = ⊥
 
 -- A reply takes no block and sends no piece.
 abbrev pub IsQuiet : Reply → Request → Type 0
@@ -53,12 +53,12 @@ IsQuiet reply r = Unit {0}
 
 -- A quiet reply of the kind that the request has.
 abbrev pub FitsQuietly : ℕ → Request → Reply → Type 0
-FitsQuietly most r reply = Fits most reply r × IsQuiet reply r
+FitsQuietly most r reply = ReplyFits most reply r × IsQuiet reply r
 
 -- Where each reply of a plan is quiet, so is the one that is given.
 pub quiet_given : (c : Profile) (image : List ℕ) (r : Request) (p : Plan) (luck : Luck) → EachReply (FitsQuietly c.transfer r) p
     → IsQuiet (outcome image p luck).reply r
-quiet_given c image r p luck each = (given (FitsQuietly c.transfer r) image p luck each).1
+quiet_given c image r p luck each = (reply_given (FitsQuietly c.transfer r) image p luck each).1
 
 -- What a plan does.
 
@@ -143,7 +143,7 @@ pub row_form : (c : Profile) (image : List ℕ) (st : Stage) (r : Request) → R
 row_form c image InDfuIdle (Dnload number body) =
     let P : Plan → Type 0 = RowForm c image InDfuIdle (Dnload number body) in
     either_way P (not c.can_download) _ _ (fails c image _ _ ErrStalledPkt (λ y. y))
-    (either_way P (is_empty body) _ _ (fails c image _ _ ErrStalledPkt (λ y. y)) (block_form c image InDfuIdle 0 number body))
+    (either_way P (has_no_bytes body) _ _ (fails c image _ _ ErrStalledPkt (λ y. y)) (block_form c image InDfuIdle 0 number body))
 row_form c image InDfuIdle (Upload number size) = either_way (RowForm c image InDfuIdle (Upload number size)) c.can_upload _ _
     (upload_form c image InDfuIdle 0 0 number size refl) (fails c image _ _ ErrStalledPkt (λ y. y))
 row_form c image (InDownloadSync before block number) GetStatus =
@@ -185,10 +185,10 @@ time_form c image st ms = quiet (tt, tt) tt (λ y. absurd y) (refl, refl)
 
 -- Each reply of a row is of the kind that its request has.
 pub row_fits : (c : Profile) (image : List ℕ) (st : Stage) (r : Request) (p : Plan) → RowForm c image st r p
-    → EachReply (λ reply. Fits c.transfer reply r) p
+    → EachReply (λ reply. ReplyFits c.transfer reply r) p
 row_fits c image st r p (quiet replies calls well counts) = each p replies
   where
-    each : (p : Plan) → EachReply (FitsQuietly c.transfer r) p → EachReply (λ reply. Fits c.transfer reply r) p
+    each : (p : Plan) → EachReply (FitsQuietly c.transfer r) p → EachReply (λ reply. ReplyFits c.transfer reply r) p
     each (Sure reply next) replies = replies.0
     each (Writes before block reply next bad) replies = (replies.0.0, λ fault. (replies.1 fault).0)
     each (Commits taken reply next bad) replies = (replies.0.0, λ fault. (replies.1 fault).0)

@@ -116,8 +116,8 @@ setup_plan w p q body = if is_served p q body then plan (profile w) (image_of w.
 -- The rows.
 
 -- The row of a request that goes by the table.
-abbrev pub Serves : Asked → List ℕ → Shown → Answer → List ℕ → Shown → Type 0
-Serves q body w a out w' = Done (plan (profile w) (image_of w.slots) w.stage (meant q body)) (asked_length q) w a out w'
+abbrev pub ServesRequest : Asked → List ℕ → Shown → Answer → List ℕ → Shown → Type 0
+ServesRequest q body w a out w' = Done (plan (profile w) (image_of w.slots) w.stage (meant q body)) (asked_length q) w a out w'
 
 -- The row of a setup with its body: as these eight bytes are read.
 pub data Handles (setup body : List ℕ) (w : Shown) (a : Answer) (out : List ℕ) (w' : Shown) : Type 0 where

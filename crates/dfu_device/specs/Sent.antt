@@ -7,7 +7,7 @@ use Rattle.dfu_device.specs.declared.answer.Answer.TheVariants as answer
 use Rattle.dfu_device.specs.Stage.{Request, Upload, Reply, Data, Stage, InDfuIdle, InUploadIdle, state_of}
 use Rattle.dfu_device.specs.Outcome.{Situation, Outcome}
 use Rattle.dfu_device.specs.Rows.{Cause, Transfer}
-use Rattle.dfu_device.specs.History.{Step, Gathered}
+use Rattle.dfu_device.specs.History.{HistoryStep, Gathered}
 
 -- The bytes sent in a state.
 
@@ -28,9 +28,9 @@ sent_of s = sent_in s.image s.stage
 -- The bytes sent by a row.
 
 -- UPLOAD is answered by bytes that it sends, and nothing else sends any.
-abbrev pub sent_by : Request → Reply → List ℕ
-sent_by (Upload number size) (Data bytes) = bytes
-sent_by request reply = []
+abbrev pub upload_sent : Request → Reply → List ℕ
+upload_sent (Upload number size) (Data bytes) = bytes
+upload_sent request reply = []
 
 -- Nothing counts as sent where a row ends in another state.
 abbrev pub still_sent : State → List ℕ → List ℕ
@@ -38,7 +38,7 @@ still_sent state sent = if is_uploading state then sent else []
 
 -- The bytes sent after a row.
 abbrev pub sent_after : List ℕ → Request → Outcome → List ℕ
-sent_after sent request o = still_sent (state_of o.after.stage) (sent ++ sent_by request o.reply)
+sent_after sent request o = still_sent (state_of o.after.stage) (sent ++ upload_sent request o.reply)
 
 -- The bytes sent by a history.
 
@@ -52,19 +52,19 @@ piece (Transfer setup body) answer.Bytes out = if is_upload setup then out else 
 piece cause a out = []
 
 -- A step ends in dfuUPLOAD-IDLE.
-abbrev pub uploads : Step → Bool
+abbrev pub uploads : HistoryStep → Bool
 uploads s = is_uploading (state_of s.after.stage)
 
 -- The bytes with which a step answered an UPLOAD.
-abbrev pub piece_of : Step → List ℕ
-piece_of s = piece s.cause s.answer s.out
+abbrev pub upload_piece : HistoryStep → List ℕ
+upload_piece s = piece s.cause s.answer s.out
 
 -- These bytes were sent by a history: the pieces that were answered after the last step that ends in another state.
-abbrev pub Sent : List Step → List ℕ → Type 0
-Sent h bytes = Gathered uploads piece_of h bytes
+abbrev pub Sent : List HistoryStep → List ℕ → Type 0
+Sent h bytes = Gathered uploads upload_piece h bytes
 
 -- A step is the last one of an upload: an UPLOAD that is answered by bytes, and ends in dfuIDLE.
-pub record EndsUpload (s : Step) : Type 0 where
+pub record EndsUpload (s : HistoryStep) : Type 0 where
   pub setup : List ℕ
   pub body : List ℕ
   pub cause : s.cause ≡ Transfer setup body

@@ -4,7 +4,7 @@ use Rattle.dfu_device.specs.declared.answer.Answer.{Answer}
 use Rattle.dfu_device.specs.Stage.{state_of}
 use Rattle.dfu_device.specs.Shown.{Shown, situation}
 use Rattle.dfu_device.specs.Rows.{Cause, Row}
-use Rattle.dfu_device.specs.History.{Step, IsRow, IsHistory}
+use Rattle.dfu_device.specs.History.{HistoryStep, IsRow, IsHistory}
 use Rattle.dfu_device.specs.Sent.{sent_of, still_sent, piece, Sent}
 
 -- After a row of any cause the bytes sent are those before with its piece, or none where it ends in another state.
@@ -14,12 +14,13 @@ RowSends = (w : Shown) (cause : Cause) (a : Answer) (out : List ℕ) (w' : Shown
 
 -- Where the bytes sent are those of a history, they are so after one step more.
 abbrev pub StepSends : Type 0
-StepSends = (h : List Step) (s : Step) → Sent h (sent_of (situation s.before)) → IsRow s → Sent (h ++ s ∷ []) (sent_of (situation s.after))
+StepSends = (h : List HistoryStep) (s : HistoryStep) → Sent h (sent_of (situation s.before)) → IsRow s →
+    Sent (h ++ s ∷ []) (sent_of (situation s.after))
 
 -- A device that has sent nothing at first has at last sent what its history says.
 abbrev pub HistorySends : Type 0
-HistorySends = (h : List Step) (w w' : Shown) → sent_of (situation w) ≡ [] → IsHistory w h w' → Sent h (sent_of (situation w'))
+HistorySends = (h : List HistoryStep) (w w' : Shown) → sent_of (situation w) ≡ [] → IsHistory w h w' → Sent h (sent_of (situation w'))
 
 -- A history sends these bytes and no others.
 abbrev pub OneSent : Type 0
-OneSent = (h : List Step) (a b : List ℕ) → Sent h a → Sent h b → a ≡ b
+OneSent = (h : List HistoryStep) (a b : List ℕ) → Sent h a → Sent h b → a ≡ b

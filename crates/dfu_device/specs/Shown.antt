@@ -50,5 +50,5 @@ written_in (InManifest taken passed) = taken
 written_in stage = []
 
 -- They stand at the front of the spare slot's data.
-abbrev pub IsStored : Shown → Type 0
-IsStored w = take (length (written_in w.stage)) (spare_of w.slots) ≡ written_in w.stage
+abbrev pub IsInSpareSlot : Shown → Type 0
+IsInSpareSlot w = take (length (written_in w.stage)) (spare_of w.slots) ≡ written_in w.stage

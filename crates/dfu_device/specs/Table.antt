@@ -66,9 +66,9 @@ abbrev pub next_number : ℕ → ℕ
 next_number n = (n + 1) % 65536
 
 -- wLength is 0.
-abbrev pub is_empty : List ℕ → Bool
-is_empty [] = true
-is_empty (x ∷ xs) = false
+abbrev pub has_no_bytes : List ℕ → Bool
+has_no_bytes [] = true
+has_no_bytes (x ∷ xs) = false
 
 -- DNLOAD with wLength over 0: the errors in their order, else the block is kept and counts as taken, not as written.
 abbrev pub block_plan : Profile → List ℕ → ℕ → ℕ → List ℕ → Plan
@@ -82,14 +82,14 @@ block_plan c before expected number body =
 abbrev pub first_plan : Profile → ℕ → List ℕ → Plan
 first_plan c number body =
     if not c.can_download then error ErrStalledPkt
-    else if is_empty body then error ErrStalledPkt
+    else if has_no_bytes body then error ErrStalledPkt
     else block_plan c [] 0 number body
 
 -- DNLOAD in dfuDNLOAD-IDLE: one with wLength 0 closes the download, where the image is long enough.
 -- *The number of the closing one is not looked at.
 abbrev pub further_plan : Profile → List ℕ → ℕ → ℕ → List ℕ → Plan
 further_plan c taken expected number body =
-    if is_empty body
+    if has_no_bytes body
     then if nat_le c.least (length taken) then ack (InManifestSync taken) else error ErrNotDone
     else block_plan c taken expected number body
 

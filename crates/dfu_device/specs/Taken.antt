@@ -7,7 +7,7 @@ use Rattle.dfu_device.specs.declared.answer.Answer.TheVariants as answer
 use Rattle.dfu_device.specs.Stage.{Request, Dnload, Reply, Ack, Stage, InDownloadSync, InDownloadSyncWritten, InDownloadBusy, InDownloadIdle, InManifestSync, InManifestSyncComplete, InManifest, state_of}
 use Rattle.dfu_device.specs.Outcome.{Situation, Outcome}
 use Rattle.dfu_device.specs.Rows.{Cause, Transfer}
-use Rattle.dfu_device.specs.History.{Step, Gathered}
+use Rattle.dfu_device.specs.History.{HistoryStep, Gathered}
 
 -- The bytes taken in a state.
 
@@ -38,9 +38,9 @@ taken_of s = taken_in s.image s.stage
 -- The bytes taken by a row.
 
 -- An acknowledged DNLOAD adds its bytes, and nothing else adds any.
-abbrev pub added : List ℕ → Request → Reply → List ℕ
-added taken (Dnload number body) Ack = taken ++ body
-added taken request reply = taken
+abbrev pub dnload_added : List ℕ → Request → Reply → List ℕ
+dnload_added taken (Dnload number body) Ack = taken ++ body
+dnload_added taken request reply = taken
 
 -- Nothing stays taken where a row ends in another state.
 abbrev pub held_in : State → List ℕ → List ℕ
@@ -48,7 +48,7 @@ held_in state taken = if is_downloading state then taken else []
 
 -- The bytes taken after a row.
 abbrev pub taken_after : List ℕ → Request → Outcome → List ℕ
-taken_after taken request o = held_in (state_of o.after.stage) (added taken request o.reply)
+taken_after taken request o = held_in (state_of o.after.stage) (dnload_added taken request o.reply)
 
 -- The bytes taken by a history.
 
@@ -62,13 +62,13 @@ acknowledged (Transfer setup body) answer.Ack = if is_dnload setup then body els
 acknowledged cause a = []
 
 -- A step ends where a download is under way.
-abbrev pub downloads : Step → Bool
+abbrev pub downloads : HistoryStep → Bool
 downloads s = is_downloading (state_of s.after.stage)
 
 -- The body that a step acknowledged.
-abbrev pub block_of : Step → List ℕ
+abbrev pub block_of : HistoryStep → List ℕ
 block_of s = acknowledged s.cause s.answer
 
 -- These bytes are taken by a history: the blocks that were acknowledged after the last step that ends where no download is under way.
-abbrev pub Taken : List Step → List ℕ → Type 0
+abbrev pub Taken : List HistoryStep → List ℕ → Type 0
 Taken h bytes = Gathered downloads block_of h bytes

@@ -9,7 +9,7 @@ use Rattle.dfu_device.specs.declared.answer.Answer.TheVariants as answer
 use Rattle.dfu_device.specs.Stage.{Request, OtherRequest, Reply, state_of}
 use Rattle.dfu_device.specs.Shown.{Shown, situation}
 use Rattle.dfu_device.specs.Rows.{meant, asked_length, Answers, Elapses, is_served, Handles, Cause, Row}
-use Rattle.dfu_device.specs.History.{Step, IsRow, IsHistory}
+use Rattle.dfu_device.specs.History.{HistoryStep, IsRow, IsHistory}
 use Rattle.dfu_device.specs.Taken.{taken_of, held_in, taken_after, acknowledged, Taken}
 
 -- A row took what it acknowledged: after it the bytes taken are those before with its own, or none where it ends outside a download.
@@ -35,18 +35,18 @@ RowTakes = (w : Shown) (cause : Cause) (a : Answer) (out : List ℕ) (w' : Shown
 
 -- Where the bytes taken are those of a history, they are so after one step more.
 abbrev pub StepTakes : Type 0
-StepTakes = (h : List Step) (s : Step) → Taken h (taken_of (situation s.before)) → IsRow s
+StepTakes = (h : List HistoryStep) (s : HistoryStep) → Taken h (taken_of (situation s.before)) → IsRow s
     → Taken (h ++ s ∷ []) (taken_of (situation s.after))
 
 -- Where the bytes taken are those of a history, they are so after any history that goes on from there.
 abbrev pub HistoryTakes : Type 0
-HistoryTakes = (g h : List Step) (w w' : Shown) → Taken g (taken_of (situation w)) → IsHistory w h w'
+HistoryTakes = (g h : List HistoryStep) (w w' : Shown) → Taken g (taken_of (situation w)) → IsHistory w h w'
     → Taken (g ++ h) (taken_of (situation w'))
 
 -- A device that has taken nothing at first has at last taken what its history says.
 abbrev pub StartTakes : Type 0
-StartTakes = (h : List Step) (w w' : Shown) → taken_of (situation w) ≡ [] → IsHistory w h w' → Taken h (taken_of (situation w'))
+StartTakes = (h : List HistoryStep) (w w' : Shown) → taken_of (situation w) ≡ [] → IsHistory w h w' → Taken h (taken_of (situation w'))
 
 -- A history takes these bytes and no others.
 abbrev pub OneTaken : Type 0
-OneTaken = (h : List Step) (a b : List ℕ) → Taken h a → Taken h b → a ≡ b
+OneTaken = (h : List HistoryStep) (a b : List ℕ) → Taken h a → Taken h b → a ≡ b

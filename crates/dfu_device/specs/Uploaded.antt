@@ -2,15 +2,16 @@
 use Rattle.std.specs.Prelude.{◌≡◌, ℕ, List, [], ◌++◌}
 use Rattle.dfu_slots.specs.Seen.{image_of}
 use Rattle.dfu_device.specs.Shown.{Shown, situation}
-use Rattle.dfu_device.specs.History.{Step, IsRow, IsHistory}
+use Rattle.dfu_device.specs.History.{HistoryStep, IsRow, IsHistory}
 use Rattle.dfu_device.specs.Sent.{sent_of, Sent, EndsUpload}
 
 -- The bytes sent before the last step of an upload, with those of that step, are the active image.
 abbrev pub UploadEnds : Type 0
-UploadEnds = (s : Step) → IsRow s → EndsUpload s → sent_of (situation s.before) ++ s.out ≡ image_of s.after.slots
+UploadEnds = (s : HistoryStep) → IsRow s → EndsUpload s → sent_of (situation s.before) ++ s.out ≡ image_of s.after.slots
 
 -- Where a device that has sent nothing at first comes to the end of an upload, what its history says was sent is the active image, with the
 -- bytes of the last step.
 abbrev pub UploadGives : Type 0
-UploadGives = (h : List Step) (s : Step) (w : Shown) → sent_of (situation w) ≡ [] → IsHistory w h s.before → IsRow s → EndsUpload s
+UploadGives = (h : List HistoryStep) (s : HistoryStep) (w : Shown) → sent_of (situation w) ≡ [] → IsHistory w h s.before → IsRow s →
+    EndsUpload s
     → (sent : List ℕ) × Sent h sent × (sent ++ s.out ≡ image_of s.after.slots)

@@ -7,7 +7,7 @@ ghost use Rattle.dfu_slots.specs.Image.{HasImage};
 ghost use Rattle.dfu_slots.specs.Changes.{IsOpenFault};
 ghost use Rattle.dfu_device.specs.Stage.{InAppIdle, state_of, code_of};
 ghost use Rattle.dfu_device.specs.Table.{reset_stage};
-ghost use Rattle.dfu_device.specs.Shown.{IsStored, powered_on};
+ghost use Rattle.dfu_device.specs.Shown.{IsInSpareSlot, powered_on};
 ghost use Rattle.dfu_device.specs.Rows.{Handles, Elapses};
 ghost use Rattle.dfu_device.specs.Lent.{HandlesInto, answer_room};
 
@@ -197,7 +197,7 @@ impl<M: Medium> Device<M> {
     /// the medium's unit is over 1, the last of them may be held in memory until their unit is full.
     pub fn slots(&self) -> &Slots<M>
         ensures slots { result.now ≡ self.now.slots }
-        ensures stored { IsStored self.now }
+        ensures stored { IsInSpareSlot self.now }
     {
         &self.machine.slots
     }

@@ -9,7 +9,7 @@ ghost use Rattle.dfu_device.specs.Table.{write_code, commit_code};
 ghost use Rattle.dfu_device.specs.Shown.{profile};
 ghost use Rattle.dfu_device.specs.Parts.{is_put, is_filled, stage_of};
 ghost use Rattle.dfu_device.specs.Rows.{Answers, WroteBlock, FailedBlock, Committed, FailedCommit, block_calls};
-ghost use Rattle.dfu_device.specs.Decision.{plan_of, written_stage, IsAtRest, IsPossible, IsSilent};
+ghost use Rattle.dfu_device.specs.Decision.{plan_of, written_stage, TakesNothing, IsPossible, IsSilent};
 ghost use Rattle.dfu_device.specs.inside.Draft.{DraftDone};
 ghost use Rattle.dfu_device.specs.inside.View.{shown};
 
@@ -134,7 +134,7 @@ impl<M: Medium, B: Block> Machine<M, B> {
     /// write that had one.
     pub(crate) fn commit_taken(&mut self, written: u32, next: Mode) -> Result<(), WriteFault>
         requires taken { IsTrue (is_filled (Mode.ManifestSync written) (length (B.items self.old.block)) self.old.slots) }
-        requires next { IsAtRest next }
+        requires next { TakesNothing next }
         ensures done { OnOk result (Committed (take written (spare_of self.old.slots)) self.old.config self.old.slots
             (stage_of next [] []) (shown self.new)) }
         ensures failed { IfErr result (λ fault. FailedCommit fault (take written (spare_of self.old.slots)) self.old.config self.old.slots

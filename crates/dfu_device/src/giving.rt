@@ -6,7 +6,7 @@ ghost use Rattle.dfu_slots.specs.Seen.{image_of};
 ghost use Rattle.dfu_device.specs.Stage.{state_of};
 ghost use Rattle.dfu_device.specs.Rows.{Handles};
 ghost use Rattle.dfu_device.specs.Lent.{answer_room, HandlesInto};
-ghost use Rattle.dfu_device.specs.inside.Draft.{Drafted, Gave};
+ghost use Rattle.dfu_device.specs.inside.Draft.{Drafted, GaveDraft};
 ghost use Rattle.dfu_device.specs.inside.View.{shown};
 
 use crate::Answer;
@@ -86,7 +86,7 @@ impl<M: Medium, B: Block> Machine<M, B> {
     /// Puts the bytes of an answer at the front of a buffer, and answers how many they are.
     fn give_into(&self, draft: Draft, out: &mut [u8]) -> (Answer, usize)
         requires fits { (a : Answer) (sent : List ℕ) → Drafted draft (shown self.now) a sent → length sent ≤ length out.old }
-        ensures { Gave draft (shown self.now) result.0 result.1 out.old out.new }
+        ensures { GaveDraft draft (shown self.now) result.0 result.1 out.old out.new }
     {
         match draft {
             Draft::Ack => (Answer::Ack, 0),

@@ -22,7 +22,7 @@ use Rattle.dfu_slots.specs.Units.{gate_room}
 use Rattle.dfu_asks.specs.Lent.{LentAsking}
 use Rattle.dfu_asks.specs.Asks.{grain_in, store_in, device_in, IsDevice}
 use Rattle.dfu_device_c.specs.declared.config.DfuConfig.{DfuConfig}
-use Rattle.dfu_device_c.specs.Config.{setting_of, transfer_of, grain_of}
+use Rattle.dfu_device_c.specs.Config.{setting_of, transfer_of, config_grain}
 use Rattle.dfu_device_c.specs.Mode.{HasMode}
 use Rattle.dfu_device.specs.Decision.{HoldsWritten, HasLength}
 use Rattle.dfu_device.proofs.Before.{has_length}
@@ -45,7 +45,7 @@ module _ (c : DfuConfig) (r : DfuRecord) (size : ℕ) (setup : List ℕ) (p : Se
     (the_setup : (x : Setup) → IsSetup x setup → p ≡ x) (the_request : (x : Asked) → Asks p x → q ≡ x)
     (the_mode : (x : Mode) → HasMode r x → m ≡ x)
     (said : (image spare unwritten body : List ℕ) → HoldsWritten m spare → HasLength q body
-    → Some b ≡ verdict (plan (profile_of (setting_of c) (size / 2 - 2 * gate_room (grain_of c))) image
+    → Some b ≡ verdict (plan (profile_of (setting_of c) (size / 2 - 2 * gate_room (config_grain c))) image
     (stage_of m spare unwritten) (meant q body))) where
   -- So it is said of the device.
   stalls_device : (block flash : List ℕ) (k : Asking) → IsKept c r k → IsDevice (with_memory block k) flash → length flash ≡ size
@@ -57,7 +57,7 @@ module _ (c : DfuConfig) (r : DfuRecord) (size : ℕ) (setup : List ℕ) (p : Se
       let d = device_in a flash in
       let same : m ≡ a.mode = the_mode a.mode kept.mode in
       let stage_is : d.stage ≡ stage_of m (spare_of store) a.block = λ i. stage_of (sym same i) (spare_of store) a.block in
-      let room : room_of store ≡ size / 2 - 2 * gate_room (grain_of c) = room_in a flash
+      let room : room_of store ≡ size / 2 - 2 * gate_room (config_grain c) = room_in a flash
       ∙ (λ i. size_is i / 2 - 2 * gate_room (record { unit = kept.set_up.unit_is i; sector = kept.set_up.sector_is i })) in
       subst (λ (x : Profile). Some b ≡ verdict (plan x (image_of d.slots) (stage_of m (spare_of store) a.block) (meant q body)))
       (λ i. profile_of (sym kept.set_up.config_is i) (sym room i))

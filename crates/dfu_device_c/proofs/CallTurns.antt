@@ -9,23 +9,23 @@ use Rattle.dfu_asks.specs.declared.asking.Asking.{Asking}
 use Rattle.dfu_asks.specs.Carried.{IsPiece}
 use Rattle.dfu_asks.specs.Asks.{device_in, steps_in}
 use Rattle.dfu_board.specs.Board.{Answers}
-use Rattle.dfu_board.specs.Happens.{said_by}
+use Rattle.dfu_board.specs.Happens.{reply_said}
 use Rattle.dfu_device_c.specs.declared.ask.DfuAsk.{DfuAsk}
 use Rattle.dfu_device_c.specs.declared.config.DfuConfig.{DfuConfig}
 use Rattle.dfu_device_c.specs.Config.{transfer_of, IsConfig}
 use Rattle.dfu_device_c.specs.Addressed.{addressed}
 use Rattle.dfu_device_c.specs.Kept.{IsKept, with_memory}
 use Rattle.dfu_device_c.specs.Calls.{IsIntact}
-use Rattle.dfu_device_c.specs.Writes.{step_of, HandsOut, RefusesPiece, refuses_unfound, refuses_piece}
+use Rattle.dfu_device_c.specs.Writes.{ask_step, HandsOut, RefusesPiece, refuses_unfound, refuses_piece}
 use Rattle.dfu_device_c.specs.declared.refusal.Refusal.TheVariants as refusal
 use Rattle.dfu_device_c.specs.Idle.{RefusesSetup}
 use Rattle.dfu_device_c.specs.Verdict.{IsBodyOf}
 use Rattle.dfu_asks.specs.declared.reply.Reply.TheVariants as reply
-use Rattle.dfu_asks.specs.Calls.{Called, called_ended}
+use Rattle.dfu_asks.specs.Calls.{DeviceCalled, called_ended}
 use Rattle.dfu_device.specs.Rows.{Handles}
 use Rattle.dfu_device_c.specs.Board.{CoreBoard, CoreHandle, CoreElapse, CoreReset, CoreTooLong, CoreTook}
 use Rattle.dfu_device_c.specs.Happens.{IsCalled, Handled, Elapsed, Reset, TookLong, Told}
-use Rattle.dfu_device_c.specs.Steps.{board_of, IsRefusal}
+use Rattle.dfu_device_c.specs.Steps.{core_board_of, IsRefusal}
 use Rattle.dfu_device_c.proofs.Same.{no_work, one_device}
 use Rattle.dfu_device_c.proofs.Parts.{reply_says, passed_says, served_step, passed_step, told_step}
 use Rattle.dfu_device_c.proofs.Turned.{IsSound, IsTurn, fits_of, unchanged, goes_on, sound_on}
@@ -39,8 +39,9 @@ handle_turn b a setup body out n out' b' sound called (inl g) =
       config = called.config;
       after = g.after;
       sound = sound_on b a b' _ sound called.config g;
-      says = said_by does.reply out';
-      happens = served_step (board_of b a) (board_of b' g.after) (Transfer (addressed b.config.interface setup) body) out out' does.reply
+      says = reply_said does.reply out';
+      happens = served_step (core_board_of b a) (core_board_of b' g.after) (Transfer (addressed b.config.interface setup) body) out out'
+          does.reply
           does.idle (fits_of b a sound (omega (arith, g.room))) called.flash does.called;
       told = reply_says n out' does.reply does.number_is;
     }
@@ -60,8 +61,8 @@ elapse_turn b a ms n out' b' sound called (inl g) =
       config = called.config;
       after = g.after;
       sound = sound_on b a b' _ sound called.config g;
-      says = said_by does.reply [];
-      happens = passed_step (board_of b a) (board_of b' g.after) ms (replicate 6 0) does.reply
+      says = reply_said does.reply [];
+      happens = passed_step (core_board_of b a) (core_board_of b' g.after) ms (replicate 6 0) does.reply
           does.idle (fits_of b a sound (omega (arith, g.room))) called.flash does.called;
       told = passed_says n does.reply does.number_is;
     }
@@ -99,9 +100,9 @@ reset_turn b a n out' b' sound called (inr denied) =
 -- What is handed out is due in the device that the record is.
 pub handed_work : (b : CoreBoard) (a : Asking) (flash : List ℕ) (n : ℤ) (ask : DfuAsk) → IsSound b a
     → (h : HandsOut b.config b.kept b.block flash n ask)
-    → (a.work ≡ Some h.work) × IsPiece (steps_in (with_memory b.block a) h.work) h.work.done (step_of ask)
+    → (a.work ≡ Some h.work) × IsPiece (steps_in (with_memory b.block a) h.work) h.work.done (ask_step ask)
 handed_work b a flash n ask sound h =
-    subst (λ (x : Asking). (x.work ≡ Some h.work) × IsPiece (steps_in (with_memory b.block x) h.work) h.work.done (step_of ask))
+    subst (λ (x : Asking). (x.work ≡ Some h.work) × IsPiece (steps_in (with_memory b.block x) h.work) h.work.done (ask_step ask))
     (one_device b.config b.kept h.asking a h.is sound.kept) (h.work_is, h.piece)
 
 -- A call of dfu_core_took that is refused for its piece has the number of a refusal.
@@ -119,8 +120,8 @@ took_turn b a failed out n out' b' sound called (inl g) =
       config = called.config;
       after = g.after;
       sound = sound_on b a b' _ sound called.config g;
-      says = said_by does.reply out';
-      happens = told_step (board_of b a) (board_of b' g.after) (not (failed == 0)) out out' does.reply does.work
+      says = reply_said does.reply out';
+      happens = told_step (core_board_of b a) (core_board_of b' g.after) (not (failed == 0)) out out' does.reply does.work
           does.left
           called.flash does.took;
       told = reply_says n out' does.reply does.number_is;
@@ -164,7 +165,7 @@ long_turn b a setup body n out' b' sound called block room is_body (inl (is, idl
             let row = t.4 b.block b.flash whole.is body is_body in (
               [],
               [],
-              subst (λ (x : List ℕ). Called before b.flash []
+              subst (λ (x : List ℕ). DeviceCalled before b.flash []
                   (λ y sent d'. Handles own body (device_in before b.flash) y sent d')
                   (with_memory x t.0) [] (reply.Answered answer.Stall 0)) (sym block)
                   (called_ended answer.Stall 0 (record {

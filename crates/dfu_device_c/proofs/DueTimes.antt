@@ -17,7 +17,7 @@ use Rattle.dfu_device_c.specs.declared.record.DfuRecord.{DfuRecord}
 use Rattle.dfu_device_c.specs.Config.{setting_of}
 use Rattle.dfu_device_c.specs.Mode.{HasMode}
 use Rattle.dfu_device_c.specs.Kept.{with_memory}
-use Rattle.dfu_device_c.specs.Due.{LATEST, due_of, IsDue, ToldDue}
+use Rattle.dfu_device_c.specs.Due.{LATEST, due_of, ChangesOnceDue, ToldDue}
 
 -- Some time passed.
 some_time : (ms : ℕ) → (ms == 0) ≡ false → 1 ≤ ms
@@ -29,7 +29,7 @@ module _ (ms : ℕ) (d d' : Shown) where
   Went p = Done p 0 d answer.Ack [] d'
 
   -- Nothing changed, and nothing was due.
-  same : (due : ℕ) → d' ≡ d → (0 < due → due ≤ ms → ⊥) → IsDue due ms d d'
+  same : (due : ℕ) → d' ≡ d → (0 < due → due ≤ ms → ⊥) → ChangesOnceDue due ms d d'
   same due is never = record {
     none = λ _. is;
     before = λ _. ap (λ (w : Shown). state_of w.stage) is;
@@ -37,7 +37,7 @@ module _ (ms : ℕ) (d d' : Shown) where
   }
 
   -- The state is as it was, before the change was due.
-  early : (due : ℕ) → ms < due → state_of d'.stage ≡ state_of d.stage → IsDue due ms d d'
+  early : (due : ℕ) → ms < due → state_of d'.stage ≡ state_of d.stage → ChangesOnceDue due ms d d'
   early due soon is = record {
     none = λ none. absurd (omega (arith, none, soon));
     before = λ _. is;
@@ -45,7 +45,7 @@ module _ (ms : ℕ) (d d' : Shown) where
   }
 
   -- It changed as it was due.
-  changed : (due : ℕ) → 0 < due → due ≤ ms → state_of d'.stage ≢ state_of d.stage → IsDue due ms d d'
+  changed : (due : ℕ) → 0 < due → due ≤ ms → state_of d'.stage ≢ state_of d.stage → ChangesOnceDue due ms d d'
   changed due some past is = record {
     none = λ none. absurd (omega (arith, none, some));
     before = λ soon. absurd (omega (arith, past, soon));
@@ -65,7 +65,7 @@ module _ (ms : ℕ) (d d' : Shown) where
       → nat_le (max 1 timer) (passed + ms) ≡ o
       → Went (if z then ack (InAppDetach timer passed) else if w then ack InDfuIdle else if o then ack InAppIdle
       else ack (InAppDetach timer (passed + ms)))
-      → IsDue (if w then 1 else max 1 (timer - passed)) ms d d'
+      → ChangesOnceDue (if w then 1 else max 1 (timer - passed)) ms d d'
   detach timer passed is true true o zero over done =
       same 1 (stayed (InAppDetach timer passed) is done) (λ some past. omega (arith, eqb-true ms 0 zero, past))
   detach timer passed is true false o zero over done =
@@ -86,7 +86,7 @@ module _ (ms : ℕ) (d d' : Shown) where
       → Went (if z then ack (InDownloadBusy before block number passed)
       else if o then Writes before block Ack (InDownloadSyncWritten (before ++ block) number) (λ fault. Ack)
       else ack (InDownloadBusy before block number (passed + ms)))
-      → IsDue (max 1 (limit - passed)) ms d d'
+      → ChangesOnceDue (max 1 (limit - passed)) ms d d'
   busy limit before block number passed is true o zero over done =
       same (max 1 (limit - passed)) (stayed (InDownloadBusy before block number passed) is done)
       (λ some past. omega (arith, eqb-true ms 0 zero, past))
@@ -106,7 +106,7 @@ module _ (ms : ℕ) (d d' : Shown) where
       → Went (if z then ack (InManifest taken passed)
       else if o then Commits taken Ack (if t then InManifestSyncComplete else InManifestWaitReset) (λ fault. Ack)
       else ack (InManifest taken (passed + ms)))
-      → IsDue (max 1 (limit - passed)) ms d d'
+      → ChangesOnceDue (max 1 (limit - passed)) ms d d'
   manifest limit taken passed is true o t zero over done =
       same (max 1 (limit - passed)) (stayed (InManifest taken passed) is done) (λ some past. omega (arith, eqb-true ms 0 zero, past))
   manifest limit taken passed is false true true zero over (inl (says, done)) =
@@ -124,7 +124,7 @@ module _ (ms : ℕ) (d d' : Shown) where
 
   -- Each mode.
   pub time_due : (m : Mode) (spare block : List ℕ) → d.stage ≡ stage_of m spare block
-      → Went (time_plan (profile d) (stage_of m spare block) ms) → IsDue (due_of d.config m) ms d d'
+      → Went (time_plan (profile d) (stage_of m spare block) ms) → ChangesOnceDue (due_of d.config m) ms d d'
   time_due (mode.AppDetach timer passed) spare block is done =
       detach timer passed is (ms == 0) d.config.functional.will_detach (nat_le (max 1 timer) (passed + ms)) refl refl done
   time_due (mode.DownloadBusy written number passed) spare block is done =
@@ -144,7 +144,7 @@ module _ (ms : ℕ) (d d' : Shown) where
   time_due (mode.Error code) spare block is done = same 0 (stayed _ is done) (λ some past. omega (arith, some))
 
 -- So it is of the number that is said, which is LATEST if the change is due later than that.
-said_due : (due ms : ℕ) (d d' : Shown) → IsDue due ms d d' → IsDue (min LATEST due) ms d d'
+said_due : (due ms : ℕ) (d d' : Shown) → ChangesOnceDue due ms d d' → ChangesOnceDue (min LATEST due) ms d d'
 said_due due ms d d' is = record {
   none = λ none. is.none (omega (arith, none));
   before = λ soon. is.before (omega (arith, soon));
@@ -164,6 +164,6 @@ told_due c r m result the_mode says = record {
       let store = store_in l flash in
       let due_is : min LATEST (due_of d.config l.mode) ≡ min LATEST (due_of (setting_of c) m) =
       λ i. min LATEST (due_of (kept.set_up.config_is i) (sym (the_mode l.mode kept.mode) i)) in
-      subst (λ (k : ℕ). IsDue k ms d d') due_is
+      subst (λ (k : ℕ). ChangesOnceDue k ms d d') due_is
       (said_due (due_of d.config l.mode) ms d d' (time_due ms d d' l.mode (spare_of store) l.block refl went));
 }

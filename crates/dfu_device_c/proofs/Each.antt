@@ -8,22 +8,22 @@ use Rattle.dfu_asks.specs.declared.asking.Asking.{Asking}
 use Rattle.dfu_asks.specs.Mapped.{mapped}
 use Rattle.dfu_asks.specs.Asks.{device_in, IsDevice}
 use Rattle.dfu_board.specs.Board.{Nothing, Answers}
-use Rattle.dfu_board.specs.Happens.{start_stage, Starts, IsObjected}
+use Rattle.dfu_board.specs.Happens.{start_stage, BoardStarts, IsObjected}
 use Rattle.dfu_device_c.specs.declared.config.DfuConfig.{DfuConfig}
 use Rattle.dfu_device_c.specs.declared.record.DfuRecord.{DfuRecord}
 use Rattle.dfu_device_c.specs.Config.{transfer_of, IsConfig}
 use Rattle.dfu_device_c.specs.Addressed.{addressed}
-use Rattle.dfu_device_c.specs.Kept.{IsKept, block_in, held_in, with_memory}
-use Rattle.dfu_device_c.specs.Writes.{step_of}
+use Rattle.dfu_device_c.specs.Kept.{IsKept, block_in, held_back_in, with_memory}
+use Rattle.dfu_device_c.specs.Writes.{ask_step}
 use Rattle.dfu_device_c.specs.Power.{Powers}
-use Rattle.dfu_device_c.specs.Idle.{IsIdle}
+use Rattle.dfu_device_c.specs.Idle.{IsIdleRecord}
 use Rattle.dfu_device_c.specs.Refuse.{objection_in, TakesCause, WasClosed, WasRefused}
 use Rattle.dfu_device.specs.declared.answer.Answer.{Answer}
 use Rattle.dfu_device.specs.Rows.{Cause, RefusingClose, Refusing, Row}
 use Rattle.dfu_device_c.specs.Board.{CoreBoard, CoreEvent, CoreHandle, CoreElapse, CoreReset, CoreTooLong}
 use Rattle.dfu_device_c.specs.Board.{CoreRefuseClose, CoreRefuse, CoreWrite, CoreTook, CoreRestart}
-use Rattle.dfu_device_c.specs.Happens.{IsCalled, IsWritten, start_mode, CoreHappens}
-use Rattle.dfu_device_c.specs.Steps.{board_of}
+use Rattle.dfu_device_c.specs.Happens.{IsCalled, CoreIsWritten, start_mode, CoreHappens}
+use Rattle.dfu_device_c.specs.Steps.{core_board_of}
 use Rattle.dfu_device_c.proofs.Same.{no_work}
 use Rattle.dfu_device_c.proofs.Turned.{IsSound, IsTurn, unchanged}
 use Rattle.dfu_device_c.proofs.CallTurns.{handed_work, handle_turn, elapse_turn, reset_turn, took_turn, long_turn, setup_refused}
@@ -32,10 +32,10 @@ use Rattle.dfu_device_c.proofs.CallTurns.{handed_work, handle_turn, elapse_turn,
 record IsObjectedTo (b : CoreBoard) (a : Asking) (cause : Cause) (x : Answer) (b' : CoreBoard) : Type 0 where
   after : Asking
   sound : IsSound b' after
-  is : IsObjected (board_of b a) cause x (Answers x []) (board_of b' after)
+  is : IsObjected (core_board_of b a) cause x (Answers x []) (core_board_of b' after)
 
 objected : (b : CoreBoard) (a : Asking) (cause : Cause) (x : Answer) (b' : CoreBoard) → IsSound b a → IsCalled b b' → b'.block ≡ b.block
-    → IsIdle b.config b.kept → TakesCause b.config b.kept cause x b'.kept → IsObjectedTo b a cause x b'
+    → IsIdleRecord b.config b.kept → TakesCause b.config b.kept cause x b'.kept → IsObjectedTo b a cause x b'
 objected b a cause x b' sound called block idle takes =
     let t = takes a sound.kept in
     let before = with_memory b.block a in
@@ -105,7 +105,7 @@ refuse_turn b a status n out' b' sound called block (inr (kept, denied)) =
     ])
 
 -- A write of the flash.
-write_turn : (b : CoreBoard) (a : Asking) (n : ℤ) (out' : List ℕ) (b' : CoreBoard) → IsSound b a → IsWritten b n b'
+write_turn : (b : CoreBoard) (a : Asking) (n : ℤ) (out' : List ℕ) (b' : CoreBoard) → IsSound b a → CoreIsWritten b n b'
     → IsTurn b a CoreWrite n out' b'
 write_turn b a n out' b' sound w =
     let at = handed_work b a b.flash n w.ask sound w.handed in
@@ -122,12 +122,12 @@ write_turn b a n out' b' sound w =
       happens = (
         refl,
         record {
-          piece = step_of w.ask;
+          piece = ask_step w.ask;
           handed = (w.handed.work, at.0, at.1);
           torn = w.torn;
           asking = refl;
           block = ap (λ (l : List ℕ). block_in a l) w.block;
-          held = ap (λ (l : List ℕ). held_in a l) w.block;
+          held = ap (λ (l : List ℕ). held_back_in a l) w.block;
         },
       );
       told = (w.handed.number_is, refl);
@@ -139,7 +139,7 @@ same_start false = refl
 
 -- A board in C that got power is a board that did.
 pub powers_on : (b : CoreBoard) (n : ℤ) (begins : Bool) → (p : Powers b.config (start_mode begins) b.flash n b.kept)
-    → IsSound b p.after × Starts begins (board_of b p.after)
+    → IsSound b p.after × BoardStarts begins (core_board_of b p.after)
 powers_on b n begins p =
     let none : b.kept.length ≡ 0 = ap (λ (r : DfuRecord). r.length) p.rest in (
       record { config = p.config; kept = p.is; short = omega (arith, none, p.is.block) },

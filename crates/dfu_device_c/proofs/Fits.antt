@@ -13,12 +13,12 @@ use Rattle.dfu_device.specs.Shown.{Shown, profile}
 use Rattle.dfu_device.specs.Rows.{meant, asked_length, Answers, is_served, setup_plan, Handles, Cause, Row}
 use Rattle.dfu_device.specs.Came.{row_of, came}
 use Rattle.dfu_device.specs.Cases.{either_way}
-use Rattle.dfu_device.specs.RowForms.{EachReply, given, Fits, row_form, row_fits}
+use Rattle.dfu_device.specs.RowForms.{EachReply, reply_given, ReplyFits, row_form, row_fits}
 use Rattle.dfu_device.specs.History.{IsHistory}
-use Rattle.dfu_device.specs.History.{Step as TableRow}
+use Rattle.dfu_device.specs.History.{HistoryStep as TableRow}
 use Rattle.dfu_board.specs.Board.{Event, Handle, Says, Nothing, WritesDue, Answers as SaysAnswer, BoardStep}
-use Rattle.dfu_board.specs.Refines.{Tells, TellsAll}
-use Rattle.dfu_device_c.specs.Fits.{FitsRequest, IsFit, AreFit}
+use Rattle.dfu_board.specs.Refines.{TellsRows, TellsAll}
+use Rattle.dfu_device_c.specs.Fits.{FitsRequest, FitsSetup, AreFit}
 
 -- One answer.
 
@@ -28,13 +28,13 @@ stall_fits (request.GetState len) out = tt
 stall_fits (request.Upload block len) out = tt
 stall_fits q out = tt
 
-ack_fits : (most : ℕ) (q : Request) (body out : List ℕ) → Fits most Ack (meant q body) → FitsRequest q (SaysAnswer answer.Ack out)
+ack_fits : (most : ℕ) (q : Request) (body out : List ℕ) → ReplyFits most Ack (meant q body) → FitsRequest q (SaysAnswer answer.Ack out)
 ack_fits most (request.GetStatus len) body out f = f
 ack_fits most (request.GetState len) body out f = f
 ack_fits most (request.Upload block len) body out f = f
 ack_fits most q body out f = tt
 
-fits_reply : (most : ℕ) (q : Request) (body : List ℕ) (reply : Reply) (a : Answer) (out : List ℕ) → Fits most reply (meant q body)
+fits_reply : (most : ℕ) (q : Request) (body : List ℕ) (reply : Reply) (a : Answer) (out : List ℕ) → ReplyFits most reply (meant q body)
     → Answers (asked_length q) reply a out → FitsRequest q (SaysAnswer a out)
 fits_reply most q body Stall a out f says = subst (λ (x : Answer). FitsRequest q (SaysAnswer x out)) (sym says.0) (stall_fits q out)
 fits_reply most q body Ack a out f says = subst (λ (x : Answer). FitsRequest q (SaysAnswer x out)) (sym says.0) (ack_fits most q body out f)
@@ -46,17 +46,18 @@ fits_reply most (request.Upload block len) body (Data bytes) a out f says =
     subst (λ (x : Answer). FitsRequest (request.Upload block len) (SaysAnswer x out)) (sym says.0) tt
 fits_reply most q body reply a out f says = absurd f
 
-row_fit : (w w' : Shown) (setup body : List ℕ) (a : Answer) (out : List ℕ) → Handles setup body w a out w' → IsFit (Handle setup body) (SaysAnswer a out)
+row_fit : (w w' : Shown) (setup body : List ℕ) (a : Answer) (out : List ℕ) → Handles setup body w a out w' →
+    FitsSetup (Handle setup body) (SaysAnswer a out)
 row_fit w w' setup body a out h p q reads asks =
     let c = profile w in
     let image = image_of w.slots in
     let r = meant q body in
-    let P : Reply → Type 0 = λ reply. Fits c.transfer reply r in
+    let P : Reply → Type 0 = λ reply. ReplyFits c.transfer reply r in
     let x = came (setup_plan w p q body) (asked_length q) w a out w' (row_of p q setup body w a out w' reads asks h) in
     let each = either_way (EachReply P) (is_served p q body) _ _
     (row_fits c image w.stage r (plan c image w.stage r) (row_form c image w.stage r)) tt in
     fits_reply c.transfer q body x.reply a out
-    (subst P (ap (λ (o : Outcome). o.reply) x.same) (given P image (setup_plan w p q body) x.luck each)) x.answers
+    (subst P (ap (λ (o : Outcome). o.reply) x.same) (reply_given P image (setup_plan w p q body) x.luck each)) x.answers
 
 nothing_fits : (q : Request) → FitsRequest q Nothing
 nothing_fits (request.GetStatus len) = tt
@@ -72,8 +73,8 @@ writes_fit q = tt
 
 -- Each of a run.
 
-step_fit : (e : Event) (says : Says) (due due' : Option Cause) (rows : List TableRow) (d d' : Shown) → Tells due e says rows due'
-    → IsHistory d rows d' → IsFit e says
+step_fit : (e : Event) (says : Says) (due due' : Option Cause) (rows : List TableRow) (d d' : Shown) → TellsRows due e says rows due'
+    → IsHistory d rows d' → FitsSetup e says
 step_fit (Handle setup body) (SaysAnswer a out) due due' rows d d' tells h =
     let one = tells.0 in
     let x : IsHistory d (one.row ∷ []) d' = subst (λ (l : List TableRow). IsHistory d l d') one.rows_are h in

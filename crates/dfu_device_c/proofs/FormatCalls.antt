@@ -16,15 +16,15 @@ use Rattle.dfu_asks.specs.declared.progress.Progress.TheVariants as progress
 use Rattle.dfu_asks.specs.Mapped.{mapped}
 use Rattle.dfu_asks.specs.Carried.{IsPiece}
 use Rattle.dfu_asks.specs.Phases.{grain_within, steps_left}
-use Rattle.dfu_asks.specs.Formats.{AsksFormat, ComesTo, TookPiece, format_well, format_failed, format_lied}
+use Rattle.dfu_asks.specs.Formats.{AsksFormat, FormatComesTo, TookPiece, format_well, format_failed, format_lied}
 use Rattle.dfu_device_c.specs.declared.config.DfuConfig.{DfuConfig}
 use Rattle.dfu_device_c.specs.declared.record.DfuRecord.{DfuRecord}
-use Rattle.dfu_device_c.specs.Config.{grain_of, IsConfig}
+use Rattle.dfu_device_c.specs.Config.{config_grain, IsConfig}
 use Rattle.dfu_device_c.specs.Formatting.{HasPhase, IsFormatting}
 use Rattle.dfu_device_c.specs.Formats.{IsNoStart, progress_number}
 use Rattle.dfu_device_c.specs.Numbers.{ASKS, format_number}
-use Rattle.dfu_device_c.specs.Writes.{step_of}
-use Rattle.dfu_device_c.specs.FormatCalls.{TakesPiece, IsBeingFormatted, begins, goes_on, FormatsEnd, FormatsBeginAnew}
+use Rattle.dfu_device_c.specs.Writes.{ask_step}
+use Rattle.dfu_device_c.specs.FormatCalls.{TakesFormatPiece, IsBeingFormatted, begins, goes_on, FormatsEnd, FormatsBeginAnew}
 use Rattle.dfu_device_c.proofs.Same.{one_sector}
 use Rattle.dfu_device_c.proofs.Runs.{sized_small}
 
@@ -63,7 +63,7 @@ record IsAsking (c : DfuConfig) (image flash : List ℕ) (r : DfuRecord) : Type 
   asks : AsksFormat format image was flash
   size : length was ≡ length flash
 
-grain_is : (c : DfuConfig) (r : DfuRecord) (f : Formatting) → IsFormatting c r f → grain_within f ≡ grain_of c
+grain_is : (c : DfuConfig) (r : DfuRecord) (f : Formatting) → IsFormatting c r f → grain_within f ≡ config_grain c
 grain_is c r f is = λ i. record { unit = is.unit i; sector = is.sector i }
 
 asks_number : (came : Progress) → progress_number came ≡ ASKS → came ≡ progress.Asks
@@ -79,44 +79,44 @@ done_number (progress.Broken why) e = absurd (cc)
 -- What comes of a piece that is not told as broken.
 comes_to : (f f' : Formatting) (image was flash : List ℕ) (p : Write) (failed : Bool) (came : Progress)
     → TookPiece f f' image was flash p failed came → ((why : WriteFault) → came ≢ progress.Broken why)
-    → ComesTo (grain_within f) f' image was flash came
+    → FormatComesTo (grain_within f) f' image was flash came
 comes_to f f' image was flash p failed came (format_well r fine there comes) whole = comes
 comes_to f f' image was flash p failed _ (format_failed fails broken) whole = absurd (whole Failed refl)
 comes_to f f' image was flash p failed _ (format_lied fine lies broken) whole = absurd (whole NotVerified refl)
 
 module _ (c : DfuConfig) (image flash flash' : List ℕ) (r r' : DfuRecord) (n : ℤ) (a : IsAsking c image flash r)
-    (t : TakesPiece c image flash r flash' n r') where
-  took : TookPiece t.goes.before t.goes.after image a.was flash' (step_of t.ask).write t.failed t.goes.came
+    (t : TakesFormatPiece c image flash r flash' n r') where
+  took : TookPiece t.goes.before t.goes.after image a.was flash' (ask_step t.ask).write t.failed t.goes.came
   took =
       let same : a.format ≡ t.goes.before = one_format c r a.format t.goes.before a.is t.goes.is in
       let handed : t.handed.formatting ≡ t.goes.before = one_format c r t.handed.formatting t.goes.before t.handed.is t.goes.is in
-      t.goes.took a.was flash (subst (λ (f : Formatting). AsksFormat f image a.was flash) same a.asks) (step_of t.ask)
-      (subst (λ (size : ℕ). IsPiece (steps_left t.goes.before size image) t.goes.before.done (step_of t.ask)) (sym a.size)
-      (subst (λ (f : Formatting). IsPiece (steps_left f (length flash) image) f.done (step_of t.ask)) handed t.handed.piece))
+      t.goes.took a.was flash (subst (λ (f : Formatting). AsksFormat f image a.was flash) same a.asks) (ask_step t.ask)
+      (subst (λ (size : ℕ). IsPiece (steps_left t.goes.before size image) t.goes.before.done (ask_step t.ask)) (sym a.size)
+      (subst (λ (f : Formatting). IsPiece (steps_left f (length flash) image) f.done (ask_step t.ask)) handed t.handed.piece))
       t.torn
 
   -- Its number is that of a format that asks on.
   asks_on : n ≡ ASKS → IsAsking c image flash' r'
   asks_on e =
       let came : t.goes.came ≡ progress.Asks = asks_number t.goes.came (sym t.goes.number_is ∙ e) in
-      let comes = comes_to t.goes.before t.goes.after image a.was flash' (step_of t.ask).write t.failed t.goes.came took
+      let comes = comes_to t.goes.before t.goes.after image a.was flash' (ask_step t.ask).write t.failed t.goes.came took
       (λ why is. absurd (cc)) in
       record {
         config = a.config;
         format = t.goes.after;
         is = t.goes.on came;
         was = a.was;
-        asks = subst (λ (x : Progress). ComesTo (grain_within t.goes.before) t.goes.after image a.was flash' x) came comes;
+        asks = subst (λ (x : Progress). FormatComesTo (grain_within t.goes.before) t.goes.after image a.was flash' x) came comes;
         size = a.size ∙ sym t.torn.size;
       }
 
   -- Its number is that of a format that ended.
-  ends : n ≡ pos 0 → Active (mapped (grain_of c) flash') image
+  ends : n ≡ pos 0 → Active (mapped (config_grain c) flash') image
   ends e =
       let came : t.goes.came ≡ progress.Formatted = done_number t.goes.came (sym t.goes.number_is ∙ e) in
-      let comes = comes_to t.goes.before t.goes.after image a.was flash' (step_of t.ask).write t.failed t.goes.came took
+      let comes = comes_to t.goes.before t.goes.after image a.was flash' (ask_step t.ask).write t.failed t.goes.came took
       (λ why is. absurd (cc)) in
-      let formatted = subst (λ (x : Progress). ComesTo (grain_within t.goes.before) t.goes.after image a.was flash' x) came comes in
+      let formatted = subst (λ (x : Progress). FormatComesTo (grain_within t.goes.before) t.goes.after image a.was flash' x) came comes in
       subst (λ (g : Grain). Active (mapped g flash') image) (grain_is c r t.goes.before t.goes.is) formatted.active
 
 asking : (c : DfuConfig) (image flash : List ℕ) (r : DfuRecord) → IsBeingFormatted c image flash r → IsAsking c image flash r
@@ -141,7 +141,7 @@ formats_end c image flash flash' r r' n f t e =
         | inl config ↦ config.1 a.config
         | inr medium ↦ elim (medium.2) [
           | inl none ↦ none (record { image = image; active = active })
-          | inr long ↦ omega (arith, long, sized_small (mapped (grain_of c) flash') active.sized)
+          | inr long ↦ omega (arith, long, sized_small (mapped (config_grain c) flash') active.sized)
         ]
       ],
     )
@@ -159,11 +159,12 @@ same_room : (g : Grain) (xs ys : List ℕ) → length xs ≡ length ys → capac
 same_room g xs ys e = ap (λ (n : ℕ). n / 2 - 2 * gate_room g) e
 
 -- A start is refused on a flash of two slots only if the image is too large.
-too_large : (c : DfuConfig) (flash other : List ℕ) (n : ℤ) → IsConfig c → IsSized (mapped (grain_of c) flash) → IsNoStart c flash other n
-    → (n ≡ format_number fault.TooLarge) × (capacity_of (mapped (grain_of c) flash) < length other)
+too_large : (c : DfuConfig) (flash other : List ℕ) (n : ℤ) → IsConfig c → IsSized (mapped (config_grain c) flash) →
+    IsNoStart c flash other n
+    → (n ≡ format_number fault.TooLarge) × (capacity_of (mapped (config_grain c) flash) < length other)
 too_large c flash other n config sized (inl bad) = absurd (bad.1 config)
 too_large c flash other n config sized (inr (inl long)) =
-    absurd (omega (arith, long.2, sized_small (mapped (grain_of c) flash) sized))
+    absurd (omega (arith, long.2, sized_small (mapped (config_grain c) flash) sized))
 too_large c flash other n config sized (inr (inr (fault.WrongSize, known, is, allowed, small, bad))) = absurd (bad sized)
 too_large c flash other n config sized (inr (inr (fault.TooLarge, known, is, allowed, small, bad))) = (is, bad.1)
 too_large c flash other n config sized (inr (inr (fault.Failed, known, is, allowed, small, bad))) = absurd (known refl)
@@ -174,9 +175,9 @@ formats_begin_anew c image flash flash' r f size =
     let a = asking c image flash r f in
     let can = subst (λ (g : Grain). CanFormat (mapped g a.was) image) (grain_is c r a.format a.is) a.asks.way.can in
     let same : length flash' ≡ length a.was = size ∙ sym a.size in
-    let sized = same_sized (grain_of c) flash' a.was same can.sized in (
+    let sized = same_sized (config_grain c) flash' a.was same can.sized in (
       λ n refused.
           let x = too_large c flash' image n a.config sized refused in
-          omega (arith, x.1, can.fits, same_room (grain_of c) flash' a.was same),
+          omega (arith, x.1, can.fits, same_room (config_grain c) flash' a.was same),
       λ other n refused. too_large c flash' other n a.config sized refused,
     )

@@ -13,7 +13,7 @@ use Rattle.dfu_slots.proofs.Parts.{data_length}
 use Rattle.dfu_slots.proofs.ReadBack.{range_is}
 use Rattle.dfu_asks.specs.Mapped.{mapped}
 use Rattle.dfu_device_c.specs.declared.place.DfuPlace.{DfuPlace}
-use Rattle.dfu_device_c.specs.Image.{IsThere}
+use Rattle.dfu_device_c.specs.Image.{ImageIsAt}
 
 -- The length that stands in a well-formed header is that of its image.
 length_told : (s : Slot) (len : ℕ) → HasHeader s len → len < 2 ^ 32 → header_length s ≡ len
@@ -57,7 +57,7 @@ module _ (grain : Grain) (flash : List ℕ) (p : ℕ) (has : HasImage (mapped gr
   slot_end = omega (arith, here, active_end g flash sized)
 
   -- It stands behind the gate and the header of its slot, and is as long as the header says.
-  pub there : (place : DfuPlace) → place.at ≡ p + 2 * g → place.length ≡ header_length (slot_of m p) → IsThere grain flash place
+  pub there : (place : DfuPlace) → place.at ≡ p + 2 * g → place.length ≡ header_length (slot_of m p) → ImageIsAt grain flash place
   there at at_is length_is =
       let from = p + 2 * g in
       let len : at.length ≡ length image = length_is ∙ length_told (slot_of m p) (length image) head (omega (arith, fits, sized.bound)) in

@@ -7,13 +7,13 @@ use Rattle.dfu_device.specs.Setting.{Setting}
 use Rattle.dfu_asks.specs.declared.asking.Asking.{Asking}
 use Rattle.dfu_sim.specs.Play.{Answered}
 use Rattle.dfu_board.specs.Board.{Board, BoardStep, medium_on}
-use Rattle.dfu_board.specs.Happens.{IsOn, IsRun}
-use Rattle.dfu_board_play.specs.Comes.{BoardLink, Comes}
+use Rattle.dfu_board.specs.Happens.{IsPoweredOn, IsRun}
+use Rattle.dfu_board_play.specs.Comes.{BoardLink, BoardComes}
 use Rattle.dfu_board_play.specs.Plays.{PlaysInstall, PlaysGive, PlaysKnow, PlaysKnowWithin}
 use Rattle.dfu_board_play.proofs.Ran.{run_parts, comes_run}
-use Rattle.dfu_device_c.specs.Board.{CoreBoard, CoreStep, flash_of}
+use Rattle.dfu_device_c.specs.Board.{CoreBoard, CoreStep, core_flash_of}
 use Rattle.dfu_device_c.specs.Happens.{IsCoreOn, IsCoreRun}
-use Rattle.dfu_device_c.specs.Steps.{board_of, IsBoardOf, AreStepsOf}
+use Rattle.dfu_device_c.specs.Steps.{core_board_of, IsBoardOf, AreStepsOf}
 use Rattle.dfu_device_c.specs.Plays.{CoreLink, IsLinkOf, CorePlays, CoreComes, CorePlaysInstall, CorePlaysGive, CorePlaysKnow, CorePlaysKnowWithin}
 use Rattle.dfu_device_c.proofs.Same.{one_device}
 use Rattle.dfu_device_c.proofs.Each.{powers_on}
@@ -22,7 +22,7 @@ use Rattle.dfu_device_c.proofs.Runs.{same_flash}
 -- A board in C is one board.
 one_board : (b : CoreBoard) (x y : Board) → IsBoardOf b x → IsBoardOf b y → x ≡ y
 one_board b x y h k =
-    h.is ∙ ap (λ (a : Asking). board_of b a) (one_device b.config b.kept x.asking y.asking h.kept k.kept) ∙ sym k.is
+    h.is ∙ ap (λ (a : Asking). core_board_of b a) (one_device b.config b.kept x.asking y.asking h.kept k.kept) ∙ sym k.is
 
 -- A link to it is one link.
 one_link : (l : CoreLink) (x y : BoardLink) → IsLinkOf l x → IsLinkOf l y → x ≡ y
@@ -33,25 +33,26 @@ one_link l x y h k = λ i. record {
 
 -- A board in C that just got power is one that did, with a transfer size over 0.
 record IsOnToo (x : Board) : Type 0 where
-  on : IsOn x
+  on : IsPoweredOn x
   sized : 0 < x.asking.config.functional.transfer
 
 on_too : (b : CoreBoard) (x : Board) → IsCoreOn b → IsBoardOf b x → IsOnToo x
 on_too b x on is =
     let start = powers_on b (pos 0) on.begins on.powers in
-    let same : board_of b on.powers.after ≡ x = one_board b (board_of b on.powers.after) x (record { kept = start.0.kept; is = refl }) is in
+    let same : core_board_of b on.powers.after
+    ≡ x = one_board b (core_board_of b on.powers.after) x (record { kept = start.0.kept; is = refl }) is in
     let config = ap (λ (s : Setting). s.functional.transfer) is.kept.set_up.config_is in
-    record { on = subst IsOn same start.1.0; sized = omega (arith, config, on.powers.config.allowed.transfer.some) }
+    record { on = subst IsPoweredOn same start.1.0; sized = omega (arith, config, on.powers.config.allowed.transfer.some) }
 
 -- What is active on the board is active on the flash in C.
-active_too : (b : CoreBoard) (x : Board) (image : List ℕ) → IsBoardOf b x → Active (medium_on x) image → Active (flash_of b) image
+active_too : (b : CoreBoard) (x : Board) (image : List ℕ) → IsBoardOf b x → Active (medium_on x) image → Active (core_flash_of b) image
 active_too b x image is active = subst (λ (m : MediumState). Active m image) (same_flash b x is) active
 
 -- What comes next comes to the board of the sessions before.
 pub comes_on : (b : CoreBoard) (steps more : List CoreStep) (past : List (List ℕ)) (last : Option (List ℕ)) (l l' : CoreLink)
-    (answer : Answered) → (p : CorePlays b steps past last l) → (c : CoreComes l more answer l') → Comes p.link c.calls answer c.after
+    (answer : Answered) → (p : CorePlays b steps past last l) → (c : CoreComes l more answer l') → BoardComes p.link c.calls answer c.after
 comes_on b steps more past last l l' answer p c =
-    subst (λ (x : BoardLink). Comes x c.calls answer c.after) (one_link l c.before p.link c.is_before p.is_link) c.comes
+    subst (λ (x : BoardLink). BoardComes x c.calls answer c.after) (one_link l c.before p.link c.is_before p.is_link) c.comes
 
 -- If Installed or Verified is reported, the payload is in place.
 pub core_install : PlaysInstall → CorePlaysInstall
@@ -118,7 +119,7 @@ core_know_within knows b mid steps front rest past last l l' answer image on act
     let start = on_too b p.first on p.is_first in
     let first = subst (λ (m : MediumState). Active m image) (sym (same_flash b p.first p.is_first)) active in
     let f = first_of front rest c.calls c.are in
-    let comes = subst (λ (ts : List BoardStep). Comes p.link ts answer c.after) f.are
+    let comes = subst (λ (ts : List BoardStep). BoardComes p.link ts answer c.after) f.are
     (comes_on b steps (front ++ rest) past last l l' answer p c) in
     let parts = run_parts p.link.board f.first f.later c.after.board
     (comes_run p.link c.after (f.first ++ f.later) answer comes) in

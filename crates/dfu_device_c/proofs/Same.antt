@@ -18,7 +18,7 @@ use Rattle.dfu_asks.specs.Lent.{IsSetUpAs}
 use Rattle.dfu_device_c.specs.declared.config.DfuConfig.{DfuConfig}
 use Rattle.dfu_device_c.specs.declared.record.DfuRecord.{DfuRecord}
 use Rattle.dfu_device_c.specs.Mode.{HasNumbers, HasMode}
-use Rattle.dfu_device_c.specs.Kept.{IsFlag, HasJob, IsAsked, HasWork, IsKept}
+use Rattle.dfu_device_c.specs.Kept.{IsFlag, HasJob, IsAskedNumber, HasWork, IsKept}
 
 -- The code of a number.
 code_at : ℕ → Code
@@ -91,7 +91,7 @@ flag_back false n h = λ i. sym h i == 1
 one_flag : (b c : Bool) (n : ℕ) → IsFlag b n → IsFlag c n → b ≡ c
 one_flag b c n x y = flag_back b n x ∙ sym (flag_back c n y)
 
-one_asked : (n : ℕ) (x y : Option ℕ) → IsAsked n x → IsAsked n y → x ≡ y
+one_asked : (n : ℕ) (x y : Option ℕ) → IsAskedNumber n x → IsAskedNumber n y → x ≡ y
 one_asked n None None h k = refl
 one_asked n None (Some y) h k = absurd (omega (arith, h, k.0))
 one_asked n (Some x) None h k = absurd (omega (arith, h.0, k))

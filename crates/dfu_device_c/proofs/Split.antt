@@ -9,19 +9,19 @@ use Rattle.dfu_device.specs.Setting.{Setting}
 use Rattle.dfu_asks.specs.declared.asking.Asking.{Asking}
 use Rattle.dfu_asks.specs.declared.reply.Reply.{Reply}
 use Rattle.dfu_asks.specs.Lent.{LentAsking, lent, HasRoom, IsSetUpAs}
-use Rattle.dfu_asks.specs.Calls.{Called}
-use Rattle.dfu_asks.specs.Refused.{IsKept as IsWhole, IsRefused as IsRefusedFor}
+use Rattle.dfu_asks.specs.Calls.{DeviceCalled}
+use Rattle.dfu_asks.specs.Refused.{IsKeptOn as IsWhole, IsRefusedCall as IsRefusedFor}
 use Rattle.dfu_asks.specs.declared.refusal.Refusal.{Refusal as Why}
 use Rattle.dfu_device_c.specs.declared.config.DfuConfig.{DfuConfig}
 use Rattle.dfu_device_c.specs.declared.record.DfuRecord.{DfuRecord}
-use Rattle.dfu_device_c.specs.Config.{transfer_of, block_size}
-use Rattle.dfu_device_c.specs.Kept.{IsKept, block_in, held_in, with_memory}
+use Rattle.dfu_device_c.specs.Config.{transfer_of, block_memory_size}
+use Rattle.dfu_device_c.specs.Kept.{IsKept, block_in, held_back_in, with_memory}
 use Rattle.dfu_device_c.specs.Calls.{IsIntact}
 
 -- These are the two parts.
 pub record IsSplit (a : Asking) (memory front held : List ℕ) : Type 0 where
   pub front_is : block_in a memory ≡ front
-  pub held_is : held_in a memory ≡ held
+  pub held_is : held_back_in a memory ≡ held
 
 pub split : (a : Asking) (memory front held : List ℕ) → memory ≡ front ++ held → length front ≡ a.config.functional.transfer
     → IsSplit a memory front held
@@ -36,7 +36,7 @@ joined n memory front held is is' = sym ((λ i. is i ++ is' i) ∙ take-append-d
 
 -- The second part of memory that has room for both has room for a unit.
 pub has_room : (c : DfuConfig) (r : DfuRecord) (a : Asking) (memory front held : List ℕ) → IsKept c r a → memory ≡ front ++ held
-    → length front ≡ transfer_of c → block_size c ≤ length memory → HasRoom a.unit held
+    → length front ≡ transfer_of c → block_memory_size c ≤ length memory → HasRoom a.unit held
 has_room c r a memory front held kept is size room = omega (
   arith,
   room,
@@ -54,17 +54,17 @@ module _ (a : Asking) (memory front held : List ℕ) (s : IsSplit a memory front
   -- If it is as the last call left it, so it is with the two parts.
   pub whole : (flash : List ℕ) → IsIntact memory flash a → IsWhole a front held flash
   whole flash is = subst (λ (h : List ℕ). IsWhole a front h flash) s.held_is
-      (subst (λ (f : List ℕ). IsWhole a f (held_in a memory) flash) s.front_is is)
+      (subst (λ (f : List ℕ). IsWhole a f (held_back_in a memory) flash) s.front_is is)
 
   -- And the other way round.
   pub intact : (flash : List ℕ) → IsWhole a front held flash → IsIntact memory flash a
-  intact flash is = subst (λ (f : List ℕ). IsWhole a f (held_in a memory) flash) (sym s.front_is)
+  intact flash is = subst (λ (f : List ℕ). IsWhole a f (held_back_in a memory) flash) (sym s.front_is)
       (subst (λ (h : List ℕ). IsWhole a front h flash) (sym s.held_is) is)
 
   -- What a call with the two parts is refused for.
   pub refused_for : (e : Why) (flash : List ℕ) (need room : ℕ) → IsRefusedFor e a front held flash need room
-      → IsRefusedFor e a (block_in a memory) (held_in a memory) flash need room
-  refused_for e flash need room is = subst (λ (f : List ℕ). IsRefusedFor e a f (held_in a memory) flash need room) (sym s.front_is)
+      → IsRefusedFor e a (block_in a memory) (held_back_in a memory) flash need room
+  refused_for e flash need room is = subst (λ (f : List ℕ). IsRefusedFor e a f (held_back_in a memory) flash need room) (sym s.front_is)
       (subst (λ (h : List ℕ). IsRefusedFor e a front h flash need room) (sym s.held_is) is)
 
 -- Memory whose two parts are as they were is as it was.
@@ -81,10 +81,10 @@ same_front c memory front held held' is size =
 
 -- A call of the device with both parts is one of the device with the memory.
 pub called : (flash out out' : List ℕ) (Row : LentAsking → Answer → List ℕ → Shown → Type 0) (r : Reply) (l k l' k' : LentAsking) → l ≡ k
-    → l' ≡ k' → Called k flash out (Row k) k' out' r → Called l flash out (Row l) l' out' r
+    → l' ≡ k' → DeviceCalled k flash out (Row k) k' out' r → DeviceCalled l flash out (Row l) l' out' r
 called flash out out' Row r l k l' k' same same' is =
-    subst (λ (x : LentAsking). Called x flash out (Row x) l' out' r) (sym same)
-    (subst (λ (x : LentAsking). Called k flash out (Row k) x out' r) (sym same') is)
+    subst (λ (x : LentAsking). DeviceCalled x flash out (Row x) l' out' r) (sym same)
+    (subst (λ (x : LentAsking). DeviceCalled k flash out (Row k) x out' r) (sym same') is)
 
 -- The device that a record is has the two parts.
 pub split_in : (c : DfuConfig) (r : DfuRecord) (a : Asking) (memory front held : List ℕ) → IsKept c r a → memory ≡ front ++ held

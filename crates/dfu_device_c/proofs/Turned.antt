@@ -10,10 +10,10 @@ use Rattle.dfu_board.specs.Happens.{Happens}
 use Rattle.dfu_device_c.specs.declared.config.DfuConfig.{DfuConfig}
 use Rattle.dfu_device_c.specs.declared.record.DfuRecord.{DfuRecord}
 use Rattle.dfu_device_c.specs.Config.{transfer_of, IsConfig}
-use Rattle.dfu_device_c.specs.Kept.{IsKept, block_in, held_in}
+use Rattle.dfu_device_c.specs.Kept.{IsKept, block_in, held_back_in}
 use Rattle.dfu_device_c.specs.Calls.{Goes}
 use Rattle.dfu_device_c.specs.Board.{CoreBoard, CoreEvent}
-use Rattle.dfu_device_c.specs.Steps.{board_of, event_of, EventSays}
+use Rattle.dfu_device_c.specs.Steps.{core_board_of, core_event_of, EventSays}
 use Rattle.dfu_device_c.proofs.Same.{one_device}
 
 -- A board in C is a board with this device, whose block is no longer than any may be.
@@ -28,7 +28,7 @@ pub record IsTurn (b : CoreBoard) (a : Asking) (e : CoreEvent) (n : ℤ) (out : 
   pub after : Asking
   pub sound : IsSound b' after
   pub says : Says
-  pub happens : Happens (board_of b a) (event_of b.config e) says (board_of b' after)
+  pub happens : Happens (core_board_of b a) (core_event_of b.config e) says (core_board_of b' after)
   pub told : EventSays e n out says
 
 transfer_in : (b : CoreBoard) (a : Asking) → IsSound b a → a.config.functional.transfer ≡ transfer_of b.config
@@ -51,7 +51,7 @@ fits_of b a sound room =
 
 -- Nothing changed.
 still : (b : CoreBoard) (a : Asking) (b' : CoreBoard) → IsSound b a → b'.config ≡ b.config → b'.flash ≡ b.flash → b'.kept ≡ b.kept
-    → b'.block ≡ b.block → IsSound b' a × (board_of b' a ≡ board_of b a)
+    → b'.block ≡ b.block → IsSound b' a × (core_board_of b' a ≡ core_board_of b a)
 still b a b' sound config flash kept block = (
   record {
     config = subst (λ (c : DfuConfig). IsConfig c) (sym config) sound.config;
@@ -59,13 +59,13 @@ still b a b' sound config flash kept block = (
         (subst (λ (r : DfuRecord). IsKept b.config r a) (sym kept) sound.kept);
     short = omega (arith, sound.short, ap transfer_of config);
   },
-  λ i. record { asking = a; block = block_in a (block i); held = held_in a (block i); flash = flash i },
+  λ i. record { asking = a; block = block_in a (block i); held = held_back_in a (block i); flash = flash i },
 )
 
 -- A call that is refused changes nothing.
 pub unchanged : (b : CoreBoard) (a : Asking) (e : CoreEvent) (n : ℤ) (out' : List ℕ) (b' : CoreBoard) → IsSound b a
     → b'.config ≡ b.config → b'.flash ≡ b.flash → b'.kept ≡ b.kept → b'.block ≡ b.block
-    → (board_of b' a ≡ board_of b a → Happens (board_of b a) (event_of b.config e) Nothing (board_of b' a))
+    → (core_board_of b' a ≡ core_board_of b a → Happens (core_board_of b a) (core_event_of b.config e) Nothing (core_board_of b' a))
     → EventSays e n out' Nothing → IsTurn b a e n out' b'
 unchanged b a e n out' b' sound config flash kept block happens told =
     let same = still b a b' sound config flash kept block in

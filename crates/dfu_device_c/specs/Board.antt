@@ -8,7 +8,7 @@ use Rattle.dfu_device.specs.Parts.{stage_of}
 use Rattle.dfu_asks.specs.Mapped.{mapped}
 use Rattle.dfu_device_c.specs.declared.config.DfuConfig.{DfuConfig}
 use Rattle.dfu_device_c.specs.declared.record.DfuRecord.{DfuRecord}
-use Rattle.dfu_device_c.specs.Config.{grain_of}
+use Rattle.dfu_device_c.specs.Config.{config_grain}
 use Rattle.dfu_device_c.specs.Mode.{HasMode}
 
 -- A board in C: its configuration, the record, the bytes in the memory of the block, and those of its flash.
@@ -19,8 +19,8 @@ pub record CoreBoard : Type 0 where
   pub flash : List ℕ
 
 -- Its flash as a medium, of which any write may fail.
-abbrev pub flash_of : CoreBoard → MediumState
-flash_of b = mapped (grain_of b.config) b.flash
+abbrev pub core_flash_of : CoreBoard → MediumState
+core_flash_of b = mapped (config_grain b.config) b.flash
 
 -- It is in this state of the standard, as dfu_core_state tells it.
 pub record IsIn (b : CoreBoard) (state : State) : Type 0 where
@@ -55,5 +55,5 @@ pub record CoreStep : Type 0 where
   pub after : CoreBoard
 
 -- The board in C of these parts.
-abbrev pub board : DfuConfig → DfuRecord → (block flash : List ℕ) → CoreBoard
-board c r block flash = record { config = c; kept = r; block = block; flash = flash }
+abbrev pub core_board : DfuConfig → DfuRecord → (block flash : List ℕ) → CoreBoard
+core_board c r block flash = record { config = c; kept = r; block = block; flash = flash }

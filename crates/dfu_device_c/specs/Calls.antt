@@ -11,14 +11,14 @@ use Rattle.dfu_asks.specs.Carried.{IsPiece}
 use Rattle.dfu_asks.specs.Steps.{Step}
 use Rattle.dfu_asks.specs.Lent.{LentAsking}
 use Rattle.dfu_asks.specs.Asks.{device_of, steps_in}
-use Rattle.dfu_asks.specs.Calls.{Called, Asks, Took}
-use Rattle.dfu_asks.specs.Refused.{IsKept as IsWhole, IsThere, Fits, IsLeft}
+use Rattle.dfu_asks.specs.Calls.{DeviceCalled, AsksWrites, DeviceTook}
+use Rattle.dfu_asks.specs.Refused.{IsKeptOn as IsWhole, IsThere, Fits, IsLeft}
 use Rattle.dfu_device_c.specs.declared.config.DfuConfig.{DfuConfig}
 use Rattle.dfu_device_c.specs.declared.record.DfuRecord.{DfuRecord}
 use Rattle.dfu_device_c.specs.declared.refusal.Refusal.{Refusal}
 use Rattle.dfu_device_c.specs.declared.refusal.Refusal.TheVariants as refusal
-use Rattle.dfu_device_c.specs.Config.{transfer_of, block_size, IsConfig}
-use Rattle.dfu_device_c.specs.Kept.{IsKept, block_in, held_in}
+use Rattle.dfu_device_c.specs.Config.{transfer_of, block_memory_size, IsConfig}
+use Rattle.dfu_device_c.specs.Kept.{IsKept, block_in, held_back_in}
 use Rattle.dfu_device_c.specs.Formatting.{FORMAT}
 use Rattle.dfu_device_c.specs.Numbers.{refusal_number, reply_number, passed_number, NO_ROOM}
 
@@ -28,14 +28,14 @@ use Rattle.dfu_device_c.specs.Numbers.{refusal_number, reply_number, passed_numb
 abbrev pub IsUnfound : Refusal → DfuConfig → DfuRecord → ℕ → Type 0
 IsUnfound refusal.Asked c r room = r.work ≡ FORMAT
 IsUnfound refusal.NoConfig c r room = (r.work ≢ FORMAT) × ¬ IsConfig c
-IsUnfound refusal.NoBlock c r room = (r.work ≢ FORMAT) × IsConfig c × (room < block_size c)
-IsUnfound refusal.NoDevice c r room = (r.work ≢ FORMAT) × IsConfig c × (block_size c ≤ room)
+IsUnfound refusal.NoBlock c r room = (r.work ≢ FORMAT) × IsConfig c × (room < block_memory_size c)
+IsUnfound refusal.NoDevice c r room = (r.work ≢ FORMAT) × IsConfig c × (block_memory_size c ≤ room)
     × ((a : Asking) → IsKept c r a → transfer_of c < a.block_len)
 IsUnfound e c r room = ⊥
 
 -- This memory of its block is as the last call of a device that asks left it on this flash.
 abbrev pub IsIntact : (memory flash : List ℕ) → Asking → Type 0
-IsIntact memory flash a = IsWhole a (block_in a memory) (held_in a memory) flash
+IsIntact memory flash a = IsWhole a (block_in a memory) (held_back_in a memory) flash
 
 -- By this a call for a device that asks is refused: writes are due; or else the noted header is not in an open slot of the flash; or else
 -- the device is not as the last call left it.
@@ -46,15 +46,15 @@ IsRefusedAsking refusal.NoDevice block flash a = (a.work ≡ None) × IsThere a 
 IsRefusedAsking e block flash a = ⊥
 
 -- By this a call is refused: there is no device that asks; or else what is refused is a call for that device.
-abbrev pub IsRefused : Refusal → DfuConfig → DfuRecord → (block flash : List ℕ) → Type 0
-IsRefused e c r block flash = IsUnfound e c r (length block)
-    ⊎ ((a : Asking) × IsConfig c × IsKept c r a × (block_size c ≤ length block) × IsRefusedAsking e block flash a)
+abbrev pub IsRefusedByCore : Refusal → DfuConfig → DfuRecord → (block flash : List ℕ) → Type 0
+IsRefusedByCore e c r block flash = IsUnfound e c r (length block)
+    ⊎ ((a : Asking) × IsConfig c × IsKept c r a × (block_memory_size c ≤ length block) × IsRefusedAsking e block flash a)
 
 -- A call with this number was refused, and left the record and the block as they were.
-pub record Refuses (c : DfuConfig) (r : DfuRecord) (block flash : List ℕ) (result : ℤ) (r' : DfuRecord) (block' : List ℕ) : Type 0 where
+pub record CoreRefuses (c : DfuConfig) (r : DfuRecord) (block flash : List ℕ) (result : ℤ) (r' : DfuRecord) (block' : List ℕ) : Type 0 where
   pub why : Refusal
   pub number_is : result ≡ refusal_number why
-  pub cause : IsRefused why c r block flash
+  pub cause : IsRefusedByCore why c r block flash
   pub unchanged : r' ≡ r
   pub block_is : block' ≡ block
 
@@ -62,7 +62,7 @@ pub record Refuses (c : DfuConfig) (r : DfuRecord) (block flash : List ℕ) (res
 pub record Goes (c : DfuConfig) (r : DfuRecord) (block : List ℕ) (r' : DfuRecord) (block' : List ℕ) (Does : Asking → Asking → Type 0)
     : Type 0 where
   pub config : IsConfig c
-  pub room : block_size c ≤ length block
+  pub room : block_memory_size c ≤ length block
   pub before : Asking
   pub after : Asking
   pub was : IsKept c r before
@@ -77,15 +77,16 @@ pub record Replied (Whole : Type 0) (a : LentAsking) (flash out : List ℕ) (Row
   pub idle : a.work ≡ None
   pub reply : Reply
   pub number_is : result ≡ number reply
-  pub called : Whole → Called a flash out Row a' out' reply
+  pub called : Whole → DeviceCalled a flash out Row a' out' reply
 
 -- The same of time that passed, of which the number says 0, or that writes are asked for.
-pub record Passed (Whole : Type 0) (a : LentAsking) (flash : List ℕ) (Row : Answer → List ℕ → Shown → Type 0) (result : ℤ) (a' : LentAsking)
+pub record TimePassed (Whole : Type 0) (a : LentAsking) (flash : List ℕ) (Row : Answer → List ℕ → Shown → Type 0) (result : ℤ)
+    (a' : LentAsking)
     : Type 0 where
   pub idle : a.work ≡ None
   pub reply : Reply
   pub number_is : result ≡ passed_number reply
-  pub called : Whole → (out : List ℕ) × Called a flash (replicate 6 0) Row a' out reply
+  pub called : Whole → (out : List ℕ) × DeviceCalled a flash (replicate 6 0) Row a' out reply
 
 -- Writes were due, the program said how a piece went, and the number says what came of it.
 pub record Went (a : LentAsking) (flash : List ℕ) (failed : Bool) (out : List ℕ) (result : ℤ) (a' : LentAsking) (out' : List ℕ)
@@ -94,9 +95,9 @@ pub record Went (a : LentAsking) (flash : List ℕ) (failed : Bool) (out : List 
   pub left : IsLeft a work
   pub reply : Reply
   pub number_is : result ≡ reply_number reply
-  pub took : (len : ℕ) (s : SlotsState) (was before : List ℕ) (asks : Asks a len s was before) (p : Step)
+  pub took : (len : ℕ) (s : SlotsState) (was before : List ℕ) (asks : AsksWrites a len s was before) (p : Step)
       → IsPiece (steps_in a asks.work) asks.work.done p → Torn before p.write.at p.write.bytes flash
-      → Took (device_of a s) len s was p.write failed flash out a' out' reply
+      → DeviceTook (device_of a s) len s was p.write failed flash out a' out' reply
 
 -- The buffer was too small, and nothing happened.
 pub record HasNoRoom (least : ℕ) (r : DfuRecord) (block out : List ℕ) (result : ℤ) (r' : DfuRecord) (block' out' : List ℕ) : Type 0 where

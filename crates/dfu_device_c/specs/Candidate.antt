@@ -5,13 +5,13 @@ use Rattle.dfu_device.specs.Candidate.{candidate_in, IsCandidate}
 use Rattle.dfu_asks.specs.declared.asking.Asking.{Asking}
 use Rattle.dfu_asks.specs.declared.refusal.Refusal.{Refusal as Why}
 use Rattle.dfu_asks.specs.Asks.{device_in}
-use Rattle.dfu_asks.specs.Refused.{IsRefused}
+use Rattle.dfu_asks.specs.Refused.{IsRefusedCall}
 use Rattle.dfu_device_c.specs.declared.config.DfuConfig.{DfuConfig}
 use Rattle.dfu_device_c.specs.declared.place.DfuPlace.{DfuPlace}
 use Rattle.dfu_device_c.specs.declared.record.DfuRecord.{DfuRecord}
 use Rattle.dfu_device_c.specs.declared.refusal.Refusal.{Refusal}
 use Rattle.dfu_device_c.specs.Calls.{IsUnfound, IsIntact}
-use Rattle.dfu_device_c.specs.Kept.{IsKept, block_in, held_in, with_memory}
+use Rattle.dfu_device_c.specs.Kept.{IsKept, block_in, held_back_in, with_memory}
 use Rattle.dfu_device_c.specs.Numbers.{NO_CANDIDATE, refusal_number, refusal_of}
 
 -- This place as dfu_device has it.
@@ -38,4 +38,4 @@ pub record HasNone (c : DfuConfig) (r : DfuRecord) (flash : List ℕ) (result : 
 abbrev pub RefusesCandidate : DfuConfig → DfuRecord → List ℕ → ℤ → Type 0
 RefusesCandidate c r flash result = ((e : Refusal) × (result ≡ refusal_number e) × IsUnfound e c r 4352)
     ⊎ ((a : Asking) × IsKept c r a × (e : Why) × (result ≡ refusal_number (refusal_of e))
-    × ((block : List ℕ) → IsRefused e a (block_in a block) (held_in a block) flash 0 0))
+    × ((block : List ℕ) → IsRefusedCall e a (block_in a block) (held_back_in a block) flash 0 0))

@@ -30,16 +30,16 @@ unfoldable pub unit_of : DfuConfig → WriteUnit
 unit_of c = if c.unit == 16 then U16 else if c.unit == 64 then U64 else if c.unit == 256 then U256 else Byte
 
 -- The fewest bytes of the memory of a block: the most of a block, and behind them a unit's for those held back.
-abbrev pub block_size : DfuConfig → ℕ
-block_size c = transfer_of c + unit_size (unit_of c)
+abbrev pub block_memory_size : DfuConfig → ℕ
+block_memory_size c = transfer_of c + unit_size (unit_of c)
 
 -- Flash may be erased so many bytes at a time; 0 says that it is written over in place.
 abbrev pub IsSector : ℕ → Type 0
 IsSector n = (n % 256 ≡ 0) × (n ≤ 2 ^ 17)
 
 -- The flash is written in this unit, in these sectors.
-abbrev pub grain_of : DfuConfig → Grain
-grain_of c = record { unit = unit_of c; sector = c.sector }
+abbrev pub config_grain : DfuConfig → Grain
+config_grain c = record { unit = unit_of c; sector = c.sector }
 
 -- It is of this version, a device can be set up so, a unit has that size, and there are such sectors.
 pub record IsConfig (c : DfuConfig) : Type 0 where

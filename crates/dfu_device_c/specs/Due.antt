@@ -24,7 +24,7 @@ abbrev pub LATEST : ℕ
 LATEST = 2 ^ 31 - 1
 
 -- So many milliseconds leave the state as it is before a change is due, and change it from then on; if none is due they change nothing.
-pub record IsDue (due ms : ℕ) (d d' : Shown) : Type 0 where
+pub record ChangesOnceDue (due ms : ℕ) (d d' : Shown) : Type 0 where
   pub none : due ≡ 0 → d' ≡ d
   pub before : ms < due → state_of d'.stage ≡ state_of d.stage
   pub from : 0 < due → due < LATEST → due ≤ ms → state_of d'.stage ≢ state_of d.stage
@@ -35,4 +35,4 @@ pub record ToldDue (c : DfuConfig) (r : DfuRecord) (result : ℤ) : Type 0 where
   pub number_is : result ≡ pos due
   pub told : (block flash : List ℕ) (a : Asking) → IsKept c r a → IsDevice (with_memory block a) flash → (ms : ℕ) (d' : Shown)
       → Elapses ms (device_in (with_memory block a) flash) d'
-      → IsDue due ms (device_in (with_memory block a) flash) d'
+      → ChangesOnceDue due ms (device_in (with_memory block a) flash) d'

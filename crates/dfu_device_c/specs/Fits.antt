@@ -20,11 +20,11 @@ FitsRequest q (Answers answer.Bytes out) = ⊥
 FitsRequest q says = Unit {0}
 
 -- So it is of what is said to a setup at once, by the request that it asks for.
-abbrev pub IsFit : Event → Says → Type 0
-IsFit (Handle setup body) says = (p : Setup) (q : Request) → IsSetup p setup → Asks p q → FitsRequest q says
-IsFit event says = Unit {0}
+abbrev pub FitsSetup : Event → Says → Type 0
+FitsSetup (Handle setup body) says = (p : Setup) (q : Request) → IsSetup p setup → Asks p q → FitsRequest q says
+FitsSetup event says = Unit {0}
 
 -- And at each of these steps.
 abbrev pub AreFit : List BoardStep → Type 0
 AreFit [] = Unit {0}
-AreFit (s ∷ rest) = IsFit s.event s.says × AreFit rest
+AreFit (s ∷ rest) = FitsSetup s.event s.says × AreFit rest

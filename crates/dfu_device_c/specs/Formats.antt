@@ -9,16 +9,16 @@ use Rattle.dfu_asks.specs.declared.progress.Progress.{Progress}
 use Rattle.dfu_asks.specs.declared.progress.Progress.TheVariants as progress
 use Rattle.dfu_asks.specs.Mapped.{mapped}
 use Rattle.dfu_asks.specs.Steps.{Step}
-use Rattle.dfu_asks.specs.Carried.{IsPiece, IsSound}
+use Rattle.dfu_asks.specs.Carried.{IsPiece, ErasesWhole}
 use Rattle.dfu_asks.specs.Phases.{steps_left}
 use Rattle.dfu_asks.specs.Formats.{AsksFormat, TookPiece}
 use Rattle.dfu_device_c.specs.declared.config.DfuConfig.{DfuConfig}
-use Rattle.dfu_device_c.specs.Config.{grain_of, IsConfig}
+use Rattle.dfu_device_c.specs.Config.{config_grain, IsConfig}
 use Rattle.dfu_device_c.specs.Mode.{blank}
 use Rattle.dfu_device_c.specs.declared.ask.DfuAsk.{DfuAsk}
 use Rattle.dfu_device_c.specs.declared.record.DfuRecord.{DfuRecord}
 use Rattle.dfu_device_c.specs.Formatting.{IsFormatting}
-use Rattle.dfu_device_c.specs.Writes.{step_of}
+use Rattle.dfu_device_c.specs.Writes.{ask_step}
 use Rattle.dfu_device_c.specs.Numbers.{ASKS, NO_CONFIG, NO_DEVICE, NO_MEDIUM, format_number}
 
 -- A format began: the record is one that asks for its first write. All that the record does not need for this is 0.
@@ -35,7 +35,7 @@ abbrev pub IsNoStart : DfuConfig → List ℕ → List ℕ → ℤ → Type 0
 IsNoStart c flash image result = ((result ≡ NO_CONFIG) × ¬ IsConfig c)
     ⊎ ((result ≡ NO_MEDIUM) × IsConfig c × (2 ^ 32 ≤ length flash))
     ⊎ ((f : FormatFault) × (f ≢ fault.Failed) × (result ≡ format_number f) × IsConfig c × (length flash < 2 ^ 32)
-    × IsFormatFault f (mapped (grain_of c) flash) image)
+    × IsFormatFault f (mapped (config_grain c) flash) image)
 
 -- The next write of a format was handed out. It lies within the flash, whatever the record holds.
 pub record HandsFormat (c : DfuConfig) (r : DfuRecord) (flash image : List ℕ) (result : ℤ) (ask : DfuAsk) : Type 0 where
@@ -44,10 +44,10 @@ pub record HandsFormat (c : DfuConfig) (r : DfuRecord) (flash image : List ℕ) 
   pub formatting : Formatting
   pub is : IsFormatting c r formatting
   pub kind : (ask.kind ≡ 1) ⊎ (ask.kind ≡ 2)
-  pub piece : IsPiece (steps_left formatting (length flash) image) formatting.done (step_of ask)
+  pub piece : IsPiece (steps_left formatting (length flash) image) formatting.done (ask_step ask)
   pub some : 0 < ask.length
   pub most : ask.kind ≡ 2 → ask.length ≤ 256
-  pub sector : IsSound c.sector (step_of ask)
+  pub sector : ErasesWhole c.sector (ask_step ask)
   pub within : ask.at + ask.length ≤ length flash
 
 -- There is no format: the configuration is not allowed; or else the record is none, or one for which this holds.

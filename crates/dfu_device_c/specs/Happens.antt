@@ -13,10 +13,10 @@ use Rattle.dfu_device_c.specs.Config.{setting_of, transfer_of}
 use Rattle.dfu_device_c.specs.Addressed.{addressed}
 use Rattle.dfu_device_c.specs.Kept.{with_memory}
 use Rattle.dfu_device_c.specs.Numbers.{reply_number, STALL, NOT_LONG}
-use Rattle.dfu_device_c.specs.Calls.{Goes, Replied, Passed, Went, Refuses, HasNoRoom, IsIntact}
-use Rattle.dfu_device_c.specs.Writes.{step_of, HandsOut, RefusesPiece, IsAtWork}
+use Rattle.dfu_device_c.specs.Calls.{Goes, Replied, TimePassed, Went, CoreRefuses, HasNoRoom, IsIntact}
+use Rattle.dfu_device_c.specs.Writes.{ask_step, HandsOut, RefusesPiece, AsksOnSomeFlash}
 use Rattle.dfu_device_c.specs.Power.{Powers}
-use Rattle.dfu_device_c.specs.Idle.{IsIdle, RefusesSetup}
+use Rattle.dfu_device_c.specs.Idle.{IsIdleRecord, RefusesSetup}
 use Rattle.dfu_device_c.specs.Verdict.{IsBodyOf}
 use Rattle.dfu_device_c.specs.AfterLong.{IsLong}
 use Rattle.dfu_device_c.specs.Long.{TakesLong}
@@ -35,16 +35,16 @@ Handled b setup body out n out' b' =
     Replied (IsIntact b.block b.flash a) before b.flash out
     (λ x sent d'. Handles (addressed b.config.interface setup) body (device_in before b.flash) x sent d') reply_number n
     (with_memory b'.block a') out')
-    ⊎ (Refuses b.config b.kept b.block b.flash n b'.kept b'.block × (out' ≡ out))
+    ⊎ (CoreRefuses b.config b.kept b.block b.flash n b'.kept b'.block × (out' ≡ out))
     ⊎ HasNoRoom (answer_room (setting_of b.config)) b.kept b.block out n b'.kept b'.block out'
 
 -- What the clause of dfu_core_elapse says, with so many milliseconds.
 abbrev pub Elapsed : CoreBoard → (ms : ℕ) → ℤ → CoreBoard → Type 0
 Elapsed b ms n b' =
     Goes b.config b.kept b.block b'.kept b'.block (λ a a'. let before = with_memory b.block a in
-    Passed (IsIntact b.block b.flash a) before b.flash
+    TimePassed (IsIntact b.block b.flash a) before b.flash
     (λ x sent d'. (x ≡ answer.Ack) × (sent ≡ []) × Elapses ms (device_in before b.flash) d') n (with_memory b'.block a'))
-    ⊎ Refuses b.config b.kept b.block b.flash n b'.kept b'.block
+    ⊎ CoreRefuses b.config b.kept b.block b.flash n b'.kept b'.block
 
 -- What the clause of dfu_core_usb_reset says.
 abbrev pub Reset : CoreBoard → ℤ → CoreBoard → Type 0
@@ -53,30 +53,30 @@ Reset b n b' =
     (a.work ≡ None) × (n ≡ pos 0) × (a'.work ≡ None)
     × (device_in (with_memory b'.block a') b.flash ≡ record before { stage = reset_stage before.stage })
     × (IsIntact b.block b.flash a → IsIntact b'.block b.flash a'))
-    ⊎ Refuses b.config b.kept b.block b.flash n b'.kept b'.block
+    ⊎ CoreRefuses b.config b.kept b.block b.flash n b'.kept b'.block
 
 -- What the clause of dfu_core_too_long says, with this setup.
 abbrev pub TookLong : CoreBoard → (setup : List ℕ) → ℤ → CoreBoard → Type 0
 TookLong b setup n b' =
     let own = addressed b.config.interface setup in
-    ((n ≡ STALL) × IsIdle b.config b.kept × IsLong b.config own × TakesLong b.config b.kept own b'.kept)
-    ⊎ ((b'.kept ≡ b.kept) × (((n ≡ NOT_LONG) × IsIdle b.config b.kept × ¬ IsLong b.config own) ⊎ RefusesSetup b.config b.kept n))
+    ((n ≡ STALL) × IsIdleRecord b.config b.kept × IsLong b.config own × TakesLong b.config b.kept own b'.kept)
+    ⊎ ((b'.kept ≡ b.kept) × (((n ≡ NOT_LONG) × IsIdleRecord b.config b.kept × ¬ IsLong b.config own) ⊎ RefusesSetup b.config b.kept n))
 
 -- What the clause of dfu_core_took says, with this number for a failure and this buffer.
 abbrev pub Told : CoreBoard → (failed : ℕ) (out : List ℕ) → ℤ → List ℕ → CoreBoard → Type 0
 Told b failed out n out' b' =
     Goes b.config b.kept b.block b'.kept b'.block
     (λ a a'. Went (with_memory b.block a) b.flash (not (failed == 0)) out n (with_memory b'.block a') out')
-    ⊎ (RefusesPiece b.config b.kept b.block (λ a. ¬ IsAtWork (with_memory b.block a)) n
+    ⊎ (RefusesPiece b.config b.kept b.block (λ a. ¬ AsksOnSomeFlash (with_memory b.block a)) n
     × (b'.kept ≡ b.kept) × (b'.block ≡ b.block) × (out' ≡ out))
     ⊎ HasNoRoom 6 b.kept b.block out n b'.kept b'.block out'
 
 -- The flash changes in the range of a write that dfu_core_next hands out, and nowhere else. Any bytes may stand there then: the write may
 -- be carried out, whole or in part, or fail, or lie.
-pub record IsWritten (b : CoreBoard) (n : ℤ) (b' : CoreBoard) : Type 0 where
+pub record CoreIsWritten (b : CoreBoard) (n : ℤ) (b' : CoreBoard) : Type 0 where
   pub ask : DfuAsk
   pub handed : HandsOut b.config b.kept b.block b.flash n ask
-  pub torn : Torn b.flash (step_of ask).write.at (step_of ask).write.bytes b'.flash
+  pub torn : Torn b.flash (ask_step ask).write.at (ask_step ask).write.bytes b'.flash
   pub config : b'.config ≡ b.config
   pub kept : b'.kept ≡ b.kept
   pub block : b'.block ≡ b.block
@@ -96,7 +96,7 @@ CoreHappens b (CoreTooLong setup body) n out' b' = IsCalled b b' × (b'.block �
 CoreHappens b (CoreRefuseClose setup status) n out' b' = IsCalled b b' × (b'.block ≡ b.block)
     × WasClosed b.config b.kept (addressed b.config.interface setup) status n b'.kept
 CoreHappens b (CoreRefuse status) n out' b' = IsCalled b b' × (b'.block ≡ b.block) × WasRefused b.config b.kept status n b'.kept
-CoreHappens b CoreWrite n out' b' = IsWritten b n b'
+CoreHappens b CoreWrite n out' b' = CoreIsWritten b n b'
 CoreHappens b (CoreTook failed out) n out' b' = IsCalled b b' × Told b failed out n out' b'
 CoreHappens b (CoreRestart begins) n out' b' = IsCalled b b' × Powers b.config (start_mode begins) b.flash n b'.kept
 

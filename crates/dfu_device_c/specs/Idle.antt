@@ -13,7 +13,7 @@ RefusesRecord c r result = ((result ≡ NO_CONFIG) × ¬ IsConfig c)
     ⊎ ((result ≡ NO_DEVICE) × IsConfig c × ((m : Mode) → ¬ HasMode r m))
 
 -- The configuration is allowed, and the record has a mode and no writes that are due.
-pub record IsIdle (c : DfuConfig) (r : DfuRecord) : Type 0 where
+pub record IsIdleRecord (c : DfuConfig) (r : DfuRecord) : Type 0 where
   pub config : IsConfig c
   pub mode : Mode
   pub has_mode : HasMode r mode

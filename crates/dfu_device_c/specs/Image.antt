@@ -5,10 +5,10 @@ use Rattle.dfu_slots.specs.Image.{Active, active_at, gate_of}
 use Rattle.dfu_asks.specs.Mapped.{mapped}
 use Rattle.dfu_device_c.specs.declared.config.DfuConfig.{DfuConfig}
 use Rattle.dfu_device_c.specs.declared.place.DfuPlace.{DfuPlace}
-use Rattle.dfu_device_c.specs.Config.{grain_of, IsConfig}
+use Rattle.dfu_device_c.specs.Config.{config_grain, IsConfig}
 
 -- The active image of this flash stands at this place, behind the gate and the header of its slot.
-pub record IsThere (grain : Grain) (flash : List ℕ) (place : DfuPlace) : Type 0 where
+pub record ImageIsAt (grain : Grain) (flash : List ℕ) (place : DfuPlace) : Type 0 where
   pub image : List ℕ
   pub active : Active (mapped grain flash) image
   pub size : length image ≡ place.length
@@ -17,7 +17,7 @@ pub record IsThere (grain : Grain) (flash : List ℕ) (place : DfuPlace) : Type 
   pub there : slice_range flash place.at (place.at + place.length) ≡ image
 
 -- So it does, and the number says so.
-pub record Stands (c : DfuConfig) (flash : List ℕ) (result : ℤ) (place : DfuPlace) : Type 0 where
+pub record ImageIsFound (c : DfuConfig) (flash : List ℕ) (result : ℤ) (place : DfuPlace) : Type 0 where
   pub number_is : result ≡ pos 0
   pub config : IsConfig c
-  pub there : IsThere (grain_of c) flash place
+  pub there : ImageIsAt (config_grain c) flash place

@@ -26,14 +26,14 @@ HasJob r (job.Commit spare generation register) =
     (r.work ≡ 2) × (spare ≡ r.spare) × (generation ≡ r.generation) × (register ≡ r.sum)
 
 -- This number is that of a GETSTATUS that waits, or of none.
-abbrev pub IsAsked : ℕ → Option ℕ → Type 0
-IsAsked n None = n ≡ 0
-IsAsked n (Some len) = (n ≡ len + 1) × (len < 2 ^ 16)
+abbrev pub IsAskedNumber : ℕ → Option ℕ → Type 0
+IsAskedNumber n None = n ≡ 0
+IsAskedNumber n (Some len) = (n ≡ len + 1) × (len < 2 ^ 16)
 
 -- The record has this work, or none.
 abbrev pub HasWork : DfuRecord → Option Work → Type 0
 HasWork r None = r.work ≡ 0
-HasWork r (Some w) = HasJob r w.job × IsAsked r.asked w.asked × (w.done ≡ r.done)
+HasWork r (Some w) = HasJob r w.job × IsAskedNumber r.asked w.asked × (w.done ≡ r.done)
 
 -- The record notes this of the active image.
 pub record HasNote (r : DfuRecord) (n : Noted) : Type 0 where
@@ -61,9 +61,9 @@ abbrev pub block_in : Asking → List ℕ → List ℕ
 block_in a memory = take a.config.functional.transfer memory
 
 -- And those behind them, for the bytes that are held back.
-abbrev pub held_in : Asking → List ℕ → List ℕ
-held_in a memory = drop a.config.functional.transfer memory
+abbrev pub held_back_in : Asking → List ℕ → List ℕ
+held_back_in a memory = drop a.config.functional.transfer memory
 
 -- The device with these bytes in the memory of its block.
 abbrev pub with_memory : List ℕ → Asking → LentAsking
-with_memory memory a = lent a (block_in a memory) (held_in a memory)
+with_memory memory a = lent a (block_in a memory) (held_back_in a memory)

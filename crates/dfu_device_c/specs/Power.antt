@@ -10,7 +10,7 @@ use Rattle.dfu_asks.specs.Mapped.{mapped}
 use Rattle.dfu_asks.specs.Asks.{device_in, IsDevice}
 use Rattle.dfu_device_c.specs.declared.config.DfuConfig.{DfuConfig}
 use Rattle.dfu_device_c.specs.declared.record.DfuRecord.{DfuRecord}
-use Rattle.dfu_device_c.specs.Config.{setting_of, grain_of, IsConfig}
+use Rattle.dfu_device_c.specs.Config.{setting_of, config_grain, IsConfig}
 use Rattle.dfu_device_c.specs.Mode.{blank}
 use Rattle.dfu_device_c.specs.Kept.{IsKept, with_memory}
 use Rattle.dfu_device_c.specs.Numbers.{NO_CONFIG, NO_MEDIUM}
@@ -30,10 +30,10 @@ pub record Powers (c : DfuConfig) (mode : Mode) (flash : List ℕ) (result : ℤ
   pub work : after.work ≡ None
   pub device : (block : List ℕ) → IsDevice (with_memory block after) flash
   pub shows : (block : List ℕ) → device_in (with_memory block after) flash
-      ≡ record (powered_on (setting_of c) (mapped (grain_of c) flash)) { stage = stage_of mode [] [] }
+      ≡ record (powered_on (setting_of c) (mapped (config_grain c) flash)) { stage = stage_of mode [] [] }
   pub rest : r' ≡ record blank { mode = r'.mode; slot = r'.slot; header = r'.header }
 
 -- No device got power: the configuration is not allowed, or else the flash has no image.
 abbrev pub RefusesPower : DfuConfig → List ℕ → ℤ → Type 0
 RefusesPower c flash result = ((result ≡ NO_CONFIG) × ¬ IsConfig c)
-    ⊎ ((result ≡ NO_MEDIUM) × IsConfig c × IsNoMedium (grain_of c) flash)
+    ⊎ ((result ≡ NO_MEDIUM) × IsConfig c × IsNoMedium (config_grain c) flash)

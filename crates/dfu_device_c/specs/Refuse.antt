@@ -11,7 +11,7 @@ use Rattle.dfu_asks.specs.declared.asking.Asking.{Asking}
 use Rattle.dfu_asks.specs.Asks.{device_in, IsDevice}
 use Rattle.dfu_device_c.specs.declared.config.DfuConfig.{DfuConfig}
 use Rattle.dfu_device_c.specs.declared.record.DfuRecord.{DfuRecord}
-use Rattle.dfu_device_c.specs.Idle.{IsIdle, RefusesSetup}
+use Rattle.dfu_device_c.specs.Idle.{IsIdleRecord, RefusesSetup}
 use Rattle.dfu_device_c.specs.Kept.{IsKept, with_memory}
 use Rattle.dfu_device_c.specs.Numbers.{STALL, NO_CLOSE, NO_STATUS}
 
@@ -20,8 +20,8 @@ abbrev pub objection_in : ℕ → Objection
 objection_in status = if status == 1 then Target else File
 
 -- The status is that of an objection: errTARGET or errFILE.
-abbrev pub Objects : ℕ → Type 0
-Objects status = code_byte (objection_code (objection_in status)) ≡ status
+abbrev pub IsObjection : ℕ → Type 0
+IsObjection status = code_byte (objection_code (objection_in status)) ≡ status
 
 -- A device that the record was is now the one that the row of this cause makes of it, with this answer without bytes and with a block as
 -- long as before.
@@ -37,16 +37,16 @@ ClosesNone c r setup = (a : Asking) → IsKept c r a → (block flash : List ℕ
 
 -- Refused as dfu_core_would_stall; or else the status is of no objection.
 abbrev pub RefusesStatus : DfuConfig → DfuRecord → ℕ → ℤ → Type 0
-RefusesStatus c r status result = ((result ≡ NO_STATUS) × IsIdle c r × ¬ Objects status) ⊎ RefusesSetup c r result
+RefusesStatus c r status result = ((result ≡ NO_STATUS) × IsIdleRecord c r × ¬ IsObjection status) ⊎ RefusesSetup c r result
 
 -- What comes of dfu_core_refuse.
 abbrev pub WasRefused : DfuConfig → DfuRecord → ℕ → ℤ → DfuRecord → Type 0
 WasRefused c r status result r' =
-    ((result ≡ pos 0) × IsIdle c r × Objects status × TakesCause c r (Refusing (objection_in status)) answer.Ack r')
+    ((result ≡ pos 0) × IsIdleRecord c r × IsObjection status × TakesCause c r (Refusing (objection_in status)) answer.Ack r')
     ⊎ ((r' ≡ r) × RefusesStatus c r status result)
 
 -- What comes of dfu_core_refuse_close, with a setup as the table of the device knows it.
 abbrev pub WasClosed : DfuConfig → DfuRecord → List ℕ → ℕ → ℤ → DfuRecord → Type 0
 WasClosed c r setup status result r' =
-    ((result ≡ STALL) × IsIdle c r × Objects status × TakesCause c r (RefusingClose setup (objection_in status)) answer.Stall r')
-    ⊎ ((r' ≡ r) × (((result ≡ NO_CLOSE) × IsIdle c r × Objects status × ClosesNone c r setup) ⊎ RefusesStatus c r status result))
+    ((result ≡ STALL) × IsIdleRecord c r × IsObjection status × TakesCause c r (RefusingClose setup (objection_in status)) answer.Stall r')
+    ⊎ ((r' ≡ r) × (((result ≡ NO_CLOSE) × IsIdleRecord c r × IsObjection status × ClosesNone c r setup) ⊎ RefusesStatus c r status result))

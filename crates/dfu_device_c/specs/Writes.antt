@@ -6,22 +6,22 @@ use Rattle.dfu_asks.specs.declared.asking.Asking.{Asking}
 use Rattle.dfu_asks.specs.declared.work.Work.{Work}
 use Rattle.dfu_asks.specs.Mapped.{grain_of, mapped, IsInSpare}
 use Rattle.dfu_asks.specs.Steps.{Step}
-use Rattle.dfu_asks.specs.Carried.{IsPiece, IsSound}
+use Rattle.dfu_asks.specs.Carried.{IsPiece, ErasesWhole}
 use Rattle.dfu_asks.specs.Asks.{steps_in}
 use Rattle.dfu_asks.specs.Lent.{LentAsking}
-use Rattle.dfu_asks.specs.Calls.{Asks}
+use Rattle.dfu_asks.specs.Calls.{AsksWrites}
 use Rattle.dfu_device_c.specs.declared.ask.DfuAsk.{DfuAsk}
 use Rattle.dfu_device_c.specs.declared.config.DfuConfig.{DfuConfig}
 use Rattle.dfu_device_c.specs.declared.record.DfuRecord.{DfuRecord}
 use Rattle.dfu_device_c.specs.declared.refusal.Refusal.{Refusal}
-use Rattle.dfu_device_c.specs.Config.{block_size, IsConfig}
+use Rattle.dfu_device_c.specs.Config.{block_memory_size, IsConfig}
 use Rattle.dfu_device_c.specs.Kept.{IsKept, with_memory}
 use Rattle.dfu_device_c.specs.Calls.{IsUnfound}
 use Rattle.dfu_device_c.specs.Numbers.{refusal_number, NO_DEVICE}
 
 -- The step that is asked for: kind 1 erases so many bytes there, and any other programs these.
-abbrev pub step_of : DfuAsk → Step
-step_of ask = record {
+abbrev pub ask_step : DfuAsk → Step
+ask_step ask = record {
   erases = ask.kind == 1;
   write = record { at = ask.at; bytes = if ask.kind == 1 then replicate ask.length 255 else take ask.length ask.bytes };
 }
@@ -30,33 +30,33 @@ step_of ask = record {
 pub record HandsOut (c : DfuConfig) (r : DfuRecord) (block flash : List ℕ) (result : ℤ) (ask : DfuAsk) : Type 0 where
   pub number_is : result ≡ pos 0
   pub config : IsConfig c
-  pub room : block_size c ≤ length block
+  pub room : block_memory_size c ≤ length block
   pub asking : Asking
   pub is : IsKept c r asking
   pub work : Work
   pub work_is : asking.work ≡ Some work
   pub kind : (ask.kind ≡ 1) ⊎ (ask.kind ≡ 2)
-  pub piece : IsPiece (steps_in (with_memory block asking) work) work.done (step_of ask)
+  pub piece : IsPiece (steps_in (with_memory block asking) work) work.done (ask_step ask)
   pub some : 0 < ask.length
   pub most : ask.kind ≡ 2 → ask.length ≤ 256
-  pub sector : IsSound c.sector (step_of ask)
+  pub sector : ErasesWhole c.sector (ask_step ask)
   pub spare : (image : List ℕ) → Active (mapped (grain_of asking.unit asking.sector) flash) image
       → IsInSpare (mapped (grain_of asking.unit asking.sector) flash) ask.at ask.length
 
 -- It asks for the writes of a row, of which those before the next one are carried out on this flash.
 abbrev pub IsAsking : LentAsking → List ℕ → Type 0
-IsAsking a flash = (len : ℕ) × (s : SlotsState) × (was : List ℕ) × Asks a len s was flash
+IsAsking a flash = (len : ℕ) × (s : SlotsState) × (was : List ℕ) × AsksWrites a len s was flash
 
 -- No write is handed out: it does not ask for any on this flash, or the flash has 2^32 bytes or more.
-abbrev pub IsHeldBack : LentAsking → List ℕ → Type 0
-IsHeldBack a flash = ¬ IsAsking a flash ⊎ 2 ^ 32 ≤ length flash
+abbrev pub HandsNothing : LentAsking → List ℕ → Type 0
+HandsNothing a flash = ¬ IsAsking a flash ⊎ 2 ^ 32 ≤ length flash
 
 -- So it is on some flash.
-abbrev pub IsAtWork : LentAsking → Type 0
-IsAtWork a = (flash : List ℕ) × IsAsking a flash
+abbrev pub AsksOnSomeFlash : LentAsking → Type 0
+AsksOnSomeFlash a = (flash : List ℕ) × IsAsking a flash
 
 -- There is no device that asks; or else it is refused with DFU_NO_DEVICE, for this.
 pub data RefusesPiece (c : DfuConfig) (r : DfuRecord) (block : List ℕ) (Why : Asking → Type 0) (result : ℤ) : Type 0 where
   refuses_unfound : (e : Refusal) → result ≡ refusal_number e → IsUnfound e c r (length block) → RefusesPiece c r block Why result
-  refuses_piece : (a : Asking) → result ≡ NO_DEVICE → IsConfig c → block_size c ≤ length block → IsKept c r a → Why a
+  refuses_piece : (a : Asking) → result ≡ NO_DEVICE → IsConfig c → block_memory_size c ≤ length block → IsKept c r a → Why a
       → RefusesPiece c r block Why result

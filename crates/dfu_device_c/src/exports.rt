@@ -8,7 +8,7 @@ ghost use Rattle.dfu_device_c.specs.Config.{setting_of};
 ghost use Rattle.dfu_device_c.specs.Addressed.{addressed};
 ghost use Rattle.dfu_device_c.specs.Numbers.{refusal_of, reply_number, NO_ROOM};
 ghost use Rattle.dfu_device_c.specs.Kept.{with_memory};
-ghost use Rattle.dfu_device_c.specs.Calls.{Goes, Replied, Passed, Refuses, HasNoRoom, IsIntact};
+ghost use Rattle.dfu_device_c.specs.Calls.{Goes, Replied, TimePassed, CoreRefuses, HasNoRoom, IsIntact};
 
 use crate::addressed::addressed;
 use crate::config::DfuConfig;
@@ -48,7 +48,7 @@ pub extern "C" fn dfu_core_handle(
         (λ a a'. let before = with_memory block.old a in Replied (IsIntact block.old flash.now a) before flash.now out.old
         (λ x sent d'. Handles (addressed config.now.interface setup.now) body.now (device_in before flash.now) x sent d') reply_number result
         (with_memory block.new a') out.new)
-        ⊎ (Refuses config.now device.old block.old flash.now result device.new block.new × (out.new ≡ out.old))
+        ⊎ (CoreRefuses config.now device.old block.old flash.now result device.new block.new × (out.new ≡ out.old))
         ⊎ HasNoRoom (answer_room (setting_of config.now)) device.old block.old out.old result device.new block.new out.new }
     ensures short { length out.old < answer_room (setting_of config.now) → result ≡ NO_ROOM }
 {
@@ -86,10 +86,10 @@ pub extern "C" fn dfu_core_elapse(
     ms: u32,
 ) -> i32
     ensures outcome { Goes config.now device.old block.old device.new block.new
-        (λ a a'. let before = with_memory block.old a in Passed (IsIntact block.old flash.now a) before flash.now
+        (λ a a'. let before = with_memory block.old a in TimePassed (IsIntact block.old flash.now a) before flash.now
         (λ x sent d'. (x ≡ Answer.Ack) × (sent ≡ []) × Elapses ms (device_in before flash.now) d') result
         (with_memory block.new a'))
-        ⊎ Refuses config.now device.old block.old flash.now result device.new block.new }
+        ⊎ CoreRefuses config.now device.old block.old flash.now result device.new block.new }
 {
     let mut read = Err(Refusal::NoDevice);
     found(config, device, block.len(), &mut read);
@@ -123,7 +123,7 @@ pub extern "C" fn dfu_core_usb_reset(
         (λ a a'. let before = device_in (with_memory block.old a) flash.now in (a.work ≡ None) × (result ≡ pos 0) × (a'.work ≡ None)
         × (device_in (with_memory block.new a') flash.now ≡ record before { stage = reset_stage before.stage })
         × (IsIntact block.old flash.now a → IsIntact block.new flash.now a'))
-        ⊎ Refuses config.now device.old block.old flash.now result device.new block.new }
+        ⊎ CoreRefuses config.now device.old block.old flash.now result device.new block.new }
 {
     let mut read = Err(Refusal::NoDevice);
     found(config, device, block.len(), &mut read);

@@ -4,7 +4,7 @@ ghost use Rattle.dfu_device.specs.declared.mode.Mode.{Mode as KeptMode};
 ghost use Rattle.dfu_device_c.specs.Config.{IsConfig};
 ghost use Rattle.dfu_device_c.specs.Mode.{HasMode};
 ghost use Rattle.dfu_device_c.specs.Numbers.{refusal_number};
-ghost use Rattle.dfu_device_c.specs.Idle.{IsIdle, RefusesRecord, RefusesSetup};
+ghost use Rattle.dfu_device_c.specs.Idle.{IsIdleRecord, RefusesRecord, RefusesSetup};
 
 use crate::config::{DfuConfig, is_allowed};
 use crate::mode::mode_of;
@@ -31,7 +31,7 @@ pub(crate) fn mode_in(config: &DfuConfig, kept: &DfuRecord) -> Result<Mode, Refu
 /// The same, if no writes are due either.
 pub(crate) fn idle_mode(config: &DfuConfig, kept: &DfuRecord) -> Result<Mode, Refusal>
     ensures only { IfOk result (λ m. (x : KeptMode) → HasMode kept.now x → m ≡ x) }
-    ensures idle { OnOk result (IsIdle config.now kept.now) }
+    ensures idle { OnOk result (IsIdleRecord config.now kept.now) }
     ensures err { IfErr result (λ e. RefusesSetup config.now kept.now (refusal_number e)) }
 {
     let mode = mode_in(config, kept)?;

@@ -1,7 +1,7 @@
 //! Where the image stands that a program is to run.
 ghost use Rattle.std.specs.Prelude.{◌≡◌, ◌⊎◌, ◌/◌, ◌≤◌, IfSome, IfNone, if◌then◌else◌};
 ghost use Rattle.dfu_device_c.specs.Power.{IsNoMedium, RefusesPower};
-ghost use Rattle.dfu_device_c.specs.Image.{IsThere, Stands};
+ghost use Rattle.dfu_device_c.specs.Image.{ImageIsAt, ImageIsFound};
 
 use crate::config::{DfuConfig, gate_of, settings_of};
 use crate::place::DfuPlace;
@@ -18,7 +18,7 @@ fn slot_at(second: bool, size: usize) -> usize
 
 // Where the active image stands in this flash, if there is one.
 fn find(unit: Unit, sector: Sector, flash: &[u8]) -> Option<DfuPlace>
-    ensures some { IfSome result (λ place. IsThere (record { unit = unit; sector = sector.size }) flash.now place) }
+    ensures some { IfSome result (λ place. ImageIsAt (record { unit = unit; sector = sector.size }) flash.now place) }
     ensures none { IfNone result (IsNoMedium (record { unit = unit; sector = sector.size }) flash.now) }
 {
     if flash.len() > 0xffff_ffff {
@@ -37,7 +37,7 @@ fn find(unit: Unit, sector: Sector, flash: &[u8]) -> Option<DfuPlace>
 /// Refused as `dfu_core_power_on`.
 #[unsafe(no_mangle)]
 pub extern "C" fn dfu_core_image(config: &DfuConfig, flash: &[u8], place: &mut DfuPlace) -> i32
-    ensures outcome { Stands config.now flash.now result place.new
+    ensures outcome { ImageIsFound config.now flash.now result place.new
         ⊎ (RefusesPower config.now flash.now result × (place.new ≡ place.old)) }
 {
     let Some(settings) = settings_of(config) else {

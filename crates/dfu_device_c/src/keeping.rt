@@ -3,7 +3,7 @@ ghost use Rattle.std.specs.Prelude.{◌≡◌, ◌≤◌, ◌<◌, IfOk, IfErr, 
 ghost use Rattle.dfu_asks.specs.declared.asking.Asking.{Asking as Device};
 ghost use Rattle.dfu_asks.specs.declared.noted.Noted.{Noted as Note};
 ghost use Rattle.dfu_device_c.specs.declared.config.DfuConfig.{DfuConfig as Given};
-ghost use Rattle.dfu_device_c.specs.Config.{block_size, IsConfig};
+ghost use Rattle.dfu_device_c.specs.Config.{block_memory_size, IsConfig};
 ghost use Rattle.dfu_device_c.specs.Kept.{IsFlag, IsKept, IsSetUp, HasNote};
 ghost use Rattle.dfu_device_c.specs.Calls.{IsUnfound};
 
@@ -71,7 +71,7 @@ pub(crate) fn found(
 )
     ensures ok { IfOk read.new (λ a. IsKept config.now kept.now a) }
     ensures config { OnOk read.new (IsConfig config.now) }
-    ensures room { OnOk read.new (block_size config.now ≤ room) }
+    ensures room { OnOk read.new (block_memory_size config.now ≤ room) }
     ensures err { IfErr read.new (λ e. IsUnfound e config.now kept.now room) }
 {
     if kept.work == WORK {

@@ -5,7 +5,7 @@ ghost use Rattle.dfu_device_c.specs.Addressed.{addressed};
 ghost use Rattle.dfu_device_c.specs.Numbers.{STALL, NOT_LONG};
 ghost use Rattle.dfu_device_c.specs.AfterLong.{after_long, IsLong};
 ghost use Rattle.dfu_device_c.specs.Long.{TakesLong};
-ghost use Rattle.dfu_device_c.specs.Idle.{IsIdle, RefusesSetup};
+ghost use Rattle.dfu_device_c.specs.Idle.{IsIdleRecord, RefusesSetup};
 
 use crate::addressed::addressed;
 use crate::config::DfuConfig;
@@ -46,8 +46,8 @@ pub extern "C" fn dfu_core_too_long(
     setup: &[u8; 8],
 ) -> i32
     ensures outcome { let own = addressed config.now.interface setup.now in
-        ((result ≡ STALL) × IsIdle config.now device.old × IsLong config.now own × TakesLong config.now device.old own device.new)
-        ⊎ ((device.new ≡ device.old) × (((result ≡ NOT_LONG) × IsIdle config.now device.old × ¬ IsLong config.now own)
+        ((result ≡ STALL) × IsIdleRecord config.now device.old × IsLong config.now own × TakesLong config.now device.old own device.new)
+        ⊎ ((device.new ≡ device.old) × (((result ≡ NOT_LONG) × IsIdleRecord config.now device.old × ¬ IsLong config.now own)
         ⊎ RefusesSetup config.now device.old result)) }
 {
     let mode = match idle_mode(config, device) {

@@ -1,7 +1,7 @@
 //! The program refuses an image: the record alone is needed.
 ghost use Rattle.std.specs.Prelude.{◌≡◌, IfSome, IfNone};
 ghost use Rattle.dfu_device_c.specs.Addressed.{addressed};
-ghost use Rattle.dfu_device_c.specs.Refuse.{objection_in, Objects, WasRefused, WasClosed};
+ghost use Rattle.dfu_device_c.specs.Refuse.{objection_in, IsObjection, WasRefused, WasClosed};
 
 use crate::addressed::addressed;
 use crate::config::DfuConfig;
@@ -12,8 +12,8 @@ use dfu_device::{Mode, Objection, is_close};
 
 // The objection of a status, which is errTARGET or errFILE.
 fn objection_of(status: u32) -> Option<Objection>
-    ensures some { IfSome result (λ why. (why ≡ objection_in status) × Objects status) }
-    ensures none { IfNone result (¬ Objects status) }
+    ensures some { IfSome result (λ why. (why ≡ objection_in status) × IsObjection status) }
+    ensures none { IfNone result (¬ IsObjection status) }
 {
     match status {
         1 => Some(Objection::Target),

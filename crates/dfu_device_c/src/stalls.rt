@@ -9,7 +9,7 @@ ghost use Rattle.dfu_slots.specs.Units.{gate_room};
 ghost use Rattle.dfu_device_c.specs.Addressed.{addressed};
 ghost use Rattle.dfu_device_c.specs.Verdict.{verdict};
 ghost use Rattle.dfu_device_c.specs.Stalls.{ToldStall};
-ghost use Rattle.dfu_device_c.specs.Idle.{IsIdle, RefusesSetup};
+ghost use Rattle.dfu_device_c.specs.Idle.{IsIdleRecord, RefusesSetup};
 
 use crate::addressed::addressed;
 use crate::config::{DfuConfig, functional_of, gate_of, unit_of};
@@ -58,7 +58,7 @@ pub extern "C" fn dfu_core_would_stall(
     size: usize,
     setup: &[u8; 8],
 ) -> i32
-    ensures outcome { (((result ≡ pos 0) ⊎ (result ≡ pos 1)) × IsIdle config.now device.now
+    ensures outcome { (((result ≡ pos 0) ⊎ (result ≡ pos 1)) × IsIdleRecord config.now device.now
         × ToldStall config.now device.now size (addressed config.now.interface setup.now) result)
         ⊎ RefusesSetup config.now device.now result }
 {

@@ -1,10 +1,10 @@
 //! Each call is a step of a board in C. Each function makes the call of its name and nothing else; its contract says which step that is,
 //! from the call's contract alone.
 ghost use Rattle.std.specs.Prelude.{◌≡◌, ◌⊎◌, ◌≤◌, true, false, ℕ, List, [], length, pos};
-ghost use Rattle.dfu_device_c.specs.Board.{CoreHandle, CoreElapse, CoreReset, CoreTooLong, CoreRefuseClose, CoreRefuse, CoreWrite, CoreTook, CoreRestart, board};
+ghost use Rattle.dfu_device_c.specs.Board.{CoreHandle, CoreElapse, CoreReset, CoreTooLong, CoreRefuseClose, CoreRefuse, CoreWrite, CoreTook, CoreRestart, core_board};
 ghost use Rattle.dfu_device_c.specs.Happens.{CoreHappens, IsCoreOn};
 ghost use Rattle.dfu_slots.specs.Medium.{Torn};
-ghost use Rattle.dfu_device_c.specs.Writes.{step_of};
+ghost use Rattle.dfu_device_c.specs.Writes.{ask_step};
 ghost use Rattle.dfu_device_c.specs.Config.{transfer_of};
 ghost use Rattle.dfu_device_c.specs.Addressed.{addressed};
 ghost use Rattle.dfu_device_c.specs.Verdict.{IsBodyOf};
@@ -30,8 +30,8 @@ pub fn handle(
     body: &[u8],
     out: &mut [u8],
 ) -> i32
-    ensures step { CoreHappens (board config.now device.old block.old flash.now) (CoreHandle setup.now body.now out.old) result out.new
-        (board config.now device.new block.new flash.now) }
+    ensures step { CoreHappens (core_board config.now device.old block.old flash.now) (CoreHandle setup.now body.now out.old) result out.new
+        (core_board config.now device.new block.new flash.now) }
 {
     dfu_core_handle(config, device, block, flash, setup, body, out)
 }
@@ -44,16 +44,16 @@ pub fn elapse(
     flash: &[u8],
     ms: u32,
 ) -> i32
-    ensures step { CoreHappens (board config.now device.old block.old flash.now) (CoreElapse ms) result []
-        (board config.now device.new block.new flash.now) }
+    ensures step { CoreHappens (core_board config.now device.old block.old flash.now) (CoreElapse ms) result []
+        (core_board config.now device.new block.new flash.now) }
 {
     dfu_core_elapse(config, device, block, flash, ms)
 }
 
 /// `dfu_core_usb_reset` is a step of a board in C.
 pub fn usb_reset(config: &DfuConfig, device: &mut DfuRecord, block: &mut [u8], flash: &[u8]) -> i32
-    ensures step { CoreHappens (board config.now device.old block.old flash.now) CoreReset result []
-        (board config.now device.new block.new flash.now) }
+    ensures step { CoreHappens (core_board config.now device.old block.old flash.now) CoreReset result []
+        (core_board config.now device.new block.new flash.now) }
 {
     dfu_core_usb_reset(config, device, block, flash)
 }
@@ -66,9 +66,9 @@ pub fn next(
     flash: &[u8],
     ask: &mut DfuAsk,
 ) -> i32
-    ensures step { result ≡ pos 0 → (now : List ℕ) → Torn flash.now (step_of ask.new).write.at (step_of ask.new).write.bytes now →
-        CoreHappens (board config.now device.now block.now flash.now) CoreWrite result []
-        (board config.now device.now block.now now) }
+    ensures step { result ≡ pos 0 → (now : List ℕ) → Torn flash.now (ask_step ask.new).write.at (ask_step ask.new).write.bytes now →
+        CoreHappens (core_board config.now device.now block.now flash.now) CoreWrite result []
+        (core_board config.now device.now block.now now) }
 {
     dfu_core_next(config, device, block, flash, ask)
 }
@@ -82,8 +82,8 @@ pub fn took(
     failed: u32,
     out: &mut [u8],
 ) -> i32
-    ensures step { CoreHappens (board config.now device.old block.old flash.now) (CoreTook failed out.old) result out.new
-        (board config.now device.new block.new flash.now) }
+    ensures step { CoreHappens (core_board config.now device.old block.old flash.now) (CoreTook failed out.old) result out.new
+        (core_board config.now device.new block.new flash.now) }
 {
     dfu_core_took(config, device, block, flash, failed, out)
 }
@@ -92,7 +92,8 @@ pub fn took(
 pub fn too_long(config: &DfuConfig, device: &mut DfuRecord, setup: &[u8; 8]) -> i32
     ensures step { (block flash body : List ℕ) → transfer_of config.now ≤ length block →
         IsBodyOf (addressed config.now.interface setup.now) body →
-        CoreHappens (board config.now device.old block flash) (CoreTooLong setup.now body) result [] (board config.now device.new block flash) }
+        CoreHappens (core_board config.now device.old block flash) (CoreTooLong setup.now body) result []
+        (core_board config.now device.new block flash) }
 {
     dfu_core_too_long(config, device, setup)
 }
@@ -100,16 +101,16 @@ pub fn too_long(config: &DfuConfig, device: &mut DfuRecord, setup: &[u8; 8]) -> 
 /// `dfu_core_refuse_close` is a step of a board in C, whatever is in the memory of its block and on its flash.
 pub fn refuse_close(config: &DfuConfig, device: &mut DfuRecord, setup: &[u8; 8], status: u32) -> i32
     ensures step { (block flash : List ℕ) →
-        CoreHappens (board config.now device.old block flash) (CoreRefuseClose setup.now status) result []
-        (board config.now device.new block flash) }
+        CoreHappens (core_board config.now device.old block flash) (CoreRefuseClose setup.now status) result []
+        (core_board config.now device.new block flash) }
 {
     dfu_core_refuse_close(config, device, setup, status)
 }
 
 /// `dfu_core_refuse` is a step of a board in C, whatever is in the memory of its block and on its flash.
 pub fn refuse(config: &DfuConfig, device: &mut DfuRecord, status: u32) -> i32
-    ensures step { (block flash : List ℕ) → CoreHappens (board config.now device.old block flash) (CoreRefuse status) result []
-        (board config.now device.new block flash) }
+    ensures step { (block flash : List ℕ) → CoreHappens (core_board config.now device.old block flash) (CoreRefuse status) result []
+        (core_board config.now device.new block flash) }
 {
     dfu_core_refuse(config, device, status)
 }
@@ -120,8 +121,9 @@ pub fn power_on(config: &DfuConfig, device: &mut DfuRecord, flash: &[u8]) -> i32
     ensures outcome { Powers config.now AppIdle flash.now result device.new
         ⊎ (RefusesPower config.now flash.now result × (device.new ≡ device.old)) }
     ensures step { result ≡ pos 0 → (kept : DfuRecord) (before block : List ℕ) →
-        CoreHappens (board config.now kept before flash.now) (CoreRestart false) result [] (board config.now device.new block flash.now) }
-    ensures on { result ≡ pos 0 → (block : List ℕ) → IsCoreOn (board config.now device.new block flash.now) }
+        CoreHappens (core_board config.now kept before flash.now) (CoreRestart false) result []
+        (core_board config.now device.new block flash.now) }
+    ensures on { result ≡ pos 0 → (block : List ℕ) → IsCoreOn (core_board config.now device.new block flash.now) }
 {
     dfu_core_power_on(config, device, flash)
 }
@@ -131,8 +133,9 @@ pub fn begin(config: &DfuConfig, device: &mut DfuRecord, flash: &[u8]) -> i32
     ensures outcome { Powers config.now DfuIdle flash.now result device.new
         ⊎ (RefusesPower config.now flash.now result × (device.new ≡ device.old)) }
     ensures step { result ≡ pos 0 → (kept : DfuRecord) (before block : List ℕ) →
-        CoreHappens (board config.now kept before flash.now) (CoreRestart true) result [] (board config.now device.new block flash.now) }
-    ensures on { result ≡ pos 0 → (block : List ℕ) → IsCoreOn (board config.now device.new block flash.now) }
+        CoreHappens (core_board config.now kept before flash.now) (CoreRestart true) result []
+        (core_board config.now device.new block flash.now) }
+    ensures on { result ≡ pos 0 → (block : List ℕ) → IsCoreOn (core_board config.now device.new block flash.now) }
 {
     dfu_core_begin(config, device, flash)
 }

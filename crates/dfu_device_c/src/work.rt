@@ -2,15 +2,15 @@
 ghost use Rattle.std.specs.Prelude.{◌≡◌, ℕ, Bool, IfSome, Option, Some};
 ghost use Rattle.dfu_asks.specs.declared.work.Work.{Work as Due};
 ghost use Rattle.dfu_asks.specs.declared.job.Job.{Job as Series};
-ghost use Rattle.dfu_device_c.specs.Kept.{IsFlag, HasJob, IsAsked, HasWork};
+ghost use Rattle.dfu_device_c.specs.Kept.{IsFlag, HasJob, IsAskedNumber, HasWork};
 
 use crate::record::DfuRecord;
 use dfu_asks::{Job, Work};
 
 // wLength of the GETSTATUS that waits by this number, if one does; none if the number is no such.
 fn asked_of(number: u32) -> Option<Option<u16>>
-    ensures some { IfSome result (λ asked. IsAsked number asked) }
-    ensures only { (asked : Option ℕ) → IsAsked number asked → result ≡ Some asked }
+    ensures some { IfSome result (λ asked. IsAskedNumber number asked) }
+    ensures only { (asked : Option ℕ) → IsAskedNumber number asked → result ≡ Some asked }
 {
     match number {
         0 => Some(None),

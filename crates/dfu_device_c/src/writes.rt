@@ -4,7 +4,7 @@ ghost use Rattle.dfu_device_c.specs.Calls.{Goes, Went, HasNoRoom};
 ghost use Rattle.dfu_device_c.specs.Numbers.{NO_ROOM};
 ghost use Rattle.dfu_device_c.specs.Config.{transfer_of};
 ghost use Rattle.dfu_device_c.specs.Kept.{with_memory};
-ghost use Rattle.dfu_device_c.specs.Writes.{HandsOut, RefusesPiece, IsHeldBack, IsAtWork};
+ghost use Rattle.dfu_device_c.specs.Writes.{HandsOut, RefusesPiece, HandsNothing, AsksOnSomeFlash};
 
 use crate::ask::DfuAsk;
 use crate::config::DfuConfig;
@@ -38,7 +38,7 @@ pub extern "C" fn dfu_core_next(
     ask: &mut DfuAsk,
 ) -> i32
     ensures outcome { HandsOut config.now device.now block.now flash.now result ask.new
-        ⊎ (RefusesPiece config.now device.now block.now (λ a. IsHeldBack (with_memory block.now a) flash.now) result
+        ⊎ (RefusesPiece config.now device.now block.now (λ a. HandsNothing (with_memory block.now a) flash.now) result
         × (ask.new ≡ ask.old)) }
 {
     let mut read = Err(Refusal::NoDevice);
@@ -76,7 +76,7 @@ pub extern "C" fn dfu_core_took(
     ensures outcome { Goes config.now device.old block.old device.new block.new
         (λ a a'. Went (with_memory block.old a) flash.now (not (failed == 0)) out.old result (with_memory block.new a')
         out.new)
-        ⊎ (RefusesPiece config.now device.old block.old (λ a. ¬ IsAtWork (with_memory block.old a)) result
+        ⊎ (RefusesPiece config.now device.old block.old (λ a. ¬ AsksOnSomeFlash (with_memory block.old a)) result
         × (device.new ≡ device.old) × (block.new ≡ block.old) × (out.new ≡ out.old))
         ⊎ HasNoRoom 6 device.old block.old out.old result device.new block.new out.new }
     ensures block { take (transfer_of config.now) block.new ≡ take (transfer_of config.now) block.old }

@@ -1,6 +1,13 @@
-//! Tests of dfu_device, by its public calls alone. They stand in a crate of their own, since the gate proves a crate with
-//! tests twice.
+//! Tests of dfu_device, dfu_asks, dfu_slots, dfu_trial and dfu_install, by their public calls alone.
 #![tactic(auto)]
 
 #[cfg(test)]
-mod tests;
+mod asks;
+#[cfg(test)]
+mod device;
+#[cfg(test)]
+mod install;
+#[cfg(test)]
+mod slots;
+#[cfg(test)]
+mod trial;

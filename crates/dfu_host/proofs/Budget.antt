@@ -6,9 +6,9 @@ use Rattle.dfu_host.specs.declared.report.Report.TheVariants.{Unconfirmed}
 use Rattle.dfu_host.specs.declared.seen.Seen.{Seen}
 use Rattle.dfu_host.specs.Phases.{Task, Phase, Enter, Last, Over, OverUploaded, GiveUp, Find, Deed, Send, Wait, Reset, Done, Heard, WasReset, Restarted, Left}
 use Rattle.dfu_host.specs.BehindClose.{is_behind_close}
-use Rattle.dfu_host.specs.Table.{deed, row}
+use Rattle.dfu_host.specs.Table.{deed, host_row}
 use Rattle.dfu_host.specs.Wire.{Spells}
-use Rattle.dfu_host.specs.Host.{HostState, IsOver, budgeted, restarted, left_by, told, after_phase, Act, HostRow, HostRows, seen_all, sees}
+use Rattle.dfu_host.specs.Host.{HostState, IsOver, budgeted, restarted, left_by, host_heard, after_phase, Act, HostRow, HostRows, seen_all, sees}
 use Rattle.dfu_host.specs.Budget.{takes_in, takes_left, is_done, DoneInTime, StaysDone}
 
 over_stays : (h : HostState) (phase : Phase) (heard : Heard) → IsOver phase → after_phase h phase heard ≡ h
@@ -41,13 +41,13 @@ takes_restarted h phase zero = omega arith
 takes_restarted h phase (suc restarts) = takes_spent (pred h.actions) Find
 
 takes_left_by : (h : HostState) (phase : Phase) (behind : Bool) → takes_left (left_by h phase behind) ≤ pred h.actions
-takes_left_by h phase true = takes_spent (pred h.actions) (row h.task (Last Unconfirmed) WasReset)
+takes_left_by h phase true = takes_spent (pred h.actions) (host_row h.task (Last Unconfirmed) WasReset)
 takes_left_by h phase false = takes_restarted h phase h.restarts
 
-takes_told : (h : HostState) (phase : Phase) (heard : Heard) → takes_left (told h phase heard) ≤ pred h.actions
+takes_told : (h : HostState) (phase : Phase) (heard : Heard) → takes_left (host_heard h phase heard) ≤ pred h.actions
 takes_told h phase Restarted = takes_restarted h phase h.restarts
 takes_told h phase Left = takes_left_by h phase (is_behind_close h.task.goal phase)
-takes_told h phase heard = takes_spent (pred h.actions) (row h.task phase heard)
+takes_told h phase heard = takes_spent (pred h.actions) (host_row h.task phase heard)
 
 takes_after : (h : HostState) (phase : Phase) (heard : Heard) → takes_in phase h.actions ≡ takes_left h
     → takes_left (after_phase h phase heard) ≤ pred (takes_in phase h.actions)

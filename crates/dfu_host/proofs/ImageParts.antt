@@ -9,7 +9,7 @@ use Rattle.dfu_host.specs.declared.heard.Heard.TheVariants as heard
 use Rattle.dfu_host.specs.declared.seen.Seen.{Seen}
 use Rattle.dfu_host.specs.declared.seen.Seen.TheVariants as seen
 use Rattle.dfu_host.specs.Table as table
-use Rattle.dfu_host.specs.Wire.{Hears, NeedsRoom, Reads}
+use Rattle.dfu_host.specs.Wire.{Hears, NeedsRoom, ReadsAnswer}
 use Rattle.dfu_host.specs.Host.{HostState, after, wants_memory}
 use Rattle.dfu_host.specs.Uploading.{TakesPart}
 use Rattle.dfu_host.specs.inside.HeardParts.{RefusedRoom}
@@ -30,7 +30,7 @@ fetches (goal.Compare payload) is = elim is [ ]
 -- What is heard of a part answers the UPLOAD that asked for it.
 pub reads_part : (t : Task) (k : ℕ) (part : List ℕ) (word : Heard) → k < 65535 → (word ≡ heard.Part (length part)) ⊎ (word ≡ heard.NoRoom)
     → RefusedRoom t (phase.Fetch k) part word
-    → Reads (request.Upload (k % 65536) t.transfer) part (heard_of part word)
+    → ReadsAnswer (request.Upload (k % 65536) t.transfer) part (heard_of part word)
 reads_part t k part word less (inl e) room = inl (ap (heard_of part) e)
 reads_part t k part word less (inr e) room =
     let needs : RefusedRoom t (phase.Fetch k) part heard.NoRoom = subst (RefusedRoom t (phase.Fetch k) part) e room in

@@ -4,10 +4,10 @@ use Rattle.std.proofs.Common.{◌⊎◌, ℕ, suc, nat_lt, ◌==◌, List, lengt
 use Rattle.dfu_host.specs.declared.report.Report.{Report}
 use Rattle.dfu_host.specs.declared.report.Report.TheVariants as report
 use Rattle.dfu_host.specs.Phases.{Goal, ToLoad, ToFetch, ToVerify, ToCompare, Task, Phase, Fetch, LastUploaded, Compare, Last, Over, OverUploaded, Heard, Part, NoRoom, WasReset}
-use Rattle.dfu_host.specs.Table.{start_of, on_reset, after_last, on_part, row}
+use Rattle.dfu_host.specs.Table.{work_start, on_reset, after_last, on_part, host_row}
 use Rattle.dfu_host.specs.CommonPhases.{IsDownloading, DownloadHolds}
 use Rattle.dfu_host.specs.RowLaws.{after_choice, after_compared, after_reset, after_download}
-use Rattle.dfu_host.specs.Installing.{IsInstalled, IsVerified, IsEnding, IsConfirmed, OnlyConfirmed, IsMatched, OnlyMatched}
+use Rattle.dfu_host.specs.Installing.{IsInstalled, IsVerified, IsEnding, ToldDfuIdle, OnlyConfirmed, IsMatched, OnlyMatched}
 
 -- A report that says of no payload that it is in place.
 abbrev IsOther : Report → Type 0
@@ -21,7 +21,7 @@ module _ (P : Report → Type 0) (none : (r : Report) → IsOther r → P r → 
   abbrev Plain : Phase → Type 0
   Plain phase = IsEnding P phase → ⊥
 
-  start_plain : (goal : Goal) → Plain (start_of goal)
+  start_plain : (goal : Goal) → Plain (work_start goal)
   start_plain (ToLoad payload) h = h
   start_plain ToFetch h = h
   start_plain (ToVerify payload) h = h
@@ -58,9 +58,9 @@ module _ (P : Report → Type 0) (none : (r : Report) → IsOther r → P r → 
   -- Such a report is told already, or comes as Installed where the device confirms it, or as Verified where the payload came back.
   abbrev Told : Phase → Heard → Type 0
   Told phase heard = (IsEnding P phase)
-      ⊎ ((P report.Installed × IsConfirmed task phase heard) ⊎ (P report.Verified × IsMatched task phase heard))
+      ⊎ ((P report.Installed × ToldDfuIdle task phase heard) ⊎ (P report.Verified × IsMatched task phase heard))
 
-  rows_only : (phase : Phase) (heard : Heard) → IsEnding P (row task phase heard) → Told phase heard
+  rows_only : (phase : Phase) (heard : Heard) → IsEnding P (host_row task phase heard) → Told phase heard
   rows_only (Compare k) heard h = after_compared task (λ next. IsEnding P next → Told (Compare k) heard) k heard (λ f. absurd f)
       (λ f. absurd (none report.Different tt f)) (λ f. absurd (none report.TooManyBlocks tt f)) (λ f. absurd f)
       (λ matched verified. inr (inr (verified, matched))) h

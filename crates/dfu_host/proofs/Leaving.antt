@@ -3,7 +3,7 @@ use Rattle.std.proofs.Common.{◌≡◌, pred, true, false, IsTrue, sym, ap, ◌
 use Rattle.dfu_host.specs.declared.report.Report.TheVariants as report
 use Rattle.dfu_host.specs.declared.seen.Seen.TheVariants as seen
 use Rattle.dfu_host.specs.Phases.{Goal, Phase, Over, OverUploaded, Restarted, Left}
-use Rattle.dfu_host.specs.Table.{after_last, checked}
+use Rattle.dfu_host.specs.Table.{after_last, goal_after_reset}
 use Rattle.dfu_host.specs.BehindClose.{is_behind_close}
 use Rattle.dfu_host.specs.Host.{HostState, HostRow, budgeted, left_by, after_phase, after}
 use Rattle.dfu_host.specs.Leaving.{IsBehindClose, EndsUnconfirmed, BeginsToCompare, IsRestartElsewhere}
@@ -22,7 +22,7 @@ left_elsewhere h phase e = ap (left_by h phase) e
 -- A host after the last reset that confirms nothing, by what its session is for.
 abbrev reset_last : HostState → Goal → HostState
 reset_last h goal = record {
-  task = record h.task { goal = checked goal };
+  task = record h.task { goal = goal_after_reset goal };
   phase = budgeted (pred h.actions) (after_last goal report.Unconfirmed);
   actions = pred h.actions;
   restarts = h.restarts;

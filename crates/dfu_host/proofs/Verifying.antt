@@ -4,7 +4,7 @@ use Rattle.dfu_host.specs.declared.report.Report.{Report}
 use Rattle.dfu_host.specs.declared.report.Report.TheVariants as report
 use Rattle.dfu_host.specs.Phases.{Goal, ToVerify, ToCompare, Task, Phase, Find, Manifest, WaitManifest, WaitLast, Fetch, LastUploaded, Compare, Last, Over, OverUploaded, Heard, WasReset}
 use Rattle.dfu_host.specs.BehindClose.{is_behind_close}
-use Rattle.dfu_host.specs.Table.{start_of, on_reset, after_last, goal_after, row}
+use Rattle.dfu_host.specs.Table.{work_start, on_reset, after_last, goal_after, host_row}
 use Rattle.dfu_host.specs.CommonPhases.{Any, IsCommon, IsDownloading, CommonHolds, DownloadHolds}
 use Rattle.dfu_host.specs.RowLaws.{after_compared, after_common, after_download}
 use Rattle.dfu_host.specs.HostLaws.{IsCutShort, RowsKeep, keeps_rows}
@@ -27,7 +27,7 @@ module _ (p : List ℕ) (task : Task) (is : task.goal ≡ ToVerify p) where
   installs_download : DownloadHolds task IsInstalling
   installs_download = record {
     anywhere = installs_anywhere;
-    begins = subst (λ (g : Goal). IsInstalling (start_of g)) (sym is) tt;
+    begins = subst (λ (g : Goal). IsInstalling (work_start g)) (sym is) tt;
     refused = λ c. tt;
     aborted = tt;
     unconfirmed = tt;
@@ -39,7 +39,8 @@ module _ (p : List ℕ) (task : Task) (is : task.goal ≡ ToVerify p) where
   last_row r heard = inl (refl, tt)
 
   -- The row of each phase.
-  installs_row : (phase : Phase) (heard : Heard) → IsInstalling phase → Fits p (goal_after task.goal phase heard) (row task phase heard)
+  installs_row : (phase : Phase) (heard : Heard) → IsInstalling phase →
+      Fits p (goal_after task.goal phase heard) (host_row task phase heard)
   installs_row (Last r) heard h = subst (λ (g : Goal). Fits p (goal_after g (Last r) heard) (on_reset heard (after_last g r) (Last r)))
       (sym is) (last_row r heard)
   installs_row (Fetch k kept) heard h = elim h [ ]
@@ -60,7 +61,7 @@ module _ (p : List ℕ) (task : Task) (is : task.goal ≡ ToCompare p) where
   compares_common : CommonHolds task IsComparing Any
   compares_common = record {
     anywhere = compares_anywhere;
-    begins = λ c poll k. subst (λ (g : Goal). IsComparing (start_of g)) (sym is) tt;
+    begins = λ c poll k. subst (λ (g : Goal). IsComparing (work_start g)) (sym is) tt;
     refused = λ c. tt;
     aborted = tt;
   }
@@ -71,7 +72,7 @@ module _ (p : List ℕ) (task : Task) (is : task.goal ≡ ToCompare p) where
   last_compared r heard h = inr (refl, h)
 
   -- The row of each phase.
-  compares_row : (phase : Phase) (heard : Heard) → IsComparing phase → Fits p (goal_after task.goal phase heard) (row task phase heard)
+  compares_row : (phase : Phase) (heard : Heard) → IsComparing phase → Fits p (goal_after task.goal phase heard) (host_row task phase heard)
   compares_row (Compare k) heard h = inr (is, after_compared task IsComparing k heard tt tt tt tt (λ matched. tt))
   compares_row (Last r) heard h = subst (λ (g : Goal). Fits p (goal_after g (Last r) heard) (on_reset heard (after_last g r) (Last r)))
       (sym is) (last_compared r heard h)
@@ -87,7 +88,7 @@ module _ (p : List ℕ) where
   never_compares from behind c = absurd cc
 
   row_fits : (task : Task) (phase : Phase) (heard : Heard) → Fits p task.goal phase
-      → Fits p (goal_after task.goal phase heard) (row task phase heard)
+      → Fits p (goal_after task.goal phase heard) (host_row task phase heard)
   row_fits task phase heard (inl h) = installs_row p task h.0 phase heard h.1
   row_fits task phase heard (inr h) = compares_row p task h.0 phase heard h.1
 

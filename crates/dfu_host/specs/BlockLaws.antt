@@ -83,14 +83,14 @@ only_in t ((y ∷ ys) ∷ next ∷ more) (suc turns) ht full h =
     sym (ap (λ z. z ∷ blocks_in turns t (drop t ((y ∷ ys) ++ rest))) f ∙ ap (λ z. (y ∷ ys) ∷ blocks_in turns t z) g
     ∙ ap (λ z. (y ∷ ys) ∷ z) (sym i))
 
-block_in : (turns t : ℕ) (p : List ℕ) (n : ℕ) → n < length (blocks_in turns t p)
+nth_block_in : (turns t : ℕ) (p : List ℕ) (n : ℕ) → n < length (blocks_in turns t p)
     → slice_index_or (blocks_in turns t p) n [] ≡ take t (drop (n * t) p)
-block_in zero t p n h = absurd (omega arith)
-block_in (suc turns) t [] n h = absurd (omega arith)
-block_in (suc turns) t (x ∷ xs) zero h = let e : 0 * t ≡ 0 = omega arith in rw e refl
-block_in (suc turns) t (x ∷ xs) (suc n) h =
+nth_block_in zero t p n h = absurd (omega arith)
+nth_block_in (suc turns) t [] n h = absurd (omega arith)
+nth_block_in (suc turns) t (x ∷ xs) zero h = let e : 0 * t ≡ 0 = omega arith in rw e refl
+nth_block_in (suc turns) t (x ∷ xs) (suc n) h =
     let e : t + n * t ≡ suc n * t = omega (arith, suc-mul n t) in
-    block_in turns t (drop t (x ∷ xs)) n (le_of_suc-le-suc h) ∙ ap (take t) (drop-drop (n * t) t (x ∷ xs) ∙ ap (λ z. drop z (x ∷ xs)) e)
+    nth_block_in turns t (drop t (x ∷ xs)) n (le_of_suc-le-suc h) ∙ ap (take t) (drop-drop (n * t) t (x ∷ xs) ∙ ap (λ z. drop z (x ∷ xs)) e)
 
 starts_in : (turns t : ℕ) (p : List ℕ) (n : ℕ) → n < length (blocks_in turns t p) → n * t < length p
 starts_in zero t p n h = absurd (omega arith)
@@ -148,7 +148,7 @@ module _ (p : List ℕ) (t : ℕ) where
   -- Block n is the t bytes at n times t, or what is left there.
   pub block_is : (n : ℕ) → n < length (blocks p t) → slice_index_or (blocks p t) n [] ≡ take t (drop (n * t) p)
   unfolding blocks
-  block_is n h = block_in (length p) t p n h
+  block_is n h = nth_block_in (length p) t p n h
 
   -- Where there is a block n, the payload goes past n times t.
   pub block_starts : (n : ℕ) → n < length (blocks p t) → n * t < length p

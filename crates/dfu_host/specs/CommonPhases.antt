@@ -5,7 +5,7 @@ use Rattle.dfu_wire.specs.declared.states.State.TheVariants.{DfuIdle}
 use Rattle.dfu_host.specs.declared.report.Report.TheVariants.{Aborted, Refused, Unconfirmed}
 use Rattle.dfu_host.specs.Phases.{Task, Phase, Find, FindAgain, Trouble, Last, Over, Heard, Status}
 use Rattle.dfu_host.specs.PhaseClasses.{Common, Sending, Closing, Manifesting, Fetching, Comparing, Ending, EndingUpload, Ended, EndedUpload, class_of}
-use Rattle.dfu_host.specs.Table.{start_of}
+use Rattle.dfu_host.specs.Table.{work_start}
 
 -- The phases that each session has: those that look for the device's state and bring it to dfuIDLE or to appIDLE, and the last of a
 -- session that is given up.
@@ -49,7 +49,7 @@ IsSeeking phase = ⊥
 -- two ends that common phases lead to. Of what is heard something may be known.
 pub record CommonHolds (task : Task) (P : Phase → Type 0) (Known : Heard → Type 0) : Type 0 where
   pub anywhere : (phase : Phase) → IsCommon phase → P phase
-  pub begins : (code : Code) (poll : ℕ) → Known (Status code poll DfuIdle) → P (start_of task.goal)
+  pub begins : (code : Code) (poll : ℕ) → Known (Status code poll DfuIdle) → P (work_start task.goal)
   pub refused : (code : Code) → P (Over (Refused code))
   pub aborted : P (Over Aborted)
 
@@ -61,7 +61,7 @@ Any heard = Unit {0}
 -- install it says nothing.
 pub record DownloadHolds (task : Task) (P : Phase → Type 0) : Type 0 where
   pub anywhere : (phase : Phase) → IsDownloading phase → P phase
-  pub begins : P (start_of task.goal)
+  pub begins : P (work_start task.goal)
   pub refused : (code : Code) → P (Over (Refused code))
   pub aborted : P (Over Aborted)
   pub unconfirmed : P (Last Unconfirmed)

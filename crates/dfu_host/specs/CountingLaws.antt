@@ -5,14 +5,14 @@ use Rattle.std.proofs.lemmas.Bool.{eqb-true, eqb-false, ltb-true}
 use Rattle.dfu_host.specs.declared.report.Report.{Report}
 use Rattle.dfu_host.specs.declared.report.Report.TheVariants as report
 use Rattle.dfu_host.specs.Phases.{Goal, ToLoad, ToFetch, ToVerify, ToCompare, Task, Phase, Fetch, LastUploaded, Compare, Last, Over, OverUploaded, Heard, Part}
-use Rattle.dfu_host.specs.Table.{start_of, after_last, on_part, row, task_after}
+use Rattle.dfu_host.specs.Table.{work_start, after_last, on_part, host_row, task_after}
 use Rattle.dfu_host.specs.Host.{HostState, after}
 use Rattle.dfu_host.specs.CommonPhases.{IsDownloading, DownloadHolds}
 use Rattle.dfu_host.specs.RowLaws.{after_choice, after_reset, after_compared, after_download}
 use Rattle.dfu_host.specs.HostLaws.{IsCutShort, RowsKeep, keeps_after, keeps_rows}
 use Rattle.dfu_host.specs.Counting.{GivesNothing, IsCounted, StaysCounted}
 
-start_counted : (task : Task) (goal : Goal) → task.goal ≡ goal → IsCounted task (start_of goal)
+start_counted : (task : Task) (goal : Goal) → task.goal ≡ goal → IsCounted task (work_start goal)
 start_counted task (ToLoad payload) e = tt
 start_counted task ToFetch e = (e, omega arith, omega arith)
 start_counted task (ToVerify payload) e = tt
@@ -58,7 +58,7 @@ last_counted task (ToVerify payload) r c = tt
 last_counted task goal r c = c
 
 row_counted : (task : Task) (phase : Phase) (heard : Heard) → 0 < task.transfer → IsCounted task phase
-    → IsCounted (task_after task phase heard) (row task phase heard)
+    → IsCounted (task_after task phase heard) (host_row task phase heard)
 row_counted task (Fetch k kept) heard some c = part_counted task k kept heard some c
 row_counted task (LastUploaded kept) heard some c = after_reset (IsCounted task) heard (OverUploaded kept) (LastUploaded kept) c c
 row_counted task (Compare k) heard some c = after_compared task (IsCounted task) k heard tt tt tt tt (λ matched. tt)

@@ -8,7 +8,7 @@ use Rattle.dfu_host.specs.declared.seen.Seen.{Seen}
 use Rattle.dfu_host.specs.Phases.{Goal, Task, Phase, Find, Fetch, Last, GiveUp, Over, OverUploaded, Heard, NoRoom, WasReset, Restarted, Left}
 use Rattle.dfu_host.specs.PhaseClasses.{Common, Sending, Closing, Manifesting, Fetching, Comparing, Ending, EndingUpload, Ended, EndedUpload, class_of}
 use Rattle.dfu_host.specs.BehindClose.{is_behind_close}
-use Rattle.dfu_host.specs.Table.{deed, row, task_after}
+use Rattle.dfu_host.specs.Table.{deed, host_row, task_after}
 use Rattle.dfu_host.specs.Wire.{Hears, Spells}
 
 -- A host: its task, its phase, the actions that it has left, and the restarts of its device that it still takes.
@@ -19,12 +19,12 @@ pub record HostState : Type 0 where
   pub restarts : ℕ
 
 -- A session that begins: in phase Find, with a budget of at least one action.
-abbrev pub begun : Task → (actions restarts : ℕ) → HostState
-begun task actions restarts = record { task = task; phase = Find; actions = max 1 actions; restarts = restarts }
+abbrev pub host_begun : Task → (actions restarts : ℕ) → HostState
+host_begun task actions restarts = record { task = task; phase = Find; actions = max 1 actions; restarts = restarts }
 
 -- The task of a session with this goal: all else goes by what its device's descriptor says.
-abbrev pub task_for : Functional → Goal → Task
-task_for functional goal = record {
+abbrev pub task_by_descriptor : Functional → Goal → Task
+task_by_descriptor functional goal = record {
   goal = goal;
   transfer = functional.transfer;
   tolerant = functional.tolerant;
@@ -34,7 +34,7 @@ task_for functional goal = record {
 
 -- A session with this goal that begins, by its device's descriptor and the limits.
 abbrev pub started : Functional → Goal → Limits → HostState
-started functional goal limits = begun (task_for functional goal) limits.actions limits.restarts
+started functional goal limits = host_begun (task_by_descriptor functional goal) limits.actions limits.restarts
 
 -- The host is not done.
 abbrev pub IsOn : Phase → Type 0
@@ -81,7 +81,7 @@ restarted h phase (suc restarts) = spent h Find restarts
 
 -- One action of which the table's row takes what is heard, with the task that the table has beside it.
 abbrev pub by_row : HostState → Phase → Heard → HostState
-by_row h phase heard = spent (record h { task = task_after h.task phase heard }) (row h.task phase heard) h.restarts
+by_row h phase heard = spent (record h { task = task_after h.task phase heard }) (host_row h.task phase heard) h.restarts
 
 -- The device left of itself. Behind the close that is the last reset, which confirms nothing; in every other phase it is a restart.
 abbrev pub left_by : HostState → Phase → (behind_close : Bool) → HostState
@@ -89,16 +89,16 @@ left_by h phase true = by_row h (Last report.Unconfirmed) WasReset
 left_by h phase false = restarted h phase h.restarts
 
 -- What is heard: a restart, or that the device left of itself, or else what the table's row takes.
-abbrev pub told : HostState → Phase → Heard → HostState
-told h phase Restarted = restarted h phase h.restarts
-told h phase Left = left_by h phase (is_behind_close h.task.goal phase)
-told h phase heard = by_row h phase heard
+abbrev pub host_heard : HostState → Phase → Heard → HostState
+host_heard h phase Restarted = restarted h phase h.restarts
+host_heard h phase Left = left_by h phase (is_behind_close h.task.goal phase)
+host_heard h phase heard = by_row h phase heard
 
 -- A host that is done stays as it is, and every other takes what it is told.
 abbrev pub after_phase : HostState → Phase → Heard → HostState
 after_phase h (Over r) heard = h
 after_phase h (OverUploaded kept) heard = h
-after_phase h phase heard = told h phase heard
+after_phase h phase heard = host_heard h phase heard
 
 -- A host after it hears this.
 abbrev pub after : HostState → Heard → HostState

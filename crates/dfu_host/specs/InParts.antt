@@ -93,8 +93,8 @@ begins_at t (phase.Block n) = n * t
 begins_at t other = 0
 
 -- What is sent by a session goes with a body that is the payload from there on, as far as the body goes.
-abbrev pub IsCut : (payload : List ℕ) (from : ℕ) → Action → Type 0
-IsCut payload from (action.Send setup body) = body.now ≡ take (length body.now) (drop from payload)
-IsCut payload from (action.Wait ms) = Unit {0}
-IsCut payload from action.Reset = Unit {0}
-IsCut payload from (action.Done report) = Unit {0}
+abbrev pub BodyIsCut : (payload : List ℕ) (from : ℕ) → Action → Type 0
+BodyIsCut payload from (action.Send setup body) = body.now ≡ take (length body.now) (drop from payload)
+BodyIsCut payload from (action.Wait ms) = Unit {0}
+BodyIsCut payload from action.Reset = Unit {0}
+BodyIsCut payload from (action.Done report) = Unit {0}

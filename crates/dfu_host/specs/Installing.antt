@@ -6,7 +6,7 @@ use Rattle.dfu_host.specs.declared.report.Report.{Report}
 use Rattle.dfu_host.specs.declared.report.Report.TheVariants as report
 use Rattle.dfu_host.specs.Phases.{Task, Phase, Manifest, Compare, Heard, Status, Part}
 use Rattle.dfu_host.specs.PhaseClasses.{Common, Sending, Closing, Manifesting, Fetching, Comparing, Ending, EndingUpload, Ended, EndedUpload, class_of}
-use Rattle.dfu_host.specs.Table.{pieces, row}
+use Rattle.dfu_host.specs.Table.{pieces, host_row}
 
 -- The report says that the payload is in place.
 abbrev pub IsInstalled : Report → Type 0
@@ -52,7 +52,7 @@ IsEnding P phase = elim (class_of phase) [
 ]
 
 -- A tolerant device told after the close that it stands in dfuIDLE with OK.
-pub record IsConfirmed (task : Task) (phase : Phase) (heard : Heard) : Type 0 where
+pub record ToldDfuIdle (task : Task) (phase : Phase) (heard : Heard) : Type 0 where
   pub closed : phase ≡ Manifest
   pub tolerant : task.tolerant ≡ true
   pub poll : ℕ
@@ -62,7 +62,7 @@ pub record IsConfirmed (task : Task) (phase : Phase) (heard : Heard) : Type 0 wh
 abbrev pub OnlyConfirmed : Type 0
 OnlyConfirmed =
     (task : Task) (phase : Phase) (heard : Heard)
-    → IsEnding IsInstalled (row task phase heard) → (IsEnding IsInstalled phase) ⊎ IsConfirmed task phase heard
+    → IsEnding IsInstalled (host_row task phase heard) → (IsEnding IsInstalled phase) ⊎ ToldDfuIdle task phase heard
 
 -- Where the image is compared, the last of the payload came back: its shorter block, or nothing behind its last full one.
 pub record IsMatched (task : Task) (phase : Phase) (heard : Heard) : Type 0 where
@@ -77,4 +77,4 @@ pub record IsMatched (task : Task) (phase : Phase) (heard : Heard) : Type 0 wher
 abbrev pub OnlyMatched : Type 0
 OnlyMatched =
     (task : Task) (phase : Phase) (heard : Heard)
-    → IsEnding IsVerified (row task phase heard) → (IsEnding IsVerified phase) ⊎ IsMatched task phase heard
+    → IsEnding IsVerified (host_row task phase heard) → (IsEnding IsVerified phase) ⊎ IsMatched task phase heard

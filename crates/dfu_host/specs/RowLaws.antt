@@ -9,9 +9,9 @@ use Rattle.dfu_wire.specs.declared.states.State.{State}
 use Rattle.dfu_wire.specs.declared.states.State.TheVariants as state
 use Rattle.dfu_host.specs.declared.report.Report.TheVariants.{Different, Installed, TooManyBlocks, Unconfirmed, Verified}
 use Rattle.dfu_host.specs.Phases.{Task, Phase, Find, FindAgain, Detach, Enter, Clear, Quit, WaitFind, ResetFind, Block, Ask, Poll, WaitPoll, Close, AskLast, Manifest, WaitManifest, WaitLast, Trouble, Fetch, LastUploaded, Compare, Last, GiveUp, Over, OverUploaded, Heard, Acked, Status, Part, StateIs, Stalled, Waited, WasReset}
-use Rattle.dfu_host.specs.Table.{start_of, pieces, listed, troubled, polled, manifested, asked, asked_last, on_status, on_state, on_ack, on_waited, on_reset, row}
+use Rattle.dfu_host.specs.Table.{work_start, pieces, listed, troubled, polled_phase, manifested, asked_phase, asked_last, on_status, on_state, on_ack, on_waited, on_reset, host_row}
 use Rattle.dfu_host.specs.CommonPhases.{Any, IsCommon, IsDownloading, IsSeeking, CommonHolds, DownloadHolds}
-use Rattle.dfu_host.specs.Installing.{IsConfirmed, IsMatched}
+use Rattle.dfu_host.specs.Installing.{ToldDfuIdle, IsMatched}
 
 module _ (P : Phase → Type 0) where
   -- After a choice, each phase where it is taken.
@@ -52,19 +52,19 @@ module _ (P : Phase → Type 0) where
   after_state Known heard told stalled nothing p q r k = r
 
 module _ (task : Task) (P : Phase → Type 0) (Known : Heard → Type 0) (holds : CommonHolds task P Known) where
-  after_list : (c : Code) (poll : ℕ) (s : State) → Known (Status c poll s) → P (listed (start_of task.goal) s poll)
+  after_list : (c : Code) (poll : ℕ) (s : State) → Known (Status c poll s) → P (listed (work_start task.goal) s poll)
   after_list c poll state.DfuIdle k = holds.begins c poll k
-  after_list c poll s k = holds.anywhere (listed (start_of task.goal) s poll) tt
+  after_list c poll s k = holds.anywhere (listed (work_start task.goal) s poll) tt
 
   -- After a status in trouble.
-  pub after_trouble : (c : Code) (poll : ℕ) (s : State) → Known (Status c poll s) → P (troubled (start_of task.goal) c poll s)
+  pub after_trouble : (c : Code) (poll : ℕ) (s : State) → Known (Status c poll s) → P (troubled (work_start task.goal) c poll s)
   after_trouble code.Ok poll s k = after_list code.Ok poll s k
   after_trouble code.StalledPkt poll s k = after_list code.StalledPkt poll s k
   after_trouble c poll state.Error k = holds.refused c
   after_trouble c poll s k = after_list c poll s k
 
   -- After each phase that each session has.
-  pub after_common : (phase : Phase) (heard : Heard) → IsCommon phase → (IsSeeking phase → Known heard) → P (row task phase heard)
+  pub after_common : (phase : Phase) (heard : Heard) → IsCommon phase → (IsSeeking phase → Known heard) → P (host_row task phase heard)
   after_common Find heard a k = after_status P Known heard _ FindAgain Find after_list (holds.anywhere FindAgain tt)
       (holds.anywhere Find tt) (k tt)
   after_common FindAgain heard a k = after_status P Known heard _ ResetFind FindAgain after_list (holds.anywhere ResetFind tt)
@@ -103,7 +103,7 @@ module _ (task : Task) (P : Phase → Type 0) (holds : DownloadHolds task P) whe
     aborted = holds.aborted;
   }
 
-  after_ask : (n : ℕ) (s : State) → P (asked n s)
+  after_ask : (n : ℕ) (s : State) → P (asked_phase n s)
   after_ask n state.DownloadSync = holds.anywhere (Poll n) tt
   after_ask zero state.DfuIdle = holds.anywhere (Block zero) tt
   after_ask (suc n) state.DownloadIdle = holds.anywhere (Block (suc n)) tt
@@ -114,7 +114,7 @@ module _ (task : Task) (P : Phase → Type 0) (holds : DownloadHolds task P) whe
   after_ask_last state.DownloadIdle = holds.anywhere Close tt
   after_ask_last s = holds.anywhere Trouble tt
 
-  after_poll : (blocks n : ℕ) (c : Code) (poll : ℕ) (s : State) → P (polled (start_of task.goal) blocks n c poll s)
+  after_poll : (blocks n : ℕ) (c : Code) (poll : ℕ) (s : State) → P (polled_phase (work_start task.goal) blocks n c poll s)
   after_poll blocks n c poll state.DownloadSync = holds.anywhere (WaitPoll n poll) tt
   after_poll blocks n c poll state.DownloadBusy = holds.anywhere (WaitPoll n poll) tt
   after_poll blocks n c poll state.DownloadIdle = after_choice P (suc n == blocks) Close (Block (suc n))
@@ -123,7 +123,7 @@ module _ (task : Task) (P : Phase → Type 0) (holds : DownloadHolds task P) whe
 
   after_manifest : (tolerant : Bool) (c : Code) (poll : ℕ) (s : State)
       → (tolerant ≡ true → Status c poll s ≡ Status code.Ok poll state.DfuIdle → P (Last Installed))
-      → P (manifested (start_of task.goal) tolerant c poll s)
+      → P (manifested (work_start task.goal) tolerant c poll s)
   after_manifest true c poll state.ManifestSync confirmed = holds.anywhere (WaitManifest poll) tt
   after_manifest true c poll state.Manifest confirmed = holds.anywhere (WaitManifest poll) tt
   after_manifest true code.Ok poll state.DfuIdle confirmed = confirmed refl refl
@@ -135,11 +135,11 @@ module _ (task : Task) (P : Phase → Type 0) (holds : DownloadHolds task P) whe
   after_manifest false c poll s confirmed = after_trouble task P Any of_common c poll s tt
 
   -- After each phase of a download, if the property holds of the last reset where the device confirms the install.
-  pub after_download : (phase : Phase) (heard : Heard) → IsDownloading phase → (IsConfirmed task phase heard → P (Last Installed))
-      → P (row task phase heard)
+  pub after_download : (phase : Phase) (heard : Heard) → IsDownloading phase → (ToldDfuIdle task phase heard → P (Last Installed))
+      → P (host_row task phase heard)
   after_download (Block n) heard d confirmed = after_ack P heard (Poll n) Trouble (Ask n) (holds.anywhere (Poll n) tt)
       (holds.anywhere Trouble tt) (holds.anywhere (Ask n) tt)
-  after_download (Ask n) heard d confirmed = after_state P Any heard (asked n) Trouble (Ask n) (λ s k. after_ask n s)
+  after_download (Ask n) heard d confirmed = after_state P Any heard (asked_phase n) Trouble (Ask n) (λ s k. after_ask n s)
       (holds.anywhere Trouble tt) (holds.anywhere (Ask n) tt) tt
   after_download (Poll n) heard d confirmed = after_status P Any heard _ Trouble (Poll n)
       (λ c poll s k. after_poll (length (pieces task)) n c poll s) (holds.anywhere Trouble tt) (holds.anywhere (Poll n) tt) tt
@@ -171,7 +171,7 @@ module _ (task : Task) (P : Phase → Type 0) (holds : DownloadHolds task P) whe
 -- After a part of an image that is compared, if the property holds of the last reset where the last of the payload came back.
 pub after_compared : (task : Task) (P : Phase → Type 0) (k : ℕ) (heard : Heard) → P Find → P (Last Different)
     → P (Over TooManyBlocks) → P (Compare (suc k)) → (IsMatched task (Compare k) heard → P (Last Verified))
-    → P (row task (Compare k) heard)
+    → P (host_row task (Compare k) heard)
 after_compared task P k (Part bytes) find different many more matched =
     let t = task.transfer in let block = slice_index_or (pieces task) k [] in
     after_choice P (nat_lt t (length bytes)) _ _ (λ long. find)

@@ -12,11 +12,11 @@ use Rattle.dfu_host.specs.Blocks.{blocks}
 pub use Rattle.dfu_host.specs.Phases.{Goal, ToLoad, ToFetch, ToVerify, ToCompare, Task, Phase, Find, FindAgain, Detach, Enter, Clear, Quit, WaitFind, ResetFind, Block, Ask, Poll, WaitPoll, Close, AskLast, Manifest, WaitManifest, WaitLast, Trouble, Fetch, LastUploaded, Compare, Last, GiveUp, Over, OverUploaded, Deed, Send, Wait, Reset, Done, Heard, Acked, Status, StateIs, Part, NoRoom, Stalled, Nothing, Waited, WasReset, Restarted, Left}
 
 -- The phase in which the work begins once the device is in dfuIDLE.
-abbrev pub start_of : Goal → Phase
-start_of (ToLoad payload) = Block 0
-start_of ToFetch = Fetch 0 []
-start_of (ToVerify payload) = Block 0
-start_of (ToCompare payload) = Compare 0
+abbrev pub work_start : Goal → Phase
+work_start (ToLoad payload) = Block 0
+work_start ToFetch = Fetch 0 []
+work_start (ToVerify payload) = Block 0
+work_start (ToCompare payload) = Compare 0
 
 -- The blocks of t bytes of a session's payload; an upload has none.
 abbrev pub blocks_of : Goal → ℕ → List (List ℕ)
@@ -91,11 +91,11 @@ troubled start c poll state.Error = Over (report.Refused c)
 troubled start c poll s = listed start s poll
 
 -- Poll: the block is being written, or is written; every other state is trouble.
-abbrev pub polled : Phase → (blocks n : ℕ) → Code → ℕ → State → Phase
-polled start blocks n c poll state.DownloadSync = WaitPoll n poll
-polled start blocks n c poll state.DownloadBusy = WaitPoll n poll
-polled start blocks n c poll state.DownloadIdle = if suc n == blocks then Close else Block (suc n)
-polled start blocks n c poll s = troubled start c poll s
+abbrev pub polled_phase : Phase → (blocks n : ℕ) → Code → ℕ → State → Phase
+polled_phase start blocks n c poll state.DownloadSync = WaitPoll n poll
+polled_phase start blocks n c poll state.DownloadBusy = WaitPoll n poll
+polled_phase start blocks n c poll state.DownloadIdle = if suc n == blocks then Close else Block (suc n)
+polled_phase start blocks n c poll s = troubled start c poll s
 
 -- Manifest: of a tolerant device only dfuIDLE with OK is an install; of another nothing confirms one. Every other status is trouble.
 abbrev pub manifested : Phase → (tolerant : Bool) → Code → ℕ → State → Phase
@@ -110,11 +110,11 @@ manifested start false c poll state.ManifestWaitReset = Last report.Unconfirmed
 manifested start false c poll s = troubled start c poll s
 
 -- Ask: whether the block whose answer was lost has come. Every other state is trouble.
-abbrev pub asked : ℕ → State → Phase
-asked n state.DownloadSync = Poll n
-asked zero state.DfuIdle = Block zero
-asked (suc n) state.DownloadIdle = Block (suc n)
-asked n s = Trouble
+abbrev pub asked_phase : ℕ → State → Phase
+asked_phase n state.DownloadSync = Poll n
+asked_phase zero state.DfuIdle = Block zero
+asked_phase (suc n) state.DownloadIdle = Block (suc n)
+asked_phase n s = Trouble
 
 -- Ask last: whether the closing request whose answer was lost has come. Every other state is trouble.
 abbrev pub asked_last : State → Phase
@@ -131,8 +131,8 @@ fetched t k kept bytes =
 
 -- Compare: an answer that is the block of that number, or none where there is no such block, or another answer, or one that is too long.
 -- A shorter one than a full one is the image's last.
-abbrev pub compared : (t k : ℕ) → (block bytes : List ℕ) → Phase
-compared t k block bytes =
+abbrev pub compared_phase : (t k : ℕ) → (block bytes : List ℕ) → Phase
+compared_phase t k block bytes =
     if nat_lt t (length bytes) then Find
     else if bytes_eq bytes block then (if nat_lt (length bytes) t then Last report.Verified
     else if suc k == 65535 then Over report.TooManyBlocks else Compare (suc k))
@@ -179,45 +179,45 @@ on_part t k kept heard = Find
 
 -- What follows UPLOAD where the image is compared: by the bytes. All else that is heard goes to Find.
 abbrev pub on_compared : (t k : ℕ) → (block : List ℕ) → Heard → Phase
-on_compared t k block (Part bytes) = compared t k block bytes
+on_compared t k block (Part bytes) = compared_phase t k block bytes
 on_compared t k block heard = Find
 
 -- The table, but for a restart of the device, one that left of itself, and the budget: the phase that follows.
-abbrev pub row : Task → Phase → Heard → Phase
-row task Find heard = on_status heard (λ c poll s. listed (start_of task.goal) s poll) FindAgain Find
-row task FindAgain heard = on_status heard (λ c poll s. listed (start_of task.goal) s poll) ResetFind FindAgain
-row task Detach heard = on_ack heard Enter Find Find
-row task Enter heard = if task.will_detach then on_waited heard Find Enter else on_reset heard Find Enter
-row task Clear heard = Find
-row task Quit heard = Find
-row task (WaitFind poll) heard = on_waited heard Find (WaitFind poll)
-row task ResetFind heard = on_reset heard Find ResetFind
-row task (Block n) heard = on_ack heard (Poll n) Trouble (Ask n)
-row task (Ask n) heard = on_state heard (asked n) Trouble (Ask n)
-row task (Poll n) heard = on_status heard (polled (start_of task.goal) (length (pieces task)) n) Trouble (Poll n)
-row task (WaitPoll n poll) heard = on_waited heard (Poll n) (WaitPoll n poll)
-row task Close heard = on_ack heard Manifest Trouble AskLast
-row task AskLast heard = on_state heard asked_last Trouble AskLast
-row task Manifest heard = on_status heard (manifested (start_of task.goal) task.tolerant) Trouble Manifest
-row task (WaitManifest poll) heard = on_waited heard Manifest (WaitManifest poll)
-row task (WaitLast poll) heard = on_waited heard (Last report.Unconfirmed) (WaitLast poll)
-row task Trouble heard = on_status heard (troubled (start_of task.goal)) FindAgain Trouble
-row task (Fetch k kept) heard = on_part task.transfer k kept heard
-row task (LastUploaded kept) heard = on_reset heard (OverUploaded kept) (LastUploaded kept)
-row task (Compare k) heard = on_compared task.transfer k (slice_index_or (pieces task) k []) heard
-row task (Last report) heard = on_reset heard (after_last task.goal report) (Last report)
-row task GiveUp heard = Over report.Aborted
-row task (Over report) heard = Over report
-row task (OverUploaded kept) heard = OverUploaded kept
+abbrev pub host_row : Task → Phase → Heard → Phase
+host_row task Find heard = on_status heard (λ c poll s. listed (work_start task.goal) s poll) FindAgain Find
+host_row task FindAgain heard = on_status heard (λ c poll s. listed (work_start task.goal) s poll) ResetFind FindAgain
+host_row task Detach heard = on_ack heard Enter Find Find
+host_row task Enter heard = if task.will_detach then on_waited heard Find Enter else on_reset heard Find Enter
+host_row task Clear heard = Find
+host_row task Quit heard = Find
+host_row task (WaitFind poll) heard = on_waited heard Find (WaitFind poll)
+host_row task ResetFind heard = on_reset heard Find ResetFind
+host_row task (Block n) heard = on_ack heard (Poll n) Trouble (Ask n)
+host_row task (Ask n) heard = on_state heard (asked_phase n) Trouble (Ask n)
+host_row task (Poll n) heard = on_status heard (polled_phase (work_start task.goal) (length (pieces task)) n) Trouble (Poll n)
+host_row task (WaitPoll n poll) heard = on_waited heard (Poll n) (WaitPoll n poll)
+host_row task Close heard = on_ack heard Manifest Trouble AskLast
+host_row task AskLast heard = on_state heard asked_last Trouble AskLast
+host_row task Manifest heard = on_status heard (manifested (work_start task.goal) task.tolerant) Trouble Manifest
+host_row task (WaitManifest poll) heard = on_waited heard Manifest (WaitManifest poll)
+host_row task (WaitLast poll) heard = on_waited heard (Last report.Unconfirmed) (WaitLast poll)
+host_row task Trouble heard = on_status heard (troubled (work_start task.goal)) FindAgain Trouble
+host_row task (Fetch k kept) heard = on_part task.transfer k kept heard
+host_row task (LastUploaded kept) heard = on_reset heard (OverUploaded kept) (LastUploaded kept)
+host_row task (Compare k) heard = on_compared task.transfer k (slice_index_or (pieces task) k []) heard
+host_row task (Last report) heard = on_reset heard (after_last task.goal report) (Last report)
+host_row task GiveUp heard = Over report.Aborted
+host_row task (Over report) heard = Over report
+host_row task (OverUploaded kept) heard = OverUploaded kept
 
 -- The goal of a session whose last reset was done: what was to be verified is compared from then on.
-abbrev pub checked : Goal → Goal
-checked (ToVerify payload) = ToCompare payload
-checked goal = goal
+abbrev pub goal_after_reset : Goal → Goal
+goal_after_reset (ToVerify payload) = ToCompare payload
+goal_after_reset goal = goal
 
 -- The goal that follows, beside the phase: it stays, but after the last reset.
 abbrev pub goal_after : Goal → Phase → Heard → Goal
-goal_after goal (Last report) WasReset = checked goal
+goal_after goal (Last report) WasReset = goal_after_reset goal
 goal_after goal phase heard = goal
 
 -- The task that follows, beside the phase: all of it but the goal stays.

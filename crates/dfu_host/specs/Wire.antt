@@ -54,15 +54,15 @@ pub record NeedsRoom (t k length : ℕ) : Type 0 where
 -- Bytes that answer a request: to UPLOAD they are a part, or, where that part needs memory, there may have been none for it; every other
 -- request has no answer of bytes, and it is as if nothing came. The number in an UPLOAD is that of the part, since only the parts 0 to
 -- 65,534 are asked for.
-abbrev pub Reads : Request → List ℕ → Heard → Type 0
-Reads (request.GetStatus len) bytes heard = ReadsStatus bytes heard
-Reads (request.GetState len) bytes heard = ReadsState bytes heard
-Reads (request.Upload block len) bytes heard = (heard ≡ Part bytes) ⊎ ((heard ≡ NoRoom) × NeedsRoom len block (length bytes))
-Reads q bytes heard = heard ≡ Nothing
+abbrev pub ReadsAnswer : Request → List ℕ → Heard → Type 0
+ReadsAnswer (request.GetStatus len) bytes heard = ReadsStatus bytes heard
+ReadsAnswer (request.GetState len) bytes heard = ReadsState bytes heard
+ReadsAnswer (request.Upload block len) bytes heard = (heard ≡ Part bytes) ⊎ ((heard ≡ NoRoom) × NeedsRoom len block (length bytes))
+ReadsAnswer q bytes heard = heard ≡ Nothing
 
 -- Bytes that come of an action: where the action is anything but a request, it is as if nothing came.
 abbrev pub HearsBytes : Deed → List ℕ → Heard → Type 0
-HearsBytes (Send q body) bytes heard = Reads q bytes heard
+HearsBytes (Send q body) bytes heard = ReadsAnswer q bytes heard
 HearsBytes deed bytes heard = heard ≡ Nothing
 
 -- What is seen of an action, as it is understood. Whether it fits the action is the table's matter.

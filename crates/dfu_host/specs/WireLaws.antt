@@ -10,7 +10,7 @@ use Rattle.dfu_wire.specs.OneStatus.{IsStatus-one}
 use Rattle.dfu_host.specs.declared.seen.Seen.{Seen}
 use Rattle.dfu_host.specs.declared.seen.Seen.TheVariants as seen
 use Rattle.dfu_host.specs.Phases.{Deed, Send, Wait, Reset, Done, Heard, Status, StateIs, Nothing}
-use Rattle.dfu_host.specs.Wire.{ReadsStatus, ReadsState, Reads, HearsBytes, Hears}
+use Rattle.dfu_host.specs.Wire.{ReadsStatus, ReadsState, ReadsAnswer, HearsBytes, Hears}
 
 -- Bytes that spell a status are understood as that status.
 abbrev pub StatusUnderstood : Type 0
@@ -100,7 +100,7 @@ state_once bytes Nothing Nothing a b = refl
 state_once bytes Nothing y a b = elim b [ ]
 state_once bytes x y a b = elim a [ ]
 
-reads_once : (q : Request) (bytes : List ℕ) (x y : Heard) → IsReadOnce q → Reads q bytes x → Reads q bytes y → x ≡ y
+reads_once : (q : Request) (bytes : List ℕ) (x y : Heard) → IsReadOnce q → ReadsAnswer q bytes x → ReadsAnswer q bytes y → x ≡ y
 reads_once (request.GetStatus len) bytes x y o a b = status_once bytes x y a b
 reads_once (request.GetState len) bytes x y o a b = state_once bytes x y a b
 reads_once (request.Upload block len) bytes x y o a b = absurd o

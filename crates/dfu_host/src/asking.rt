@@ -5,7 +5,7 @@ ghost use Rattle.dfu_wire.specs.Request.{IsUnnamed};
 ghost use Rattle.dfu_host.specs.Table as table;
 ghost use Rattle.dfu_host.specs.Wire.{Spells};
 ghost use Rattle.dfu_host.specs.Goals.{payload_of};
-ghost use Rattle.dfu_host.specs.InParts.{IsCut, IsWithin, begins_at, phase_of};
+ghost use Rattle.dfu_host.specs.InParts.{BodyIsCut, IsWithin, begins_at, phase_of};
 ghost use Rattle.dfu_host.specs.inside.View.{task_of};
 
 use crate::action::Action;
@@ -19,7 +19,7 @@ impl<'f> Task<'f> {
     pub(crate) fn action(&self, phase: Phase) -> Action<'f>
         requires { IsWithin self.now.goal self.now.transfer phase }
         ensures spells { (memory : List ℕ) → Spells (table.deed (task_of self.now) (phase_of memory phase)) result }
-        ensures cut { IsCut (payload_of self.now.goal) (begins_at self.now.transfer phase) result }
+        ensures cut { BodyIsCut (payload_of self.now.goal) (begins_at self.now.transfer phase) result }
     {
         match phase {
             Phase::Find | Phase::FindAgain | Phase::Poll(_) | Phase::Manifest | Phase::Trouble => {
@@ -52,7 +52,7 @@ impl<'f> Task<'f> {
     /// A wait where the device detaches by itself, of 1 ms at least, else a reset.
     fn entering(&self) -> Action<'f>
         ensures spells { Spells (table.deed (task_of self.now) table.Enter) result }
-        ensures cut { (payload : List ℕ) (from : ℕ) → IsCut payload from result }
+        ensures cut { (payload : List ℕ) (from : ℕ) → BodyIsCut payload from result }
     {
         if self.will_detach {
             Action::Wait(self.detach_ms.max(1) as u32)
@@ -66,7 +66,7 @@ impl<'f> Task<'f> {
 fn download(number: usize, body: &[u8]) -> Action<'_>
     requires { length body.now < 2 ^ 16 }
     ensures spells { Spells (table.download number body.now) result }
-    ensures cut { (payload : List ℕ) (from : ℕ) → body.now ≡ take (length body.now) (drop from payload) → IsCut payload from result }
+    ensures cut { (payload : List ℕ) (from : ℕ) → body.now ≡ take (length body.now) (drop from payload) → BodyIsCut payload from result }
 {
     let block = (number % 65_536) as u16;
     let length = body.len() as u16;
@@ -77,7 +77,7 @@ fn download(number: usize, body: &[u8]) -> Action<'_>
 fn send(request: Request, body: &[u8]) -> Action<'_>
     requires { IsUnnamed request → ⊥ }
     ensures spells { Spells (table.Send request body.now) result }
-    ensures cut { (payload : List ℕ) (from : ℕ) → body.now ≡ take (length body.now) (drop from payload) → IsCut payload from result }
+    ensures cut { (payload : List ℕ) (from : ℕ) → body.now ≡ take (length body.now) (drop from payload) → BodyIsCut payload from result }
 {
     match request.setup() {
         Some(setup) => Action::Send {

@@ -31,7 +31,7 @@ impl Task<'_> {
     pub(crate) fn after_compare(&self, number: u16, heard: Heard) -> Phase
         requires { IsWithin self.now.goal self.now.transfer (Phase.Compare number) }
         ensures next { (memory part : List ℕ) → Compares (task_of self.now) (Phase.Compare number) part heard
-            → phase_of memory result ≡ table.row (task_of self.now) (table.Compare number) (heard_of part heard) }
+            → phase_of memory result ≡ table.host_row (task_of self.now) (table.Compare number) (heard_of part heard) }
         ensures within { IsWithin self.now.goal self.now.transfer result }
     {
         match heard {
@@ -45,7 +45,8 @@ impl Task<'_> {
         requires { number < 65535 }
         ensures next { (memory part : List ℕ)
             → IsCompared (task_of self.now) number part same len
-            → phase_of memory result ≡ table.compared self.now.transfer number (slice_index_or (pieces (task_of self.now)) number []) part }
+            → phase_of memory result ≡ table.compared_phase self.now.transfer number
+            (slice_index_or (pieces (task_of self.now)) number []) part }
         ensures within { IsWithin self.now.goal self.now.transfer result }
     {
         let transfer = self.transfer as usize;

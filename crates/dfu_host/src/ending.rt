@@ -19,7 +19,7 @@ impl Task<'_> {
     /// the session, and all else goes by the list.
     pub(crate) fn troubled(&self, status: Status) -> Phase
         ensures next { (memory : List ℕ)
-            → phase_of memory result ≡ table.troubled (table.start_of (goal_of self.now.goal)) status.code status.poll_ms status.state }
+            → phase_of memory result ≡ table.troubled (table.work_start (goal_of self.now.goal)) status.code status.poll_ms status.state }
         ensures within { IsWithin self.now.goal self.now.transfer result }
     {
         match status.state() {
@@ -33,7 +33,8 @@ impl Task<'_> {
 
     /// GETSTATUS, to learn whether the new image is in place.
     pub(crate) fn after_manifest(&self, heard: Heard) -> Phase
-        ensures next { (memory part : List ℕ) → phase_of memory result ≡ table.row (task_of self.now) table.Manifest (heard_of part heard) }
+        ensures next { (memory part : List ℕ) → phase_of memory result
+            ≡ table.host_row (task_of self.now) table.Manifest (heard_of part heard) }
         ensures within { IsWithin self.now.goal self.now.transfer result }
     {
         match heard {
@@ -46,7 +47,7 @@ impl Task<'_> {
     /// A wait until the new image should be in place.
     pub(crate) fn after_wait_manifest(&self, poll_ms: u32, heard: Heard) -> Phase
         ensures next { (memory part : List ℕ)
-            → phase_of memory result ≡ table.row (task_of self.now) (table.WaitManifest poll_ms) (heard_of part heard) }
+            → phase_of memory result ≡ table.host_row (task_of self.now) (table.WaitManifest poll_ms) (heard_of part heard) }
         ensures within { IsWithin self.now.goal self.now.transfer result }
     {
         match heard {
@@ -58,7 +59,7 @@ impl Task<'_> {
     /// The same wait, for a device that won't answer after it.
     pub(crate) fn after_wait_last(&self, poll_ms: u32, heard: Heard) -> Phase
         ensures next { (memory part : List ℕ)
-            → phase_of memory result ≡ table.row (task_of self.now) (table.WaitLast poll_ms) (heard_of part heard) }
+            → phase_of memory result ≡ table.host_row (task_of self.now) (table.WaitLast poll_ms) (heard_of part heard) }
         ensures within { IsWithin self.now.goal self.now.transfer result }
     {
         match heard {
@@ -69,7 +70,8 @@ impl Task<'_> {
 
     /// GETSTATUS, to learn why something was refused.
     pub(crate) fn after_trouble(&self, heard: Heard) -> Phase
-        ensures next { (memory part : List ℕ) → phase_of memory result ≡ table.row (task_of self.now) table.Trouble (heard_of part heard) }
+        ensures next { (memory part : List ℕ) → phase_of memory result
+            ≡ table.host_row (task_of self.now) table.Trouble (heard_of part heard) }
         ensures within { IsWithin self.now.goal self.now.transfer result }
     {
         match heard {
@@ -93,7 +95,7 @@ impl Task<'_> {
     /// The last reset, and then the report, or the comparison.
     pub(crate) fn after_last(&self, report: Report, heard: Heard) -> Phase
         ensures next { (memory part : List ℕ)
-            → phase_of memory result ≡ table.row (task_of self.now) (table.Last report) (heard_of part heard) }
+            → phase_of memory result ≡ table.host_row (task_of self.now) (table.Last report) (heard_of part heard) }
         ensures within { IsWithin self.now.goal self.now.transfer result }
     {
         match heard {
@@ -109,7 +111,7 @@ impl Task<'_> {
     fn manifested(&self, status: Status) -> Phase
         ensures next { (memory : List ℕ)
             → phase_of memory result
-            ≡ table.manifested (table.start_of (goal_of self.now.goal)) self.now.tolerant status.code status.poll_ms status.state }
+            ≡ table.manifested (table.work_start (goal_of self.now.goal)) self.now.tolerant status.code status.poll_ms status.state }
         ensures within { IsWithin self.now.goal self.now.transfer result }
     {
         if self.tolerant {
@@ -123,7 +125,7 @@ impl Task<'_> {
     fn confirmed(&self, status: Status) -> Phase
         ensures next { (memory : List ℕ)
             → phase_of memory result
-            ≡ table.manifested (table.start_of (goal_of self.now.goal)) true status.code status.poll_ms status.state }
+            ≡ table.manifested (table.work_start (goal_of self.now.goal)) true status.code status.poll_ms status.state }
         ensures within { IsWithin self.now.goal self.now.transfer result }
     {
         match (status.state(), status.code()) {
@@ -137,7 +139,7 @@ impl Task<'_> {
     fn unconfirmed(&self, status: Status) -> Phase
         ensures next { (memory : List ℕ)
             → phase_of memory result
-            ≡ table.manifested (table.start_of (goal_of self.now.goal)) false status.code status.poll_ms status.state }
+            ≡ table.manifested (table.work_start (goal_of self.now.goal)) false status.code status.poll_ms status.state }
         ensures within { IsWithin self.now.goal self.now.transfer result }
     {
         match status.state() {

@@ -84,7 +84,7 @@ impl Task<'_> {
         ensures next { (memory memory' part : List ℕ)
             → Keeps self.now.transfer memory (Phase.Fetch number) part heard memory'
             → phase_of memory' result
-            ≡ table.row (task_of self.now) (table.Fetch number (kept_at number memory)) (heard_of part heard) }
+            ≡ table.host_row (task_of self.now) (table.Fetch number (kept_at number memory)) (heard_of part heard) }
         ensures within { IsWithin self.now.goal self.now.transfer result }
     {
         match heard {
@@ -117,7 +117,7 @@ impl Task<'_> {
     /// The last reset, with all parts kept.
     pub(crate) fn after_last_uploaded(&self, heard: Heard) -> Phase
         ensures next { (memory part : List ℕ)
-            → phase_of memory result ≡ table.row (task_of self.now) (table.LastUploaded memory) (heard_of part heard) }
+            → phase_of memory result ≡ table.host_row (task_of self.now) (table.LastUploaded memory) (heard_of part heard) }
         ensures within { IsWithin self.now.goal self.now.transfer result }
     {
         match heard {

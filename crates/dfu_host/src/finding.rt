@@ -17,7 +17,7 @@ impl Task<'_> {
     /// The phase in which the work begins once the device is in dfuIDLE. A payload has a first
     /// block; of an image nothing is kept or compared yet.
     fn start(&self) -> Phase
-        ensures next { (memory : List ℕ) → phase_of memory result ≡ table.start_of (goal_of self.now.goal) }
+        ensures next { (memory : List ℕ) → phase_of memory result ≡ table.work_start (goal_of self.now.goal) }
         ensures within { IsWithin self.now.goal self.now.transfer result }
     {
         match &self.goal {
@@ -31,7 +31,7 @@ impl Task<'_> {
     /// The list: what follows a status, by its state.
     pub(crate) fn listed(&self, status: Status) -> Phase
         ensures next { (memory : List ℕ)
-            → phase_of memory result ≡ table.listed (table.start_of (goal_of self.now.goal)) status.state status.poll_ms }
+            → phase_of memory result ≡ table.listed (table.work_start (goal_of self.now.goal)) status.state status.poll_ms }
         ensures within { IsWithin self.now.goal self.now.transfer result }
     {
         match status.state() {
@@ -48,7 +48,8 @@ impl Task<'_> {
 
     /// GETSTATUS, to find out where the device stands.
     pub(crate) fn after_find(&self, heard: Heard) -> Phase
-        ensures next { (memory part : List ℕ) → phase_of memory result ≡ table.row (task_of self.now) table.Find (heard_of part heard) }
+        ensures next { (memory part : List ℕ) → phase_of memory result
+            ≡ table.host_row (task_of self.now) table.Find (heard_of part heard) }
         ensures within { IsWithin self.now.goal self.now.transfer result }
     {
         match heard {
@@ -61,7 +62,7 @@ impl Task<'_> {
     /// GETSTATUS once more, after a stall.
     pub(crate) fn after_find_again(&self, heard: Heard) -> Phase
         ensures next { (memory part : List ℕ)
-            → phase_of memory result ≡ table.row (task_of self.now) table.FindAgain (heard_of part heard) }
+            → phase_of memory result ≡ table.host_row (task_of self.now) table.FindAgain (heard_of part heard) }
         ensures within { IsWithin self.now.goal self.now.transfer result }
     {
         match heard {
@@ -73,7 +74,8 @@ impl Task<'_> {
 
     /// DETACH.
     pub(crate) fn after_detach(&self, heard: Heard) -> Phase
-        ensures next { (memory part : List ℕ) → phase_of memory result ≡ table.row (task_of self.now) table.Detach (heard_of part heard) }
+        ensures next { (memory part : List ℕ) → phase_of memory result
+            ≡ table.host_row (task_of self.now) table.Detach (heard_of part heard) }
         ensures within { IsWithin self.now.goal self.now.transfer result }
     {
         match heard {
@@ -84,7 +86,8 @@ impl Task<'_> {
 
     /// A wait where the device detaches by itself, else a reset.
     pub(crate) fn after_enter(&self, heard: Heard) -> Phase
-        ensures next { (memory part : List ℕ) → phase_of memory result ≡ table.row (task_of self.now) table.Enter (heard_of part heard) }
+        ensures next { (memory part : List ℕ) → phase_of memory result
+            ≡ table.host_row (task_of self.now) table.Enter (heard_of part heard) }
         ensures within { IsWithin self.now.goal self.now.transfer result }
     {
         match heard {
@@ -97,7 +100,7 @@ impl Task<'_> {
     /// A wait for what an earlier session left running.
     pub(crate) fn after_wait_find(&self, poll_ms: u32, heard: Heard) -> Phase
         ensures next { (memory part : List ℕ)
-            → phase_of memory result ≡ table.row (task_of self.now) (table.WaitFind poll_ms) (heard_of part heard) }
+            → phase_of memory result ≡ table.host_row (task_of self.now) (table.WaitFind poll_ms) (heard_of part heard) }
         ensures within { IsWithin self.now.goal self.now.transfer result }
     {
         match heard {
@@ -109,7 +112,7 @@ impl Task<'_> {
     /// A reset, to begin anew.
     pub(crate) fn after_reset_find(&self, heard: Heard) -> Phase
         ensures next { (memory part : List ℕ)
-            → phase_of memory result ≡ table.row (task_of self.now) table.ResetFind (heard_of part heard) }
+            → phase_of memory result ≡ table.host_row (task_of self.now) table.ResetFind (heard_of part heard) }
         ensures within { IsWithin self.now.goal self.now.transfer result }
     {
         match heard {

@@ -129,7 +129,8 @@ impl Progress {
 /// Whether this was the last reset, and it was done.
 fn is_last_done(phase: &Phase, heard: &Heard) -> bool
     ensures { (goal : table.Goal) (memory part : List ℕ)
-        → table.goal_after goal (phase_of memory phase.now) (heard_of part heard.now) ≡ (if result then table.checked goal else goal) }
+        → table.goal_after goal (phase_of memory phase.now) (heard_of part heard.now)
+        ≡ (if result then table.goal_after_reset goal else goal) }
 {
     match (phase, heard) {
         (Phase::Last(_), Heard::WasReset) => true,

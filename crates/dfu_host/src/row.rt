@@ -19,7 +19,7 @@ impl Task<'_> {
         ensures next { (memory memory' part : List ℕ)
             → Keeps self.now.transfer memory phase part heard memory'
             → Compares (task_of self.now) phase part heard
-            → phase_of memory' result ≡ table.row (task_of self.now) (phase_of memory phase) (heard_of part heard) }
+            → phase_of memory' result ≡ table.host_row (task_of self.now) (phase_of memory phase) (heard_of part heard) }
         ensures within { IsWithin self.now.goal self.now.transfer result }
     {
         match phase {

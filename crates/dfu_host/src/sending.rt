@@ -16,7 +16,7 @@ impl Task<'_> {
     pub(crate) fn after_block(&self, number: usize, heard: Heard) -> Phase
         requires { number * self.now.transfer < length (payload_of self.now.goal) }
         ensures next { (memory part : List ℕ)
-            → phase_of memory result ≡ table.row (task_of self.now) (table.Block number) (heard_of part heard) }
+            → phase_of memory result ≡ table.host_row (task_of self.now) (table.Block number) (heard_of part heard) }
         ensures within { IsWithin self.now.goal self.now.transfer result }
     {
         match heard {
@@ -30,7 +30,7 @@ impl Task<'_> {
     pub(crate) fn after_ask(&self, number: usize, heard: Heard) -> Phase
         requires { number * self.now.transfer < length (payload_of self.now.goal) }
         ensures next { (memory part : List ℕ)
-            → phase_of memory result ≡ table.row (task_of self.now) (table.Ask number) (heard_of part heard) }
+            → phase_of memory result ≡ table.host_row (task_of self.now) (table.Ask number) (heard_of part heard) }
         ensures within { IsWithin self.now.goal self.now.transfer result }
     {
         match heard {
@@ -46,7 +46,7 @@ impl Task<'_> {
     pub(crate) fn after_poll(&self, number: usize, heard: Heard) -> Phase
         requires { number * self.now.transfer < length (payload_of self.now.goal) }
         ensures next { (memory part : List ℕ)
-            → phase_of memory result ≡ table.row (task_of self.now) (table.Poll number) (heard_of part heard) }
+            → phase_of memory result ≡ table.host_row (task_of self.now) (table.Poll number) (heard_of part heard) }
         ensures within { IsWithin self.now.goal self.now.transfer result }
     {
         match heard {
@@ -61,7 +61,7 @@ impl Task<'_> {
         requires { number * self.now.transfer < length (payload_of self.now.goal) }
         ensures next { (memory : List ℕ)
             → phase_of memory result
-            ≡ table.polled (table.start_of (goal_of self.now.goal)) (length (table.pieces (task_of self.now))) number
+            ≡ table.polled_phase (table.work_start (goal_of self.now.goal)) (length (table.pieces (task_of self.now))) number
             status.code status.poll_ms status.state }
         ensures within { IsWithin self.now.goal self.now.transfer result }
     {
@@ -79,7 +79,7 @@ impl Task<'_> {
     pub(crate) fn after_wait_poll(&self, number: usize, poll_ms: u32, heard: Heard) -> Phase
         requires { number * self.now.transfer < length (payload_of self.now.goal) }
         ensures next { (memory part : List ℕ)
-            → phase_of memory result ≡ table.row (task_of self.now) (table.WaitPoll number poll_ms) (heard_of part heard) }
+            → phase_of memory result ≡ table.host_row (task_of self.now) (table.WaitPoll number poll_ms) (heard_of part heard) }
         ensures within { IsWithin self.now.goal self.now.transfer result }
     {
         match heard {
@@ -91,7 +91,8 @@ impl Task<'_> {
     /// DNLOAD of no bytes, which says that there are no more blocks.
     pub(crate) fn after_close(&self, heard: Heard) -> Phase
         requires { 0 < length (payload_of self.now.goal) }
-        ensures next { (memory part : List ℕ) → phase_of memory result ≡ table.row (task_of self.now) table.Close (heard_of part heard) }
+        ensures next { (memory part : List ℕ) → phase_of memory result
+            ≡ table.host_row (task_of self.now) table.Close (heard_of part heard) }
         ensures within { IsWithin self.now.goal self.now.transfer result }
     {
         match heard {
@@ -104,7 +105,8 @@ impl Task<'_> {
     /// GETSTATE, to learn whether the close came whose answer was lost.
     pub(crate) fn after_ask_last(&self, heard: Heard) -> Phase
         requires { 0 < length (payload_of self.now.goal) }
-        ensures next { (memory part : List ℕ) → phase_of memory result ≡ table.row (task_of self.now) table.AskLast (heard_of part heard) }
+        ensures next { (memory part : List ℕ) → phase_of memory result
+            ≡ table.host_row (task_of self.now) table.AskLast (heard_of part heard) }
         ensures within { IsWithin self.now.goal self.now.transfer result }
     {
         match heard {

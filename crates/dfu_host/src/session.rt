@@ -32,11 +32,11 @@ pub struct Session<'f> {
 impl<'f> Model for Session<'f> {
     ghost use Rattle.dfu_host.specs.declared.parts.Parts.{Parts};
     ghost use Rattle.dfu_host.specs.InParts.{IsWithin};
-    ghost use Rattle.dfu_host.specs.inside.View.{parts_of};
+    ghost use Rattle.dfu_host.specs.inside.View.{session_parts};
 
     ghost Value = { Parts };
 
-    ghost view = { λ s. parts_of s.task s.progress };
+    ghost view = { λ s. session_parts s.task s.progress };
 
     ghost invariant = { λ s. IsWithin s.task.goal s.task.transfer s.progress.phase };
 }
@@ -48,7 +48,7 @@ impl<'f> Session<'f> {
     ghost use Rattle.dfu_host.specs.Phases.{ToFetch, ToLoad, ToVerify};
     ghost use Rattle.dfu_host.specs.Uploading.{first_upload_fault};
     ghost use Rattle.dfu_host.specs.Goals.{Carries, goal_of, payload_of, size_of};
-    ghost use Rattle.dfu_host.specs.InParts.{IsCut, IsSession, begins_at, host_of, kept_at};
+    ghost use Rattle.dfu_host.specs.InParts.{BodyIsCut, IsSession, begins_at, host_of, kept_at};
     ghost use Rattle.dfu_host.specs.Keeping.{Kept, Stored};
     ghost use Rattle.dfu_host.specs.Taking.{Takes};
     ghost use Rattle.dfu_host.specs.Rooms.{TakesPartIn};
@@ -163,7 +163,7 @@ impl<'f> Session<'f> {
     pub fn next(&self) -> Action<'f>
         ensures act { (memory : List ℕ) → Act (host_of memory self.now) result }
         ensures done { (memory : List ℕ) → IsTrue (is_done result) ↔ (takes_left (host_of memory self.now) ≡ 0) }
-        ensures cut { IsCut (payload_of self.now.goal) (begins_at self.now.transfer self.now.phase) result }
+        ensures cut { BodyIsCut (payload_of self.now.goal) (begins_at self.now.transfer self.now.phase) result }
     {
         self.task.action(self.progress.phase)
     }

@@ -72,7 +72,7 @@ impl<'f> Task<'f> {
     pub(crate) fn go_on(&mut self, done: bool)
         ensures payload { (payload : Bor (List ℕ)) → Carries payload self.old.goal → Carries payload self.new.goal }
         ensures task { task_of self.new
-            ≡ record (task_of self.old) { goal = if done then table.checked (goal_of self.old.goal) else goal_of self.old.goal } }
+            ≡ record (task_of self.old) { goal = if done then table.goal_after_reset (goal_of self.old.goal) else goal_of self.old.goal } }
         ensures within { (next : Phase) → IsWithin self.old.goal self.old.transfer next → IsWithin self.new.goal self.new.transfer next }
     {
         if !done {

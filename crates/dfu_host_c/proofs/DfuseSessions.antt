@@ -1,17 +1,17 @@
 -- A session keeps its map and its image, and so does its record.
 use Rattle.std.proofs.Common.{rules, ◌≡◌, ℕ, List, Some, sym, ap, ◌∙◌, subst}
 use Rattle.std.specs.Borrow.{Bor}
-use Rattle.dfuse_memory.specs.Reading.{Content}
+use Rattle.dfuse_memory.specs.Reading.{MapContent}
 use Rattle.dfuse_host.specs.declared.element.Element.{Element}
 use Rattle.dfuse_host.specs.declared.phase.Phase.{Phase}
 use Rattle.dfuse_host.specs.declared.plan.Plan.{Plan}
 use Rattle.dfuse_host.specs.declared.session.Session.{Session}
 use Rattle.std.specs.Prelude.{Option, None, option_map}
-use Rattle.dfu_host_c.specs.dfuse.Sessions.{IsHeld, phase_in, session_in, session_with}
+use Rattle.dfu_host_c.specs.dfuse.Sessions.{DfuseIsHeld, phase_in, session_in, session_with}
 use Rattle.dfu_host_c.specs.declared.dfuse.session.DfuseSession.{DfuseSession}
 
 -- The session of a record has the map and the image that it is read over.
-plan_with : (r : DfuseSession) (map : Bor Content) (image : Bor (List Element)) (o : Option Phase) (s : Session) →
+plan_with : (r : DfuseSession) (map : Bor MapContent) (image : Bor (List Element)) (o : Option Phase) (s : Session) →
     option_map (session_with r map image) o ≡ Some s → (s.plan.map ≡ map) × (s.plan.image ≡ image)
 plan_with r map image None s e = absurd cc
 plan_with r map image (Some phase) s e =
@@ -19,8 +19,8 @@ plan_with r map image (Some phase) s e =
     (sym (ap (λ (t : Session). t.plan.map) same), sym (ap (λ (t : Session). t.plan.image) same))
 
 -- The record of what a session became stands for that, over the same string and image.
-pub held_on : (r r' : DfuseSession) (text : List ℕ) (image : Bor (List Element)) (s next : Session) → IsHeld r text image s →
-    next.plan ≡ s.plan → session_in r' next.plan.map next.plan.image ≡ Some next → IsHeld r' text image next
+pub held_on : (r r' : DfuseSession) (text : List ℕ) (image : Bor (List Element)) (s next : Session) → DfuseIsHeld r text image s →
+    next.plan ≡ s.plan → session_in r' next.plan.map next.plan.image ≡ Some next → DfuseIsHeld r' text image next
 held_on r r' text image s next held plan says =
     let both : (s.plan.map ≡ held.map) × (s.plan.image ≡ image) = plan_with r held.map image (phase_in r) s held.says in
     let map : next.plan.map ≡ held.map = ap (λ (p : Plan). p.map) plan ∙ both.0 in
@@ -28,5 +28,5 @@ held_on r r' text image s next held plan says =
       map = held.map;
       is_map = held.is_map;
       says = subst (λ (i : Bor (List Element)). session_in r' held.map i ≡ Some next) over
-          (subst (λ (m : Bor Content). session_in r' m next.plan.image ≡ Some next) map says);
+          (subst (λ (m : Bor MapContent). session_in r' m next.plan.image ≡ Some next) map says);
     }

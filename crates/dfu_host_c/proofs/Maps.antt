@@ -5,12 +5,12 @@ use Rattle.std.specs.Borrow.{Bor}
 use Rattle.std.specs.List.{HoldsAt, slice_get}
 use Rattle.std.specs.Slice.{IsItemAt}
 use Rattle.std.proofs.lemmas.Option.{slice_get-get_or, slice_get_past}
-use Rattle.dfuse_memory.specs.Reading.{Content}
+use Rattle.dfuse_memory.specs.Reading.{MapContent}
 use Rattle.dfuse_memory.specs.declared.fault.MapFault.{MapFault}
 use Rattle.dfuse_memory.specs.declared.pages.Pages.{Pages}
 
 -- A string that has a fault is no map.
-pub no_map : (result : Result Content MapFault) (fault : MapFault) (m : Content) → result ≡ Err fault → result ≡ Ok m → ⊥
+pub no_map : (result : Result MapContent MapFault) (fault : MapFault) (m : MapContent) → result ≡ Err fault → result ≡ Ok m → ⊥
 no_map result fault m is only = let never : Err fault ≡ Ok m = sym is ∙ only in absurd cc
 
 -- A range that was found is that of its number.

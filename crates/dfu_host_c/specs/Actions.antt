@@ -35,8 +35,8 @@ pub record IsDone (report : Report) (r : DfuAction) : Type 0 where
 
 -- The record says what a host with this payload does, where a body begins at this place: 0 to send a request, 1 to wait so many
 -- milliseconds, 2 to reset the bus, and 3 that it is done. A number that an action does not have is 0.
-abbrev pub Tells : (payload : List ℕ) → (from : ℕ) → Deed → DfuAction → Type 0
-Tells payload from (Send q body) r = IsSend payload from q body r
-Tells payload from (Wait ms) r = IsOther 1 ms 0 r
-Tells payload from Reset r = IsOther 2 0 0 r
-Tells payload from (Done report) r = IsDone report r
+abbrev pub TellsAction : (payload : List ℕ) → (from : ℕ) → Deed → DfuAction → Type 0
+TellsAction payload from (Send q body) r = IsSend payload from q body r
+TellsAction payload from (Wait ms) r = IsOther 1 ms 0 r
+TellsAction payload from Reset r = IsOther 2 0 0 r
+TellsAction payload from (Done report) r = IsDone report r

@@ -19,7 +19,7 @@ use Rattle.dfu_host_c.specs.Sessions.{IsRecord, IsWritten}
 use Rattle.dfu_host_c.specs.declared.session.DfuSession.{DfuSession}
 
 -- The record is that of a session which begins as this host, and keeps nothing yet.
-pub record HasBegun (r : DfuSession) (start : HostState) : Type 0 where
+pub record HasBegunAs (r : DfuSession) (start : HostState) : Type 0 where
   pub parts : Parts
   pub stands : (payload : Bor (List ℕ)) → Carries payload parts.goal → IsRecord r payload parts
   pub written : IsWritten r parts
@@ -31,14 +31,15 @@ abbrev pub IsContent : Content → List ℕ → Type 0
 IsContent c bytes = (extra : List ℕ) × IsFile c.payload c.ids c.dfu extra bytes × (c.suffix ≡ 16 + length extra)
 
 -- A session was begun on a file and a descriptor, of which none of these faults holds: it is for this goal with the file's payload.
-pub record Begins (to : List ℕ → Goal) (first : Content → Functional → Ids → Option HostFault) (file descriptor : List ℕ) (device : Ids)
+pub record BeginsSession (to : List ℕ → Goal) (first : Content → Functional → Ids → Option HostFault) (file descriptor : List ℕ)
+    (device : Ids)
     (limits : Limits) (result : ℤ) (r' : DfuSession) : Type 0 where
   pub content : Content
   pub functional : Functional
   pub is_content : IsContent content file
   pub is_functional : IsFunctional functional descriptor
   pub accepted : first content functional device ≡ None
-  pub begun : HasBegun r' (started functional (to content.payload) limits)
+  pub begun : HasBegunAs r' (started functional (to content.payload) limits)
   pub number_is : result ≡ pos 0
 
 -- The bytes are no file, and this is the number of what is wrong first.
@@ -75,7 +76,7 @@ pub record BeginsUpload (to : Goal) (first : Functional → Option HostFault) (d
   pub functional : Functional
   pub is_functional : IsFunctional functional descriptor
   pub accepted : first functional ≡ None
-  pub begun : HasBegun r' (started functional to limits)
+  pub begun : HasBegunAs r' (started functional to limits)
   pub number_is : result ≡ pos 0
 
 -- The host refuses an upload by a descriptor that was read, by the first of these faults.

@@ -9,34 +9,34 @@ use Rattle.dfu_host.specs.InParts.{begins_at, host_of}
 use Rattle.dfu_host.specs.Rooms.{TakesPartIn}
 use Rattle.dfu_host.specs.Storing.{Stores}
 use Rattle.dfu_host.specs.Table.{deed}
-use Rattle.dfu_host_c.specs.Actions.{Tells}
-use Rattle.dfu_host_c.specs.Sessions.{IsRecord, IsHeld, IsWritten, host_in}
+use Rattle.dfu_host_c.specs.Actions.{TellsAction}
+use Rattle.dfu_host_c.specs.Sessions.{IsRecord, IsHeldSession, IsWritten, host_in}
 use Rattle.dfu_host_c.specs.Told.{seen_at}
 use Rattle.dfu_host_c.specs.declared.action.DfuAction.{DfuAction}
 use Rattle.dfu_host_c.specs.declared.session.DfuSession.{DfuSession}
 
 -- The session of a record took what was seen, as a row of the host's table; a part of an upload was stored in the buffer where it finds
 -- room, and where it finds none, that was heard in its place.
-pub record Took (r r' : DfuSession) (payload : Bor (List ℕ)) (buffer buffer' : List ℕ) (seen : ℕ) (bytes : Bor (List ℕ)) : Type 0 where
+pub record TookSeen (r r' : DfuSession) (payload : Bor (List ℕ)) (buffer buffer' : List ℕ) (seen : ℕ) (bytes : Bor (List ℕ)) : Type 0 where
   pub parts : Parts
   pub word : Seen
   pub next : Parts
-  pub before : IsHeld r payload buffer parts
+  pub before : IsHeldSession r payload buffer parts
   pub seen_is : seen_at seen bytes ≡ Some word
-  pub later : IsHeld r' payload buffer' next
+  pub later : IsHeldSession r' payload buffer' next
   pub written : IsWritten r' next
   pub row : HostRow (host_in r buffer parts) word (host_in r' buffer' next)
   pub room : TakesPartIn (length buffer) (host_in r buffer parts) (host_in r buffer parts).phase word (host_in r' buffer' next)
   pub stores : Stores parts.transfer parts.phase word r.kept buffer r'.kept buffer'
 
 -- The record and the buffer are those of a session over this payload.
-pub record Stands (r : DfuSession) (payload : Bor (List ℕ)) (buffer : List ℕ) : Type 0 where
+pub record SessionStands (r : DfuSession) (payload : Bor (List ℕ)) (buffer : List ℕ) : Type 0 where
   pub parts : Parts
-  pub held : IsHeld r payload buffer parts
+  pub held : IsHeldSession r payload buffer parts
 
 -- The record and the buffer are none of a session over this payload.
 abbrev pub NotHeld : DfuSession → Bor (List ℕ) → (buffer : List ℕ) → Type 0
-NotHeld r payload buffer = (parts : Parts) → IsHeld r payload buffer parts → ⊥
+NotHeld r payload buffer = (parts : Parts) → IsHeldSession r payload buffer parts → ⊥
 
 -- The record is none of a session over this payload.
 abbrev pub NoRecord : DfuSession → Bor (List ℕ) → Type 0
@@ -53,9 +53,9 @@ pub record GivenUp (r r' : DfuSession) (payload : Bor (List ℕ)) : Type 0 where
   pub kept : r'.kept ≡ r.kept
 
 -- The record of an action says what the session of a record does next: the body of what it sends is cut from its payload.
-pub record IsNext (r : DfuSession) (payload : Bor (List ℕ)) (a : DfuAction) : Type 0 where
+pub record IsNextAction (r : DfuSession) (payload : Bor (List ℕ)) (a : DfuAction) : Type 0 where
   pub parts : Parts
   pub stands : IsRecord r payload parts
   pub tells : (memory : List ℕ)
-      → Tells (payload_of parts.goal) (begins_at parts.transfer parts.phase)
+      → TellsAction (payload_of parts.goal) (begins_at parts.transfer parts.phase)
       (deed (host_of memory parts).task (host_of memory parts).phase) a

@@ -2,11 +2,11 @@
 
 ghost use Rattle.std.specs.Prelude.{◌≡◌, ◌⊎◌, ◌≤◌, List, length, pos, ℕ};
 ghost use Rattle.dfu_host.specs.Phases.{Deed};
-ghost use Rattle.dfu_host.specs.InParts.{IsCut};
+ghost use Rattle.dfu_host.specs.InParts.{BodyIsCut};
 ghost use Rattle.dfu_host.specs.Wire.{Spells};
-ghost use Rattle.dfu_host_c.specs.Actions.{Tells};
+ghost use Rattle.dfu_host_c.specs.Actions.{TellsAction};
 ghost use Rattle.dfu_host_c.specs.Refusals.{no_session};
-ghost use Rattle.dfu_host_c.specs.Calls.{IsNext, NoRecord};
+ghost use Rattle.dfu_host_c.specs.Calls.{IsNextAction, NoRecord};
 
 use crate::holding::session_of;
 use crate::refusals::NO_SESSION;
@@ -35,8 +35,8 @@ pub struct DfuAction {
 /// The record of an action whose body, if any, begins there.
 #[tactic(auto, using(crate::proofs::Bodies::cut_ends))]
 fn record_of(action: Action<'_>, from: usize) -> DfuAction
-    ensures { (deed : Deed) (payload : List ℕ) → Spells deed action.entry → IsCut payload from action.entry → from ≤ length payload
-        → Tells payload from deed result }
+    ensures { (deed : Deed) (payload : List ℕ) → Spells deed action.entry → BodyIsCut payload from action.entry → from ≤ length payload
+        → TellsAction payload from deed result }
 {
     let none = DfuAction {
         what: 2,
@@ -76,7 +76,7 @@ fn record_of(action: Action<'_>, from: usize) -> DfuAction
 #[tactic(auto, using(crate::proofs::Bodies::begins_within))]
 #[unsafe(no_mangle)]
 pub extern "C" fn dfu_host_next(session: &DfuSession, payload: &[u8], action: &mut DfuAction) -> i32
-    ensures outcome { ((result ≡ pos 0) × IsNext session.now payload.entry action.new)
+    ensures outcome { ((result ≡ pos 0) × IsNextAction session.now payload.entry action.new)
         ⊎ ((result ≡ no_session) × NoRecord session.now payload.entry × (action.new ≡ action.old)) }
 {
     let Some(host) = session_of(session, payload) else {

@@ -7,7 +7,7 @@ ghost use Rattle.dfu_host.specs.Host.{HostState};
 ghost use Rattle.dfu_host.specs.InParts.{host_of};
 ghost use Rattle.dfu_host.specs.Phases.{ToFetch, ToLoad, ToVerify};
 ghost use Rattle.dfu_host.specs.Uploading.{first_upload_fault};
-ghost use Rattle.dfu_host_c.specs.Beginning.{Begins, BeginsUpload, HasBegun, HostRefuses, IsContent, IsNoDescriptor, IsUnread, RefusesUpload};
+ghost use Rattle.dfu_host_c.specs.Beginning.{BeginsSession, BeginsUpload, HasBegunAs, HostRefuses, IsContent, IsNoDescriptor, IsUnread, RefusesUpload};
 ghost use Rattle.dfu_host_c.specs.Sessions.{ids_of, limits_of};
 
 use crate::file::file_in;
@@ -45,7 +45,7 @@ fn read_both<'f>(file: &'f [u8], descriptor: &[u8]) -> Result<Wanted<'f>, i32>
 /// Writes the record of a session that begins.
 fn start(session: &mut DfuSession, host: &Session<'_>) -> i32
     ensures number { result ≡ pos 0 }
-    ensures begun { (start : HostState) → ((memory : List ℕ) → host_of memory host.now ≡ start) → HasBegun session.new start }
+    ensures begun { (start : HostState) → ((memory : List ℕ) → host_of memory host.now ≡ start) → HasBegunAs session.new start }
 {
     *session = record_of(host, 0);
     0
@@ -61,7 +61,7 @@ pub extern "C" fn dfu_host_download(
     actions: u32,
     restarts: u16,
 ) -> i32
-    ensures outcome { Begins ToLoad first_download_fault file.now descriptor.now (ids_of device.now)
+    ensures outcome { BeginsSession ToLoad first_download_fault file.now descriptor.now (ids_of device.now)
         (limits_of actions restarts) result session.new
         ⊎ (IsUnread file.now descriptor.now result × (session.new ≡ session.old))
         ⊎ (HostRefuses first_download_fault file.now descriptor.now (ids_of device.now) result × (session.new ≡ session.old)) }
@@ -87,7 +87,7 @@ pub extern "C" fn dfu_host_verified(
     actions: u32,
     restarts: u16,
 ) -> i32
-    ensures outcome { Begins ToVerify first_verify_fault file.now descriptor.now (ids_of device.now)
+    ensures outcome { BeginsSession ToVerify first_verify_fault file.now descriptor.now (ids_of device.now)
         (limits_of actions restarts) result session.new
         ⊎ (IsUnread file.now descriptor.now result × (session.new ≡ session.old))
         ⊎ (HostRefuses first_verify_fault file.now descriptor.now (ids_of device.now) result × (session.new ≡ session.old)) }

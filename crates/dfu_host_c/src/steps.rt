@@ -6,8 +6,8 @@ ghost use Rattle.dfu_host.specs.Goals.{Carries};
 ghost use Rattle.dfu_host.specs.Host.{HostRow};
 ghost use Rattle.dfu_host.specs.Rooms.{TakesPartIn};
 ghost use Rattle.dfu_host.specs.Storing.{Stores};
-ghost use Rattle.dfu_host_c.specs.Calls.{GivenUp, NoRecord, NotHeld, Stands, Took};
-ghost use Rattle.dfu_host_c.specs.Sessions.{IsHeld, IsWritten, host_in};
+ghost use Rattle.dfu_host_c.specs.Calls.{GivenUp, NoRecord, NotHeld, SessionStands, TookSeen};
+ghost use Rattle.dfu_host_c.specs.Sessions.{IsHeldSession, IsWritten, host_in};
 ghost use Rattle.dfu_host_c.specs.Refusals.{no_session, no_seen};
 ghost use Rattle.dfu_host_c.specs.Told.{seen_at};
 
@@ -26,7 +26,7 @@ fn step(given: &DfuSession, host: &mut Session<'_>, kept: &mut [u8], seen: Seen<
         (host_in result kept.new host.new) }
     ensures stores { Stores host.old.transfer host.old.phase seen.entry given.now.kept kept.old result.kept kept.new }
     ensures written { IsWritten result host.new }
-    ensures held { (payload : Bor (List ℕ)) → Carries payload host.old.goal → IsHeld result payload kept.new host.new }
+    ensures held { (payload : Bor (List ℕ)) → Carries payload host.old.goal → IsHeldSession result payload kept.new host.new }
 {
     let count = host.take(kept, given.kept as usize, seen);
     record_of(host, count as u64)
@@ -41,9 +41,9 @@ pub extern "C" fn dfu_host_take(
     seen: u32,
     bytes: &[u8],
 ) -> i32
-    ensures outcome { ((result ≡ pos 0) × Took session.old session.new payload.entry kept.old kept.new seen bytes.entry)
+    ensures outcome { ((result ≡ pos 0) × TookSeen session.old session.new payload.entry kept.old kept.new seen bytes.entry)
         ⊎ ((result ≡ no_session) × NotHeld session.old payload.entry kept.old × (session.new ≡ session.old) × (kept.new ≡ kept.old))
-        ⊎ ((result ≡ no_seen) × Stands session.old payload.entry kept.old × (seen_at seen bytes.entry ≡ None)
+        ⊎ ((result ≡ no_seen) × SessionStands session.old payload.entry kept.old × (seen_at seen bytes.entry ≡ None)
         × (session.new ≡ session.old) × (kept.new ≡ kept.old)) }
 {
     let Some(mut host) = session_of(session, payload) else {

@@ -1,6 +1,7 @@
-//! Tests of dfu_host, by its public calls alone. They stand in a crate of their own, since the gate proves a crate with
-//! tests twice.
+//! Tests of dfu_host, dfuse_host, dfuse_file and dfuse_memory, by their public calls alone.
 #![tactic(auto)]
 
 #[cfg(test)]
-mod tests;
+mod dfuse;
+#[cfg(test)]
+mod session;

@@ -3,8 +3,8 @@ use Rattle.std.proofs.Common.{◌≡◌, ℕ, zero, suc, ◌+◌, ◌<◌, ◌�
 use Rattle.std.proofs.lemmas.List.{append-nil}
 use Rattle.dfu_images.specs.declared.laying.LayFault.{LayFault}
 use Rattle.dfu_images.specs.declared.laying.LayFault.TheVariants as fault
-use Rattle.dfu_images.specs.Elements.{Piece, end_of, AreApart}
-use Rattle.dfu_images.specs.Laying.{part_of, in_front, followed, laid, lowest, FailsToLay}
+use Rattle.dfu_images.specs.Elements.{Piece, end_of_piece, AreApart}
+use Rattle.dfu_images.specs.Laying.{filled_part, in_front, followed, laid, lowest, FailsToLay}
 
 -- What is left to lay, behind bytes that were laid, makes all.
 pub record LaysOn (whole : Result (List ℕ) LayFault) (fill : Option ℕ) (bytes : List ℕ) (end : ℕ) (left : List Piece) : Type 0 where
@@ -18,12 +18,13 @@ lays_first fill end all h = record { so_far = first (laid fill 0 end all); apart
     first (Ok bytes) = refl
     first (Err fault) = refl
 
-apart_head : (end : ℕ) (p : Piece) (ps : List Piece) → AreApart end (p ∷ ps) → (end ≤ p.address) × AreApart (end_of p) ps
+apart_head : (end : ℕ) (p : Piece) (ps : List Piece) → AreApart end (p ∷ ps) → (end ≤ p.address) × AreApart (end_of_piece p) ps
 unfolding AreApart
 apart_head end p ps h = h
 
 laid_cons : (fill : Option ℕ) (count end : ℕ) (p : Piece) (ps : List Piece) →
-    laid fill count end (p ∷ ps) ≡ followed (part_of fill count end p) (λ (front : List ℕ). laid fill (count + length front) (end_of p) ps)
+    laid fill count end (p ∷ ps) ≡ followed (filled_part fill count end p)
+    (λ (front : List ℕ). laid fill (count + length front) (end_of_piece p) ps)
 unfolding laid
 laid_cons fill count end p ps = refl
 
@@ -42,9 +43,11 @@ fails_by fault bytes (Ok front) f h = cc
 fails_by fault bytes (Err other) f h = h
 
 pub lays_fault : (fault : LayFault) (whole : Result (List ℕ) LayFault) (fill : Option ℕ) (bytes : List ℕ) (end : ℕ) (p : Piece) (ps left : List Piece) →
-    left ≡ p ∷ ps → LaysOn whole fill bytes end left → FailsToLay fault (in_front bytes (part_of fill (length bytes) end p)) → FailsToLay fault whole
+    left ≡ p ∷ ps → LaysOn whole fill bytes end left → FailsToLay fault (in_front bytes (filled_part fill (length bytes) end p)) →
+    FailsToLay fault whole
 lays_fault fault whole fill bytes end p ps left e w h =
-    let f = fails_by fault bytes (part_of fill (length bytes) end p) (λ (front : List ℕ). laid fill (length bytes + length front) (end_of p) ps) h in
+    let f = fails_by fault bytes (filled_part fill (length bytes) end p)
+    (λ (front : List ℕ). laid fill (length bytes + length front) (end_of_piece p) ps) h in
     subst (FailsToLay fault) (sym (ap (in_front bytes) (ap (laid fill (length bytes) end) e ∙ laid_cons fill (length bytes) end p ps)) ∙ w.so_far) f
 
 goes_by : (fill : Option ℕ) (end : ℕ) (ps : List Piece) (bytes more : List ℕ) (r : Result (List ℕ) LayFault) → in_front bytes r ≡ Ok more →
@@ -61,10 +64,10 @@ goes_by fill end ps bytes more (Ok front) h =
     joined xs ys (Err fault) = refl
 
 pub lays_on : (whole : Result (List ℕ) LayFault) (fill : Option ℕ) (bytes more : List ℕ) (end : ℕ) (p : Piece) (ps left : List Piece) →
-    left ≡ p ∷ ps → LaysOn whole fill bytes end left → in_front bytes (part_of fill (length bytes) end p) ≡ Ok more →
-    LaysOn whole fill more (end_of p) ps
+    left ≡ p ∷ ps → LaysOn whole fill bytes end left → in_front bytes (filled_part fill (length bytes) end p) ≡ Ok more →
+    LaysOn whole fill more (end_of_piece p) ps
 lays_on whole fill bytes more end p ps left e w h = record {
-  so_far = sym (goes_by fill (end_of p) ps bytes more (part_of fill (length bytes) end p) h)
+  so_far = sym (goes_by fill (end_of_piece p) ps bytes more (filled_part fill (length bytes) end p) h)
       ∙ (sym (ap (in_front bytes) (ap (laid fill (length bytes) end) e ∙ laid_cons fill (length bytes) end p ps)) ∙ w.so_far);
   apart = (apart_head end p ps (subst (AreApart end) e w.apart)).1;
 }

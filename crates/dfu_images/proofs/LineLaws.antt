@@ -2,7 +2,7 @@
 use Rattle.std.proofs.Common.{◌≡◌, ℕ, zero, suc, ◌+◌, ◌<◌, ◌≤◌, Bool, true, false, cond, eqb, ltb, List, [], ◌∷◌, length, take, drop, refl, sym, ap, ◌∙◌, arith, Option, Some, None, MatchOption}
 use Rattle.std.proofs.lemmas.Bool.{ltb-true, ltb-false}
 use Rattle.std.specs.List.{position, position_or_len}
-use Rattle.dfu_images.specs.Lines.{lines, in_front, is_feed}
+use Rattle.dfu_images.specs.Lines.{lines, before_lines, is_feed}
 
 lines_none : lines [] ≡ [] ∷ []
 unfolding lines
@@ -14,7 +14,7 @@ unfolding lines
 lines_feed b bs e = rw e refl
 
 -- Any other byte belongs to it.
-pub lines_other : (b : ℕ) (bs : List ℕ) → eqb b 10 ≡ false → lines (b ∷ bs) ≡ in_front b (lines bs)
+pub lines_other : (b : ℕ) (bs : List ℕ) → eqb b 10 ≡ false → lines (b ∷ bs) ≡ before_lines b (lines bs)
 unfolding lines
 lines_other b bs e = rw e refl
 
@@ -37,7 +37,7 @@ first_line (b ∷ bs) (suc n) e h =
     let by : (t : Bool) → eqb b 10 ≡ t → lines (b ∷ bs) ≡ (b ∷ take n bs) ∷ lines (drop (suc n) bs) =
     λ t. elim t as (λ t. eqb b 10 ≡ t → lines (b ∷ bs) ≡ (b ∷ take n bs) ∷ lines (drop (suc n) bs)) [
       | true ↦ λ q. absurd (omega (arith, place_feed b bs q, e))
-      | false ↦ λ q. lines_other b bs q ∙ ap (in_front b) (first_line bs n (omega (arith, place_other b bs q, e)) (omega (arith, h)))
+      | false ↦ λ q. lines_other b bs q ∙ ap (before_lines b) (first_line bs n (omega (arith, place_other b bs q, e)) (omega (arith, h)))
     ] in by (eqb b 10) refl
 
 -- A text without a feed is one line.
@@ -47,7 +47,7 @@ only_line (b ∷ bs) h =
     let by : (t : Bool) → eqb b 10 ≡ t → lines (b ∷ bs) ≡ (b ∷ bs) ∷ [] =
     λ t. elim t as (λ t. eqb b 10 ≡ t → lines (b ∷ bs) ≡ (b ∷ bs) ∷ []) [
       | true ↦ λ q. absurd (omega (arith, place_feed b bs q, h))
-      | false ↦ λ q. lines_other b bs q ∙ ap (in_front b) (only_line bs (omega (arith, place_other b bs q, h)))
+      | false ↦ λ q. lines_other b bs q ∙ ap (before_lines b) (only_line bs (omega (arith, place_other b bs q, h)))
     ] in by (eqb b 10) refl
 
 some_by : (t : Bool) (k n : ℕ) → cond t (Some k) None ≡ Some n → (t ≡ true) × (k ≡ n)

@@ -1,7 +1,7 @@
 -- Digits, pair by pair.
 use Rattle.std.proofs.Common.{◌≡◌, ℕ, zero, suc, ◌+◌, ◌*◌, ◌<◌, ◌≤◌, ltb, List, [], ◌∷◌, ◌++◌, length, drop, get_or, refl, sym, ap, ◌∙◌, arith, Option, Some, None, append_assoc, drop-cons}
 use Rattle.std.proofs.lemmas.List.{append-nil}
-use Rattle.dfu_images.specs.Digits.{hex, before, pairs}
+use Rattle.dfu_images.specs.Digits.{hex_value, before, pairs}
 use Rattle.dfu_images.proofs.TestLaws.{less, not_less, both, first_no, second_no}
 
 -- Bytes before those that digits spell.
@@ -22,18 +22,19 @@ unfolding pairs
 pairs_one a = refl
 
 -- Two digits are a byte.
-pub pairs_two : (a b : ℕ) (bs : List ℕ) → hex a < 16 → hex b < 16 → pairs (a ∷ b ∷ bs) ≡ before (16 * hex a + hex b) (pairs bs)
+pub pairs_two : (a b : ℕ) (bs : List ℕ) → hex_value a < 16 → hex_value b < 16 →
+    pairs (a ∷ b ∷ bs) ≡ before (16 * hex_value a + hex_value b) (pairs bs)
 unfolding pairs
-pairs_two a b bs h k = rw (both (ltb (hex a) 16) (ltb (hex b) 16) (less (hex a) 16 h) (less (hex b) 16 k)) refl
+pairs_two a b bs h k = rw (both (ltb (hex_value a) 16) (ltb (hex_value b) 16) (less (hex_value a) 16 h) (less (hex_value b) 16 k)) refl
 
 -- Anything else is none.
-pairs_high : (a b : ℕ) (bs : List ℕ) → 16 ≤ hex a → pairs (a ∷ b ∷ bs) ≡ None
+pairs_high : (a b : ℕ) (bs : List ℕ) → 16 ≤ hex_value a → pairs (a ∷ b ∷ bs) ≡ None
 unfolding pairs
-pairs_high a b bs h = rw (first_no (ltb (hex a) 16) (ltb (hex b) 16) (not_less (hex a) 16 h)) refl
+pairs_high a b bs h = rw (first_no (ltb (hex_value a) 16) (ltb (hex_value b) 16) (not_less (hex_value a) 16 h)) refl
 
-pairs_low : (a b : ℕ) (bs : List ℕ) → 16 ≤ hex b → pairs (a ∷ b ∷ bs) ≡ None
+pairs_low : (a b : ℕ) (bs : List ℕ) → 16 ≤ hex_value b → pairs (a ∷ b ∷ bs) ≡ None
 unfolding pairs
-pairs_low a b bs h = rw (second_no (ltb (hex a) 16) (ltb (hex b) 16) (not_less (hex b) 16 h)) refl
+pairs_low a b bs h = rw (second_no (ltb (hex_value a) 16) (ltb (hex_value b) 16) (not_less (hex_value b) 16 h)) refl
 
 drop_end : (xs : List ℕ) (i : ℕ) → length xs ≤ i → drop i xs ≡ []
 drop_end [] zero h = refl
@@ -63,12 +64,12 @@ spelled_odd xs front i h so_far =
     sym so_far ∙ ap (joined front) (ap pairs (drop_one xs i h) ∙ pairs_one (get_or xs i 0))
 
 -- One of two is no digit.
-pub spelled_high : (xs front : List ℕ) (i j k : ℕ) → j ≡ suc i → k ≡ suc j → j < length xs → 16 ≤ hex (get_or xs i 0) →
+pub spelled_high : (xs front : List ℕ) (i j k : ℕ) → j ≡ suc i → k ≡ suc j → j < length xs → 16 ≤ hex_value (get_or xs i 0) →
     joined front (pairs (drop i xs)) ≡ pairs xs → pairs xs ≡ None
 spelled_high xs front i j k e f h d so_far =
     sym so_far ∙ ap (joined front) (ap pairs (drop_two xs i j k e f h) ∙ pairs_high (get_or xs i 0) (get_or xs j 0) (drop k xs) d)
 
-pub spelled_low : (xs front : List ℕ) (i j k : ℕ) → j ≡ suc i → k ≡ suc j → j < length xs → 16 ≤ hex (get_or xs j 0) →
+pub spelled_low : (xs front : List ℕ) (i j k : ℕ) → j ≡ suc i → k ≡ suc j → j < length xs → 16 ≤ hex_value (get_or xs j 0) →
     joined front (pairs (drop i xs)) ≡ pairs xs → pairs xs ≡ None
 spelled_low xs front i j k e f h d so_far =
     sym so_far ∙ ap (joined front) (ap pairs (drop_two xs i j k e f h) ∙ pairs_low (get_or xs i 0) (get_or xs j 0) (drop k xs) d)
@@ -78,8 +79,10 @@ joined_more front b None = refl
 joined_more front b (Some bytes) = ap Some (sym (append_assoc front (b ∷ []) bytes))
 
 -- One byte more.
-pub spelled_more : (xs front : List ℕ) (i j k b : ℕ) → j ≡ suc i → k ≡ suc j → j < length xs → hex (get_or xs i 0) < 16 → hex (get_or xs j 0) < 16 →
-    b ≡ 16 * hex (get_or xs i 0) + hex (get_or xs j 0) → joined front (pairs (drop i xs)) ≡ pairs xs → joined (front ++ b ∷ []) (pairs (drop k xs)) ≡ pairs xs
+pub spelled_more : (xs front : List ℕ) (i j k b : ℕ) → j ≡ suc i → k ≡ suc j → j < length xs → hex_value (get_or xs i 0) < 16 →
+    hex_value (get_or xs j 0) < 16 →
+    b ≡ 16 * hex_value (get_or xs i 0) + hex_value (get_or xs j 0) → joined front (pairs (drop i xs)) ≡ pairs xs →
+    joined (front ++ b ∷ []) (pairs (drop k xs)) ≡ pairs xs
 spelled_more xs front i j k b e f h d g v so_far =
     let two = ap pairs (drop_two xs i j k e f h) ∙ pairs_two (get_or xs i 0) (get_or xs j 0) (drop k xs) d g in
     sym (joined_more front b (pairs (drop k xs))) ∙ (ap (λ (n : ℕ). joined front (before n (pairs (drop k xs)))) v ∙ (sym (ap (joined front) two) ∙ so_far))

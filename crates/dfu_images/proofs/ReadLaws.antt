@@ -2,11 +2,12 @@
 use Rattle.std.proofs.Common.{◌≡◌, ℕ, suc, take, drop, ◌+◌, Bool, true, false, List, [], ◌∷◌, refl, sym, ap, ◌∙◌, subst, Result, Ok, Err}
 use Rattle.dfu_images.specs.declared.fault.ImageFault.{ImageFault}
 use Rattle.dfu_images.specs.declared.fault.ImageFault.TheVariants as fault
-use Rattle.dfu_images.specs.Reading.{◌>>=◌, parts_read, Fails}
+use Rattle.dfu_images.specs.Reading.{◌>>=◌, parts_read, FailsToRead}
 use Rattle.dfu_images.specs.Lines.{bare, lines_read}
 
 -- A step that failed fails all.
-pub fails_then : {A B : Type 0} (fault : ImageFault) (r : Result A ImageFault) (f : A → Result B ImageFault) → Fails fault r → Fails fault (r >>= f)
+pub fails_then : {A B : Type 0} (fault : ImageFault) (r : Result A ImageFault) (f : A → Result B ImageFault) → FailsToRead fault r →
+    FailsToRead fault (r >>= f)
 fails_then fault.NoMemory r f h = tt
 fails_then fault r f h = rw h refl
 
@@ -23,10 +24,11 @@ line_done {S = S} is read at s t line kept more all whole e k h so_far =
 
 -- A line has a fault: it is that of all.
 pub line_fault : {S : Type 0} (is : S → Bool) (read : ℕ → S → List ℕ → Result S ImageFault) (fault : ImageFault) (at : ℕ) (s : S) (line kept : List ℕ) (more all : List (List ℕ)) (whole : Result S ImageFault) → all ≡ line ∷ more →
-    kept ≡ bare line → Fails fault (read at s kept) → lines_read is read at s all ≡ whole → Fails fault whole
+    kept ≡ bare line → FailsToRead fault (read at s kept) → lines_read is read at s all ≡ whole → FailsToRead fault whole
 line_fault {S = S} is read fault at s line kept more all whole e k h so_far =
-    let f = fails_then fault (read at s (bare line)) (λ (t : S). lines_read is read (at + 1) t more) (subst (λ (kept : List ℕ). Fails fault (read at s kept)) k h) in
-    subst (Fails fault) (sym (first_line is read at s line more) ∙ (sym (ap (lines_read is read at s) e) ∙ so_far)) f
+    let f = fails_then fault (read at s (bare line)) (λ (t : S). lines_read is read (at + 1) t more)
+    (subst (λ (kept : List ℕ). FailsToRead fault (read at s kept)) k h) in
+    subst (FailsToRead fault) (sym (first_line is read at s line more) ∙ (sym (ap (lines_read is read at s) e) ∙ so_far)) f
 
 none_left : {S : Type 0} (is : S → Bool) (read : ℕ → S → List ℕ → Result S ImageFault) (at : ℕ) (s : S) → is s ≡ true → lines_read is read at s [] ≡ Ok s
 unfolding lines_read
@@ -59,12 +61,13 @@ part_done {S = S} size read left n index s t bytes part behind whole e p b h so_
 
 -- A part has a fault: it is that of all.
 pub part_fault : {S : Type 0} (size : ℕ) (read : ℕ → S → List ℕ → Result S ImageFault) (fault : ImageFault) (left n index : ℕ) (s : S)
-    (bytes part : List ℕ) (whole : Result S ImageFault) → left ≡ suc n → part ≡ take size bytes → Fails fault (read index s part) →
-    parts_read size read left index s bytes ≡ whole → Fails fault whole
+    (bytes part : List ℕ) (whole : Result S ImageFault) → left ≡ suc n → part ≡ take size bytes → FailsToRead fault (read index s part) →
+    parts_read size read left index s bytes ≡ whole → FailsToRead fault whole
 part_fault {S = S} size read fault left n index s bytes part whole e p h so_far =
     let f = fails_then fault (read index s (take size bytes)) (λ (t : S). parts_read size read n (index + 1) t (drop size bytes))
-    (subst (λ (part : List ℕ). Fails fault (read index s part)) p h) in
-    subst (Fails fault) (sym (next_part size read n index s bytes) ∙ (sym (ap (λ (k : ℕ). parts_read size read k index s bytes) e) ∙ so_far)) f
+    (subst (λ (part : List ℕ). FailsToRead fault (read index s part)) p h) in
+    subst (FailsToRead fault) (sym (next_part size read n index s bytes)
+    ∙ (sym (ap (λ (k : ℕ). parts_read size read k index s bytes) e) ∙ so_far)) f
 
 no_part : {S : Type 0} (size : ℕ) (read : ℕ → S → List ℕ → Result S ImageFault) (index : ℕ) (s : S) (bytes : List ℕ) → parts_read size read 0 index s bytes ≡ Ok s
 unfolding parts_read

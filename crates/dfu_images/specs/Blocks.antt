@@ -7,8 +7,8 @@ use Rattle.dfu_images.specs.Numbers.{le32}
 use Rattle.dfu_images.specs.Elements.{Piece, Gathering, nothing, added, gathered}
 
 -- The three marks of a block.
-abbrev pub is_block : List ℕ → Bool
-is_block block = (le32 block 0 == 0x0A324655) && ((le32 block 4 == 0x9E5D5157) && (le32 block 508 == 0x0AB16F30))
+abbrev pub is_uf2_block : List ℕ → Bool
+is_uf2_block block = (le32 block 0 == 0x0A324655) && ((le32 block 4 == 0x9E5D5157) && (le32 block 508 == 0x0AB16F30))
 
 -- A flag of a block, by its value.
 abbrev pub has_flag : List ℕ → ℕ → Bool
@@ -30,13 +30,13 @@ flashed family index g block =
 -- A block has its marks, up to 476 bytes of data, its number, and the count of all.
 unfoldable pub block_read : (total family index : ℕ) → Gathering → List ℕ → Result Gathering ImageFault
 block_read total family index g block =
-    if not (is_block block) then Err (BadMagic index)
+    if not (is_uf2_block block) then Err (BadMagic index)
     else if nat_lt 476 (le32 block 16) then Err (BadBlock index)
     else if not ((le32 block 20 == index) && (le32 block 24 == total)) then Err (BadNumber index)
     else flashed family index g block
 
 -- The elements that a file has, or its first fault. It is for the family that its first block names.
-unfoldable pub elements_of : List ℕ → Result (List Piece) ImageFault
-elements_of file =
+unfoldable pub uf2_elements_of : List ℕ → Result (List Piece) ImageFault
+uf2_elements_of file =
     if (length file == 0) || not (length file % 512 == 0) then Err BadSize
     else parts_read 512 (block_read (length file / 512) (family_of (take 512 file))) (length file / 512) 0 nothing file >>= gathered

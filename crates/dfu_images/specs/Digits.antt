@@ -5,8 +5,8 @@ use Rattle.dfu_images.specs.declared.fault.ImageFault.TheVariants.{BadDigit, Bad
 use Rattle.dfu_images.specs.Reading.{or}
 
 -- The value of a digit of either case; 16 for a byte that is none.
-abbrev pub hex : ℕ → ℕ
-hex b =
+abbrev pub hex_value : ℕ → ℕ
+hex_value b =
     if nat_le 48 b && nat_le b 57 then b - 48
     else if nat_le 97 b && nat_le b 102 then b - 87
     else if nat_le 65 b && nat_le b 70 then b - 55
@@ -21,7 +21,7 @@ before b (Some bs) = Some (b ∷ bs)
 unfoldable pub pairs : List ℕ → Option (List ℕ)
 pairs [] = Some []
 pairs (a ∷ []) = None
-pairs (a ∷ b ∷ bs) = if nat_lt (hex a) 16 && nat_lt (hex b) 16 then before (16 * hex a + hex b) (pairs bs) else None
+pairs (a ∷ b ∷ bs) = if nat_lt (hex_value a) 16 && nat_lt (hex_value b) 16 then before (16 * hex_value a + hex_value b) (pairs bs) else None
 
 -- The bytes of a record, of which there are 260 at most.
 unfoldable pub bytes_at : (at : ℕ) → List ℕ → Result (List ℕ) ImageFault

@@ -4,7 +4,7 @@ use Rattle.dfu_images.specs.declared.fault.ImageFault.{ImageFault}
 use Rattle.dfu_images.specs.declared.fault.ImageFault.TheVariants.{TooLarge, TooManyElements, Overlaps}
 use Rattle.std.specs.List.{insert}
 use Rattle.std.specs.declared.alloc.Global.{Global}
-use Rattle.dfu_images.specs.Reading.{Fails}
+use Rattle.dfu_images.specs.Reading.{FailsToRead}
 
 -- Bytes, and the address of the first.
 pub record Piece : Type 0 where
@@ -12,8 +12,8 @@ pub record Piece : Type 0 where
   pub bytes : List ℕ
 
 -- The address behind the last byte.
-abbrev pub end_of : Piece → ℕ
-end_of p = p.address + length p.bytes
+abbrev pub end_of_piece : Piece → ℕ
+end_of_piece p = p.address + length p.bytes
 
 -- Elements that are complete, by address; the one that still grows, which has no byte at first; and how many bytes all have.
 pub record Gathering : Type 0 where
@@ -26,13 +26,13 @@ abbrev pub nothing : Gathering
 nothing = record { complete = []; growing = record { address = 0; bytes = [] }; total = 0 }
 
 -- How many elements have an address up to that of this one, counted from the front.
-unfoldable pub place_of : (address : ℕ) → List Piece → ℕ
-place_of address [] = 0
-place_of address (q ∷ qs) = if nat_lt address q.address then 0 else suc (place_of address qs)
+unfoldable pub element_place : (address : ℕ) → List Piece → ℕ
+element_place address [] = 0
+element_place address (q ∷ qs) = if nat_lt address q.address then 0 else suc (element_place address qs)
 
 -- An element among others by its address.
 abbrev pub placed : Piece → List Piece → List Piece
-placed p qs = insert qs (place_of p.address qs) p
+placed p qs = insert qs (element_place p.address qs) p
 
 -- The elements once the one that grows is complete.
 unfoldable pub completed : List Piece → (growing : Piece) → List Piece
@@ -47,7 +47,7 @@ begun at total complete p =
 -- Bytes that begin where the last ones end belong to their element, and others begin one.
 unfoldable pub grown : (at : ℕ) → Gathering → Piece → Result Gathering ImageFault
 grown at g p =
-    if end_of g.growing == p.address then Ok (record {
+    if end_of_piece g.growing == p.address then Ok (record {
       complete = g.complete;
       growing = record { address = g.growing.address; bytes = g.growing.bytes ++ p.bytes };
       total = g.total + length p.bytes;
@@ -64,7 +64,7 @@ added at g p =
 -- The first address that lies before the end of the element before it.
 unfoldable pub shared : (end : ℕ) → List Piece → Option ℕ
 shared end [] = None
-shared end (p ∷ ps) = if nat_lt p.address end then Some p.address else shared (end_of p) ps
+shared end (p ∷ ps) = if nat_lt p.address end then Some p.address else shared (end_of_piece p) ps
 
 -- Elements that share no address.
 abbrev pub unless_shared : List Piece → Option ℕ → Result (List Piece) ImageFault
@@ -78,9 +78,9 @@ gathered g = let all = completed g.complete g.growing in unless_shared all (shar
 -- Elements by address, each of which begins at this one or behind it, and at the end of the one before or behind that.
 unfoldable pub AreApart : (from : ℕ) → List Piece → Type 0
 AreApart from [] = Unit {0}
-AreApart from (p ∷ ps) = (from ≤ p.address) × AreApart (end_of p) ps
+AreApart from (p ∷ ps) = (from ≤ p.address) × AreApart (end_of_piece p) ps
 
 -- A call gives these elements, unless memory ran out.
 abbrev pub Lists : Result (Vec Piece Global) ImageFault → Result (List Piece) ImageFault → Type 0
 Lists (Ok elements) read = read ≡ Ok elements.items
-Lists (Err fault) read = Fails fault read
+Lists (Err fault) read = FailsToRead fault read

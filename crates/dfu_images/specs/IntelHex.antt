@@ -8,19 +8,19 @@ use Rattle.dfu_images.specs.Lines.{lines, lines_read}
 use Rattle.dfu_images.specs.Elements.{Piece, Gathering, nothing, added, gathered}
 
 -- The bytes of a record: `:`, and two digits for each.
-unfoldable pub spelled : (at : ℕ) → List ℕ → Result (List ℕ) ImageFault
-spelled at [] = Err (NoMark at)
-spelled at (b ∷ digits) = if b == 58 then bytes_at at digits else Err (NoMark at)
+unfoldable pub hex_spelled : (at : ℕ) → List ℕ → Result (List ℕ) ImageFault
+hex_spelled at [] = Err (NoMark at)
+hex_spelled at (b ∷ digits) = if b == 58 then bytes_at at digits else Err (NoMark at)
 
 -- A record: where its data goes, counted from the base, its type, and its data.
-pub record Record : Type 0 where
+pub record HexRecord : Type 0 where
   pub offset : ℕ
   pub kind : ℕ
   pub content : List ℕ
 
 -- A record of a count, an offset of two bytes, a type, so many bytes, and a checksum by which all bytes together make 0.
-unfoldable pub framed : (at : ℕ) → List ℕ → Result Record ImageFault
-framed at bytes =
+unfoldable pub hex_framed : (at : ℕ) → List ℕ → Result HexRecord ImageFault
+hex_framed at bytes =
     if not (length bytes == slice_index bytes 0 + 5) then Err (BadLength at)
     else if not (sum bytes % 256 == 0) then Err (BadChecksum at)
     else Ok (record {
@@ -30,19 +30,19 @@ framed at bytes =
     })
 
 -- What was read up to a line: the elements, the base of addresses, and whether the end record was read.
-pub record State : Type 0 where
+pub record HexState : Type 0 where
   pub gathering : Gathering
   pub base : ℕ
   pub is_ended : Bool
 
 -- Data at an offset from the base, which ends by the last address of 32 bits.
-unfoldable pub data_at : (at : ℕ) → State → Record → Result State ImageFault
-data_at at s r =
+unfoldable pub hex_data_at : (at : ℕ) → HexState → HexRecord → Result HexState ImageFault
+hex_data_at at s r =
     if nat_lt (2 ^ 32) (s.base + r.offset + length r.content) then Err (PastSegment at)
     else added at s.gathering (record { address = s.base + r.offset; bytes = r.content }) >>= λ g. Ok (record { gathering = g; base = s.base; is_ended = s.is_ended })
 
 -- A new base: two bytes, in units of so many addresses.
-unfoldable pub based : (at unit : ℕ) → State → Record → Result State ImageFault
+unfoldable pub based : (at unit : ℕ) → HexState → HexRecord → Result HexState ImageFault
 based at unit s r =
     if length r.content == 2 then Ok (record {
       gathering = s.gathering;
@@ -52,9 +52,9 @@ based at unit s r =
     else Err (BadLength at)
 
 -- What a record says: 0 data, 1 the end, 2 a segment in paragraphs of 16, 4 the upper half of addresses, 3 and 5 where a program begins.
-unfoldable pub meant : (at : ℕ) → State → Record → Result State ImageFault
-meant at s r =
-    if r.kind == 0 then data_at at s r
+unfoldable pub hex_meant : (at : ℕ) → HexState → HexRecord → Result HexState ImageFault
+hex_meant at s r =
+    if r.kind == 0 then hex_data_at at s r
     else if r.kind == 1 then
     if length r.content == 0 then Ok (record { gathering = s.gathering; base = s.base; is_ended = true }) else Err (BadLength at)
     else if r.kind == 2 then based at 16 s r
@@ -63,20 +63,20 @@ meant at s r =
     else Err (BadType at)
 
 -- A line: a record, or nothing. Behind the end record there is nothing.
-unfoldable pub line_read : (at : ℕ) → State → List ℕ → Result State ImageFault
-line_read at s line =
+unfoldable pub hex_line_read : (at : ℕ) → HexState → List ℕ → Result HexState ImageFault
+hex_line_read at s line =
     if length line == 0 then Ok s
     else if s.is_ended then Err (Trailing at)
-    else spelled at line >>= framed at >>= meant at s
+    else hex_spelled at line >>= hex_framed at >>= hex_meant at s
 
 -- Before the first line.
-abbrev pub start : State
-start = record { gathering = nothing; base = 0; is_ended = false }
+abbrev pub hex_start : HexState
+hex_start = record { gathering = nothing; base = 0; is_ended = false }
 
 -- The end record was read.
-abbrev pub is_ended : State → Bool
+abbrev pub is_ended : HexState → Bool
 is_ended s = s.is_ended
 
 -- The elements that a file has, or its first fault.
-unfoldable pub elements_of : List ℕ → Result (List Piece) ImageFault
-elements_of text = lines_read is_ended line_read 1 start (lines text) >>= λ s. gathered s.gathering
+unfoldable pub hex_elements_of : List ℕ → Result (List Piece) ImageFault
+hex_elements_of text = lines_read is_ended hex_line_read 1 hex_start (lines text) >>= λ s. gathered s.gathering

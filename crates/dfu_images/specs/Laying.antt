@@ -5,11 +5,11 @@ use Rattle.std.specs.declared.alloc.Global.{Global}
 use Rattle.dfu_images.specs.declared.laying.LayFault.{LayFault}
 use Rattle.dfu_images.specs.declared.laying.LayFault.TheVariants.{NoMemory, Gap, TooLarge}
 use Rattle.std.specs.Prelude.{◌≡◌}
-use Rattle.dfu_images.specs.Elements.{Piece, end_of}
+use Rattle.dfu_images.specs.Elements.{Piece, end_of_piece}
 
 -- The bytes of an element, behind what fills the gap before it. Without a filling there may be no gap; all have 16,777,216 bytes at most.
-unfoldable pub part_of : (fill : Option ℕ) → (count end : ℕ) → Piece → Result (List ℕ) LayFault
-part_of fill count end p =
+unfoldable pub filled_part : (fill : Option ℕ) → (count end : ℕ) → Piece → Result (List ℕ) LayFault
+filled_part fill count end p =
     if not (is_some fill) && nat_lt end p.address then Err (Gap end p.address)
     else if nat_lt 16777216 (count + (p.address - end) + length p.bytes) then Err TooLarge
     else Ok (replicate (p.address - end) (unwrap_or fill 0) ++ p.bytes)
@@ -27,7 +27,7 @@ followed (Ok front) more = in_front front (more front)
 -- The bytes of elements from an address on, behind so many others.
 unfoldable pub laid : (fill : Option ℕ) → (count end : ℕ) → List Piece → Result (List ℕ) LayFault
 laid fill count end [] = Ok []
-laid fill count end (p ∷ ps) = followed (part_of fill count end p) (λ front. laid fill (count + length front) (end_of p) ps)
+laid fill count end (p ∷ ps) = followed (filled_part fill count end p) (λ front. laid fill (count + length front) (end_of_piece p) ps)
 
 -- The lowest address of elements, or 0 if there are none.
 abbrev pub lowest : List Piece → ℕ

@@ -5,14 +5,14 @@ use Rattle.dfu_images.specs.declared.fault.ImageFault.TheVariants.{NoEnd}
 use Rattle.dfu_images.specs.Reading.{◌>>=◌}
 
 -- A byte before the first line.
-abbrev pub in_front : ℕ → List (List ℕ) → List (List ℕ)
-in_front b [] = (b ∷ []) ∷ []
-in_front b (line ∷ lines) = (b ∷ line) ∷ lines
+abbrev pub before_lines : ℕ → List (List ℕ) → List (List ℕ)
+before_lines b [] = (b ∷ []) ∷ []
+before_lines b (line ∷ lines) = (b ∷ line) ∷ lines
 
 -- What stands between line feeds, which may be nothing.
 unfoldable pub lines : List ℕ → List (List ℕ)
 lines [] = [] ∷ []
-lines (b ∷ bs) = if b == 10 then [] ∷ lines bs else in_front b (lines bs)
+lines (b ∷ bs) = if b == 10 then [] ∷ lines bs else before_lines b (lines bs)
 
 -- A line feed.
 abbrev pub is_feed : ℕ → Bool

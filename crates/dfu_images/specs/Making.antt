@@ -8,7 +8,7 @@ use Rattle.dfu_images.specs.declared.making.FileFault.{FileFault}
 use Rattle.dfu_images.specs.declared.making.FileFault.TheVariants.{Unread, NoData, Unlaid}
 use Rattle.dfu_images.specs.Elements.{Piece}
 use Rattle.dfu_images.specs.Laying.{FailsToLay, laid, lowest}
-use Rattle.dfu_images.specs.Reading.{Fails}
+use Rattle.dfu_images.specs.Reading.{FailsToRead}
 use Rattle.dfu_images.specs.IntelHex as hex
 use Rattle.dfu_images.specs.SRecord as srec
 use Rattle.dfu_images.specs.Blocks as uf2
@@ -16,10 +16,10 @@ use Rattle.dfu_images.specs.Elf as elf
 
 -- The elements that a file of a format has, or its first fault.
 abbrev pub elements_in : Format → List ℕ → Result (List Piece) ImageFault
-elements_in format.IntelHex file = hex.elements_of file
-elements_in format.SRecord file = srec.elements_of file
-elements_in format.Uf2 file = uf2.elements_of file
-elements_in format.Elf file = elf.elements_of file
+elements_in format.IntelHex file = hex.hex_elements_of file
+elements_in format.SRecord file = srec.srec_elements_of file
+elements_in format.Uf2 file = uf2.uf2_elements_of file
+elements_in format.Elf file = elf.elf_elements_of file
 
 -- Elements, of which there is one at least, give these bytes from the lowest address on.
 abbrev pub LiesAs : Option ℕ → Result (List Piece) ImageFault → Image → Type 0
@@ -27,8 +27,9 @@ LiesAs fill read image = (ps : List Piece) × (read ≡ Ok ps) × (0 < length ps
     × (laid fill 0 (lowest ps) ps ≡ Ok image.bytes.items)
 
 -- What comes of what is read of a file: its fault; or that there are no bytes; or its elements as one piece; or why they make none.
-abbrev pub Makes : Option ℕ → Result (List Piece) ImageFault → Result Image FileFault → Type 0
-Makes fill read (Ok image) = LiesAs fill read image
-Makes fill read (Err (Unread fault)) = Fails fault read
-Makes fill read (Err NoData) = read ≡ Ok []
-Makes fill read (Err (Unlaid fault)) = (ps : List Piece) × (read ≡ Ok ps) × (0 < length ps) × FailsToLay fault (laid fill 0 (lowest ps) ps)
+abbrev pub MakesImage : Option ℕ → Result (List Piece) ImageFault → Result Image FileFault → Type 0
+MakesImage fill read (Ok image) = LiesAs fill read image
+MakesImage fill read (Err (Unread fault)) = FailsToRead fault read
+MakesImage fill read (Err NoData) = read ≡ Ok []
+MakesImage fill read (Err (Unlaid fault)) = (ps : List Piece) × (read ≡ Ok ps) × (0 < length ps) ×
+    FailsToLay fault (laid fill 0 (lowest ps) ps)

@@ -21,11 +21,11 @@ parts_read size read zero index s bytes = Ok s
 parts_read size read (suc n) index s bytes = read index s (take size bytes) >>= λ t. parts_read size read n (index + 1) t (drop size bytes)
 
 -- A call that failed gives the fault of what is read; NoMemory says nothing of it.
-abbrev pub Fails : {A : Type 0} → ImageFault → Result A ImageFault → Type 0
-Fails NoMemory read = Unit {0}
-Fails fault read = read ≡ Err fault
+abbrev pub FailsToRead : {A : Type 0} → ImageFault → Result A ImageFault → Type 0
+FailsToRead NoMemory read = Unit {0}
+FailsToRead fault read = read ≡ Err fault
 
 -- A call gives what is read, unless memory ran out.
 abbrev pub Gives : {A : Type 0} → Result A ImageFault → Result A ImageFault → Type 0
 Gives (Ok x) read = read ≡ Ok x
-Gives (Err fault) read = Fails fault read
+Gives (Err fault) read = FailsToRead fault read

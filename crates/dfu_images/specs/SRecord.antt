@@ -13,10 +13,10 @@ pub record Typed : Type 0 where
   pub bytes : List ℕ
 
 -- A record's type and bytes: `S`, a digit, and two digits for each byte.
-unfoldable pub spelled : (at : ℕ) → List ℕ → Result Typed ImageFault
-spelled at [] = Err (NoMark at)
-spelled at (b ∷ []) = Err (NoMark at)
-spelled at (b ∷ kind ∷ digits) =
+unfoldable pub srec_spelled : (at : ℕ) → List ℕ → Result Typed ImageFault
+srec_spelled at [] = Err (NoMark at)
+srec_spelled at (b ∷ []) = Err (NoMark at)
+srec_spelled at (b ∷ kind ∷ digits) =
     if (b == 83) && (nat_le 48 kind && nat_le kind 57) then (bytes_at at digits >>= λ bytes. Ok (record { kind = kind - 48; bytes = bytes }))
     else Err (NoMark at)
 
@@ -32,14 +32,14 @@ abbrev pub number : List ℕ → ℕ
 number bytes = fold (λ n b. 256 * n + b) 0 bytes
 
 -- A record: its type, its address, and its data.
-pub record Record : Type 0 where
+pub record SRecordLine : Type 0 where
   pub kind : ℕ
   pub address : ℕ
   pub content : List ℕ
 
 -- A record of a count, an address, data, and a checksum by which all bytes together make 255; the count is of all behind it.
-unfoldable pub framed : (at : ℕ) → Typed → Result Record ImageFault
-framed at t =
+unfoldable pub srec_framed : (at : ℕ) → Typed → Result SRecordLine ImageFault
+srec_framed at t =
     if not (length t.bytes == slice_index t.bytes 0 + 1) || nat_lt (length t.bytes) (width t.kind + 2) then Err (BadLength at)
     else if not (sum t.bytes % 256 == 255) then Err (BadChecksum at)
     else Ok (record {
@@ -50,50 +50,50 @@ framed at t =
 
 -- What was read up to a line: the elements, how many records of data, whether a count or an end record came behind the last of them, and
 -- whether the end record was read.
-pub record State : Type 0 where
+pub record SRecordState : Type 0 where
   pub gathering : Gathering
   pub count : ℕ
   pub is_whole : Bool
   pub is_ended : Bool
 
 -- Data, which ends by the last address of 32 bits.
-unfoldable pub data_at : (at : ℕ) → State → Record → Result State ImageFault
-data_at at s r =
+unfoldable pub srec_data_at : (at : ℕ) → SRecordState → SRecordLine → Result SRecordState ImageFault
+srec_data_at at s r =
     if nat_lt (2 ^ 32) (r.address + length r.content) then Err (PastSegment at)
     else added at s.gathering (record { address = r.address; bytes = r.content })
     >>= λ g. Ok (record { gathering = g; count = s.count + 1; is_whole = false; is_ended = s.is_ended })
 
 -- The count of the records of data so far, or the end, each of which has no data.
-unfoldable pub closed : (at : ℕ) → State → Record → Result State ImageFault
-closed at s r =
+unfoldable pub srec_closed : (at : ℕ) → SRecordState → SRecordLine → Result SRecordState ImageFault
+srec_closed at s r =
     if not (length r.content == 0) then Err (BadLength at)
     else if nat_le 7 r.kind then Ok (record { gathering = s.gathering; count = s.count; is_whole = true; is_ended = true })
     else if r.address == s.count then Ok (record { gathering = s.gathering; count = s.count; is_whole = true; is_ended = s.is_ended })
     else Err (BadCount at)
 
 -- What a record says: 0 a title, 1 to 3 data, 5 and 6 a count, 7 to 9 the end.
-unfoldable pub meant : (at : ℕ) → State → Record → Result State ImageFault
-meant at s r =
+unfoldable pub srec_meant : (at : ℕ) → SRecordState → SRecordLine → Result SRecordState ImageFault
+srec_meant at s r =
     if r.kind == 0 then Ok s
-    else if nat_le r.kind 3 then data_at at s r
+    else if nat_le r.kind 3 then srec_data_at at s r
     else if r.kind == 4 then Err (BadType at)
-    else closed at s r
+    else srec_closed at s r
 
 -- A line: a record, or nothing. Behind the end record there is nothing.
-unfoldable pub line_read : (at : ℕ) → State → List ℕ → Result State ImageFault
-line_read at s line =
+unfoldable pub srec_line_read : (at : ℕ) → SRecordState → List ℕ → Result SRecordState ImageFault
+srec_line_read at s line =
     if length line == 0 then Ok s
     else if s.is_ended then Err (Trailing at)
-    else spelled at line >>= framed at >>= meant at s
+    else srec_spelled at line >>= srec_framed at >>= srec_meant at s
 
 -- Before the first line.
-abbrev pub start : State
-start = record { gathering = nothing; count = 0; is_whole = false; is_ended = false }
+abbrev pub srec_start : SRecordState
+srec_start = record { gathering = nothing; count = 0; is_whole = false; is_ended = false }
 
 -- A count or an end record came behind all data.
-abbrev pub is_whole : State → Bool
+abbrev pub is_whole : SRecordState → Bool
 is_whole s = s.is_whole
 
 -- The elements that a file has, or its first fault.
-unfoldable pub elements_of : List ℕ → Result (List Piece) ImageFault
-elements_of text = lines_read is_whole line_read 1 start (lines text) >>= λ s. gathered s.gathering
+unfoldable pub srec_elements_of : List ℕ → Result (List Piece) ImageFault
+srec_elements_of text = lines_read is_whole srec_line_read 1 srec_start (lines text) >>= λ s. gathered s.gathering

@@ -1,7 +1,7 @@
 //! Bytes in two hexadecimal digits each.
 
 ghost use Rattle.std.specs.Prelude.{◌≡◌, ◌*◌, ◌≤◌, length, sum, MatchOption, MatchResult, None, Some, Ok, Err};
-ghost use Rattle.dfu_images.specs.Digits.{hex, pairs, bytes_at};
+ghost use Rattle.dfu_images.specs.Digits.{hex_value, pairs, bytes_at};
 
 use crate::fault::ImageFault;
 use crate::limits::MAX_RECORD;
@@ -9,7 +9,7 @@ use arrayvec::ArrayVec;
 
 /// The value of a digit, or 16.
 fn hex(byte: u8) -> u8
-    ensures value { result ≡ hex byte }
+    ensures value { result ≡ hex_value byte }
     ensures small { result ≤ 16 }
 {
     match byte {

@@ -1,7 +1,7 @@
 //! A part of an image.
 
 ghost use Rattle.std.specs.Prelude.{◌≡◌, ◌+◌, ◌≤◌, ◌^◌, length};
-ghost use Rattle.dfu_images.specs.Elements.{end_of};
+ghost use Rattle.dfu_images.specs.Elements.{end_of_piece};
 
 use std::marker::Model;
 
@@ -52,7 +52,7 @@ impl Element {
 
     /// The address behind the last byte, up to 2^32.
     pub fn end(&self) -> u64
-        ensures value { result ≡ end_of self.now }
+        ensures value { result ≡ end_of_piece self.now }
         ensures fits { result ≤ 2 ^ 32 }
     {
         self.address as u64 + self.bytes.len() as u64

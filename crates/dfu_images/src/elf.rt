@@ -1,9 +1,9 @@
 //! ELF files of 32 bits, little endian: what their segments load.
 
 ghost use Rattle.std.specs.Prelude.{◌≡◌, ◌+◌, ◌*◌, ◌≤◌, ◌<◌, length, IfOk, true, Ok, Err};
-ghost use Rattle.dfu_images.specs.Reading.{parts_read, Gives, Fails};
+ghost use Rattle.dfu_images.specs.Reading.{parts_read, Gives, FailsToRead};
 ghost use Rattle.dfu_images.specs.Elements.{AreApart, Lists, nothing};
-ghost use Rattle.dfu_images.specs.Elf.{is_elf, has_headers, segment_read, elements_of};
+ghost use Rattle.dfu_images.specs.Elf.{is_elf, has_headers, segment_read, elf_elements_of};
 
 use crate::element::Element;
 use crate::fault::ImageFault;
@@ -75,10 +75,10 @@ fn segments_read(
 }
 
 /// The elements of a file.
-#[tactic(auto, using(std::proofs::lemmas::Bool::Decides::nat_tests), unfolding(crate::specs::Elf::elements_of))]
+#[tactic(auto, using(std::proofs::lemmas::Bool::Decides::nat_tests), unfolding(crate::specs::Elf::elf_elements_of))]
 pub fn read(alloc: Global, file: &[u8]) -> Result<Vec<Element>, ImageFault>
     // What the file says, or its first fault.
-    ensures value { Lists result (elements_of file.now) }
+    ensures value { Lists result (elf_elements_of file.now) }
     // The elements are by address, and no two share one.
     ensures apart { IfOk result (λ v. AreApart 0 v.items) }
 {

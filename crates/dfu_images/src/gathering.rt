@@ -2,7 +2,7 @@
 
 ghost use Rattle.std.specs.Prelude.{◌≡◌, ◌+◌, ◌≤◌, ◌<◌, ◌^◌, length, IfOk, Ok, Err};
 ghost use Rattle.dfu_images.specs.Reading.{Gives};
-ghost use Rattle.dfu_images.specs.Elements.{nothing, place_of, placed, completed, begun, grown, added, shared, gathered, AreApart, Lists};
+ghost use Rattle.dfu_images.specs.Elements.{nothing, element_place, placed, completed, begun, grown, added, shared, gathered, AreApart, Lists};
 
 use crate::element::Element;
 use crate::fault::ImageFault;
@@ -36,7 +36,7 @@ impl Model for Gathering {
 
 /// How many elements have an address up to this one, counted from the front.
 fn place_of(address: u32, elements: &[Element]) -> usize
-    ensures value { result ≡ place_of address elements.now }
+    ensures value { result ≡ element_place address elements.now }
     ensures within { result ≤ length elements.now }
 {
     let mut count: usize = 0;

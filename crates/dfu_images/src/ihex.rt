@@ -5,10 +5,10 @@
 //! bytes of its base, as some tools write it. Where a program begins says nothing of the image.
 
 ghost use Rattle.std.specs.Prelude.{◌≡◌, ◌+◌, ◌≤◌, ◌<◌, ◌^◌, length, IfOk, MatchResult, Ok, Err};
-ghost use Rattle.dfu_images.specs.Reading.{Gives, Fails};
+ghost use Rattle.dfu_images.specs.Reading.{Gives, FailsToRead};
 ghost use Rattle.dfu_images.specs.Elements.{AreApart, Lists};
 ghost use Rattle.dfu_images.specs.Lines.{lines, lines_read};
-ghost use Rattle.dfu_images.specs.IntelHex.{spelled, framed, start, data_at, based, meant, is_ended, line_read, elements_of};
+ghost use Rattle.dfu_images.specs.IntelHex.{hex_spelled, hex_framed, hex_start, hex_data_at, based, hex_meant, is_ended, hex_line_read, hex_elements_of};
 
 use crate::digits::{bytes_at, sum_of};
 use crate::element::Element;
@@ -21,9 +21,9 @@ use std::alloc::Global;
 use std::marker::Model;
 
 /// The bytes of a record, from the text of its line.
-#[tactic(auto, using(std::proofs::lemmas::Bool::Decides::nat_tests), unfolding(crate::specs::IntelHex::spelled))]
+#[tactic(auto, using(std::proofs::lemmas::Bool::Decides::nat_tests), unfolding(crate::specs::IntelHex::hex_spelled))]
 fn spelled(at: usize, line: &[u8]) -> Result<ArrayVec<u8, MAX_RECORD>, ImageFault>
-    ensures { MatchResult result (λ bytes. spelled at line.now ≡ Ok bytes.items) (λ fault. spelled at line.now ≡ Err fault) }
+    ensures { MatchResult result (λ bytes. hex_spelled at line.now ≡ Ok bytes.items) (λ fault. hex_spelled at line.now ≡ Err fault) }
 {
     match line {
         [b':', digits @ ..] => bytes_at(at, digits),
@@ -42,16 +42,16 @@ struct Record<'t> {
 impl<'t> Model for Record<'t> {
     ghost use Rattle.dfu_images.specs.IntelHex as hex;
 
-    ghost Value = { hex.Record };
+    ghost Value = { hex.HexRecord };
 
     ghost view = { λ r. record { offset = r.offset; kind = r.kind; content = r.content.now } };
 }
 
 /// A record, of its bytes.
-#[tactic(auto, using(std::proofs::lemmas::Bool::Decides::nat_tests), unfolding(crate::specs::IntelHex::framed))]
+#[tactic(auto, using(std::proofs::lemmas::Bool::Decides::nat_tests), unfolding(crate::specs::IntelHex::hex_framed))]
 fn framed(at: usize, bytes: &[u8]) -> Result<Record<'_>, ImageFault>
     requires { length bytes.now ≤ 260 }
-    ensures value { result ≡ framed at bytes.now }
+    ensures value { result ≡ hex_framed at bytes.now }
     ensures small { IfOk result (λ r. r.offset < 65536) }
 {
     if bytes.len() == 0 {
@@ -85,7 +85,7 @@ impl Model for State {
     ghost use Rattle.std.specs.Prelude.{◌≤◌, ◌^◌};
     ghost use Rattle.dfu_images.specs.IntelHex as hex;
 
-    ghost Value = { hex.State };
+    ghost Value = { hex.HexState };
 
     ghost view = { λ s. record { gathering = s.gathering; base = s.base; is_ended = s.is_ended } };
 
@@ -93,10 +93,10 @@ impl Model for State {
 }
 
 /// Data at an offset from the base.
-#[tactic(auto, using(std::proofs::lemmas::Bool::Decides::nat_tests), unfolding(crate::specs::IntelHex::data_at))]
+#[tactic(auto, using(std::proofs::lemmas::Bool::Decides::nat_tests), unfolding(crate::specs::IntelHex::hex_data_at))]
 fn data_at(alloc: Global, at: usize, state: State, said: &Record<'_>) -> Result<State, ImageFault>
     requires { said.now.offset < 65536 }
-    ensures { Gives result (data_at at state said.now) }
+    ensures { Gives result (hex_data_at at state said.now) }
 {
     let State {
         gathering,
@@ -134,10 +134,10 @@ fn based(at: usize, unit: u64, state: State, said: &Record<'_>) -> Result<State,
 }
 
 /// What a record says.
-#[tactic(auto, using(std::proofs::lemmas::Bool::Decides::nat_tests), unfolding(crate::specs::IntelHex::meant))]
+#[tactic(auto, using(std::proofs::lemmas::Bool::Decides::nat_tests), unfolding(crate::specs::IntelHex::hex_meant))]
 fn meant(alloc: Global, at: usize, state: State, said: &Record<'_>) -> Result<State, ImageFault>
     requires { said.now.offset < 65536 }
-    ensures { Gives result (meant at state said.now) }
+    ensures { Gives result (hex_meant at state said.now) }
 {
     match said.kind {
         0 => data_at(alloc, at, state, said),
@@ -155,9 +155,9 @@ fn meant(alloc: Global, at: usize, state: State, said: &Record<'_>) -> Result<St
 }
 
 /// A line: a record, or nothing.
-#[tactic(auto, using(std::proofs::lemmas::Bool::Decides::nat_tests), unfolding(crate::specs::IntelHex::line_read))]
+#[tactic(auto, using(std::proofs::lemmas::Bool::Decides::nat_tests), unfolding(crate::specs::IntelHex::hex_line_read))]
 fn line_read(alloc: Global, at: usize, state: State, line: &[u8]) -> Result<State, ImageFault>
-    ensures { Gives result (line_read at state line.now) }
+    ensures { Gives result (hex_line_read at state line.now) }
 {
     if line.len() == 0 {
         return Ok(state);
@@ -177,7 +177,7 @@ fn line_read(alloc: Global, at: usize, state: State, line: &[u8]) -> Result<Stat
 
 /// All lines.
 fn lines_read(alloc: Global, text: &[u8]) -> Result<State, ImageFault>
-    ensures { Gives result (lines_read is_ended line_read 1 start (lines text.now)) }
+    ensures { Gives result (lines_read is_ended hex_line_read 1 hex_start (lines text.now)) }
 {
     let mut state = State {
         gathering: Gathering::new(alloc),
@@ -202,10 +202,10 @@ fn lines_read(alloc: Global, text: &[u8]) -> Result<State, ImageFault>
 }
 
 /// The elements of a file.
-#[tactic(auto, using(std::proofs::lemmas::Bool::Decides::nat_tests), unfolding(crate::specs::IntelHex::elements_of))]
+#[tactic(auto, using(std::proofs::lemmas::Bool::Decides::nat_tests), unfolding(crate::specs::IntelHex::hex_elements_of))]
 pub fn read(alloc: Global, text: &[u8]) -> Result<Vec<Element>, ImageFault>
     // What the file says, or its first fault.
-    ensures value { Lists result (elements_of text.now) }
+    ensures value { Lists result (hex_elements_of text.now) }
     // The elements are by address, and no two share one.
     ensures apart { IfOk result (λ v. AreApart 0 v.items) }
 {

@@ -2,7 +2,7 @@
 
 ghost use Rattle.std.specs.Prelude.{◌≡◌, ◌+◌, ◌-◌, ◌≤◌, ◌<◌, ◌++◌, length, IfOk, Ok, Err};
 ghost use Rattle.dfu_images.specs.Elements.{AreApart};
-ghost use Rattle.dfu_images.specs.Laying.{part_of, in_front, laid, lowest, Lays};
+ghost use Rattle.dfu_images.specs.Laying.{filled_part, in_front, laid, lowest, Lays};
 
 use crate::element::Element;
 use crate::limits::MAX_IMAGE;
@@ -24,7 +24,7 @@ pub enum LayFault {
 }
 
 /// Puts an element behind bytes that end at this address.
-#[tactic(auto, using(std::proofs::lemmas::Bool::Decides::nat_tests), unfolding(crate::specs::Laying::part_of))]
+#[tactic(auto, using(std::proofs::lemmas::Bool::Decides::nat_tests), unfolding(crate::specs::Laying::filled_part))]
 fn with_part(
     mut bytes: Vec<u8>,
     fill: Option<u8>,
@@ -33,7 +33,7 @@ fn with_part(
 ) -> Result<Vec<u8>, LayFault>
     requires ahead { end ≤ element.now.address }
     requires few { length bytes.items ≤ 16777216 }
-    ensures value { Lays result (in_front bytes.items (part_of fill (length bytes.items) end element.now)) }
+    ensures value { Lays result (in_front bytes.items (filled_part fill (length bytes.items) end element.now)) }
     ensures few { IfOk result (λ v. length v.items ≤ 16777216) }
 {
     let gap = (element.address() as u64 - end) as usize;

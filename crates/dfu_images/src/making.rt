@@ -2,7 +2,7 @@
 
 ghost use Rattle.std.specs.Prelude.{IfOk, length, ◌≤◌};
 ghost use Rattle.dfu_images.specs.Elements.{AreApart, Lists};
-ghost use Rattle.dfu_images.specs.Making.{Makes, elements_in};
+ghost use Rattle.dfu_images.specs.Making.{MakesImage, elements_in};
 
 use crate::element::Element;
 use crate::fault::ImageFault;
@@ -59,7 +59,7 @@ pub fn image_of(
     fill: Option<u8>,
     file: &[u8],
 ) -> Result<Image, FileFault>
-    ensures value { Makes fill (elements_in format file.now) result }
+    ensures value { MakesImage fill (elements_in format file.now) result }
     ensures few { IfOk result (λ i. length i.bytes.items ≤ 16777216) }
 {
     let elements = match elements_in(alloc, format, file) {

@@ -4,10 +4,10 @@
 //! end record. A count is of the records of data before it. Titles are passed over.
 
 ghost use Rattle.std.specs.Prelude.{◌≡◌, ◌+◌, ◌≤◌, ◌<◌, ◌^◌, length, IfOk, MatchResult, Ok, Err};
-ghost use Rattle.dfu_images.specs.Reading.{Gives, Fails};
+ghost use Rattle.dfu_images.specs.Reading.{Gives, FailsToRead};
 ghost use Rattle.dfu_images.specs.Elements.{AreApart, Lists};
 ghost use Rattle.dfu_images.specs.Lines.{lines, lines_read};
-ghost use Rattle.dfu_images.specs.SRecord.{spelled, width, number, framed, start, data_at, closed, meant, is_whole, line_read, elements_of};
+ghost use Rattle.dfu_images.specs.SRecord.{srec_spelled, width, number, srec_framed, srec_start, srec_data_at, srec_closed, srec_meant, is_whole, srec_line_read, srec_elements_of};
 
 use crate::element::Element;
 use crate::fault::ImageFault;
@@ -29,16 +29,16 @@ struct State {
 impl Model for State {
     ghost use Rattle.dfu_images.specs.SRecord as srec;
 
-    ghost Value = { srec.State };
+    ghost Value = { srec.SRecordState };
 
     ghost view = { λ s. record { gathering = s.gathering; count = s.count; is_whole = s.is_whole; is_ended = s.is_ended } };
 }
 
 /// Data at an address.
-#[tactic(auto, using(std::proofs::lemmas::Bool::Decides::nat_tests), unfolding(crate::specs::SRecord::data_at))]
+#[tactic(auto, using(std::proofs::lemmas::Bool::Decides::nat_tests), unfolding(crate::specs::SRecord::srec_data_at))]
 fn data_at(alloc: Global, at: usize, state: State, said: &Record<'_>) -> Result<State, ImageFault>
     requires { state.count < at }
-    ensures value { Gives result (data_at at state said.now) }
+    ensures value { Gives result (srec_data_at at state said.now) }
     ensures counted { IfOk result (λ s. s.count ≤ state.count + 1) }
 {
     let State {
@@ -62,9 +62,9 @@ fn data_at(alloc: Global, at: usize, state: State, said: &Record<'_>) -> Result<
 }
 
 /// A count of the records of data, or the end.
-#[tactic(auto, using(std::proofs::lemmas::Bool::Decides::nat_tests), unfolding(crate::specs::SRecord::closed))]
+#[tactic(auto, using(std::proofs::lemmas::Bool::Decides::nat_tests), unfolding(crate::specs::SRecord::srec_closed))]
 fn closed(at: usize, state: State, said: &Record<'_>) -> Result<State, ImageFault>
-    ensures value { result ≡ closed at state said.now }
+    ensures value { result ≡ srec_closed at state said.now }
     ensures counted { IfOk result (λ s. s.count ≤ state.count + 1) }
 {
     if said.content.len() != 0 {
@@ -90,10 +90,10 @@ fn closed(at: usize, state: State, said: &Record<'_>) -> Result<State, ImageFaul
 }
 
 /// What a record says.
-#[tactic(auto, using(std::proofs::lemmas::Bool::Decides::nat_tests), unfolding(crate::specs::SRecord::meant))]
+#[tactic(auto, using(std::proofs::lemmas::Bool::Decides::nat_tests), unfolding(crate::specs::SRecord::srec_meant))]
 fn meant(alloc: Global, at: usize, state: State, said: &Record<'_>) -> Result<State, ImageFault>
     requires { state.count < at }
-    ensures value { Gives result (meant at state said.now) }
+    ensures value { Gives result (srec_meant at state said.now) }
     ensures counted { IfOk result (λ s. s.count ≤ state.count + 1) }
 {
     match said.kind {
@@ -105,10 +105,10 @@ fn meant(alloc: Global, at: usize, state: State, said: &Record<'_>) -> Result<St
 }
 
 /// A line: a record, or nothing.
-#[tactic(auto, using(std::proofs::lemmas::Bool::Decides::nat_tests), unfolding(crate::specs::SRecord::line_read))]
+#[tactic(auto, using(std::proofs::lemmas::Bool::Decides::nat_tests), unfolding(crate::specs::SRecord::srec_line_read))]
 fn line_read(alloc: Global, at: usize, state: State, line: &[u8]) -> Result<State, ImageFault>
     requires { state.count < at }
-    ensures value { Gives result (line_read at state line.now) }
+    ensures value { Gives result (srec_line_read at state line.now) }
     ensures counted { IfOk result (λ s. s.count ≤ state.count + 1) }
 {
     if line.len() == 0 {
@@ -129,7 +129,7 @@ fn line_read(alloc: Global, at: usize, state: State, line: &[u8]) -> Result<Stat
 
 /// All lines.
 fn lines_read(alloc: Global, text: &[u8]) -> Result<State, ImageFault>
-    ensures { Gives result (lines_read is_whole line_read 1 start (lines text.now)) }
+    ensures { Gives result (lines_read is_whole srec_line_read 1 srec_start (lines text.now)) }
 {
     let mut state = State {
         gathering: Gathering::new(alloc),
@@ -155,10 +155,10 @@ fn lines_read(alloc: Global, text: &[u8]) -> Result<State, ImageFault>
 }
 
 /// The elements of a file.
-#[tactic(auto, using(std::proofs::lemmas::Bool::Decides::nat_tests), unfolding(crate::specs::SRecord::elements_of))]
+#[tactic(auto, using(std::proofs::lemmas::Bool::Decides::nat_tests), unfolding(crate::specs::SRecord::srec_elements_of))]
 pub fn read(alloc: Global, text: &[u8]) -> Result<Vec<Element>, ImageFault>
     // What the file says, or its first fault.
-    ensures value { Lists result (elements_of text.now) }
+    ensures value { Lists result (srec_elements_of text.now) }
     // The elements are by address, and no two share one.
     ensures apart { IfOk result (λ v. AreApart 0 v.items) }
 {

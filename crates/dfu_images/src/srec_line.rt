@@ -1,7 +1,7 @@
 //! One S-record: its type, its address and its data, from the text of its line.
 
 ghost use Rattle.std.specs.Prelude.{◌≡◌, ◌+◌, ◌≤◌, ◌<◌, ◌^◌, length, Ok, Err};
-ghost use Rattle.dfu_images.specs.SRecord.{spelled, width, number, framed};
+ghost use Rattle.dfu_images.specs.SRecord.{srec_spelled, width, number, srec_framed};
 
 use crate::digits::{bytes_at, sum_of};
 use crate::fault::ImageFault;
@@ -28,9 +28,9 @@ impl Model for Typed {
 }
 
 /// A record's type and bytes, from the text of its line.
-#[tactic(auto, using(std::proofs::lemmas::Bool::Decides::nat_tests), unfolding(crate::specs::SRecord::spelled))]
+#[tactic(auto, using(std::proofs::lemmas::Bool::Decides::nat_tests), unfolding(crate::specs::SRecord::srec_spelled))]
 pub(crate) fn spelled(at: usize, line: &[u8]) -> Result<Typed, ImageFault>
-    ensures { result ≡ spelled at line.now }
+    ensures { result ≡ srec_spelled at line.now }
 {
     match line {
         [b'S', kind, digits @ ..] if *kind >= b'0' && *kind <= b'9' => match bytes_at(at, digits) {
@@ -81,7 +81,7 @@ impl<'t> Model for Record<'t> {
     ghost use Rattle.std.specs.Prelude.{◌<◌, ◌^◌};
     ghost use Rattle.dfu_images.specs.SRecord as srec;
 
-    ghost Value = { srec.Record };
+    ghost Value = { srec.SRecordLine };
 
     ghost view = { λ r. record { kind = r.kind; address = r.address; content = r.content.now } };
 
@@ -89,9 +89,9 @@ impl<'t> Model for Record<'t> {
 }
 
 /// A record, of its type and bytes.
-#[tactic(auto, using(std::proofs::lemmas::Bool::Decides::nat_tests), unfolding(crate::specs::SRecord::framed))]
+#[tactic(auto, using(std::proofs::lemmas::Bool::Decides::nat_tests), unfolding(crate::specs::SRecord::srec_framed))]
 pub(crate) fn framed(at: usize, typed: &Typed) -> Result<Record<'_>, ImageFault>
-    ensures { result ≡ framed at typed.now }
+    ensures { result ≡ srec_framed at typed.now }
 {
     let bytes = typed.bytes.as_slice();
     let width = width(typed.kind);

@@ -1,10 +1,10 @@
 //! UF2.
 
 ghost use Rattle.std.specs.Prelude.{◌≡◌, ◌+◌, ◌*◌, ◌≤◌, ◌<◌, length, IfOk, Ok, Err};
-ghost use Rattle.dfu_images.specs.Reading.{parts_read, Gives, Fails};
+ghost use Rattle.dfu_images.specs.Reading.{parts_read, Gives, FailsToRead};
 ghost use Rattle.dfu_images.specs.Numbers as numbers;
 ghost use Rattle.dfu_images.specs.Elements.{AreApart, Lists, nothing};
-ghost use Rattle.dfu_images.specs.Blocks.{is_block, has_flag, family_of, flashed, block_read, elements_of};
+ghost use Rattle.dfu_images.specs.Blocks.{is_uf2_block, has_flag, family_of, flashed, block_read, uf2_elements_of};
 
 use crate::element::Element;
 use crate::fault::ImageFault;
@@ -15,7 +15,7 @@ use std::alloc::Global;
 /// Whether a block has its three marks.
 fn is_block(block: &[u8]) -> bool
     requires { length block.now ≡ 512 }
-    ensures { result ≡ is_block block.now }
+    ensures { result ≡ is_uf2_block block.now }
 {
     le32(block, 0) == 0x0a32_4655
         && le32(block, 4) == 0x9e5d_5157
@@ -126,10 +126,10 @@ fn blocks_read(
 }
 
 /// The elements of a file.
-#[tactic(auto, using(std::proofs::lemmas::Bool::Decides::nat_tests), unfolding(crate::specs::Blocks::elements_of))]
+#[tactic(auto, using(std::proofs::lemmas::Bool::Decides::nat_tests), unfolding(crate::specs::Blocks::uf2_elements_of))]
 pub fn read(alloc: Global, file: &[u8]) -> Result<Vec<Element>, ImageFault>
     // What the file says, or its first fault.
-    ensures value { Lists result (elements_of file.now) }
+    ensures value { Lists result (uf2_elements_of file.now) }
     // The elements are by address, and no two share one.
     ensures apart { IfOk result (λ v. AreApart 0 v.items) }
 {

@@ -3,7 +3,7 @@ use Rattle.std.proofs.Common.{◌≡◌, inl, inr, ◌≤◌, ◌%◌, ℕ, List
 use Rattle.std.proofs.Math.Nat.{mod-le}
 use Rattle.dfu_install.specs.Area.{start_of}
 use Rattle.dfu_install.specs.Next.{Does}
-use Rattle.dfu_install.specs.Operations.{end_of}
+use Rattle.dfu_install.specs.Operations.{end_of_operation}
 use Rattle.dfu_install.specs.Courses.{Moment, IsStep, LeavesWhatIsBeside}
 use Rattle.dfu_install.specs.declared.due.Due.{Due}
 use Rattle.dfu_install.specs.declared.due.Due.TheVariants.{Refuse, Erase, Program, Start}
@@ -12,7 +12,7 @@ use Rattle.dfu_install.proofs.Nexts.{next_is_inside}
 
 -- An operation ends where the sectors of the image do, or before.
 pub ends_with_image : (image run : List ℕ) (sector edge : ℕ) (last : Option ℕ) (due : Due) → Does image run sector last due
-    → edge % sector ≡ 0 → length image ≤ edge → end_of sector due ≤ edge
+    → edge % sector ≡ 0 → length image ≤ edge → end_of_operation sector due ≤ edge
 ends_with_image image run sector edge last (Erase at) (ready, (d, e)) whole le =
     let fits = start_fits sector d edge whole (omega (arith, le, next_is_inside image run last d e.next)) in
     omega (arith, fits, e.is)

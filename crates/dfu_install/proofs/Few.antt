@@ -2,10 +2,10 @@
 use Rattle.std.proofs.Common.{◌≡◌, inl, ◌<◌, ◌≤◌, ◌+◌, ◌*◌, ◌-◌, ℕ, suc, false, List, [], ◌∷◌, length, slice_index, Option, Some, None, sym, ◌∙◌, ap, refl, subst, arith}
 use Rattle.dfu_install.specs.declared.due.Due.{Due}
 use Rattle.dfu_install.specs.declared.due.Due.TheVariants.{Refuse, Erase, Program, Start}
-use Rattle.dfu_install.specs.Area.{IsRunArea, AreSame, AreBlank, piece_of}
+use Rattle.dfu_install.specs.Area.{IsRunArea, AreSame, AreBlank, program_piece}
 use Rattle.dfu_install.specs.Next.{IsProgramOf, IsEraseOf}
-use Rattle.dfu_install.specs.Took.{Took}
-use Rattle.dfu_install.specs.Working.{Works, AllWork, FewOperations}
+use Rattle.dfu_install.specs.Took.{TookDue}
+use Rattle.dfu_install.specs.Working.{CarriesOut, AllWork, FewOperations}
 use Rattle.dfu_install.proofs.Filling.{piece_has}
 use Rattle.dfu_install.proofs.Members.{multiples, multiples_count, below_is_in}
 use Rattle.dfu_install.proofs.Nexts.{next_is_inside}
@@ -15,7 +15,7 @@ use Rattle.dfu_install.proofs.Programming.{is_inside, program_costs}
 use Rattle.dfu_install.proofs.Erasing.{erase_costs}
 
 -- A piece that was programmed reads as the image.
-programmed_is_same : (image run : List ℕ) (at : ℕ) → ((i : ℕ) → i < 256 → slice_index run (at + i) ≡ slice_index (piece_of image at) i)
+programmed_is_same : (image run : List ℕ) (at : ℕ) → ((i : ℕ) → i < 256 → slice_index run (at + i) ≡ slice_index (program_piece image at) i)
     → AreSame image run at (at + 256)
 programmed_is_same image run at bytes i low high inside =
     let e : at + (i - at) ≡ i = omega (arith, low) in
@@ -32,20 +32,20 @@ area_stays run run' sector area same = subst (λ (n : ℕ). IsRunArea n sector) 
 -- An erase that worked is noted.
 erase_is_noted : (image run : List ℕ) (sector at : ℕ) (last : Option ℕ) → IsRunArea (length run) sector
     → at + sector ≤ length run → AreBlank run at (at + sector)
-    → Took image run sector (Erase at) false last → last ≡ Some at
+    → TookDue image run sector (Erase at) false last → last ≡ Some at
 erase_is_noted image run sector at (Some x) area fits blank took = ap Some (sym took.2.0)
 erase_is_noted image run sector at None area fits blank took = absurd (took refl area at (refl, (fits, blank)))
 
 -- So is a program.
 program_is_noted : (image run : List ℕ) (sector at : ℕ) (last : Option ℕ) → IsRunArea (length run) sector
     → at + 256 ≤ length run → AreSame image run at (at + 256)
-    → Took image run sector (Program at) false last → last ≡ Some at
+    → TookDue image run sector (Program at) false last → last ≡ Some at
 program_is_noted image run sector at (Some x) area fits same took = ap Some (sym took.2.0)
 program_is_noted image run sector at None area fits same took = absurd (took refl area at (refl, (fits, same)))
 
 -- Each operation costs one.
 one_costs : (image run run' : List ℕ) (sector k most : ℕ) (last last' : Option ℕ) (due : Due) → sector ≡ 256 * k
-    → Works image run run' sector last last' due → Costs image run sector k last most
+    → CarriesOut image run run' sector last last' due → Costs image run sector k last most
     → (least : ℕ) × ((suc least ≤ most) × Costs image run' sector k last' least)
 one_costs image run run' sector k most last last' (Refuse refusal) size w costs = absurd w.bytes
 one_costs image run run' sector k most last last' Start size w costs = absurd w.bytes

@@ -2,7 +2,7 @@
 use Rattle.std.proofs.Common.{◌≡◌, ℕ, ◌+◌, ◌-◌, ◌<◌, min, List, ◌++◌, length, take, drop, replicate, slice_index, length-drop, ap, ◌∙◌, arith}
 use Rattle.std.proofs.lemmas.List.{drop-replicate, drop_min, take_min, take_rest, length-take, get_or-take, get_or-drop}
 use Rattle.std.proofs.Math.ListN.{get_or-append}
-use Rattle.dfu_install.specs.Area.{piece_of}
+use Rattle.dfu_install.specs.Area.{program_piece}
 
 -- A buffer of FFh, to whose front bytes were copied.
 pub filled_up : (bytes copied : List ℕ) (most : ℕ) → copied ≡ bytes
@@ -22,7 +22,7 @@ pub piece_made : (image made : List ℕ) (at from end_ : ℕ) → from ≡ min a
     → end_ ≡ min (length (take (length image - from) (drop from image))) 256
     → made ≡ take end_ (take (length image - from) (drop from image))
     ++ replicate (256 - length (take end_ (take (length image - from) (drop from image)))) 255
-    → made ≡ piece_of image at
+    → made ≡ program_piece image at
 piece_made image made at from end_ is_from is_end is =
     let rest : List ℕ = take (length image - from) (drop from image) in
     let left : rest ≡ drop at image =
@@ -33,7 +33,7 @@ piece_made image made at from end_ is_from is_end is =
 
 -- A piece has the bytes of the image, as far as the image goes.
 pub piece_has : (image : List ℕ) (at i : ℕ) → i < 256 → at + i < length image
-    → slice_index (piece_of image at) i ≡ slice_index image (at + i)
+    → slice_index (program_piece image at) i ≡ slice_index image (at + i)
 piece_has image at i few inside =
     let bytes : List ℕ = take 256 (drop at image) in
     let long : i < length bytes = omega (arith, few, inside, length-take 256 (drop at image), length-drop at image) in

@@ -6,8 +6,8 @@ use Rattle.dfu_install.specs.declared.due.Due.TheVariants.{Refuse, Erase, Progra
 use Rattle.dfu_install.specs.Area.{AreSame, AreBlank, start_of}
 use Rattle.dfu_install.specs.Allowed.{Differs}
 use Rattle.dfu_install.specs.Next.{Does, MayProgram}
-use Rattle.dfu_install.specs.Took.{Took}
-use Rattle.dfu_install.specs.Courses.{Moment, IsStep, Course, end_of_course, IsFresh, ProgramsOnlyFresh}
+use Rattle.dfu_install.specs.Took.{TookDue}
+use Rattle.dfu_install.specs.Courses.{Moment, IsStep, InstallCourse, end_of_course, IsFresh, ProgramsOnlyFresh}
 use Rattle.dfu_install.proofs.Starts.{start_is_whole, start_of_start}
 use Rattle.dfu_install.proofs.Allowing.{next_differs_in}
 
@@ -36,7 +36,7 @@ may_is_fresh run sector piece (Some last) since keeps (low, same, blank) = by_or
 
 -- After an erase all of its sector is.
 erase_keeps : (image run run' : List ℕ) (sector at : ℕ) (last last' : Option ℕ) (failed : Bool) (since : List Due)
-    → Does image run sector last (Erase at) → Took image run' sector (Erase at) failed last'
+    → Does image run sector last (Erase at) → TookDue image run' sector (Erase at) failed last'
     → KeepsFresh sector run' last' (Erase at ∷ since)
 erase_keeps image run run' sector at last None failed since does took = _
 erase_keeps image run run' sector at last (Some x) failed since (ready, (d, e)) (worked, area, (is, erased)) =
@@ -57,7 +57,7 @@ not_blank image run run' piece d blank same blank' =
 
 -- After a program what comes after its piece still is.
 program_keeps : (image run run' : List ℕ) (sector at : ℕ) (last last' : Option ℕ) (failed : Bool) (since : List Due)
-    → KeepsFresh sector run last since → Does image run sector last (Program at) → Took image run' sector (Program at) failed last'
+    → KeepsFresh sector run last since → Does image run sector last (Program at) → TookDue image run' sector (Program at) failed last'
     → KeepsFresh sector run' last' (Program at ∷ since)
 program_keeps image run run' sector at last None failed since keeps does took = _
 program_keeps image run run' sector at None (Some x) failed since keeps (ready, (d, e)) took = absurd e.may
@@ -74,7 +74,7 @@ program_keeps image run run' sector at (Some last) (Some x) failed since keeps (
 
 -- What is carried out keeps it.
 carried_keeps : (image run run' : List ℕ) (sector : ℕ) (last last' : Option ℕ) (failed : Bool) (since : List Due) (due : Due)
-    → KeepsFresh sector run last since → Does image run sector last due → Took image run' sector due failed last'
+    → KeepsFresh sector run last since → Does image run sector last due → TookDue image run' sector due failed last'
     → KeepsFresh sector run' last' (due ∷ since)
 carried_keeps image run run' sector last last' failed since (Erase at) keeps does took =
     erase_keeps image run run' sector at last last' failed since does took
@@ -98,7 +98,7 @@ step_keeps sector m next (inr (inr other)) keeps =
     (subst (λ (s : List Due). KeepsFresh sector m.run m.last s) (sym other.since) keeps))
 
 -- And by all that comes.
-course_keeps : (sector : ℕ) (m : Moment) (rest : List Moment) → Course sector m rest → KeepsFresh sector m.run m.last m.since
+course_keeps : (sector : ℕ) (m : Moment) (rest : List Moment) → InstallCourse sector m rest → KeepsFresh sector m.run m.last m.since
     → let e = end_of_course m rest in KeepsFresh sector e.run e.last e.since
 course_keeps sector m [] course keeps = keeps
 course_keeps sector m (next ∷ rest) (step, course) keeps = course_keeps sector next rest course (step_keeps sector m next step keeps)

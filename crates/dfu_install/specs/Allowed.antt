@@ -20,14 +20,14 @@ IsInLastSector sector (Some last) at = start_of sector last ≡ start_of sector 
 
 -- Only a sector of the run area is erased, if it differs. Only a piece is programmed that differs and is blank, in the sector of the last
 -- operation. Only an image that is there is started.
-abbrev pub IsAllowed : List ℕ → List ℕ → ℕ → Option ℕ → Due → Type 0
-IsAllowed image run sector last (Erase at) = (at % sector ≡ 0) × (at + sector ≤ length run) × Differs image run at (at + sector)
-IsAllowed image run sector last (Program at) = (at % 256 ≡ 0) × (at + 256 ≤ length run) × Differs image run at (at + 256)
+abbrev pub IsAllowedDue : List ℕ → List ℕ → ℕ → Option ℕ → Due → Type 0
+IsAllowedDue image run sector last (Erase at) = (at % sector ≡ 0) × (at + sector ≤ length run) × Differs image run at (at + sector)
+IsAllowedDue image run sector last (Program at) = (at % 256 ≡ 0) × (at + 256 ≤ length run) × Differs image run at (at + 256)
     × AreBlank run at (at + 256) × IsInLastSector sector last at
-IsAllowed image run sector last Start = Holds run image × (0 < length image)
-IsAllowed image run sector last (Refuse refusal) = Unit {0}
+IsAllowedDue image run sector last Start = Holds run image × (0 < length image)
+IsAllowedDue image run sector last (Refuse refusal) = Unit {0}
 
 -- Whatever stands there, only what is allowed is due.
 abbrev pub DoesOnlyAllowed : Type 0
 DoesOnlyAllowed = (image run : List ℕ) (sector : ℕ) (last : Option ℕ) (due : Due) → Does image run sector last due →
-    IsAllowed image run sector last due
+    IsAllowedDue image run sector last due

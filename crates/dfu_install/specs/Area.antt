@@ -33,5 +33,5 @@ abbrev pub start_of : ℕ → ℕ → ℕ
 start_of part at = at - at % part
 
 -- The 256 bytes that are programmed from a place on: those of the image, and FFh after its end.
-abbrev pub piece_of : List ℕ → ℕ → List ℕ
-piece_of image at = let bytes = take 256 (drop at image) in bytes ++ replicate (256 - length bytes) 255
+abbrev pub program_piece : List ℕ → ℕ → List ℕ
+program_piece image at = let bytes = take 256 (drop at image) in bytes ++ replicate (256 - length bytes) 255

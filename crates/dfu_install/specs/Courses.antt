@@ -4,8 +4,8 @@ use Rattle.dfu_install.specs.declared.due.Due.{Due}
 use Rattle.dfu_install.specs.declared.due.Due.TheVariants.{Refuse, Erase, Program, Start}
 use Rattle.dfu_install.specs.Area.{Holds, start_of}
 use Rattle.dfu_install.specs.Next.{Does}
-use Rattle.dfu_install.specs.Took.{Took}
-use Rattle.dfu_install.specs.Operations.{from_of, end_of, LeavesOthers}
+use Rattle.dfu_install.specs.Took.{TookDue}
+use Rattle.dfu_install.specs.Operations.{from_of, end_of_operation, LeavesOthers}
 
 -- The image that is to be started, the run area as it stands, where the last operation went, and the operations since the power came,
 -- the last one first.
@@ -19,9 +19,9 @@ pub record Moment : Type 0 where
 pub record IsCarriedOut (sector : ℕ) (before after : Moment) : Type 0 where
   pub due : Due
   pub does : Does before.image before.run sector before.last due
-  pub leaves : LeavesOthers before.run after.run (from_of due) (end_of sector due)
+  pub leaves : LeavesOthers before.run after.run (from_of due) (end_of_operation sector due)
   pub failed : Bool
-  pub took : Took before.image after.run sector due failed after.last
+  pub took : TookDue before.image after.run sector due failed after.last
   pub image : after.image ≡ before.image
   pub since : after.since ≡ due ∷ before.since
 
@@ -42,9 +42,9 @@ abbrev pub IsStep : ℕ → Moment → Moment → Type 0
 IsStep sector before after = IsCarriedOut sector before after ⊎ (LosesPower before after ⊎ IsOfAnotherImage before after)
 
 -- Such things come one after another, as many as there are, in any order.
-abbrev pub Course : ℕ → Moment → List Moment → Type 0
-Course sector m [] = Unit {0}
-Course sector m (next ∷ rest) = IsStep sector m next × Course sector next rest
+abbrev pub InstallCourse : ℕ → Moment → List Moment → Type 0
+InstallCourse sector m [] = Unit {0}
+InstallCourse sector m (next ∷ rest) = IsStep sector m next × InstallCourse sector next rest
 
 -- The moment at their end.
 abbrev pub end_of_course : Moment → List Moment → Moment
@@ -66,16 +66,16 @@ IsFresh sector piece (Start ∷ earlier) = IsFresh sector piece earlier
 
 -- Whatever came, the image is started only if the run area holds all of it.
 abbrev pub StartsOnlyWhole : Type 0
-StartsOnlyWhole = (sector : ℕ) (m : Moment) (rest : List Moment) → Course sector m rest → let e = end_of_course m rest in
+StartsOnlyWhole = (sector : ℕ) (m : Moment) (rest : List Moment) → InstallCourse sector m rest → let e = end_of_course m rest in
     Does e.image e.run sector e.last Start → Holds e.run e.image
 
 -- Whatever came, the bytes of a sector that no image reaches are as they were.
 abbrev pub LeavesWhatIsBeside : Type 0
-LeavesWhatIsBeside = (sector at : ℕ) (m : Moment) (rest : List Moment) → Course sector m rest → IsBeside sector at m rest →
+LeavesWhatIsBeside = (sector at : ℕ) (m : Moment) (rest : List Moment) → InstallCourse sector m rest → IsBeside sector at m rest →
     slice_index (end_of_course m rest).run at ≡ slice_index m.run at
 
 -- Whatever came since a first power-on, a piece is programmed only if its sector was erased since the power came last, and the piece was
 -- not programmed since.
 abbrev pub ProgramsOnlyFresh : Type 0
-ProgramsOnlyFresh = (sector at : ℕ) (m : Moment) (rest : List Moment) → m.last ≡ None → Course sector m rest →
+ProgramsOnlyFresh = (sector at : ℕ) (m : Moment) (rest : List Moment) → m.last ≡ None → InstallCourse sector m rest →
     let e = end_of_course m rest in Does e.image e.run sector e.last (Program at) → IsFresh sector at e.since

@@ -2,7 +2,7 @@
 use Rattle.std.specs.Prelude.{◌≡◌, ◌⊎◌, ℕ, ◌+◌, ◌≤◌, ◌<◌, List, length, slice_index}
 use Rattle.dfu_install.specs.declared.due.Due.{Due}
 use Rattle.dfu_install.specs.declared.due.Due.TheVariants.{Refuse, Erase, Program, Start}
-use Rattle.dfu_install.specs.Area.{AreBlank, piece_of}
+use Rattle.dfu_install.specs.Area.{AreBlank, program_piece}
 
 -- The range of an operation begins here.
 abbrev pub from_of : Due → ℕ
@@ -12,11 +12,11 @@ from_of (Refuse refusal) = 0
 from_of Start = 0
 
 -- It ends before this place; what is no operation has an empty one.
-abbrev pub end_of : ℕ → Due → ℕ
-end_of sector (Erase at) = at + sector
-end_of sector (Program at) = at + 256
-end_of sector (Refuse refusal) = 0
-end_of sector Start = 0
+abbrev pub end_of_operation : ℕ → Due → ℕ
+end_of_operation sector (Erase at) = at + sector
+end_of_operation sector (Program at) = at + 256
+end_of_operation sector (Refuse refusal) = 0
+end_of_operation sector Start = 0
 
 -- All bytes outside a range are as they were.
 pub record LeavesOthers (before after : List ℕ) (from to : ℕ) : Type 0 where
@@ -26,6 +26,6 @@ pub record LeavesOthers (before after : List ℕ) (from to : ℕ) : Type 0 where
 -- The range of an operation has the bytes that it asks for.
 abbrev pub HasBytes : List ℕ → List ℕ → ℕ → Due → Type 0
 HasBytes image run sector (Erase at) = AreBlank run at (at + sector)
-HasBytes image run sector (Program at) = (i : ℕ) → i < 256 → slice_index run (at + i) ≡ slice_index (piece_of image at) i
+HasBytes image run sector (Program at) = (i : ℕ) → i < 256 → slice_index run (at + i) ≡ slice_index (program_piece image at) i
 HasBytes image run sector (Refuse refusal) = ⊥
 HasBytes image run sector Start = ⊥

@@ -4,21 +4,21 @@ use Rattle.dfu_install.specs.declared.due.Due.{Due}
 use Rattle.dfu_install.specs.declared.due.Due.TheVariants.{Start}
 use Rattle.dfu_install.specs.Area.{Holds}
 use Rattle.dfu_install.specs.Next.{Does, IsReady}
-use Rattle.dfu_install.specs.Took.{Took}
-use Rattle.dfu_install.specs.Operations.{from_of, end_of, LeavesOthers, HasBytes}
+use Rattle.dfu_install.specs.Took.{TookDue}
+use Rattle.dfu_install.specs.Operations.{from_of, end_of_operation, LeavesOthers, HasBytes}
 
 -- An operation is asked for, and a medium that works carries it out.
-pub record Works (image run run' : List ℕ) (sector : ℕ) (last last' : Option ℕ) (due : Due) : Type 0 where
+pub record CarriesOut (image run run' : List ℕ) (sector : ℕ) (last last' : Option ℕ) (due : Due) : Type 0 where
   pub does : Does image run sector last due
-  pub leaves : LeavesOthers run run' (from_of due) (end_of sector due)
+  pub leaves : LeavesOthers run run' (from_of due) (end_of_operation sector due)
   pub bytes : HasBytes image run' sector due
-  pub took : Took image run' sector due false last'
+  pub took : TookDue image run' sector due false last'
 
 -- These operations are asked for one after another, and carried out.
 abbrev pub AllWork : List ℕ → ℕ → List ℕ → Option ℕ → List Due → Type 0
 AllWork image sector run last [] = Unit {0}
 AllWork image sector run last (due ∷ rest) =
-    (run' : List ℕ) × ((last' : Option ℕ) × (Works image run run' sector last last' due × AllWork image sector run' last' rest))
+    (run' : List ℕ) × ((last' : Option ℕ) × (CarriesOut image run run' sector last last' due × AllWork image sector run' last' rest))
 
 -- Of an image in n sectors of k pieces there are at most n * (1 + k) + k, whatever stood there.
 abbrev pub FewOperations : Type 0

@@ -1,6 +1,6 @@
 //! How an operation went.
 ghost use Rattle.std.specs.Prelude.{◌<◌, ◌^◌, ◌↔◌, length, IsTrue};
-ghost use Rattle.dfu_install.specs.Took.{Took, IsErased, IsProgrammed};
+ghost use Rattle.dfu_install.specs.Took.{TookDue, IsErasedSector, IsProgrammed};
 
 use crate::area::{PIECE, are_blank, is_run_area};
 use crate::compare::first_difference;
@@ -9,7 +9,7 @@ use crate::due::Due;
 // Whether all of the sector that begins there reads FFh.
 fn is_erased(run: &[u8], sector: u32, at: u32) -> bool
     requires { length run.now < 2 ^ 32 }
-    ensures { IsTrue result ↔ IsErased run.now sector at }
+    ensures { IsTrue result ↔ IsErasedSector run.now sector at }
 {
     at as usize + sector as usize <= run.len() && are_blank(run, at, at + sector)
 }
@@ -32,7 +32,7 @@ fn is_programmed(image: &[u8], run: &[u8], at: u32) -> bool
 /// None if it failed or reads otherwise, if its range is not in the run area, if `due` is no operation, or if `next` is refused with
 /// `WrongSize`.
 pub fn took(image: &[u8], run: &[u8], sector: u32, due: Due, failed: bool) -> Option<u32>
-    ensures { Took image.now run.now sector due failed result }
+    ensures { TookDue image.now run.now sector due failed result }
 {
     if failed || !is_run_area(run.len(), sector) {
         return None;

@@ -1,6 +1,6 @@
 //! The bytes that are programmed.
 ghost use Rattle.std.specs.Prelude.{◌≡◌, ◌+◌, ◌-◌, ◌≤◌, ◌++◌, replicate, length, slice_range, min};
-ghost use Rattle.dfu_install.specs.Area.{piece_of};
+ghost use Rattle.dfu_install.specs.Area.{program_piece};
 
 // Makes `out` these bytes, and FFh after them.
 fn fill_up(bytes: &[u8], out: &mut [u8; 256])
@@ -13,7 +13,7 @@ fn fill_up(bytes: &[u8], out: &mut [u8; 256])
 
 /// Makes `out` the 256 bytes that are programmed from that offset on: those of the image, and FFh after its end.
 pub fn piece(image: &[u8], at: u32, out: &mut [u8; 256])
-    ensures { out.new ≡ piece_of image.now at }
+    ensures { out.new ≡ program_piece image.now at }
 {
     let rest = &image[(at as usize).min(image.len())..];
     fill_up(&rest[..rest.len().min(256)], out);

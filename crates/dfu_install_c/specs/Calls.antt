@@ -10,20 +10,20 @@ abbrev pub last_of : ℕ → Option ℕ
 last_of number = if number == 4294967295 then None else Some number
 
 -- The number of a place.
-abbrev pub number_of : Option ℕ → ℕ
-number_of None = 4294967295
-number_of (Some at) = at
+abbrev pub number_of_place : Option ℕ → ℕ
+number_of_place None = 4294967295
+number_of_place (Some at) = at
 
 -- The operation that a kind and a place stand for; of another kind none, as the start.
-abbrev pub due_of : ℕ → ℕ → Due
-due_of kind at = if kind == 1 then Erase at else if kind == 2 then Program at else Start
+abbrev pub due_of_kind : ℕ → ℕ → Due
+due_of_kind kind at = if kind == 1 then Erase at else if kind == 2 then Program at else Start
 
 -- DFU_ASKS.
-abbrev pub ASKS : ℤ
-ASKS = negsuc 10
+abbrev pub INSTALL_ASKS : ℤ
+INSTALL_ASKS = negsuc 10
 
 -- The number of a refusal: DFU_WRONG_SIZE, DFU_NO_IMAGE, DFU_TOO_LARGE.
-abbrev pub refusal_number : Refusal → ℤ
-refusal_number WrongSize = negsuc 5
-refusal_number NoImage = negsuc 14
-refusal_number TooLarge = negsuc 6
+abbrev pub install_refusal_number : Refusal → ℤ
+install_refusal_number WrongSize = negsuc 5
+install_refusal_number NoImage = negsuc 14
+install_refusal_number TooLarge = negsuc 6

@@ -2,15 +2,15 @@
 use Rattle.std.specs.Prelude.{◌≡◌, ℕ, ℤ, pos, List}
 use Rattle.dfu_install.specs.declared.due.Due.{Due}
 use Rattle.dfu_install.specs.declared.due.Due.TheVariants.{Refuse, Erase, Program, Start}
-use Rattle.dfu_install.specs.Area.{piece_of}
+use Rattle.dfu_install.specs.Area.{program_piece}
 use Rattle.dfu_install_c.specs.declared.ask.DfuAsk.{DfuAsk}
-use Rattle.dfu_install_c.specs.Calls.{ASKS, refusal_number}
+use Rattle.dfu_install_c.specs.Calls.{INSTALL_ASKS, install_refusal_number}
 
 -- An operation is told by DFU_ASKS, and stands in what is asked for; the start by 0, and a refusal by its number, and nothing changes.
-abbrev pub Tells : List ℕ → ℕ → Due → ℤ → DfuAsk → DfuAsk → Type 0
-Tells image sector (Refuse refusal) result before after = (result ≡ refusal_number refusal) × (after ≡ before)
-Tells image sector Start result before after = (result ≡ pos 0) × (after ≡ before)
-Tells image sector (Erase at) result before after =
-    (result ≡ ASKS) × (after.kind ≡ 1) × (after.at ≡ at) × (after.length ≡ sector) × (after.bytes ≡ before.bytes)
-Tells image sector (Program at) result before after =
-    (result ≡ ASKS) × (after.kind ≡ 2) × (after.at ≡ at) × (after.length ≡ 256) × (after.bytes ≡ piece_of image at)
+abbrev pub TellsDue : List ℕ → ℕ → Due → ℤ → DfuAsk → DfuAsk → Type 0
+TellsDue image sector (Refuse refusal) result before after = (result ≡ install_refusal_number refusal) × (after ≡ before)
+TellsDue image sector Start result before after = (result ≡ pos 0) × (after ≡ before)
+TellsDue image sector (Erase at) result before after =
+    (result ≡ INSTALL_ASKS) × (after.kind ≡ 1) × (after.at ≡ at) × (after.length ≡ sector) × (after.bytes ≡ before.bytes)
+TellsDue image sector (Program at) result before after =
+    (result ≡ INSTALL_ASKS) × (after.kind ≡ 2) × (after.at ≡ at) × (after.length ≡ 256) × (after.bytes ≡ program_piece image at)

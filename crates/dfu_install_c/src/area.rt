@@ -1,6 +1,6 @@
 //! What a program in C keeps of a run area.
 ghost use Rattle.std.specs.Prelude.{◌≡◌};
-ghost use Rattle.dfu_install_c.specs.Calls.{last_of, number_of};
+ghost use Rattle.dfu_install_c.specs.Calls.{last_of, number_of_place};
 
 /// What is kept of a run area between two calls: `struct dfu_run_area`.
 #[repr(C)]
@@ -25,7 +25,7 @@ pub(crate) fn last_of(number: u32) -> Option<u32>
 
 /// The number of a place.
 pub(crate) fn number_of(last: Option<u32>) -> u32
-    ensures { result ≡ number_of last }
+    ensures { result ≡ number_of_place last }
 {
     match last {
         Some(at) => at,

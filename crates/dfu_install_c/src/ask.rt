@@ -1,6 +1,6 @@
 //! The operation that a program is to carry out.
 ghost use Rattle.std.specs.Prelude.{◌≡◌};
-ghost use Rattle.dfu_install_c.specs.Calls.{due_of};
+ghost use Rattle.dfu_install_c.specs.Calls.{due_of_kind};
 
 use dfu_install::Due;
 
@@ -26,7 +26,7 @@ pub(crate) const PROGRAM: u32 = 2;
 
 /// The operation that it stands for; of another kind none, as the start.
 pub(crate) fn due_of(ask: &DfuAsk) -> Due
-    ensures { result ≡ due_of ask.now.kind ask.now.at }
+    ensures { result ≡ due_of_kind ask.now.kind ask.now.at }
 {
     match ask.kind {
         ERASE => Due::Erase(ask.at),

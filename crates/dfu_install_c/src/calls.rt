@@ -1,10 +1,10 @@
 //! The calls for a run area, as a program in C makes them: `include/dfu_install_core.h` says each for a reader of C.
 ghost use Rattle.std.specs.Prelude.{◌≡◌, not, ◌==◌, pos};
 ghost use Rattle.dfu_install.specs.Next.{Does};
-ghost use Rattle.dfu_install.specs.Took.{Took};
+ghost use Rattle.dfu_install.specs.Took.{TookDue};
 ghost use Rattle.dfu_install.specs.declared.due.Due.{Due};
-ghost use Rattle.dfu_install_c.specs.Calls.{last_of, due_of};
-ghost use Rattle.dfu_install_c.specs.Tells.{Tells};
+ghost use Rattle.dfu_install_c.specs.Calls.{last_of, due_of_kind};
+ghost use Rattle.dfu_install_c.specs.Tells.{TellsDue};
 
 use crate::area::{DfuRunArea, last_of, number_of};
 use crate::ask::{DfuAsk, ERASE, PROGRAM, due_of};
@@ -13,7 +13,7 @@ use dfu_install::{Due, next, piece, took};
 
 // Tells what is due.
 fn tell(due: Due, image: &[u8], sector: u32, ask: &mut DfuAsk) -> i32
-    ensures { Tells image.now sector due result ask.old ask.new }
+    ensures { TellsDue image.now sector due result ask.old ask.new }
 {
     match due {
         Due::Refuse(refusal) => numbers::number_of(refusal),
@@ -45,7 +45,7 @@ pub extern "C" fn dfu_core_install_next(
     ask: &mut DfuAsk,
 ) -> i32
     ensures outcome { (due : Due) × (Does image.now run.now area.now.sector (last_of area.now.last) due
-        × Tells image.now area.now.sector due result ask.old ask.new) }
+        × TellsDue image.now area.now.sector due result ask.old ask.new) }
 {
     let due = next(image, run, area.sector, last_of(area.last));
     tell(due, image, area.sector, ask)
@@ -62,7 +62,8 @@ pub extern "C" fn dfu_core_install_took(
 ) -> i32
     ensures result { result ≡ pos 0 }
     ensures sector { area.new.sector ≡ area.old.sector }
-    ensures noted { Took image.now run.now area.old.sector (due_of ask.now.kind ask.now.at) (not (failed == 0)) (last_of area.new.last) }
+    ensures noted { TookDue image.now run.now area.old.sector (due_of_kind ask.now.kind ask.now.at) (not (failed == 0))
+        (last_of area.new.last) }
 {
     area.last = number_of(took(image, run, area.sector, due_of(ask), failed != 0));
     0

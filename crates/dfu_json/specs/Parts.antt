@@ -70,8 +70,8 @@ abbrev pub valued : Name → Kind → (out line : List ℕ) → Option (List ℕ
 valued key kind out line = word_in line >>= λ w. with_value kind (keyed out key) w.0 >>= λ now. Some (now, w.1)
 
 -- The members so far with a list as the value of this key, and the words after it.
-abbrev pub listed : Name → (out line : List ℕ) → Option (List ℕ × List ℕ)
-listed key out line = Some (keyed out key ++ array (take (list_length line) line), drop (list_length line + 1) line)
+abbrev pub with_list : Name → (out line : List ℕ) → Option (List ℕ × List ℕ)
+with_list key out line = Some (keyed out key ++ array (take (list_length line) line), drop (list_length line + 1) line)
 
 -- The members so far with an object as the value of the first key, in which a word is the value of the second, and the words after it.
 abbrev pub nested : Name → Name → (out line : List ℕ) → Option (List ℕ × List ℕ)
@@ -83,7 +83,7 @@ unfoldable pub taken : Part → (out line : List ℕ) → Option (List ℕ × Li
 taken (part.Says key word) out line = rest_after line (name_text word) >>= λ r. Some (keyed out key ++ quoted (name_text word), r)
 taken (part.Value key kind) out line = valued key kind out line
 taken (part.Pair key kind) out line = rest_after line (name_text key) >>= λ r. valued key kind out r
-taken (part.List word key) out line = rest_after line (name_text word) >>= λ r. listed key out r
+taken (part.List word key) out line = rest_after line (name_text word) >>= λ r. with_list key out r
 taken (part.Opens word key) out line = rest_after line (name_text word) >>= λ r. nested word key out r
 taken (part.Rest key) out line = Some (keyed out key ++ array line ++ 125 ∷ [], [])
 taken (part.Without key) out line = Some (keyed out key ++ array [], line)

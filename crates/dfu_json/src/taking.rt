@@ -3,7 +3,7 @@
 ghost use Rattle.std.specs.Prelude.{◌≡◌, IfOk, MatchBool, MatchOption, OnOk, None, Some};
 ghost use Rattle.std.specs.Char.{is_ascii_digit};
 ghost use Rattle.std.specs.List.{list_all};
-ghost use Rattle.dfu_json.specs.Parts.{is_number, keyed, listed, nested, taken, valued, with_value};
+ghost use Rattle.dfu_json.specs.Parts.{is_number, keyed, with_list, nested, taken, valued, with_value};
 
 use crate::arrays::push_array;
 use crate::name::Name;
@@ -93,7 +93,7 @@ fn take_value<'l>(
 
 /// Takes a list that is the value of a key.
 fn take_list<'l>(out: &mut Vec<u8>, key: Name, line: &'l [u8]) -> Result<&'l [u8], AllocError>
-    ensures { IfOk result (λ rest. listed key out.old.items line.now ≡ Some (out.new.items, rest.now)) }
+    ensures { IfOk result (λ rest. with_list key out.old.items line.now ≡ Some (out.new.items, rest.now)) }
 {
     push_key(out, key)?;
     let count = list_length(line);

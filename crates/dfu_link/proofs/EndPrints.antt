@@ -24,7 +24,7 @@ use Rattle.dfu_sim.specs.BegunBy.{begun_by}
 use Rattle.dfu_link.specs.Texts.{uploaded_line, told_line, answer_line, refusal_line}
 use Rattle.dfu_link.specs.Said.{Said, Does, Go, GoesOn, Show}
 use Rattle.dfu_link.specs.Lines.{line_of}
-use Rattle.dfu_link.specs.ScriptRun.{Settings, beginning, at_rest, Point, point, checked, AllCome, none_comes, then_comes, LineActs, skips, limits_to, plays, goes_on, shows, expects, LinesRun, stays, then_runs, SetsUp, Starts, WroteRun, blank}
+use Rattle.dfu_link.specs.ScriptRun.{Settings, beginning, at_rest, Point, point, checked, AllCome, none_comes, then_comes, LineActs, skips, limits_to, plays, goes_on, shows, expects, LinesRun, stays, then_runs, SetsUp, DeviceStarts, WroteRun, blank_slots}
 use Rattle.dfu_link.specs.Falls.{BreaksIn, in_events as breaks_in_events, in_passes as breaks_in_passes, in_show as breaks_in_show, NextFalls, Falls, no_memory, in_setting, at_start, in_run, Ended}
 use Rattle.dfu_link.specs.Printed.{IsKnownImage, Brings, Events, brought, report_text, EventsPrint, no_event, then_refused, LinePrints, prints_nothing, prints_events, prints_passes, prints_image, LinesPrint, no_line, then_line, StartsWith, TextPrints, WrotePrinted, PartPrints, nothing_out, in_events, in_line, in_image, StopsPrinted, before_start, after_start, HasPrinted}
 use Rattle.dfu_link.proofs.LineBrings.{said_brings, line_brings}
@@ -179,20 +179,20 @@ lines_kept shown {p = p} keeps (then_runs line {said = said} more is acts) =
 
 -- The start.
 
-starts_hold : {settings : Settings} {first : Shown} → Starts settings first → HeadlineHolds settings.image [] None (at_rest first)
+starts_hold : {settings : Settings} {first : Shown} → DeviceStarts settings first → HeadlineHolds settings.image [] None (at_rest first)
 starts_hold {settings = settings} {first = first} starts = holds_at_rest (at_rest first) settings.image starts.active refl
     (λ x waits. subst (λ (s : Stage). IsWaiting s x) starts.stage waits)
 
-starts_keep : {settings : Settings} {first : Shown} → Starts settings first → Keeps settings.image [] (at_rest first)
+starts_keep : {settings : Settings} {first : Shown} → DeviceStarts settings first → Keeps settings.image [] (at_rest first)
 starts_keep {settings = settings} {first = first} starts = record {
-  steady = rest_is_steady first (all_whole (blank settings.grain settings.capacity) first.slots.medium
-      (format_series (blank settings.grain settings.capacity) settings.image) refl starts.formatted);
+  steady = rest_is_steady first (all_whole (blank_slots settings.grain settings.capacity) first.slots.medium
+      (format_series (blank_slots settings.grain settings.capacity) settings.image) refl starts.formatted);
   report = None;
   holds = starts_hold starts;
 }
 
 text_prints : ImageShown → {g : Option (List ℕ)} {text : List ℕ} {settings : Settings} {after done : List (List ℕ)} {first : Shown}
-    {out : List ℕ} {end : Point} → SetsUp g text settings after → Starts settings first
+    {out : List ℕ} {end : Point} → SetsUp g text settings after → DeviceStarts settings first
     → (all : LinesKept settings.image [] (point settings (at_rest first)) done out end)
     → TextPrints g text after done out all.past' end.at (image_of end.at.device.slots)
 text_prints shown {g = g} {settings = settings} {after = after} {done = done} {first = first} {out = out} {end = end} sets_up starts all =

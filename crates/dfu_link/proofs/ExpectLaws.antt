@@ -3,7 +3,7 @@ use Rattle.std.proofs.Common.{◌≡◌, ℕ, List, [], ◌∷◌, ◌++◌, Opt
 use Rattle.std.proofs.lemmas.List.{append_assoc}
 use Rattle.std.specs.Prelude.{Result, Ok, Err, IsErrAnd}
 use Rattle.std.specs.Io.KnownBytes.{Appends}
-use Rattle.dfu_link.specs.Expecting.{Expectation, Meets, still, Fails}
+use Rattle.dfu_link.specs.Expecting.{Expectation, Meets, still, FailsToPrint}
 use Rattle.dfu_link.specs.inside.Expected.{Puts, Prints, PrintsNext}
 use Rattle.dfu_link.specs.declared.scripting.fault.ScriptFault.{ScriptFault}
 use Rattle.dfu_link.specs.declared.scripting.fault.ScriptFault.TheVariants.{Expected, NoMemory, Write}
@@ -45,7 +45,7 @@ writer_failed (Ok done) e e' old new text f h same = absurd same
 writer_failed (Err g) e e' old new text f h same = record {
   ok = tt;
   err = h.err;
-  fault = subst (λ (x : ScriptFault). Fails e text old new x) (sym h.fault) tt;
+  fault = subst (λ (x : ScriptFault). FailsToPrint e text old new x) (sym h.fault) tt;
 }
 
 -- The writer failed in a front of the text that is printed next.
@@ -55,13 +55,13 @@ falls_short {e = e} {e' = e'} {old = old} {new = new} {text = text} {f = f} {r =
     writer_failed r e e' old new text f (puts_stops ys h same is) same
 
 -- Where nothing is expected only the writer fails, and it may fail anywhere.
-nothing_fails : (e : Option Expectation) (xs ys : List ℕ) (f : ScriptFault) (a b a' b' : Option (List ℕ)) → Fails None xs a b f
-    → Fails e ys a' b' f
+nothing_fails : (e : Option Expectation) (xs ys : List ℕ) (f : ScriptFault) (a b a' b' : Option (List ℕ)) → FailsToPrint None xs a b f
+    → FailsToPrint e ys a' b' f
 nothing_fails e xs ys Write a b a' b' h = tt
 nothing_fails e xs ys f a b a' b' h = absurd h
 
 short_now : (e : Expectation) (ys : List ℕ) (f : ScriptFault) (old mid new : Option (List ℕ)) → Appends old mid []
-    → Fails (Some e) ys mid new f → Fails (Some e) ys old new f
+    → FailsToPrint (Some e) ys mid new f → FailsToPrint (Some e) ys old new f
 short_now e ys Write old mid new told h = tt
 short_now e ys NoMemory old mid new told h = tt
 short_now e ys (Expected n) old mid new told h = (
@@ -77,7 +77,7 @@ short_now e ys (Expected n) old mid new told h = (
 short_now e ys f old mid new told h = absurd h
 
 fails_on : (e : Option Expectation) (xs ys : List ℕ) (f : ScriptFault) (old mid new : Option (List ℕ)) → Appends old mid xs
-    → Fails (still e xs) ys mid new f → Fails e (xs ++ ys) old new f
+    → FailsToPrint (still e xs) ys mid new f → FailsToPrint e (xs ++ ys) old new f
 fails_on None [] ys f old mid new told h = nothing_fails None ys ys f mid new old new h
 fails_on (Some e) [] ys f old mid new told h = short_now e ys f old mid new told h
 fails_on e (x ∷ xs) ys f old mid new told h = nothing_fails e ys (x ∷ (xs ++ ys)) f mid new old new h
@@ -86,6 +86,6 @@ fails_on e (x ∷ xs) ys f old mid new told h = nothing_fails e ys (x ∷ (xs ++
 pub fails_after : {e e' : Option Expectation} {old mid : Option (List ℕ)} {xs : List ℕ} (ys : List ℕ)
     (new : Option (List ℕ)) (f : ScriptFault)
     → Prints e old xs e' mid
-    → Fails e' ys mid new f → Fails e (xs ++ ys) old new f
+    → FailsToPrint e' ys mid new f → FailsToPrint e (xs ++ ys) old new f
 fails_after {e = e} {old = old} {mid = mid} {xs = xs} ys new f h fails =
-    fails_on e xs ys f old mid new h.told (subst (λ (x : Option Expectation). Fails x ys mid new f) h.left fails)
+    fails_on e xs ys f old mid new h.told (subst (λ (x : Option Expectation). FailsToPrint x ys mid new f) h.left fails)

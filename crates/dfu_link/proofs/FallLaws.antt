@@ -9,11 +9,11 @@ use Rattle.dfu_link.specs.Lines.{line_of}
 use Rattle.dfu_link.specs.ScriptRun.{Point}
 use Rattle.dfu_sim.specs.Bench.{Nobody}
 use Rattle.dfu_link.specs.Said.{Said, Offer, Does}
-use Rattle.dfu_link.specs.Expecting.{Expectation, Fails}
+use Rattle.dfu_link.specs.Expecting.{Expectation, FailsToPrint}
 use Rattle.dfu_link.specs.Falls.{BreaksIn, in_events, in_passes, in_show, for_file, for_tear, LineFalls, NextFalls}
 use Rattle.dfu_link.specs.TextLimit.{GoesOver, IsStopped, GivesNone}
 use Rattle.dfu_link.specs.inside.Expected.{PrintsNext}
-use Rattle.dfu_link.specs.inside.Source.{SourceState, Takes, GivesLine, StopsSource}
+use Rattle.dfu_link.specs.inside.Source.{SourceState, TakesLines, GivesLine, StopsSource}
 use Rattle.dfu_link.specs.inside.Moving.{Moves, MovesAndFalls, HasStopped, FindsNoRoom, FindsNoTear}
 use Rattle.dfu_link.specs.declared.scripting.fault.ScriptFault.{ScriptFault}
 use Rattle.dfu_link.specs.declared.scripting.fault.ScriptFault.TheVariants.{BadLine, LateConfig, Expected, NonePrinted, TooLarge, NoMemory, Read, Write}
@@ -41,7 +41,7 @@ line_is_next p k line lines old new (NonePrinted n) falls = falls
 line_is_next p k line lines old new f falls = absurd falls
 
 taken_falls : (p : Point) (a b : Option (List ℕ)) (room room' k n : ℕ) (line : List ℕ) (old new : Option (List ℕ)) (f : ScriptFault)
-    → Takes a room (line ∷ []) b room' → IfSome a (λ left. ¬ GoesOver room left) → n ≡ k → LineFalls p n line old new f
+    → TakesLines a room (line ∷ []) b room' → IfSome a (λ left. ¬ GoesOver room left) → n ≡ k → LineFalls p n line old new f
     → IfSome a (λ left. IsStopped room left f × NextFalls p k (lines_of left) old new f)
 taken_falls p None b room room' k n line old new f took ends is falls = tt
 taken_falls p (Some a) None room room' k n line old new f took ends is falls = absurd took
@@ -72,14 +72,15 @@ IsStop (Expected n) = Unit {0}
 IsStop NoMemory = Unit {0}
 IsStop fault = ⊥
 
-fault_of : (next : Option Expectation) (text : List ℕ) (old new : Option (List ℕ)) (f : ScriptFault) → Fails next text old new f → IsStop f
+fault_of : (next : Option Expectation) (text : List ℕ) (old new : Option (List ℕ)) (f : ScriptFault) →
+    FailsToPrint next text old new f → IsStop f
 fault_of next text old new Write fails = tt
 fault_of next text old new (Expected n) fails = tt
 fault_of next text old new NoMemory fails = tt
 fault_of next text old new f fails = absurd fails
 
 image_stops : (p : Point) (k room : ℕ) (old new : Option (List ℕ)) (f : ScriptFault) → IsStop f
-    → Fails p.next (image_line p.at.device) old new f × IsOutInPart old new (image_line p.at.device)
+    → FailsToPrint p.next (image_line p.at.device) old new f × IsOutInPart old new (image_line p.at.device)
     → IsStopped room [] f × NextFalls p k [] old new f
 image_stops p k room old new Write stop falls = (none_over room, falls)
 image_stops p k room old new (Expected n) stop falls = (none_over room, falls)
@@ -87,7 +88,7 @@ image_stops p k room old new NoMemory stop falls = (none_over room, falls)
 image_stops p k room old new f stop falls = elim stop [ ]
 
 image_breaks : (p : Point) (a : Option (List ℕ)) (room k : ℕ) (old new : Option (List ℕ)) (f : ScriptFault) → IsAtEnd a
-    → Fails p.next (image_line p.at.device) old new f → IsOutInPart old new (image_line p.at.device)
+    → FailsToPrint p.next (image_line p.at.device) old new f → IsOutInPart old new (image_line p.at.device)
     → IfSome a (λ left. IsStopped room left f × NextFalls p k (lines_of left) old new f)
 image_breaks p None room k old new f ended fails broke = tt
 image_breaks p (Some left) room k old new f ended fails broke =

@@ -6,18 +6,18 @@ use Rattle.std.specs.Prelude.{◌==◌, nat_le, length, unwrap_or, replicate, co
 use Rattle.std.specs.Str.{bytes_eq}
 use Rattle.dfu_sim.specs.declared.aim.Aim.{Aim}
 use Rattle.dfu_sim.specs.declared.aim.Aim.TheVariants.{Install, Verify}
-use Rattle.dfu_link.specs.Words.{ok_of, bytes_of, number_of, first, text_behind, words_of}
-use Rattle.dfu_link.specs.Fields.{small_of, count_of, unit_of, sector_of, objection_of, named_bytes}
+use Rattle.dfu_link.specs.Words.{ok_of, hex_word_bytes, number_of, first_word, text_behind, words_of}
+use Rattle.dfu_link.specs.Fields.{small_of, count_of, unit_of_word, sector_of, objection_of, named_bytes}
 use Rattle.dfu_link.specs.Keywords.{keyword_of, later_keyword_of, fate_keyword_of}
 use Rattle.dfu_sim.specs.Happening.{Fate}
 use Rattle.dfu_link.specs.Said.{ConfigLine, TheIds, TheDevice, TheUnit, TheSector, TheCapacity, TheImage, TheCheck, EventLine, Offer, Upload, Abort, Go, Time, Reset, Cut, Refuse, Said, Blank, Sets, LimitsTo, Does, GoesOn, Show, Expects}
-use Rattle.dfu_link.specs.Lines.{◌>>=◌, field, number_at, short_at, hex_at, file_at, identifier_at, attributes_at, ends, ids_of, device_of, unit_line, erase_of, capacity_of, image_of, check_of, limits_of, offer_of, time_of, refuse_of, pass_of, slip_of, harmed_of, until_of, go_of, expect_of, by_keyword, is_comment, says, read_line, line_of}
+use Rattle.dfu_link.specs.Lines.{◌>>=◌, field, number_field, short_at, hex_at, offered_file, identifier_at, attributes_at, ends, said_ids, said_device, unit_line, erase_of, said_capacity, said_image, check_of, said_limits, offer_of, time_of, refuse_of, pass_of, slip_of, harmed_of, until_of, go_of, expect_of, by_keyword, is_comment, says, read_line, line_of}
 use Rattle.dfu_link.specs.declared.scripting.wrong.Field.TheVariants.{Times}
 use Rattle.dfu_link.specs.declared.scripting.wrong.LineFault.{LineFault}
 use Rattle.dfu_link.specs.declared.scripting.wrong.LineFault.TheVariants.{Long, Keyword}
 use Rattle.dfu_link.proofs.WordLaws.{bind_some, guard_some}
 use Rattle.dfu_sim.specs.Headline.{Begun, WithOffer, AsUpload}
-use Rattle.dfu_link.specs.Printed.{Brings, Nothing, AnImage, Events, SomePasses, AShow, bytes_in, file_in, count_in, go_brings, words_bring, brought}
+use Rattle.dfu_link.specs.Printed.{Brings, Nothing, AnImage, Events, SomePasses, AShow, first_word_bytes, file_in, count_in, go_brings, words_bring, brought}
 
 -- What is said.
 
@@ -93,48 +93,49 @@ ends_ok x n (word ∷ words) y h = absurd cc
 ends_bring : (x : Said) (n : ℕ) (words : List (List ℕ)) (said : Said) → ends x n words ≡ Ok said → said_brings said ≡ said_brings x
 ends_bring x n words said h = ap said_brings (sym (ends_ok x n words said h))
 
-hex_in : (n of : ℕ) (words : List (List ℕ)) (file : List ℕ × List (List ℕ)) → hex_at n of words ≡ Ok file → file.0 ≡ bytes_in words
+hex_in : (n of : ℕ) (words : List (List ℕ)) (file : List ℕ × List (List ℕ)) → hex_at n of words ≡ Ok file → file.0 ≡ first_word_bytes words
 unfolding hex_at
 hex_in n of [] file h = absurd cc
-hex_in n of (word ∷ words) file h = there (bytes_of word) _ _ file h (λ x is made. ap (λ (f : List ℕ × List (List ℕ)). f.0)
+hex_in n of (word ∷ words) file h = there (hex_word_bytes word) _ _ file h (λ x is made. ap (λ (f : List ℕ × List (List ℕ)). f.0)
     (sym (ok_one (x, words) file made)) ∙ ap (λ (o : Option (List ℕ)). unwrap_or o []) (sym is))
 
-file_is : (given : Option (List ℕ)) (n of : ℕ) (words : List (List ℕ)) (file : List ℕ × List (List ℕ)) → file_at given n of words ≡ Ok file
+file_is : (given : Option (List ℕ)) (n of : ℕ) (words : List (List ℕ)) (file : List ℕ × List (List ℕ)) →
+    offered_file given n of words ≡ Ok file
     → file.0 ≡ file_in given words
-unfolding file_at named_bytes
+unfolding offered_file named_bytes
 file_is given n of [] file h = absurd cc
 file_is given n of (word ∷ words) file h = there (named_bytes given word) _ _ file h (λ x is made.
     ap (λ (f : List ℕ × List (List ℕ)). f.0) (sym (ok_one (x, words) file made)) ∙ ap (λ (o : Option (List ℕ)). unwrap_or o []) (sym is))
 
 -- Lines that set.
 
-ids_bring : (words : List (List ℕ)) (said : Said) → ids_of words ≡ Ok said → said_brings said ≡ Nothing
-unfolding ids_of
+ids_bring : (words : List (List ℕ)) (said : Said) → said_ids words ≡ Ok said → said_brings said ≡ Nothing
+unfolding said_ids
 ids_bring words said h = bind_ok (identifier_at 2 4 words) _ said h (λ v iv hv. bind_ok (identifier_at 3 4 v.1) _ said hv
     (λ p ip hp. bind_ok (identifier_at 4 4 p.1) _ said hp (λ d id hd. ends_bring _ 4 d.1 said hd)))
 
-device_brings : (words : List (List ℕ)) (said : Said) → device_of words ≡ Ok said → said_brings said ≡ Nothing
-unfolding device_of
+device_brings : (words : List (List ℕ)) (said : Said) → said_device words ≡ Ok said → said_brings said ≡ Nothing
+unfolding said_device
 device_brings words said h = bind_ok (attributes_at 2 7 words) _ said h (λ a ia ha. bind_ok (short_at 3 7 a.1) _ said ha
-    (λ d id hd. bind_ok (short_at 4 7 d.1) _ said hd (λ t it ht. bind_ok (number_at 5 7 t.1) _ said ht
-    (λ l il hl. bind_ok (number_at 6 7 l.1) _ said hl (λ b ib hb. bind_ok (number_at 7 7 b.1) _ said hb
+    (λ d id hd. bind_ok (short_at 4 7 d.1) _ said hd (λ t it ht. bind_ok (number_field 5 7 t.1) _ said ht
+    (λ l il hl. bind_ok (number_field 6 7 l.1) _ said hl (λ b ib hb. bind_ok (number_field 7 7 b.1) _ said hb
     (λ m im hm. ends_bring _ 7 m.1 said hm))))))
 
 unit_brings : (words : List (List ℕ)) (said : Said) → unit_line words ≡ Ok said → said_brings said ≡ Nothing
 unfolding unit_line
-unit_brings words said h = bind_ok (field _ unit_of 2 2 words) _ said h (λ u iu hu. ends_bring (Sets (TheUnit u.0)) 2 u.1 said hu)
+unit_brings words said h = bind_ok (field _ unit_of_word 2 2 words) _ said h (λ u iu hu. ends_bring (Sets (TheUnit u.0)) 2 u.1 said hu)
 
 erase_brings : (words : List (List ℕ)) (said : Said) → erase_of words ≡ Ok said → said_brings said ≡ Nothing
 unfolding erase_of
 erase_brings words said h = bind_ok (field _ sector_of 2 2 words) _ said h (λ n is hn. ends_bring (Sets (TheSector n.0)) 2 n.1 said hn)
 
-capacity_brings : (words : List (List ℕ)) (said : Said) → capacity_of words ≡ Ok said → said_brings said ≡ Nothing
-unfolding capacity_of
+capacity_brings : (words : List (List ℕ)) (said : Said) → said_capacity words ≡ Ok said → said_brings said ≡ Nothing
+unfolding said_capacity
 capacity_brings words said h = bind_ok (field _ (count_of 1048576) 2 2 words) _ said h
     (λ n is hn. ends_bring (Sets (TheCapacity n.0)) 2 n.1 said hn)
 
-image_brings : (words : List (List ℕ)) (said : Said) → image_of words ≡ Ok said → said_brings said ≡ AnImage (bytes_in words)
-unfolding image_of
+image_brings : (words : List (List ℕ)) (said : Said) → said_image words ≡ Ok said → said_brings said ≡ AnImage (first_word_bytes words)
+unfolding said_image
 image_brings words said h = bind_ok (hex_at 2 2 words) _ said h (λ x is hx. ends_bring (Sets (TheImage x.0)) 2 x.1 said hx
     ∙ ap AnImage (hex_in 2 2 words x is))
 
@@ -142,9 +143,9 @@ check_brings : (words : List (List ℕ)) (said : Said) → check_of words ≡ Ok
 unfolding check_of
 check_brings words said h = bind_ok (hex_at 2 2 words) _ said h (λ x is hx. ends_bring (Sets (TheCheck x.0)) 2 x.1 said hx)
 
-limits_bring : (words : List (List ℕ)) (said : Said) → limits_of words ≡ Ok said → said_brings said ≡ Nothing
-unfolding limits_of
-limits_bring words said h = bind_ok (number_at 2 3 words) _ said h (λ a ia ha. bind_ok (short_at 3 3 a.1) _ said ha
+limits_bring : (words : List (List ℕ)) (said : Said) → said_limits words ≡ Ok said → said_brings said ≡ Nothing
+unfolding said_limits
+limits_bring words said h = bind_ok (number_field 2 3 words) _ said h (λ a ia ha. bind_ok (short_at 3 3 a.1) _ said ha
     (λ r ir hr. ends_bring (LimitsTo a.0 r.0) 3 r.1 said hr))
 
 -- Event lines.
@@ -152,12 +153,13 @@ limits_bring words said h = bind_ok (number_at 2 3 words) _ said h (λ a ia ha. 
 offer_brings : (given : Option (List ℕ)) (aim : Aim) (words : List (List ℕ)) (said : Said) → offer_of given aim words ≡ Ok said
     → said_brings said ≡ Events (Some (WithOffer (file_in given words)) ∷ [])
 unfolding offer_of
-offer_brings given aim words said h = bind_ok (file_at given 2 2 words) _ said h (λ x is hx. ends_bring (Does (Offer aim x.0)) 2 x.1 said hx
+offer_brings given aim words said h = bind_ok (offered_file given 2 2 words) _ said h
+    (λ x is hx. ends_bring (Does (Offer aim x.0)) 2 x.1 said hx
     ∙ ap (λ (file : List ℕ). Events (Some (WithOffer file) ∷ [])) (file_is given 2 2 words x is))
 
 time_brings : (words : List (List ℕ)) (said : Said) → time_of words ≡ Ok said → said_brings said ≡ Events (None ∷ [])
 unfolding time_of
-time_brings words said h = bind_ok (number_at 2 2 words) _ said h (λ n is hn. ends_bring (Does (Time n.0)) 2 n.1 said hn)
+time_brings words said h = bind_ok (number_field 2 2 words) _ said h (λ n is hn. ends_bring (Does (Time n.0)) 2 n.1 said hn)
 
 refuse_brings : (words : List (List ℕ)) (said : Said) → refuse_of words ≡ Ok said → said_brings said ≡ Events (None ∷ [])
 unfolding refuse_of
@@ -180,16 +182,16 @@ pass_brings words said h = bind_ok (field Times (count_of 1000000) 3 3 words) _ 
 
 slip_brings : (words : List (List ℕ)) (said : Said) → slip_of words ≡ Ok said → said_brings said ≡ Events (None ∷ [])
 unfolding slip_of
-slip_brings words said h = bind_ok (number_at 3 3 words) _ said h (λ n is hn. ends_bring _ 3 n.1 said hn)
+slip_brings words said h = bind_ok (number_field 3 3 words) _ said h (λ n is hn. ends_bring _ 3 n.1 said hn)
 
 harmed_brings : (f : Fate) (words : List (List ℕ)) (said : Said) → harmed_of f words ≡ Ok said → said_brings said ≡ Events (None ∷ [])
 unfolding harmed_of
-harmed_brings f words said h = bind_ok (number_at 3 4 words) _ said h (λ n is hn. bind_ok (hex_at 4 4 n.1) _ said hn
+harmed_brings f words said h = bind_ok (number_field 3 4 words) _ said h (λ n is hn. bind_ok (hex_at 4 4 n.1) _ said hn
     (λ t it ht. ends_bring _ 4 t.1 said ht))
 
 until_brings : (words : List (List ℕ)) (said : Said) → until_of words ≡ Ok said → said_brings said ≡ SomePasses
 unfolding until_of
-until_brings words said h = there (first words) _ _ said h (λ w is hw. ends_bring GoesOn 3 w.1 said (if_ok _ _ _ said hw))
+until_brings words said h = there (first_word words) _ _ said h (λ w is hw. ends_bring GoesOn 3 w.1 said (if_ok _ _ _ said hw))
 
 -- Words.
 

@@ -17,7 +17,7 @@ use Rattle.dfu_link.specs.Expecting.{Expectation, Meets, still}
 use Rattle.dfu_link.specs.inside.Expected.{point_at, Prints, PrintsNext}
 use Rattle.dfu_link.specs.declared.scripting.fault.ScriptFault.{ScriptFault}
 use Rattle.dfu_link.specs.Falls.{in_passes}
-use Rattle.dfu_link.specs.inside.Moving.{IsSilent, HasActed, HasStopped}
+use Rattle.dfu_link.specs.inside.Moving.{SilentPasses, HasDoneLine, HasStopped}
 use Rattle.dfu_link.proofs.WriteLaws.{broke_after}
 use Rattle.dfu_link.proofs.ExpectLaws.{prints_none, prints_more, fails_after}
 use Rattle.dfu_link.proofs.ToldLines.{told_line_is}
@@ -27,7 +27,7 @@ abbrev passes : Happening
 passes = Goes Pass unharmed
 
 -- At first it has not passed.
-pub silent_none : (z : List ℕ) (b : Bench) (e : Option Expectation) (old : Option (List ℕ)) → IsSilent z b e old b e old
+pub silent_none : (z : List ℕ) (b : Bench) (e : Option Expectation) (old : Option (List ℕ)) → SilentPasses z b e old b e old
 silent_none z b e old = record {
   times = 0;
   plays = none_comes;
@@ -36,9 +36,9 @@ silent_none z b e old = record {
 
 -- It passed once more, and again nothing is printed.
 pub silent_more : {check : List ℕ} {b : Bench} {c c' : LinkState} (r : Result (Option Report) LinkFault) {old mid new : Option (List ℕ)}
-    {x y z : Option Expectation} → IsSilent check b x old c.bench y mid → HasCome c (checked check c.bench passes) c' r
+    {x y z : Option Expectation} → SilentPasses check b x old c.bench y mid → HasCome c (checked check c.bench passes) c' r
     → ShowsActive c'.bench → r ≡ Ok None
-    → Prints y mid (told_line r c'.up) z new → IsSilent check b x old c'.bench z new
+    → Prints y mid (told_line r c'.up) z new → SilentPasses check b x old c'.bench z new
 silent_more {check = check} {b = b} {c = c} {c' = c'} r {mid = mid} {new = new} {y = y} {z = z} before come active e prints =
     let n = before.times in
     let more : AllCome check b (replicate n passes ++ passes ∷ []) (told_line r c'.up) c'.bench =
@@ -83,7 +83,8 @@ part_some part = λ e. absurd (part_none part.front part.rest (sym part.whole �
 -- Something is printed of one action more, which is as expected.
 goes_on_by : {b : Bench} {c c' : LinkState} (g : Option (List ℕ)) (check : List ℕ) (limits : Limits) (r : Result (Option Report) LinkFault) {old mid : Option (List ℕ)}
     {x y : Option Expectation} (k : ℕ) (next : Option Expectation) → Meets next (told_line r c'.up)
-    → IsSilent check b x old c.bench y mid → HasCome c (checked check c.bench passes) c' r → ShowsActive c'.bench → told_line r c'.up ≢ []
+    → SilentPasses check b x old c.bench y mid → HasCome c (checked check c.bench passes) c' r → ShowsActive c'.bench →
+    told_line r c'.up ≢ []
     → LineActs k (point_at g check limits next b) GoesOn (told_line r c'.up) (point_at g check limits (still next (told_line r c'.up)) c'.bench)
 goes_on_by {b = b} {c = c} {c' = c'} g check limits r k next meets silent come active some =
     let same : told_line r c'.up ≡ answer_line come.answer = told_line_is c c' r come in
@@ -92,10 +93,10 @@ goes_on_by {b = b} {c = c} {c' = c'} g check limits r k next meets silent come a
 
 -- It is out.
 pub passed_on : {b : Bench} {c c' : LinkState} (g : Option (List ℕ)) (check : List ℕ) (limits : Limits) (r : Result (Option Report) LinkFault)
-    {old mid new : Option (List ℕ)} {x y z : Option Expectation} → IsSilent check b x old c.bench y mid
+    {old mid new : Option (List ℕ)} {x y z : Option Expectation} → SilentPasses check b x old c.bench y mid
     → HasCome c (checked check c.bench passes) c' r → ShowsActive c'.bench → r ≢ Ok None
     → Prints y mid (told_line r c'.up) z new
-    → HasActed (point_at g check limits x b) GoesOn old (point_at g check limits z c'.bench) new
+    → HasDoneLine (point_at g check limits x b) GoesOn old (point_at g check limits z c'.bench) new
 passed_on {b = b} {c' = c'} g check limits r {x = x} silent come active other prints =
     let all = prints_more silent.prints prints in
     record {
@@ -108,7 +109,7 @@ passed_on {b = b} {c' = c'} g check limits r {x = x} silent come active other pr
 
 -- Or it stopped in it.
 pub stopped_on : {b : Bench} {c c' : LinkState} (g : Option (List ℕ)) (check : List ℕ) (limits : Limits) (r : Result (Option Report) LinkFault)
-    {old mid new : Option (List ℕ)} {x y z : Option Expectation} {f : ScriptFault} → IsSilent check b x old c.bench y mid
+    {old mid new : Option (List ℕ)} {x y z : Option Expectation} {f : ScriptFault} → SilentPasses check b x old c.bench y mid
     → HasCome c (checked check c.bench passes) c' r → ShowsActive c'.bench → PrintsNext y mid (told_line r c'.up) z new (Err f)
     → HasStopped (point_at g check limits x b) GoesOn old new f
 stopped_on {c' = c'} g check limits r {old = old} {mid = mid} {new = new} {f = f} silent come active prints line e =

@@ -18,7 +18,7 @@ use Rattle.dfu_link.specs.ScriptRun.{checked, AllCome, none_comes, then_comes}
 use Rattle.dfu_link.specs.Expecting.{Expectation}
 use Rattle.dfu_link.specs.Falls.{HasBroken}
 use Rattle.dfu_link.specs.inside.Expected.{PrintsNext}
-use Rattle.dfu_link.specs.inside.Moving.{HasPlayed, Plays}
+use Rattle.dfu_link.specs.inside.Moving.{HasPlayed, PlaysEvents}
 use Rattle.dfu_link.proofs.WriteLaws.{broke_after}
 use Rattle.dfu_link.proofs.ExpectLaws.{prints_none, prints_more, fails_after}
 use Rattle.dfu_link.proofs.ToldLines.{told_line_is}
@@ -50,7 +50,7 @@ played_none z b x h = record {
 played_then : (done : Result Unit ScriptFault) (e : Happening) {check : List ℕ} {b c c' : Bench} {events : List Happening}
     {answer : Result Answered LinkFault} {x y z : Option Expectation} {old mid new : Option (List ℕ)}
     → HasPlayed check b x events old c y mid → Comes c (checked check c e) c' answer
-    → ShowsActive c' → PrintsNext y mid (answer_line answer) z new done → Plays check b x (events ++ e ∷ []) old c' z new done
+    → ShowsActive c' → PrintsNext y mid (answer_line answer) z new done → PlaysEvents check b x (events ++ e ∷ []) old c' z new done
 played_then (Ok it) e {answer = answer} before come active prints = record {
   ok = record {
     out = before.out ++ answer_line answer;
@@ -79,7 +79,7 @@ pub plays_next : (e : Happening) {check : List ℕ} {b : Bench} {c c' : LinkStat
     (r : Result (Option Report) LinkFault) {x y z : Option Expectation} {old mid new : Option (List ℕ)} {done : Result Unit ScriptFault}
     → HasPlayed check b x events old c.bench y mid → HasCome c (checked check c.bench e) c' r → ShowsActive c'.bench
     → PrintsNext y mid (told_line r c'.up) z new done
-    → Plays check b x (events ++ e ∷ []) old c'.bench z new done
+    → PlaysEvents check b x (events ++ e ∷ []) old c'.bench z new done
 plays_next e {c = c} {c' = c'} r {y = y} {z = z} {mid = mid} {new = new} {done = done} before come active prints =
     played_then done e before come.comes active
     (subst (λ (text : List ℕ). PrintsNext y mid text z new done) (told_line_is c c' r come) prints)
@@ -92,7 +92,7 @@ busy_offer b aim file limits live = refuses live
 -- An offer while a session is live is refused, whatever its file is, and that is printed.
 pub busy_plays : (check : List ℕ) {b : Bench} (aim : Aim) (file : List ℕ) (limits : Limits) {e e' : Option Expectation} {old new : Option (List ℕ)}
     {done : Result Unit ScriptFault} → IsLive b.session → ShowsActive b → PrintsNext e old (answer_line (Err HostBusy)) e' new done
-    → Plays check b e (Offers aim file limits ∷ []) old b e' new done
+    → PlaysEvents check b e (Offers aim file limits ∷ []) old b e' new done
 busy_plays check {b = b} aim file limits {e = e} {old = old} {done = done} live active prints =
     played_then done (Offers aim file limits) (played_none check b e old) (busy_offer b aim file limits live) active prints
 

@@ -21,7 +21,7 @@ use Rattle.dfu_sim.specs.declared.fault.LinkFault.{LinkFault}
 use Rattle.dfu_sim.specs.declared.fault.LinkFault.TheVariants as link
 use Rattle.dfu_link.specs.Words.{endless}
 use Rattle.dfu_link.specs.Texts.{offer_fault_name, refusal_line, state_text}
-use Rattle.dfu_link.specs.Printed.{refused_line}
+use Rattle.dfu_link.specs.Printed.{refused_event_line}
 use Rattle.dfu_link.proofs.LineLaws.{endless_more}
 
 suffix_endless : (fault : SuffixFault) → endless (suffix_fault_name fault) ≡ true
@@ -51,7 +51,7 @@ offer_endless (offer.Host fault) = host_endless fault
 pub record Refusal (fault : LinkFault) : Type 0 where
   pub reason : List ℕ
   pub one_line : endless reason ≡ true
-  pub is : refusal_line fault ≡ refused_line reason
+  pub is : refusal_line fault ≡ refused_event_line reason
 
 -- The line of a refusal says why.
 pub refusal : (fault : LinkFault) → Refusal fault

@@ -8,7 +8,7 @@ use Rattle.dfu_sim.specs.Bench.{Bench}
 use Rattle.dfu_link.specs.Texts.{told_line}
 use Rattle.dfu_link.specs.Said.{ConfigLine, TheIds, TheDevice, TheUnit, TheSector, TheCapacity, TheImage, TheCheck, EventLine, Offer, Upload, Abort, Go, Time, Reset, Cut, Refuse, Said, Blank, Sets, LimitsTo, Does, GoesOn, Show, Expects}
 use Rattle.dfu_link.specs.Lines.{line_of}
-use Rattle.dfu_link.specs.ScriptRun.{Settings, set as set_by, checked, events_of, Prepares, prepared, nothing, then_prepares, IsReady, HasToAct}
+use Rattle.dfu_link.specs.ScriptRun.{Settings, set as set_by, checked, events_of, Prepares, prepared, nothing, then_prepares, HasToStart, HasToAct}
 use Rattle.dfu_sim.specs.Headline.{Begun, WithOffer, AsUpload, HeadlineHolds}
 use Rattle.dfu_sim.specs.BegunBy.{begun_by}
 use Rattle.dfu_link.specs.Printed.{brought, report_text, EventsPrint, then_prints, NeedsDevice, StartsWith, at_end, at_line, after_nothing, after_image}
@@ -141,6 +141,6 @@ line_needs : (g : Option (List ℕ)) (line : List ℕ) (said : Option Said) → 
 line_needs g line None is acts = absurd acts
 line_needs g line (Some said) is acts = subst NeedsDevice (sym (line_brings g line said is)) (said_needs said acts)
 
-pub ready_starts : (s : Settings) (image : List ℕ) (after : List (List ℕ)) → IsReady s after → StartsWith s.given image after after image
+pub ready_starts : (s : Settings) (image : List ℕ) (after : List (List ℕ)) → HasToStart s after → StartsWith s.given image after after image
 ready_starts s image [] ready = at_end
 ready_starts s image (line ∷ lines) ready = at_line (line_needs s.given line (line_of s.given line) refl ready)

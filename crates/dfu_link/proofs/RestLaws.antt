@@ -11,7 +11,7 @@ use Rattle.dfu_link.specs.inside.Expected.{at_point, PrintsNext}
 use Rattle.dfu_link.specs.declared.scripting.expectation.Ahead.{Ahead}
 use Rattle.dfu_link.specs.Falls.{LineFalls}
 use Rattle.dfu_link.specs.inside.Source.{SourceState, Next, GivesLine, StopsSource}
-use Rattle.dfu_link.specs.inside.Moving.{Acts, Steps, LineEnds, Moves, Ends, LinesDone, all_done, gives_back, Plainly, says_none, says_events, MovesAndFalls, FindsNoRoom, FindsNoTear}
+use Rattle.dfu_link.specs.inside.Moving.{DoesLine, Steps, LineEnds, Moves, Ends, LinesDone, all_done, gives_back, Plainly, says_none, says_events, MovesAndFalls, FindsNoRoom, FindsNoTear}
 use Rattle.dfu_link.specs.declared.scripting.line.EventLine.{EventLine}
 use Rattle.dfu_link.specs.declared.scripting.fault.ScriptFault.{ScriptFault}
 use Rattle.dfu_link.proofs.StepLaws.{step_acts}
@@ -127,7 +127,7 @@ no_tear {l = l} {k = k} {line = line} {old = old} {events = events} b f (says_ev
 -- The line goes as what it says.
 pub line_ends : (done : Result Unit ScriptFault) {d : Shown} {l l' : Ahead} {k : ℕ} {line : List ℕ} {old mid new : Option (List ℕ)}
     {events : EventLine} {b : Bench} {q : Point} → Plainly d l k line old (Some events) l' mid
-    → Acts (at_point l' b) (said_by events) mid q new done → LineEnds k (at_point l b) line old q new done
+    → DoesLine (at_point l' b) (said_by events) mid q new done → LineEnds k (at_point l b) line old q new done
 line_ends (Ok it) (says_events says) acts = record { ok = step_acts says acts.ok; fault = tt }
 line_ends (Err f) {l = l} {k = k} {line = line} {old = old} {new = new} {events = events} {b = b} (says_events says) acts = record {
   ok = tt;

@@ -9,7 +9,7 @@ use Rattle.std.specs.Io.KnownBytes.{Consumes, IsAtEnd, Keeps, prepend_known}
 use Rattle.dfu_link.specs.Words.{lines_of, endless, is_newline}
 use Rattle.dfu_link.specs.Lines.{read_line, line_of}
 use Rattle.dfu_link.specs.TextLimit.{GoesOver, IsStopped, GivesNone}
-use Rattle.dfu_link.specs.inside.Source.{source_state, Takes, TakesPiece, Next, GivesLine, StopsSource}
+use Rattle.dfu_link.specs.inside.Source.{source_state, TakesLines, TakesPiece, Next, GivesLine, StopsSource}
 use Rattle.dfu_link.specs.declared.scripting.fault.ScriptFault.TheVariants.{BadLine}
 use Rattle.dfu_link.proofs.LineLaws.{endless_none, endless_before, endless_more, line_ended, line_last, line_long, ends_within}
 
@@ -107,7 +107,7 @@ so_far_more {left = left} {left1 = left1} {left2 = left2} {line = line} r t le s
 -- The end of a line.
 
 ends_at_newline : (a b : Option (List ℕ)) (room room' : ℕ) (line : List ℕ) → endless line ≡ true → room ≡ length line + 1 + room'
-    → Consumes a b (line ++ 10 ∷ []) → Takes a room (line ∷ []) b room' × IfSome a (λ left. ¬ GoesOver room left)
+    → Consumes a b (line ++ 10 ∷ []) → TakesLines a room (line ∷ []) b room' × IfSome a (λ left. ¬ GoesOver room left)
 ends_at_newline None b room room' line none rooms h = (tt, tt)
 ends_at_newline (Some a) None room room' line none rooms h = absurd h
 ends_at_newline (Some a) (Some b) room room' line none rooms h =
@@ -143,7 +143,7 @@ line_given {left = left} {left1 = left1} {left2 = left2} {room = room} {room1 = 
 
 ends_with_text : (a b : Option (List ℕ)) (room room' : ℕ) (line : List ℕ) → endless line ≡ true → 0 < length line
     → room ≡ length line + room' → Consumes a b line → IsAtEnd b
-    → Takes a room (line ∷ []) b room' × IfSome a (λ left. ¬ GoesOver room left)
+    → TakesLines a room (line ∷ []) b room' × IfSome a (λ left. ¬ GoesOver room left)
 ends_with_text None b room room' line none some rooms h e = (tt, tt)
 ends_with_text (Some a) None room room' line none some rooms h e = absurd h
 ends_with_text (Some a) (Some b) room room' line none some rooms h e =

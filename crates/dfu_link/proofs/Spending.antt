@@ -4,8 +4,8 @@ use Rattle.dfu_host.specs.declared.report.Report.{Report}
 use Rattle.dfu_host.specs.declared.report.Report.TheVariants.{Unconfirmed, Aborted, RestartsSpent}
 use Rattle.dfu_host.specs.Phases.{Phase, Find, Last, GiveUp, Over, OverUploaded, Heard, WasReset, Restarted, Left}
 use Rattle.dfu_host.specs.BehindClose.{is_behind_close}
-use Rattle.dfu_host.specs.Table.{row}
-use Rattle.dfu_host.specs.Host.{HostState, IsOver, budgeted, restarted, left_by, told, after_phase, after}
+use Rattle.dfu_host.specs.Table.{host_row}
+use Rattle.dfu_host.specs.Host.{HostState, IsOver, budgeted, restarted, left_by, host_heard, after_phase, after}
 use Rattle.dfu_sim.specs.declared.fault.LinkFault.{LinkFault}
 use Rattle.dfu_sim.specs.Bench.{Session, Nobody, Hosted, Bench, LinkState}
 use Rattle.dfu_sim.specs.Bytes.{BytePlay}
@@ -39,14 +39,14 @@ restarted_less h phase (suc restarts) on = spent_less h.actions Find on
 
 left_less : (h : HostState) (phase : Phase) (behind : Bool) → (IsOver (left_by h phase behind).phase → ⊥)
     → (left_by h phase behind).actions < h.actions
-left_less h phase true on = spent_less h.actions (row h.task (Last Unconfirmed) WasReset) on
+left_less h phase true on = spent_less h.actions (host_row h.task (Last Unconfirmed) WasReset) on
 left_less h phase false on = restarted_less h phase h.restarts on
 
-told_less : (h : HostState) (phase : Phase) (heard : Heard) → (IsOver (told h phase heard).phase → ⊥)
-    → (told h phase heard).actions < h.actions
+told_less : (h : HostState) (phase : Phase) (heard : Heard) → (IsOver (host_heard h phase heard).phase → ⊥)
+    → (host_heard h phase heard).actions < h.actions
 told_less h phase Restarted on = restarted_less h phase h.restarts on
 told_less h phase Left on = left_less h phase (is_behind_close h.task.goal phase) on
-told_less h phase heard on = spent_less h.actions (row h.task phase heard) on
+told_less h phase heard on = spent_less h.actions (host_row h.task phase heard) on
 
 after_less : (h : HostState) (phase : Phase) (heard : Heard) → h.phase ≡ phase → (IsOver (after_phase h phase heard).phase → ⊥)
     → (after_phase h phase heard).actions < h.actions
@@ -73,6 +73,6 @@ comes_less {b = b} {b' = b'} (happens {answer = answer} means play) e =
     (subst (λ (s : Session). actions_in s < next.host.actions) (sym next.session) (took_less next.host heard none))
 
 -- An action that is not refused and of which nothing is reported leaves fewer.
-pub action_less : {w w' : LinkState} {fate : Fate} {harm : Harm} (told : Result (Option Report) LinkFault)
-    → HasCome w (Goes fate harm) w' told → told ≡ Ok None → actions_in w'.bench.session < actions_in w.bench.session
-action_less told come e = comes_less come.comes (sym come.told ∙ e)
+pub action_less : {w w' : LinkState} {fate : Fate} {harm : Harm} (host_heard : Result (Option Report) LinkFault)
+    → HasCome w (Goes fate harm) w' host_heard → host_heard ≡ Ok None → actions_in w'.bench.session < actions_in w.bench.session
+action_less host_heard come e = comes_less come.comes (sym come.told ∙ e)

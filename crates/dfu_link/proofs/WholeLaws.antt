@@ -7,10 +7,10 @@ use Rattle.dfu_device.specs.Shown.{Shown}
 use Rattle.dfu_link.specs.Words.{lines_of}
 use Rattle.dfu_link.specs.Texts.{image_line}
 use Rattle.dfu_link.specs.TextLimit.{IsStopped, GivesNone}
-use Rattle.dfu_link.specs.ScriptRun.{Settings, beginning, Prepares, Starts, at_rest, Point, point, IsReady, SetsUp, LinesRun, WroteRun}
+use Rattle.dfu_link.specs.ScriptRun.{Settings, beginning, Prepares, DeviceStarts, at_rest, Point, point, HasToStart, SetsUp, LinesRun, WroteRun}
 use Rattle.dfu_link.specs.Falls.{NextFalls, RunFalls, StartFalls, Falls, Ended, no_memory, in_setting, at_start, in_run}
-use Rattle.dfu_link.specs.inside.Source.{SourceState, Next, Took, Gives}
-use Rattle.dfu_link.specs.inside.Moving.{Ends, MovesAndFalls, Configured, StopsSetting, CannotConfigure}
+use Rattle.dfu_link.specs.inside.Source.{SourceState, Next, TookLines, GivesLines}
+use Rattle.dfu_link.specs.inside.Moving.{Ends, MovesAndFalls, LinesConfigured, StopsSetting, CannotConfigure}
 use Rattle.dfu_link.specs.declared.scripting.fault.ScriptFault.{ScriptFault}
 use Rattle.dfu_link.specs.declared.scripting.fault.ScriptFault.TheVariants.{BadLine, LateConfig, BadConfig, Expected, NonePrinted, TooLarge, NoMemory, Read, Write}
 use Rattle.dfu_link.proofs.GivenLaws.{if_some, of_some, took, took_trans, stops_after}
@@ -32,11 +32,11 @@ for_text given s P (left, room, number) holds = if_some given P (λ text e. hold
 }))
 
 -- Of a fresh source these lines were taken.
-fresh_took : {text : List ℕ} {s s' : SourceState} {xs : List (List ℕ)} → IsFresh text s → Gives s xs s'
-    → (left : List ℕ) × (s'.left ≡ Some left) × Took text 16777216 xs left s'.room
+fresh_took : {text : List ℕ} {s s' : SourceState} {xs : List (List ℕ)} → IsFresh text s → GivesLines s xs s'
+    → (left : List ℕ) × (s'.left ≡ Some left) × TookLines text 16777216 xs left s'.room
 fresh_took {text = text} {s = s} {s' = s'} {xs = xs} fresh gives =
     let t = took s s' xs gives fresh.left in
-    (t.0, t.1, subst (λ (room : ℕ). Took text room xs t.0 s'.room) fresh.room t.2)
+    (t.0, t.1, subst (λ (room : ℕ). TookLines text room xs t.0 s'.room) fresh.room t.2)
 
 -- No more lines set.
 setting_ends : {g : Option (List ℕ)} {text : List ℕ} {s : SourceState} {x : Settings} (old : Option (List ℕ)) (f : ScriptFault)
@@ -81,19 +81,19 @@ configure_falls {g = g} given old f s first e falls =
 -- The device has to start.
 abbrev sets_up : {g : Option (List ℕ)} {text : List ℕ} {s s' : SourceState} {x y : Settings} {more : Bool}
     → (fresh : IsFresh text s) → x ≡ beginning g
-    → (c : Configured x s y more s') → SetsUp g text y (lines_of (fresh_took fresh c.prepared.gives).0)
+    → (c : LinesConfigured x s y more s') → SetsUp g text y (lines_of (fresh_took fresh c.prepared.gives).0)
 sets_up {y = y} fresh e c =
     let t = fresh_took fresh c.prepared.gives in
     record {
       before = c.prepared.done;
       split = t.2.are;
       prepares = subst (λ (z : Settings). Prepares z c.prepared.done y) e c.prepared.prepares;
-      ready = of_some c.at.left (λ left. IsReady y (lines_of left)) t.0 t.1 c.ready;
+      ready = of_some c.at.left (λ left. HasToStart y (lines_of left)) t.0 t.1 c.ready;
     }
 
 start_ends : {g : Option (List ℕ)} {text : List ℕ} {s s' : SourceState} {x y : Settings} {more : Bool}
     (old : Option (List ℕ)) (f : ScriptFault)
-    → IsFresh text s → x ≡ beginning g → Configured x s y more s' → StartFalls y f → Falls g text old old f
+    → IsFresh text s → x ≡ beginning g → LinesConfigured x s y more s' → StartFalls y f → Falls g text old old f
 start_ends old NoMemory fresh e c falls = no_memory refl
 start_ends old BadConfig fresh e c falls =
     let t = fresh_took fresh c.prepared.gives in
@@ -103,7 +103,7 @@ start_ends old f fresh e c falls = absurd falls
 
 -- It does not start.
 pub start_falls : {g : Option (List ℕ)} (given old : Option (List ℕ)) (f : ScriptFault) {s s' : SourceState} {x y : Settings} {more : Bool}
-    → (s.left ≡ prepend_known [] given) × (s.room ≡ 16777216) × (s.number ≡ 0) → x ≡ beginning g → Configured x s y more s'
+    → (s.left ≡ prepend_known [] given) × (s.room ≡ 16777216) × (s.number ≡ 0) → x ≡ beginning g → LinesConfigured x s y more s'
     → StartFalls y f → IfSome given (λ text. Falls g text old old f)
 start_falls {g = g} given old f {s = s} first e c falls =
     for_text given s (λ text. Falls g text old old f) first (λ text fresh. start_ends old f fresh e c falls)
@@ -114,7 +114,7 @@ at_end (Some left) h = h
 
 -- The lines that were done are all those behind the lines that set.
 done_all : {text : List ℕ} {s s' : SourceState} {x y : Settings} {more : Bool} {old new : Option (List ℕ)} {p : Point}
-    → (fresh : IsFresh text s) → (c : Configured x s y more s') → (ends : Ends p c.at old new)
+    → (fresh : IsFresh text s) → (c : LinesConfigured x s y more s') → (ends : Ends p c.at old new)
     → ends.done ≡ lines_of (fresh_took fresh c.prepared.gives).0
 done_all fresh c ends =
     let t = fresh_took fresh c.prepared.gives in
@@ -123,7 +123,7 @@ done_all fresh c ends =
     sym (u.2.are ∙ (ap (λ (zs : List ℕ). ends.done ++ lines_of zs) empty ∙ append-nil ends.done))
 
 run_ends : {g : Option (List ℕ)} {text : List ℕ} {s s' : SourceState} {x y : Settings} {more : Bool} {old new : Option (List ℕ)} (d : Shown)
-    → IsFresh text s → x ≡ beginning g → (c : Configured x s y more s') → Starts y d → Ends (point y (at_rest d)) c.at old new
+    → IsFresh text s → x ≡ beginning g → (c : LinesConfigured x s y more s') → DeviceStarts y d → Ends (point y (at_rest d)) c.at old new
     → WroteRun g text old new
 run_ends {text = text} {y = y} d fresh e c starts ends =
     let t = fresh_took fresh c.prepared.gives in
@@ -153,7 +153,7 @@ run_ends {text = text} {y = y} d fresh e c starts ends =
     }
 
 run_falls : {g : Option (List ℕ)} {text : List ℕ} {s s' : SourceState} {x y : Settings} {more : Bool} {old new : Option (List ℕ)} (d : Shown)
-    (f : ScriptFault) → IsFresh text s → x ≡ beginning g → (c : Configured x s y more s') → Starts y d
+    (f : ScriptFault) → IsFresh text s → x ≡ beginning g → (c : LinesConfigured x s y more s') → DeviceStarts y d
     → MovesAndFalls (point y (at_rest d)) c.at old new f → Falls g text old new f
 run_falls {y = y} {new = new} d f fresh e c starts falls =
     let m = falls.moves in
@@ -179,7 +179,7 @@ run_falls {y = y} {new = new} d f fresh e c starts falls =
 -- It starts, and all lines after it are done, or one falls.
 pub run_ended : (r : Result Unit ScriptFault) {g : Option (List ℕ)} (given old new : Option (List ℕ)) (d : Shown) {s s' : SourceState}
     {x y : Settings} {more : Bool} → (s.left ≡ prepend_known [] given) × (s.room ≡ 16777216) × (s.number ≡ 0) → x ≡ beginning g
-    → Configured x s y more s' → Starts y d
+    → LinesConfigured x s y more s' → DeviceStarts y d
     → OnOk r ((t : SourceState) → Next t more s' → Ends (point y (at_rest d)) t old new)
     → IfErr r (λ f. (t : SourceState) → Next t more s' → MovesAndFalls (point y (at_rest d)) t old new f)
     → IfSome given (λ text. Ended g text old new r)

@@ -14,7 +14,7 @@ use Rattle.std.specs.Str.{bytes_eq}
 use Rattle.hex.specs.Hex.{decode_of, is_hex_digit}
 use Rattle.hex.specs.declared.error.FromHexError.{FromHexError}
 use Rattle.hex.proofs.HexLemmas.{decode_of-ok, decode_of-digits}
-use Rattle.dfu_link.specs.Words.{bytes_of, ok_of, ◌>>=◌, guard, words_of, first, is_space, is_no_space, is_word, number_of, digits_value}
+use Rattle.dfu_link.specs.Words.{hex_word_bytes, ok_of, ◌>>=◌, guard, words_of, first_word, is_space, is_no_space, is_word, number_of, digits_value}
 
 cond_none : {A : Type 0} (b : Bool) (x : A) → cond b (Some x) None ≡ None → b ≡ false
 cond_none true x h = absurd (grind (arith, h))
@@ -41,8 +41,8 @@ unfolding words_of
 words_of-all xs = ap (λ (ys : List ℕ). filter is_word (slice_split is_space ys)) (drop_all (length xs) xs (omega arith))
 
 -- Where each byte is a space there is no word.
-pub no_word : (xs : List ℕ) → position is_no_space xs ≡ None → first (words_of xs) ≡ None
-no_word xs h = ap first (skips xs (length xs) (omega arith) (none_passes is_no_space xs h) ∙ words_of-all xs)
+pub no_word : (xs : List ℕ) → position is_no_space xs ≡ None → first_word (words_of xs) ≡ None
+no_word xs h = ap first_word (skips xs (length xs) (omega arith) (none_passes is_no_space xs h) ∙ words_of-all xs)
 
 -- A word up to the space at n.
 word_cut : (b : ℕ) (bs : List ℕ) (n : ℕ) → position_or_len is_space (b ∷ bs) ≡ n → n < length (b ∷ bs) → is_no_space b ≡ true
@@ -90,17 +90,17 @@ begins xs start h =
 
 -- A text has this first word, and more after it.
 pub word_then : (xs : List ℕ) (start end : ℕ) → position is_no_space xs ≡ Some start → position is_space (drop start xs) ≡ Some end
-    → first (words_of xs) ≡ Some (take end (drop start xs), words_of (drop end (drop start xs)))
+    → first_word (words_of xs) ≡ Some (take end (drop start xs), words_of (drop end (drop start xs)))
 word_then xs start end h k =
     let b = begins xs start h in
-    ap first (b.0 ∙ word_first (drop start xs) end b.1 b.2 k)
+    ap first_word (b.0 ∙ word_first (drop start xs) end b.1 b.2 k)
 
 -- A text has this word alone.
 pub word_alone : (xs : List ℕ) (start : ℕ) → position is_no_space xs ≡ Some start → position is_space (drop start xs) ≡ None
-    → first (words_of xs) ≡ Some (drop start xs, words_of [])
+    → first_word (words_of xs) ≡ Some (drop start xs, words_of [])
 word_alone xs start h k =
     let b = begins xs start h in
-    ap first (b.0 ∙ word_last (drop start xs) b.1 k)
+    ap first_word (b.0 ∙ word_last (drop start xs) b.1 k)
 
 -- A word with a letter that is no digit is no number.
 pub number_none : (w : List ℕ) → digits_value 0 w ≡ None → number_of w ≡ None
@@ -150,7 +150,7 @@ hex_by w false (Err f) even h e = refl
 
 -- A word of an even length that is not - stands for bytes exactly where all of its letters are hexadecimal digits.
 pub hex_same : (w : List ℕ) (r : Bool) → length w % 2 ≡ 0 → bytes_eq w (codes "-") ≡ false → IsTrue r ↔ AllPass is_hex_digit w
-    → r ≡ is_some (bytes_of w)
+    → r ≡ is_some (hex_word_bytes w)
 hex_same w r even off h = hex_by w r (decode_of w) even h refl
     ∙ ap (λ (t : Bool). is_some (cond t (Some []) (ok_of (decode_of w)))) (sym off)
 

@@ -10,7 +10,7 @@ pub record Expectation : Type 0 where
   pub text : List ℕ
 
 -- The text begins with the line that is expected.
-pub record IsNext (e : Expectation) (text : List ℕ) : Type 0 where
+pub record BeginsAsExpected (e : Expectation) (text : List ℕ) : Type 0 where
   pub rest : List ℕ
   pub is : text ≡ (e.text ++ 10 ∷ []) ++ rest
 
@@ -18,7 +18,7 @@ pub record IsNext (e : Expectation) (text : List ℕ) : Type 0 where
 abbrev pub Meets : Option Expectation → (text : List ℕ) → Type 0
 Meets None text = Unit {0}
 Meets (Some e) [] = Unit {0}
-Meets (Some e) (byte ∷ bytes) = IsNext e (byte ∷ bytes)
+Meets (Some e) (byte ∷ bytes) = BeginsAsExpected e (byte ∷ bytes)
 
 -- What is expected still once a text was printed: nothing, if the text has a byte.
 abbrev pub still : Option Expectation → (text : List ℕ) → Option Expectation
@@ -26,7 +26,7 @@ still e [] = e
 still e (byte ∷ bytes) = None
 
 -- The text is not the line that is expected, and it is out but for its last byte.
-pub record IsOther (e : Expectation) (text : List ℕ) (old new : Option (List ℕ)) : Type 0 where
+pub record IsUnexpected (e : Expectation) (text : List ℕ) (old new : Option (List ℕ)) : Type 0 where
   pub front : List ℕ
   pub last : ℕ
   pub whole : text ≡ front ++ last ∷ []
@@ -34,8 +34,8 @@ pub record IsOther (e : Expectation) (text : List ℕ) (old new : Option (List �
   pub told : Appends old new front
 
 -- Why a text is not out whole: the writer failed; or a line is expected, and the text is another, or there was no memory to compare them.
-abbrev pub Fails : Option Expectation → (text : List ℕ) → (old new : Option (List ℕ)) → ScriptFault → Type 0
-Fails e text old new Write = Unit {0}
-Fails (Some e) text old new NoMemory = Unit {0}
-Fails (Some e) text old new (Expected n) = (n ≡ e.number) × IsOther e text old new
-Fails e text old new fault = ⊥
+abbrev pub FailsToPrint : Option Expectation → (text : List ℕ) → (old new : Option (List ℕ)) → ScriptFault → Type 0
+FailsToPrint e text old new Write = Unit {0}
+FailsToPrint (Some e) text old new NoMemory = Unit {0}
+FailsToPrint (Some e) text old new (Expected n) = (n ≡ e.number) × IsUnexpected e text old new
+FailsToPrint e text old new fault = ⊥

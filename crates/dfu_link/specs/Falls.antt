@@ -13,9 +13,9 @@ use Rattle.dfu_link.specs.Texts.{image_line, show_line}
 use Rattle.dfu_link.specs.Words.{lines_of}
 use Rattle.dfu_link.specs.Said.{ConfigLine, EventLine, Offer, HasTear, Sets, Does, GoesOn, Show, Expects}
 use Rattle.dfu_link.specs.Lines.{line_of}
-use Rattle.dfu_link.specs.Expecting.{Expectation, Fails}
+use Rattle.dfu_link.specs.Expecting.{Expectation, FailsToPrint}
 use Rattle.dfu_link.specs.TextLimit.{GivesNone, StopsAfter}
-use Rattle.dfu_link.specs.ScriptRun.{Settings, beginning, Prepares, Starts, at_rest, AllCome, Point, point, events_of, LineActs, LinesRun, SetsUp, WroteRun}
+use Rattle.dfu_link.specs.ScriptRun.{Settings, beginning, Prepares, DeviceStarts, at_rest, AllCome, Point, point, events_of, LineActs, LinesRun, SetsUp, WroteRun}
 use Rattle.dfu_link.specs.declared.scripting.fault.ScriptFault.{ScriptFault}
 use Rattle.dfu_link.specs.declared.scripting.fault.ScriptFault.TheVariants.{BadLine, LateConfig, BadConfig, Expected, NonePrinted, TooLarge, NoMemory, Read, Write}
 
@@ -30,7 +30,7 @@ pub record HasBroken (check : List ℕ) (b : Bench) (next : Option Expectation) 
   pub out : List ℕ
   pub plays : AllCome check b played out after
   pub broke : IsOutInPart old new out
-  pub fails : Fails next out old new fault
+  pub fails : FailsToPrint next out old new fault
 
 -- It stopped in what a line prints: among its events, in what `go until report` prints, or in the line of `show`.
 pub data BreaksIn (p : Point) (line : List ℕ) (old new : Option (List ℕ)) (fault : ScriptFault) : Type 0 where
@@ -38,9 +38,9 @@ pub data BreaksIn (p : Point) (line : List ℕ) (old new : Option (List ℕ)) (f
       → HasBroken p.check p.at p.next (events_of p.limits events) old new fault
       → BreaksIn p line old new fault
   in_passes : {out : List ℕ} {q : Point} → line_of p.given line ≡ Some GoesOn → LineActs 0 (record p { next = None }) GoesOn out q
-      → IsOutInPart old new out → Fails p.next out old new fault → BreaksIn p line old new fault
+      → IsOutInPart old new out → FailsToPrint p.next out old new fault → BreaksIn p line old new fault
   in_show : line_of p.given line ≡ Some Show → IsOutInPart old new (show_line p.at.device)
-      → Fails p.next (show_line p.at.device) old new fault
+      → FailsToPrint p.next (show_line p.at.device) old new fault
       → BreaksIn p line old new fault
 
 -- A line sets something about the device.
@@ -88,7 +88,7 @@ LineFalls p k line old new fault = ⊥
 abbrev pub NextFalls : Point → ℕ → List (List ℕ) → Option (List ℕ) → Option (List ℕ) → ScriptFault → Type 0
 NextFalls p k lines old new TooLarge = new ≡ old
 NextFalls p k lines old new Read = new ≡ old
-NextFalls p k [] old new fault = Fails p.next (image_line p.at.device) old new fault × IsOutInPart old new (image_line p.at.device)
+NextFalls p k [] old new fault = FailsToPrint p.next (image_line p.at.device) old new fault × IsOutInPart old new (image_line p.at.device)
 NextFalls p k (line ∷ lines) old new fault = LineFalls p k line old new fault
 
 -- Lines fall, the first of them line k: some run, and what they print is out; then the next falls.
@@ -135,7 +135,7 @@ pub data Falls (given : Option (List ℕ)) (text : List ℕ) (old new : Option (
   at_start : {settings : Settings} {after : List (List ℕ)} (sets_up : SetsUp given text settings after) → CannotStart settings
       → StopsAfter text sets_up.before BadConfig → new ≡ old → Falls given text old new BadConfig
   in_run : {settings : Settings} {after : List (List ℕ)} {first : Shown} {fault : ScriptFault} (sets_up : SetsUp given text settings after)
-      → Starts settings first
+      → DeviceStarts settings first
       → (falls : RunFalls (point settings (at_rest first)) (1 + length sets_up.before) after old new fault)
       → StopsAfter text (sets_up.before ++ falls.done) fault → Falls given text old new fault
 

@@ -5,7 +5,7 @@ use Rattle.dfu_slots.specs.declared.unit.Unit.{Unit as WriteUnit}
 use Rattle.dfu_slots.specs.declared.unit.Unit.TheVariants.{Byte, U16, U64, U256}
 use Rattle.dfu_device.specs.declared.objection.Objection.{Objection}
 use Rattle.dfu_device.specs.declared.objection.Objection.TheVariants.{Target, File}
-use Rattle.dfu_link.specs.Words.{◌>>=◌, guard, bytes_of, number_of, pair_of}
+use Rattle.dfu_link.specs.Words.{◌>>=◌, guard, hex_word_bytes, number_of, pair_of}
 
 -- A number that is at most this one.
 unfoldable pub small_of : ℕ → List ℕ → Option ℕ
@@ -16,8 +16,8 @@ unfoldable pub count_of : ℕ → List ℕ → Option ℕ
 count_of most word = small_of most word >>= λ n. guard (nat_le 1 n) n
 
 -- Two hexadecimal digits, 00 to 0f.
-unfoldable pub attributes_of : List ℕ → Option ℕ
-attributes_of word = pair_of word >>= λ n. guard (nat_le n 15) n
+unfoldable pub attributes_of_word : List ℕ → Option ℕ
+attributes_of_word word = pair_of word >>= λ n. guard (nat_le n 15) n
 
 -- The unit of so many bytes.
 abbrev pub unit_named : ℕ → Option WriteUnit
@@ -29,8 +29,8 @@ unit_named n =
     else None
 
 -- How many bytes the medium writes at a time: 1, 16, 64 or 256.
-unfoldable pub unit_of : List ℕ → Option WriteUnit
-unit_of word = number_of word >>= λ n. unit_named n
+unfoldable pub unit_of_word : List ℕ → Option WriteUnit
+unit_of_word word = number_of word >>= λ n. unit_named n
 
 -- How many bytes the medium erases at a time: 0 or a multiple of 256 up to 131,072.
 unfoldable pub sector_of : List ℕ → Option ℕ
@@ -45,4 +45,4 @@ objection_of w =
 
 -- The bytes that a word of an offer stands for: FILE for the bytes that are given, if they are, any other for those that it spells.
 unfoldable pub named_bytes : Option (List ℕ) → List ℕ → Option (List ℕ)
-named_bytes given word = if bytes_eq word (codes "FILE") then given else bytes_of word
+named_bytes given word = if bytes_eq word (codes "FILE") then given else hex_word_bytes word

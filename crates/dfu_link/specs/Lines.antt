@@ -6,8 +6,8 @@ use Rattle.dfu_wire.specs.Identifier.{identifier_in}
 use Rattle.dfu_sim.specs.declared.aim.Aim.{Aim}
 use Rattle.dfu_sim.specs.declared.aim.Aim.TheVariants.{Install, Verify}
 use Rattle.dfu_sim.specs.Happening.{Fate, Pass, LostOut, LostBack, Twice, TwiceLostBack, Slip, CutIn, Fail, Lie, unharmed, harmed}
-use Rattle.dfu_link.specs.Words.{ok_of, bytes_of, number_of, first, text_behind, words_of}
-use Rattle.dfu_link.specs.Fields.{small_of, count_of, attributes_of, unit_of, sector_of, objection_of, named_bytes}
+use Rattle.dfu_link.specs.Words.{ok_of, hex_word_bytes, number_of, first_word, text_behind, words_of}
+use Rattle.dfu_link.specs.Fields.{small_of, count_of, attributes_of_word, unit_of_word, sector_of, objection_of, named_bytes}
 use Rattle.dfu_link.specs.Said.{Said, Blank, Sets, LimitsTo, Does, GoesOn, Show, Expects, TheIds, TheDevice, TheUnit, TheSector, TheCapacity, TheImage, TheCheck, Offer, Upload, Abort, Go, Time, Reset, Cut, Refuse}
 use Rattle.dfu_link.specs.Keywords.{keyword_of, fate_keyword_of}
 use Rattle.dfu_link.specs.declared.scripting.keywords.Keyword.{Keyword}
@@ -37,11 +37,11 @@ Tells view (Err e) read = read ≡ Err e
 -- Word n of a line of so many, as this reads it, and the words after it.
 abbrev pub field : {A : Type 0} → Field → (List ℕ → Option A) → (n of : ℕ) → List (List ℕ) → Read (A × List (List ℕ))
 field f read n of words =
-    ok_or (first words) (wrong.Count of) >>= λ w. ok_or (read w.0) (wrong.Word f n) >>= λ x. Ok (x, w.1)
+    ok_or (first_word words) (wrong.Count of) >>= λ w. ok_or (read w.0) (wrong.Word f n) >>= λ x. Ok (x, w.1)
 
 -- A number.
-unfoldable pub number_at : (n of : ℕ) → List (List ℕ) → Read (ℕ × List (List ℕ))
-number_at n of words = field a.Number number_of n of words
+unfoldable pub number_field : (n of : ℕ) → List (List ℕ) → Read (ℕ × List (List ℕ))
+number_field n of words = field a.Number number_of n of words
 
 -- A number of at most 65,535.
 unfoldable pub short_at : (n of : ℕ) → List (List ℕ) → Read (ℕ × List (List ℕ))
@@ -49,16 +49,16 @@ short_at n of words = field a.Short (small_of 65535) n of words
 
 -- Hexadecimal text.
 unfoldable pub hex_at : (n of : ℕ) → List (List ℕ) → Read (List ℕ × List (List ℕ))
-hex_at n of words = field a.Bytes bytes_of n of words
+hex_at n of words = field a.Bytes hex_word_bytes n of words
 
 -- What is wrong with word n if it stands for no file.
 abbrev pub no_file : List ℕ → (n : ℕ) → LineFault
 no_file word n = if bytes_eq word (codes "FILE") then wrong.NoFile else wrong.Word a.Bytes n
 
 -- The bytes of a file that is offered.
-unfoldable pub file_at : Option (List ℕ) → (n of : ℕ) → List (List ℕ) → Read (List ℕ × List (List ℕ))
-file_at given n of words =
-    ok_or (first words) (wrong.Count of) >>= λ w. ok_or (named_bytes given w.0) (no_file w.0 n) >>= λ x. Ok (x, w.1)
+unfoldable pub offered_file : Option (List ℕ) → (n of : ℕ) → List (List ℕ) → Read (List ℕ × List (List ℕ))
+offered_file given n of words =
+    ok_or (first_word words) (wrong.Count of) >>= λ w. ok_or (named_bytes given w.0) (no_file w.0 n) >>= λ x. Ok (x, w.1)
 
 -- Four hexadecimal digits.
 unfoldable pub identifier_at : (n of : ℕ) → List (List ℕ) → Read (ℕ × List (List ℕ))
@@ -66,7 +66,7 @@ identifier_at n of words = field a.Identifier identifier_in n of words
 
 -- Two hexadecimal digits, 00 to 0f.
 unfoldable pub attributes_at : (n of : ℕ) → List (List ℕ) → Read (ℕ × List (List ℕ))
-attributes_at n of words = field a.Attributes attributes_of n of words
+attributes_at n of words = field a.Attributes attributes_of_word n of words
 
 -- A line is a comment where its first word begins with `#`.
 abbrev pub is_comment : List ℕ → Bool
@@ -79,28 +79,28 @@ ends x of [] = Ok x
 ends x of (word ∷ words) = Err (if is_comment word then wrong.Comment else wrong.Count of)
 
 -- After `ids`: the vendor, the product and the device.
-unfoldable pub ids_of : List (List ℕ) → Read Said
-ids_of words = do
+unfoldable pub said_ids : List (List ℕ) → Read Said
+said_ids words = do
   vendor ← identifier_at 2 4 words
   product ← identifier_at 3 4 vendor.1
   device ← identifier_at 4 4 product.1
   ends (Sets (TheIds (record { device = device.0; product = product.0; vendor = vendor.0 }))) 4 device.1
 
 -- After `device`: the attributes, the detach timeout, the transfer size, the fewest bytes of an image, and two times.
-unfoldable pub device_of : List (List ℕ) → Read Said
-device_of words = do
+unfoldable pub said_device : List (List ℕ) → Read Said
+said_device words = do
   attributes ← attributes_at 2 7 words
   detach ← short_at 3 7 attributes.1
   transfer ← short_at 4 7 detach.1
-  least ← number_at 5 7 transfer.1
-  busy ← number_at 6 7 least.1
-  manifest ← number_at 7 7 busy.1
+  least ← number_field 5 7 transfer.1
+  busy ← number_field 6 7 least.1
+  manifest ← number_field 7 7 busy.1
   ends (Sets (TheDevice (functional_of attributes.0 detach.0 transfer.0 0x0110) least.0 busy.0 manifest.0)) 7 manifest.1
 
 -- After `unit`: how many bytes the medium writes at a time.
 unfoldable pub unit_line : List (List ℕ) → Read Said
 unit_line words = do
-  unit ← field a.Unit unit_of 2 2 words
+  unit ← field a.Unit unit_of_word 2 2 words
   ends (Sets (TheUnit unit.0)) 2 unit.1
 
 -- After `erase`: how many bytes the medium erases at a time.
@@ -110,14 +110,14 @@ erase_of words = do
   ends (Sets (TheSector sector.0)) 2 sector.1
 
 -- After `capacity`: how many bytes an image may have.
-unfoldable pub capacity_of : List (List ℕ) → Read Said
-capacity_of words = do
+unfoldable pub said_capacity : List (List ℕ) → Read Said
+said_capacity words = do
   n ← field a.Capacity (count_of 1048576) 2 2 words
   ends (Sets (TheCapacity n.0)) 2 n.1
 
 -- After `image`: the bytes.
-unfoldable pub image_of : List (List ℕ) → Read Said
-image_of words = do
+unfoldable pub said_image : List (List ℕ) → Read Said
+said_image words = do
   image ← hex_at 2 2 words
   ends (Sets (TheImage image.0)) 2 image.1
 
@@ -128,22 +128,22 @@ check_of words = do
   ends (Sets (TheCheck front.0)) 2 front.1
 
 -- After `limits`: the actions, and the restarts.
-unfoldable pub limits_of : List (List ℕ) → Read Said
-limits_of words = do
-  actions ← number_at 2 3 words
+unfoldable pub said_limits : List (List ℕ) → Read Said
+said_limits words = do
+  actions ← number_field 2 3 words
   restarts ← short_at 3 3 actions.1
   ends (LimitsTo actions.0 restarts.0) 3 restarts.1
 
 -- After `offer` and `verify`: the bytes of the file.
 unfoldable pub offer_of : (given : Option (List ℕ)) → Aim → List (List ℕ) → Read Said
 offer_of given aim words = do
-  file ← file_at given 2 2 words
+  file ← offered_file given 2 2 words
   ends (Does (Offer aim file.0)) 2 file.1
 
 -- After `time`: the milliseconds.
 unfoldable pub time_of : List (List ℕ) → Read Said
 time_of words = do
-  ms ← number_at 2 2 words
+  ms ← number_field 2 2 words
   ends (Does (Time ms.0)) 2 ms.1
 
 -- After `refuse`: why.
@@ -161,20 +161,20 @@ pass_of words = do
 -- After `go slip`: the milliseconds.
 unfoldable pub slip_of : List (List ℕ) → Read Said
 slip_of words = do
-  ms ← number_at 3 3 words
+  ms ← number_field 3 3 words
   ends (Does (Go (Slip ms.0) unharmed 1)) 3 ms.1
 
 -- After `go cut`, `go fail` and `go lie`: how many writes work, and the tear.
 unfoldable pub harmed_of : Fate → List (List ℕ) → Read Said
 harmed_of f words = do
-  writes ← number_at 3 4 words
+  writes ← number_field 3 4 words
   tear ← hex_at 4 4 writes.1
   ends (Does (Go f (harmed writes.0 tear.0) 1)) 4 tear.1
 
 -- After `go until`: the word `report`.
 unfoldable pub until_of : List (List ℕ) → Read Said
 until_of words = do
-  word ← ok_or (first words) (wrong.Count 3)
+  word ← ok_or (first_word words) (wrong.Count 3)
   if bytes_eq word.0 (codes "report") then ends GoesOn 3 word.1 else Err (wrong.Word a.Report 3)
 
 -- After the word of a fate, or `until`.
@@ -193,7 +193,7 @@ by_fate fate.Until words = until_of words
 -- After `go`: a fate, or `until`.
 unfoldable pub go_of : List (List ℕ) → Read Said
 go_of words = do
-  word ← ok_or (first words) wrong.NoFate
+  word ← ok_or (first_word words) wrong.NoFate
   k ← ok_or (fate_keyword_of word.0) wrong.Fate
   by_fate k word.1
 
@@ -205,13 +205,13 @@ expect_of line = do
 
 -- After the first word of a line, or with all of it.
 abbrev pub by_keyword : (given : Option (List ℕ)) → Keyword → (line : List ℕ) → List (List ℕ) → Read Said
-by_keyword given key.Ids line words = ids_of words
-by_keyword given key.Device line words = device_of words
+by_keyword given key.Ids line words = said_ids words
+by_keyword given key.Device line words = said_device words
 by_keyword given key.Unit line words = unit_line words
 by_keyword given key.Erase line words = erase_of words
-by_keyword given key.Capacity line words = capacity_of words
-by_keyword given key.Image line words = image_of words
-by_keyword given key.Limits line words = limits_of words
+by_keyword given key.Capacity line words = said_capacity words
+by_keyword given key.Image line words = said_image words
+by_keyword given key.Limits line words = said_limits words
 by_keyword given key.Offer line words = offer_of given Install words
 by_keyword given key.Verify line words = offer_of given Verify words
 by_keyword given key.Upload line words = ends (Does Upload) 1 words

@@ -5,7 +5,7 @@ use Rattle.std.specs.Io.KnownBytes.{Appends}
 use Rattle.dfu_suffix.specs.Writing.{IsOutInPart}
 use Rattle.dfu_device.specs.Shown.{Shown}
 use Rattle.dfu_host.specs.declared.report.Report.{Report}
-use Rattle.dfu_link.specs.Words.{bytes_of, number_of, endless, lines_of, words_of}
+use Rattle.dfu_link.specs.Words.{hex_word_bytes, number_of, endless, lines_of, words_of}
 use Rattle.dfu_link.specs.Texts.{report_line, line_of_image}
 use Rattle.dfu_sim.specs.Bench.{Bench}
 use Rattle.dfu_link.specs.ScriptRun.{at_rest}
@@ -25,14 +25,14 @@ pub data Brings : Type 0 where
   AShow : Brings
 
 -- The bytes that the first of these words stands for.
-abbrev pub bytes_in : List (List ℕ) → List ℕ
-bytes_in [] = []
-bytes_in (word ∷ words) = unwrap_or (bytes_of word) []
+abbrev pub first_word_bytes : List (List ℕ) → List ℕ
+first_word_bytes [] = []
+first_word_bytes (word ∷ words) = unwrap_or (hex_word_bytes word) []
 
 -- The file that the first of these words stands for: FILE for the bytes that are given, any other for those that it spells.
 abbrev pub file_in : (given : Option (List ℕ)) → List (List ℕ) → List ℕ
 file_in given [] = []
-file_in given (word ∷ words) = unwrap_or (if bytes_eq word (codes "FILE") then given else bytes_of word) []
+file_in given (word ∷ words) = unwrap_or (if bytes_eq word (codes "FILE") then given else hex_word_bytes word) []
 
 -- The number that the first of these words stands for.
 abbrev pub count_in : List (List ℕ) → ℕ
@@ -52,7 +52,7 @@ go_brings (word ∷ words) =
 abbrev pub words_bring : (given : Option (List ℕ)) → List (List ℕ) → Brings
 words_bring given [] = Nothing
 words_bring given (word ∷ words) =
-    if bytes_eq word (codes "image") then AnImage (bytes_in words)
+    if bytes_eq word (codes "image") then AnImage (first_word_bytes words)
     else if bytes_eq word (codes "offer") then Events (Some (WithOffer (file_in given words)) ∷ [])
     else if bytes_eq word (codes "verify") then Events (Some (WithOffer (file_in given words)) ∷ [])
     else if bytes_eq word (codes "upload") then Events (Some AsUpload ∷ [])
@@ -88,8 +88,8 @@ report_text None image = []
 report_text (Some report) image = report_line report image
 
 -- The line of a refused event.
-abbrev pub refused_line : (reason : List ℕ) → List ℕ
-refused_line reason = codes "refused " ++ reason ++ 10 ∷ []
+abbrev pub refused_event_line : (reason : List ℕ) → List ℕ
+refused_event_line reason = codes "refused " ++ reason ++ 10 ∷ []
 
 -- Events one after the other, with what is printed of them. After an event the headline holds with the report that is printed, and the line
 -- of an upload shows the active image. Or the event was refused: a line says so with some reason, and nothing else changes.
@@ -102,7 +102,7 @@ pub data EventsPrint (factory : List ℕ) (past : List Begun) (b : Bench) :
       → EventsPrint factory past b (events ++ event ∷ []) (printed ++ report_text report holds.says.image) (begun_after event mid) c'
   then_refused : {events : List (Option Begun)} {printed : List ℕ} {mid : List Begun} {c : Bench} (event : Option Begun) (reason : List ℕ)
       → EventsPrint factory past b events printed mid c → endless reason ≡ true
-      → EventsPrint factory past b (events ++ event ∷ []) (printed ++ refused_line reason) mid c
+      → EventsPrint factory past b (events ++ event ∷ []) (printed ++ refused_event_line reason) mid c
 
 -- What is printed of a line by what it brings, once the device is started. Of `show` it is a state in one line with a known image.
 pub data LinePrints (factory : List ℕ) (past : List Begun) (b : Bench) : Brings → (printed : List ℕ) → List Begun → Bench → Type 0 where

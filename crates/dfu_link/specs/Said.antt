@@ -5,7 +5,7 @@ use Rattle.dfu_wire.specs.declared.ids.Ids.{Ids}
 use Rattle.dfu_wire.specs.declared.functionals.Functional.{Functional}
 use Rattle.dfu_slots.specs.declared.unit.Unit.{Unit as WriteUnit}
 use Rattle.dfu_device.specs.declared.objection.Objection.{Objection}
-use Rattle.dfu_link.specs.Words.{bytes_of}
+use Rattle.dfu_link.specs.Words.{hex_word_bytes}
 use Rattle.dfu_sim.specs.Happening.{Fate, CutIn, Fail, Lie, Harm, harmed, fate_of, harm_in}
 use Rattle.dfu_sim.specs.declared.aim.Aim.{Aim}
 use Rattle.dfu_link.specs.declared.scripting.hex_text.HexText.{HexText}
@@ -22,7 +22,7 @@ use Rattle.dfu_link.specs.declared.scripting.line.EventLine.TheVariants as event
 
 -- The bytes that a hexadecimal text stands for.
 abbrev pub hex_bytes : HexText → List ℕ
-hex_bytes text = unwrap_or (bytes_of text.text.now) []
+hex_bytes text = unwrap_or (hex_word_bytes text.text.now) []
 
 -- The bytes that are given to a script, if any are.
 abbrev pub given_bytes : Option (Bor (List ℕ)) → Option (List ℕ)

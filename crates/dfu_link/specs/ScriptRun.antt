@@ -87,22 +87,22 @@ HasToAct (Some (Expects text)) = Unit {0}
 HasToAct said = ⊥
 
 -- The device has to start before the next line, or where none is left.
-abbrev pub IsReady : Settings → List (List ℕ) → Type 0
-IsReady s [] = Unit {0}
-IsReady s (line ∷ lines) = HasToAct (line_of s.given line)
+abbrev pub HasToStart : Settings → List (List ℕ) → Type 0
+HasToStart s [] = Unit {0}
+HasToStart s (line ∷ lines) = HasToAct (line_of s.given line)
 
 -- A blank medium of two slots that is written and erased like this, with room for images of so many bytes. It is not armed.
-abbrev pub blank : Grain → ℕ → MediumState
-blank grain capacity = blank_medium grain (2 * (2 * gate_room grain + capacity))
+abbrev pub blank_slots : Grain → ℕ → MediumState
+blank_slots grain capacity = blank_medium grain (2 * (2 * gate_room grain + capacity))
 
 -- The device starts: it is allowed, the room has whole units and sectors, the image fits, and it stands in appIDLE on a blank medium that
 -- was formatted with the image, which is the active one of its bytes.
-pub record Starts (s : Settings) (d : Shown) : Type 0 where
+pub record DeviceStarts (s : Settings) (d : Shown) : Type 0 where
   pub config : d.config ≡ record s.device { functional = of_this_version s.device.functional }
   pub allowed : IsAllowed d.config
   pub whole : IsWhole s.grain s.capacity
   pub fits : length s.image ≤ s.capacity
-  pub formatted : AllWrites (blank s.grain s.capacity) (format_series (blank s.grain s.capacity) s.image) d.slots.medium
+  pub formatted : AllWrites (blank_slots s.grain s.capacity) (format_series (blank_slots s.grain s.capacity) s.image) d.slots.medium
   pub active : Active d.slots.medium s.image
   pub image : image_of d.slots ≡ s.image
   pub stage : d.stage ≡ InAppIdle
@@ -198,17 +198,17 @@ pub record SetsUp (given : Option (List ℕ)) (text : List ℕ) (settings : Sett
   pub before : List (List ℕ)
   pub split : lines_of text ≡ before ++ after
   pub prepares : Prepares (beginning given) before settings
-  pub ready : IsReady settings after
+  pub ready : HasToStart settings after
 
 -- A whole script of at most 16,777,216 bytes: lines that set, the device started, lines that act, and last the line of the image, which is
 -- as expected.
-pub record IsRun (given : Option (List ℕ)) (text out : List ℕ) : Type 0 where
+pub record IsScriptRun (given : Option (List ℕ)) (text out : List ℕ) : Type 0 where
   pub small : length text ≤ 16777216
   pub settings : Settings
   pub after : List (List ℕ)
   pub sets_up : SetsUp given text settings after
   pub first : Shown
-  pub starts : Starts settings first
+  pub starts : DeviceStarts settings first
   pub shown : List ℕ
   pub end : Point
   pub runs : LinesRun (1 + length sets_up.before) (point settings (at_rest first)) after shown end
@@ -218,5 +218,5 @@ pub record IsRun (given : Option (List ℕ)) (text out : List ℕ) : Type 0 wher
 -- A run of the text was written.
 pub record WroteRun (given : Option (List ℕ)) (text : List ℕ) (old new : Option (List ℕ)) : Type 0 where
   pub out : List ℕ
-  pub run : IsRun given text out
+  pub run : IsScriptRun given text out
   pub told : Appends old new out

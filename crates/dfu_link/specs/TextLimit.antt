@@ -6,7 +6,7 @@ use Rattle.dfu_link.specs.declared.scripting.fault.ScriptFault.{ScriptFault}
 use Rattle.dfu_link.specs.declared.scripting.fault.ScriptFault.TheVariants.{BadLine, TooLarge, Read}
 
 -- A text begins with these lines, which end within its first 16,777,216 bytes, and this is left of it.
-pub record Begins (text : List ℕ) (lines : List (List ℕ)) : Type 0 where
+pub record BeginsWithLines (text : List ℕ) (lines : List (List ℕ)) : Type 0 where
   pub front : List ℕ
   pub left : List ℕ
   pub split : text ≡ front ++ left
@@ -28,7 +28,7 @@ IsStopped room left fault = ¬ GoesOver room left
 
 -- Reading a text ends in the line after these.
 abbrev pub StopsAfter : List ℕ → List (List ℕ) → ScriptFault → Type 0
-StopsAfter text lines fault = (b : Begins text lines) × IsStopped (16777216 - length b.front) b.left fault
+StopsAfter text lines fault = (b : BeginsWithLines text lines) × IsStopped (16777216 - length b.front) b.left fault
 
 -- Of these lines, the first of them line k, reading gives none of the language: the text goes over its limit, the reader fails, or line k
 -- is none.

@@ -53,9 +53,9 @@ unfoldable pub words_of : List ℕ → List (List ℕ)
 words_of line = filter is_word (slice_split is_space line)
 
 -- The first word, and the words after it.
-abbrev pub first : List (List ℕ) → Option (List ℕ × List (List ℕ))
-first [] = None
-first (word ∷ words) = Some (word, words)
+abbrev pub first_word : List (List ℕ) → Option (List ℕ × List (List ℕ))
+first_word [] = None
+first_word (word ∷ words) = Some (word, words)
 
 -- What stands behind the first word of a line and one space, where there is such a space.
 unfoldable pub text_behind : List ℕ → Option (List ℕ)
@@ -78,8 +78,8 @@ ok_of (Ok x) = Some x
 ok_of (Err e) = None
 
 -- Hexadecimal text: two digits of either case for each byte, or `-` for no bytes.
-abbrev pub bytes_of : List ℕ → Option (List ℕ)
-bytes_of word = if bytes_eq word (codes "-") then Some [] else ok_of (decode_of word)
+abbrev pub hex_word_bytes : List ℕ → Option (List ℕ)
+hex_word_bytes word = if bytes_eq word (codes "-") then Some [] else ok_of (decode_of word)
 
 -- Two hexadecimal digits, the higher first.
 abbrev pub pair_of : List ℕ → Option ℕ

@@ -1,6 +1,7 @@
-//! Tests of dfu_link, by its public calls alone. They stand in a crate of their own, since the gate proves a crate with
-//! tests twice.
+//! Tests of dfu_link and dfu_board_sim, by their public calls alone.
 #![tactic(auto)]
 
 #[cfg(test)]
-mod tests;
+mod board_sim;
+#[cfg(test)]
+mod link;

@@ -4,9 +4,9 @@ use Rattle.dfu_device.specs.Stage.{Profile, InAppIdle}
 use Rattle.dfu_device.specs.Outcome.{Situation, Luck}
 use Rattle.dfu_host.specs.Blocks.{blocks, first}
 use Rattle.dfu_host.specs.Phases.{Goal, ToLoad, ToFetch, ToVerify, ToCompare, Task, Phase, Deed}
-use Rattle.dfu_host.specs.Table.{deed, row, checked}
+use Rattle.dfu_host.specs.Table.{deed, host_row, goal_after_reset}
 use Rattle.dfu_host.specs.Host.{HostState, IsOn}
-use Rattle.dfu_sim.specs.Session.{Machine, Live, Loading, IsFirst, SaysInPlace, Begins, begins_not, takes, installs, Ends, ends_not, drops, Kind, AGo, Step, goes}
+use Rattle.dfu_sim.specs.Session.{Machine, Live, Loading, IsFirst, SaysInPlace, Begins, begins_not, takes, installs, MayDrop, ends_not, drops, Kind, AGo, MachineStep, goes}
 use Rattle.dfu_sim.specs.Happening.{Fate}
 use Rattle.dfu_sim.specs.Course.{Course, course_of}
 use Rattle.dfu_sim.specs.Opening.{task_for}
@@ -28,7 +28,7 @@ use Rattle.dfu_sim.proofs.Taking.{shown, goal_taken, task_by}
 record Moved (t : ℕ) (m m' : Machine) : Type 0 where
   mid : Machine
   first_part : Begins t m mid
-  last_part : Ends mid m'
+  last_part : MayDrop mid m'
 
 -- A block more of the live payload.
 taken : {p : List ℕ} (offers : List (List ℕ)) (t : ℕ) (i : List ℕ) (q : Option (List ℕ)) (up : List ℕ) (n : ℕ) (more : List ℕ)
@@ -54,7 +54,7 @@ moved {offers = offers} {p = p} {t = t} {i = i} {q = q} up (loses_block n more b
 -- What is shown after an event.
 pub record Simulated (c : Profile) (offers : List (List ℕ)) (w : Link) (up : List ℕ) (kind : Kind) (r : Played)
     (offers' : List (List ℕ)) : Type 0 where
-  pub step : Step c.tolerant c.transfer kind (shown offers w.device.image (pending_of w.device.stage) (live_of w.session) up)
+  pub step : MachineStep c.tolerant c.transfer kind (shown offers w.device.image (pending_of w.device.stage) (live_of w.session) up)
       r.answer.report
       (shown offers' r.link.device.image (pending_of r.link.device.stage) (live_of r.link.session) (given r.answer.gave up))
   pub sound : IsSound offers' r.link.device.stage
@@ -71,8 +71,8 @@ module _ (c : Profile) (sized : 0 < c.transfer) (offers : List (List ℕ)) where
     next : IfHeard d.heard (Next c g d.device phase)
 
   comes_quietly : (g : Goal) (phase : Phase) (s : Situation) (up : List ℕ) (d : Passed)
-      → ((x : Phase) (y : Situation) → GoalFact c g x y → GoalFact c (checked g) x y)
-      → GoesQuietly c offers g (row (task_for c g) phase) s d → Comes g phase s up d
+      → ((x : Phase) (y : Situation) → GoalFact c g x y → GoalFact c (goal_after_reset g) x y)
+      → GoesQuietly c offers g (host_row (task_for c g) phase) s d → Comes g phase s up d
   comes_quietly g phase s up d f q = record {
     moves = moved_quiet (live_goal g) up q.quiet.moves;
     sound = q.quiet.sound;

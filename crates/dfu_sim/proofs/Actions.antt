@@ -26,7 +26,7 @@ use Rattle.dfu_sim.specs.declared.course.Harming.{Harming}
 use Rattle.dfu_sim.specs.declared.course.Harming.TheVariants.{CutsPower}
 use Rattle.dfu_sim.specs.Course.{Course}
 use Rattle.dfu_sim.specs.Play.{heard_as, remembered, reached, heard_back, heard_over, over, waits_for, slipped, plan_by, acted}
-use Rattle.dfu_sim.specs.Bytes.{armed, bus_was_reset, HearsAnswer, HearsBack, Takes, Reaches, unseen, once, again, late, came_back, ended_back, Sends, Waits, Slips, ResetsBus, Acts}
+use Rattle.dfu_sim.specs.Bytes.{armed, bus_was_reset, HearsAnswer, HearsBack, TakesSetup, ReachesDevice, unseen, once, again, late, came_back, ended_back, Sends, Waits, Slips, ResetsBus, Acts}
 use Rattle.dfu_sim.proofs.Fates.{all_remembered}
 use Rattle.dfu_sim.proofs.Replies.{IsHosts, HostsDeed, plan_heard, served}
 use Rattle.dfu_sim.proofs.Closing.{by_table, by_objection, host_closes, host_open}
@@ -87,7 +87,7 @@ module _ (q : Asked) (setup body : List ℕ) (is : IsHosts q body) (asked : IsAs
       rw (served asked.setup q body is asked.asks) at (row_of asked.setup q setup body w a out w' asked.fields asked.asks h)
 
   -- And so does one that the program of the device may refuse.
-  pub takes_by : (x : Option Objection) (w w' : Shown) (a : Answer) (out : List ℕ) → Takes x setup body w a out w'
+  pub takes_by : (x : Option Objection) (w w' : Shown) (a : Answer) (out : List ℕ) → TakesSetup x setup body w a out w'
       → RowDone (plan_on q body x w) (asked_length q) w a out w'
   takes_by None w w' a out h = goes_by w w' a out h
   takes_by (Some why) w w' a out (inl (stalls, none, closing, same)) =
@@ -95,7 +95,7 @@ module _ (q : Asked) (setup body : List ℕ) (is : IsHosts q body) (asked : IsAs
   takes_by (Some why) w w' a out (inr (other, h)) =
       subst (λ (p : Plan). RowDone p (asked_length q) w a out w') (sym (open_plan why w other)) (goes_by w w' a out h)
 
-  takes_came : (x : Option Objection) (w w' : Shown) (a : Answer) (out : List ℕ) → Takes x setup body w a out w'
+  takes_came : (x : Option Objection) (w w' : Shown) (a : Answer) (out : List ℕ) → TakesSetup x setup body w a out w'
       → Came (plan_on q body x w) (asked_length q) w a out w'
   takes_came x w w' a out h = came (plan_on q body x w) (asked_length q) w a out w' (takes_by x w w' a out h)
 
@@ -119,7 +119,7 @@ module _ (q : Asked) (setup body : List ℕ) (is : IsHosts q body) (asked : IsAs
     lucky : w.slots.medium.fuse ≡ Whole → (first ≡ Works) × (second ≡ Works)
 
   reaches_go : {x : Option Objection} {w w' : Shown} {how : Handling} {came : Back} {out : List ℕ}
-      → Reaches x setup body how w came out w' → Arrives x w w' how came out
+      → ReachesDevice x setup body how w came out w' → Arrives x w w' how came out
   reaches_go unseen = record {
     first = Works;
     second = Works;

@@ -17,11 +17,12 @@ use Rattle.dfu_sim.specs.declared.course.Harming.TheVariants.{CutsPower}
 use Rattle.dfu_sim.specs.Course.{Course}
 use Rattle.dfu_sim.specs.Happening.{Harm}
 use Rattle.dfu_sim.specs.Play.{heard_over, waits_for}
-use Rattle.dfu_sim.specs.Bytes.{fuse_of, armed, bus_was_reset, HearsBack, Reaches, came_back, ended_back, Sends, Waits, Slips, ResetsBus, Acts, left_by, HostActs, HostActsArmed}
+use Rattle.dfu_sim.specs.Bytes.{fuse_of, armed, bus_was_reset, HearsBack, ReachesDevice, came_back, ended_back, Sends, Waits, Slips, ResetsBus, Acts, device_left_by, HostActs, HostActsArmed}
 use Rattle.dfu_sim.specs.inside.Acting.{seen_over}
 
 -- A request whose rows these are, and of which this comes back.
-pub sends_by : {setup body out : List ℕ} {w w' : Shown} (course : Course) {came b : Back} → Reaches course.refusing setup body course.handling w came out w'
+pub sends_by : {setup body out : List ℕ} {w w' : Shown} (course : Course) {came b : Back} →
+    ReachesDevice course.refusing setup body course.handling w came out w'
     → b ≡ ended_back course.harming (came_back course.back came) → (q : Asked) (heard : Heard) → HearsBack (Send q body) b out heard
     → Sends q setup body course w w' heard
 sends_by {body = body} {out = out} course {came = came} h e q heard r = record {
@@ -88,7 +89,7 @@ unarmed_is w e = λ i. record w { slots = record w.slots { medium = record w.slo
 
 -- An action by the course of its fate, on a medium that is armed for it.
 pub gone_by : {course c : Course} {harm x : Harm} {h h' : HostState} {w start last w' : Shown} → c ≡ course → x ≡ harm
-    → start ≡ armed w (fuse_of c.harming x) → HostActs h c start last h' → w' ≡ left_by c.harming last
+    → start ≡ armed w (fuse_of c.harming x) → HostActs h c start last h' → w' ≡ device_left_by c.harming last
     → HostActsArmed h course harm w w' h'
 gone_by {c = c} {harm = harm} {x = x} {h = h} {h' = h'} {w = w} {last = last} {w' = w'} e k start acted left =
     subst (λ (d : Course). HostActsArmed h d harm w w' h') e (subst (λ (y : Harm). HostActsArmed h c y w w' h') k

@@ -3,13 +3,13 @@ use Rattle.std.proofs.Common.{◌≡◌, ℕ, suc, ◌+◌, ◌%◌, ◌<◌, �
 use Rattle.dfu_wire.specs.declared.codes.Code.{Code}
 use Rattle.dfu_wire.specs.declared.codes.Code.TheVariants.{StalledPkt as ErrStalledPkt, Address as ErrAddress, NotDone as ErrNotDone}
 use Rattle.dfu_device.specs.Stage.{Dnload, Ack, Profile, Stage, InDfuIdle, InDownloadSync, InDownloadIdle, InManifestSync}
-use Rattle.dfu_device.specs.Table.{Plan, Sure, error, plan, block_plan, first_plan, further_plan, is_empty, next_number}
+use Rattle.dfu_device.specs.Table.{Plan, Sure, error, plan, block_plan, first_plan, further_plan, has_no_bytes, next_number}
 use Rattle.dfu_device.specs.Outcome.{Situation, Luck}
 use Rattle.dfu_device.specs.Cases.{either_way}
 use Rattle.dfu_host.specs.Blocks.{blocks, first}
 use Rattle.dfu_host.specs.BlockLaws.{first_suc, full_block}
 use Rattle.dfu_host.specs.Phases.{ToLoad, Phase, Block, Ask, Close, AskLast, Nothing}
-use Rattle.dfu_host.specs.Table.{row}
+use Rattle.dfu_host.specs.Table.{host_row}
 use Rattle.dfu_sim.specs.Session.{IsOneOf, IsFirst}
 use Rattle.dfu_sim.specs.declared.course.Handling.{Handling}
 use Rattle.dfu_sim.specs.declared.course.Handling.TheVariants.{Unseen, Again}
@@ -19,7 +19,7 @@ use Rattle.dfu_sim.specs.Course.{Course}
 use Rattle.dfu_sim.specs.Opening.{task_for}
 use Rattle.dfu_sim.specs.Play.{Passed, reached, heard_back, ends_by, sent_by, sent}
 use Rattle.dfu_sim.specs.LinkAgreement.{pending_of, IsSound}
-use Rattle.dfu_sim.specs.Fact.{Begun, AllTaken, Fact}
+use Rattle.dfu_sim.specs.Fact.{AtBlock, AllTaken, Fact}
 use Rattle.dfu_sim.proofs.Quiet.{Quiet, stays, forgets, quiet_on}
 use Rattle.dfu_sim.proofs.Closing.{by_table, block_closes, close_cases}
 use Rattle.dfu_sim.proofs.Fates.{IfHeard, if_some}
@@ -42,14 +42,14 @@ module _ (c : Profile) (offers : List (List ℕ)) (p : List ℕ) where
   pub record GoesWell (phase : Phase) (s : Situation) (d : Passed) : Type 0 where
     pub moves : ImageMoves offers p c.transfer s.image (pending_of s.stage) d.device.image (pending_of d.device.stage)
     pub sound : IsSound offers d.device.stage
-    pub next : IfHeard d.heard (λ heard. Fact c p (row (task_for c (ToLoad p)) phase heard) d.device)
+    pub next : IfHeard d.heard (λ heard. Fact c p (host_row (task_for c (ToLoad p)) phase heard) d.device)
 
   -- What a request of this phase comes to where its answer comes back, and where it is lost.
   record Reached (phase : Phase) (s : Situation) (d : Passed) : Type 0 where
     moves : ImageMoves offers p c.transfer s.image (pending_of s.stage) d.device.image (pending_of d.device.stage)
     sound : IsSound offers d.device.stage
-    next : Fact c p (row (task_for c (ToLoad p)) phase d.heard) d.device
-    lost : Fact c p (row (task_for c (ToLoad p)) phase Nothing) d.device
+    next : Fact c p (host_row (task_for c (ToLoad p)) phase d.heard) d.device
+    lost : Fact c p (host_row (task_for c (ToLoad p)) phase Nothing) d.device
 
   -- Where the power is cut, what is pending is forgotten.
   cut_moves : {i j : List ℕ} {q r : Option (List ℕ)} → ImageMoves offers p c.transfer i q j r → ImageMoves offers p c.transfer i q j None
@@ -60,7 +60,7 @@ module _ (c : Profile) (offers : List (List ℕ)) (p : List ℕ) where
   ended_well : (phase : Phase) (s : Situation) (harming : Harming) (d : Passed)
       → ImageMoves offers p c.transfer s.image (pending_of s.stage) d.device.image (pending_of d.device.stage)
       → IsSound offers d.device.stage
-      → Fact c p (row (task_for c (ToLoad p)) phase d.heard) d.device → GoesWell phase s (ends_by harming d)
+      → Fact c p (host_row (task_for c (ToLoad p)) phase d.heard) d.device → GoesWell phase s (ends_by harming d)
   ended_well phase s CutsPower d m h n = record { moves = cut_moves m; sound = tt; next = tt }
   ended_well phase s harming d m h n = record { moves = m; sound = h; next = if_some d.heard _ n }
 
@@ -109,9 +109,9 @@ first_cases : (P : Plan → Type 0) (c : Profile) (number : ℕ) (body : List �
     → P (Sure Ack (InDownloadSync [] body (next_number 0))) → P (first_plan c number body)
 first_cases P c number body pf pt =
     either_way P (not c.can_download) _ _ (pf ErrStalledPkt)
-    (either_way P (is_empty body) _ _ (pf ErrStalledPkt) (block_cases P c [] 0 number body pf pt))
+    (either_way P (has_no_bytes body) _ _ (pf ErrStalledPkt) (block_cases P c [] 0 number body pf pt))
 
-further_cases : (P : Plan → Type 0) (c : Profile) (taken : List ℕ) (expected number : ℕ) (body : List ℕ) → is_empty body ≡ false
+further_cases : (P : Plan → Type 0) (c : Profile) (taken : List ℕ) (expected number : ℕ) (body : List ℕ) → has_no_bytes body ≡ false
     → ((code : Code) → P (error code)) → P (Sure Ack (InDownloadSync taken body (next_number expected)))
     → P (further_plan c taken expected number body)
 further_cases P c taken expected number body e pf pt =
@@ -119,7 +119,7 @@ further_cases P c taken expected number body e pf pt =
     (block_plan c taken expected number body))) (sym e) (block_cases P c taken expected number body pf pt)
 
 -- Bytes that are at least one are not none.
-pub not_empty : (body : List ℕ) → 0 < length body → is_empty body ≡ false
+pub not_empty : (body : List ℕ) → 0 < length body → has_no_bytes body ≡ false
 not_empty [] h = absurd (omega arith)
 not_empty (x ∷ xs) h = refl
 
@@ -128,7 +128,7 @@ module _ (c : Profile) (sized : 0 < c.transfer) (offers : List (List ℕ)) (p : 
       → [] ++ slice_index_or (blocks p c.transfer) n [] ≡ first p c.transfer (suc n)
   first_body n b e = sym (first_suc p c.transfer n b ∙ ap (λ m. first p c.transfer m ++ slice_index_or (blocks p c.transfer) n []) e)
 
-  block_goes : (n : ℕ) (i : List ℕ) (stage : Stage) → n < length (blocks p c.transfer) → Begun p c.transfer n stage → IsSound offers stage
+  block_goes : (n : ℕ) (i : List ℕ) (stage : Stage) → n < length (blocks p c.transfer) → AtBlock p c.transfer n stage → IsSound offers stage
       → (course : Course) (l k : Luck) → let s : Situation = record { image = i; stage = stage } in
       let r = Dnload (n % 65536) (slice_index_or (blocks p c.transfer) n []) in
       GoesWell c offers p (Block n) s (sent_by c s r (plan c i stage r) course l k)
@@ -151,7 +151,8 @@ module _ (c : Profile) (sized : 0 < c.transfer) (offers : List (List ℕ)) (p : 
   block_goes n i stage b g h course l k = elim g [ ]
 
   -- The phase that sends block n goes well by each course.
-  pub go_block : (n : ℕ) (i : List ℕ) (stage : Stage) → n < length (blocks p c.transfer) → Begun p c.transfer n stage → IsSound offers stage
+  pub go_block : (n : ℕ) (i : List ℕ) (stage : Stage) → n < length (blocks p c.transfer) → AtBlock p c.transfer n stage →
+      IsSound offers stage
       → (course : Course) (l k : Luck) → let s : Situation = record { image = i; stage = stage } in
       GoesWell c offers p (Block n) s (sent c s (Dnload (n % 65536) (slice_index_or (blocks p c.transfer) n [])) course l k)
   go_block n i stage b g h course l k =

@@ -14,12 +14,12 @@ use Rattle.dfu_sim.specs.Play.{Answered, given}
 use Rattle.dfu_sim.specs.Agreement.{AgreesOn}
 use Rattle.dfu_sim.proofs.Saying.{only_offered}
 use Rattle.dfu_sim.specs.Bench.{Bench, LinkState, linked}
-use Rattle.dfu_sim.specs.Giving.{Gives}
+use Rattle.dfu_sim.specs.Giving.{GivesOrKeeps}
 use Rattle.dfu_sim.specs.Happening.{Happening, Resets, happening}
 use Rattle.dfu_sim.specs.Refusing.{IsRefused}
 use Rattle.dfu_sim.specs.Comes.{Comes, refuses, happens, shown_as, gave_of, HasCome}
 use Rattle.dfu_sim.specs.Following.{IsFollowed}
-use Rattle.dfu_sim.specs.Sure.{IsSame, IsSure}
+use Rattle.dfu_sim.specs.Sure.{IsSame, IsSureEvent}
 use Rattle.dfu_sim.specs.Running.{Runs, rests, comes, happenings, IsStop, StopsAt}
 use Rattle.dfu_sim.specs.FollowingRun.{AreOfKinds, IsFollowedRun}
 
@@ -27,8 +27,8 @@ use Rattle.dfu_sim.specs.FollowingRun.{AreOfKinds, IsFollowedRun}
 pub record Stepped (w : LinkState) (h : Happening) (w' : LinkState) (report : Option Report) : Type 0 where
   pub play : HasCome w h w' (Ok report)
   pub legal : (m : Machine) → AgreesOn w.bench w.up m → IsFollowed w h w' report m
-  pub sure : IsSure w.bench h w'.bench report
-  pub gives : Gives w w' (Ok report)
+  pub sure : IsSureEvent w.bench h w'.bench report
+  pub gives : GivesOrKeeps w w' (Ok report)
 
 -- And of one after the other.
 pub data Chain : LinkState → List Happening → List Report → LinkState → Type 0 where

@@ -11,7 +11,7 @@ use Rattle.dfu_host.specs.declared.report.Report.TheVariants.{TooManyBlocks, Ver
 use Rattle.dfu_host.specs.Blocks.{blocks}
 use Rattle.dfu_host.specs.BlockLaws.{block_at}
 use Rattle.dfu_host.specs.Phases.{ToCompare, Phase, Find, Compare, Last, Over, Part}
-use Rattle.dfu_host.specs.Table.{compared}
+use Rattle.dfu_host.specs.Table.{compared_phase}
 use Rattle.dfu_host.specs.Host.{IsOn}
 use Rattle.dfu_sim.specs.Play.{heard_as, Passed}
 use Rattle.dfu_sim.proofs.Passes.{Leads, leads_on, none, one, one_by}
@@ -76,7 +76,7 @@ module _ (c : Profile) (p : List ℕ) (again : ℕ) where
         → (if short then Last Verified else if suc k == 65535 then Over TooManyBlocks else Compare (suc k)) ≡ next → IsOn next
         → GoesWell (Given k) (Compare k) 1 stage next
     part_goes k short stage next e gave row on =
-        one_by c (ToCompare p) again (Part (part k)) (compared c.transfer k (block k) (part k))
+        one_by c (ToCompare p) again (Part (part k)) (compared_phase c.transfer k (block k) (part k))
         (λ l. answered _ stage (part k) (gives k can sized ∙ rw e gave)) (λ l room. refl) (rw (fits k, same k, e) row) on
 
     -- A full part.

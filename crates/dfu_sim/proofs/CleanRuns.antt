@@ -11,13 +11,13 @@ use Rattle.dfu_sim.specs.Session.{said}
 use Rattle.dfu_sim.specs.declared.aim.Aim.{Aim}
 use Rattle.dfu_sim.specs.declared.aim.Aim.TheVariants.{Install, Verify}
 use Rattle.dfu_sim.specs.Happening.{Pass, Happening, Offers, Goes, unharmed}
-use Rattle.dfu_sim.specs.Opening.{goal_of, opened}
+use Rattle.dfu_sim.specs.Opening.{goal_of_aim, opened}
 use Rattle.dfu_sim.specs.Play.{Link, Answered, silent, Played, played}
 use Rattle.dfu_sim.specs.Bench.{Bench, LinkState}
 use Rattle.dfu_sim.specs.Bytes.{link_of}
-use Rattle.dfu_sim.specs.CleanRun.{report_of, CanDo, PassesTo, Quietly, here, there, resting, InstalledAfter}
+use Rattle.dfu_sim.specs.CleanRun.{report_of_aim, CanDo, PassesTo, Quietly, here, there, resting, InstalledAfter}
 use Rattle.dfu_sim.specs.Refusing.{IsOffered}
-use Rattle.dfu_sim.specs.Sure.{IsHarmless, IsAsPlayed, IsSure}
+use Rattle.dfu_sim.specs.Sure.{IsHarmless, IsAsPlayed, IsSureEvent}
 use Rattle.dfu_sim.specs.CleanSteps.{SureSteps, no_step, one_step, StepsInstall}
 use Rattle.dfu_sim.specs.CleanInstall.{clean_passes, CanInstall, offer_and_passes, InstallsCleanly}
 use Rattle.dfu_sim.proofs.Clean.{clean_run, takes_actions}
@@ -54,7 +54,7 @@ leads_to b mid report event c w answer e x f =
     record { link = ap (λ (p : Played). p.link) same; told = x.told ∙ ap (λ (p : Played). p.answer.report) same }
 
 pass_leads : (b mid : Bench) (report : Option Report) (c : Profile) (w : Link) (answer : Answered) → profile b.device ≡ c
-    → IsSure b pass mid report → PassesTo c (link_of b) w answer → LeadsTo mid report w answer
+    → IsSureEvent b pass mid report → PassesTo c (link_of b) w answer → LeadsTo mid report w answer
 pass_leads b mid report c w answer e s f = leads_to b mid report pass c w answer e
     (is_played b mid report s.event pass s.means tt s.works)
     (λ room. f Works room)
@@ -112,14 +112,14 @@ can_do Verify room offered = (can_download offered, can_upload offered)
 pub record HasBegun (b : Bench) (aim : Aim) (payload : List ℕ) (mid : Bench) (report : Option Report) : Type 0 where
   pub before : Link
   pub quiet : Quietly (profile b.device) (link_of mid) (clean_passes aim b.device.config payload - 1) before
-  pub last : PassesTo (profile b.device) before (resting payload) (record { report = Some (report_of aim); gave = None })
+  pub last : PassesTo (profile b.device) before (resting payload) (record { report = Some (report_of_aim aim); gave = None })
   pub fixed : profile mid.device ≡ profile b.device
   pub told : report ≡ None
 
 -- After an offer that can be installed its session has begun, and nothing is reported.
 pub has_begun : (b mid : Bench) (report : Option Report) (aim : Aim) (file : List ℕ) (limits : Limits) (payload : List ℕ)
     → CanInstall b aim file limits payload
-    → IsSure b (Offers aim file limits) mid report → HasBegun b aim payload mid report
+    → IsSureEvent b (Offers aim file limits) mid report → HasBegun b aim payload mid report
 has_begun b mid report aim file limits payload can s =
     let c : Profile = profile b.device in
     let n : ℕ = clean_passes aim b.device.config payload in
@@ -132,11 +132,11 @@ has_begun b mid report aim file limits payload can s =
     (λ room. λ i. record {
       link = record {
         device = record { image = image; stage = can.rests i };
-        session = opened c (goal_of aim (same i)) limits.actions limits.restarts;
+        session = opened c (goal_of_aim aim (same i)) limits.actions limits.restarts;
       };
       answer = silent;
     }) in
-    let run : InstalledAfter c start n payload (report_of aim) =
+    let run : InstalledAfter c start n payload (report_of_aim aim) =
     clean_run c aim image payload limits can.tolerant (can_do aim _ can.offered) (has_transfer can.offered)
     (bytes_of can.offered) can.least can.room can.parts can.enough Works true in
     record {
@@ -157,7 +157,7 @@ steps_install b b' aim file limits payload count reports can most (one_step {mid
       takes_actions aim b.device.config.functional.transfer b.device.config.busy_ms b.device.config.manifest_ms
           payload,
     ) in
-    let ends : count ≡ n → WasLast b' later (resting payload) (report_of aim) =
+    let ends : count ≡ n → WasLast b' later (resting payload) (report_of_aim aim) =
     λ k. last_pass (n - 1) (subst (λ (z : ℕ). SureSteps mid (replicate z pass) later b') (k ∙ sym some) more) x.fixed x.quiet x.last in
     record {
       early = λ less. ap (λ (r : Option Report). said r ++ later) x.told

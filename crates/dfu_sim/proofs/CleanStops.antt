@@ -11,7 +11,7 @@ use Rattle.dfu_sim.specs.declared.aim.Aim.{Aim}
 use Rattle.dfu_sim.specs.Happening.{Pass, Happening, Offers, Aborts}
 use Rattle.dfu_sim.specs.Play.{Link, Played, gone}
 use Rattle.dfu_sim.specs.Bench.{Session, Nobody, Bench, LinkState}
-use Rattle.dfu_sim.specs.CleanRun.{report_of, PassesTo, Quietly, here, there, resting}
+use Rattle.dfu_sim.specs.CleanRun.{report_of_aim, PassesTo, Quietly, here, there, resting}
 use Rattle.dfu_sim.specs.Refusing.{IsLive, IsRefused}
 use Rattle.dfu_sim.specs.CleanInstall.{clean_passes, CanInstall, offer_and_passes}
 use Rattle.dfu_sim.specs.declared.fault.LinkFault.{LinkFault}
@@ -83,7 +83,7 @@ clean_stop {b = b} {b' = b'} {why = why} aim file limits payload count (suc k) c
     let cut : take k (replicate count pass) ≡ replicate k pass = take-replicate k count pass (omega (arith, y.0)) in
     let q = quiet_passes k (n - 1) (omega (arith, y.0, most)) (subst (λ (hs : List Happening). SureSteps mid hs later b') cut more) x.fixed
     x.quiet in (
-      pass_stands b' (λ e. nobody_installs (profile b.device) x.before (resting payload) (report_of aim) x.last
+      pass_stands b' (λ e. nobody_installs (profile b.device) x.before (resting payload) (report_of_aim aim) x.last
           (nobody_stays q.rest e)) why (subst (λ (h : Happening). IsStop b' h why) y.1 stop),
       ap (λ (r : Option Report). said r ++ later) x.told ∙ q.none,
     )

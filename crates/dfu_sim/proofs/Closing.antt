@@ -7,7 +7,7 @@ use Rattle.dfu_wire.specs.declared.requests.Request.{Request as Asked}
 use Rattle.dfu_wire.specs.declared.requests.Request.TheVariants as request
 use Rattle.dfu_device.specs.declared.objection.Objection.{Objection}
 use Rattle.dfu_device.specs.Stage.{Request, Dnload, Ack, Profile, Stage, InDownloadIdle, InManifestSync}
-use Rattle.dfu_device.specs.Table.{Plan, Sure, error, plan, is_empty, may_close, objection_code}
+use Rattle.dfu_device.specs.Table.{Plan, Sure, error, plan, has_no_bytes, may_close, objection_code}
 use Rattle.dfu_device.specs.Rows.{meant, is_close}
 use Rattle.dfu_device.specs.Cases.{either_way}
 use Rattle.dfu_sim.specs.Play.{closes, plan_by}
@@ -31,7 +31,7 @@ polite_closes least stage (Dnload number body) p = elim p [ ]
 polite_closes least stage r p = refl
 
 -- A block that has a byte closes nothing.
-pub block_closes : (least : ℕ) (stage : Stage) (number : ℕ) (body : List ℕ) → is_empty body ≡ false
+pub block_closes : (least : ℕ) (stage : Stage) (number : ℕ) (body : List ℕ) → has_no_bytes body ≡ false
     → closes least stage (Dnload number body) ≡ false
 block_closes least stage number body e = ap (λ (t : Bool). cond t (may_close least stage) false) e
 

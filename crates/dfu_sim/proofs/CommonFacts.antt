@@ -6,11 +6,11 @@ use Rattle.dfu_device.specs.Outcome.{Situation}
 use Rattle.dfu_host.specs.declared.report.Report.{Report}
 use Rattle.dfu_host.specs.declared.report.Report.TheVariants.{Installed, Aborted, Refused}
 use Rattle.dfu_host.specs.Phases.{Goal, ToLoad, ToFetch, ToVerify, ToCompare, Phase, Find, Over}
-use Rattle.dfu_host.specs.Table.{start_of}
+use Rattle.dfu_host.specs.Table.{work_start}
 use Rattle.dfu_host.specs.CommonPhases.{IsCommon, CommonHolds}
 use Rattle.dfu_sim.specs.Opening.{task_for}
 use Rattle.dfu_sim.specs.Session.{PromisesNothing}
-use Rattle.dfu_sim.specs.Fact.{IsInApp, Begun, EndsAs, Fetches, GoalFact, HasBlocks}
+use Rattle.dfu_sim.specs.Fact.{IsInApp, AtBlock, EndsAs, Fetches, GoalFact, HasBlocks}
 use Rattle.dfu_sim.proofs.Tells.{Tells, ToldBy}
 
 module _ (c : Profile) where
@@ -20,7 +20,7 @@ module _ (c : Profile) where
   goal_anywhere g d Find h = tt
   goal_anywhere g d phase h = search
 
-  load_begins : (p : List ℕ) (stage : Stage) → Tells DfuIdle stage → Begun p c.transfer 0 stage
+  load_begins : (p : List ℕ) (stage : Stage) → Tells DfuIdle stage → AtBlock p c.transfer 0 stage
   load_begins p InDfuIdle h = refl
   load_begins p stage h = elim h [ ]
 
@@ -32,7 +32,7 @@ module _ (c : Profile) where
   abbrev pub CommonFacts : Goal → Situation → Type 0
   CommonFacts g d = CommonHolds (task_for c g) (λ phase. GoalFact c g phase d) (λ heard. ToldBy heard d.stage)
 
-  goal_begins : (g : Goal) → HasBlocks c g → (d : Situation) → Tells DfuIdle d.stage → GoalFact c g (start_of g) d
+  goal_begins : (g : Goal) → HasBlocks c g → (d : Situation) → Tells DfuIdle d.stage → GoalFact c g (work_start g) d
   goal_begins ToFetch some d t = (omega arith, fetch_begins d.image d.stage t)
   goal_begins (ToCompare p) some d t = (omega arith, fetch_begins d.image d.stage t)
   goal_begins (ToLoad p) some d t = (some, load_begins p d.stage t)

@@ -16,7 +16,7 @@ use Rattle.dfu_sim.specs.declared.course.Harming.TheVariants.{CutsPower}
 use Rattle.dfu_sim.specs.Course.{Course, course_of}
 use Rattle.dfu_sim.specs.Happening.{Happening, Goes, Passes}
 use Rattle.dfu_sim.specs.Play.{waits_for, Answered}
-use Rattle.dfu_sim.specs.Bytes.{fuse_of, armed, bus_was_reset, Takes, Reaches, unseen, once, again, late, Slips, Acts, left_by, Happens}
+use Rattle.dfu_sim.specs.Bytes.{fuse_of, armed, bus_was_reset, TakesSetup, ReachesDevice, unseen, once, again, late, Slips, Acts, device_left_by, HappensOnBench}
 use Rattle.dfu_sim.specs.Bench.{Bench}
 use Rattle.dfu_sim.proofs.DoneOnce.{done_ends}
 
@@ -27,14 +27,14 @@ handles_config {body = body} {out = out} {w = w} {w' = w'} {a = a} (handled_as p
 elapses_config : (ms : ℕ) (w w' : Shown) → Elapses ms w w' → w'.config ≡ w.config
 elapses_config ms w w' h = (done_ends (time_plan (profile w) w.stage ms) 0 w answer.Ack [] w' h).config
 
-takes_config : (x : Option Objection) (setup body out : List ℕ) (w w' : Shown) (a : Answer) → Takes x setup body w a out w'
+takes_config : (x : Option Objection) (setup body out : List ℕ) (w w' : Shown) (a : Answer) → TakesSetup x setup body w a out w'
     → w'.config ≡ w.config
 takes_config None setup body out w w' a h = handles_config h
 takes_config (Some why) setup body out w w' a (inl (stalls, none, closing, same)) = ap (λ (x : Shown). x.config) same
 takes_config (Some why) setup body out w w' a (inr (other, h)) = handles_config h
 
 reaches_config : {x : Option Objection} {setup body : List ℕ} {how : Handling} {w w' : Shown} {came : Back} {out : List ℕ}
-    → Reaches x setup body how w came out w' → w'.config ≡ w.config
+    → ReachesDevice x setup body how w came out w' → w'.config ≡ w.config
 reaches_config unseen = refl
 reaches_config {x = x} (once h) = takes_config x _ _ _ _ _ _ h
 reaches_config {x = x} (again mid a out h k) = handles_config k ∙ takes_config x _ _ _ _ _ _ h
@@ -50,12 +50,12 @@ acts_config (Wait ms) f w w' heard h = elapses_config (waits_for f.handling ms) 
 acts_config Reset f w w' heard h = slips_config f.handling (bus_was_reset w) w' h.0
 acts_config (IsDone report) f w w' heard h = elim h [ ]
 
-after_config : (harming : Harming) (w : Shown) → (left_by harming w).config ≡ w.config
+after_config : (harming : Harming) (w : Shown) → (device_left_by harming w).config ≡ w.config
 after_config CutsPower w = refl
 after_config harming w = refl
 
 -- No event changes what a device is set up as.
-pub happens_config : (event : Happening) (b b' : Bench) (answer : Answered) → Happens event b b' answer
+pub happens_config : (event : Happening) (b b' : Bench) (answer : Answered) → HappensOnBench event b b' answer
     → b'.device.config ≡ b.device.config
 happens_config (Goes fate harm) b b' answer g =
     ap (λ (x : Shown). x.config) g.gone.device ∙ after_config (course_of fate).harming g.gone.last

@@ -11,10 +11,10 @@ use Rattle.dfu_device.specs.Stage.{Profile}
 use Rattle.dfu_device.specs.Outcome.{Situation}
 use Rattle.dfu_sim.specs.Course.{Course}
 use Rattle.dfu_sim.specs.Happening.{Happening, Aborts, Goes, Passes, Resets, Cuts, Refuses}
-use Rattle.dfu_sim.specs.Play.{Answered, settled, took, told, aborted}
+use Rattle.dfu_sim.specs.Play.{Answered, settled, took, told, session_aborted}
 use Rattle.dfu_sim.specs.Bench.{Session, Nobody, Hosted, Bench}
 use Rattle.dfu_sim.specs.Fact.{SessionFact}
-use Rattle.dfu_sim.specs.Bytes.{Happens, HostActs}
+use Rattle.dfu_sim.specs.Bytes.{HappensOnBench, HostActs}
 use Rattle.dfu_device.specs.Shown.{Shown}
 use Rattle.dfu_sim.specs.Comes.{ComesWith, GivesWithUploaded}
 use Rattle.dfu_sim.specs.Standing.{SendsBytes, IsCountedIn}
@@ -72,7 +72,7 @@ aborted_in_counted h (Over r) e c = subst (λ (p : Phase). IsCounted h.task p) (
 aborted_in_counted h (OverUploaded kept) e c = subst (λ (p : Phase). IsCounted h.task p) (sym e) c
 aborted_in_counted h phase e c = tt
 
-aborted_counted : (session : Session) → IsCountedIn session → IsCountedIn (aborted session)
+aborted_counted : (session : Session) → IsCountedIn session → IsCountedIn (session_aborted session)
 aborted_counted Nobody c = tt
 aborted_counted (Hosted h) c = aborted_in_counted h h.phase refl c
 
@@ -103,7 +103,7 @@ acted_counted course w w' h h' some c acted = subst (λ (x : HostState). IsCount
 
 -- After each event what a live session keeps is counted.
 pub happens_counted : (event : Happening) (b b' : Bench) (answer : Answered) → SendsBytes b.session → IsCountedIn b.session
-    → Happens event b b' answer → IsCountedIn b'.session
+    → HappensOnBench event b b' answer → IsCountedIn b'.session
 happens_counted Aborts b b' answer some c (e, f) = subst (λ (x : Bench). IsCountedIn x.session) (sym e) (aborted_counted b.session c)
 happens_counted (Goes fate harm) b b' answer some c g = subst IsCountedIn (sym g.session)
     (took_counted g.host g.gone.acted.heard (subst SendsBytes g.live some) (subst IsCountedIn g.live c))
@@ -116,7 +116,7 @@ happens_counted event b b' answer some c h = subst (λ (x : Bench). IsCountedIn 
 
 -- What an answer gives, by the device's transfer size.
 pub happens_fits : (p : Profile) (s : Situation) (event : Happening) (b b' : Bench) (answer : Answered)
-    → SessionFact p s b.session → SendsBytes b.session → IsCountedIn b.session → Happens event b b' answer → Fits p.transfer answer
+    → SessionFact p s b.session → SendsBytes b.session → IsCountedIn b.session → HappensOnBench event b b' answer → Fits p.transfer answer
 happens_fits p s (Goes fate harm) b b' answer f some c g =
     let fact = subst (SessionFact p s) g.live f in
     subst (Fits p.transfer) (sym g.answered) (subst (λ (n : ℕ). Fits n (took g.host g.gone.acted.heard).answer) fact.task_is.transfer

@@ -9,10 +9,10 @@ use Rattle.dfu_host.specs.Phases.{ToFetch, Phase, Find, GiveUp, Over, OverUpload
 use Rattle.dfu_host.specs.Host.{HostState, IsOn, aborted_in}
 use Rattle.dfu_sim.specs.declared.aim.Aim.{Aim}
 use Rattle.dfu_sim.specs.declared.aim.Aim.TheVariants.{Install, Verify}
-use Rattle.dfu_sim.specs.Session.{Machine, Live, NoOne, Loading, Says, says_not, AnOffer, ARestart, Step, offered, uploads, aborts, restarts, refuses}
+use Rattle.dfu_sim.specs.Session.{Machine, Live, NoOne, Loading, SaysReport, says_not, AnOffer, ARestart, MachineStep, offered, uploads, aborts, restarts, refuses}
 use Rattle.dfu_sim.specs.Happening.{Happening, Offers, Uploads, Aborts, Goes, Passes, Resets, Cuts, Refuses}
-use Rattle.dfu_sim.specs.Opening.{goal_of}
-use Rattle.dfu_sim.specs.Play.{kind_of, Link, Answered, silent, given, Played, took, restarted_to, played, IsAllowed, Play}
+use Rattle.dfu_sim.specs.Opening.{goal_of_aim}
+use Rattle.dfu_sim.specs.Play.{kind_of, Link, Answered, silent, given, Played, took, restarted_to, played, MayHappen, Play}
 use Rattle.dfu_sim.specs.Bench.{Session, Nobody, Hosted}
 use Rattle.dfu_sim.specs.LinkAgreement.{pending_of, IsSound, Agrees}
 use Rattle.dfu_sim.specs.Agreement.{live_goal, live_of, IsLiveOffer}
@@ -41,7 +41,7 @@ module _ (c : Profile) (offers : List (List ℕ)) where
       (restarted_to (record { image = s.image; stage = next }) session) offers
   restart_simulated s next Nobody up n q o f =
       record {
-        step = restarts (subst (λ r. Says c.tolerant (shown offers s.image None NoOne up) None (shown offers s.image r NoOne up))
+        step = restarts (subst (λ r. SaysReport c.tolerant (shown offers s.image None NoOne up) None (shown offers s.image r NoOne up))
             (sym n) says_not) tt;
         sound = q;
         offer = tt;
@@ -52,7 +52,7 @@ module _ (c : Profile) (offers : List (List ℕ)) where
       let taken = took h Restarted in
       let t = restart_taken c offers (record { image = s.image; stage = next }) h up f.on f.task_is o f.some in
       record {
-        step = restarts (subst (λ r. Says c.tolerant (shown offers s.image r (live_goal h.task.goal) up) taken.answer.report
+        step = restarts (subst (λ r. SaysReport c.tolerant (shown offers s.image r (live_goal h.task.goal) up) taken.answer.report
             (shown offers s.image (pending_of next) (live_of taken.session) (given taken.answer.gave up))) n t.says)
             (restart_plain c offers h f.on);
         sound = q;
@@ -67,7 +67,7 @@ module _ (c : Profile) (offers : List (List ℕ)) where
   more_sound p stage h = tt
 
 -- What is live of a session that was offered.
-goal_live : (aim : Aim) (payload : List ℕ) → live_goal (goal_of aim payload) ≡ Loading payload
+goal_live : (aim : Aim) (payload : List ℕ) → live_goal (goal_of_aim aim payload) ≡ Loading payload
 goal_live Install payload = refl
 goal_live Verify payload = refl
 
@@ -98,26 +98,27 @@ module _ (c : Profile) where
   some_blocks : (p : List ℕ) → 0 < c.transfer → 0 < length p → 0 < length (blocks p c.transfer)
   some_blocks p sized h = block_counts p c.transfer 0 sized (omega (arith, h))
 
-  offered_blocks : (aim : Aim) (p : List ℕ) → 0 < c.transfer → 0 < length p → HasBlocks c (goal_of aim p)
+  offered_blocks : (aim : Aim) (p : List ℕ) → 0 < c.transfer → 0 < length p → HasBlocks c (goal_of_aim aim p)
   offered_blocks Install p sized h = some_blocks p sized h
   offered_blocks Verify p sized h = some_blocks p sized h
 
   simulated : (offers : List (List ℕ)) (s : Situation) (session : Session) (up : List ℕ) (event : Happening) (l k : Luck) (room : Bool)
-      → Sizes c session event → IsAllowed session event → IsSound offers s.stage → IsLiveOffer offers (live_of session)
+      → Sizes c session event → MayHappen session event → IsSound offers s.stage → IsLiveOffer offers (live_of session)
       → SessionFact c s session
       → let w : Link = record { device = s; session = session } in
       Simulated c offers w up (kind_of event) (played c w event l k room) (offers_by event offers)
   simulated offers s Nobody up (Offers aim payload limits) l k room z a q o f =
       record {
-        step = subst (λ (x : Live). Step c.tolerant c.transfer (AnOffer payload) (shown offers s.image (pending_of s.stage) NoOne up) None
+        step = subst (λ (x : Live). MachineStep c.tolerant c.transfer (AnOffer payload)
+            (shown offers s.image (pending_of s.stage) NoOne up) None
             (shown (payload ∷ offers) s.image (pending_of s.stage) x up)) (sym (goal_live aim payload)) (offered refl);
         sound = more_sound c offers payload s.stage q;
         offer = subst (IsLiveOffer (payload ∷ offers)) (sym (goal_live aim payload)) (inl refl);
         fact = record {
-          task_is = goes_by c (goal_of aim payload);
+          task_is = goes_by c (goal_of_aim aim payload);
           on = tt;
           some = offered_blocks aim payload z a;
-          fact = goal_anywhere c (goal_of aim payload) s Find tt;
+          fact = goal_anywhere c (goal_of_aim aim payload) s Find tt;
         };
         done = λ e. elim e [ ];
       }

@@ -21,10 +21,10 @@ use Rattle.dfu_sim.specs.declared.fault.LinkFault.TheVariants as fault
 use Rattle.dfu_sim.specs.declared.fault.OfferFault.TheVariants as offer_fault
 use Rattle.dfu_sim.specs.Course.{course_of}
 use Rattle.dfu_sim.specs.Happening.{Fate, Harm, Happening, Offers, Goes, Passes, Refuses}
-use Rattle.dfu_sim.specs.Opening.{goal_of}
-use Rattle.dfu_sim.specs.Play.{Answered, given, silent, Took, told, took, settled, IsAllowed}
+use Rattle.dfu_sim.specs.Opening.{goal_of_aim}
+use Rattle.dfu_sim.specs.Play.{Answered, given, silent, Took, told, took, settled, MayHappen}
 use Rattle.dfu_sim.specs.Bench.{Session, Nobody, Hosted, Bench, linked}
-use Rattle.dfu_sim.specs.Bytes.{was_refused, HostActsArmed, Happens, BytePlay}
+use Rattle.dfu_sim.specs.Bytes.{was_refused, HostActsArmed, HappensOnBench, BytePlay}
 use Rattle.dfu_sim.specs.Refusing.{first_offer_fault, IsOffered, IsBadOffer, IsRefused}
 use Rattle.dfu_sim.specs.Comes.{Means, refuses, happens, GivesWithUploaded, HasCome, HasComeAlone}
 use Rattle.dfu_sim.specs.Standing.{session_of, given_by, bench_of, link_state, SendsBytes, IsCountedIn}
@@ -32,7 +32,7 @@ use Rattle.dfu_sim.specs.inside.Acting.{ended, HasBegun}
 use Rattle.dfu_sim.proofs.Counted.{took_whole, told_whole}
 
 -- What may come with a session and without one may come.
-any_session : (s : Session) (h : Happening) → IsAllowed Nobody h → ((k : HostState) → IsAllowed (Hosted k) h) → IsAllowed s h
+any_session : (s : Session) (h : Happening) → MayHappen Nobody h → ((k : HostState) → MayHappen (Hosted k) h) → MayHappen s h
 any_session Nobody h none live = none
 any_session (Hosted k) h none live = live k
 
@@ -67,9 +67,9 @@ refusal_comes why w w' host gave e row = event_comes (Refuses why) silent refl (
 
 -- A restart that comes from outside: a reset of the bus, or a cut of the power.
 pub restart_comes : (h : Happening) (w w' : Shown) (host host' gave gave' : Option HostState) (report : Option Report)
-    → Means w.config h h → IsAllowed Nobody h → ((k : HostState) → IsAllowed (Hosted k) h) → SendsBytes (session_of host)
+    → Means w.config h h → MayHappen Nobody h → ((k : HostState) → MayHappen (Hosted k) h) → SendsBytes (session_of host)
     → IsCountedIn (session_of host) → w.slots.medium.fuse ≡ Whole
-    → Happens h (bench_of w host) (bench_of w' host') (told (session_of host)).answer
+    → HappensOnBench h (bench_of w host) (bench_of w' host') (told (session_of host)).answer
     → given_by gave' ≡ given (told (session_of host)).answer.gave (given_by gave) → report ≡ (told (session_of host)).answer.report
     → HasCome (link_state w host gave) h (link_state w' host' gave') (Ok report)
 restart_comes h w w' host host' gave gave' report means none live sized counted e row kept says =
@@ -167,8 +167,8 @@ idle_refused h why w (Some k) e is = absurd cc
 
 -- An event with which a session begins.
 pub begins_comes : (h event : Happening) (w : Shown) (host : Option HostState) (k : HostState) → is_some host ≡ false
-    → w.slots.medium.fuse ≡ Whole → Means w.config h event → IsAllowed Nobody event
-    → Happens event (bench_of w None) (bench_of w (Some k)) silent → HasComeAlone (bench_of w host) h (bench_of w (Some k)) (Ok None)
+    → w.slots.medium.fuse ≡ Whole → Means w.config h event → MayHappen Nobody event
+    → HappensOnBench event (bench_of w None) (bench_of w (Some k)) silent → HasComeAlone (bench_of w host) h (bench_of w (Some k)) (Ok None)
 begins_comes h event w None k n e means allowed row up =
     event_comes event silent means (record { allowed = allowed; unarmed = e; happens = row }) tt refl refl
 begins_comes h event w (Some j) k n e means allowed row up = absurd cc
@@ -215,7 +215,7 @@ pub offer_begins : (s : Setting) (aim : Aim) (file : List ℕ) (limits : Limits)
     (h : HostState)
     → f ≡ s.functional → ids ≡ s.ids → Found file content
     → ((why : HostFault) → (◌≡◌ {A = Result HostState HostFault} (Ok h) (Err why)) ↔ (first_offer_fault aim content f ids ≡ Some why))
-    → h ≡ started f (goal_of aim content.payload) limits → HasBegun s aim file limits h
+    → h ≡ started f (goal_of_aim aim content.payload) limits → HasBegun s aim file limits h
 offer_begins s aim file limits content f ids h e k found none is =
     let taken : first_offer_fault aim content s.functional s.ids ≡ None =
     subst (λ (x : Functional). first_offer_fault aim content x s.ids ≡ None) e
@@ -229,5 +229,5 @@ offer_begins s aim file limits content f ids h e k found none is =
         reads = found.1;
         taken = same_fault aim _ content s.functional s.ids refl refl ∙ taken;
       };
-      host = is ∙ ap (λ (x : Functional). started x (goal_of aim content.payload) limits) e;
+      host = is ∙ ap (λ (x : Functional). started x (goal_of_aim aim content.payload) limits) e;
     }

@@ -4,7 +4,7 @@ use Rattle.dfu_device.specs.Stage.{Request, Detach as AskDetach, GetStatus, ClrS
 use Rattle.dfu_device.specs.Outcome.{Situation, Luck, elapsed, was_reset}
 use Rattle.dfu_device.specs.Cases.{either_way}
 use Rattle.dfu_host.specs.Phases.{Goal, Phase, Find, FindAgain, Detach, Enter, Clear, Quit, WaitFind, ResetFind, Trouble, GiveUp, Heard}
-use Rattle.dfu_host.specs.Table.{deed, on_waited, on_reset, row}
+use Rattle.dfu_host.specs.Table.{deed, on_waited, on_reset, host_row}
 use Rattle.dfu_host.specs.CommonPhases.{IsCommon, IsSeeking}
 use Rattle.dfu_host.specs.RowLaws.{after_common}
 use Rattle.dfu_sim.specs.Course.{Course}
@@ -56,7 +56,7 @@ module _ (c : Profile) (offers : List (List ℕ)) (g : Goal) where
   module _ (some : HasBlocks c g) where
     -- The phase that follows, by what is heard.
     abbrev Follows : Phase → Heard → Phase
-    Follows phase = row (task_for c g) phase
+    Follows phase = host_row (task_for c g) phase
 
     -- A phase that asks for the status. What is known of the device is what is known in Find, which is nothing.
     seeks : (phase : Phase) (s : Situation) → IsCommon phase → IsSound offers s.stage → (course : Course) (l k : Luck)

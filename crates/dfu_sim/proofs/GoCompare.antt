@@ -9,7 +9,7 @@ use Rattle.dfu_host.specs.declared.report.Report.TheVariants.{Verified}
 use Rattle.dfu_host.specs.Blocks.{blocks, first}
 use Rattle.dfu_host.specs.BlockLaws.{first_next, last_short}
 use Rattle.dfu_host.specs.Phases.{ToCompare, Phase, Fetch, LastUploaded, Compare, Last, Over, Heard, Part}
-use Rattle.dfu_host.specs.Table.{deed, fetched, on_part, on_compared, row}
+use Rattle.dfu_host.specs.Table.{deed, fetched, on_part, on_compared, host_row}
 use Rattle.dfu_host.specs.Host.{IsOn}
 use Rattle.dfu_sim.specs.Course.{Course}
 use Rattle.dfu_sim.specs.Opening.{task_for}
@@ -71,7 +71,7 @@ module _ (c : Profile) (offers : List (List ℕ)) (p : List ℕ) (some : 0 < len
   -- Each phase of a host that compares and is not done goes quietly by each course.
   pub go_compare : (phase : Phase) (s : Situation) → IsOn phase → CompareFact c p phase s → IsSound offers s.stage → (course : Course)
       (l r : Luck)
-      → GoesQuietly c offers (ToCompare p) (row (task_for c (ToCompare p)) phase) s
+      → GoesQuietly c offers (ToCompare p) (host_row (task_for c (ToCompare p)) phase) s
       (acted c s (deed (task_for c (ToCompare p)) phase) course l r)
   go_compare (Compare k) s on h q course l r =
       let d = acted c s (deed (task_for c (ToCompare p)) (Compare k)) course l r in

@@ -7,7 +7,7 @@ use Rattle.dfu_host.specs.declared.report.Report.{Report}
 use Rattle.dfu_host.specs.declared.report.Report.TheVariants.{Installed, Unconfirmed, Verified}
 use Rattle.dfu_host.specs.Blocks.{blocks}
 use Rattle.dfu_host.specs.Phases.{ToLoad, Phase, Block, Ask, Poll, WaitPoll, Close, AskLast, Manifest, WaitManifest, WaitLast, Trouble, Last, Over, Heard}
-use Rattle.dfu_host.specs.Table.{deed, polled, manifested, asked, asked_last, row}
+use Rattle.dfu_host.specs.Table.{deed, polled_phase, manifested, asked_phase, asked_last, host_row}
 use Rattle.dfu_host.specs.RowLaws.{after_status, after_state}
 use Rattle.dfu_host.specs.Host.{IsOn}
 use Rattle.dfu_sim.specs.Session.{IsOneOf}
@@ -16,7 +16,7 @@ use Rattle.dfu_sim.specs.declared.course.Handling.{Handling}
 use Rattle.dfu_sim.specs.Opening.{task_for}
 use Rattle.dfu_sim.specs.Play.{Passed, waits_for, slipped, sent, acted}
 use Rattle.dfu_sim.specs.LinkAgreement.{IsSound}
-use Rattle.dfu_sim.specs.Fact.{IsIdle, IsInApp, EndsAs, Fact}
+use Rattle.dfu_sim.specs.Fact.{IsDfuIdle, IsInApp, EndsAs, Fact}
 use Rattle.dfu_sim.proofs.Quiet.{IsPolite}
 use Rattle.dfu_sim.proofs.Tells.{ToldBy, Asks}
 use Rattle.dfu_sim.proofs.Kept.{fact_time}
@@ -30,29 +30,29 @@ module _ (c : Profile) (offers : List (List ℕ)) (p : List ℕ) (some : 0 < len
   b = length (blocks p c.transfer)
 
   -- An action of a download that goes quietly goes well.
-  well : (phase : Phase) {s : Situation} {d : Passed} → GoesQuietly c offers (ToLoad p) (row (task_for c (ToLoad p)) phase) s d
+  well : (phase : Phase) {s : Situation} {d : Passed} → GoesQuietly c offers (ToLoad p) (host_row (task_for c (ToLoad p)) phase) s d
       → GoesWell c offers p phase s d
   well phase g = record { moves = quietly g.quiet.moves; sound = g.quiet.sound; next = g.next }
 
   -- A phase that asks goes well, if the fact of the phase after it comes of what is known then.
   asks : (r : Request) (phase : Phase) (s : Situation) → IsPolite r → Asks r phase → Fact c p phase s → IsSound offers s.stage
       → (course : Course) (l k : Luck) → ((d : Situation) (heard : Heard) → Knows c offers p phase d heard
-      → Fact c p (row (task_for c (ToLoad p)) phase heard) d) → GoesWell c offers p phase s (sent c s r course l k)
+      → Fact c p (host_row (task_for c (ToLoad p)) phase heard) d) → GoesWell c offers p phase s (sent c s r course l k)
   asks r phase s polite a h q course l k f =
-      well phase (go_asking c offers (ToLoad p) r p phase (row (task_for c (ToLoad p)) phase) s polite a h q course l k f)
+      well phase (go_asking c offers (ToLoad p) r p phase (host_row (task_for c (ToLoad p)) phase) s polite a h q course l k f)
 
-  reset_in_place : (s : Situation) (stage : Stage) → (s.image ≡ p) × IsIdle stage → (s.image ≡ p) × IsInApp (reset_stage stage)
+  reset_in_place : (s : Situation) (stage : Stage) → (s.image ≡ p) × IsDfuIdle stage → (s.image ≡ p) × IsInApp (reset_stage stage)
   reset_in_place s InDfuIdle h = h
   reset_in_place s stage h = elim h.1 [ ]
 
-  reset_ends : (s : Situation) (stage : Stage) (report : Report) → EndsAs c p (record { image = s.image; stage = stage }) IsIdle report
+  reset_ends : (s : Situation) (stage : Stage) (report : Report) → EndsAs c p (record { image = s.image; stage = stage }) IsDfuIdle report
       → EndsAs c p (record { image = s.image; stage = reset_stage stage }) IsInApp report
   reset_ends s stage Installed h = let x = reset_in_place s stage (h.1, h.2) in (h.0, x.0, x.1)
   reset_ends s stage Verified h = reset_in_place s stage h
   reset_ends s stage report h = h
 
   -- A session that ends in dfuIDLE ends in appIDLE after the last reset, whatever time slips in.
-  pub last_ends : (s : Situation) (report : Report) (how : Handling) (l : Luck) → EndsAs c p s IsIdle report
+  pub last_ends : (s : Situation) (report : Report) (how : Handling) (l : Luck) → EndsAs c p s IsDfuIdle report
       → EndsAs c p (slipped c (was_reset s) how l) IsInApp report
   last_ends s report how l h = slipped_fact c offers p (Over report) s how l (reset_ends s s.stage report h)
 
@@ -65,10 +65,10 @@ module _ (c : Profile) (offers : List (List ℕ)) (p : List ℕ) (some : 0 < len
       → (course : Course) (l k : Luck) → GoesWell c offers p phase s (acted c s (deed (task_for c (ToLoad p)) phase) course l k)
   go_download (Block n) s on h q o course l k = go_block c sized offers p n s.image s.stage h.0 h.1 q course l k
   go_download (Ask n) s on h q o course l k = asks GetState (Ask n) s tt tt h q course l k
-      (λ d heard w. after_state (λ x. Fact c p x d) (λ x. ToldBy x d.stage) heard (asked n) Trouble (Ask n)
+      (λ d heard w. after_state (λ x. Fact c p x d) (λ x. ToldBy x d.stage) heard (asked_phase n) Trouble (Ask n)
       (λ state. asked_fact c p some sized n state d.image d.stage w.fact.0 w.fact.1) tt w.fact w.told)
   go_download (Poll n) s on h q o course l k = asks GetStatus (Poll n) s tt tt h q course l k
-      (λ d heard w. after_status (λ x. Fact c p x d) (λ x. ToldBy x d.stage) heard (polled (Block 0) b n) Trouble (Poll n)
+      (λ d heard w. after_status (λ x. Fact c p x d) (λ x. ToldBy x d.stage) heard (polled_phase (Block 0) b n) Trouble (Poll n)
       (λ code poll state. polled_fact c p some sized n code poll state d.image d.stage w.fact.0 w.fact.1) tt w.fact w.told)
   go_download (WaitPoll n poll) s on h q o course l k = well (WaitPoll n poll)
       (go_wait c offers (ToLoad p) (Poll n) (WaitPoll n poll) s poll course l (passes (Poll n) s poll course l h) q)

@@ -4,7 +4,7 @@ use Rattle.dfu_device.specs.Stage.{Profile, Stage, InAppDetach}
 use Rattle.dfu_device.specs.Table.{reset_stage}
 use Rattle.dfu_device.specs.Outcome.{Situation, Luck, elapsed, was_reset}
 use Rattle.dfu_host.specs.Phases.{ToFetch, Phase, Fetch, LastUploaded, Over, OverUploaded}
-use Rattle.dfu_host.specs.Table.{deed, row}
+use Rattle.dfu_host.specs.Table.{deed, host_row}
 use Rattle.dfu_host.specs.Host.{IsOn}
 use Rattle.dfu_sim.specs.declared.course.Handling.{Handling}
 use Rattle.dfu_sim.specs.declared.course.Handling.TheVariants.{Late}
@@ -28,7 +28,7 @@ module _ (c : Profile) (offers : List (List ℕ)) where
 
   -- Each phase of an upload's host that is not done goes quietly by each course.
   pub go_upload : (phase : Phase) (s : Situation) → IsOn phase → FetchFact phase s → IsSound offers s.stage → (course : Course) (l k : Luck)
-      → GoesQuietly c offers ToFetch (row (task_for c ToFetch) phase) s (acted c s (deed (task_for c ToFetch) phase) course l k)
+      → GoesQuietly c offers ToFetch (host_row (task_for c ToFetch) phase) s (acted c s (deed (task_for c ToFetch) phase) course l k)
   go_upload (Fetch n kept) s on h q course l k = go_fetch c offers n kept s.image s.stage h.0 h.1 q course l k
   go_upload (LastUploaded kept) s on h q course l k = go_reset c offers ToFetch (OverUploaded kept) (LastUploaded kept) s course l
       (h.0 ∙ sym (slipped_image s course.handling l))

@@ -3,18 +3,19 @@ use Rattle.std.proofs.Common.{◌≡◌, List, ℕ, refl}
 use Rattle.dfu_device.specs.Stage.{Profile}
 use Rattle.dfu_device.specs.Outcome.{Situation}
 use Rattle.dfu_host.specs.Phases.{Goal, ToLoad, ToVerify, Phase, Find, Last, Heard, WasReset}
-use Rattle.dfu_host.specs.Table.{deed, row, checked, goal_after}
+use Rattle.dfu_host.specs.Table.{deed, host_row, goal_after_reset, goal_after}
 use Rattle.dfu_sim.specs.Opening.{task_for}
 use Rattle.dfu_sim.specs.Agreement.{live_goal}
 use Rattle.dfu_sim.specs.Fact.{Fact, GoalFact}
 
 -- What holds of a goal and of the one after its last reset holds of the one that follows.
-pub after_goal : (P : Goal → Type 0) (g : Goal) → P g → P (checked g) → (phase : Phase) (heard : Heard) → P (goal_after g phase heard)
+pub after_goal : (P : Goal → Type 0) (g : Goal) → P g → P (goal_after_reset g) → (phase : Phase) (heard : Heard) →
+    P (goal_after g phase heard)
 after_goal P g x y (Last report) WasReset = y
 after_goal P g x y (Last report) heard = x
 after_goal P g x y phase heard = x
 
-live_checked : (g : Goal) → live_goal (checked g) ≡ live_goal g
+live_checked : (g : Goal) → live_goal (goal_after_reset g) ≡ live_goal g
 live_checked (ToVerify p) = refl
 live_checked g = refl
 
@@ -25,13 +26,13 @@ live_after g phase heard = after_goal (λ x. live_goal x ≡ live_goal g) g refl
 module _ (c : Profile) where
   -- The fact of the goal and the phase that follow what is heard.
   abbrev pub Next : Goal → Situation → Phase → Heard → Type 0
-  Next g s phase heard = GoalFact c (goal_after g phase heard) (row (task_for c g) phase heard) s
+  Next g s phase heard = GoalFact c (goal_after g phase heard) (host_row (task_for c g) phase heard) s
 
   -- Where the goal stays after the last reset, the fact of the phase that follows is that of the goal.
-  pub goal_stays : (g : Goal) → ((phase : Phase) (s : Situation) → GoalFact c g phase s → GoalFact c (checked g) phase s)
-      → (s : Situation) (phase : Phase) (heard : Heard) → GoalFact c g (row (task_for c g) phase heard) s → Next g s phase heard
+  pub goal_stays : (g : Goal) → ((phase : Phase) (s : Situation) → GoalFact c g phase s → GoalFact c (goal_after_reset g) phase s)
+      → (s : Situation) (phase : Phase) (heard : Heard) → GoalFact c g (host_row (task_for c g) phase heard) s → Next g s phase heard
   goal_stays g f s phase heard h =
-      after_goal (λ x. GoalFact c x (row (task_for c g) phase heard) s) g h (f (row (task_for c g) phase heard) s h) phase heard
+      after_goal (λ x. GoalFact c x (host_row (task_for c g) phase heard) s) g h (f (host_row (task_for c g) phase heard) s h) phase heard
 
   -- A session that verifies does in each phase what a download does.
   pub same_deed : (p : List ℕ) (phase : Phase) → deed (task_for c (ToVerify p)) phase ≡ deed (task_for c (ToLoad p)) phase
@@ -39,7 +40,7 @@ module _ (c : Profile) where
   same_deed p phase = refl
 
   -- And what follows is what follows in a download, but for the last reset, after which it begins anew to compare.
-  pub verify_next : (p : List ℕ) (s : Situation) (phase : Phase) (heard : Heard) → Fact c p (row (task_for c (ToLoad p)) phase heard) s
+  pub verify_next : (p : List ℕ) (s : Situation) (phase : Phase) (heard : Heard) → Fact c p (host_row (task_for c (ToLoad p)) phase heard) s
       → Next (ToVerify p) s phase heard
   verify_next p s (Last report) WasReset h = tt
   verify_next p s (Last report) heard h = h

@@ -24,7 +24,7 @@ use Rattle.dfu_sim.specs.Course.{course_of}
 use Rattle.dfu_sim.specs.Happening.{Fate, CutIn, Fail, Lie, Refusing, Harm, Happening}
 use Rattle.dfu_sim.specs.Bench.{Hosted, Bench}
 use Rattle.dfu_sim.specs.Play.{Answered, took, heard_as, remembered, heard_over, waits_for}
-use Rattle.dfu_sim.specs.Bytes.{fuse_of, armed, bus_was_reset, HearsBack, Takes, Reaches, once, Sends, Slips, Acts, left_by, NextAction, Happens}
+use Rattle.dfu_sim.specs.Bytes.{fuse_of, armed, bus_was_reset, HearsBack, TakesSetup, ReachesDevice, once, Sends, Slips, Acts, device_left_by, NextAction, HappensOnBench}
 use Rattle.dfu_sim.specs.Comes.{happens}
 use Rattle.dfu_sim.specs.OneResult.{SameDevice, AreOne, HarmsAWrite, OneResult}
 use Rattle.dfu_sim.proofs.Fates.{all_remembered}
@@ -45,12 +45,12 @@ one_heard x same e f =
 
 -- A request that comes once: there is one answer.
 reached_once : {x : Option Objection} {setup body : List ℕ} {w w' : Shown} {came : Back} {out : List ℕ}
-    → Reaches x setup body Once w came out w' → (a : Answer) × (came ≡ back.Answered a) × Takes x setup body w a out w'
+    → ReachesDevice x setup body Once w came out w' → (a : Answer) × (came ≡ back.Answered a) × TakesSetup x setup body w a out w'
 reached_once (once {a = a} h) = (a, refl, h)
 
 module _ (q : Asked) (body : List ℕ) (is : IsHosts q body) (w : Shown) (known : IsKnown w.slots.medium.fuse) (x : Option Objection) where
   taken_once : (setup setup2 : List ℕ) (w' v' : Shown) (a b : Answer) (out other : List ℕ) → IsAsked q setup → IsAsked q setup2
-      → Takes x setup body w a out w' → Takes x setup2 body w b other v'
+      → TakesSetup x setup body w a out w' → TakesSetup x setup2 body w b other v'
       → DoneOnce (plan_on q body x w) (asked_length q) w w' v' a b out other
   taken_once setup setup2 w' v' a b out other asked asked2 h k =
       done_once (plan_on q body x w) (asked_length q) w w' v' a b out other known
@@ -58,7 +58,8 @@ module _ (q : Asked) (body : List ℕ) (is : IsHosts q body) (w : Shown) (known 
 
   -- A request whose answer comes back: one thing is heard of it.
   answered_once : (setup setup2 : List ℕ) (w' v' : Shown) (heard heard2 : Heard) (came came2 : Back) (out out2 : List ℕ)
-      → IsAsked q setup → IsAsked q setup2 → Reaches x setup body Once w came out w' → Reaches x setup2 body Once w came2 out2 v'
+      → IsAsked q setup → IsAsked q setup2 → ReachesDevice x setup body Once w came out w' →
+      ReachesDevice x setup2 body Once w came2 out2 v'
       → HearsBack (Send q body) came out heard → HearsBack (Send q body) came2 out2 heard2 → ActedOnce w' v' heard heard2
   answered_once setup setup2 w' v' heard heard2 came came2 out out2 asked asked2 h k says says2 =
       let a = reached_once h in
@@ -113,7 +114,7 @@ fuse_known : (harming : Harming) (harm : Harm) → HarmsAWrite harming → IsKno
 fuse_known NoWrite harm harms = elim harms [ ]
 fuse_known harming harm harms = tt
 
-left_same : (harming : Harming) {w v : Shown} → SameDevice w v → SameDevice (left_by harming w) (left_by harming v)
+left_same : (harming : Harming) {w v : Shown} → SameDevice w v → SameDevice (device_left_by harming w) (device_left_by harming v)
 left_same CutsPower same = powered_same same
 left_same harming same = disarmed_same same
 
@@ -134,7 +135,7 @@ action_once fate harm b c d x y harms g k =
     (fuse_known harming harm harms) g.gone.acted.acts acts in
     record {
       device = subst (λ (z : Shown). SameDevice z d.device) (sym g.gone.device)
-          (subst (λ (z : Shown). SameDevice (left_by harming g.gone.last) z) (sym k.gone.device) (left_same harming one.device));
+          (subst (λ (z : Shown). SameDevice (device_left_by harming g.gone.last) z) (sym k.gone.device) (left_same harming one.device));
       rule = λ room. took g.host (remembered one.hears room);
       first = (
         one.first.0,
@@ -151,4 +152,5 @@ action_once fate harm b c d x y harms g k =
 pub one_result : OneResult
 one_result b c d fate harm x y harms (happens {event = event} means play) (happens {event = other} same again) =
     action_once fate harm b c d x y harms
-    (subst (λ (e : Happening). Happens e b c x) means play.happens) (subst (λ (e : Happening). Happens e b d y) same again.happens)
+    (subst (λ (e : Happening). HappensOnBench e b c x) means play.happens)
+    (subst (λ (e : Happening). HappensOnBench e b d y) same again.happens)

@@ -12,7 +12,7 @@ use Rattle.dfu_sim.specs.Agreement.{AgreesOn, intake_of, live_of, live_goal, IsS
 use Rattle.dfu_sim.specs.Bench.{Session, Nobody, Hosted, Bench, LinkState}
 use Rattle.dfu_sim.specs.Happening.{Happening, happening}
 use Rattle.dfu_sim.specs.Following.{IsFollowed, AllFollow}
-use Rattle.dfu_sim.specs.Headline.{Begun, WithOffer, AsUpload, begun, WasOffered, IsLastPayload, IsWaiting, IsGoalPayload, IsLivePayload, HeadlineHolds, StepKeepsHeadline, no_event, one_event, EventsKeepHeadline, HoldsAtRest}
+use Rattle.dfu_sim.specs.Headline.{Begun, WithOffer, AsUpload, begun_now, WasOffered, IsLastPayload, IsWaiting, IsGoalPayload, IsLivePayload, HeadlineHolds, StepKeepsHeadline, no_event, one_event, EventsKeepHeadline, HoldsAtRest}
 use Rattle.dfu_sim.specs.BegunBy.{begun_by}
 use Rattle.dfu_sim.proofs.Offered.{IsOfPast, past_on, in_place_on}
 use Rattle.dfu_sim.proofs.Agreeing.{closed_in, goal_in, session_in, closed_sound, live_offered, machine_with}
@@ -129,13 +129,13 @@ keeps_on {w = w} h follow k = holds_after h (past_then k) (follow (machine_at w 
 
 -- The events of callers.
 
-begun_same : (event : Event) (past : List Begun) → begun_by (happening event) past ≡ begun event past
+begun_same : (event : Event) (past : List Begun) → begun_by (happening event) past ≡ begun_now event past
 begun_same Abort past = refl
 begun_same event past = refl
 
 keeps : {factory : List ℕ} {past : List Begun} {before : Option Report} {w w' : LinkState} (event : Event) {report : Option Report}
     → ((m : Machine) → AgreesOn w.bench w.up m → IsFollowed w (happening event) w' report m) → HeadlineHolds factory past before w.bench
-    → HeadlineHolds factory (begun event past) report w'.bench
+    → HeadlineHolds factory (begun_now event past) report w'.bench
 keeps {factory = factory} {past = past} {w' = w'} event {report = report} follow k =
     subst (λ (sessions : List Begun). HeadlineHolds factory sessions report w'.bench) (begun_same event past)
     (keeps_on (happening event) follow k)
@@ -152,7 +152,7 @@ pub chain_keeps : {w w' : LinkState} {reports : List Report} (events : List Even
 chain_keeps [] no_more factory past before k = no_event
 chain_keeps (event ∷ events) (one_more {report = report} s more) factory past before k =
     let next = keeps event s.legal k in
-    one_event next (chain_keeps events more factory (begun event past) report next)
+    one_event next (chain_keeps events more factory (begun_now event past) report next)
 
 -- And one that stopped.
 pub stopped_keeps : {w w' : LinkState} {reports : List Report} (n : ℕ) (events : List Event)

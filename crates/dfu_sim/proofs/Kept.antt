@@ -8,7 +8,7 @@ use Rattle.dfu_host.specs.declared.report.Report.{Report}
 use Rattle.dfu_host.specs.declared.report.Report.TheVariants.{Installed, Verified}
 use Rattle.dfu_host.specs.Blocks.{first}
 use Rattle.dfu_host.specs.Phases.{Phase, Block, Ask, Poll, WaitPoll, Close, AskLast, Manifest, WaitManifest, Last, Over}
-use Rattle.dfu_sim.specs.Fact.{IsIdle, IsInApp, Begun, Asking, BlockIn, AllTaken, AskingLast, Managing, EndsAs, Fact}
+use Rattle.dfu_sim.specs.Fact.{IsDfuIdle, IsInApp, AtBlock, Asking, BlockIn, AllTaken, AskingLast, Managing, EndsAs, Fact}
 use Rattle.dfu_sim.proofs.Tells.{Asks}
 
 module _ (c : Profile) (i : List ℕ) where
@@ -55,7 +55,7 @@ module _ (c : Profile) (i : List ℕ) where
   asking_time p t n ms InDfuIdle h luck = h
   asking_time p t n ms stage h luck = search
 
-  begun_time : (p : List ℕ) (t n ms : ℕ) (stage : Stage) → Begun p t n stage → Then (λ s. Begun p t n s.stage) (time_plan c stage ms)
+  begun_time : (p : List ℕ) (t n ms : ℕ) (stage : Stage) → AtBlock p t n stage → Then (λ s. AtBlock p t n s.stage) (time_plan c stage ms)
   begun_time p t n ms InDfuIdle h luck = h
   begun_time p t n ms stage h luck = search
 
@@ -71,13 +71,13 @@ module _ (c : Profile) (i : List ℕ) where
   whole_time p ms (InDownloadIdle taken number) h luck = h
   whole_time p ms stage h luck = elim h [ ]
 
-  idle_time : (p : List ℕ) (ms : ℕ) (stage : Stage) → (i ≡ p) × IsIdle stage
-      → Then (λ s. (s.image ≡ p) × IsIdle s.stage) (time_plan c stage ms)
+  idle_time : (p : List ℕ) (ms : ℕ) (stage : Stage) → (i ≡ p) × IsDfuIdle stage
+      → Then (λ s. (s.image ≡ p) × IsDfuIdle s.stage) (time_plan c stage ms)
   idle_time p ms InDfuIdle h luck = h
   idle_time p ms stage h luck = elim h.1 [ ]
 
   last_report_time : (p : List ℕ) (ms : ℕ) (report : Report) (stage : Stage)
-      → EndsAs c p (record { image = i; stage = stage }) IsIdle report → Then (λ s. EndsAs c p s IsIdle report) (time_plan c stage ms)
+      → EndsAs c p (record { image = i; stage = stage }) IsDfuIdle report → Then (λ s. EndsAs c p s IsDfuIdle report) (time_plan c stage ms)
   last_report_time p ms Installed stage h luck = let x = idle_time p ms stage (h.1, h.2) luck in (h.0, x.0, x.1)
   last_report_time p ms Verified stage h luck = idle_time p ms stage h luck
   last_report_time p ms report stage h luck = h

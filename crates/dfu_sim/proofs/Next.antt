@@ -10,7 +10,7 @@ use Rattle.dfu_device.specs.Outcome.{Situation}
 use Rattle.dfu_host.specs.Blocks.{blocks, first}
 use Rattle.dfu_host.specs.BlockLaws.{first_all}
 use Rattle.dfu_host.specs.Phases.{ToLoad, Phase, Block}
-use Rattle.dfu_host.specs.Table.{troubled, polled, manifested, asked, asked_last}
+use Rattle.dfu_host.specs.Table.{troubled, polled_phase, manifested, asked_phase, asked_last}
 use Rattle.dfu_host.specs.RowLaws.{after_trouble}
 use Rattle.dfu_sim.specs.Opening.{task_for}
 use Rattle.dfu_sim.specs.Fact.{Asking, BlockIn, AskingLast, Managing, Fact}
@@ -30,7 +30,7 @@ module _ (c : Profile) (p : List ℕ) (some : 0 < length (blocks p c.transfer)) 
   -- The fact of the phase after a status while block n is written.
   pub polled_fact : (n : ℕ) (code : Code) (poll : ℕ) (state : State) (image : List ℕ) (stage : Stage) → n < b
       → BlockIn (first p c.transfer (suc n)) stage → Tells state stage
-      → Fact c p (polled (Block 0) b n code poll state) (record { image = image; stage = stage })
+      → Fact c p (polled_phase (Block 0) b n code poll state) (record { image = image; stage = stage })
   polled_fact n code poll DownloadSync image stage l h t = (l, h)
   polled_fact n code poll DownloadBusy image stage l h t = (l, h)
   polled_fact n code poll DownloadIdle image (InDownloadIdle taken number) l h t =
@@ -57,7 +57,7 @@ module _ (c : Profile) (p : List ℕ) (some : 0 < length (blocks p c.transfer)) 
 
   -- The fact of the phase after a state, where the answer to block n was lost.
   pub asked_fact : (n : ℕ) (state : State) (image : List ℕ) (stage : Stage) → n < b → Asking p c.transfer n stage → Tells state stage
-      → Fact c p (asked n state) (record { image = image; stage = stage })
+      → Fact c p (asked_phase n state) (record { image = image; stage = stage })
   asked_fact n DownloadSync image (InDownloadSync before block number) l h t = (l, h)
   asked_fact zero DfuIdle image InDfuIdle l h t = (l, h)
   asked_fact (suc n) DownloadIdle image (InDownloadIdle taken number) l h t = (l, h)

@@ -8,17 +8,17 @@ use Rattle.dfu_host.specs.declared.report.Report.{Report}
 use Rattle.dfu_host.specs.declared.report.Report.TheVariants.{Installed, Verified}
 use Rattle.dfu_host.specs.Host.{IsOn}
 use Rattle.dfu_host.specs.Phases.{Goal, ToLoad, ToFetch, ToVerify, ToCompare, Phase, Block, Ask, Poll, WaitPoll, Close, AskLast, Manifest, WaitManifest, Fetch, LastUploaded, Compare, Last, Over, OverUploaded}
-use Rattle.dfu_sim.specs.Session.{Live, Ends, ends_not, drops}
-use Rattle.dfu_sim.specs.Play.{refused}
+use Rattle.dfu_sim.specs.Session.{Live, MayDrop, ends_not, drops}
+use Rattle.dfu_sim.specs.Play.{image_refused}
 use Rattle.dfu_sim.specs.Bench.{Session, Nobody, Hosted}
 use Rattle.dfu_sim.specs.LinkAgreement.{pending_of, IsSound}
-use Rattle.dfu_sim.specs.Fact.{IsIdle, EndsAs, Fact, FetchFact, CompareFact, GoalFact, SessionFact}
+use Rattle.dfu_sim.specs.Fact.{IsDfuIdle, EndsAs, Fact, FetchFact, CompareFact, GoalFact, SessionFact}
 use Rattle.dfu_sim.proofs.Taking.{shown}
 
 module _ (why : Objection) (offers : List (List ℕ)) where
   -- What is pending is dropped, or stays.
   pub refusal_ends : (i : List ℕ) (stage : Stage) (live : Live) (up : List ℕ)
-      → Ends (shown offers i (pending_of stage) live up) (shown offers i (pending_of (refuse_stage why stage)) live up)
+      → MayDrop (shown offers i (pending_of stage) live up) (shown offers i (pending_of (refuse_stage why stage)) live up)
   refusal_ends i (InManifestSync taken) live up = drops
   refusal_ends i (InManifest taken passed) live up = drops
   refusal_ends i stage live up = ends_not
@@ -42,14 +42,14 @@ module _ (c : Profile) (why : Objection) (i : List ℕ) where
   stage_refused F sync busy (InManifest taken passed) h = busy taken passed h
   stage_refused F sync busy stage h = h
 
-  ends_sync : (p : List ℕ) (report : Report) (taken : List ℕ) → EndsAs c p (At (InManifestSync taken)) IsIdle report
-      → EndsAs c p (At (InError (objection_code why))) IsIdle report
+  ends_sync : (p : List ℕ) (report : Report) (taken : List ℕ) → EndsAs c p (At (InManifestSync taken)) IsDfuIdle report
+      → EndsAs c p (At (InError (objection_code why))) IsDfuIdle report
   ends_sync p Installed taken h = elim h.2 [ ]
   ends_sync p Verified taken h = elim h.1 [ ]
   ends_sync p report taken h = h
 
-  ends_busy : (p : List ℕ) (report : Report) (taken : List ℕ) (passed : ℕ) → EndsAs c p (At (InManifest taken passed)) IsIdle report
-      → EndsAs c p (At (InError (objection_code why))) IsIdle report
+  ends_busy : (p : List ℕ) (report : Report) (taken : List ℕ) (passed : ℕ) → EndsAs c p (At (InManifest taken passed)) IsDfuIdle report
+      → EndsAs c p (At (InError (objection_code why))) IsDfuIdle report
   ends_busy p Installed taken passed h = elim h.2 [ ]
   ends_busy p Verified taken passed h = elim h.1 [ ]
   ends_busy p report taken passed h = h
@@ -126,7 +126,7 @@ module _ (c : Profile) (why : Objection) (i : List ℕ) where
 
 -- What holds of a link's session holds after a refusal.
 pub refusal_fact : (c : Profile) (why : Objection) (s : Situation) (session : Session) → SessionFact c s session
-    → SessionFact c (refused why s) session
+    → SessionFact c (image_refused why s) session
 refusal_fact c why s Nobody f = tt
 refusal_fact c why s (Hosted h) f = record {
   task_is = f.task_is;

@@ -1,7 +1,7 @@
 -- What a session machine has was offered by the sessions that have begun.
 use Rattle.std.proofs.Common.{◌≡◌, ◌⊎◌, inl, inr, ℕ, Bool, List, [], ◌∷◌, ◌++◌, Option, sym, ◌∙◌, subst}
 use Rattle.dfu_host.specs.declared.report.Report.{Report}
-use Rattle.dfu_sim.specs.Session.{Machine, Loading, IsOneOf, Says, says_not, Kind, AnOffer, AnUpload, SaysInPlace, Step, offered, uploads, restarts, refuses, goes, stops, and_then, said}
+use Rattle.dfu_sim.specs.Session.{Machine, Loading, IsOneOf, SaysReport, says_not, Kind, AnOffer, AnUpload, SaysInPlace, MachineStep, offered, uploads, restarts, refuses, goes, stops, and_then, said}
 use Rattle.dfu_sim.specs.Simulation.{offers_after}
 use Rattle.dfu_sim.specs.Bench.{LinkState}
 use Rattle.dfu_sim.specs.Happening.{Happening, Offers, Uploads}
@@ -12,7 +12,7 @@ use Rattle.dfu_sim.proofs.Saying.{begins_live, ends_live, only_offered, step_liv
 
 -- What is live after a step.
 
-says_live : {tolerant : Bool} {m m' : Machine} {report : Option Report} (x : List ℕ) → Says tolerant m report m' → m'.live ≡ Loading x
+says_live : {tolerant : Bool} {m m' : Machine} {report : Option Report} (x : List ℕ) → SaysReport tolerant m report m' → m'.live ≡ Loading x
     → m.live ≡ Loading x
 says_live x says_not e = e
 says_live x s e = absurd cc
@@ -24,7 +24,7 @@ IsLiveBy AnUpload m x = ⊥
 IsLiveBy kind m x = m.live ≡ Loading x
 
 live_by : {tolerant : Bool} {t : ℕ} {kind : Kind} {m m' : Machine} {report : Option Report} (x : List ℕ)
-    → Step tolerant t kind m report m' → m'.live ≡ Loading x → IsLiveBy kind m x
+    → MachineStep tolerant t kind m report m' → m'.live ≡ Loading x → IsLiveBy kind m x
 live_by x (offered none) e = cc
 live_by x (uploads none) e = absurd cc
 live_by x (restarts s plain) e = says_live x s e
@@ -32,7 +32,7 @@ live_by x (refuses d) e = sym (ends_live d) ∙ e
 live_by x (goes b d s) e = sym (ends_live d ∙ begins_live b) ∙ says_live x s e
 live_by x s e = e
 
-in_place_by : {tolerant : Bool} {t : ℕ} {kind : Kind} {m m' : Machine} {report : Option Report} → Step tolerant t kind m report m'
+in_place_by : {tolerant : Bool} {t : ℕ} {kind : Kind} {m m' : Machine} {report : Option Report} → MachineStep tolerant t kind m report m'
     → SaysInPlace report → IsLiveBy kind m m'.cur
 in_place_by {tolerant = tolerant} {t = t} {m = m} (restarts s plain) e =
     step_live {tolerant = tolerant} {t = t} (restarts {m = m} s plain) e

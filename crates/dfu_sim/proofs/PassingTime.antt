@@ -7,10 +7,10 @@ use Rattle.dfu_device.specs.Cases.{either_way}
 use Rattle.dfu_host.specs.Blocks.{first}
 use Rattle.dfu_host.specs.Phases.{Goal, ToLoad, ToFetch, ToVerify, ToCompare, Phase, Fetch, LastUploaded, Compare, Last, Over, OverUploaded}
 use Rattle.dfu_host.specs.Host.{IsOn}
-use Rattle.dfu_sim.specs.Session.{Live, ATime, Step, passes, passes_installed}
+use Rattle.dfu_sim.specs.Session.{Live, ATime, MachineStep, passes, passes_installed}
 use Rattle.dfu_sim.specs.Bench.{Session, Nobody, Hosted}
 use Rattle.dfu_sim.specs.LinkAgreement.{pending_of, IsSound}
-use Rattle.dfu_sim.specs.Fact.{IsIdle, Fetches, FetchFact, CompareFact, GoalFact, SessionFact}
+use Rattle.dfu_sim.specs.Fact.{IsDfuIdle, Fetches, FetchFact, CompareFact, GoalFact, SessionFact}
 use Rattle.dfu_sim.proofs.Kept.{fact_time}
 use Rattle.dfu_sim.proofs.Taking.{shown}
 
@@ -18,7 +18,8 @@ module _ (c : Profile) (offers : List (List ℕ)) where
   -- What comes of this plan of a time is a step of the session machine, and bytes that were closed stay an offer.
   abbrev pub Steps : List ℕ → Stage → Live → List ℕ → Plan → Type 0
   Steps i stage live up p = let s = (outcome i p Works).after in
-      Step c.tolerant c.transfer ATime (shown offers i (pending_of stage) live up) None (shown offers s.image (pending_of s.stage) live up)
+      MachineStep c.tolerant c.transfer ATime (shown offers i (pending_of stage) live up) None
+      (shown offers s.image (pending_of s.stage) live up)
       × IsSound offers s.stage
 
   -- Time that passes installs what was closed, or does nothing.
@@ -48,8 +49,8 @@ module _ (c : Profile) (offers : List (List ℕ)) where
   fetches_time n kept image ms (InUploadIdle place number) f = f
   fetches_time n kept image ms stage f = elim f [ ]
 
-  idle_time : (kept image : List ℕ) (ms : ℕ) (stage : Stage) → (kept ≡ image) × IsIdle stage
-      → let d = (outcome image (time_plan c stage ms) Works).after in (kept ≡ d.image) × IsIdle d.stage
+  idle_time : (kept image : List ℕ) (ms : ℕ) (stage : Stage) → (kept ≡ image) × IsDfuIdle stage
+      → let d = (outcome image (time_plan c stage ms) Works).after in (kept ≡ d.image) × IsDfuIdle d.stage
   idle_time kept image ms InDfuIdle f = f
   idle_time kept image ms stage f = elim f.1 [ ]
 

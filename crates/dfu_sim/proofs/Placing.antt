@@ -2,7 +2,7 @@
 use Rattle.std.proofs.Common.{◌⊎◌, inl, inr, ℕ, ◌+◌, ◌==◌, nat_lt, nat_le, max, not, List, [], ◌∷◌, length, take, drop, Option, Some, None, refl}
 use Rattle.dfu_device.specs.declared.objection.Objection.{Objection}
 use Rattle.dfu_device.specs.Stage.{Request, Dnload, Upload, GetStatus, ClrStatus, GetState, Ack, Profile, Stage, InAppDetach, InDfuIdle, InDownloadSync, InDownloadBusy, InDownloadIdle, InManifestSync, InManifestSyncComplete, InManifest, InManifestWaitReset, InUploadIdle, InError}
-use Rattle.dfu_device.specs.Table.{Plan, Sure, Writes, Commits, is_empty, error, objection_code, block_plan, further_plan, upload_plan, plan, time_plan}
+use Rattle.dfu_device.specs.Table.{Plan, Sure, Writes, Commits, has_no_bytes, error, objection_code, block_plan, further_plan, upload_plan, plan, time_plan}
 use Rattle.dfu_device.specs.Cases.{either_way}
 use Rattle.dfu_sim.specs.Play.{closes, plan_by}
 use Rattle.dfu_sim.specs.Headline.{IsWaiting}
@@ -71,7 +71,7 @@ row_leads : (c : Profile) (image : List ℕ) (st : Stage) (r : Request) → Lead
 row_leads c image InDfuIdle (Dnload number body) =
     let P : Plan → Type 0 = Leads InDfuIdle (Dnload number body) in
     either_way P (not c.can_download) _ _ (λ t m. absurd m)
-    (either_way P (is_empty body) _ _ (λ t m. absurd m) (block_leads c InDfuIdle [] 0 number body))
+    (either_way P (has_no_bytes body) _ _ (λ t m. absurd m) (block_leads c InDfuIdle [] 0 number body))
 row_leads c image InDfuIdle (Upload number size) = either_way (Leads InDfuIdle (Upload number size)) c.can_upload _ _
     (upload_leads c image InDfuIdle 0 0 number size) (λ t m. absurd m)
 row_leads c image (InDownloadSync before block number) GetStatus =
@@ -135,7 +135,7 @@ calm_upload c image number size =
 pub calm : (c : Profile) (image : List ℕ) (st : Stage) (r : Request) → IsDone st → IsCalm (plan c image st r)
 calm c image InDfuIdle (Dnload number body) d =
     either_way IsCalm (not c.can_download) _ _ (λ t m. absurd m)
-    (either_way IsCalm (is_empty body) _ _ (λ t m. absurd m) (calm_block c number body))
+    (either_way IsCalm (has_no_bytes body) _ _ (λ t m. absurd m) (calm_block c number body))
 calm c image InDfuIdle (Upload number size) d = either_way IsCalm c.can_upload _ _ (calm_upload c image number size) (λ t m. absurd m)
 calm c image InDfuIdle r d = λ t m. absurd m
 calm c image InManifestSyncComplete GetStatus d = λ t m. absurd m

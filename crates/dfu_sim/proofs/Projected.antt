@@ -14,9 +14,9 @@ use Rattle.dfu_sim.specs.Happening.{Fate, Harm, Happening, Goes, Passes, Cuts}
 use Rattle.dfu_sim.specs.declared.course.Harming.{Harming}
 use Rattle.dfu_sim.specs.declared.course.Harming.TheVariants.{CutsPower}
 use Rattle.dfu_sim.specs.Course.{Course, course_of}
-use Rattle.dfu_sim.specs.Play.{Answered, remembered, has_room, over, acted, took, told, played, gone, IsAllowed}
+use Rattle.dfu_sim.specs.Play.{Answered, remembered, has_room, over, acted, took, told, played, gone, MayHappen}
 use Rattle.dfu_sim.specs.Bench.{Session, Bench}
-use Rattle.dfu_sim.specs.Bytes.{fuse_of, armed, powered_up, left_by, link_of, NextAction, Happens, BytePlay}
+use Rattle.dfu_sim.specs.Bytes.{fuse_of, armed, powered_up, device_left_by, link_of, NextAction, HappensOnBench, BytePlay}
 use Rattle.dfu_sim.specs.Understood.{Shows, BytesShow}
 use Rattle.dfu_sim.proofs.Replies.{hosts_deed}
 use Rattle.dfu_sim.proofs.Actions.{armed_profile, armed_situation, Went, acts_go}
@@ -35,15 +35,15 @@ powered_situation w = λ k. record { image = image_restarted w.slots Whole k; st
 powered_profile : (w : Shown) → profile (powered_up w) ≡ profile w
 powered_profile w = λ k. record (profile w) { capacity = room_restarted w.slots Whole k }
 
-after_situation : (harming : Harming) (w : Shown) → situation (left_by harming w) ≡ over harming (situation w)
+after_situation : (harming : Harming) (w : Shown) → situation (device_left_by harming w) ≡ over harming (situation w)
 after_situation CutsPower w = powered_situation w
 after_situation harming w = armed_situation w Whole
 
-after_profile : (harming : Harming) (w : Shown) → profile (left_by harming w) ≡ profile w
+after_profile : (harming : Harming) (w : Shown) → profile (device_left_by harming w) ≡ profile w
 after_profile CutsPower w = powered_profile w
 after_profile harming w = armed_profile w Whole
 
-after_whole : (harming : Harming) (w : Shown) → (left_by harming w).slots.medium.fuse ≡ Whole
+after_whole : (harming : Harming) (w : Shown) → (device_left_by harming w).slots.medium.fuse ≡ Whole
 after_whole CutsPower w = refl
 after_whole harming w = refl
 
@@ -66,7 +66,7 @@ heard_in phase heard x true e h = e
 heard_in phase heard (Part bytes) false e h = let none : false ≡ true = h e in absurd cc
 heard_in phase heard x false e h = e
 
-goes_show : (fate : Fate) (harm : Harm) (b b' : Bench) (answer : Answered) → IsAllowed b.session (Goes fate harm)
+goes_show : (fate : Fate) (harm : Harm) (b b' : Bench) (answer : Answered) → MayHappen b.session (Goes fate harm)
     → NextAction b.session fate harm b b' answer → Showed b (Goes fate harm) (fuse_of (course_of fate).harming harm) b' answer
 goes_show fate harm b b' answer allowed g =
     let d = deed g.host.task g.host.phase in
@@ -101,7 +101,7 @@ goes_show fate harm b b' answer allowed g =
     }
 
 -- An event that goes at the luck that the medium works, whatever it does.
-at_luck : (b b' : Bench) (event : Happening) (answer : Answered) → IsAllowed b.session event
+at_luck : (b b' : Bench) (event : Happening) (answer : Answered) → MayHappen b.session event
     → played (profile b.device) (link_of b) event Works Works true ≡ record { link = link_of b'; answer = answer }
     → profile b'.device ≡ profile b.device → b'.device.slots.medium.fuse ≡ Whole → Showed b event Whole b' answer
 at_luck b b' event answer allowed same fixed whole = record {
@@ -114,7 +114,7 @@ at_luck b b' event answer allowed same fixed whole = record {
 }
 
 -- An event that comes at once to this bench.
-at_once : (b b' now : Bench) (event : Happening) (answer said : Answered) → IsAllowed b.session event
+at_once : (b b' now : Bench) (event : Happening) (answer said : Answered) → MayHappen b.session event
     → played (profile b.device) (link_of b) event Works Works true ≡ record { link = link_of now; answer = said }
     → profile now.device ≡ profile b.device → now.device.slots.medium.fuse ≡ Whole
     → b' ≡ now → answer ≡ said → Showed b event Whole b' answer
@@ -122,8 +122,8 @@ at_once b b' now event answer said allowed same fixed whole e f =
     at_luck b b' event answer allowed (same ∙ (λ i. record { link = link_of (sym e i); answer = sym f i }))
     (ap (λ (z : Bench). profile z.device) e ∙ fixed) (ap (λ (z : Bench). z.device.slots.medium.fuse) e ∙ whole)
 
-shows : (event : Happening) (b b' : Bench) (answer : Answered) → IsAllowed b.session event → b.device.slots.medium.fuse ≡ Whole
-    → Happens event b b' answer → Showed b event (fuse_in event) b' answer
+shows : (event : Happening) (b b' : Bench) (answer : Answered) → MayHappen b.session event → b.device.slots.medium.fuse ≡ Whole
+    → HappensOnBench event b b' answer → Showed b event (fuse_in event) b' answer
 shows (Goes fate harm) b b' answer allowed unarmed g = goes_show fate harm b b' answer allowed g
 shows (Passes ms) b b' answer allowed unarmed (e, s, n) =
     let y = time_came ms b.device b'.device e in

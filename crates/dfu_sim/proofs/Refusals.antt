@@ -8,7 +8,7 @@ use Rattle.dfu_device.specs.Setting.{Setting}
 use Rattle.dfu_sim.specs.declared.fault.LinkFault.TheVariants as fault
 use Rattle.dfu_sim.specs.declared.fault.OfferFault.{OfferFault}
 use Rattle.dfu_sim.specs.declared.fault.OfferFault.TheVariants as offer_fault
-use Rattle.dfu_sim.specs.Play.{IsAllowed}
+use Rattle.dfu_sim.specs.Play.{MayHappen}
 use Rattle.dfu_sim.specs.Bench.{Session, Nobody, Hosted}
 use Rattle.dfu_sim.specs.Happening.{Happening, Offers, Uploads, Aborts, Goes}
 use Rattle.dfu_sim.specs.Refusing.{first_offer_fault, IsOffered, IsBadOffer, CanGive, IsBadUpload, IsLive}
@@ -67,22 +67,22 @@ one_refusal b h why other x y = search
 
 -- No play.
 
-busy_no : (s : Session) (h : Happening) → ((k : HostState) → IsAllowed (Hosted k) h → ⊥) → IsLive s → IsAllowed s h → ⊥
+busy_no : (s : Session) (h : Happening) → ((k : HostState) → MayHappen (Hosted k) h → ⊥) → IsLive s → MayHappen s h → ⊥
 busy_no Nobody h never live a = live
 busy_no (Hosted k) h never live a = never k a
 
 -- An event that is refused is no play.
 pub refused_no_play : RefusedIsNoPlay
 refused_no_play b (Offers aim file limits) fault.HostBusy event x m a =
-    busy_no b.session (Offers aim m.0 limits) (λ k no. no) x (subst (IsAllowed b.session) m.2 a)
+    busy_no b.session (Offers aim m.0 limits) (λ k no. no) x (subst (MayHappen b.session) m.2 a)
 refused_no_play b (Offers aim file limits) (fault.BadOffer f) event x m a = offered_not_bad b.device.config aim file m.0 f m.1 x.1
 refused_no_play b (Uploads limits) fault.HostBusy event x m a =
-    busy_no b.session (Uploads limits) (λ k no. no) x (subst (IsAllowed b.session) m.1 a)
+    busy_no b.session (Uploads limits) (λ k no. no) x (subst (MayHappen b.session) m.1 a)
 refused_no_play b (Uploads limits) (fault.BadOffer f) event x m a = bad_or_given b.device.config f x.1 m.0
 refused_no_play b Aborts fault.NoHost event x m a =
-    subst (λ (s : Session). IsAllowed s Aborts) x (subst (IsAllowed b.session) m a)
+    subst (λ (s : Session). MayHappen s Aborts) x (subst (MayHappen b.session) m a)
 refused_no_play b (Goes fate harm) fault.NoHost event x m a =
-    subst (λ (s : Session). IsAllowed s (Goes fate harm)) x (subst (IsAllowed b.session) m a)
+    subst (λ (s : Session). MayHappen s (Goes fate harm)) x (subst (MayHappen b.session) m a)
 refused_no_play b h why event x m a = elim x [ ]
 
 -- One event.

@@ -19,7 +19,7 @@ use Rattle.dfu_device.specs.declared.answer.Answer.{Answer}
 use Rattle.dfu_device.specs.declared.answer.Answer.TheVariants as answer
 use Rattle.dfu_device.specs.Rows.{meant, asked_length, Answers, body_length, is_served}
 use Rattle.dfu_device.specs.Came.{status_whole}
-use Rattle.dfu_device.specs.RowForms.{given, Fits, row_form, row_fits}
+use Rattle.dfu_device.specs.RowForms.{reply_given, ReplyFits, row_form, row_fits}
 use Rattle.dfu_host.specs.Wire.{ReadsState}
 use Rattle.dfu_host.specs.WireLaws.{status_understood, state_understood}
 use Rattle.dfu_sim.specs.Bytes.{HearsAnswer}
@@ -59,7 +59,7 @@ HeardAs reply heard = (room : Bool) × (heard ≡ remembered (heard_as reply) ro
 
 -- A reply that fits, as its bytes.
 pub reply_heard : (most : ℕ) (q : Asked) (body : List ℕ) (reply : Reply) (a : Answer) (out : List ℕ) (heard : Heard) → IsHosts q body
-    → Fits most reply (meant q body)
+    → ReplyFits most reply (meant q body)
     → Answers (asked_length q) reply a out → HearsAnswer (Send q body) a out heard → HeardAs reply heard
 reply_heard most q body Stall a out heard i f says h = (true, heard_same (Send q body) a answer.Stall out heard says.0 h)
 reply_heard most q body Ack a out heard i f says h = (true, heard_same (Send q body) a answer.Ack out heard says.0 h)
@@ -85,12 +85,12 @@ reply_heard most q body reply a out heard i f says h = search
 
 -- The reply to a request fits it, whatever the program of the device refuses.
 reply_fits : (x : Option Objection) (c : Profile) (i : List ℕ) (st : Stage) (r : Meant) (luck : Luck)
-    → Fits c.transfer (outcome i (plan_by x c i st r) luck).reply r
+    → ReplyFits c.transfer (outcome i (plan_by x c i st r) luck).reply r
 reply_fits None c i st r luck =
-    given (λ reply. Fits c.transfer reply r) i (plan c i st r) luck (row_fits c i st r (plan c i st r) (row_form c i st r))
+    reply_given (λ reply. ReplyFits c.transfer reply r) i (plan c i st r) luck (row_fits c i st r (plan c i st r) (row_form c i st r))
 reply_fits (Some why) c i st r luck =
-    either_way (λ (p : Plan). Fits c.transfer (outcome i p luck).reply r) (closes c.least st r) _ _ tt
-    (given (λ reply. Fits c.transfer reply r) i (plan c i st r) luck (row_fits c i st r (plan c i st r) (row_form c i st r)))
+    either_way (λ (p : Plan). ReplyFits c.transfer (outcome i p luck).reply r) (closes c.least st r) _ _ tt
+    (reply_given (λ reply. ReplyFits c.transfer reply r) i (plan c i st r) luck (row_fits c i st r (plan c i st r) (row_form c i st r)))
 
 -- What a plan answers, of the table or of a program that refuses an image.
 pub plan_heard : (x : Option Objection) (q : Asked) (body : List ℕ) (c : Profile) (i : List ℕ) (st : Stage) (luck : Luck) (a : Answer)

@@ -2,7 +2,7 @@
 use Rattle.std.proofs.Common.{◌≡◌, ◌⊎◌, ℕ, Bool, List, [], ◌∷◌, Option, Some, refl, sym, ap, ◌∙◌, subst, inl, inr}
 use Rattle.dfu_host.specs.declared.report.Report.{Report}
 use Rattle.dfu_host.specs.declared.report.Report.TheVariants.{Installed, Uploaded, Verified}
-use Rattle.dfu_sim.specs.Session.{Machine, Loading, IsOneOf, Begins, begins_not, installs, Ends, ends_not, drops, Says, says_not, says_installed, says_verified, says_uploaded, says_other, Kind, AnOffer, SaysInPlace, SaysNoPromise, Step, passes_installed, restarts, refuses, goes, stops, and_then}
+use Rattle.dfu_sim.specs.Session.{Machine, Loading, IsOneOf, Begins, begins_not, installs, MayDrop, ends_not, drops, SaysReport, says_not, says_installed, says_verified, says_uploaded, says_other, Kind, AnOffer, SaysInPlace, SaysNoPromise, MachineStep, passes_installed, restarts, refuses, goes, stops, and_then}
 use Rattle.dfu_sim.specs.Simulation.{offers_after, OnlyOffered}
 
 -- Taking or installing leaves the live session as it is.
@@ -11,7 +11,7 @@ begins_live begins_not = refl
 begins_live b = refl
 
 -- Dropping what is pending leaves the live session as it is.
-pub ends_live : {m m' : Machine} → Ends m m' → m'.live ≡ m.live
+pub ends_live : {m m' : Machine} → MayDrop m m' → m'.live ≡ m.live
 ends_live ends_not = refl
 ends_live drops = refl
 
@@ -21,7 +21,7 @@ not_in_place (Some Installed) plain e = plain
 not_in_place (Some Verified) plain e = plain
 not_in_place report plain e = e
 
-says_live : {tolerant : Bool} {m m' : Machine} {report : Option Report} → Says tolerant m report m' → SaysInPlace report
+says_live : {tolerant : Bool} {m m' : Machine} {report : Option Report} → SaysReport tolerant m report m' → SaysInPlace report
     → m.live ≡ Loading m'.cur
 says_live (says_installed live none tolerant) e = live
 says_live (says_verified live none) e = live
@@ -29,19 +29,20 @@ says_live (says_other {report = report} plain one) e = absurd (not_in_place (Som
 says_live s e = elim e [ ]
 
 -- Where Installed or Verified is said, the payload of the live session is the active image.
-pub step_live : {tolerant : Bool} {t : ℕ} {kind : Kind} {m m' : Machine} {report : Option Report} → Step tolerant t kind m report m'
+pub step_live : {tolerant : Bool} {t : ℕ} {kind : Kind} {m m' : Machine} {report : Option Report} → MachineStep tolerant t kind m report m'
     → SaysInPlace report → m.live ≡ Loading m'.cur
 step_live {report = report} (restarts s plain) e = absurd (not_in_place report plain e)
 step_live (goes b d s) e = sym (ends_live d ∙ begins_live b) ∙ says_live s e
 step_live s e = elim e [ ]
 
-says_up : {tolerant : Bool} {m m' : Machine} {report : Option Report} → Says tolerant m report m' → report ≡ Some Uploaded → m'.up ≡ m'.cur
+says_up : {tolerant : Bool} {m m' : Machine} {report : Option Report} → SaysReport tolerant m report m' → report ≡ Some Uploaded →
+    m'.up ≡ m'.cur
 says_up (says_uploaded live) e = refl
 says_up (says_other plain one) e = absurd (subst SaysNoPromise e plain)
 says_up s e = absurd cc
 
 -- Where Uploaded is said, what was uploaded is the active image.
-pub step_up : {tolerant : Bool} {t : ℕ} {kind : Kind} {m m' : Machine} {report : Option Report} → Step tolerant t kind m report m'
+pub step_up : {tolerant : Bool} {t : ℕ} {kind : Kind} {m m' : Machine} {report : Option Report} → MachineStep tolerant t kind m report m'
     → report ≡ Some Uploaded → m'.up ≡ m'.cur
 step_up (restarts s plain) e = absurd (subst SaysNoPromise e plain)
 step_up (goes b d s) e = says_up s e
@@ -55,11 +56,11 @@ begins_comes : {t : ℕ} {m m' : Machine} → Begins t m m' → (m'.offers ≡ m
 begins_comes (installs some h) = (refl, inr h)
 begins_comes b = (refl, inl refl)
 
-ends_same : {m m' : Machine} → Ends m m' → (m'.offers ≡ m.offers) × (m'.cur ≡ m.cur)
+ends_same : {m m' : Machine} → MayDrop m m' → (m'.offers ≡ m.offers) × (m'.cur ≡ m.cur)
 ends_same ends_not = (refl, refl)
 ends_same drops = (refl, refl)
 
-says_same : {tolerant : Bool} {m m' : Machine} {report : Option Report} → Says tolerant m report m'
+says_same : {tolerant : Bool} {m m' : Machine} {report : Option Report} → SaysReport tolerant m report m'
     → (m'.offers ≡ m.offers) × (m'.cur ≡ m.cur)
 says_same says_not = (refl, refl)
 says_same s = (refl, refl)
@@ -73,7 +74,7 @@ comes_on : (offers : List (List ℕ)) (x y z : List ℕ) → (y ≡ x) ⊎ IsOne
 comes_on offers x y z (inl e) f = inl (f ∙ e)
 comes_on offers x y z (inr h) f = inr (subst (λ w. IsOneOf w offers) (sym f) h)
 
-step_comes : {tolerant : Bool} {t : ℕ} {kind : Kind} {m m' : Machine} {report : Option Report} → Step tolerant t kind m report m'
+step_comes : {tolerant : Bool} {t : ℕ} {kind : Kind} {m m' : Machine} {report : Option Report} → MachineStep tolerant t kind m report m'
     → (m'.offers ≡ one_more kind m.offers) × Comes m.offers m m'
 step_comes (passes_installed some h) = (refl, inr h)
 step_comes (restarts s plain) = ((says_same s).0, inl (says_same s).1)

@@ -8,7 +8,7 @@ use Rattle.dfu_host.specs.declared.report.Report.TheVariants.{Uploaded}
 use Rattle.dfu_device.specs.Setting.{Setting}
 use Rattle.dfu_sim.specs.declared.fault.LinkFault.{LinkFault}
 use Rattle.dfu_sim.specs.Session.{Machine, Loading}
-use Rattle.dfu_sim.specs.Play.{kind_of, Answered, given, IsAllowed}
+use Rattle.dfu_sim.specs.Play.{kind_of, Answered, given, MayHappen}
 use Rattle.dfu_sim.specs.declared.course.Harming.{Harming}
 use Rattle.dfu_sim.specs.declared.course.Harming.TheVariants.{NoWrite}
 use Rattle.dfu_sim.specs.Course.{course_of}
@@ -17,12 +17,12 @@ use Rattle.dfu_sim.specs.Bench.{Session, Nobody, Hosted, Bench, ShowsActive, Lin
 use Rattle.dfu_sim.specs.LinkAgreement.{Agrees}
 use Rattle.dfu_sim.specs.Fact.{SessionFact}
 use Rattle.dfu_sim.specs.Simulation.{Follows}
-use Rattle.dfu_sim.specs.Bytes.{fuse_of, link_of, Happens, BytePlay}
+use Rattle.dfu_sim.specs.Bytes.{fuse_of, link_of, HappensOnBench, BytePlay}
 use Rattle.dfu_sim.specs.Understood.{Shows, ImageShown}
 use Rattle.dfu_sim.specs.Comes.{Means, Comes, refuses, happens, shown_as, gave_of, HasCome}
 use Rattle.dfu_sim.specs.Standing.{SendsBytes, IsSteady}
 use Rattle.dfu_sim.specs.Following.{IsOfKind, AllFollow}
-use Rattle.dfu_sim.specs.Giving.{Gives, UploadsGive, RestIsSteady}
+use Rattle.dfu_sim.specs.Giving.{GivesOrKeeps, UploadsGive, RestIsSteady}
 use Rattle.dfu_sim.specs.Sure.{HarmsNothing, IsHarmless, IsAsPlayed, AllSure}
 use Rattle.dfu_sim.proofs.Config.{happens_config}
 use Rattle.dfu_sim.proofs.Projected.{fuse_in, bytes_show, bytes_sure}
@@ -61,7 +61,7 @@ sizes w Nobody event begins f z = tt
 -- After an event no session is live, or the transfer size is known.
 sized_or_none : (w : Shown) (session : Session) (event : Happening) (b' : Bench) (answer : Answered)
     → BeginsSized w.config.functional.transfer event → SessionFact (profile w) (situation w) session → SendsBytes session
-    → IsAllowed session event → Happens event (record { device = w; session = session }) b' answer
+    → MayHappen session event → HappensOnBench event (record { device = w; session = session }) b' answer
     → (0 < (profile w).transfer) ⊎ (b'.session ≡ Nobody)
 sized_or_none w (Hosted host) event b' answer begins f z a x = inl (subst (λ (n : ℕ). 0 < n) f.task_is.transfer z)
 sized_or_none w Nobody (Offers aim payload limits) b' answer begins f z a x = inl begins
@@ -154,14 +154,14 @@ come_follow shown {w = w} {h = h} steady shows x =
 
 gives_in : (b' : Bench) (up : List ℕ) (report : Option Report) (gave : Option (List ℕ)) (w : LinkState) → w.up ≡ up
     → FitsIn b'.device.config.functional.transfer report gave → (report ≡ Some Uploaded → given gave up ≡ (link_of b').device.image)
-    → Gives w (linked b' (given gave up)) (Ok report)
+    → GivesOrKeeps w (linked b' (given gave up)) (Ok report)
 gives_in b' up (Some Uploaded) (Some bytes) w same fits image = record { image = image refl; short = fits }
 gives_in b' up (Some Uploaded) None w same fits image = elim fits [ ]
 gives_in b' up report (Some bytes) w same fits image = elim fits [ ]
 gives_in b' up report None w same fits image = sym same
 
 comes_give : {b b' : Bench} {h : Happening} {answer : Result Answered LinkFault} (up : List ℕ) → IsSteady b → Comes b h b' answer
-    → Gives (linked b up) (linked b' (given (gave_of answer) up)) (shown_as answer)
+    → GivesOrKeeps (linked b up) (linked b' (given (gave_of answer) up)) (shown_as answer)
 comes_give up steady (refuses why) = refl
 comes_give {b = b} {b' = b'} {h = h} up steady (happens {event = event} {answer = answer} means play) =
     let begins = begins_sized b.device.config h event means in
@@ -172,8 +172,8 @@ comes_give {b = b} {b' = b'} {h = h} up steady (happens {event = event} {answer 
 
 -- Each event that comes gives what it should.
 pub come_gives : {w w' : LinkState} {h : Happening} {result : Result (Option Report) LinkFault} → IsSteady w.bench → HasCome w h w' result
-    → Gives w w' result
-come_gives {w = w} steady x = told_so (λ v r. Gives w v r) x (comes_give w.up steady x.comes)
+    → GivesOrKeeps w w' result
+come_gives {w = w} steady x = told_so (λ v r. GivesOrKeeps w v r) x (comes_give w.up steady x.comes)
 
 gave_image : (t : ℕ) (up image : List ℕ) (report : Option Report) (gave : Option (List ℕ)) → FitsIn t report gave → given gave up ≡ image
     → report ≡ Some Uploaded → gave ≡ Some image

@@ -6,15 +6,15 @@ use Rattle.dfu_host.specs.declared.report.Report.{Report}
 use Rattle.dfu_host.specs.declared.report.Report.TheVariants.{Installed, Unconfirmed, Aborted, RestartsSpent, Uploaded, Verified}
 use Rattle.dfu_host.specs.Phases.{Goal, ToLoad, ToFetch, ToVerify, ToCompare, Task, Phase, Find, Fetch, GiveUp, Over, OverUploaded, Heard, Part, Restarted, Left}
 use Rattle.dfu_host.specs.BehindClose.{is_behind_close}
-use Rattle.dfu_host.specs.Table.{row, checked, goal_after}
-use Rattle.dfu_host.specs.Host.{HostState, IsOn, budgeted, restarted, left_by, after_phase, told as host_told}
-use Rattle.dfu_sim.specs.Session.{Machine, Live, NoOne, Loading, Fetching, PromisesNothing, Says, says_not, says_installed, says_verified, says_uploaded, says_other, SaysInPlace, SaysNoPromise}
+use Rattle.dfu_host.specs.Table.{host_row, goal_after_reset, goal_after}
+use Rattle.dfu_host.specs.Host.{HostState, IsOn, budgeted, restarted, left_by, after_phase, host_heard as host_told}
+use Rattle.dfu_sim.specs.Session.{Machine, Live, NoOne, Loading, Fetching, PromisesNothing, SaysReport, says_not, says_installed, says_verified, says_uploaded, says_other, SaysInPlace, SaysNoPromise}
 use Rattle.dfu_sim.specs.Bench.{Nobody}
 use Rattle.dfu_sim.specs.Opening.{task_for}
 use Rattle.dfu_sim.specs.Play.{given, Took, settled, took, remembered, has_room}
 use Rattle.dfu_sim.specs.LinkAgreement.{pending_of}
 use Rattle.dfu_sim.specs.Agreement.{live_goal, live_of, IsLiveOffer}
-use Rattle.dfu_sim.specs.Fact.{IsInApp, EndsAs, GoalFact, HasBlocks, GoesBy, SessionFact}
+use Rattle.dfu_sim.specs.Fact.{IsInApp, EndsAs, GoalFact, HasBlocks, TaskGoesBy, SessionFact}
 use Rattle.dfu_sim.proofs.Saying.{not_in_place}
 use Rattle.dfu_sim.proofs.Fates.{IfHeard, all_remembered}
 use Rattle.dfu_sim.proofs.CommonFacts.{goal_anywhere}
@@ -31,11 +31,11 @@ after_on h (OverUploaded kept) heard on = elim on [ ]
 after_on h phase heard on = refl
 
 -- A task made by the descriptor goes by it, and is the only one of its goal that does.
-pub goes_by : (c : Profile) (goal : Goal) → GoesBy c (task_for c goal)
+pub goes_by : (c : Profile) (goal : Goal) → TaskGoesBy c (task_for c goal)
 goes_by c goal = record { transfer = refl; tolerant = refl; will_detach = refl; detach_ms = refl }
 
 -- A task that goes by the descriptor is the one that is made of it.
-pub task_by : (c : Profile) (task : Task) → GoesBy c task → task ≡ task_for c task.goal
+pub task_by : (c : Profile) (task : Task) → TaskGoesBy c task → task ≡ task_for c task.goal
 task_by c task g = λ i. record {
   goal = task.goal;
   transfer = g.transfer i;
@@ -47,7 +47,7 @@ task_by c task g = λ i. record {
 module _ (c : Profile) (offers : List (List ℕ)) where
   -- What a host took, over a device, where this was live.
   pub record TookWell (s : Situation) (live : Live) (up : List ℕ) (t : Took) : Type 0 where
-    pub says : Says c.tolerant (shown offers s.image (pending_of s.stage) live up) t.answer.report
+    pub says : SaysReport c.tolerant (shown offers s.image (pending_of s.stage) live up) t.answer.report
         (shown offers s.image (pending_of s.stage) (live_of t.session) (given t.answer.gave up))
     pub fact : SessionFact c s t.session
     pub offer : IsLiveOffer offers (live_of t.session)
@@ -98,7 +98,7 @@ module _ (c : Profile) (offers : List (List ℕ)) where
       → TookWell s Fetching up (record { session = Nobody; answer = record { report = Some Uploaded; gave = Some kept } })
   uploaded_well s up kept e =
       record {
-        says = subst (λ x. Says c.tolerant (shown offers s.image (pending_of s.stage) Fetching up) (Some Uploaded)
+        says = subst (λ x. SaysReport c.tolerant (shown offers s.image (pending_of s.stage) Fetching up) (Some Uploaded)
             (shown offers s.image (pending_of s.stage) NoOne x)) (sym e) (says_uploaded refl);
         fact = tt;
         offer = tt;
@@ -111,7 +111,7 @@ module _ (c : Profile) (offers : List (List ℕ)) where
       settled (record { task = task; phase = next; actions = left; restarts = again }) next
 
   record Lives (task : Task) : Type 0 where
-    task_is : GoesBy c task
+    task_is : TaskGoesBy c task
     offer : IsLiveOffer offers (live_goal task.goal)
     some : HasBlocks c task.goal
 
@@ -156,14 +156,14 @@ module _ (c : Profile) (offers : List (List ℕ)) where
       (goal_anywhere c h.task.goal s Find tt)
 
   -- A restart of the device, told to a live host.
-  pub restart_taken : (s : Situation) (h : HostState) (up : List ℕ) → IsOn h.phase → GoesBy c h.task
+  pub restart_taken : (s : Situation) (h : HostState) (up : List ℕ) → IsOn h.phase → TaskGoesBy c h.task
       → IsLiveOffer offers (live_goal h.task.goal)
       → HasBlocks c h.task.goal → TookWell s (live_goal h.task.goal) up (took h Restarted)
   restart_taken s h up on e o some =
       subst (λ (q : HostState). TookWell s (live_goal h.task.goal) up (settled q q.phase)) (sym (after_on h h.phase Restarted on))
       (restarted_well s h up h.phase h.restarts (record { task_is = e; offer = o; some = some }))
 
-  lives_checked : (g : Goal) → Lives (task_for c g) → Lives (task_for c (checked g))
+  lives_checked : (g : Goal) → Lives (task_for c g) → Lives (task_for c (goal_after_reset g))
   lives_checked (ToVerify p) v = record { task_is = goes_by c (ToCompare p); offer = v.offer; some = v.some }
   lives_checked g v = v
 
@@ -210,12 +210,12 @@ module _ (c : Profile) (offers : List (List ℕ)) where
 
     row_well : (s : Situation) (up : List ℕ) (phase : Phase) (left again : ℕ) (heard : Heard) → Lives (task_for c g)
         → Next c g s phase heard → TookWell s (live_goal g) up
-        (budget (task_for c (goal_after g phase heard)) (row (task_for c g) phase heard) (pred left) again)
+        (budget (task_for c (goal_after g phase heard)) (host_row (task_for c g) phase heard) (pred left) again)
     row_well s up phase left again heard v n =
         let next = goal_after g phase heard in
         let lives : Lives (task_for c next) = after_goal (λ x. Lives (task_for c x)) g v (lives_checked g v) phase heard in
-        subst (λ (x : Live). TookWell s x up (budget (task_for c next) (row (task_for c g) phase heard) (pred left) again))
-        (live_after g phase heard) (spent_well s (task_for c next) up (row (task_for c g) phase heard) (pred left) again lives n)
+        subst (λ (x : Live). TookWell s x up (budget (task_for c next) (host_row (task_for c g) phase heard) (pred left) again))
+        (live_after g phase heard) (spent_well s (task_for c next) up (host_row (task_for c g) phase heard) (pred left) again lives n)
 
     told_well : (s : Situation) (up : List ℕ) (phase : Phase) (left again : ℕ) (heard : Heard) → Lives (task_for c g)
         → IfHeard heard (Next c g s phase) → let q = host_told (At phase left again) phase heard in

@@ -4,7 +4,7 @@ use Rattle.std.proofs.lemmas.Bool.Decides.{nat_tests}
 use Rattle.dfu_wire.specs.declared.codes.Code.TheVariants.{Ok as NoFault}
 use Rattle.dfu_wire.specs.declared.states.State.TheVariants.{DfuIdle, DownloadBusy, DownloadIdle, Manifest as Manifesting}
 use Rattle.dfu_device.specs.Stage.{Ack, Profile, Stage, InAppIdle, InDfuIdle, InDownloadSync, InDownloadSyncWritten, InDownloadBusy, InDownloadIdle, InManifestSync, InManifestSyncComplete, InManifest}
-use Rattle.dfu_device.specs.Table.{Plan, Sure, Writes, Commits, time_plan, block_plan, first_plan, further_plan, is_empty, next_number}
+use Rattle.dfu_device.specs.Table.{Plan, Sure, Writes, Commits, time_plan, block_plan, first_plan, further_plan, has_no_bytes, next_number}
 use Rattle.dfu_device.specs.Outcome.{Works, outcome}
 use Rattle.dfu_host.specs.declared.report.Report.TheVariants.{Installed}
 use Rattle.dfu_host.specs.Blocks.{blocks, first}
@@ -98,7 +98,7 @@ module _ (c : Profile) (p : List ℕ) (again : ℕ) where
 
   -- Block n has at least one byte, at most the transfer size, and fits in the room.
   pub record BlockFits (n : ℕ) : Type 0 where
-    pub full : is_empty (body_of n) ≡ false
+    pub full : has_no_bytes (body_of n) ≡ false
     pub small : length (body_of n) ≤ c.transfer
     pub room : length (first p c.transfer n) + length (body_of n) ≤ c.capacity
 

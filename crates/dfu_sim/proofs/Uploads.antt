@@ -14,7 +14,7 @@ use Rattle.dfu_host.specs.Phases.{ToFetch}
 use Rattle.dfu_sim.specs.declared.fault.LinkFault.{LinkFault}
 use Rattle.dfu_sim.specs.declared.fault.LinkFault.TheVariants as fault
 use Rattle.dfu_sim.specs.declared.fault.OfferFault.TheVariants as offer_fault
-use Rattle.dfu_sim.specs.Play.{silent, aborted}
+use Rattle.dfu_sim.specs.Play.{silent, session_aborted}
 use Rattle.dfu_sim.specs.Bench.{Session, Hosted, linked}
 use Rattle.dfu_sim.specs.Happening.{Uploads, Aborts}
 use Rattle.dfu_sim.specs.Refusing.{CanGive}
@@ -52,7 +52,7 @@ upload_comes limits w host h f n e k none is =
 
 -- An abort.
 pub abort_comes : (w : Shown) (host host' gave : Option HostState) (result : Result (Option Report) LinkFault) → w.slots.medium.fuse ≡ Whole
-    → session_of host' ≡ aborted (session_of host) → result ≡ abort_told (session_of host)
+    → session_of host' ≡ session_aborted (session_of host) → result ≡ abort_told (session_of host)
     → HasCome (link_state w host gave) Aborts (link_state w host' gave) result
 abort_comes w None host' gave result e session says =
     subst (λ (r : Result (Option Report) LinkFault). HasCome (link_state w None gave) Aborts (link_state w host' gave) r) (sym says)

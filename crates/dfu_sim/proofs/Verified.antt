@@ -6,8 +6,8 @@ use Rattle.dfu_device.specs.Outcome.{Situation, Luck, Works, outcome}
 use Rattle.dfu_device.specs.Rows.{meant}
 use Rattle.dfu_host.specs.declared.report.Report.{Report}
 use Rattle.dfu_host.specs.Phases.{Goal, ToLoad, ToVerify, Task, Phase, Find, Last, GiveUp, Over, OverUploaded, Deed, Send, Heard, Part, WasReset, Restarted, Left}
-use Rattle.dfu_host.specs.Table.{deed, goal_after, row}
-use Rattle.dfu_host.specs.Host.{HostState, restarted, told, after_phase, after}
+use Rattle.dfu_host.specs.Table.{deed, goal_after, host_row}
+use Rattle.dfu_host.specs.Host.{HostState, restarted, host_heard, after_phase, after}
 use Rattle.dfu_host.specs.TaskLaws.{after_task}
 use Rattle.dfu_sim.specs.Happening.{Pass}
 use Rattle.dfu_sim.specs.Course.{course_of}
@@ -42,7 +42,7 @@ module _ (c : Profile) (p : List ℕ) where
   abbrev checked : Task
   checked = task_for c (ToVerify p)
 
-  same_row : (phase : Phase) (heard : Heard) → IsBefore phase → row checked phase heard ≡ row plain phase heard
+  same_row : (phase : Phase) (heard : Heard) → IsBefore phase → host_row checked phase heard ≡ host_row plain phase heard
   same_row (Last r) heard b = elim b [ ]
   same_row phase heard b = refl
 
@@ -69,7 +69,7 @@ module _ (c : Profile) (p : List ℕ) where
   restarted_alike phase left again (suc restarts) = refl
 
   told_alike : (phase : Phase) (heard : Heard) (left again : ℕ) → IsBefore phase → (heard ≡ Left → ⊥)
-      → told (host checked phase left again) phase heard ≡ verifying (told (host plain phase left again) phase heard)
+      → host_heard (host checked phase left again) phase heard ≡ verifying (host_heard (host plain phase left again) phase heard)
   told_alike phase Restarted left again b never = restarted_alike phase left again again
   told_alike phase Left left again b never = absurd (never refl)
   told_alike phase heard left again b never = rw (same_row phase heard b, stays_checked phase heard b) refl

@@ -3,7 +3,7 @@ use Rattle.std.specs.Prelude.{◌≡◌, ◌⊎◌, ℕ, Bool, true, false, IsTr
 use Rattle.dfu_wire.specs.declared.requests.Request.{Request as Asked}
 use Rattle.dfu_slots.specs.Medium.{Fuse}
 use Rattle.dfu_slots.specs.Medium.Fuse.{Whole, Armed, Lying}
-use Rattle.dfu_slots.specs.Seen.{fused, restarted}
+use Rattle.dfu_slots.specs.Seen.{fused, store_restarted}
 use Rattle.dfu_device.specs.declared.answer.Answer.{Answer}
 use Rattle.dfu_device.specs.declared.answer.Answer.TheVariants as answer
 use Rattle.dfu_device.specs.declared.objection.Objection.{Objection}
@@ -24,8 +24,8 @@ use Rattle.dfu_sim.specs.declared.course.Harming.TheVariants.{NoWrite, CutsPower
 use Rattle.dfu_sim.specs.Course.{Course, course_of}
 use Rattle.dfu_sim.specs.Happening.{Fate, Harm, Happening, Offers, Uploads, Aborts, Goes, Passes, Resets, Cuts, Refuses}
 use Rattle.dfu_sim.specs.Bench.{Bench, Session, Hosted}
-use Rattle.dfu_sim.specs.Opening.{goal_of, opened}
-use Rattle.dfu_sim.specs.Play.{heard_over, waits_for, Link, Answered, silent, took, told, aborted, IsAllowed}
+use Rattle.dfu_sim.specs.Opening.{goal_of_aim, opened}
+use Rattle.dfu_sim.specs.Play.{heard_over, waits_for, Link, Answered, silent, took, told, session_aborted, MayHappen}
 
 -- The fuse of the medium in an action: a cut stops all writes after the harmed one; a failure and a lie are of that one alone.
 abbrev pub fuse_of : Harming → Harm → Fuse
@@ -40,7 +40,7 @@ armed w fuse = record w { slots = fused w.slots fuse }
 
 -- A device after its power went and came back: its medium is not armed, and what was put there is forgotten.
 abbrev pub powered_up : Shown → Shown
-powered_up w = record { config = w.config; slots = restarted w.slots Whole; stage = InAppIdle }
+powered_up w = record { config = w.config; slots = store_restarted w.slots Whole; stage = InAppIdle }
 
 -- A device after a reset of the bus.
 abbrev pub bus_was_reset : Shown → Shown
@@ -63,21 +63,21 @@ HearsBack d back.Lost out heard = heard ≡ Nothing
 HearsBack d back.Restarted out heard = heard ≡ Restarted
 
 -- A setup with its body comes to a device: if it closes a download whose image the program refuses, that is its row; else it is handled.
-abbrev pub Takes : Option Objection → (setup body : List ℕ) → Shown → Answer → List ℕ → Shown → Type 0
-Takes None setup body w a out w' = Handles setup body w a out w'
-Takes (Some why) setup body w a out w' =
+abbrev pub TakesSetup : Option Objection → (setup body : List ℕ) → Shown → Answer → List ℕ → Shown → Type 0
+TakesSetup None setup body w a out w' = Handles setup body w a out w'
+TakesSetup (Some why) setup body w a out w' =
     Row w (RefusingClose setup why) a out w' ⊎ ((¬ ClosesDownload setup w) × Handles setup body w a out w')
 
 -- A request goes to the device: which rows of the device it makes, and the last answer. A second time it is handled: no request closes a
 -- download twice.
-pub data Reaches (refusing : Option Objection) (setup body : List ℕ) : Handling → Shown → Back → List ℕ → Shown → Type 0 where
-  unseen : {w : Shown} {out : List ℕ} → Reaches refusing setup body Unseen w back.Lost out w
-  once : {w w' : Shown} {a : Answer} {out : List ℕ} → Takes refusing setup body w a out w'
-      → Reaches refusing setup body Once w (back.Answered a) out w'
-  again : {w w' : Shown} {b : Answer} {last : List ℕ} (mid : Shown) (a : Answer) (out : List ℕ) → Takes refusing setup body w a out mid
-      → Handles setup body mid b last w' → Reaches refusing setup body Again w (back.Answered b) last w'
-  late : {w w' : Shown} {a : Answer} {out : List ℕ} {ms : ℕ} (mid : Shown) → Takes refusing setup body w a out mid → Elapses ms mid w'
-      → Reaches refusing setup body (Late ms) w (back.Answered a) out w'
+pub data ReachesDevice (refusing : Option Objection) (setup body : List ℕ) : Handling → Shown → Back → List ℕ → Shown → Type 0 where
+  unseen : {w : Shown} {out : List ℕ} → ReachesDevice refusing setup body Unseen w back.Lost out w
+  once : {w w' : Shown} {a : Answer} {out : List ℕ} → TakesSetup refusing setup body w a out w'
+      → ReachesDevice refusing setup body Once w (back.Answered a) out w'
+  again : {w w' : Shown} {b : Answer} {last : List ℕ} (mid : Shown) (a : Answer) (out : List ℕ) → TakesSetup refusing setup body w a out mid
+      → Handles setup body mid b last w' → ReachesDevice refusing setup body Again w (back.Answered b) last w'
+  late : {w w' : Shown} {a : Answer} {out : List ℕ} {ms : ℕ} (mid : Shown) → TakesSetup refusing setup body w a out mid → Elapses ms mid w'
+      → ReachesDevice refusing setup body (Late ms) w (back.Answered a) out w'
 
 -- An answer that is lost does not come back.
 abbrev pub came_back : Bool → Back → Back
@@ -95,7 +95,7 @@ ended_back LiesInWrite b = b
 pub record Sends (q : Asked) (setup body : List ℕ) (course : Course) (w w' : Shown) (heard : Heard) : Type 0 where
   pub came : Back
   pub out : List ℕ
-  pub reaches : Reaches course.refusing setup body course.handling w came out w'
+  pub reaches : ReachesDevice course.refusing setup body course.handling w came out w'
   pub hears : HearsBack (Send q body) (ended_back course.harming (came_back course.back came)) out heard
 
 -- A wait, by its course.
@@ -121,11 +121,11 @@ Acts Reset course w w' heard = ResetsBus course w w' heard
 Acts (Done report) course w w' heard = ⊥
 
 -- The device once the action is over: not armed any more, and in appIDLE where its power was cut.
-abbrev pub left_by : Harming → Shown → Shown
-left_by NoWrite w = armed w Whole
-left_by CutsPower w = powered_up w
-left_by FailsWrite w = armed w Whole
-left_by LiesInWrite w = armed w Whole
+abbrev pub device_left_by : Harming → Shown → Shown
+device_left_by NoWrite w = armed w Whole
+device_left_by CutsPower w = powered_up w
+device_left_by FailsWrite w = armed w Whole
+device_left_by LiesInWrite w = armed w Whole
 
 -- The link that a bench shows: the image is read from the medium's bytes.
 abbrev pub link_of : Bench → Link
@@ -142,7 +142,7 @@ pub record HostActs (h : HostState) (course : Course) (w w' : Shown) (h' : HostS
 pub record HostActsArmed (h : HostState) (course : Course) (harm : Harm) (w w' : Shown) (h' : HostState) : Type 0 where
   pub last : Shown
   pub acted : HostActs h course (armed w (fuse_of course.harming harm)) last h'
-  pub device : w' ≡ left_by course.harming last
+  pub device : w' ≡ device_left_by course.harming last
 
 -- The host's next action on a bench. Where the host is done then, its session is over with its report.
 pub record NextAction (h : Session) (fate : Fate) (harm : Harm) (b b' : Bench) (answer : Answered) : Type 0 where
@@ -154,23 +154,23 @@ pub record NextAction (h : Session) (fate : Fate) (harm : Harm) (b b' : Bench) (
   pub answered : answer ≡ (took host gone.acted.heard).answer
 
 -- Each event on a bench.
-abbrev pub Happens : Happening → Bench → Bench → Answered → Type 0
-Happens (Offers aim payload limits) b b' answer =
-    (b' ≡ record { device = b.device; session = opened (profile b.device) (goal_of aim payload) limits.actions limits.restarts })
+abbrev pub HappensOnBench : Happening → Bench → Bench → Answered → Type 0
+HappensOnBench (Offers aim payload limits) b b' answer =
+    (b' ≡ record { device = b.device; session = opened (profile b.device) (goal_of_aim aim payload) limits.actions limits.restarts })
     × (answer ≡ silent)
-Happens (Uploads limits) b b' answer =
+HappensOnBench (Uploads limits) b b' answer =
     (b' ≡ record { device = b.device; session = opened (profile b.device) ToFetch limits.actions limits.restarts }) × (answer ≡ silent)
-Happens Aborts b b' answer = (b' ≡ record { device = b.device; session = aborted b.session }) × (answer ≡ silent)
-Happens (Goes fate harm) b b' answer = NextAction b.session fate harm b b' answer
-Happens (Passes ms) b b' answer = Elapses ms b.device b'.device × (b'.session ≡ b.session) × (answer ≡ silent)
-Happens Resets b b' answer = let t = told b.session in
+HappensOnBench Aborts b b' answer = (b' ≡ record { device = b.device; session = session_aborted b.session }) × (answer ≡ silent)
+HappensOnBench (Goes fate harm) b b' answer = NextAction b.session fate harm b b' answer
+HappensOnBench (Passes ms) b b' answer = Elapses ms b.device b'.device × (b'.session ≡ b.session) × (answer ≡ silent)
+HappensOnBench Resets b b' answer = let t = told b.session in
     (b' ≡ record { device = bus_was_reset b.device; session = t.session }) × (answer ≡ t.answer)
-Happens Cuts b b' answer = let t = told b.session in
+HappensOnBench Cuts b b' answer = let t = told b.session in
     (b' ≡ record { device = powered_up b.device; session = t.session }) × (answer ≡ t.answer)
-Happens (Refuses why) b b' answer = (b' ≡ record { device = was_refused why b.device; session = b.session }) × (answer ≡ silent)
+HappensOnBench (Refuses why) b b' answer = (b' ≡ record { device = was_refused why b.device; session = b.session }) × (answer ≡ silent)
 
 -- A play with its bytes: an event that is not refused, on a bench whose medium is not armed.
 pub record BytePlay (b : Bench) (event : Happening) (b' : Bench) (answer : Answered) : Type 0 where
-  pub allowed : IsAllowed b.session event
+  pub allowed : MayHappen b.session event
   pub unarmed : b.device.slots.medium.fuse ≡ Whole
-  pub happens : Happens event b b' answer
+  pub happens : HappensOnBench event b b' answer

@@ -13,7 +13,7 @@ use Rattle.dfu_sim.specs.declared.aim.Aim.{Aim}
 use Rattle.dfu_sim.specs.Happening.{Pass, Happening, Offers, Goes, unharmed}
 use Rattle.dfu_sim.specs.Bench.{Nobody, Bench}
 use Rattle.dfu_sim.specs.Bytes.{link_of}
-use Rattle.dfu_sim.specs.CleanRun.{actions_of, report_of, HasParts, resting}
+use Rattle.dfu_sim.specs.CleanRun.{actions_of, report_of_aim, HasParts, resting}
 use Rattle.dfu_sim.specs.Refusing.{IsOffered}
 
 -- How many passes install a payload on a device of these settings, and verify it where that is the aim.
@@ -40,7 +40,7 @@ offer_and_passes aim file limits count = Offers aim file limits ∷ replicate co
 -- the payload is the active image of a device in appIDLE.
 pub record InstallsCleanly (b : Bench) (aim : Aim) (payload : List ℕ) (count : ℕ) (reports : List Report) (b' : Bench) : Type 0 where
   pub early : count < clean_passes aim b.device.config payload → reports ≡ []
-  pub reported : count ≡ clean_passes aim b.device.config payload → reports ≡ report_of aim ∷ []
+  pub reported : count ≡ clean_passes aim b.device.config payload → reports ≡ report_of_aim aim ∷ []
   pub installed : count ≡ clean_passes aim b.device.config payload → link_of b' ≡ resting payload
 
 -- What a clean run answers; it stops only where there is no memory for a report, and nothing is reported then.

@@ -35,9 +35,9 @@ actions_of Install t busy manifest payload = clean (length (blocks payload t)) b
 actions_of Verify t busy manifest payload = clean (length (blocks payload t)) busy manifest + 6 + length payload / t
 
 -- The report with which it ends.
-abbrev pub report_of : Aim → Report
-report_of Install = Installed
-report_of Verify = Verified
+abbrev pub report_of_aim : Aim → Report
+report_of_aim Install = Installed
+report_of_aim Verify = Verified
 
 -- A comparison has fewer than 65,535 full blocks.
 abbrev pub HasParts : Aim → (t : ℕ) → List ℕ → Type 0
@@ -62,4 +62,4 @@ CleanRun = (c : Profile) (aim : Aim) (image payload : List ℕ) (limits : Limits
     → 0 < length payload → c.least ≤ length payload → length payload ≤ c.capacity → HasParts aim c.transfer payload
     → actions_of aim c.transfer c.busy c.manifest payload ≤ limits.actions
     → (other : Luck) (room : Bool) → InstalledAfter c (played c (resting image) (Offers aim payload limits) Works other room).link
-    (actions_of aim c.transfer c.busy c.manifest payload) payload (report_of aim)
+    (actions_of aim c.transfer c.busy c.manifest payload) payload (report_of_aim aim)

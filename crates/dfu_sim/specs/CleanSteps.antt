@@ -8,14 +8,14 @@ use Rattle.dfu_sim.specs.Session.{said}
 use Rattle.dfu_sim.specs.Bench.{Bench}
 use Rattle.dfu_sim.specs.Happening.{Happening}
 use Rattle.dfu_sim.specs.Refusing.{IsRefused}
-use Rattle.dfu_sim.specs.Sure.{IsSure}
+use Rattle.dfu_sim.specs.Sure.{IsSureEvent}
 use Rattle.dfu_sim.specs.CleanInstall.{clean_passes, CanInstall, offer_and_passes, InstallsCleanly}
 
 -- Steps one after the other, with their reports: of each this is known by the clause `sure` of `World::step`.
 pub data SureSteps : Bench → List Happening → List Report → Bench → Type 0 where
   no_step : {b : Bench} → SureSteps b [] [] b
   one_step : {b mid b' : Bench} {h : Happening} {hs : List Happening} {report : Option Report} {reports : List Report}
-      → IsSure b h mid report → SureSteps mid hs reports b' → SureSteps b (h ∷ hs) (said report ++ reports) b'
+      → IsSureEvent b h mid report → SureSteps mid hs reports b' → SureSteps b (h ∷ hs) (said report ++ reports) b'
 
 -- Whatever memory there is: an offer and at most the passes of a clean run, let come by steps, report as a clean run does.
 abbrev pub StepsInstall : Type 0

@@ -14,9 +14,9 @@ use Rattle.dfu_sim.specs.Bench.{Session, Nobody, Hosted}
 -- The states of a phase.
 
 -- The device is in dfuIDLE.
-abbrev pub IsIdle : Stage → Type 0
-IsIdle InDfuIdle = Unit {0}
-IsIdle stage = ⊥
+abbrev pub IsDfuIdle : Stage → Type 0
+IsDfuIdle InDfuIdle = Unit {0}
+IsDfuIdle stage = ⊥
 
 -- The device is in appIDLE.
 abbrev pub IsInApp : Stage → Type 0
@@ -24,10 +24,10 @@ IsInApp InAppIdle = Unit {0}
 IsInApp stage = ⊥
 
 -- Block n: the first n blocks are taken, and the device waits for one more.
-abbrev pub Begun : List ℕ → (t n : ℕ) → Stage → Type 0
-Begun p t n InDfuIdle = n ≡ 0
-Begun p t n (InDownloadIdle taken number) = (0 < n) × (taken ≡ first p t n)
-Begun p t n stage = ⊥
+abbrev pub AtBlock : List ℕ → (t n : ℕ) → Stage → Type 0
+AtBlock p t n InDfuIdle = n ≡ 0
+AtBlock p t n (InDownloadIdle taken number) = (0 < n) × (taken ≡ first p t n)
+AtBlock p t n stage = ⊥
 
 -- Ask n: so it is, or one more block is taken and not yet written, or there was a fault.
 abbrev pub Asking : List ℕ → (t n : ℕ) → Stage → Type 0
@@ -87,7 +87,7 @@ Fetches k kept image stage = ⊥
 
 -- In a download's phases, also where it is to be verified. Those of an upload and of a comparison do not occur.
 abbrev pub Fact : Profile → List ℕ → Phase → Situation → Type 0
-Fact c p (Block n) s = (n < length (blocks p c.transfer)) × Begun p c.transfer n s.stage
+Fact c p (Block n) s = (n < length (blocks p c.transfer)) × AtBlock p c.transfer n s.stage
 Fact c p (Ask n) s = (n < length (blocks p c.transfer)) × Asking p c.transfer n s.stage
 Fact c p (Poll n) s = (n < length (blocks p c.transfer)) × BlockIn (first p c.transfer (suc n)) s.stage
 Fact c p (WaitPoll n poll) s = (n < length (blocks p c.transfer)) × BlockIn (first p c.transfer (suc n)) s.stage
@@ -96,14 +96,14 @@ Fact c p AskLast s = AskingLast p s.stage
 Fact c p Manifest s = Managing p s.image s.stage
 Fact c p (WaitManifest poll) s = Managing p s.image s.stage
 Fact c p (WaitLast poll) s = Unit {0}
-Fact c p (Last report) s = EndsAs c p s IsIdle report
+Fact c p (Last report) s = EndsAs c p s IsDfuIdle report
 Fact c p (Over report) s = EndsAs c p s IsInApp report
 Fact c p phase s = IsCommon phase
 
 -- In an upload's phases. Those of a download and of a comparison do not occur.
 abbrev pub FetchFact : Phase → Situation → Type 0
 FetchFact (Fetch k kept) s = (k < 65535) × Fetches k kept s.image s.stage
-FetchFact (LastUploaded kept) s = (kept ≡ s.image) × IsIdle s.stage
+FetchFact (LastUploaded kept) s = (kept ≡ s.image) × IsDfuIdle s.stage
 FetchFact (OverUploaded kept) s = kept ≡ s.image
 FetchFact (Over report) s = PromisesNothing report
 FetchFact phase s = IsCommon phase
@@ -112,7 +112,7 @@ FetchFact phase s = IsCommon phase
 -- not occur.
 abbrev pub CompareFact : Profile → List ℕ → Phase → Situation → Type 0
 CompareFact c p (Compare k) s = (k < 65535) × Fetches k (first p c.transfer k) s.image s.stage
-CompareFact c p (Last report) s = EndsAs c p s IsIdle report
+CompareFact c p (Last report) s = EndsAs c p s IsDfuIdle report
 CompareFact c p (Over report) s = EndsAs c p s IsInApp report
 CompareFact c p phase s = IsCommon phase
 
@@ -131,7 +131,7 @@ HasBlocks c (ToVerify p) = 0 < length (blocks p c.transfer)
 HasBlocks c (ToCompare p) = 0 < length (blocks p c.transfer)
 
 -- A session's task goes by the device's descriptor.
-pub record GoesBy (c : Profile) (task : Task) : Type 0 where
+pub record TaskGoesBy (c : Profile) (task : Task) : Type 0 where
   pub transfer : task.transfer ≡ c.transfer
   pub tolerant : task.tolerant ≡ c.tolerant
   pub will_detach : task.will_detach ≡ c.will_detach
@@ -140,7 +140,7 @@ pub record GoesBy (c : Profile) (task : Task) : Type 0 where
 -- The fact of a live host: its task goes by the device's descriptor, it is not done, a payload has a block at least, and what holds of the
 -- device fits its phase.
 pub record HostFact (c : Profile) (s : Situation) (h : HostState) : Type 0 where
-  pub task_is : GoesBy c h.task
+  pub task_is : TaskGoesBy c h.task
   pub on : IsOn h.phase
   pub some : HasBlocks c h.task.goal
   pub fact : GoalFact c h.task.goal h.phase s

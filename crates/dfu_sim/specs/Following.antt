@@ -5,7 +5,7 @@ use Rattle.dfu_suffix.specs.Grammar.{IsFile}
 use Rattle.dfu_device.specs.Stage.{InAppIdle}
 use Rattle.dfu_host.specs.declared.report.Report.{Report}
 use Rattle.dfu_sim.specs.declared.fault.LinkFault.{LinkFault}
-use Rattle.dfu_sim.specs.Session.{Machine, Loading, SaysInPlace, Kind, AnOffer, AnUpload, AnAbort, ATime, ARestart, ARefusal, AGo, Step}
+use Rattle.dfu_sim.specs.Session.{Machine, Loading, SaysInPlace, Kind, AnOffer, AnUpload, AnAbort, ATime, ARestart, ARefusal, AGo, MachineStep}
 use Rattle.dfu_sim.specs.Agreement.{AgreesOn}
 use Rattle.dfu_sim.specs.Happening.{Happening, Offers, Uploads, Aborts, Goes, Passes, Resets, Cuts, Refuses}
 use Rattle.dfu_sim.specs.Bench.{LinkState}
@@ -29,7 +29,7 @@ pub record IsFollowed (w : LinkState) (h : Happening) (w' : LinkState) (report :
   pub kind : Kind
   pub is : IsOfKind h kind
   pub after : Machine
-  pub step : Step w.bench.device.config.functional.tolerant w.bench.device.config.functional.transfer kind m report after
+  pub step : MachineStep w.bench.device.config.functional.tolerant w.bench.device.config.functional.transfer kind m report after
   pub agrees : AgreesOn w'.bench w'.up after
   pub in_place : SaysInPlace report → (w'.bench.device.stage ≡ InAppIdle) × (m.live ≡ Loading after.cur)
 

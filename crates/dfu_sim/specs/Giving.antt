@@ -18,9 +18,9 @@ pub record GivesImage (w : LinkState) : Type 0 where
   pub short : length w.up < 65535 * w.bench.device.config.functional.transfer
 
 -- With Uploaded the active image is given; with any other answer what was given before stays.
-abbrev pub Gives : LinkState → LinkState → Result (Option Report) LinkFault → Type 0
-Gives w w' (Ok (Some Uploaded)) = GivesImage w'
-Gives w w' result = w'.up ≡ w.up
+abbrev pub GivesOrKeeps : LinkState → LinkState → Result (Option Report) LinkFault → Type 0
+GivesOrKeeps w w' (Ok (Some Uploaded)) = GivesImage w'
+GivesOrKeeps w w' result = w'.up ≡ w.up
 
 -- From what holds of a link between events each event that comes leads to the same, and with Uploaded come the bytes of the active image.
 abbrev pub UploadsGive : Type 0

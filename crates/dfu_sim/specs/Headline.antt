@@ -21,11 +21,11 @@ pub data Begun : Type 0 where
   AsUpload : Begun
 
 -- The sessions that have begun once this event has come too; the last one comes first.
-abbrev pub begun : Event → List Begun → List Begun
-begun (Offer file limits) past = WithOffer file.now ∷ past
-begun (OfferVerified file limits) past = WithOffer file.now ∷ past
-begun (Upload limits) past = AsUpload ∷ past
-begun event past = past
+abbrev pub begun_now : Event → List Begun → List Begun
+begun_now (Offer file limits) past = WithOffer file.now ∷ past
+begun_now (OfferVerified file limits) past = WithOffer file.now ∷ past
+begun_now (Upload limits) past = AsUpload ∷ past
+begun_now event past = past
 
 -- These bytes are the whole payload of the file, by the grammar of DFU files.
 abbrev pub IsPayload : List ℕ → (file : List ℕ) → Type 0
@@ -82,7 +82,7 @@ pub record HeadlineHolds (factory : List ℕ) (past : List Begun) (report : Opti
 -- Where the headline holds before an event, it holds after it, with what the event reports. A refused event changes nothing.
 abbrev pub StepKeepsHeadline : LinkState → Event → LinkState → Result (Option Report) LinkFault → Type 0
 StepKeepsHeadline w event w' (Ok report) = (factory : List ℕ) (past : List Begun) (before : Option Report)
-    → HeadlineHolds factory past before w.bench → HeadlineHolds factory (begun event past) report w'.bench
+    → HeadlineHolds factory past before w.bench → HeadlineHolds factory (begun_now event past) report w'.bench
 StepKeepsHeadline w event w' (Err fault) = w' ≡ w
 
 -- The headline holds after each of these events, with what that event reports. These are the reports in order, and the link at the end.
@@ -90,7 +90,7 @@ pub data HoldsAfterEach (factory : List ℕ) : (past : List Begun) → LinkState
   no_event : {past : List Begun} {w : LinkState} → HoldsAfterEach factory past w [] [] w
   one_event : {past : List Begun} {w mid w' : LinkState} {event : Event} {events : List Event} {report : Option Report}
       {reports : List Report}
-      → HeadlineHolds factory (begun event past) report mid.bench → HoldsAfterEach factory (begun event past) mid events reports w'
+      → HeadlineHolds factory (begun_now event past) report mid.bench → HoldsAfterEach factory (begun_now event past) mid events reports w'
       → HoldsAfterEach factory past w (event ∷ events) (said report ++ reports) w'
 
 -- Where the headline holds before these events, it holds after each of them.

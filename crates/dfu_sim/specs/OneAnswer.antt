@@ -2,7 +2,7 @@
 use Rattle.std.specs.Prelude.{◌≡◌}
 use Rattle.dfu_device.specs.Setting.{Setting}
 use Rattle.dfu_sim.specs.declared.fault.LinkFault.{LinkFault}
-use Rattle.dfu_sim.specs.Play.{IsAllowed}
+use Rattle.dfu_sim.specs.Play.{MayHappen}
 use Rattle.dfu_sim.specs.Bench.{Bench}
 use Rattle.dfu_sim.specs.Happening.{Happening}
 use Rattle.dfu_sim.specs.Refusing.{IsRefused}
@@ -15,7 +15,7 @@ OneRefusal = (b : Bench) (h : Happening) (fault other : LinkFault) → IsRefused
 -- And it is no play.
 abbrev pub RefusedIsNoPlay : Type 0
 RefusedIsNoPlay = (b : Bench) (h : Happening) (fault : LinkFault) (event : Happening) → IsRefused b h fault → Means b.device.config h event
-    → IsAllowed b.session event → ⊥
+    → MayHappen b.session event → ⊥
 
 -- What happens means one event; so a file that is offered has one payload.
 abbrev pub OneEvent : Type 0

@@ -4,13 +4,13 @@ use Rattle.dfu_host.specs.declared.report.Report.{Report}
 use Rattle.dfu_host.specs.declared.report.Report.TheVariants.{Uploaded}
 use Rattle.dfu_device.specs.declared.objection.Objection.{Objection}
 use Rattle.dfu_device.specs.Stage.{Request, Dnload, Reply, Ack, StatusOf, StateOf, Data, Stall, Profile, Stage}
-use Rattle.dfu_device.specs.Table.{Plan, error, is_empty, plan, objection_code, may_close, refuse_stage}
+use Rattle.dfu_device.specs.Table.{Plan, error, has_no_bytes, plan, objection_code, may_close, refuse_stage}
 use Rattle.dfu_device.specs.Outcome.{Situation, Luck, Works, outcome, handled, elapsed, was_reset, powered}
 use Rattle.dfu_device.specs.Rows.{meant}
 use Rattle.dfu_host.specs.Phases.{ToFetch, Phase, Fetch, Over, OverUploaded, Deed, Send, Wait, Reset, Done, Heard, Acked, Status, StateIs, Part, NoRoom, Stalled, Nothing, Waited, WasReset, Restarted}
 use Rattle.dfu_host.specs.Table.{deed}
 use Rattle.dfu_host.specs.Host.{HostState, after, aborted as host_aborted}
-use Rattle.dfu_sim.specs.Opening.{goal_of, opened}
+use Rattle.dfu_sim.specs.Opening.{goal_of_aim, opened}
 use Rattle.dfu_sim.specs.Session.{Kind, AnOffer, AnUpload, AnAbort, ATime, ARestart, ARefusal, AGo}
 use Rattle.dfu_sim.specs.Happening.{Fate, Happening, Offers, Uploads, Aborts, Goes, Passes, Resets, Cuts, Refuses}
 use Rattle.dfu_sim.specs.declared.course.Handling.{Handling}
@@ -80,9 +80,9 @@ told Nobody = record { session = Nobody; answer = silent }
 told (Hosted h) = took h Restarted
 
 -- An abort reaches a live host, by the host's own rule.
-abbrev pub aborted : Session → Session
-aborted Nobody = Nobody
-aborted (Hosted h) = Hosted (host_aborted h)
+abbrev pub session_aborted : Session → Session
+session_aborted Nobody = Nobody
+session_aborted (Hosted h) = Hosted (host_aborted h)
 
 -- One action.
 
@@ -106,7 +106,7 @@ has_room phase room = true
 
 -- A request closes the download of this stage: a DNLOAD of no bytes, with as many bytes taken as an image has at least.
 abbrev pub closes : (least : ℕ) → Stage → Request → Bool
-closes least stage (Dnload number body) = if is_empty body then may_close least stage else false
+closes least stage (Dnload number body) = if has_no_bytes body then may_close least stage else false
 closes least stage request = false
 
 -- The plan of a request: that of the table; or, if it closes a download and the program refuses the image, an error with the code of that.
@@ -203,48 +203,48 @@ abbrev pub restarted_to : Situation → Session → Played
 restarted_to s session = let t = told session in record { link = record { device = s; session = t.session }; answer = t.answer }
 
 -- The device once its program has refused the image that was closed, if one was.
-abbrev pub refused : Objection → Situation → Situation
-refused why s = record { image = s.image; stage = refuse_stage why s.stage }
+abbrev pub image_refused : Objection → Situation → Situation
+image_refused why s = record { image = s.image; stage = refuse_stage why s.stage }
 
 -- Each event. The harm that an action does to a write is in the luck of the medium. Between actions the medium is not armed, so that it
 -- works while time passes.
 abbrev pub played : Profile → Link → Happening → (first second : Luck) → (room : Bool) → Played
 played c w (Offers aim payload limits) l k room = record {
-  link = record { device = w.device; session = opened c (goal_of aim payload) limits.actions limits.restarts };
+  link = record { device = w.device; session = opened c (goal_of_aim aim payload) limits.actions limits.restarts };
   answer = silent;
 }
 played c w (Uploads limits) l k room =
     record { link = record { device = w.device; session = opened c ToFetch limits.actions limits.restarts }; answer = silent }
-played c w Aborts l k room = record { link = record { device = w.device; session = aborted w.session }; answer = silent }
+played c w Aborts l k room = record { link = record { device = w.device; session = session_aborted w.session }; answer = silent }
 played c w (Goes fate harm) l k room = gone c w w.session fate l k room
 played c w (Passes ms) l k room = record { link = record { device = elapsed c w.device ms Works; session = w.session }; answer = silent }
 played c w Resets l k room = restarted_to (was_reset w.device) w.session
 played c w Cuts l k room = restarted_to (powered w.device) w.session
-played c w (Refuses why) l k room = record { link = record { device = refused why w.device; session = w.session }; answer = silent }
+played c w (Refuses why) l k room = record { link = record { device = image_refused why w.device; session = w.session }; answer = silent }
 
 -- An event that is not refused: a session begins only where none is live, and no offer is empty; an abort and an action need a live
 -- session.
-abbrev pub IsAllowed : Session → Happening → Type 0
-IsAllowed Nobody (Offers aim payload limits) = 0 < length payload
-IsAllowed Nobody (Uploads limits) = Unit {0}
-IsAllowed Nobody Aborts = ⊥
-IsAllowed Nobody (Goes fate harm) = ⊥
-IsAllowed Nobody (Passes ms) = Unit {0}
-IsAllowed Nobody Resets = Unit {0}
-IsAllowed Nobody Cuts = Unit {0}
-IsAllowed Nobody (Refuses why) = Unit {0}
-IsAllowed (Hosted h) (Offers aim payload limits) = ⊥
-IsAllowed (Hosted h) (Uploads limits) = ⊥
-IsAllowed (Hosted h) Aborts = Unit {0}
-IsAllowed (Hosted h) (Goes fate harm) = Unit {0}
-IsAllowed (Hosted h) (Passes ms) = Unit {0}
-IsAllowed (Hosted h) Resets = Unit {0}
-IsAllowed (Hosted h) Cuts = Unit {0}
-IsAllowed (Hosted h) (Refuses why) = Unit {0}
+abbrev pub MayHappen : Session → Happening → Type 0
+MayHappen Nobody (Offers aim payload limits) = 0 < length payload
+MayHappen Nobody (Uploads limits) = Unit {0}
+MayHappen Nobody Aborts = ⊥
+MayHappen Nobody (Goes fate harm) = ⊥
+MayHappen Nobody (Passes ms) = Unit {0}
+MayHappen Nobody Resets = Unit {0}
+MayHappen Nobody Cuts = Unit {0}
+MayHappen Nobody (Refuses why) = Unit {0}
+MayHappen (Hosted h) (Offers aim payload limits) = ⊥
+MayHappen (Hosted h) (Uploads limits) = ⊥
+MayHappen (Hosted h) Aborts = Unit {0}
+MayHappen (Hosted h) (Goes fate harm) = Unit {0}
+MayHappen (Hosted h) (Passes ms) = Unit {0}
+MayHappen (Hosted h) Resets = Unit {0}
+MayHappen (Hosted h) Cuts = Unit {0}
+MayHappen (Hosted h) (Refuses why) = Unit {0}
 
 -- A play: an event that is not refused, at some luck of the medium and with or without memory for a part of an upload.
 pub record Play (c : Profile) (w : Link) (event : Happening) (w' : Link) (answer : Answered) : Type 0 where
-  pub allowed : IsAllowed w.session event
+  pub allowed : MayHappen w.session event
   pub first : Luck
   pub second : Luck
   pub room : Bool

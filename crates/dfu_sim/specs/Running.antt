@@ -12,14 +12,14 @@ use Rattle.dfu_sim.specs.Bench.{Bench, LinkState}
 use Rattle.dfu_sim.specs.Happening.{Happening, happening}
 use Rattle.dfu_sim.specs.Refusing.{IsRefused}
 use Rattle.dfu_sim.specs.Comes.{HasCome}
-use Rattle.dfu_sim.specs.Giving.{Gives}
+use Rattle.dfu_sim.specs.Giving.{GivesOrKeeps}
 
 -- What happens comes to a link one after the other, none of it is refused, these are the reports in their order, and with Uploaded the
 -- active image is given.
 pub data Runs : LinkState → List Happening → List Report → LinkState → Type 0 where
   rests : {w : LinkState} → Runs w [] [] w
   comes : {w mid w' : LinkState} {h : Happening} {hs : List Happening} {report : Option Report} {reports : List Report}
-      → HasCome w h mid (Ok report) → Gives w mid (Ok report) → Runs mid hs reports w' → Runs w (h ∷ hs) (said report ++ reports) w'
+      → HasCome w h mid (Ok report) → GivesOrKeeps w mid (Ok report) → Runs mid hs reports w' → Runs w (h ∷ hs) (said report ++ reports) w'
 
 -- What happens, of the events that a caller names.
 abbrev pub happenings : List GivenEvent → List Happening
@@ -40,6 +40,6 @@ pub record StopsAt (w : LinkState) (hs : List Happening) (fault : LinkFault) (at
   pub why : IsStop w'.bench next fault
 
 -- What a run answers: the reports of all that happens, or where it stopped.
-abbrev pub HasRun : LinkState → List Happening → LinkState → Result (Vec Report Global) Stop → Type 0
-HasRun w hs w' (Ok reports) = Runs w hs reports.items w'
-HasRun w hs w' (Err stop) = StopsAt w hs stop.fault stop.at stop.reports.items w'
+abbrev pub RunAnswers : LinkState → List Happening → LinkState → Result (Vec Report Global) Stop → Type 0
+RunAnswers w hs w' (Ok reports) = Runs w hs reports.items w'
+RunAnswers w hs w' (Err stop) = StopsAt w hs stop.fault stop.at stop.reports.items w'

@@ -39,9 +39,9 @@ pub data Begins (t : ℕ) : Machine → Machine → Type 0 where
   installs : {m : Machine} {x : List ℕ} → m.pending ≡ Some x → IsOneOf x m.offers → Begins t m (record m { cur = x; pending = None })
 
 -- Drop, so that what was pending is forgotten, or not.
-pub data Ends : Machine → Machine → Type 0 where
-  ends_not : {m : Machine} → Ends m m
-  drops : {m : Machine} → Ends m (record m { pending = None })
+pub data MayDrop : Machine → Machine → Type 0 where
+  ends_not : {m : Machine} → MayDrop m m
+  drops : {m : Machine} → MayDrop m (record m { pending = None })
 
 -- A report that promises nothing: any but Installed, Uploaded and Verified.
 abbrev pub PromisesNothing : Report → Type 0
@@ -60,14 +60,15 @@ PromisesNothing Different = Unit {0}
 -- Say a report, or none; the session is over then. Verified is said only where the live payload is the active image and nothing is pending,
 -- and Installed only where besides the device is tolerant; Uploaded gives the active image; another report needs a live session and
 -- promises nothing.
-pub data Says (tolerant : Bool) : Machine → Option Report → Machine → Type 0 where
-  says_not : {m : Machine} → Says tolerant m None m
+pub data SaysReport (tolerant : Bool) : Machine → Option Report → Machine → Type 0 where
+  says_not : {m : Machine} → SaysReport tolerant m None m
   says_installed : {m : Machine} → m.live ≡ Loading m.cur → m.pending ≡ None → IsTrue tolerant
-      → Says tolerant m (Some Installed) (record m { live = NoOne })
-  says_verified : {m : Machine} → m.live ≡ Loading m.cur → m.pending ≡ None → Says tolerant m (Some Verified) (record m { live = NoOne })
-  says_uploaded : {m : Machine} → m.live ≡ Fetching → Says tolerant m (Some Uploaded) (record m { live = NoOne; up = m.cur })
+      → SaysReport tolerant m (Some Installed) (record m { live = NoOne })
+  says_verified : {m : Machine} → m.live ≡ Loading m.cur → m.pending ≡ None →
+      SaysReport tolerant m (Some Verified) (record m { live = NoOne })
+  says_uploaded : {m : Machine} → m.live ≡ Fetching → SaysReport tolerant m (Some Uploaded) (record m { live = NoOne; up = m.cur })
   says_other : {m : Machine} {report : Report} → PromisesNothing report → m.live ≢ NoOne
-      → Says tolerant m (Some report) (record m { live = NoOne })
+      → SaysReport tolerant m (Some report) (record m { live = NoOne })
 
 -- What an event may do.
 
@@ -96,19 +97,19 @@ SaysNoPromise (Some report) = PromisesNothing report
 -- What an event of each kind does. An offer and an upload begin a session where none is live; an abort does nothing yet; time installs what
 -- is pending, or nothing; a restart drops, then says at most a report that promises nothing; a refusal drops, or does nothing; an action of
 -- the host takes or installs at most once, then drops or not, then says at most one report.
-pub data Step (tolerant : Bool) (t : ℕ) : Kind → Machine → Option Report → Machine → Type 0 where
+pub data MachineStep (tolerant : Bool) (t : ℕ) : Kind → Machine → Option Report → Machine → Type 0 where
   offered : {m : Machine} {p : List ℕ} → m.live ≡ NoOne
-      → Step tolerant t (AnOffer p) m None (record m { offers = p ∷ m.offers; live = Loading p })
-  uploads : {m : Machine} → m.live ≡ NoOne → Step tolerant t AnUpload m None (record m { live = Fetching })
-  aborts : {m : Machine} → Step tolerant t AnAbort m None m
-  passes : {m : Machine} → Step tolerant t ATime m None m
+      → MachineStep tolerant t (AnOffer p) m None (record m { offers = p ∷ m.offers; live = Loading p })
+  uploads : {m : Machine} → m.live ≡ NoOne → MachineStep tolerant t AnUpload m None (record m { live = Fetching })
+  aborts : {m : Machine} → MachineStep tolerant t AnAbort m None m
+  passes : {m : Machine} → MachineStep tolerant t ATime m None m
   passes_installed : {m : Machine} {x : List ℕ} → m.pending ≡ Some x → IsOneOf x m.offers
-      → Step tolerant t ATime m None (record m { cur = x; pending = None })
-  restarts : {m m' : Machine} {report : Option Report} → Says tolerant (record m { pending = None }) report m' → SaysNoPromise report
-      → Step tolerant t ARestart m report m'
-  refuses : {m m' : Machine} → Ends m m' → Step tolerant t ARefusal m None m'
-  goes : {m m1 m2 m' : Machine} {report : Option Report} → Begins t m m1 → Ends m1 m2 → Says tolerant m2 report m'
-      → Step tolerant t AGo m report m'
+      → MachineStep tolerant t ATime m None (record m { cur = x; pending = None })
+  restarts : {m m' : Machine} {report : Option Report} → SaysReport tolerant (record m { pending = None }) report m' → SaysNoPromise report
+      → MachineStep tolerant t ARestart m report m'
+  refuses : {m m' : Machine} → MayDrop m m' → MachineStep tolerant t ARefusal m None m'
+  goes : {m m1 m2 m' : Machine} {report : Option Report} → Begins t m m1 → MayDrop m1 m2 → SaysReport tolerant m2 report m'
+      → MachineStep tolerant t AGo m report m'
 
 -- What was reported, as a list.
 abbrev pub said : Option Report → List Report
@@ -119,5 +120,5 @@ said (Some report) = report ∷ []
 pub data Legal (tolerant : Bool) (t : ℕ) : Machine → List Kind → List Report → Machine → Type 0 where
   stops : {m : Machine} → Legal tolerant t m [] [] m
   and_then : {m mid m' : Machine} {kind : Kind} {kinds : List Kind} {report : Option Report} {reports : List Report}
-      → Step tolerant t kind m report mid → Legal tolerant t mid kinds reports m'
+      → MachineStep tolerant t kind m report mid → Legal tolerant t mid kinds reports m'
       → Legal tolerant t m (kind ∷ kinds) (said report ++ reports) m'

@@ -2,7 +2,7 @@
 use Rattle.std.specs.Prelude.{◌≡◌, ◌⊎◌, ℕ, ◌<◌, Bool, List, [], ◌∷◌, Option}
 use Rattle.dfu_device.specs.Stage.{Profile, InAppIdle}
 use Rattle.dfu_host.specs.declared.report.Report.{Report}
-use Rattle.dfu_sim.specs.Session.{Machine, Loading, IsOneOf, SaysInPlace, Kind, AnOffer, Step, Legal}
+use Rattle.dfu_sim.specs.Session.{Machine, Loading, IsOneOf, SaysInPlace, Kind, AnOffer, MachineStep, Legal}
 use Rattle.dfu_sim.specs.Happening.{Happening}
 use Rattle.dfu_sim.specs.Play.{kind_of, Link, Answered, given, Play}
 use Rattle.dfu_sim.specs.LinkAgreement.{Agrees}
@@ -12,7 +12,7 @@ use Rattle.dfu_sim.specs.Fact.{SessionFact}
 -- Verified is reported the device is in appIDLE, and the payload of the session that was live is the active image.
 pub record Follows (c : Profile) (m : Machine) (event : Happening) (w' : Link) (up' : List ℕ) (report : Option Report) : Type 0 where
   pub after : Machine
-  pub step : Step c.tolerant c.transfer (kind_of event) m report after
+  pub step : MachineStep c.tolerant c.transfer (kind_of event) m report after
   pub agrees : Agrees w' up' after
   pub fact : SessionFact c w'.device w'.session
   pub in_place : SaysInPlace report → (w'.device.stage ≡ InAppIdle) × (m.live ≡ Loading w'.device.image)

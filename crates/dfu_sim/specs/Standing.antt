@@ -49,6 +49,6 @@ pub record IsSteady (b : Bench) : Type 0 where
   pub counted : IsCountedIn b.session
 
 -- What holds of a world between events: its bench is steady, and shows the active image of its medium's bytes.
-pub record Holds (b : Bench) : Type 0 where
+pub record BenchHolds (b : Bench) : Type 0 where
   pub steady : IsSteady b
   pub active : ShowsActive b

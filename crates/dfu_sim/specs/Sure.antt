@@ -46,7 +46,7 @@ pub record IsAsPlayed (b : Bench) (event : Happening) (b' : Bench) (report : Opt
 
 -- What happened is an event of the device, which stays what it is set up as; where the event does no harm, all goes as the table of fates
 -- says of a medium that works.
-pub record IsSure (b : Bench) (h : Happening) (b' : Bench) (report : Option Report) : Type 0 where
+pub record IsSureEvent (b : Bench) (h : Happening) (b' : Bench) (report : Option Report) : Type 0 where
   pub event : Happening
   pub means : Means b.device.config h event
   pub kept : IsSame b.device b'.device
@@ -54,5 +54,5 @@ pub record IsSure (b : Bench) (h : Happening) (b' : Bench) (report : Option Repo
 
 -- So it is of each event that is not refused.
 abbrev pub AllSure : Bench → Happening → Bench → Result (Option Report) LinkFault → Type 0
-AllSure b h b' (Ok report) = IsSure b h b' report
+AllSure b h b' (Ok report) = IsSureEvent b h b' report
 AllSure b h b' (Err fault) = Unit {0}

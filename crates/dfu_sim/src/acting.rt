@@ -6,8 +6,8 @@ ghost use Rattle.dfu_host.specs.Host.{IsOn};
 ghost use Rattle.dfu_sim.specs.Play.{waits_for};
 ghost use Rattle.dfu_host.specs.Wire.{Hears};
 ghost use Rattle.dfu_host.specs.Phases.{Deed, Heard};
-ghost use Rattle.dfu_sim.specs.Bytes.{Takes, Reaches, Slips, bus_was_reset, came_back, ended_back, Waits, ResetsBus, HostActs};
-ghost use Rattle.dfu_sim.specs.inside.Acting.{course_in, seen_over, HasHeard};
+ghost use Rattle.dfu_sim.specs.Bytes.{TakesSetup, ReachesDevice, Slips, bus_was_reset, came_back, ended_back, Waits, ResetsBus, HostActs};
+ghost use Rattle.dfu_sim.specs.inside.Acting.{course_in, seen_over, HasHeardBack};
 
 use crate::back::Back;
 use crate::course::{Course, Handling, Harming};
@@ -25,7 +25,7 @@ fn take_in<M: Medium>(
     refusing: Option<Objection>,
     out: &mut ArrayVec<u8, 4096>,
 ) -> Answer
-    ensures { Takes refusing setup.now body.now device.old result out.new.items device.new }
+    ensures { TakesSetup refusing setup.now body.now device.old result out.new.items device.new }
 {
     match refusing {
         None => device.handle(setup, body, out),
@@ -49,7 +49,7 @@ fn reach<M: Medium>(
     refusing: Option<Objection>,
     out: &mut ArrayVec<u8, 4096>,
 ) -> Back
-    ensures { Reaches refusing setup.now body.now handling device.old result out.new.items device.new }
+    ensures { ReachesDevice refusing setup.now body.now handling device.old result out.new.items device.new }
 {
     match handling {
         Handling::Unseen => Back::Lost,
@@ -130,7 +130,7 @@ fn reset_bus<M: Medium>(device: &mut Device<M>, course: Course<'_>) -> Seen<'sta
 
 /// Tells the host what came back of its request.
 fn tell(host: &mut Host<'_>, back: Back, out: &[u8])
-    ensures { HasHeard host.old back out.now host.new }
+    ensures { HasHeardBack host.old back out.now host.new }
 {
     match back {
         Back::Answered(Answer::Ack) => host.take(Seen::Ack),

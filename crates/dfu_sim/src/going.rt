@@ -3,7 +3,7 @@
 ghost use Rattle.std.specs.Prelude.{◌≡◌};
 ghost use Rattle.dfu_host.specs.Host.{IsOn};
 ghost use Rattle.dfu_slots.specs.Medium.Fuse.{Whole};
-ghost use Rattle.dfu_sim.specs.Bytes.{fuse_of, armed, left_by, HostActsArmed};
+ghost use Rattle.dfu_sim.specs.Bytes.{fuse_of, armed, device_left_by, HostActsArmed};
 ghost use Rattle.dfu_sim.specs.Course.{course_of};
 ghost use Rattle.dfu_sim.specs.Happening.{fate_of, harm_in, refused_in};
 ghost use Rattle.dfu_sim.specs.inside.Acting.{harm_at};
@@ -33,7 +33,7 @@ fn arm<M: Faulty>(device: &mut Device<M>, course: Course<'_>)
 
 /// The action is over: after a cut the power comes back, and in any case the medium is disarmed.
 fn settle<M: Faulty>(device: &mut Device<M>, harming: Harming)
-    ensures { device.new ≡ left_by harming device.old }
+    ensures { device.new ≡ device_left_by harming device.old }
 {
     match harming {
         Harming::CutsPower => power_cycle(device),

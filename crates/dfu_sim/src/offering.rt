@@ -2,7 +2,7 @@
 
 ghost use Rattle.std.specs.Prelude.{◌≡◌, ◌↔◌, Some, Err, IfOk, IfErr};
 ghost use Rattle.dfu_host.specs.Host.{started};
-ghost use Rattle.dfu_sim.specs.Opening.{goal_of};
+ghost use Rattle.dfu_sim.specs.Opening.{goal_of_aim};
 ghost use Rattle.dfu_sim.specs.inside.Acting.{HasBegun};
 ghost use Rattle.dfu_sim.specs.Refusing.{first_offer_fault, IsBadOffer};
 
@@ -23,7 +23,7 @@ fn open<'f>(
     limits: Limits,
 ) -> Result<Host<'f>, HostFault>
     ensures refused { (fault : HostFault) → (result ≡ Err fault) ↔ (first_offer_fault aim file.now functional.now device_ids ≡ Some fault) }
-    ensures started { IfOk result (λ host. host ≡ started functional.now (goal_of aim file.now.payload) limits) }
+    ensures started { IfOk result (λ host. host ≡ started functional.now (goal_of_aim aim file.now.payload) limits) }
 {
     match aim {
         Aim::Install => Host::download(file, functional, device_ids, limits),

@@ -2,7 +2,7 @@
 
 ghost use Rattle.std.specs.Prelude.{◌≡◌};
 ghost use Rattle.dfu_sim.specs.Course.{course_of};
-ghost use Rattle.dfu_sim.specs.Play.{given, told, aborted};
+ghost use Rattle.dfu_sim.specs.Play.{given, told, session_aborted};
 ghost use Rattle.dfu_sim.specs.Standing.{session_of, given_by, bench_of, link_state, IsOnIn, SendsBytes, IsCountedIn, IsSteady};
 ghost use Rattle.dfu_sim.specs.Happening.{Offers, Goes, fate_of, harm_in, refused_in, happening};
 ghost use Rattle.dfu_sim.specs.Comes.{HasCome, HasComeAlone};
@@ -91,7 +91,7 @@ fn offer<'f, M: Medium>(
 /// The session is given up.
 fn abort(host: &mut Option<Host<'_>>) -> Result<Option<Report>, LinkFault>
     requires { IsOnIn (session_of host.old) }
-    ensures session { session_of host.new ≡ aborted (session_of host.old) }
+    ensures session { session_of host.new ≡ session_aborted (session_of host.old) }
     ensures told { result ≡ abort_told (session_of host.old) }
 {
     match host {

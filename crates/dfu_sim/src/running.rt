@@ -2,7 +2,7 @@
 
 ghost use Rattle.std.specs.Prelude.{◌≡◌, ◌++◌, ◌<◌, vec_len, vec_capacity};
 ghost use Rattle.dfu_sim.specs.Session.{said};
-ghost use Rattle.dfu_sim.specs.Running.{happenings, HasRun};
+ghost use Rattle.dfu_sim.specs.Running.{happenings, RunAnswers};
 ghost use Rattle.dfu_sim.specs.FollowingRun.{AllFollowRun};
 ghost use Rattle.dfu_sim.specs.Headline.{RunKeepsHeadline};
 ghost use Rattle.dfu_sim.specs.CleanInstall.{RunsCleanly};
@@ -49,7 +49,7 @@ pub fn run<'f, M: Faulty>(
     alloc: Global,
     events: &[Event<'f, '_>],
 ) -> Result<Vec<Report>, Stop>
-    ensures runs { HasRun world.old (happenings events.now) world.new result }
+    ensures runs { RunAnswers world.old (happenings events.now) world.new result }
     ensures legal { AllFollowRun world.old (happenings events.now) world.new result }
     ensures headline { RunKeepsHeadline world.old events.now world.new result }
     ensures clean { RunsCleanly world.old.bench (happenings events.now) world.new.bench result }

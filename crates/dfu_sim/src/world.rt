@@ -11,7 +11,7 @@ ghost use Rattle.dfu_sim.specs.Comes.{HasCome};
 ghost use Rattle.dfu_sim.specs.Following.{AllFollow};
 ghost use Rattle.dfu_sim.specs.Headline.{StepKeepsHeadline};
 ghost use Rattle.dfu_sim.specs.Sure.{AllSure};
-ghost use Rattle.dfu_sim.specs.Giving.{Gives};
+ghost use Rattle.dfu_sim.specs.Giving.{GivesOrKeeps};
 
 use crate::answered::Answered;
 use crate::back::Back;
@@ -41,13 +41,13 @@ pub struct World<'f, M: Faulty> {
 
 impl<'f, M: Faulty> Model for World<'f, M> {
     ghost use Rattle.dfu_sim.specs.Bench.{LinkState};
-    ghost use Rattle.dfu_sim.specs.Standing.{bench_of, link_state, Holds};
+    ghost use Rattle.dfu_sim.specs.Standing.{bench_of, link_state, BenchHolds};
 
     ghost Value = { LinkState };
 
     ghost view = { λ w. link_state w.device w.host w.gave };
 
-    ghost invariant = { λ w. Holds (bench_of w.device w.host) };
+    ghost invariant = { λ w. BenchHolds (bench_of w.device w.host) };
 }
 
 impl<'f, M: Faulty> World<'f, M> {
@@ -95,7 +95,7 @@ impl<'f, M: Faulty> World<'f, M> {
         ensures legal { AllFollow self.old (happening event.entry) self.new result }
         ensures headline { StepKeepsHeadline self.old event.entry self.new result }
         ensures sure { AllSure self.old.bench (happening event.entry) self.new.bench result }
-        ensures gives { Gives self.old self.new result }
+        ensures gives { GivesOrKeeps self.old self.new result }
         ensures active { ShowsActive self.new.bench }
     {
         // Called for its law, which `legal` needs: no image but the one that is shown is active.

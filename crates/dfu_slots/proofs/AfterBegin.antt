@@ -7,7 +7,7 @@ use Rattle.dfu_slots.specs.Seen.{SlotsState, store_on, spare_slot, spare_of, is_
 use Rattle.dfu_slots.specs.Store.{IsStore}
 use Rattle.dfu_slots.specs.Changes.{IsBroken, Changes}
 use Rattle.dfu_slots.specs.Leaves.{BeginLeaves}
-use Rattle.dfu_slots.specs.inside.Kept.{IsKept}
+use Rattle.dfu_slots.specs.inside.Kept.{IsStoreAt}
 use Rattle.dfu_slots.proofs.Stands.{standing}
 use Rattle.dfu_slots.proofs.Begun.{begin_same, begin_keeps, begin_data, begin_shuts}
 use Rattle.dfu_slots.proofs.Seeing.{closed_begun, spare_fresh, fresh_store, fresh_is}
@@ -49,9 +49,9 @@ begin_fresh s now (Ok x) fault worked = fresh_is now.medium now.held now.put_end
 begin_fresh {T} s now (Err e) fault changes = failed_fresh {T = T} s now Begin (Err e) changes fault
 
 -- What the private `begin` did to the inside of a store that is seen as `v` is what `begin` does to the store, and its places are kept.
-pub begin_done : {T : Type 0} {s v : SlotsState} {active spare : ℕ} → s ≡ v → IsKept s active spare → (now : SlotsState)
+pub begin_done : {T : Type 0} {s v : SlotsState} {active spare : ℕ} → s ≡ v → IsStoreAt s active spare → (now : SlotsState)
     (result : Result T PutFault) → OnErr result (IsBroken result) → Changes s Begin result now
-    → IsKept now active spare × BeginLeaves v result now
+    → IsStoreAt now active spare × BeginLeaves v result now
 begin_done {T} {s} {v} view kept now result fault changes =
     let has = kept.store.has_image in
     let refuses = begin_refuses s result fault in

@@ -12,7 +12,7 @@ use Rattle.dfu_slots.specs.Seen.{SlotsState, spare_slot, held_at, data_place, sp
 use Rattle.dfu_slots.specs.Store.{HasPuts, IsStore}
 use Rattle.dfu_slots.specs.Changes.{Changes}
 use Rattle.dfu_slots.specs.Leaves.{Refuses, PutLeaves}
-use Rattle.dfu_slots.specs.inside.Kept.{IsKept}
+use Rattle.dfu_slots.specs.inside.Kept.{IsStoreAt}
 use Rattle.dfu_slots.proofs.Stands.{standing}
 use Rattle.dfu_slots.proofs.Newest.{places_are, place_end, spare_size}
 use Rattle.dfu_slots.proofs.Sectors.{IsEdge, gate_wide}
@@ -235,10 +235,10 @@ module _ {T : Type 0} (s now : SlotsState) (store : IsStore s) (at : ℕ) (new :
   }
 
 -- What the private `put` did to the inside of a store that is seen as `v` is what `put` does to the store, and its places are kept.
-pub put_done : {T : Type 0} {s v : SlotsState} {active spare : ℕ} → s ≡ v → IsKept s active spare → (now : SlotsState) (at : ℕ)
+pub put_done : {T : Type 0} {s v : SlotsState} {active spare : ℕ} → s ≡ v → IsStoreAt s active spare → (now : SlotsState) (at : ℕ)
     (new : List ℕ) → at ≡ v.put_end → (result : Result T PutFault) → (IsErrOf result NotBegun ↔ IsOpen (spare_slot s))
     → (IsErrOf result TooLarge ↔ ((¬ IsOpen (spare_slot s)) × (capacity_of s.medium < at + length new)))
-    → Changes s (Put at new) result now → IsKept now active spare × PutLeaves v at new result now
+    → Changes s (Put at new) result now → IsStoreAt now active spare × PutLeaves v at new result now
 put_done {T} {s} {v} view kept now at new place result not_begun too_large changes =
     let store = kept.store in
     let here : at ≡ s.put_end = place ∙ sym (ap (λ (x : SlotsState). x.put_end) view) in

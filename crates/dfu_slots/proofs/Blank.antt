@@ -1,7 +1,7 @@
 -- Bytes that are erased, piece by piece, and after an erase.
 use Rattle.std.proofs.Common.{◌≡◌, ℕ, ◌+◌, ◌≤◌, List, ◌++◌, length, take, replicate, slice_range, sym, ◌∙◌, ap, subst, arith}
 use Rattle.std.proofs.lemmas.List.{length-replicate, take-replicate, replicate-append-replicate}
-use Rattle.dfu_slots.specs.Medium.{MediumState, Wrote, WroteOrLied, FailedWrite}
+use Rattle.dfu_slots.specs.Medium.{MediumState, WroteBytes, WroteOrLied, FailedWrite}
 use Rattle.dfu_slots.specs.declared.fault.WriteFault.TheVariants.{NotVerified}
 use Rattle.dfu_slots.specs.Medium.{IsBlank}
 use Rattle.dfu_slots.proofs.ReadBack.{Stand, both_stand, front_stands, back_stands}
@@ -52,7 +52,7 @@ blank_piece m at n piece is blank = subst (λ (l : List ℕ). Stand m at l) (sym
 
 -- An erase whose sector is blank then worked.
 pub was_erased : {old now : MediumState} {at : ℕ} (n : ℕ) → at + n ≤ length old.bytes → WroteOrLied old at (replicate n 255) now
-    → IsBlank now.bytes at n → Wrote old at (replicate n 255) now
+    → IsBlank now.bytes at n → WroteBytes old at (replicate n 255) now
 was_erased {now = now} {at = at} n room answered blank =
     was_written (omega (arith, blanks n, room)) answered (blank_stand now.bytes at n blank)
 

@@ -5,7 +5,7 @@ use Rattle.std.proofs.lemmas.Nat.{from_le_bytes-to_le_bytes_4}
 use Rattle.std.proofs.lemmas.Bool.{cases_Bool, both_ways, and_from, and_parts, or_left, or_right, or_cases, not_from_false, not-true, eqb-true, eqb-false, ne_eqb, le-leb, leb-true, cases_eq}
 use lib.Pointwise.{bytes_decides}
 use Rattle.dfu_suffix.specs.Register.{register}
-use Rattle.dfu_slots.specs.Layout.{Slot, OPEN, IsOpen, generation, version, header_length, header, HasHeader}
+use Rattle.dfu_slots.specs.Layout.{Slot, OPEN, IsOpen, generation, header_version, header_length, header, HasHeader}
 use Rattle.dfu_slots.specs.Image.{Counts, is_intact, counts}
 
 -- The length that stands in a well-formed header is that of its image.
@@ -43,14 +43,14 @@ counts_same s t head body is_open c = record {
 }
 
 -- In a header of version 2 that is well formed stands the register of the image.
-pub two_well_formed : (s : Slot) (len : ℕ) → version s ≡ 2 → HasHeader s len
+pub two_well_formed : (s : Slot) (len : ℕ) → header_version s ≡ 2 → HasHeader s len
     → s.header ≡ header 2 (generation s) len (register (take len s.data_bytes))
 two_well_formed s len two has = ⊎_elim
-    (λ e. let one : version s ≡ 1 = ap (λ (h : List ℕ). slice_index h 1) e in absurd (omega (arith, one, two)))
+    (λ e. let one : header_version s ≡ 1 = ap (λ (h : List ℕ). slice_index h 1) e in absurd (omega (arith, one, two)))
     (λ e. e)
     has.well_formed
 
-intact_true : (s : Slot) → version s ≡ 2 → HasHeader s (header_length s) → is_intact s ≡ true
+intact_true : (s : Slot) → header_version s ≡ 2 → HasHeader s (header_length s) → is_intact s ≡ true
 unfolding is_intact
 intact_true s two has =
     and_from (nat_le (header_length s) (length s.data_bytes)) _ (le-leb _ _ has.fits)
@@ -72,9 +72,9 @@ pub counts_true : (s : Slot) → Counts s → counts s ≡ true
 counts_true s c =
     and_from (s.gate == OPEN) _ (eq-eqb s.gate OPEN c.is_open)
     (⊎_elim
-    (λ two. or_right (not (version s == 2)) _ (intact_true s two (c.intact two)))
-    (λ other. or_left _ _ (not_from_false _ (ne_eqb (version s) 2 other)))
-    (cases_eq (version s) 2))
+    (λ two. or_right (not (header_version s == 2)) _ (intact_true s two (c.intact two)))
+    (λ other. or_left _ _ (not_from_false _ (ne_eqb (header_version s) 2 other)))
+    (cases_eq (header_version s) 2))
 
 -- A slot that the test takes to count counts.
 pub counts_from : (s : Slot) → counts s ≡ true → Counts s
@@ -83,8 +83,8 @@ counts_from s test =
     record {
       is_open = eqb-true s.gate OPEN parts.0;
       intact = λ two.
-          ⊎_elim (λ other. absurd (eqb-false (version s) 2 (not-true _ other) two)) (λ whole. intact_from s whole)
-          (or_cases (not (version s == 2)) _ parts.1);
+          ⊎_elim (λ other. absurd (eqb-false (header_version s) 2 (not-true _ other) two)) (λ whole. intact_from s whole)
+          (or_cases (not (header_version s == 2)) _ parts.1);
     }
 
 -- A slot that the test takes not to count does not.

@@ -4,7 +4,7 @@ use Rattle.std.proofs.lemmas.List.{append_assoc, append-nil, length-replicate}
 use Rattle.std.proofs.lemmas.Bool.{cases_lt, cond-true, cond-false, ne_eqb, eq-eqb}
 use Rattle.std.proofs.Math.Nat.{mod-lt, mod-add-mod, mod_self}
 use Rattle.dfu_slots.specs.declared.fault.WriteFault.{WriteFault}
-use Rattle.dfu_slots.specs.Medium.{MediumState, Write, Wrote, FailedWrite, AllWrites, BrokenWrites}
+use Rattle.dfu_slots.specs.Medium.{MediumState, Write, WroteBytes, FailedWrite, AllWrites, BrokenWrites}
 use Rattle.dfu_slots.specs.Units.{Grain}
 use Rattle.dfu_slots.specs.Image.{IsSized}
 use Rattle.dfu_slots.specs.Writes.{erase_write, erases}
@@ -133,10 +133,10 @@ module _ {old mid : MediumState} {at n place : ℕ} (to : ErasedTo old mid old.g
   step = erases_step span place (at + n - place) large to.edge (omega (arith, more))
 
   -- One sector more.
-  pub erased_more : (now : MediumState) → Wrote mid place (replicate mid.grain.sector 255) now
+  pub erased_more : (now : MediumState) → WroteBytes mid place (replicate mid.grain.sector 255) now
       → ErasedTo old now span at n (place + span)
   erased_more now answered =
-      let wrote = subst (λ (k : ℕ). Wrote mid place (replicate k 255) now) same answered in
+      let wrote = subst (λ (k : ℕ). WroteBytes mid place (replicate k 255) now) same answered in
       let first : List Write = erase_write span place ∷ [] in
       let kept : length now.bytes ≡ length mid.bytes = ap length wrote.bytes
       ∙ (written_torn mid.bytes place (replicate span 255) (omega (arith, end_there, length-replicate {A = ℕ} span 255))).size in

@@ -1,7 +1,7 @@
 -- Lists of writes: what they leave outside a range, the count of failures, and their parts.
 use Rattle.std.proofs.Common.{◌≡◌, ◌⊎◌, inl, inr, Bool, true, false, if◌then◌else◌, ℕ, ◌+◌, ◌≤◌, List, [], ◌∷◌, ◌++◌, length, Result, Ok, Err, OnOk, IfErr, refl, sym, ◌∙◌, ap, subst, arith}
 use Rattle.dfu_slots.specs.declared.fault.WriteFault.{WriteFault}
-use Rattle.dfu_slots.specs.Medium.{MediumState, Write, KeepsOutside, Torn, Rose, Wrote, FailedWrite, AllWrites, BrokenWrites}
+use Rattle.dfu_slots.specs.Medium.{MediumState, Write, KeepsOutside, Torn, Rose, WroteBytes, FailedWrite, AllWrites, BrokenWrites}
 use Rattle.dfu_slots.specs.inside.Series.{Series}
 use Rattle.dfu_slots.proofs.Torn.{written_torn, keeps_wider, keeps_same, keeps_both}
 
@@ -16,7 +16,7 @@ Ends s ws now = AllWrites s ws now ⊎ ((fault : WriteFault) × BrokenWrites fau
 
 module _ (from to : ℕ) where
   wrote_keeps : (s now : MediumState) (w : Write) → to ≤ length s.bytes → from ≤ w.at → w.at + length w.bytes ≤ to
-      → Wrote s w.at w.bytes now → KeepsOutside from to s.bytes now.bytes
+      → WroteBytes s w.at w.bytes now → KeepsOutside from to s.bytes now.bytes
   wrote_keeps s now w room low high wrote =
       let torn : Torn s.bytes w.at w.bytes now.bytes = subst (λ (l : List ℕ). Torn s.bytes w.at w.bytes l) (sym wrote.bytes)
       (written_torn s.bytes w.at w.bytes (omega arith)) in
@@ -130,7 +130,7 @@ series_after ws vs s mid now (Ok x) first second = all_append ws vs s mid now fi
 series_after ws vs s mid now (Err fault) first second = broken_later fault ws vs s mid now first second
 
 -- A series of one write, by what it answered.
-pub series_one : {T : Type 0} (s now : MediumState) (at : ℕ) (bytes : List ℕ) (r : Result T WriteFault) → OnOk r (Wrote s at bytes now)
+pub series_one : {T : Type 0} (s now : MediumState) (at : ℕ) (bytes : List ℕ) (r : Result T WriteFault) → OnOk r (WroteBytes s at bytes now)
     → IfErr r (λ fault. FailedWrite fault s at bytes now) → Series s (record { at = at; bytes = bytes } ∷ []) r now
 series_one s now at bytes (Ok x) wrote failed = (now, wrote, refl)
 series_one s now at bytes (Err fault) wrote failed = inl failed

@@ -6,7 +6,7 @@ use Rattle.dfu_slots.specs.Layout.{Slot}
 use Rattle.dfu_slots.specs.Image.{gate_of, Active, HasImage, active_at, spare_at, spare}
 use Rattle.dfu_slots.specs.Seen.{SlotsState, store_of, image_of, room_of}
 use Rattle.dfu_slots.specs.Store.{IsStore}
-use Rattle.dfu_slots.specs.inside.Kept.{IsKept}
+use Rattle.dfu_slots.specs.inside.Kept.{IsStoreAt}
 use Rattle.dfu_slots.proofs.Stands.{ActiveAt, standing}
 use Rattle.dfu_slots.proofs.Newest.{places_are}
 use Rattle.dfu_slots.proofs.Series.{SameSize}
@@ -51,8 +51,8 @@ stays_places s now has stays =
     }
 
 -- So places that were kept may be kept on.
-pub kept_on : {s now : SlotsState} {active spare : ℕ} → IsKept s active spare → IsStore now → SamePlaces s.medium now.medium
-    → IsKept now active spare
+pub kept_on : {s now : SlotsState} {active spare : ℕ} → IsStoreAt s active spare → IsStore now → SamePlaces s.medium now.medium
+    → IsStoreAt now active spare
 kept_on kept store same = record {
   store = store;
   active_there = kept.active_there ∙ sym same.active;
@@ -60,12 +60,12 @@ kept_on kept store same = record {
 }
 
 -- The image that a store of kept places is seen to have is the active one.
-pub kept_active : {s : SlotsState} {active spare : ℕ} → IsKept s active spare → Active s.medium (image_of s)
+pub kept_active : {s : SlotsState} {active spare : ℕ} → IsStoreAt s active spare → Active s.medium (image_of s)
 kept_active {s} kept = image_active s kept.store.has_image
 
 -- Places are kept on if the medium has another fuse.
-pub fuse_kept : {s : SlotsState} {active spare : ℕ} → IsKept s active spare → (m : MediumState) (fuse : Fuse)
-    → m ≡ record s.medium { fuse = fuse } → IsKept (store_of m s.held s.put_end) active spare
+pub fuse_kept : {s : SlotsState} {active spare : ℕ} → IsStoreAt s active spare → (m : MediumState) (fuse : Fuse)
+    → m ≡ record s.medium { fuse = fuse } → IsStoreAt (store_of m s.held s.put_end) active spare
 fuse_kept kept m fuse is = kept_on kept (fuse_leaves refl kept.store m fuse is).store
     (record {
       active = ap (λ (x : MediumState). active_at (gate_of x) x.bytes) is;

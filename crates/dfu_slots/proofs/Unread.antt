@@ -5,9 +5,9 @@ use Rattle.std.proofs.lemmas.Nat.{le_bytes_4, mod_below}
 use Rattle.std.proofs.lemmas.Bool.{cases_Bool, cond-true, cond-false, ne_eqb}
 use Rattle.dfu_suffix.specs.Register.{register}
 use Rattle.dfu_slots.specs.Medium.{MediumState}
-use Rattle.dfu_slots.specs.Layout.{Slot, slot, slot_size, capacity, ArePlaces, generation, version, header_length, header}
+use Rattle.dfu_slots.specs.Layout.{Slot, slot, slot_size, capacity, ArePlaces, generation, header_version, header_length, header}
 use Rattle.dfu_slots.specs.Image.{Counts, IsNewest, HasImage, IsSized, gate_of, slot_of, active_at, spare_at, first_is_active}
-use Rattle.dfu_slots.specs.Known.{header_register, IsFormed, MayCount, IsNewestUnread, place_of, IsActiveUnread}
+use Rattle.dfu_slots.specs.Known.{header_register, IsFormed, MayCount, IsNewestUnread, slot_place, IsActiveUnread}
 use Rattle.dfu_slots.proofs.Parts.{data_length}
 use Rattle.dfu_slots.proofs.Counting.{two_well_formed}
 use Rattle.dfu_slots.proofs.Newest.{newest_test, other_test, places_newest}
@@ -54,34 +54,35 @@ newest_read mine other u = record {
   counts = record {
     is_open = u.counts.is_open;
     intact = λ two.
-        let one : version mine ≡ 1 = ap (λ (h : List ℕ). slice_index h 1) u.counts.formed.header_is in absurd (omega (arith, one, two));
+        let one : header_version mine ≡ 1 = ap (λ (h : List ℕ). slice_index h 1) u.counts.formed.header_is in absurd
+        (omega (arith, one, two));
   };
   newer = ⊎_elim (λ off. inl (λ c. off (counts_may other c))) (λ newer. inr newer) u.newer;
 }
 
 -- The place of the named slot and that of the other one are the places of the two slots.
-named_places : (first : Bool) (bytes : List ℕ) → ArePlaces bytes (place_of first bytes) (place_of (not first) bytes)
+named_places : (first : Bool) (bytes : List ℕ) → ArePlaces bytes (slot_place first bytes) (slot_place (not first) bytes)
 named_places true bytes = inl (refl, refl)
 named_places false bytes = inr (refl, refl)
 
 -- Where the named slot is the newest, it is the first exactly where the test takes the first for the active one.
 named_first : (g : ℕ) (bytes : List ℕ) (first : Bool)
-    → IsNewest (slot g bytes (place_of first bytes)) (slot g bytes (place_of (not first) bytes)) → first ≡ first_is_active g bytes
+    → IsNewest (slot g bytes (slot_place first bytes)) (slot g bytes (slot_place (not first) bytes)) → first ≡ first_is_active g bytes
 named_first g bytes true newest = sym (newest_test _ _ newest)
 named_first g bytes false newest = sym (other_test _ _ newest)
 
 -- What is found of a named slot that is the active one.
 pub record IsNamed (m : MediumState) (first : Bool) : Type 0 where
   pub has_image : HasImage m
-  pub active_there : place_of first m.bytes ≡ active_at (gate_of m) m.bytes
-  pub spare_there : place_of (not first) m.bytes ≡ spare_at (gate_of m) m.bytes
+  pub active_there : slot_place first m.bytes ≡ active_at (gate_of m) m.bytes
+  pub spare_there : slot_place (not first) m.bytes ≡ spare_at (gate_of m) m.bytes
   pub first_is : first ≡ first_is_active (gate_of m) m.bytes
 
 -- Where gates and headers alone tell that the named slot is the active one, it is.
 pub named_is : {m : MediumState} {first : Bool} → IsActiveUnread m first → IsNamed m first
 named_is {m} {first} u =
-    let mine = place_of first m.bytes in
-    let other = place_of (not first) m.bytes in
+    let mine = slot_place first m.bytes in
+    let other = slot_place (not first) m.bytes in
     let newest = newest_read (slot_of m mine) (slot_of m other) u.newest in
     let places = places_newest (gate_of m) m.bytes mine other (named_places first m.bytes) newest in
     record {
@@ -93,11 +94,12 @@ named_is {m} {first} u =
     }
 
 -- They tell so at the place of the named slot and that of the other one.
-pub unread_there : (m : MediumState) (first : Bool) {p q : ℕ} → p ≡ place_of first m.bytes → q ≡ place_of (not first) m.bytes → IsSized m
+pub unread_there : (m : MediumState) (first : Bool) {p q : ℕ} → p ≡ slot_place first m.bytes →
+    q ≡ slot_place (not first) m.bytes → IsSized m
     → IsNewestUnread (slot_of m p) (slot_of m q) → IsActiveUnread m first
 unread_there m first {p} here there sized newest = record {
   sized = sized;
-  newest = subst (λ (x : ℕ). IsNewestUnread (slot_of m x) (slot_of m (place_of (not first) m.bytes))) here
+  newest = subst (λ (x : ℕ). IsNewestUnread (slot_of m x) (slot_of m (slot_place (not first) m.bytes))) here
       (subst (λ (x : ℕ). IsNewestUnread (slot_of m p) (slot_of m x)) there newest);
 }
 
@@ -111,15 +113,16 @@ first_told g bytes p here some = elim (cases_Bool (first_is_active g bytes)) [
 
 -- A header that was read is well formed where the slot's header is.
 pub formed_told : (g : ℕ) (bytes : List ℕ) (at : ℕ) → at + slot_size bytes ≤ length bytes → 2 * g ≤ slot_size bytes → (found : List ℕ)
-    → found ≡ (slot g bytes at).header → (room : ℕ) → room ≡ capacity g bytes → (version crc : ℕ) → {T : Type 0}
-    → T ↔ ((found ≡ header version (get_or found 0 0) (from_le_bytes w32 (take 4 (drop 4 found))) crc)
+    → found ≡ (slot g bytes at).header → (room : ℕ) → room ≡ capacity g bytes → (header_version crc : ℕ) → {T : Type 0}
+    → T ↔ ((found ≡ header header_version (get_or found 0 0) (from_le_bytes w32 (take 4 (drop 4 found))) crc)
     × (from_le_bytes w32 (take 4 (drop 4 found)) ≤ room))
-    → T ↔ IsFormed (slot g bytes at) version crc
-formed_told g bytes at end room found read most most_is version crc {T} test =
+    → T ↔ IsFormed (slot g bytes at) header_version crc
+formed_told g bytes at end room found read most most_is header_version crc {T} test =
     let size = data_length g bytes at end room in
-    let same : T ↔ (((slot g bytes at).header ≡ header version (get_or (slot g bytes at).header 0 0) (header_length (slot g bytes at)) crc)
+    let same : T ↔ (((slot g bytes at).header
+    ≡ header header_version (get_or (slot g bytes at).header 0 0) (header_length (slot g bytes at)) crc)
     × (header_length (slot g bytes at) ≤ most)) =
-    subst (λ (l : List ℕ). T ↔ ((l ≡ header version (get_or l 0 0) (from_le_bytes w32 (take 4 (drop 4 l))) crc)
+    subst (λ (l : List ℕ). T ↔ ((l ≡ header header_version (get_or l 0 0) (from_le_bytes w32 (take 4 (drop 4 l))) crc)
     × (from_le_bytes w32 (take 4 (drop 4 l)) ≤ most))) read test in (
       λ t. record { header_is = (same.0 t).0; fits = omega (arith, (same.0 t).1, most_is, size) },
       λ f. same.1 (f.header_is, omega (arith, f.fits, most_is, size)),

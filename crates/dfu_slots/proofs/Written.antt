@@ -2,7 +2,7 @@
 use Rattle.std.proofs.Common.{◌≡◌, inl, inr, ℕ, ◌+◌, ◌-◌, ◌≤◌, List, ◌++◌, length, take, drop, slice_range, sym, ◌∙◌, ap, arith}
 use Rattle.std.proofs.lemmas.List.{take-append-drop, drop-drop, append_assoc}
 use Rattle.dfu_slots.specs.declared.fault.WriteFault.TheVariants.{NotVerified}
-use Rattle.dfu_slots.specs.Medium.{MediumState, Fuse, Torn, MayWork, MayFail, Wrote, FailedWrite, WroteOrLied, written}
+use Rattle.dfu_slots.specs.Medium.{MediumState, Fuse, Torn, MayWork, MayFail, WroteBytes, FailedWrite, WroteOrLied, written}
 use Rattle.dfu_slots.specs.Medium.Fuse.{Unknown, Whole, Armed, Lying, Stopped}
 use Rattle.dfu_slots.proofs.Torn.{written_range}
 use Rattle.dfu_slots.proofs.ReadBack.{Stand}
@@ -31,7 +31,7 @@ lie_works Stopped old at new left next lied right = absurd lied
 
 -- Its bytes stand there: the write worked.
 pub was_written : {old : MediumState} {at : ℕ} {new : List ℕ} {now : MediumState} → at + length new ≤ length old.bytes
-    → WroteOrLied old at new now → Stand now.bytes at new → Wrote old at new now
+    → WroteOrLied old at new now → Stand now.bytes at new → WroteBytes old at new now
 was_written fits (inl wrote) stands = wrote
 was_written {old} {at} {new} {now} fits (inr lied) stands =
     let right = torn_right old.bytes at new now.bytes fits lied.bytes stands in

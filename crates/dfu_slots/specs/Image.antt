@@ -4,7 +4,7 @@ use Rattle.std.specs.Str.{bytes_eq}
 use Rattle.dfu_suffix.specs.Register.{register}
 use Rattle.dfu_slots.specs.Units.{gate_room, IsWhole}
 use Rattle.dfu_slots.specs.Medium.{MediumState, Fuse}
-use Rattle.dfu_slots.specs.Layout.{Slot, slot, slot_size, capacity, OPEN, generation, next_generation, version, header_length, header, HasHeader}
+use Rattle.dfu_slots.specs.Layout.{Slot, slot, slot_size, capacity, OPEN, generation, next_generation, header_version, header_length, header, HasHeader}
 
 -- How many bytes the gate and the header of a slot have each for themselves.
 abbrev pub gate_of : MediumState → ℕ
@@ -28,7 +28,7 @@ pub record IsSized (m : MediumState) : Type 0 where
 -- A slot counts where its gate is open and its header, if that is of version 2, is well formed with the length in it.
 pub record Counts (s : Slot) : Type 0 where
   pub is_open : s.gate ≡ OPEN
-  pub intact : version s ≡ 2 → HasHeader s (header_length s)
+  pub intact : header_version s ≡ 2 → HasHeader s (header_length s)
 
 -- The first of two slots counts, and the other one does not, or is one generation behind; after 255 comes 0.
 pub record IsNewest (mine other : Slot) : Type 0 where
@@ -76,7 +76,7 @@ is_intact s =
 
 -- Whether a slot counts.
 abbrev pub counts : Slot → Bool
-counts s = (s.gate == OPEN) && (not (version s == 2) || is_intact s)
+counts s = (s.gate == OPEN) && (not (header_version s == 2) || is_intact s)
 
 -- Whether the first of two slots counts, and the other one does not, or is one generation behind.
 abbrev pub is_newest : Slot → Slot → Bool

@@ -47,8 +47,8 @@ abbrev pub next_generation : ℕ → ℕ
 next_generation gen = (gen + 1) % 256
 
 -- The version is the second byte of the header.
-abbrev pub version : Slot → ℕ
-version s = slice_index s.header 1
+abbrev pub header_version : Slot → ℕ
+header_version s = slice_index s.header 1
 
 -- The length that stands in a slot's header.
 abbrev pub header_length : Slot → ℕ
@@ -56,7 +56,7 @@ header_length s = from_le_bytes w32 (take 4 (drop 4 s.header))
 
 -- The header of an image: generation, version, two zero bytes, length, register, four zero bytes.
 abbrev pub header : ℕ → ℕ → ℕ → ℕ → List ℕ
-header version gen len crc = gen ∷ version ∷ 0 ∷ 0 ∷ to_le_bytes w32 len ++ to_le_bytes w32 crc ++ replicate 4 0
+header header_version gen len crc = gen ∷ header_version ∷ 0 ∷ 0 ∷ to_le_bytes w32 len ++ to_le_bytes w32 crc ++ replicate 4 0
 
 -- A slot has a well-formed header, of so many bytes at the front of its data: in version 2 their register, in version 1 zeros.
 pub record HasHeader (s : Slot) (len : ℕ) : Type 0 where

@@ -91,7 +91,7 @@ MayFail Stopped Failed old at new left next = (left ≡ old) × (next ≡ Stoppe
 MayFail Stopped NotVerified old at new left next = ⊥
 
 -- A write worked: it answered Ok, and exactly its bytes stand there.
-pub record Wrote (old : MediumState) (at : ℕ) (new : List ℕ) (now : MediumState) : Type 0 where
+pub record WroteBytes (old : MediumState) (at : ℕ) (new : List ℕ) (now : MediumState) : Type 0 where
   pub bytes : now.bytes ≡ written old.bytes at new
   pub failures : old.failures ≤ now.failures
   pub fuse : MayWork old.fuse old.bytes at new now.fuse
@@ -108,7 +108,7 @@ pub record FailedWrite (fault : WriteFault) (old : MediumState) (at : ℕ) (new 
 
 -- A write that answered Ok worked, or it lied.
 abbrev pub WroteOrLied : MediumState → ℕ → List ℕ → MediumState → Type 0
-WroteOrLied old at new now = Wrote old at new now ⊎ FailedWrite NotVerified old at new now
+WroteOrLied old at new now = WroteBytes old at new now ⊎ FailedWrite NotVerified old at new now
 
 -- A write: its place and its bytes.
 pub record Write : Type 0 where
@@ -118,10 +118,10 @@ pub record Write : Type 0 where
 -- All these writes worked, one after the other.
 abbrev pub AllWrites : MediumState → List Write → MediumState → Type 0
 AllWrites old [] now = now ≡ old
-AllWrites old (w ∷ ws) now = (next : MediumState) × Wrote old w.at w.bytes next × AllWrites next ws now
+AllWrites old (w ∷ ws) now = (next : MediumState) × WroteBytes old w.at w.bytes next × AllWrites next ws now
 
 -- These writes worked up to one that failed in this way, and none came after it.
 abbrev pub BrokenWrites : WriteFault → MediumState → List Write → MediumState → Type 0
 BrokenWrites fault old [] now = ⊥
 BrokenWrites fault old (w ∷ ws) now = FailedWrite fault old w.at w.bytes now
-    ⊎ ((next : MediumState) × Wrote old w.at w.bytes next × BrokenWrites fault next ws now)
+    ⊎ ((next : MediumState) × WroteBytes old w.at w.bytes next × BrokenWrites fault next ws now)

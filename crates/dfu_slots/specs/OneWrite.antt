@@ -3,7 +3,7 @@ use Rattle.std.specs.Prelude.{◌≡◌, ℕ, ◌+◌, true, false, List}
 use Rattle.std.proofs.Common.{inl, inr, refl, sym, ap, ◌∙◌, subst, arith}
 use Rattle.dfu_slots.specs.declared.fault.WriteFault.{WriteFault}
 use Rattle.dfu_slots.specs.declared.fault.WriteFault.TheVariants.{Failed, NotVerified}
-use Rattle.dfu_slots.specs.Medium.{MediumState, Fuse, MayWork, MayFail, written, Write, Wrote, FailedWrite}
+use Rattle.dfu_slots.specs.Medium.{MediumState, Fuse, MayWork, MayFail, written, Write, WroteBytes, FailedWrite}
 use Rattle.dfu_slots.specs.Medium.Fuse.{Unknown, Whole, Armed, Lying, Stopped}
 
 -- A fuse says what the next writes will do.
@@ -98,7 +98,7 @@ module _ (w : Write) (s t x y : MediumState) (same : Same s t) where
       (subst (λ (l : List ℕ). MayFail s.fuse fault l w.at w.bytes left next) same.bytes a)
 
   -- A write that works on both leaves the same.
-  pub wrote_same : Wrote s w.at w.bytes x → Wrote t w.at w.bytes y → Same x y
+  pub wrote_same : WroteBytes s w.at w.bytes x → WroteBytes t w.at w.bytes y → Same x y
   wrote_same a b = record {
     bytes = a.bytes ∙ ap (λ (l : List ℕ). written l w.at w.bytes) same.bytes ∙ sym b.bytes;
     fuse = works_one t.bytes w.at w.bytes t.fuse x.fuse y.fuse (works_on x.fuse a.fuse) b.fuse;
@@ -118,11 +118,11 @@ module _ (w : Write) (s t x y : MediumState) (same : Same s t) where
       record { bytes = both.0; fuse = both.1; grain = a.grain ∙ same.grain ∙ sym b.grain }
 
   -- It does not work on one and have a fault on the other.
-  pub one_way : (f : WriteFault) → IsKnown s.fuse → Wrote s w.at w.bytes x → FailedWrite f t w.at w.bytes y → ⊥
+  pub one_way : (f : WriteFault) → IsKnown s.fuse → WroteBytes s w.at w.bytes x → FailedWrite f t w.at w.bytes y → ⊥
   one_way f k a b = not_both t.bytes w.at w.bytes t.fuse x.fuse y.fuse f y.bytes (known_on k) (works_on x.fuse a.fuse) b.fuse
 
 -- After a write that works the fuse is known.
-pub known_next : (w : Write) (s x : MediumState) → IsKnown s.fuse → Wrote s w.at w.bytes x → IsKnown x.fuse
+pub known_next : (w : Write) (s x : MediumState) → IsKnown s.fuse → WroteBytes s w.at w.bytes x → IsKnown x.fuse
 known_next w s x k a = works_known s.bytes w.at w.bytes s.fuse x.fuse k a.fuse
 
 -- The same holds the other way round.

@@ -26,8 +26,8 @@ abbrev pub fused : SlotsState → Fuse → SlotsState
 fused s fuse = record s { medium = record s.medium { fuse = fuse } }
 
 -- The store after its power was off: it stands over the same bytes, with this fuse, and what was put is forgotten.
-abbrev pub restarted : SlotsState → Fuse → SlotsState
-restarted s fuse = store_on (record s.medium { fuse = fuse })
+abbrev pub store_restarted : SlotsState → Fuse → SlotsState
+store_restarted s fuse = store_on (record s.medium { fuse = fuse })
 
 -- What stands in the active slot.
 abbrev pub active_slot : SlotsState → Slot
@@ -136,7 +136,7 @@ unfolding image_of
 image_fused s fuse = refl
 
 -- Nor when the power is off.
-pub image_restarted : (s : SlotsState) (fuse : Fuse) → image_of (restarted s fuse) ≡ image_of s
+pub image_restarted : (s : SlotsState) (fuse : Fuse) → image_of (store_restarted s fuse) ≡ image_of s
 unfolding image_of
 image_restarted s fuse = refl
 
@@ -156,6 +156,6 @@ unfolding room_of
 room_fused s fuse = refl
 
 -- Nor does the room when the power is off.
-pub room_restarted : (s : SlotsState) (fuse : Fuse) → room_of (restarted s fuse) ≡ room_of s
+pub room_restarted : (s : SlotsState) (fuse : Fuse) → room_of (store_restarted s fuse) ≡ room_of s
 unfolding room_of
 room_restarted s fuse = refl

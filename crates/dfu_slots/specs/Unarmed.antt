@@ -2,12 +2,12 @@
 use Rattle.std.specs.Prelude.{◌≡◌, List, [], ◌∷◌}
 use Rattle.std.proofs.Common.{inl, inr, ap, ◌∙◌, subst}
 use Rattle.dfu_slots.specs.declared.fault.WriteFault.{WriteFault}
-use Rattle.dfu_slots.specs.Medium.{MediumState, Fuse, MayWork, MayFail, Write, Wrote, AllWrites, BrokenWrites}
+use Rattle.dfu_slots.specs.Medium.{MediumState, Fuse, MayWork, MayFail, Write, WroteBytes, AllWrites, BrokenWrites}
 use Rattle.dfu_slots.specs.Medium.Fuse.{Whole}
 use Rattle.dfu_slots.specs.Seen.{SlotsState, Call, AllWorked, BrokenBy, writes_of, Called}
 
 -- After one write it is whole.
-wrote_whole : (s next : MediumState) (w : Write) → s.fuse ≡ Whole → Wrote s w.at w.bytes next → next.fuse ≡ Whole
+wrote_whole : (s next : MediumState) (w : Write) → s.fuse ≡ Whole → WroteBytes s w.at w.bytes next → next.fuse ≡ Whole
 wrote_whole s next w e wrote = subst (λ (f : Fuse). MayWork f s.bytes w.at w.bytes next.fuse) e wrote.fuse
 
 -- After a list of writes it is whole.

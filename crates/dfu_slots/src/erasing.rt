@@ -1,6 +1,6 @@
 //! Erasing sectors.
 ghost use Rattle.std.specs.Prelude.{◌≡◌, ◌+◌, ◌%◌, ◌≤◌, ◌<◌, ◌↔◌, IsTrue, length, replicate, OnOk, IfErr};
-ghost use Rattle.dfu_slots.specs.Medium.{Wrote, FailedWrite, IsBlank};
+ghost use Rattle.dfu_slots.specs.Medium.{WroteBytes, FailedWrite, IsBlank};
 ghost use Rattle.dfu_slots.specs.inside.Series.{Series};
 ghost use Rattle.dfu_slots.specs.Image.{IsSized};
 ghost use Rattle.dfu_slots.specs.Writes.{erases};
@@ -32,7 +32,7 @@ pub(crate) fn erase<M: Medium>(medium: &mut M, at: u32) -> Result<(), WriteFault
     requires within { at + (M.state medium.old).grain.sector ≤ length (M.state medium.old).bytes }
     requires place { at % (M.state medium.old).grain.sector ≡ 0 }
     ensures ok { let was = M.state medium.old in
-        OnOk result (Wrote was at (replicate was.grain.sector 255) (M.state medium.new)) }
+        OnOk result (WroteBytes was at (replicate was.grain.sector 255) (M.state medium.new)) }
     ensures failed { let was = M.state medium.old in
         IfErr result (λ fault. FailedWrite fault was at (replicate was.grain.sector 255) (M.state medium.new)) }
 {

@@ -4,7 +4,7 @@ ghost use Rattle.dfu_slots.specs.Layout.{slot_size};
 ghost use Rattle.dfu_slots.specs.Image.{gate_of, IsSized, slot_of, first_is_active, active_at, spare_at, HasImage};
 ghost use Rattle.dfu_slots.specs.Seen.{store_of};
 ghost use Rattle.dfu_slots.specs.Store.{HasPuts, IsStore};
-ghost use Rattle.dfu_slots.specs.Known.{CountsUnread, MayCount, IsNewestUnread, place_of, IsActiveUnread};
+ghost use Rattle.dfu_slots.specs.Known.{CountsUnread, MayCount, IsNewestUnread, slot_place, IsActiveUnread};
 
 use crate::from_parts::has_puts;
 use crate::header::{is_formed, register_in};
@@ -60,8 +60,8 @@ fn is_newest_unread<M: Medium>(medium: &M, mine: u32, other: u32) -> bool
 
 // Where the slots stand, if the first one or else the second one is active.
 fn places_of<M: Medium>(medium: &M, first: bool) -> Places
-    ensures active { result.active ≡ place_of first (M.state medium.now).bytes }
-    ensures spare { result.spare ≡ place_of (not first) (M.state medium.now).bytes }
+    ensures active { result.active ≡ slot_place first (M.state medium.now).bytes }
+    ensures spare { result.spare ≡ slot_place (not first) (M.state medium.now).bytes }
 {
     let second = medium.len() / 2;
     if first {

@@ -1,7 +1,7 @@
 //! What is read of the slots of a medium.
 ghost use Rattle.std.specs.Prelude.{◌≡◌, ℕ, ◌+◌, ◌*◌, ◌≤◌, ◌<◌, length, take, slice_index, slice_range, ◌==◌, ◌↔◌, IfSome, IfNone, IsTrue};
 ghost use Rattle.std.specs.Int.{w32, from_le_bytes};
-ghost use Rattle.dfu_slots.specs.Layout.{OPEN, slot_size, generation, version, HasHeader};
+ghost use Rattle.dfu_slots.specs.Layout.{OPEN, slot_size, generation, header_version, HasHeader};
 ghost use Rattle.dfu_slots.specs.Image.{
   gate_of,
   IsSized,

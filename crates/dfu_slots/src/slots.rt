@@ -28,13 +28,13 @@ pub struct Slots<M: Medium> {
 
 impl<M: Medium> Model for Slots<M> {
     ghost use Rattle.dfu_slots.specs.Seen.{SlotsState, store_of};
-    ghost use Rattle.dfu_slots.specs.inside.Kept.{IsKept};
+    ghost use Rattle.dfu_slots.specs.inside.Kept.{IsStoreAt};
 
     ghost Value = { SlotsState };
 
     ghost view = { λ s. store_of (M.state s.medium) s.puts.held.items s.puts.end };
 
-    ghost invariant = { λ s. IsKept (store_of (M.state s.medium) s.puts.held.items s.puts.end) s.places.active s.places.spare };
+    ghost invariant = { λ s. IsStoreAt (store_of (M.state s.medium) s.puts.held.items s.puts.end) s.places.active s.places.spare };
 }
 
 impl<M: Medium> Slots<M> {

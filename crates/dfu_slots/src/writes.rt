@@ -1,7 +1,7 @@
 //! The one function through which the store writes, and the writes that are made of it.
 ghost use Rattle.std.specs.Prelude.{◌+◌, ◌≤◌, length, OnOk, IfErr};
 ghost use Rattle.dfu_slots.specs.Units.{IsMultiple};
-ghost use Rattle.dfu_slots.specs.Medium.{Wrote, FailedWrite, IsAhead, IsWritable};
+ghost use Rattle.dfu_slots.specs.Medium.{WroteBytes, FailedWrite, IsAhead, IsWritable};
 ghost use Rattle.dfu_slots.specs.inside.Series.{Series};
 ghost use Rattle.dfu_slots.specs.Image.{IsSized};
 ghost use Rattle.dfu_slots.specs.Writes.{write_anew, write_some};
@@ -16,7 +16,7 @@ pub(crate) fn write<M: Medium>(medium: &mut M, at: u32, bytes: &[u8]) -> Result<
     requires place { IsMultiple (M.state medium.old).grain.unit at }
     requires whole { IsMultiple (M.state medium.old).grain.unit (length bytes.now) }
     requires blank { IsWritable (M.state medium.old) at (length bytes.now) }
-    ensures ok { OnOk result (Wrote (M.state medium.old) at bytes.now (M.state medium.new)) }
+    ensures ok { OnOk result (WroteBytes (M.state medium.old) at bytes.now (M.state medium.new)) }
     ensures failed { IfErr result (λ fault. FailedWrite fault (M.state medium.old) at bytes.now (M.state medium.new)) }
 {
     match medium.write(at, bytes) {

@@ -7,7 +7,7 @@ use Rattle.byteorder.specs.Endian.{little_number}
 use Rattle.dfu_suffix.specs.Register.{register}
 use Rattle.dfu_suffix.specs.Grammar.{Content, tail_of, is_signed, has_fault, fault_order}
 use Rattle.dfu_suffix.specs.inside.Reading.{content_of, content_or, reading}
-use Rattle.dfu_suffix.specs.inside.Judging.{told_by, told, sealed, judged}
+use Rattle.dfu_suffix.specs.inside.Judging.{told_by, tail_summary, sealed, judged}
 use Rattle.dfu_suffix.specs.Laws.{AreBytes}
 use Rattle.dfu_suffix.proofs.OneReading.{not_less}
 use Rattle.dfu_suffix.specs.declared.summary.Summary.{Summary}
@@ -55,8 +55,8 @@ is_intact s = eqb (little_number 4 (drop 12 (tail_of s))) (register (take (lengt
 
 -- Reading bytes that are not too many answers what their last 16 told, unless dwCRC is wrong.
 pub reading_told : (s : List ℕ) → length s ≤ 16777216 →
-    reading s ≡ read_by (is_intact s) (told (tail_of s) (length s)) (content_of s)
-unfolding reading told
+    reading s ≡ read_by (is_intact s) (tail_summary (tail_of s) (length s)) (content_of s)
+unfolding reading tail_summary
 reading_told s small =
     let t = tail_of s in
     let n = length s in
@@ -106,13 +106,13 @@ at_once true x y e = refl
 at_once false x y e = cc
 
 -- Under 16 bytes there is no more to tell.
-too_short : (t : List ℕ) (n : ℕ) → ltb n 16 ≡ true → told t n ≡ Err TooShort
-unfolding told
+too_short : (t : List ℕ) (n : ℕ) → ltb n 16 ≡ true → tail_summary t n ≡ Err TooShort
+unfolding tail_summary
 too_short t n e = at_once (ltb n 16) (Err TooShort) _ e
 
 -- What the last 16 bytes told sums up what they say.
-sums_up : (s : List ℕ) → 16 ≤ length s → IfOk (told (tail_of s) (length s)) (λ y. y ≡ summary_in s (content_of s))
-unfolding told
+sums_up : (s : List ℕ) → 16 ≤ length s → IfOk (tail_summary (tail_of s) (length s)) (λ y. y ≡ summary_in s (content_of s))
+unfolding tail_summary
 sums_up s long =
     let t = tail_of s in
     let n = length s in
@@ -136,9 +136,10 @@ zero_intact s f long =
     by_zero (register s) 0 last due (λ z. ap (little_number 4) moved ∙ law.0 z, λ z. law.1 (sym (ap (little_number 4) moved) ∙ z))
 
 -- The last 16 bytes tell what the window tells, also where they are fewer.
-told_window : (s : List ℕ) (short : Bool) → ltb (length s) 16 ≡ short → told (window_of s) (length s) ≡ told (tail_of s) (length s)
+told_window : (s : List ℕ) (short : Bool) → ltb (length s) 16 ≡ short →
+    tail_summary (window_of s) (length s) ≡ tail_summary (tail_of s) (length s)
 told_window s true e = too_short (window_of s) (length s) e ∙ sym (too_short (tail_of s) (length s) e)
-told_window s false e = ap (λ (w : List ℕ). told w (length s)) (window_tail s (ltb-false (length s) 16 e))
+told_window s false e = ap (λ (w : List ℕ). tail_summary w (length s)) (window_tail s (ltb-false (length s) 16 e))
 
 -- Judging by the last 16 bytes, the count and the register is reading all of the bytes.
 judged_tail : (s : List ℕ) → AreBytes s → length s ≤ 16777216 → (short : Bool) → ltb (length s) 16 ≡ short →
@@ -149,8 +150,8 @@ judged_tail s f small true e =
     ∙ ap (λ (x : Result Summary SuffixFault). read_by (is_intact s) x (content_of s)) (too_short (tail_of s) (length s) e)))
 judged_tail s f small false e =
     let long : 16 ≤ length s = ltb-false (length s) 16 e in
-    ap (λ (b : Bool). sealed b (told (tail_of s) (length s))) (zero_intact s f long)
-    ∙ (sealed_is_read (told (tail_of s) (length s)) (is_intact s) s (content_of s) (sums_up s long)
+    ap (λ (b : Bool). sealed b (tail_summary (tail_of s) (length s))) (zero_intact s f long)
+    ∙ (sealed_is_read (tail_summary (tail_of s) (length s)) (is_intact s) s (content_of s) (sums_up s long)
     ∙ sym (ap (summed s) (reading_told s small)))
 
 -- Judging by the window, the count and the register is reading all of the bytes.
@@ -175,9 +176,9 @@ read_is_filed s f small =
 
 -- Reading is what the last 16 bytes told, with the bytes before the suffix, unless the register over all bytes isn't 0.
 pub told_is_read : (s t : List ℕ) (due : ℕ) (intact : Bool) (r x : Result Summary SuffixFault) → AreBytes s → length s ≤ 16777216 →
-    t ≡ tail_of s → r ≡ told t (length s) → r ≡ x → due ≡ register s → eqb due 0 ≡ intact → filed s (sealed intact x) ≡ reading s
+    t ≡ tail_of s → r ≡ tail_summary t (length s) → r ≡ x → due ≡ register s → eqb due 0 ≡ intact → filed s (sealed intact x) ≡ reading s
 told_is_read s t due intact r x f small tail answer is register_is zero =
-    let same : x ≡ told (tail_of s) (length s) = sym is ∙ (answer ∙ ap (λ (w : List ℕ). told w (length s)) tail) in
+    let same : x ≡ tail_summary (tail_of s) (length s) = sym is ∙ (answer ∙ ap (λ (w : List ℕ). tail_summary w (length s)) tail) in
     let sound : intact ≡ eqb (register s) 0 = sym zero ∙ ap (λ (n : ℕ). eqb n 0) register_is in
     ap (λ (b : Bool). filed s (sealed b x)) sound
     ∙ (ap (λ (y : Result Summary SuffixFault). filed s (sealed (eqb (register s) 0) y)) same ∙ sym (read_is_filed s f small))

@@ -3,7 +3,7 @@
 ghost use Rattle.std.specs.Prelude.{◌≡◌, ◌+◌, ◌-◌, ◌≤◌, length, take, drop};
 ghost use Rattle.byteorder.specs.Endian.{little_number};
 ghost use Rattle.dfu_suffix.specs.Grammar.{tail_of, is_signed};
-ghost use Rattle.dfu_suffix.specs.inside.Reading.{ids_of};
+ghost use Rattle.dfu_suffix.specs.inside.Reading.{tail_ids};
 ghost use Rattle.dfu_suffix.specs.Register.{register};
 
 use crate::crc::Crc;
@@ -49,7 +49,7 @@ pub(crate) fn u32_at(bytes: &[u8], at: usize) -> u32
 /// The identifiers in the last 16 bytes.
 pub(crate) fn ids_of(tail: &[u8]) -> Ids
     requires { length tail.now ≡ 16 }
-    ensures { result ≡ ids_of tail.now }
+    ensures { result ≡ tail_ids tail.now }
 {
     Ids {
         device: u16_at(tail, 0),

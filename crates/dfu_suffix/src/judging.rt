@@ -1,7 +1,7 @@
 //! What the end of a file says of the whole.
 
 ghost use Rattle.std.specs.Prelude.{◌≡◌, ◌≢◌, ◌≤◌, length, Err, IfOk};
-ghost use Rattle.dfu_suffix.specs.inside.Judging.{judged, told};
+ghost use Rattle.dfu_suffix.specs.inside.Judging.{judged, tail_summary};
 ghost use Rattle.dfu_suffix.specs.declared.fault.SuffixFault.TheVariants.{NoMemory};
 
 use crate::fault::SuffixFault;
@@ -10,10 +10,10 @@ use crate::limits::{DFUSE, MIN_SUFFIX};
 use crate::summary::Summary;
 
 /// What the last 16 of `count` bytes say, or the first fault of the file but TooLarge and BadCrc.
-#[tactic(auto, using(std::proofs::lemmas::Bool::Decides::nat_tests), unfolding(crate::specs::inside::Judging::told))]
+#[tactic(auto, using(std::proofs::lemmas::Bool::Decides::nat_tests), unfolding(crate::specs::inside::Judging::tail_summary))]
 pub(crate) fn told(tail: &[u8], count: u32) -> Result<Summary, SuffixFault>
     requires { 16 ≤ count → length tail.now ≡ 16 }
-    ensures answer { result ≡ told tail.now count }
+    ensures answer { result ≡ tail_summary tail.now count }
     ensures fits { IfOk result (λ s. (16 ≤ s.suffix) × (s.suffix ≤ count) × (s.dfu ≢ 0x011A)) }
     ensures memory { result ≢ Err NoMemory }
 {

@@ -7,7 +7,7 @@ use Rattle.dfu_slots.proofs.Sectors.{gate_most}
 use Rattle.dfu_slots.proofs.Stands.{standing}
 use Rattle.dfu_slots.proofs.Newest.{places_are}
 use Rattle.dfu_trial.specs.Marks.{mark_size, mark_at, is_set, starts, AreTries}
-use Rattle.dfu_trial.specs.Calls.{IsSettled, IsStanding, IsTaken, IsWithin, sets}
+use Rattle.dfu_trial.specs.Calls.{IsSettled, IsStanding, MediumTakes, MarkIsWithin, sets}
 use Rattle.dfu_trial.specs.declared.standing.Settled.{Settled}
 use Rattle.dfu_trial.specs.declared.standing.Trial.{Trial}
 use Rattle.dfu_trial.specs.declared.standing.Standing.TheVariants.{OnTrial}
@@ -30,24 +30,24 @@ module _ (m : MediumState) (tries : ℕ) (t : Trial) (are : AreTries m.grain tri
     pub start_in : mark_at m.grain t.slot (t.starts + 1) + mark_size m.grain ≤ length m.bytes
     start_in = mark_in m tries t.slot (t.starts + 1) stands.0.sized are (omega (arith, lt)) trial_in
 
-    pub start_taken : IsTaken m (sets m.grain t.slot (t.starts + 1))
+    pub start_taken : MediumTakes m (sets m.grain t.slot (t.starts + 1))
     start_taken = mark_taken m t.slot t.base stands.0.sized stands.0.places tries (t.starts + 1) are (omega (arith, lt)) next_is
 
-    pub start_within : IsWithin m (sets m.grain t.slot (t.starts + 1))
+    pub start_within : MarkIsWithin m (sets m.grain t.slot (t.starts + 1))
     start_within = (start_in, gate_most m.grain.unit)
 
   -- The confirmation.
   pub confirm_in : mark_at m.grain t.slot 0 + mark_size m.grain ≤ length m.bytes
   confirm_in = mark_in m tries t.slot 0 stands.0.sized are (omega arith) trial_in
 
-  pub confirm_taken : IsTaken m (sets m.grain t.slot 0) × IsWithin m (sets m.grain t.slot 0)
+  pub confirm_taken : MediumTakes m (sets m.grain t.slot 0) × MarkIsWithin m (sets m.grain t.slot 0)
   confirm_taken = (
     mark_taken m t.slot t.base stands.0.sized stands.0.places tries 0 are (omega arith) stands.0.unconfirmed,
     (confirm_in, gate_most m.grain.unit),
   )
 
   -- The erase of the gate's sector.
-  pub end_taken : IsTaken m (Close t.slot)
+  pub end_taken : MediumTakes m (Close t.slot)
   end_taken = close_taken m t.slot t.base stands.0.sized stands.0.places are.sectors
 
 module _ (m : MediumState) (tries : ℕ) (s : Settled) (are : AreTries m.grain tries) (settled : IsSettled m s) where
@@ -64,9 +64,9 @@ module _ (m : MediumState) (tries : ℕ) (s : Settled) (are : AreTries m.grain t
   pub active_mark : mark_at m.grain s.slot 0 + mark_size m.grain ≤ length m.bytes
   active_mark = mark_in m tries s.slot 0 a.sized are (omega arith) active_in
 
-  pub active_taken : is_set m s.slot 0 ≡ false → IsTaken m (sets m.grain s.slot 0) × IsWithin m (sets m.grain s.slot 0)
+  pub active_taken : is_set m s.slot 0 ≡ false → MediumTakes m (sets m.grain s.slot 0) × MarkIsWithin m (sets m.grain s.slot 0)
   active_taken unset = (
-    subst (λ (p : ℕ). IsTaken m (sets m.grain p 0)) place
+    subst (λ (p : ℕ). MediumTakes m (sets m.grain p 0)) place
         (mark_taken m a.at a.spare a.sized a.places tries 0 are (omega arith) (ap (λ (p : ℕ). is_set m p 0) place ∙ unset)),
     (active_mark, gate_most m.grain.unit),
   )

@@ -6,7 +6,7 @@ use Rattle.dfu_slots.specs.Medium.{MediumState}
 use Rattle.dfu_slots.specs.Image.{HasImage}
 use Rattle.dfu_trial.specs.Marks.{is_set, AreTries}
 use Rattle.dfu_trial.specs.Trial.{image_at}
-use Rattle.dfu_trial.specs.Calls.{IsStanding, image_place, sets, start_of, confirm_of, end_of, upload_of, active_slot}
+use Rattle.dfu_trial.specs.Calls.{IsStanding, image_place, sets, trial_start, confirm_of, end_of_trial, upload_of, upload_slot}
 use Rattle.dfu_trial.specs.Laws.{Carried, CarriedIf, GoesOn, HasStarted, IsBack, Starts as StartsBy}
 use Rattle.dfu_trial.specs.Lists.{TrialEvent, Starts, Confirms, Ends, Uploads, Downloads, TrialStep, RanBy, ConfirmedBy, GivenBy, IsDownload, NewPlaced, TrialGoes, CameAll, Trust, Alone, Tried, AreTrusted, IsOnOrBack, MayGive, MayBecome, AllTrusted}
 use Rattle.dfu_trial.specs.declared.standing.Settled.{Settled}
@@ -42,12 +42,12 @@ given_trusted : (now : MediumState) (tries : ℕ) (next : Trust) (given : Option
     → GivenBy now tries given → MayGive tries given next
 given_trusted now tries next None has by = tt
 given_trusted now tries (Alone base) (Some image) has by =
-    sym by.image_is ∙ ap (λ (x : Standing). image_at now (active_slot x))
+    sym by.image_is ∙ ap (λ (x : Standing). image_at now (upload_slot x))
     (same_standing now tries by.standing (standing.Settled has.0) by.stands has.1) ∙ has.3
 given_trusted now tries (Tried base new runs) (Some image) has by =
     let same = same_standing now tries by.standing (standing.OnTrial has.0) by.stands has.1 in
     let left = is_left tries has.0 (subst (λ (x : Standing). upload_of tries x ≡ None) same by.asks) in (
-      sym by.image_is ∙ ap (λ (x : Standing). image_at now (active_slot x)) same ∙ has.3,
+      sym by.image_is ∙ ap (λ (x : Standing). image_at now (upload_slot x)) same ∙ has.3,
       omega (arith, has.4, ltb-true has.0.starts tries left),
     )
 
@@ -64,8 +64,8 @@ module _ (m now : MediumState) (tries : ℕ) (are : AreTries m.grain tries) wher
     stays : now ≡ m → AreTrusted now tries (Alone base)
     stays same = subst (λ (x : MediumState). AreTrusted x tries (Alone base)) (sym same) has
 
-    alone_starts : (ran : Option ℕ) → CarriedIf m (start_of m.grain tries (standing.Settled s)).operation now
-        → RanBy (start_of m.grain tries (standing.Settled s)) now ran → Next m tries (Alone base) (Starts ran) now
+    alone_starts : (ran : Option ℕ) → CarriedIf m (trial_start m.grain tries (standing.Settled s)).operation now
+        → RanBy (trial_start m.grain tries (standing.Settled s)) now ran → Next m tries (Alone base) (Starts ran) now
     alone_starts None carried by = (Alone base, refl, stays carried)
     alone_starts (Some slot) carried by = (
       Alone base,
@@ -85,7 +85,7 @@ module _ (m now : MediumState) (tries : ℕ) (are : AreTries m.grain tries) wher
         same false b is e = e
         same true false is e = absurd (true≢false (sym is))
 
-    alone_ends : CarriedIf m (end_of (standing.Settled s)) now → Next m tries (Alone base) Ends now
+    alone_ends : CarriedIf m (end_of_trial (standing.Settled s)) now → Next m tries (Alone base) Ends now
     alone_ends carried = (Alone base, refl, stays carried)
 
     alone_uploads : (given : Option (List ℕ)) → CarriedIf m (upload_of tries (standing.Settled s)) now → GivenBy now tries given
@@ -160,8 +160,8 @@ module _ (m now : MediumState) (tries : ℕ) (are : AreTries m.grain tries) wher
         (λ back. (Alone base, inr refl, is_back back)) last.2)
         came
 
-    tried_starts : (ran : Option ℕ) → CarriedIf m (start_of m.grain tries (standing.OnTrial t)).operation now
-        → RanBy (start_of m.grain tries (standing.OnTrial t)) now ran → Next m tries (Tried base image runs) (Starts ran) now
+    tried_starts : (ran : Option ℕ) → CarriedIf m (trial_start m.grain tries (standing.OnTrial t)).operation now
+        → RanBy (trial_start m.grain tries (standing.OnTrial t)) now ran → Next m tries (Tried base image runs) (Starts ran) now
     tried_starts None carried by = tried_cut _ (starts_so m now tries are (standing.OnTrial t) has.1 carried)
     tried_starts (Some ran) carried by = tried_ran ran
         (subst (λ (r : ℕ). StartsBy m tries (standing.OnTrial t) now r) (sym by)
@@ -188,7 +188,7 @@ module _ (m now : MediumState) (tries : ℕ) (are : AreTries m.grain tries) wher
         so false true same = (Tried base image runs, inl refl, unchanged same)
         so false false same = (Tried base image runs, inl refl, unchanged same)
 
-    tried_ends : CarriedIf m (end_of (standing.OnTrial t)) now → Next m tries (Tried base image runs) Ends now
+    tried_ends : CarriedIf m (end_of_trial (standing.OnTrial t)) now → Next m tries (Tried base image runs) Ends now
     tried_ends carried = ⊎_elim
         (λ on. (Tried base image runs, inl refl, goes_on on))
         (λ back. (Alone base, inr refl, is_back back))
@@ -222,14 +222,15 @@ module _ (m now : MediumState) (tries : ℕ) (are : AreTries m.grain tries) wher
       → Next m tries trust event now
   steps_on (Alone base) (Starts ran) has came =
       let same = same_standing m tries came.0 (standing.Settled has.0) came.1 has.1 in
-      let both = subst (λ (x : Standing). CarriedIf m (start_of m.grain tries x).operation now × RanBy (start_of m.grain tries x) now ran)
+      let both = subst (λ (x : Standing). CarriedIf m (trial_start m.grain tries x).operation now ×
+      RanBy (trial_start m.grain tries x) now ran)
       same (came.2, came.3) in
       alone_starts base has ran both.0 both.1
   steps_on (Alone base) (Confirms at) has came =
       alone_confirms base has at (subst (λ (x : Standing). ConfirmedBy m (confirm_of m.grain x at) now)
       (same_standing m tries came.0 (standing.Settled has.0) came.1 has.1) came.2)
   steps_on (Alone base) Ends has came =
-      alone_ends base has (subst (λ (x : Standing). CarriedIf m (end_of x) now)
+      alone_ends base has (subst (λ (x : Standing). CarriedIf m (end_of_trial x) now)
       (same_standing m tries came.0 (standing.Settled has.0) came.1 has.1) came.2)
   steps_on (Alone base) (Uploads given) has came =
       alone_uploads base has given (subst (λ (x : Standing). CarriedIf m (upload_of tries x) now)
@@ -237,14 +238,15 @@ module _ (m now : MediumState) (tries : ℕ) (are : AreTries m.grain tries) wher
   steps_on (Alone base) (Downloads image) has came = alone_downloads base has image came
   steps_on (Tried base image runs) (Starts ran) has came =
       let same = same_standing m tries came.0 (standing.OnTrial has.0) came.1 has.1 in
-      let both = subst (λ (x : Standing). CarriedIf m (start_of m.grain tries x).operation now × RanBy (start_of m.grain tries x) now ran)
+      let both = subst (λ (x : Standing). CarriedIf m (trial_start m.grain tries x).operation now ×
+      RanBy (trial_start m.grain tries x) now ran)
       same (came.2, came.3) in
       tried_starts base image runs has ran both.0 both.1
   steps_on (Tried base image runs) (Confirms at) has came =
       tried_confirms base image runs has at (subst (λ (x : Standing). ConfirmedBy m (confirm_of m.grain x at) now)
       (same_standing m tries came.0 (standing.OnTrial has.0) came.1 has.1) came.2)
   steps_on (Tried base image runs) Ends has came =
-      tried_ends base image runs has (subst (λ (x : Standing). CarriedIf m (end_of x) now)
+      tried_ends base image runs has (subst (λ (x : Standing). CarriedIf m (end_of_trial x) now)
       (same_standing m tries came.0 (standing.OnTrial has.0) came.1 has.1) came.2)
   steps_on (Tried base image runs) (Uploads given) has came =
       tried_uploads base image runs has given (subst (λ (x : Standing). CarriedIf m (upload_of tries x) now)
@@ -267,9 +269,9 @@ grain_confirmed m now confirm.Elsewhere same = ap (λ (x : MediumState). x.grain
 
 -- So does whatever comes.
 grain_stays : (tries : ℕ) (m now : MediumState) (event : TrialEvent) → TrialGoes tries m event now → now.grain ≡ m.grain
-grain_stays tries m now (Starts ran) came = grain_if m now (start_of m.grain tries came.0).operation came.2
+grain_stays tries m now (Starts ran) came = grain_if m now (trial_start m.grain tries came.0).operation came.2
 grain_stays tries m now (Confirms at) came = grain_confirmed m now (confirm_of m.grain came.0 at) came.2
-grain_stays tries m now Ends came = grain_if m now (end_of came.0) came.2
+grain_stays tries m now Ends came = grain_if m now (end_of_trial came.0) came.2
 grain_stays tries m now (Uploads given) came = grain_if m now (upload_of tries came.0) came.2
 grain_stays tries m now (Downloads image) came = came.grain
 

@@ -5,7 +5,7 @@ use Rattle.dfu_slots.specs.Medium.{MediumState}
 use Rattle.dfu_slots.specs.Image.{HasImage}
 use Rattle.dfu_trial.specs.Marks.{AreTries}
 use Rattle.dfu_trial.specs.Trial.{image_at}
-use Rattle.dfu_trial.specs.Calls.{IsStanding, IsWithin, sets, start_of, runs_in}
+use Rattle.dfu_trial.specs.Calls.{IsStanding, MarkIsWithin, sets, trial_start, runs_in}
 use Rattle.dfu_trial.specs.Laws.{Carried, CarriedIf, Starts}
 use Rattle.dfu_trial.specs.declared.operation.Operation.{Operation}
 use Rattle.dfu_trial.specs.declared.operation.Operation.TheVariants.{Mark, Close}
@@ -19,24 +19,24 @@ use Rattle.dfu_trial.proofs.Outcomes.{mark_runs, ends_or_goes_on}
 
 module _ (m now : MediumState) (tries : ℕ) (are : AreTries m.grain tries) where
   on_trial : (t : Trial) → IsStanding m tries (OnTrial t) → (b : Bool) → nat_lt t.starts tries ≡ b
-      → let s = start_of m.grain tries (OnTrial t) in CarriedIf m s.operation now
+      → let s = trial_start m.grain tries (OnTrial t) in CarriedIf m s.operation now
       → Starts m tries (OnTrial t) now (runs_in now s s.operation)
   on_trial t stands true is =
       let marks : Starting = record { operation = Some (sets m.grain t.slot (t.starts + 1)); slot = t.slot; otherwise = t.base } in
       let gives_up : Starting = record { operation = Some (Close t.slot); slot = t.base; otherwise = t.base } in
-      let so : start_of m.grain tries (OnTrial t) ≡ marks = ap (λ (b : Bool). if b then marks else gives_up) is in
+      let so : trial_start m.grain tries (OnTrial t) ≡ marks = ap (λ (b : Bool). if b then marks else gives_up) is in
       subst (λ (s : Starting). CarriedIf m s.operation now → Starts m tries (OnTrial t) now (runs_in now s s.operation)) (sym so)
       (λ carried. inl (mark_runs m now tries t are stands (ltb-true t.starts tries is) carried.1 carried.0))
   on_trial t stands false is =
       let marks : Starting = record { operation = Some (sets m.grain t.slot (t.starts + 1)); slot = t.slot; otherwise = t.base } in
       let gives_up : Starting = record { operation = Some (Close t.slot); slot = t.base; otherwise = t.base } in
-      let so : start_of m.grain tries (OnTrial t) ≡ gives_up = ap (λ (b : Bool). if b then marks else gives_up) is in
+      let so : trial_start m.grain tries (OnTrial t) ≡ gives_up = ap (λ (b : Bool). if b then marks else gives_up) is in
       subst (λ (s : Starting). CarriedIf m s.operation now → Starts m tries (OnTrial t) now (runs_in now s s.operation)) (sym so)
       (λ carried. inr (ltb-false t.starts tries is, refl, ends_or_goes_on m now tries t are stands carried))
 
   -- What comes of a start, whatever becomes of what it asks for.
-  pub starts_so : (s : Standing) → IsStanding m tries s → CarriedIf m (start_of m.grain tries s).operation now
-      → Starts m tries s now (runs_in now (start_of m.grain tries s) (start_of m.grain tries s).operation)
+  pub starts_so : (s : Standing) → IsStanding m tries s → CarriedIf m (trial_start m.grain tries s).operation now
+      → Starts m tries s now (runs_in now (trial_start m.grain tries s) (trial_start m.grain tries s).operation)
   starts_so (standing.Settled s) stands carried = (carried, refl)
   starts_so (standing.OnTrial t) stands carried = on_trial t stands (nat_lt t.starts tries) refl carried
 
@@ -55,6 +55,6 @@ module _ (m now : MediumState) (tries : ℕ) (are : AreTries m.grain tries) wher
       came
 
 -- The mark lies within the medium afterwards.
-pub within_kept : (m now : MediumState) (o : Operation) → Carried m o now → IsWithin m o → IsWithin now o
+pub within_kept : (m now : MediumState) (o : Operation) → Carried m o now → MarkIsWithin m o → MarkIsWithin now o
 within_kept m now (Mark at len) carried within = (omega (arith, carried.0.size, within.0), within.1)
 within_kept m now (Close at) carried within = within

@@ -4,8 +4,8 @@ use Rattle.std.proofs.lemmas.Bool.{ltb-true, ltb-false}
 use Rattle.dfu_slots.specs.Medium.{MediumState}
 use Rattle.dfu_trial.specs.Marks.{AreTries}
 use Rattle.dfu_trial.specs.Trial.{image_at}
-use Rattle.dfu_trial.specs.Calls.{IsStanding, sets, start_of, runs_in, upload_of, active_slot}
-use Rattle.dfu_trial.specs.Laws.{CarriedIf, IsNext, Uploads, RunsOrIsNext}
+use Rattle.dfu_trial.specs.Calls.{IsStanding, sets, trial_start, runs_in, upload_of, upload_slot}
+use Rattle.dfu_trial.specs.Laws.{CarriedIf, RunsNext, Uploads, RunsOrIsNext}
 use Rattle.dfu_trial.specs.declared.operation.Operation.{Operation}
 use Rattle.dfu_trial.specs.declared.operation.Operation.TheVariants.{Close}
 use Rattle.dfu_trial.specs.declared.starting.Starting.{Starting}
@@ -36,7 +36,7 @@ module _ (m now : MediumState) (tries : ℕ) (are : AreTries m.grain tries) wher
       let same : now ≡ m = subst (λ (o : Option Operation). CarriedIf m o now) asks carried in
       inl (
         ltb-true t.starts tries is,
-        subst (λ (x : MediumState). IsNext x tries (image_at m t.slot)) (sym same)
+        subst (λ (x : MediumState). RunsNext x tries (image_at m t.slot)) (sym same)
             (record { standing = standing.OnTrial t; stands = stands; asks = asks; image_is = refl }),
       )
   on_trial t stands false is carried =
@@ -56,19 +56,19 @@ module _ (m now : MediumState) (tries : ℕ) (are : AreTries m.grain tries) wher
   -- What comes of an upload, whatever becomes of what it asks for.
   pub uploads_so : (s : Standing) → IsStanding m tries s → CarriedIf m (upload_of tries s) now → Uploads m tries s now
   uploads_so (standing.Settled s) stands same =
-      subst (λ (x : MediumState). IsNext x tries (image_at m s.slot)) (sym same)
+      subst (λ (x : MediumState). RunsNext x tries (image_at m s.slot)) (sym same)
       (record { standing = standing.Settled s; stands = stands; asks = refl; image_is = refl })
   uploads_so (standing.OnTrial t) stands carried = on_trial t stands (nat_lt t.starts tries) refl carried
 
   -- A start of an image on trial, with a start left.
   tried_starts : (t : Trial) → IsStanding m tries (standing.OnTrial t) → nat_lt t.starts tries ≡ true
-      → CarriedIf m (start_of m.grain tries (standing.OnTrial t)).operation now
-      → let s = start_of m.grain tries (standing.OnTrial t) in
+      → CarriedIf m (trial_start m.grain tries (standing.OnTrial t)).operation now
+      → let s = trial_start m.grain tries (standing.OnTrial t) in
       RunsOrIsNext (image_at m t.slot) tries s.operation now (runs_in now s s.operation)
   tried_starts t stands is =
       let marks : Starting = record { operation = Some (sets m.grain t.slot (t.starts + 1)); slot = t.slot; otherwise = t.base } in
       let gives_up : Starting = record { operation = Some (Close t.slot); slot = t.base; otherwise = t.base } in
-      let so : start_of m.grain tries (standing.OnTrial t) ≡ marks = ap (λ (b : Bool). if b then marks else gives_up) is in
+      let so : trial_start m.grain tries (standing.OnTrial t) ≡ marks = ap (λ (b : Bool). if b then marks else gives_up) is in
       subst (λ (s : Starting). CarriedIf m s.operation now
       → RunsOrIsNext (image_at m t.slot) tries s.operation now (runs_in now s s.operation)) (sym so)
       (λ carried. ⊎_elim
@@ -85,20 +85,20 @@ module _ (m now : MediumState) (tries : ℕ) (are : AreTries m.grain tries) wher
       (mark_told m now tries t are stands (ltb-true t.starts tries is) carried.1 carried.0))
 
   next_runs : (s : Standing) → IsStanding m tries s → upload_of tries s ≡ None
-      → CarriedIf m (start_of m.grain tries s).operation now
-      → RunsOrIsNext (image_at m (active_slot s)) tries (start_of m.grain tries s).operation now
-      (runs_in now (start_of m.grain tries s) (start_of m.grain tries s).operation)
+      → CarriedIf m (trial_start m.grain tries s).operation now
+      → RunsOrIsNext (image_at m (upload_slot s)) tries (trial_start m.grain tries s).operation now
+      (runs_in now (trial_start m.grain tries s) (trial_start m.grain tries s).operation)
   next_runs (standing.Settled s) stands asks same = inl (ap (λ (x : MediumState). image_at x s.slot) same)
   next_runs (standing.OnTrial t) stands asks carried = tried_starts t stands (is_left tries t asks) carried
 
   -- The start that comes next runs that image, or its mark does not read set.
-  pub next_starts : (image : List ℕ) (s : Standing) → IsNext m tries image → IsStanding m tries s
-      → CarriedIf m (start_of m.grain tries s).operation now
-      → RunsOrIsNext image tries (start_of m.grain tries s).operation now
-      (runs_in now (start_of m.grain tries s) (start_of m.grain tries s).operation)
+  pub next_starts : (image : List ℕ) (s : Standing) → RunsNext m tries image → IsStanding m tries s
+      → CarriedIf m (trial_start m.grain tries s).operation now
+      → RunsOrIsNext image tries (trial_start m.grain tries s).operation now
+      (runs_in now (trial_start m.grain tries s) (trial_start m.grain tries s).operation)
   next_starts image s next stands carried =
       let same = same_standing m tries next.standing s next.stands stands in
       let asks = subst (λ (x : Standing). upload_of tries x ≡ None) same next.asks in
-      let is : image_at m (active_slot s) ≡ image = ap (λ (x : Standing). image_at m (active_slot x)) (sym same) ∙ next.image_is in
-      subst (λ (x : List ℕ). RunsOrIsNext x tries (start_of m.grain tries s).operation now
-      (runs_in now (start_of m.grain tries s) (start_of m.grain tries s).operation)) is (next_runs s stands asks carried)
+      let is : image_at m (upload_slot s) ≡ image = ap (λ (x : Standing). image_at m (upload_slot x)) (sym same) ∙ next.image_is in
+      subst (λ (x : List ℕ). RunsOrIsNext x tries (trial_start m.grain tries s).operation now
+      (runs_in now (trial_start m.grain tries s) (trial_start m.grain tries s).operation)) is (next_runs s stands asks carried)

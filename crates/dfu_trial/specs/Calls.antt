@@ -40,9 +40,9 @@ sets grain at i = Mark (mark_at grain at i) (mark_size grain)
 
 -- What starts. On trial the mark of the next start is set first, and if it does not read set the confirmed image runs; without a start
 -- left the trial ends.
-abbrev pub start_of : Grain → ℕ → Standing → Starting
-start_of grain tries (standing.Settled s) = record { operation = None; slot = s.slot; otherwise = s.slot }
-start_of grain tries (standing.OnTrial t) =
+abbrev pub trial_start : Grain → ℕ → Standing → Starting
+trial_start grain tries (standing.Settled s) = record { operation = None; slot = s.slot; otherwise = s.slot }
+trial_start grain tries (standing.OnTrial t) =
     if nat_lt t.starts tries
     then record { operation = Some (sets grain t.slot (t.starts + 1)); slot = t.slot; otherwise = t.base }
     else record { operation = Some (Close t.slot); slot = t.base; otherwise = t.base }
@@ -70,9 +70,9 @@ confirm_of grain (standing.OnTrial t) at =
     else (if at == image_place grain t.base then confirm.Confirmed else confirm.Elsewhere)
 
 -- How a trial ends: the gate of its slot is closed.
-abbrev pub end_of : Standing → Option Operation
-end_of (standing.Settled s) = None
-end_of (standing.OnTrial t) = Some (Close t.slot)
+abbrev pub end_of_trial : Standing → Option Operation
+end_of_trial (standing.Settled s) = None
+end_of_trial (standing.OnTrial t) = Some (Close t.slot)
 
 -- What an upload asks for first: without a start left the trial ends, as the next start would end it. Else nothing.
 abbrev pub upload_of : ℕ → Standing → Option Operation
@@ -80,23 +80,23 @@ upload_of tries (standing.Settled s) = None
 upload_of tries (standing.OnTrial t) = if nat_lt t.starts tries then None else Some (Close t.slot)
 
 -- The slot of the active image, which an upload reads.
-abbrev pub active_slot : Standing → ℕ
-active_slot (standing.Settled s) = s.slot
-active_slot (standing.OnTrial t) = t.slot
+abbrev pub upload_slot : Standing → ℕ
+upload_slot (standing.Settled s) = s.slot
+upload_slot (standing.OnTrial t) = t.slot
 
 -- The medium takes this operation: its range lies in the medium, a mark is whole in units, and all its bytes are FFh; a sector begins
 -- where one is erased.
-abbrev pub IsTaken : MediumState → Operation → Type 0
-IsTaken m (Mark at len) = (at + len ≤ length m.bytes) × IsMultiple m.grain.unit at × IsMultiple m.grain.unit len × IsWritable m at len
-IsTaken m (Close at) = (at + m.grain.sector ≤ length m.bytes) × (at % m.grain.sector ≡ 0)
+abbrev pub MediumTakes : MediumState → Operation → Type 0
+MediumTakes m (Mark at len) = (at + len ≤ length m.bytes) × IsMultiple m.grain.unit at × IsMultiple m.grain.unit len × IsWritable m at len
+MediumTakes m (Close at) = (at + m.grain.sector ≤ length m.bytes) × (at % m.grain.sector ≡ 0)
 
 -- A mark lies within the medium, and has at most 256 bytes.
-abbrev pub IsWithin : MediumState → Operation → Type 0
-IsWithin m (Mark at len) = (at + len ≤ length m.bytes) × (len ≤ 256)
-IsWithin m (Close at) = Unit {0}
+abbrev pub MarkIsWithin : MediumState → Operation → Type 0
+MarkIsWithin m (Mark at len) = (at + len ≤ length m.bytes) × (len ≤ 256)
+MarkIsWithin m (Close at) = Unit {0}
 
 -- The medium takes what a confirmation asks for.
 abbrev pub IsTakenBy : MediumState → Confirmation → Type 0
-IsTakenBy m (confirm.By operation) = IsTaken m operation × IsWithin m operation
+IsTakenBy m (confirm.By operation) = MediumTakes m operation × MarkIsWithin m operation
 IsTakenBy m confirm.Confirmed = Unit {0}
 IsTakenBy m confirm.Elsewhere = Unit {0}

@@ -3,7 +3,7 @@ use Rattle.std.specs.Prelude.{◌≡◌, ◌⊎◌, ℕ, ◌+◌, ◌≤◌, ◌
 use Rattle.dfu_slots.specs.Medium.{MediumState, KeepsOutside}
 use Rattle.dfu_trial.specs.Marks.{is_marked}
 use Rattle.dfu_trial.specs.Trial.{image_at}
-use Rattle.dfu_trial.specs.Calls.{IsSettled, IsStanding, upload_of, active_slot}
+use Rattle.dfu_trial.specs.Calls.{IsSettled, IsStanding, upload_of, upload_slot}
 use Rattle.dfu_trial.specs.declared.operation.Operation.{Operation}
 use Rattle.dfu_trial.specs.declared.operation.Operation.TheVariants.{Mark, Close}
 use Rattle.dfu_trial.specs.declared.standing.Trial.{Trial}
@@ -68,18 +68,18 @@ pub record HasBooted (m : MediumState) (tries : ℕ) (now : MediumState) (ran : 
   pub starts : Starts m tries standing now ran
 
 -- The next start is to run this image, and an upload gives it: it is active, and if it is on trial a start of it is left.
-pub record IsNext (m : MediumState) (tries : ℕ) (image : List ℕ) : Type 0 where
+pub record RunsNext (m : MediumState) (tries : ℕ) (image : List ℕ) : Type 0 where
   pub standing : Standing
   pub stands : IsStanding m tries standing
   pub asks : upload_of tries standing ≡ None
-  pub image_is : image_at m (active_slot standing) ≡ image
+  pub image_is : image_at m (upload_slot standing) ≡ image
 
 -- What comes of what an upload asks for: the next start is to run what it gives then, the active image, or the confirmed one if no start
 -- was left. Or the trial that was to end goes on.
 abbrev pub Uploads : MediumState → ℕ → Standing → MediumState → Type 0
-Uploads m tries (standing.Settled s) now = IsNext now tries (image_at m s.slot)
-Uploads m tries (standing.OnTrial t) now = ((t.starts < tries) × IsNext now tries (image_at m t.slot))
-    ⊎ ((tries ≤ t.starts) × (GoesOn m tries t now ⊎ IsNext now tries (image_at m t.base)))
+Uploads m tries (standing.Settled s) now = RunsNext now tries (image_at m s.slot)
+Uploads m tries (standing.OnTrial t) now = ((t.starts < tries) × RunsNext now tries (image_at m t.slot))
+    ⊎ ((tries ≤ t.starts) × (GoesOn m tries t now ⊎ RunsNext now tries (image_at m t.base)))
 
 -- The operation of a start was a mark, and it does not read set.
 abbrev pub IsUnmarked : MediumState → Option Operation → Type 0
@@ -89,4 +89,4 @@ IsUnmarked now (Some (Close at)) = ⊥
 
 -- A start runs this image; or its mark does not read set, and the next start is to run it.
 abbrev pub RunsOrIsNext : List ℕ → ℕ → Option Operation → MediumState → ℕ → Type 0
-RunsOrIsNext image tries operation now ran = (image_at now ran ≡ image) ⊎ (IsUnmarked now operation × IsNext now tries image)
+RunsOrIsNext image tries operation now ran = (image_at now ran ≡ image) ⊎ (IsUnmarked now operation × RunsNext now tries image)

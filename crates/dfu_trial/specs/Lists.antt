@@ -5,8 +5,8 @@ use Rattle.dfu_slots.specs.Layout.{slot_size, ArePlaces}
 use Rattle.dfu_slots.specs.Image.{slot_of, IsNewest}
 use Rattle.dfu_trial.specs.Marks.{is_set}
 use Rattle.dfu_trial.specs.Trial.{IsFilled, image_at}
-use Rattle.dfu_trial.specs.Calls.{IsSettled, IsStanding, start_of, runs_in, confirm_of, end_of, upload_of}
-use Rattle.dfu_trial.specs.Laws.{Carried, CarriedIf, IsNext}
+use Rattle.dfu_trial.specs.Calls.{IsSettled, IsStanding, trial_start, runs_in, confirm_of, end_of_trial, upload_of}
+use Rattle.dfu_trial.specs.Laws.{Carried, CarriedIf, RunsNext}
 use Rattle.dfu_trial.specs.declared.standing.Trial.{Trial}
 use Rattle.dfu_trial.specs.declared.standing.Settled.{Settled}
 use Rattle.dfu_trial.specs.declared.standing.Standing.{Standing}
@@ -47,7 +47,7 @@ ConfirmedBy m confirm.Elsewhere now = now ≡ m
 -- What an upload gives, unless it is stalled: the image that the next start is to run.
 abbrev pub GivenBy : MediumState → ℕ → Option (List ℕ) → Type 0
 GivenBy now tries None = Unit {0}
-GivenBy now tries (Some image) = IsNext now tries image
+GivenBy now tries (Some image) = RunsNext now tries image
 
 -- The image that is written is not put in place: the confirmed one in the first slot is the newest. Or it is: it is the newest, and no mark
 -- of its slot is set, since the sector of its header was erased before that was written.
@@ -68,10 +68,10 @@ pub record IsDownload (m : MediumState) (tries : ℕ) (image : List ℕ) (now : 
 
 -- This came to a medium with so many tries, by what `look` told of it.
 abbrev pub TrialGoes : ℕ → MediumState → TrialEvent → MediumState → Type 0
-TrialGoes tries m (Starts ran) now = (s : Standing) × IsStanding m tries s × CarriedIf m (start_of m.grain tries s).operation now
-    × RanBy (start_of m.grain tries s) now ran
+TrialGoes tries m (Starts ran) now = (s : Standing) × IsStanding m tries s × CarriedIf m (trial_start m.grain tries s).operation now
+    × RanBy (trial_start m.grain tries s) now ran
 TrialGoes tries m (Confirms at) now = (s : Standing) × IsStanding m tries s × ConfirmedBy m (confirm_of m.grain s at) now
-TrialGoes tries m Ends now = (s : Standing) × IsStanding m tries s × CarriedIf m (end_of s) now
+TrialGoes tries m Ends now = (s : Standing) × IsStanding m tries s × CarriedIf m (end_of_trial s) now
 TrialGoes tries m (Uploads given) now = (s : Standing) × IsStanding m tries s × CarriedIf m (upload_of tries s) now × GivenBy now tries given
 TrialGoes tries m (Downloads image) now = IsDownload m tries image now
 

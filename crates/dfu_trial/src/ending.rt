@@ -1,7 +1,7 @@
 //! How a trial ends.
 ghost use Rattle.std.specs.Prelude.{◌≡◌, IfSome};
 ghost use Rattle.dfu_trial.specs.Marks.{AreTries};
-ghost use Rattle.dfu_trial.specs.Calls.{IsStanding, IsTaken, end_of, upload_of};
+ghost use Rattle.dfu_trial.specs.Calls.{IsStanding, MediumTakes, end_of_trial, upload_of};
 
 use crate::{Operation, Standing};
 use dfu_slots::Medium;
@@ -14,8 +14,8 @@ impl Standing {
     pub fn end<M: Medium>(self, _medium: &M, tries: u32) -> Option<Operation>
         requires tries { AreTries (M.state _medium.now).grain tries }
         requires stands { IsStanding (M.state _medium.now) tries self }
-        ensures value { result ≡ end_of self }
-        ensures taken { IfSome result (λ operation. IsTaken (M.state _medium.now) operation) }
+        ensures value { result ≡ end_of_trial self }
+        ensures taken { IfSome result (λ operation. MediumTakes (M.state _medium.now) operation) }
     {
         match self {
             Standing::Settled(_) => None,
@@ -28,7 +28,7 @@ impl Standing {
         requires tries { AreTries (M.state _medium.now).grain tries }
         requires stands { IsStanding (M.state _medium.now) tries self }
         ensures value { result ≡ upload_of tries self }
-        ensures taken { IfSome result (λ operation. IsTaken (M.state _medium.now) operation) }
+        ensures taken { IfSome result (λ operation. MediumTakes (M.state _medium.now) operation) }
     {
         match self {
             Standing::Settled(_) => None,

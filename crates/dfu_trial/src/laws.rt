@@ -3,8 +3,8 @@ ghost use Rattle.std.specs.Prelude.{◌≡◌, ◌⊎◌, ℕ, true, List};
 ghost use Rattle.dfu_slots.specs.Medium.{MediumState};
 ghost use Rattle.dfu_slots.specs.Image.{HasImage};
 ghost use Rattle.dfu_trial.specs.Marks.{AreTries};
-ghost use Rattle.dfu_trial.specs.Calls.{IsStanding, sets, start_of, runs_in, upload_of};
-ghost use Rattle.dfu_trial.specs.Laws.{Carried, CarriedIf, GoesOn, IsConfirmed, IsBack, Starts, Uploads, IsNext, RunsOrIsNext};
+ghost use Rattle.dfu_trial.specs.Calls.{IsStanding, sets, trial_start, runs_in, upload_of};
+ghost use Rattle.dfu_trial.specs.Laws.{Carried, CarriedIf, GoesOn, IsConfirmed, IsBack, Starts, Uploads, RunsNext, RunsOrIsNext};
 ghost use Rattle.dfu_trial.specs.Trial.{image_at};
 ghost use Rattle.dfu_trial.specs.Lists.{TrialStep, CameAll, Trust, Alone, AreTrusted, AllTrusted};
 ghost use Rattle.dfu_trial.specs.declared.standing.Settled.{Settled};
@@ -18,8 +18,8 @@ ghost use Rattle.dfu_trial.specs.declared.operation.Operation.TheVariants.{Close
 /// image runs, and is back, or the trial is as it was. Some image is active afterwards.
 pub fn a_start_runs_one_of_two()
     ensures starts { (m now : MediumState) (tries : ℕ) (s : Standing) → AreTries m.grain tries → IsStanding m tries s →
-        CarriedIf m (start_of m.grain tries s).operation now →
-        Starts m tries s now (runs_in now (start_of m.grain tries s) (start_of m.grain tries s).operation) }
+        CarriedIf m (trial_start m.grain tries s).operation now →
+        Starts m tries s now (runs_in now (trial_start m.grain tries s) (trial_start m.grain tries s).operation) }
     ensures image { (m now : MediumState) (tries : ℕ) (s : Standing) (ran : ℕ) → AreTries m.grain tries → IsStanding m tries s →
         Starts m tries s now ran → HasImage now }
 {}
@@ -42,10 +42,10 @@ pub fn a_trial_ends_or_goes_on()
 pub fn an_upload_gives_what_starts_next()
     ensures upload { (m now : MediumState) (tries : ℕ) (s : Standing) → AreTries m.grain tries → IsStanding m tries s →
         CarriedIf m (upload_of tries s) now → Uploads m tries s now }
-    ensures start { (m now : MediumState) (tries : ℕ) (image : List ℕ) (s : Standing) → AreTries m.grain tries → IsNext m tries image →
-        IsStanding m tries s → CarriedIf m (start_of m.grain tries s).operation now →
-        RunsOrIsNext image tries (start_of m.grain tries s).operation now
-        (runs_in now (start_of m.grain tries s) (start_of m.grain tries s).operation) }
+    ensures start { (m now : MediumState) (tries : ℕ) (image : List ℕ) (s : Standing) → AreTries m.grain tries → RunsNext m tries image →
+        IsStanding m tries s → CarriedIf m (trial_start m.grain tries s).operation now →
+        RunsOrIsNext image tries (trial_start m.grain tries s).operation now
+        (runs_in now (trial_start m.grain tries s) (trial_start m.grain tries s).operation) }
 {}
 
 /// Starts, confirmations, ends, uploads and downloads in any order, with whatever becomes of each operation, once an image was confirmed. What runs

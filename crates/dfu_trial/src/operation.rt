@@ -1,5 +1,5 @@
 //! What the calls ask of their caller.
-ghost use Rattle.dfu_trial.specs.Calls.{IsTaken, IsWithin};
+ghost use Rattle.dfu_trial.specs.Calls.{MediumTakes, MarkIsWithin};
 ghost use Rattle.dfu_trial.specs.Laws.{Carried};
 
 use dfu_slots::{Failed, Medium};
@@ -20,8 +20,8 @@ impl Operation {
     ///
     /// The medium answered that it failed.
     pub fn carry_out<M: Medium>(self, medium: &mut M) -> Result<(), Failed>
-        requires taken { IsTaken (M.state medium.old) self }
-        requires within { IsWithin (M.state medium.old) self }
+        requires taken { MediumTakes (M.state medium.old) self }
+        requires within { MarkIsWithin (M.state medium.old) self }
         ensures { Carried (M.state medium.old) self (M.state medium.new) }
     {
         match self {

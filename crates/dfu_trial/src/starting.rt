@@ -1,7 +1,7 @@
 //! What starts.
 ghost use Rattle.std.specs.Prelude.{◌≡◌, IfSome};
 ghost use Rattle.dfu_trial.specs.Marks.{AreTries};
-ghost use Rattle.dfu_trial.specs.Calls.{IsStanding, IsTaken, IsWithin, start_of, runs_in};
+ghost use Rattle.dfu_trial.specs.Calls.{IsStanding, MediumTakes, MarkIsWithin, trial_start, runs_in};
 
 use crate::marks::{is_marked, mark_at, mark_size};
 use crate::{Operation, Standing};
@@ -24,9 +24,9 @@ impl Standing {
     pub fn start<M: Medium>(self, medium: &M, tries: u32) -> Starting
         requires tries { AreTries (M.state medium.now).grain tries }
         requires stands { IsStanding (M.state medium.now) tries self }
-        ensures value { result ≡ start_of (M.state medium.now).grain tries self }
-        ensures taken { IfSome result.operation (λ operation. IsTaken (M.state medium.now) operation) }
-        ensures within { IfSome result.operation (λ operation. IsWithin (M.state medium.now) operation) }
+        ensures value { result ≡ trial_start (M.state medium.now).grain tries self }
+        ensures taken { IfSome result.operation (λ operation. MediumTakes (M.state medium.now) operation) }
+        ensures within { IfSome result.operation (λ operation. MarkIsWithin (M.state medium.now) operation) }
     {
         match self {
             Standing::Settled(settled) => Starting {
@@ -57,7 +57,7 @@ impl Standing {
 impl Starting {
     /// Where the slot begins that runs, once the operation was carried out, whatever became of it: a mark is read back.
     pub fn runs<M: Medium>(self, medium: &M) -> u32
-        requires { IfSome self.operation (λ operation. IsWithin (M.state medium.now) operation) }
+        requires { IfSome self.operation (λ operation. MarkIsWithin (M.state medium.now) operation) }
         ensures { result ≡ runs_in (M.state medium.now) self self.operation }
     {
         match self.operation {

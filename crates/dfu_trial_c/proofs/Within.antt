@@ -3,7 +3,7 @@ use Rattle.std.proofs.Common.{◌≡◌, ℕ, ◌+◌, ◌≤◌, Bool, true, fa
 use Rattle.dfu_slots.specs.Medium.{MediumState}
 use Rattle.dfu_slots.specs.Layout.{slot_size}
 use Rattle.dfu_trial.specs.Marks.{AreTries}
-use Rattle.dfu_trial.specs.Calls.{IsStanding, sets, start_of}
+use Rattle.dfu_trial.specs.Calls.{IsStanding, sets, trial_start}
 use Rattle.dfu_trial.specs.declared.operation.Operation.TheVariants.{Close}
 use Rattle.dfu_trial.specs.declared.standing.Trial.{Trial}
 use Rattle.dfu_trial.specs.declared.standing.Standing.{Standing}
@@ -18,7 +18,7 @@ AreWithin m s = (s.slot + slot_size m.bytes ≤ length m.bytes) × (s.otherwise 
 
 module _ (m : MediumState) (tries : ℕ) (are : AreTries m.grain tries) where
   on_trial : (t : Trial) → IsStanding m tries (standing.OnTrial t) → (b : Bool) → nat_lt t.starts tries ≡ b
-      → AreWithin m (start_of m.grain tries (standing.OnTrial t))
+      → AreWithin m (trial_start m.grain tries (standing.OnTrial t))
   on_trial t stands b is =
       let marks : Starting = record { operation = Some (sets m.grain t.slot (t.starts + 1)); slot = t.slot; otherwise = t.base } in
       let gives_up : Starting = record { operation = Some (Close t.slot); slot = t.base; otherwise = t.base } in
@@ -32,6 +32,6 @@ module _ (m : MediumState) (tries : ℕ) (are : AreTries m.grain tries) where
       either true mine base = (mine, base)
       either false mine base = (base, base)
 
-  pub starts_within : (s : Standing) → IsStanding m tries s → AreWithin m (start_of m.grain tries s)
+  pub starts_within : (s : Standing) → IsStanding m tries s → AreWithin m (trial_start m.grain tries s)
   starts_within (standing.Settled s) stands = (active_in m tries s are stands, active_in m tries s are stands)
   starts_within (standing.OnTrial t) stands = on_trial t stands (nat_lt t.starts tries) refl

@@ -5,8 +5,8 @@ use Rattle.dfu_trial_c.specs.declared.refusal.Refusal.{Refusal}
 use Rattle.dfu_trial_c.specs.declared.refusal.Refusal.TheVariants.{NoConfig, Tries, NoMedium}
 
 -- DFU_ASKS.
-abbrev pub ASKS : ℤ
-ASKS = negsuc 10
+abbrev pub TRIAL_ASKS : ℤ
+TRIAL_ASKS = negsuc 10
 
 -- DFU_ELSEWHERE.
 abbrev pub ELSEWHERE : ℤ

@@ -1,6 +1,6 @@
 -- What comes of the calls of a program in C for a trial.
 use Rattle.std.specs.Prelude.{◌≡◌, ℕ, ℤ, pos, List, Some}
-use Rattle.dfu_trial.specs.Calls.{start_of, confirm_of, end_of, upload_of}
+use Rattle.dfu_trial.specs.Calls.{trial_start, confirm_of, end_of_trial, upload_of}
 use Rattle.dfu_trial.specs.declared.standing.Standing.{Standing}
 use Rattle.dfu_trial.specs.declared.confirming.Confirmation.{Confirmation}
 use Rattle.dfu_trial.specs.declared.confirming.Confirmation.TheVariants as confirm
@@ -28,8 +28,8 @@ pub record ToldStanding (t : DfuTries) (flash : List ℕ) (result : ℤ) (told :
 pub record ToldStart (t : DfuTries) (flash : List ℕ) (result : ℤ) (before after : DfuAsk) (told : DfuStarting) : Type 0 where
   pub standing : Standing
   pub stands : HasStanding t flash standing
-  pub asks : IsTrialAsked t.sector (start_of (tries_grain t) t.tries standing).operation result before after
-  pub told_is : told ≡ starting_told (flash_state t flash) (start_of (tries_grain t) t.tries standing)
+  pub asks : IsTrialAsked t.sector (trial_start (tries_grain t) t.tries standing).operation result before after
+  pub told_is : told ≡ starting_told (flash_state t flash) (trial_start (tries_grain t) t.tries standing)
 
 -- A confirmation is told by the operation that is asked for, by 0 if the image is confirmed, and by DFU_ELSEWHERE; if none is asked for
 -- nothing changes.
@@ -48,7 +48,7 @@ pub record ToldConfirm (t : DfuTries) (flash : List ℕ) (at : ℕ) (result : �
 pub record ToldEnd (t : DfuTries) (flash : List ℕ) (result : ℤ) (before after : DfuAsk) : Type 0 where
   pub standing : Standing
   pub stands : HasStanding t flash standing
-  pub asks : IsTrialAsked t.sector (end_of standing) result before after
+  pub asks : IsTrialAsked t.sector (end_of_trial standing) result before after
 
 -- It is told what comes before an upload.
 pub record ToldUpload (t : DfuTries) (flash : List ℕ) (result : ℤ) (before after : DfuAsk) : Type 0 where

@@ -6,7 +6,7 @@ use Rattle.dfu_suffix.specs.Laws.{AreBytes}
 use Rattle.dfu_images.specs.Elements.{Piece}
 use Rattle.dfuse_file.specs.declared.fault.FileFault.{FileFault}
 use Rattle.dfuse_file.specs.declared.fault.FileFault.TheVariants.{ElementPastTheTarget, EmptyElement, AddressPastTheEnd}
-use Rattle.dfuse_file.specs.Reading.{Split, ◌>>=◌, number_at, element_at, before_elements, elements_at}
+use Rattle.dfuse_file.specs.Reading.{Split, ◌>>=◌, number_at, front_element, before_elements, elements_at}
 use Rattle.dfuse_file.specs.Grammar.{four, spelled_elements, ElementFits, ElementsFit}
 use Rattle.dfuse_file.proofs.Steps.{bound, passed, skip, same_ok, not_less, not_zero, zero_not}
 use Rattle.dfuse_file.proofs.Fields.{AreBytes-drop, cut, number_fits, number_is}
@@ -18,8 +18,8 @@ pub record Begins (b : List ℕ) (s : Split) : Type 0 where
   pub bytes : AreBytes s.rest
 
 -- What is taken off stood there.
-pub element_found : (b : List ℕ) (s : Split) → AreBytes b → element_at b ≡ Ok s → Begins b s
-unfolding element_at
+pub element_found : (b : List ℕ) (s : Split) → AreBytes b → front_element b ≡ Ok s → Begins b s
+unfolding front_element
 element_found b s f h =
     let n = number_at 4 b in
     let a = number_at 0 b in
@@ -51,8 +51,8 @@ split_same a c d e r s h0 h1 h2 = cc
 
 -- Each element is taken off.
 pub element_read : (e : Piece) (rest : List ℕ) → ElementFits e →
-    element_at (four e.address ++ (four (length e.bytes) ++ (e.bytes ++ rest))) ≡ Ok (record { element = e; rest = rest })
-unfolding element_at
+    front_element (four e.address ++ (four (length e.bytes) ++ (e.bytes ++ rest))) ≡ Ok (record { element = e; rest = rest })
+unfolding front_element
 element_read e rest h =
     let n = length e.bytes in
     let b = four e.address ++ (four n ++ (e.bytes ++ rest)) in
@@ -94,7 +94,7 @@ unfolding elements_at
 elements_found zero [] es f h = no_elements es h
 elements_found zero (x ∷ b) es f h = cc
 elements_found (suc n) b es f h =
-    let p = bound (element_at b) _ es h in
+    let p = bound (front_element b) _ es h in
     let s = p.0 in
     let begins = element_found b s f p.1 in
     let q = bound (elements_at n s.rest) _ es p.2 in

@@ -6,7 +6,7 @@ use Rattle.std.proofs.Math.Seq.{drop-cons}
 use Rattle.dfu_suffix.specs.Laws.{AreBytes}
 use Rattle.dfuse_file.specs.declared.fault.FileFault.{FileFault}
 use Rattle.dfuse_file.specs.declared.fault.FileFault.TheVariants.{NoPrefix, BadVersion, BadImageSize, NoTargets}
-use Rattle.dfuse_file.specs.Reading.{Target, Suffixed, Content, ◌>>=◌, number_at, is_prefixed, targets_at, body_at, suffix_at, of_targets, file_at}
+use Rattle.dfuse_file.specs.Reading.{Target, Suffixed, DfuseContent, ◌>>=◌, number_at, is_prefixed, targets_at, body_at, suffix_at, of_targets, file_at}
 use Rattle.dfuse_file.specs.Grammar.{four, opening, spelled_targets, IsBody, IsDfuSe}
 use Rattle.dfuse_file.proofs.Steps.{bound, passed, skip, same_ok, if_ok, not_less, not_zero, zero_not, and_true}
 use Rattle.dfuse_file.proofs.Fields.{AreBytes-drop, AreBytes-take, cut, number_fits, number_is}
@@ -123,7 +123,7 @@ ends_body b s ts e body = record {
 }
 
 -- What was read is a file of the grammar.
-file_found : (b : List ℕ) (f : Content) → AreBytes b → file_at b ≡ Ok f → IsDfuSe f b
+file_found : (b : List ℕ) (f : DfuseContent) → AreBytes b → file_at b ≡ Ok f → IsDfuSe f b
 unfolding file_at
 file_found b f bytes h =
     let p = bound (suffix_at b) _ f h in
@@ -131,14 +131,14 @@ file_found b f bytes h =
     let e = suffix_found b s bytes p.1 in
     let q = bound (body_at (length b) s.payload) _ f p.2 in
     let front = payload_bytes b _ s bytes (e.spelled ∙ append_assoc s.payload _ _) in
-    subst (λ (x : Content). IsDfuSe x b) (same_ok _ f q.2) (ends_body b s q.0 e (body_found (length b) s.payload q.0 front q.1))
+    subst (λ (x : DfuseContent). IsDfuSe x b) (same_ok _ f q.2) (ends_body b s q.0 e (body_found (length b) s.payload q.0 front q.1))
 
 -- So it is for an answer that is what reading gives.
-pub answer_found : (r : Result Content FileFault) (b : List ℕ) → AreBytes b → r ≡ file_at b → IfOk r (λ f. IsDfuSe f b)
+pub answer_found : (r : Result DfuseContent FileFault) (b : List ℕ) → AreBytes b → r ≡ file_at b → IfOk r (λ f. IsDfuSe f b)
 answer_found r b bytes h = if_ok r _ (λ f e. file_found b f bytes (sym h ∙ e))
 
 -- Each file of the grammar is read.
-pub file_read : (b : List ℕ) (f : Content) → IsDfuSe f b → file_at b ≡ Ok f
+pub file_read : (b : List ℕ) (f : DfuseContent) → IsDfuSe f b → file_at b ≡ Ok f
 unfolding file_at
 file_read b f h =
     let s : Suffixed = record { payload = h.payload; ids = f.ids } in

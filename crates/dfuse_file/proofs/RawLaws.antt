@@ -3,10 +3,11 @@ use Rattle.std.proofs.Common.{◌≡◌, ◌-◌, ℕ, List, length, take, get_o
 use Rattle.dfu_suffix.specs.Grammar.{tail_of}
 use Rattle.dfu_suffix.specs.declared.fault.SuffixFault.{SuffixFault}
 use Rattle.dfuse_file.specs.declared.raw.RawFault.{RawFault}
-use Rattle.dfuse_file.specs.Raw.{refusal, whole_or, payload_by}
+use Rattle.dfuse_file.specs.Raw.{raw_refusal, whole_or, payload_by}
 
 -- By a fault.
-pub by_fault : (o : Option SuffixFault) (f : SuffixFault) (r : Option RawFault) (b : List ℕ) → o ≡ Some f → refusal f ≡ r → payload_by o b ≡ whole_or b r
+pub by_fault : (o : Option SuffixFault) (f : SuffixFault) (r : Option RawFault) (b : List ℕ) → o ≡ Some f → raw_refusal f ≡ r →
+    payload_by o b ≡ whole_or b r
 unfolding payload_by
 by_fault o f r b e h = ap (λ (p : Option SuffixFault). payload_by p b) e ∙ ap (whole_or b) h
 

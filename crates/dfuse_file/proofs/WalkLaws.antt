@@ -4,8 +4,8 @@ use Rattle.std.proofs.lemmas.Bool.{eqb-true}
 use Rattle.dfu_images.specs.Elements.{Piece}
 use Rattle.dfuse_file.specs.declared.fault.FileFault.{FileFault}
 use Rattle.dfuse_file.specs.declared.fault.FileFault.TheVariants.{BadTargetSize, Trailing}
-use Rattle.dfuse_file.specs.Reading.{Split, Target, Heading, ◌>>=◌, element_at, before_elements, elements_at, heading_at, target_of, before_targets, targets_at}
-use Rattle.dfuse_file.specs.Found.{found, checked}
+use Rattle.dfuse_file.specs.Reading.{Split, Target, Heading, ◌>>=◌, front_element, before_elements, elements_at, heading_at, target_of, before_targets, targets_at}
+use Rattle.dfuse_file.specs.Found.{found, fault_only}
 use Rattle.dfuse_file.proofs.Steps.{bound, same_ok}
 
 -- A list without a length is empty.
@@ -15,78 +15,84 @@ empty (x ∷ xs) h = absurd (omega (arith, eqb-true (length (x ∷ xs)) 0 h))
 
 -- ---- whether there was a fault
 
-checked_before : (e : Piece) (r : Result (List Piece) FileFault) → checked (before_elements e r) ≡ checked r
+checked_before : (e : Piece) (r : Result (List Piece) FileFault) → fault_only (before_elements e r) ≡ fault_only r
 checked_before e (Ok es) = refl
 checked_before e (Err fault) = refl
 
 -- An element further, the question is the same.
-pub element_further : (n : ℕ) (b : List ℕ) (s : Split) → element_at b ≡ Ok s → checked (elements_at (suc n) b) ≡ checked (elements_at n s.rest)
+pub element_further : (n : ℕ) (b : List ℕ) (s : Split) → front_element b ≡ Ok s →
+    fault_only (elements_at (suc n) b) ≡ fault_only (elements_at n s.rest)
 unfolding elements_at
 element_further n b s h =
-    ap (λ (r : Result Split FileFault). checked (r >>= λ s. before_elements s.element (elements_at n s.rest))) h
+    ap (λ (r : Result Split FileFault). fault_only (r >>= λ s. before_elements s.element (elements_at n s.rest))) h
     ∙ checked_before s.element (elements_at n s.rest)
 
 -- The fault of the first element is that of all.
-pub element_fault : (n : ℕ) (b : List ℕ) (fault : FileFault) → element_at b ≡ Err fault → checked (elements_at (suc n) b) ≡ Err fault
+pub element_fault : (n : ℕ) (b : List ℕ) (fault : FileFault) → front_element b ≡ Err fault → fault_only (elements_at (suc n) b) ≡ Err fault
 unfolding elements_at
-element_fault n b fault h = ap (λ (r : Result Split FileFault). checked (r >>= λ s. before_elements s.element (elements_at n s.rest))) h
+element_fault n b fault h = ap (λ (r : Result Split FileFault). fault_only (r >>= λ s. before_elements s.element (elements_at n s.rest))) h
 
 -- No elements are no bytes.
-pub elements_done : (b : List ℕ) → eqb (length b) 0 ≡ true → checked (elements_at 0 b) ≡ Ok tt
+pub elements_done : (b : List ℕ) → eqb (length b) 0 ≡ true → fault_only (elements_at 0 b) ≡ Ok tt
 unfolding elements_at
 elements_done [] h = refl
 elements_done (x ∷ b) h = absurd (omega (arith, eqb-true (length (x ∷ b)) 0 h))
 
 -- More bytes are a fault.
-pub elements_left : (b : List ℕ) → eqb (length b) 0 ≡ false → checked (elements_at 0 b) ≡ Err BadTargetSize
+pub elements_left : (b : List ℕ) → eqb (length b) 0 ≡ false → fault_only (elements_at 0 b) ≡ Err BadTargetSize
 unfolding elements_at
 elements_left [] h = cc
 elements_left (x ∷ b) h = refl
 
-checked_before_target : (t : Target) (r : Result (List Target) FileFault) → checked (before_targets t r) ≡ checked r
+checked_before_target : (t : Target) (r : Result (List Target) FileFault) → fault_only (before_targets t r) ≡ fault_only r
 checked_before_target t (Ok ts) = refl
 checked_before_target t (Err fault) = refl
 
-checked_behind : (h : Heading) (n : ℕ) (r : Result (List Piece) FileFault) (m : Result (List Target) FileFault) → checked r ≡ Ok tt →
-    checked (r >>= λ es. before_targets (target_of h es) m) ≡ checked m
+checked_behind : (h : Heading) (n : ℕ) (r : Result (List Piece) FileFault) (m : Result (List Target) FileFault) → fault_only r ≡ Ok tt →
+    fault_only (r >>= λ es. before_targets (target_of h es) m) ≡ fault_only m
 checked_behind h n (Ok es) m e = checked_before_target (target_of h es) m
 checked_behind h n (Err fault) m e = cc
 
-checked_fault : (h : Heading) (r : Result (List Piece) FileFault) (m : Result (List Target) FileFault) (fault : FileFault) → checked r ≡ Err fault →
-    checked (r >>= λ es. before_targets (target_of h es) m) ≡ Err fault
+checked_fault : (h : Heading) (r : Result (List Piece) FileFault) (m : Result (List Target) FileFault) (fault : FileFault) →
+    fault_only r ≡ Err fault →
+    fault_only (r >>= λ es. before_targets (target_of h es) m) ≡ Err fault
 checked_fault h (Ok es) m fault e = cc
 checked_fault h (Err other) m fault e = cc
 
 -- A target further, the question is the same.
-pub target_further : (n : ℕ) (b : List ℕ) (h : Heading) → heading_at b ≡ Ok h → checked (elements_at h.count h.content) ≡ Ok tt →
-    checked (targets_at (suc n) b) ≡ checked (targets_at n h.rest)
+pub target_further : (n : ℕ) (b : List ℕ) (h : Heading) → heading_at b ≡ Ok h → fault_only (elements_at h.count h.content) ≡ Ok tt →
+    fault_only (targets_at (suc n) b) ≡ fault_only (targets_at n h.rest)
 unfolding targets_at
 target_further n b h e c =
-    ap (λ (r : Result Heading FileFault). checked (r >>= λ h. elements_at h.count h.content >>= λ es. before_targets (target_of h es) (targets_at n h.rest))) e
+    ap (λ (r : Result Heading FileFault). fault_only
+    (r >>= λ h. elements_at h.count h.content >>= λ es. before_targets (target_of h es) (targets_at n h.rest))) e
     ∙ checked_behind h n (elements_at h.count h.content) (targets_at n h.rest) c
 
 -- The fault of the first heading is that of all.
-pub heading_fault : (n : ℕ) (b : List ℕ) (fault : FileFault) → heading_at b ≡ Err fault → checked (targets_at (suc n) b) ≡ Err fault
+pub heading_fault : (n : ℕ) (b : List ℕ) (fault : FileFault) → heading_at b ≡ Err fault → fault_only (targets_at (suc n) b) ≡ Err fault
 unfolding targets_at
 heading_fault n b fault e =
-    ap (λ (r : Result Heading FileFault). checked (r >>= λ h. elements_at h.count h.content >>= λ es. before_targets (target_of h es) (targets_at n h.rest))) e
+    ap (λ (r : Result Heading FileFault). fault_only
+    (r >>= λ h. elements_at h.count h.content >>= λ es. before_targets (target_of h es) (targets_at n h.rest))) e
 
 -- So is that of the first elements.
-pub target_fault : (n : ℕ) (b : List ℕ) (h : Heading) (fault : FileFault) → heading_at b ≡ Ok h → checked (elements_at h.count h.content) ≡ Err fault →
-    checked (targets_at (suc n) b) ≡ Err fault
+pub target_fault : (n : ℕ) (b : List ℕ) (h : Heading) (fault : FileFault) → heading_at b ≡ Ok h →
+    fault_only (elements_at h.count h.content) ≡ Err fault →
+    fault_only (targets_at (suc n) b) ≡ Err fault
 unfolding targets_at
 target_fault n b h fault e c =
-    ap (λ (r : Result Heading FileFault). checked (r >>= λ h. elements_at h.count h.content >>= λ es. before_targets (target_of h es) (targets_at n h.rest))) e
+    ap (λ (r : Result Heading FileFault). fault_only
+    (r >>= λ h. elements_at h.count h.content >>= λ es. before_targets (target_of h es) (targets_at n h.rest))) e
     ∙ checked_fault h (elements_at h.count h.content) (targets_at n h.rest) fault c
 
 -- No targets are no bytes.
-pub targets_done : (b : List ℕ) → eqb (length b) 0 ≡ true → checked (targets_at 0 b) ≡ Ok tt
+pub targets_done : (b : List ℕ) → eqb (length b) 0 ≡ true → fault_only (targets_at 0 b) ≡ Ok tt
 unfolding targets_at
 targets_done [] h = refl
 targets_done (x ∷ b) h = absurd (omega (arith, eqb-true (length (x ∷ b)) 0 h))
 
 -- More bytes are a fault.
-pub targets_left : (b : List ℕ) → eqb (length b) 0 ≡ false → checked (targets_at 0 b) ≡ Err Trailing
+pub targets_left : (b : List ℕ) → eqb (length b) 0 ≡ false → fault_only (targets_at 0 b) ≡ Err Trailing
 unfolding targets_at
 targets_left [] h = cc
 targets_left (x ∷ b) h = refl
@@ -109,7 +115,7 @@ taken_off e (Ok es) xs h = record { rest = refl; is = refl }
 taken_off e (Err fault) xs h = cc
 
 -- An element is taken off others.
-pub element_taken : (n : ℕ) (b : List ℕ) (s : Split) (xs : List Piece) → element_at b ≡ Ok s → elements_at (suc n) b ≡ Ok xs →
+pub element_taken : (n : ℕ) (b : List ℕ) (s : Split) (xs : List Piece) → front_element b ≡ Ok s → elements_at (suc n) b ≡ Ok xs →
     TakenOff (elements_at (suc n) b) (elements_at n s.rest) s.element
 unfolding elements_at
 element_taken n b s xs h e =
@@ -118,10 +124,11 @@ element_taken n b s xs h e =
     (taken_off s.element (elements_at n s.rest) xs (sym is ∙ e))
 
 -- So there is a first one.
-pub element_there : (n : ℕ) (b : List ℕ) (fault : FileFault) (xs : List Piece) → element_at b ≡ Err fault → elements_at (suc n) b ≡ Ok xs → ⊥
+pub element_there : (n : ℕ) (b : List ℕ) (fault : FileFault) (xs : List Piece) → front_element b ≡ Err fault →
+    elements_at (suc n) b ≡ Ok xs → ⊥
 unfolding elements_at
 element_there n b fault xs h e =
-    let p = bound (element_at b) _ xs e in
+    let p = bound (front_element b) _ xs e in
     let one = p.1 in
     cc
 
@@ -166,7 +173,7 @@ unfolding elements_at
 elements_number zero [] xs h = ap length (sym (same_ok [] xs h))
 elements_number zero (x ∷ b) xs h = cc
 elements_number (suc n) b xs h =
-    let p = bound (element_at b) _ xs h in
+    let p = bound (front_element b) _ xs h in
     let q = bound (elements_at n p.0.rest) _ xs p.2 in
     let more = elements_number n p.0.rest q.0 q.1 in
     ap length (sym (same_ok _ xs q.2)) ∙ omega (arith, more)

@@ -10,9 +10,9 @@ found (Ok xs) = xs
 found (Err fault) = []
 
 -- Whether there was a fault, and which.
-abbrev pub checked : {A : Type 0} → Result A FileFault → Result Unit FileFault
-checked (Ok x) = Ok tt
-checked (Err fault) = Err fault
+abbrev pub fault_only : {A : Type 0} → Result A FileFault → Result Unit FileFault
+fault_only (Ok x) = Ok tt
+fault_only (Err fault) = Err fault
 
 -- An element of a session, by its address and its bytes.
 abbrev pub piece_of : Element → Piece

@@ -5,7 +5,7 @@ use Rattle.dfu_images.specs.Elements.{Piece}
 use Rattle.dfu_suffix.specs.Register.{register}
 use Rattle.dfu_suffix.specs.Grammar.{before_crc}
 use Rattle.dfuse_file.specs.declared.fault.FileFault.{FileFault}
-use Rattle.dfuse_file.specs.Reading.{Target, Content, file_at}
+use Rattle.dfuse_file.specs.Reading.{Target, DfuseContent, file_at}
 
 -- Four bytes that have this number, the low one first.
 abbrev pub four : ℕ → List ℕ
@@ -68,7 +68,7 @@ pub record IsBody (targets : List Target) (whole : ℕ) (bytes : List ℕ) : Typ
   pub fit : TargetsFit targets
 
 -- The bytes are a DfuSe file: a body, and a suffix with bcdDFU 011Ah (USB DFU 1.1, appendix B).
-pub record IsDfuSe (f : Content) (bytes : List ℕ) : Type 0 where
+pub record IsDfuSe (f : DfuseContent) (bytes : List ℕ) : Type 0 where
   pub payload : List ℕ
   pub extra : List ℕ
   pub spelled : bytes ≡ before_crc payload f.ids 0x011A extra ++ four (register (before_crc payload f.ids 0x011A extra))
@@ -80,5 +80,5 @@ pub record IsDfuSe (f : Content) (bytes : List ℕ) : Type 0 where
   pub body : IsBody f.targets (length bytes) payload
 
 -- This is the first fault of bytes that are no DfuSe file.
-abbrev pub First : FileFault → List ℕ → Type 0
-First fault bytes = file_at bytes ≡ Err fault
+abbrev pub FirstFileFault : FileFault → List ℕ → Type 0
+FirstFileFault fault bytes = file_at bytes ≡ Err fault

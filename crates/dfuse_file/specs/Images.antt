@@ -11,8 +11,8 @@ use Rattle.dfuse_file.specs.Reading.{Target}
 use Rattle.dfuse_file.specs.Found.{piece_of}
 
 -- A target that is handed out.
-abbrev pub told : made.Target → Target
-told t = record { setting = t.setting; named = t.named; name = t.name.now; elements = t.elements }
+abbrev pub handed_out : made.Target → Target
+handed_out t = record { setting = t.setting; named = t.named; name = t.name.now; elements = t.elements }
 
 -- Each target is for this setting.
 unfoldable pub all_for : (setting : ℕ) → List Target → Bool

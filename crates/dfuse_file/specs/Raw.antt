@@ -9,12 +9,12 @@ use Rattle.dfuse_file.specs.declared.raw.RawFault.TheVariants.{TooLarge, BadLeng
 use Rattle.dfuse_file.specs.Reading.{is_prefixed}
 
 -- Why a file with this fault of dfu_suffix isn't taken, if it isn't.
-abbrev pub refusal : SuffixFault → Option RawFault
-refusal suffix.TooLarge = Some TooLarge
-refusal suffix.BadLength = Some BadLength
-refusal suffix.BadCrc = Some BadCrc
-refusal suffix.DfuSe = Some HasAddresses
-refusal other = None
+abbrev pub raw_refusal : SuffixFault → Option RawFault
+raw_refusal suffix.TooLarge = Some TooLarge
+raw_refusal suffix.BadLength = Some BadLength
+raw_refusal suffix.BadCrc = Some BadCrc
+raw_refusal suffix.DfuSe = Some HasAddresses
+raw_refusal other = None
 
 -- All of a file, unless it is refused.
 abbrev pub whole_or : List ℕ → Option RawFault → Result (List ℕ) RawFault
@@ -24,7 +24,7 @@ whole_or bytes (Some fault) = Err fault
 -- What stands before a suffix, by the first fault of dfu_suffix. A file that is too short for one, or isn't signed, has none.
 unfoldable pub payload_by : Option SuffixFault → List ℕ → Result (List ℕ) RawFault
 payload_by None bytes = Ok (take (length bytes - slice_index (tail_of bytes) 11) bytes)
-payload_by (Some fault) bytes = whole_or bytes (refusal fault)
+payload_by (Some fault) bytes = whole_or bytes (raw_refusal fault)
 
 -- A file begins with the letters DfuSe.
 abbrev pub has_prefix : List ℕ → Bool

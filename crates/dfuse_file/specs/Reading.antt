@@ -28,8 +28,8 @@ pub record Split : Type 0 where
   pub rest : List ℕ
 
 -- An element at the front: its address, its size, and so many bytes.
-unfoldable pub element_at : List ℕ → Result Split FileFault
-element_at bytes =
+unfoldable pub front_element : List ℕ → Result Split FileFault
+front_element bytes =
     if nat_lt (length bytes) 8 then Err ElementPastTheTarget
     else if nat_lt (length (drop 8 bytes)) (number_at 4 bytes) then Err ElementPastTheTarget
     else if number_at 4 bytes == 0 then Err EmptyElement
@@ -47,7 +47,7 @@ before_elements element more = more >>= λ elements. Ok (element ∷ elements)
 unfoldable pub elements_at : (count : ℕ) → List ℕ → Result (List Piece) FileFault
 elements_at zero [] = Ok []
 elements_at zero (b ∷ bytes) = Err BadTargetSize
-elements_at (suc n) bytes = element_at bytes >>= λ s. before_elements s.element (elements_at n s.rest)
+elements_at (suc n) bytes = front_element bytes >>= λ s. before_elements s.element (elements_at n s.rest)
 
 -- ---- a target
 
@@ -168,14 +168,14 @@ suffix_at bytes = suffix_by (find (has_fault bytes) fault_order) bytes
 -- ---- the file
 
 -- A file: the device that it is for, and targets.
-pub record Content : Type 0 where
+pub record DfuseContent : Type 0 where
   pub ids : Ids
   pub targets : List Target
 
 -- A file of these targets.
-abbrev pub of_targets : Ids → Result (List Target) FileFault → Result Content FileFault
+abbrev pub of_targets : Ids → Result (List Target) FileFault → Result DfuseContent FileFault
 of_targets ids targets = targets >>= λ ts. Ok (record { ids = ids; targets = ts })
 
 -- A file, or its first fault.
-unfoldable pub file_at : List ℕ → Result Content FileFault
+unfoldable pub file_at : List ℕ → Result DfuseContent FileFault
 file_at bytes = suffix_at bytes >>= λ s. of_targets s.ids (body_at (length bytes) s.payload)

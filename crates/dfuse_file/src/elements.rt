@@ -1,8 +1,8 @@
 //! Elements, one behind the other.
 
 ghost use Rattle.std.specs.Prelude.{◌≡◌, [], ◌∷◌, length, MatchOption, Ok};
-ghost use Rattle.dfuse_file.specs.Reading.{element_at, elements_at};
-ghost use Rattle.dfuse_file.specs.Found.{piece_of, checked};
+ghost use Rattle.dfuse_file.specs.Reading.{front_element, elements_at};
+ghost use Rattle.dfuse_file.specs.Found.{piece_of, fault_only};
 
 use crate::fault::FileFault;
 use crate::numbers::number_at;
@@ -26,9 +26,9 @@ impl<'f> Model for Split<'f> {
 }
 
 /// Takes an element off the front.
-#[tactic(auto, using(std::proofs::lemmas::Bool::Decides::nat_tests), unfolding(crate::specs::Reading::element_at))]
+#[tactic(auto, using(std::proofs::lemmas::Bool::Decides::nat_tests), unfolding(crate::specs::Reading::front_element))]
 fn take_element(bytes: &[u8]) -> Result<Split<'_>, FileFault>
-    ensures { result ≡ element_at bytes.now }
+    ensures { result ≡ front_element bytes.now }
 {
     if bytes.len() < 8 {
         return Err(FileFault::ElementPastTheTarget);
@@ -57,7 +57,7 @@ fn take_element(bytes: &[u8]) -> Result<Split<'_>, FileFault>
 
 /// Checks that the bytes are so many elements, and nothing else.
 pub(crate) fn check_elements(count: u32, bytes: &[u8]) -> Result<(), FileFault>
-    ensures { result ≡ checked (elements_at count bytes.now) }
+    ensures { result ≡ fault_only (elements_at count bytes.now) }
 {
     let mut rest = bytes;
     for _ in 0..count {

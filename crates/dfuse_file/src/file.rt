@@ -2,8 +2,8 @@
 
 ghost use Rattle.std.specs.Prelude.{◌≡◌, ◌↔◌, length, Ok, Err, IfOk};
 ghost use Rattle.dfuse_file.specs.declared.fault.FileFault.{FileFault};
-ghost use Rattle.dfuse_file.specs.Reading.{Content, body_at, of_targets, file_at};
-ghost use Rattle.dfuse_file.specs.Grammar.{IsDfuSe, First};
+ghost use Rattle.dfuse_file.specs.Reading.{DfuseContent, body_at, of_targets, file_at};
+ghost use Rattle.dfuse_file.specs.Grammar.{IsDfuSe, FirstFileFault};
 ghost use Rattle.dfuse_file.specs.Images.{one_setting};
 
 use crate::fault::FileFault;
@@ -24,10 +24,10 @@ pub struct File<'f> {
 
 impl<'f> Model for File<'f> {
     ghost use Rattle.std.specs.Prelude.{◌≡◌, Ok};
-    ghost use Rattle.dfuse_file.specs.Reading.{Content, targets_at};
+    ghost use Rattle.dfuse_file.specs.Reading.{DfuseContent, targets_at};
     ghost use Rattle.dfuse_file.specs.Found.{found};
 
-    ghost Value = { Content };
+    ghost Value = { DfuseContent };
 
     ghost view = { λ f. record { ids = f.ids; targets = found (targets_at f.count f.targets.now) } };
 
@@ -88,9 +88,9 @@ pub fn read(bytes: &[u8]) -> Result<File<'_>, FileFault>
     // What is read is a file of the grammar.
     ensures found { IfOk result (λ f. IsDfuSe f bytes.now) }
     // Each file of the grammar is read.
-    ensures only { (f : Content) → IsDfuSe f bytes.now → result ≡ Ok f }
+    ensures only { (f : DfuseContent) → IsDfuSe f bytes.now → result ≡ Ok f }
     // All else has a first fault, which is the answer.
-    ensures fault { (fault : FileFault) → (result ≡ Err fault) ↔ First fault bytes.now }
+    ensures fault { (fault : FileFault) → (result ≡ Err fault) ↔ FirstFileFault fault bytes.now }
 {
     read_file(bytes)
 }

@@ -3,7 +3,7 @@
 ghost use Rattle.std.specs.Prelude.{◌≡◌, MatchResult, Ok, Err, find};
 ghost use Rattle.dfu_suffix.specs.Grammar.{has_fault, fault_order};
 ghost use Rattle.dfuse_file.specs.Found.{piece_of};
-ghost use Rattle.dfuse_file.specs.Raw.{refusal, payload_by, has_prefix, placed_at, raw_at};
+ghost use Rattle.dfuse_file.specs.Raw.{raw_refusal, payload_by, has_prefix, placed_at, raw_at};
 
 use crate::marks::is_prefixed;
 use dfu_suffix::SuffixFault;
@@ -35,7 +35,7 @@ pub enum RawFault {
 
 /// Why a file with this fault isn't taken, if it isn't.
 fn refusal(fault: SuffixFault) -> Option<RawFault>
-    ensures { result ≡ refusal fault }
+    ensures { result ≡ raw_refusal fault }
 {
     match fault {
         SuffixFault::TooLarge => Some(RawFault::TooLarge),

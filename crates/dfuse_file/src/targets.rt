@@ -2,8 +2,8 @@
 
 ghost use Rattle.std.specs.Prelude.{◌≡◌, [], ◌∷◌, length, MatchOption};
 ghost use Rattle.dfuse_file.specs.Reading.{targets_at};
-ghost use Rattle.dfuse_file.specs.Found.{checked};
-ghost use Rattle.dfuse_file.specs.Images.{told};
+ghost use Rattle.dfuse_file.specs.Found.{fault_only};
+ghost use Rattle.dfuse_file.specs.Images.{handed_out};
 
 use crate::elements::{Elements, check_elements};
 use crate::fault::FileFault;
@@ -25,7 +25,7 @@ pub struct Target<'f> {
 
 /// Checks that the bytes are so many targets, each with as many elements as it says, and nothing else.
 pub(crate) fn check_targets(count: u8, bytes: &[u8]) -> Result<(), FileFault>
-    ensures { result ≡ checked (targets_at count bytes.now) }
+    ensures { result ≡ fault_only (targets_at count bytes.now) }
 {
     let mut rest = bytes;
     for _ in 0..count {
@@ -85,7 +85,7 @@ impl<'f> Targets<'f> {
     /// Takes the first target off. Without one it changes nothing.
     #[inline(always)]
     pub fn next_target(&mut self) -> Option<Target<'f>>
-        ensures { MatchOption result ((self.old ≡ []) × (self.new ≡ [])) (λ t. self.old ≡ told t ∷ self.new) }
+        ensures { MatchOption result ((self.old ≡ []) × (self.new ≡ [])) (λ t. self.old ≡ handed_out t ∷ self.new) }
     {
         if self.left == 0 {
             return None;

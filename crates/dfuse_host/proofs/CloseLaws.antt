@@ -19,9 +19,9 @@ use Rattle.dfuse_host.specs.declared.session.Session.{Session}
 use Rattle.dfuse_host.specs.Images.{image_start, image_end}
 use Rattle.dfuse_host.specs.Plans.{front_end, page_end, write_end}
 use Rattle.dfuse_host.specs.Settling.{stand, byte_in, can_read, sending, comparing, leaving_by, staying, to_leave, compare_front_or, to_compare_front, write_front_or, to_write_front, compare_or, to_compare, write_or, to_write, erase_or, to_erase, settle}
-use Rattle.dfuse_host.specs.Commands.{command_of, done, erased, written, unsure}
+use Rattle.dfuse_host.specs.Commands.{command_of, done, erased, after_write, unsure}
 use Rattle.dfuse_host.specs.Table.{read_on, row}
-use Rattle.dfuse_host.specs.Sessions.{budgeted, spent_at, resumed, restarted, restarted_leaving, restarted_in, told, after_phase}
+use Rattle.dfuse_host.specs.Sessions.{dfuse_budgeted, spent_at, resumed, dfuse_restarted, restarted_leaving, restarted_in, dfuse_told, dfuse_after_phase}
 use Rattle.dfuse_host.proofs.RowForms.{RowForm, stays, settles, reads, does, doubts, fails, leaves, row_form}
 use Rattle.dfuse_host.specs.ReadBack.{Closes, ClosesIn, ClosesAlways}
 
@@ -116,7 +116,7 @@ module _ (plan : Plan) where
   at_erased (work.EraseAgain page end) at = at_write place.Lost _ end
   at_erased w at = at_erase place.Lost (page_end plan at)
 
-  at_written : (w : Work) (at : ℕ) → ClosesIn (written plan w at)
+  at_written : (w : Work) (at : ℕ) → ClosesIn (after_write plan w at)
   at_written (work.Write from end) at = at_write place.Lost _ end
   at_written w at = at_write_front place.Lost (write_end plan at (front_end plan))
 
@@ -150,12 +150,12 @@ at_spent_at : (w : Work) (s : Step) → ClosesIn (spent_at w s)
 at_spent_at work.Leave s = tt
 at_spent_at w s = tt
 
-at_budgeted : (n : ℕ) (p : Phase) → ClosesIn p → ClosesIn (budgeted n p)
+at_budgeted : (n : ℕ) (p : Phase) → ClosesIn p → ClosesIn (dfuse_budgeted n p)
 at_budgeted n (Over r) c = tt
 at_budgeted zero (On s) c = at_spent_at s.work s.step
 at_budgeted (suc n) (On s) c = c
 
-at_restarted : (s : Session) (p : Phase) (n : ℕ) → ClosesIn p → ClosesIn (restarted s p n).phase
+at_restarted : (s : Session) (p : Phase) (n : ℕ) → ClosesIn p → ClosesIn (dfuse_restarted s p n).phase
 at_restarted s p zero c = at_budgeted (pred s.actions) (Over report.RestartsSpent) tt
 at_restarted s p (suc n) c = at_budgeted (pred s.actions) p c
 
@@ -169,11 +169,11 @@ at_restart : (s : Session) (w : Work) (p : Place) (at : Step) → ClosesIn (rest
 at_restart s work.Leave p at = at_restarted_leaving s p at
 at_restart s w p at = at_restarted s (resumed s.plan w p at) s.restarts (at_resumed s.plan w p at)
 
-at_told : (s : Session) (w : Work) (p : Place) (at : Step) (x : Heard) → Closes w at → ClosesIn (told s w p at x).phase
+at_told : (s : Session) (w : Work) (p : Place) (at : Step) (x : Heard) → Closes w at → ClosesIn (dfuse_told s w p at x).phase
 at_told s w p at heard.Restarted c = at_restart s w p at
 at_told s w p at x c = at_budgeted (pred s.actions) (row s.plan w p at x) (at_row s.plan w p at x c)
 
-at_phase : (s : Session) (p : Phase) (x : Heard) → s.phase ≡ p → ClosesIn p → ClosesIn (after_phase s p x).phase
+at_phase : (s : Session) (p : Phase) (x : Heard) → s.phase ≡ p → ClosesIn p → ClosesIn (dfuse_after_phase s p x).phase
 at_phase s (Over r) x e c = subst ClosesIn (sym e) tt
 at_phase s (On at) x e c = at_told s at.work at.place at.step x c
 

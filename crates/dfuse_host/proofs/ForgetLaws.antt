@@ -15,7 +15,7 @@ use Rattle.dfuse_host.specs.declared.report.Report.TheVariants as report
 use Rattle.dfuse_host.specs.declared.report.Leaving.TheVariants as leaving
 use Rattle.dfuse_host.specs.declared.session.Session.{Session}
 use Rattle.dfuse_host.specs.Commands.{command_of, unsure}
-use Rattle.dfuse_host.specs.Sessions.{budgeted, spent_at, resumed, restarted, restarted_leaving, restarted_in, after_phase}
+use Rattle.dfuse_host.specs.Sessions.{dfuse_budgeted, spent_at, resumed, dfuse_restarted, restarted_leaving, restarted_in, dfuse_after_phase}
 use Rattle.dfuse_host.specs.Forgetting.{IsLost, ForgetsPointer}
 
 at_unsure : (plan : Plan) (w : Work) (c : Command) → IsLost (unsure plan w c)
@@ -32,12 +32,12 @@ at_spent_at : (w : Work) (s : Step) → IsLost (spent_at w s)
 at_spent_at work.Leave s = tt
 at_spent_at w s = tt
 
-at_budgeted : (n : ℕ) (p : Phase) → IsLost p → IsLost (budgeted n p)
+at_budgeted : (n : ℕ) (p : Phase) → IsLost p → IsLost (dfuse_budgeted n p)
 at_budgeted n (Over r) h = tt
 at_budgeted zero (On s) h = at_spent_at s.work s.step
 at_budgeted (suc n) (On s) h = h
 
-at_restarted : (s : Session) (p : Phase) (n : ℕ) → IsLost p → IsLost (restarted s p n).phase
+at_restarted : (s : Session) (p : Phase) (n : ℕ) → IsLost p → IsLost (dfuse_restarted s p n).phase
 at_restarted s p zero h = at_budgeted (pred s.actions) (Over report.RestartsSpent) tt
 at_restarted s p (suc n) h = at_budgeted (pred s.actions) p h
 
@@ -51,7 +51,7 @@ at_restart : (s : Session) (w : Work) (p : Place) (at : Step) → IsLost (restar
 at_restart s work.Leave p at = at_leaving s p at
 at_restart s w p at = at_restarted s (resumed s.plan w p at) s.restarts (at_resumed s.plan w p at)
 
-at_phase : (s : Session) (p : Phase) → s.phase ≡ p → IsLost (after_phase s p heard.Restarted).phase
+at_phase : (s : Session) (p : Phase) → s.phase ≡ p → IsLost (dfuse_after_phase s p heard.Restarted).phase
 at_phase s (Over r) e = subst IsLost (sym e) tt
 at_phase s (On at) e = at_restart s at.work at.place at.step
 

@@ -6,7 +6,7 @@ use Rattle.dfuse_host.specs.declared.plan.Plan.{Plan}
 use Rattle.dfuse_host.specs.Images.{end_of, next_byte, image_start, image_end}
 use Rattle.dfuse_host.specs.Refusing.{apart_from}
 use Rattle.dfuse_host.specs.ReadBack.{HasByte}
-use Rattle.dfuse_host.specs.Settling.{before, byte_in}
+use Rattle.dfuse_host.specs.Settling.{if_before, byte_in}
 
 and_true : (a b : Bool) → (a && b) ≡ true → (a ≡ true) × (b ≡ true)
 and_true true b h = (refl, h)
@@ -68,7 +68,7 @@ pub none_in : (plan : Plan) (at end a : ℕ) → apart_from 0 plan.image.now ≡
 unfolding byte_in
 none_in plan at end a apart b h l =
     let n = next 0 at a plan.image.now apart b l in
-    let gone : before end (Some n.byte) ≡ None = ap (before end) (sym n.is) ∙ h in
+    let gone : if_before end (Some n.byte) ≡ None = ap (if_before end) (sym n.is) ∙ h in
     omega (arith, n.early, before_by end n.byte (ltb n.byte end) refl gone)
 
 -- The first byte of a part is no later than any from there on.
@@ -76,5 +76,5 @@ pub first_in : (plan : Plan) (at end c a : ℕ) → apart_from 0 plan.image.now 
 unfolding byte_in
 first_in plan at end c a apart b h l =
     let n = next 0 at a plan.image.now apart b l in
-    let same : before end (Some n.byte) ≡ Some c = ap (before end) (sym n.is) ∙ h in
+    let same : if_before end (Some n.byte) ≡ Some c = ap (if_before end) (sym n.is) ∙ h in
     omega (arith, n.early, before_some n.byte c (ltb n.byte end) same)

@@ -20,7 +20,7 @@ use Rattle.dfuse_host.specs.declared.report.Report.TheVariants as report
 use Rattle.dfuse_host.specs.declared.report.Leaving.TheVariants as leaving
 use Rattle.dfuse_host.specs.Settling.{stand, settle}
 use Rattle.dfuse_host.specs.Commands.{command_of, done, unsure}
-use Rattle.dfuse_host.specs.Table.{state_found, ends_comparing, fault_found, status_found, on_abort, on_ask_state, on_ask_status, on_clear_wait, on_send, probed, on_probe, refused, polled, stalled_ms, on_poll, on_poll_wait, begun, ended, on_begin_reading, on_end_reading, read_on, on_read, on_close, close_probed, on_close_probe, close_polled, on_close_poll, row}
+use Rattle.dfuse_host.specs.Table.{state_found, ends_comparing, fault_found, status_found, on_abort, on_ask_state, on_ask_status, on_clear_wait, on_send, probed, on_probe, refused, polled, stalled_ms, on_poll, on_poll_wait, reading_begun, reading_ended, on_begin_reading, on_end_reading, read_on, on_read, on_close, close_probed, on_close_probe, close_polled, on_close_poll, row}
 use Rattle.dfuse_host.specs.ReadBack.{SaysRead, Closes}
 
 -- A row goes on with the same work, goes on to the next one, ends a command for better or worse, or ends the session. It reads on only if
@@ -146,12 +146,12 @@ module _ (plan : Plan) (w : Work) (p : Place) where
   poll_wait_form ms h = stays p (step.PollWait ms) tt
 
   begin_form : (h : Heard) → RowForm plan w p step.BeginReading h (on_begin_reading plan w p h)
-  begin_form heard.Acked = settles (begun p)
+  begin_form heard.Acked = settles (reading_begun p)
   begin_form heard.Stalled = stays place.Lost step.Abort tt
   begin_form h = stays p step.BeginReading tt
 
   end_form : (h : Heard) → RowForm plan w p step.EndReading h (on_end_reading plan w p h)
-  end_form heard.Acked = settles (ended p)
+  end_form heard.Acked = settles (reading_ended p)
   end_form heard.Stalled = stays place.Lost step.Abort tt
   end_form h = stays p step.EndReading tt
 

@@ -19,7 +19,7 @@ use Rattle.dfuse_host.specs.Refusing.{apart_from}
 use Rattle.dfuse_host.specs.Settling.{settle}
 use Rattle.dfuse_host.specs.Commands.{command_of, writing, done, unsure}
 use Rattle.dfuse_host.specs.Table.{read_on, row}
-use Rattle.dfuse_host.specs.Sessions.{budgeted, spent_at, resumed}
+use Rattle.dfuse_host.specs.Sessions.{dfuse_budgeted, spent_at, resumed}
 use Rattle.dfuse_host.specs.ReadBack.{HasByte, WasRead, WasReadIn, ReadsBack, Closes}
 use Rattle.dfuse_host.proofs.RowForms.{RowForm, stays, settles, reads, does, doubts, fails, leaves, row_form}
 use Rattle.dfuse_host.proofs.SettlingLaws.{at_settle, at_erase, at_write, at_write_front}
@@ -93,7 +93,7 @@ module _ (plan : Plan) (a : ℕ) (apart : apart_from 0 plan.image.now ≡ true) 
   at_spent_at work.Leave s h = tt
   at_spent_at w s h = absurd h
 
-  pub at_budgeted : (n : ℕ) (p : Phase) → WasReadIn plan (budgeted n p) a → WasReadIn plan p a
+  pub at_budgeted : (n : ℕ) (p : Phase) → WasReadIn plan (dfuse_budgeted n p) a → WasReadIn plan p a
   at_budgeted n (Over r) h = h
   at_budgeted zero (On s) h = at_spent_at s.work s.step h
   at_budgeted (suc n) (On s) h = h

@@ -16,7 +16,7 @@ use Rattle.dfuse_host.specs.Images.{next_byte, image_start, image_end}
 use Rattle.dfuse_host.specs.Plans.{page_end, front_end, write_end}
 use Rattle.dfuse_host.specs.Refusing.{is_empty}
 use Rattle.dfuse_host.specs.Settling.{byte_in, leaving_by, staying, to_leave, compare_front_or, to_compare_front, write_front_or, to_write_front, compare_or, to_compare, write_or, to_write, erase_or, to_erase, settle}
-use Rattle.dfuse_host.specs.Commands.{command_of, done, erased, written, again, unsure}
+use Rattle.dfuse_host.specs.Commands.{command_of, done, erased, after_write, again, unsure}
 use Rattle.dfuse_host.specs.Table.{read_on}
 use Rattle.dfuse_host.specs.ReadBack.{HasByte}
 use Rattle.dfuse_host.specs.Touching.{Touches, TouchesIn}
@@ -113,7 +113,7 @@ module _ (plan : Plan) (some : is_empty plan.image.now ≡ false) where
   at_erased (work.EraseAgain page end) at = at_write place.Lost (max page (front_end plan)) end (omega arith)
   at_erased w at = at_erase place.Lost (page_end plan at)
 
-  at_written : (w : Work) (at : ℕ) → Touches plan w → TouchesIn plan (written plan w at)
+  at_written : (w : Work) (at : ℕ) → Touches plan w → TouchesIn plan (after_write plan w at)
   at_written (work.Write from end) at h =
       at_write place.Lost (max from (write_end plan at end)) end (omega (arith, h.1))
   at_written w at h = at_write_front place.Lost (write_end plan at (front_end plan))

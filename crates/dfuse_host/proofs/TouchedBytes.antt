@@ -8,7 +8,7 @@ use Rattle.dfuse_host.specs.declared.command.Command.TheVariants as command
 use Rattle.dfuse_host.specs.Images.{end_of, holds, element_at, next_byte, image_start}
 use Rattle.dfuse_host.specs.Plans.{element_end, write_end}
 use Rattle.dfuse_host.specs.Refusing.{has_empty, is_empty}
-use Rattle.dfuse_host.specs.Settling.{before, byte_in}
+use Rattle.dfuse_host.specs.Settling.{if_before, byte_in}
 use Rattle.dfuse_host.specs.ReadBack.{HasByte}
 use Rattle.dfuse_host.specs.Touching.{ChangesOnly}
 
@@ -88,7 +88,7 @@ before_some : (end b c : ℕ) (t : Bool) → cond t (Some b) None ≡ Some c →
 before_some end b c true h = cc
 before_some end b c false h = cc
 
-pub before_is : (end c : ℕ) (o : Option ℕ) → before end o ≡ Some c → o ≡ Some c
+pub before_is : (end c : ℕ) (o : Option ℕ) → if_before end o ≡ Some c → o ≡ Some c
 before_is end c None h = cc
 before_is end c (Some b) h = ap Some (before_some end b c (ltb b end) h)
 

@@ -19,7 +19,7 @@ use Rattle.dfuse_host.specs.Plans.{front_end}
 use Rattle.dfuse_host.specs.Refusing.{is_empty}
 use Rattle.dfuse_host.specs.Commands.{writing, command_of}
 use Rattle.dfuse_host.specs.Table.{row}
-use Rattle.dfuse_host.specs.Sessions.{budgeted, spent_at, resumed, restarted, restarted_leaving, restarted_in, told, after_phase}
+use Rattle.dfuse_host.specs.Sessions.{dfuse_budgeted, spent_at, resumed, dfuse_restarted, restarted_leaving, restarted_in, dfuse_told, dfuse_after_phase}
 use Rattle.dfuse_host.specs.ReadBack.{HasByte, Closes, ClosesIn}
 use Rattle.dfuse_host.specs.Touching.{Touches, TouchesIn, ChangesOnly, TouchesAlways, OnlyTouched, FrontIsLast}
 use Rattle.dfuse_host.proofs.RowForms.{row_form}
@@ -30,7 +30,7 @@ spent_touches : (plan : Plan) (w : Work) (s : Step) → TouchesIn plan (spent_at
 spent_touches plan work.Leave s = tt
 spent_touches plan w s = tt
 
-at_budgeted : (plan : Plan) (n : ℕ) (p : Phase) → TouchesIn plan p → TouchesIn plan (budgeted n p)
+at_budgeted : (plan : Plan) (n : ℕ) (p : Phase) → TouchesIn plan p → TouchesIn plan (dfuse_budgeted n p)
 at_budgeted plan n (Over r) h = tt
 at_budgeted plan zero (On s) h = spent_touches plan s.work s.step
 at_budgeted plan (suc n) (On s) h = h
@@ -41,7 +41,7 @@ module _ (s : Session) (some : is_empty s.plan.image.now ≡ false) where
   at_resumed w p (step.PollWait ms) h = at_unsure s.plan some w (command_of s.plan w p) h
   at_resumed w p at h = h
 
-  at_restarted : (p : Phase) (n : ℕ) → TouchesIn s.plan p → TouchesIn s.plan (restarted s p n).phase
+  at_restarted : (p : Phase) (n : ℕ) → TouchesIn s.plan p → TouchesIn s.plan (dfuse_restarted s p n).phase
   at_restarted p zero h = at_budgeted s.plan (pred s.actions) (Over report.RestartsSpent) tt
   at_restarted p (suc n) h = at_budgeted s.plan (pred s.actions) p h
 
@@ -55,12 +55,12 @@ module _ (s : Session) (some : is_empty s.plan.image.now ≡ false) where
   at_restart work.Leave p at h = at_restarted_leaving p at
   at_restart w p at h = at_restarted (resumed s.plan w p at) s.restarts (at_resumed w p at h)
 
-  at_told : (w : Work) (p : Place) (at : Step) (x : Heard) → Closes w at → Touches s.plan w → TouchesIn s.plan (told s w p at x).phase
+  at_told : (w : Work) (p : Place) (at : Step) (x : Heard) → Closes w at → Touches s.plan w → TouchesIn s.plan (dfuse_told s w p at x).phase
   at_told w p at heard.Restarted c h = at_restart w p at h
   at_told w p at x c h =
       at_budgeted s.plan (pred s.actions) (row s.plan w p at x) (by_form s.plan some w p at x (row s.plan w p at x) (row_form s.plan w p at x c) h)
 
-  at_phase : (p : Phase) (x : Heard) → s.phase ≡ p → ClosesIn p → TouchesIn s.plan p → TouchesIn s.plan (after_phase s p x).phase
+  at_phase : (p : Phase) (x : Heard) → s.phase ≡ p → ClosesIn p → TouchesIn s.plan p → TouchesIn s.plan (dfuse_after_phase s p x).phase
   at_phase (Over r) x e c h = subst (TouchesIn s.plan) (sym e) tt
   at_phase (On at) x e c h = at_told at.work at.place at.step x c h
 

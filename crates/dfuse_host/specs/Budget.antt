@@ -2,12 +2,12 @@
 use Rattle.std.specs.Prelude.{◌≡◌, ◌≤◌, max, List, length}
 use Rattle.dfuse_host.specs.declared.seen.Seen.{Seen}
 use Rattle.dfuse_host.specs.declared.session.Session.{Session}
-use Rattle.dfuse_host.specs.Sessions.{IsOver, SessionRows}
+use Rattle.dfuse_host.specs.Sessions.{DfuseIsOver, SessionRows}
 
 -- Whatever is seen, a session is over after as many `take`s as it has actions left, and after one if it has none.
 abbrev pub OverInTime : Type 0
-OverInTime = (s s' : Session) (seens : List Seen) → SessionRows s seens s' → max 1 s.actions ≤ length seens → IsOver s'.phase
+OverInTime = (s s' : Session) (seens : List Seen) → SessionRows s seens s' → max 1 s.actions ≤ length seens → DfuseIsOver s'.phase
 
 -- A session that is over stays as it is, whatever is seen.
 abbrev pub StaysOver : Type 0
-StaysOver = (s s' : Session) (seens : List Seen) → SessionRows s seens s' → IsOver s.phase → s' ≡ s
+StaysOver = (s s' : Session) (seens : List Seen) → SessionRows s seens s' → DfuseIsOver s.phase → s' ≡ s

@@ -49,15 +49,15 @@ erased plan (work.EraseAgain page end) at = to_write plan place.Lost (max page (
 erased plan w at = to_erase plan place.Lost (page_end plan at)
 
 -- Bytes were written, after which the pointer isn't known.
-abbrev pub written : Plan → Work → (at : ℕ) → Phase
-written plan (work.Write from end) at = to_write plan place.Lost (max from (write_end plan at end)) end
-written plan w at = to_write_front plan place.Lost (write_end plan at (front_end plan))
+abbrev pub after_write : Plan → Work → (at : ℕ) → Phase
+after_write plan (work.Write from end) at = to_write plan place.Lost (max from (write_end plan at end)) end
+after_write plan w at = to_write_front plan place.Lost (write_end plan at (front_end plan))
 
 -- A command is done.
 abbrev pub done : Plan → Work → Command → Phase
 done plan w (command.SetAddress at) = settle plan w (place.At at)
 done plan w (command.ErasePage at) = erased plan w at
-done plan w (command.Write at) = written plan w at
+done plan w (command.Write at) = after_write plan w at
 
 -- The device is to be cleared, and then a work goes on. The pointer isn't known any more.
 abbrev pub cleared : Work → Phase

@@ -19,24 +19,24 @@ use Rattle.dfuse_host.specs.Plans.{block_size, write_end, read_end}
 use Rattle.dfuse_host.specs.Commands.{command_of, end_of_work, bytes_in}
 
 -- It sends a request with its body, waits, or is done.
-pub data Deed : Type 0 where
-  Send : (request : Request) (body : List ℕ) → Deed
-  Wait : (ms : ℕ) → Deed
-  Done : Report → Deed
+pub data DfuseDeed : Type 0 where
+  Send : (request : Request) (body : List ℕ) → DfuseDeed
+  Wait : (ms : ℕ) → DfuseDeed
+  Done : Report → DfuseDeed
 
 -- A DNLOAD of block 0 has a command: its number, and the four bytes of an address, the low one first.
-abbrev pub address_command : (number at : ℕ) → Deed
+abbrev pub address_command : (number at : ℕ) → DfuseDeed
 address_command number at = Send (request.Dnload 0 5) (number ∷ to_le_bytes w32 (at % 2 ^ 32))
 
 -- A DNLOAD of block 2 has bytes for where the pointer was set.
-abbrev pub download : List ℕ → Deed
-download body = Send (request.Dnload 2 (length body)) body
+abbrev pub dfuse_download : List ℕ → DfuseDeed
+dfuse_download body = Send (request.Dnload 2 (length body)) body
 
 -- A command is sent.
-abbrev pub sends : Plan → Work → Command → Deed
+abbrev pub sends : Plan → Work → Command → DfuseDeed
 sends plan w (command.SetAddress at) = address_command 0x21 at
 sends plan w (command.ErasePage at) = address_command 0x41 at
-sends plan w (command.Write at) = download (bytes_in plan at (write_end plan at (end_of_work plan w)))
+sends plan w (command.Write at) = dfuse_download (bytes_in plan at (write_end plan at (end_of_work plan w)))
 
 -- The address at which a work stands.
 abbrev pub stands_at : Work → ℕ
@@ -62,17 +62,17 @@ base_of (place.Reading p) at = p
 unfoldable pub upload_block : Plan → Place → (at : ℕ) → ℕ
 upload_block plan p at = (at - base_of p at) / block_size plan % 65534 + 2
 
-abbrev pub upload : Plan → Work → Place → Deed
+abbrev pub upload : Plan → Work → Place → DfuseDeed
 upload plan w p = Send (request.Upload (upload_block plan p (stands_at w)) (length (read_bytes plan w))) []
 
-abbrev pub get_state : Deed
+abbrev pub get_state : DfuseDeed
 get_state = Send (request.GetState 1) []
 
-abbrev pub get_status : Deed
+abbrev pub get_status : DfuseDeed
 get_status = Send (request.GetStatus 6) []
 
 -- The action of each step.
-abbrev pub deed_of : Plan → Work → Place → Step → Deed
+abbrev pub deed_of : Plan → Work → Place → Step → DfuseDeed
 deed_of plan w p step.Abort = Send request.Abort []
 deed_of plan w p step.AskState = get_state
 deed_of plan w p step.AskStatus = get_status
@@ -85,11 +85,11 @@ deed_of plan w p (step.PollWait ms) = Wait ms
 deed_of plan w p step.BeginReading = Send request.Abort []
 deed_of plan w p step.EndReading = Send request.Abort []
 deed_of plan w p step.Read = upload plan w p
-deed_of plan w p step.Close = download []
+deed_of plan w p step.Close = dfuse_download []
 deed_of plan w p step.CloseProbe = get_state
 deed_of plan w p step.ClosePoll = get_status
 
 -- The action of a phase.
-abbrev pub deed : Plan → Phase → Deed
-deed plan (On s) = deed_of plan s.work s.place s.step
-deed plan (Over report) = Done report
+abbrev pub dfuse_deed : Plan → Phase → DfuseDeed
+dfuse_deed plan (On s) = deed_of plan s.work s.place s.step
+dfuse_deed plan (Over report) = Done report

@@ -18,7 +18,7 @@ use Rattle.dfuse_host.specs.Plans.{front_end, read_end}
 use Rattle.dfuse_host.specs.Commands.{end_of_work}
 use Rattle.dfuse_host.specs.Deeds.{stands_at}
 use Rattle.dfuse_host.specs.Refusing.{apart_from}
-use Rattle.dfuse_host.specs.Sessions.{after}
+use Rattle.dfuse_host.specs.Sessions.{dfuse_after}
 
 -- The image has a byte for this address.
 abbrev pub HasByte : ℕ → List Element → Type 0
@@ -72,8 +72,8 @@ ClosesIn (Over r) = Unit {0}
 abbrev pub OnlyReadBack : Type 0
 OnlyReadBack =
     (s : Session) (h : Heard) (a : ℕ) → apart_from 0 s.plan.image.now ≡ true → HasByte a s.plan.image.now → ClosesIn s.phase →
-    WasReadIn s.plan (after s h).phase a → WasReadIn s.plan s.phase a ⊎ ReadsBackIn s.plan s.phase h a
+    WasReadIn s.plan (dfuse_after s h).phase a → WasReadIn s.plan s.phase a ⊎ ReadsBackIn s.plan s.phase h a
 
 -- A session that asks a device to leave only once all was compared goes on to do so.
 abbrev pub ClosesAlways : Type 0
-ClosesAlways = (s : Session) (h : Heard) → ClosesIn s.phase → ClosesIn (after s h).phase
+ClosesAlways = (s : Session) (h : Heard) → ClosesIn s.phase → ClosesIn (dfuse_after s h).phase

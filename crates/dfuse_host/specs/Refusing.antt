@@ -56,11 +56,11 @@ HasFault plan NotReadable = Grants plan (wants true false false) → ⊥
 abbrev pub Transfers : Plan → Type 0
 Transfers plan = HasFault plan NoTransferSize → ⊥
 
-abbrev pub IsFilled : Plan → Type 0
-IsFilled plan = Transfers plan × (HasFault plan EmptyImage → ⊥)
+abbrev pub IsFilledPlan : Plan → Type 0
+IsFilledPlan plan = Transfers plan × (HasFault plan EmptyImage → ⊥)
 
 abbrev pub Ascends : Plan → Type 0
-Ascends plan = IsFilled plan × (HasFault plan NotInOrder → ⊥)
+Ascends plan = IsFilledPlan plan × (HasFault plan NotInOrder → ⊥)
 
 abbrev pub IsApart : Plan → Type 0
 IsApart plan = Ascends plan × (HasFault plan Overlapping → ⊥)
@@ -68,27 +68,27 @@ IsApart plan = Ascends plan × (HasFault plan Overlapping → ⊥)
 abbrev pub IsMapped : Plan → Type 0
 IsMapped plan = IsApart plan × Grants plan (wants false false false)
 
-abbrev pub IsWritable : Plan → Type 0
-IsWritable plan = IsMapped plan × Grants plan (wants false false true)
+abbrev pub IsWritablePlan : Plan → Type 0
+IsWritablePlan plan = IsMapped plan × Grants plan (wants false false true)
 
 abbrev pub IsErasable : Plan → Type 0
-IsErasable plan = IsWritable plan × Grants plan (wants false true false)
+IsErasable plan = IsWritablePlan plan × Grants plan (wants false true false)
 
 -- A plan without a fault.
-abbrev pub IsSound : Plan → Type 0
-IsSound plan = IsErasable plan × Grants plan (wants true false false)
+abbrev pub IsSoundPlan : Plan → Type 0
+IsSoundPlan plan = IsErasable plan × Grants plan (wants true false false)
 
 -- A plan has none of the faults that are looked for before this one.
 abbrev pub NoneBefore : Plan → PlanFault → Type 0
 NoneBefore plan NoTransferSize = Unit {0}
 NoneBefore plan EmptyImage = Transfers plan
-NoneBefore plan NotInOrder = IsFilled plan
+NoneBefore plan NotInOrder = IsFilledPlan plan
 NoneBefore plan Overlapping = Ascends plan
 NoneBefore plan OutsideTheMap = IsApart plan
 NoneBefore plan NotWritable = IsMapped plan
-NoneBefore plan NotErasable = IsWritable plan
+NoneBefore plan NotErasable = IsWritablePlan plan
 NoneBefore plan NotReadable = IsErasable plan
 
 -- This is the first fault of a plan.
-abbrev pub IsFirst : Plan → PlanFault → Type 0
-IsFirst plan fault = HasFault plan fault × NoneBefore plan fault
+abbrev pub FirstPlanFault : Plan → PlanFault → Type 0
+FirstPlanFault plan fault = HasFault plan fault × NoneBefore plan fault

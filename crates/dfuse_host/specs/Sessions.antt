@@ -19,13 +19,13 @@ use Rattle.dfuse_host.specs.declared.session.Session.{Session}
 use Rattle.dfuse_host.specs.declared.limits.Limits.{Limits}
 use Rattle.dfuse_host.specs.Images.{image_start}
 use Rattle.dfuse_host.specs.Commands.{command_of, cleared, unsure}
-use Rattle.dfuse_host.specs.Deeds.{deed}
+use Rattle.dfuse_host.specs.Deeds.{dfuse_deed}
 use Rattle.dfuse_host.specs.Table.{row}
-use Rattle.dfuse_host.specs.Wire.{Hears, Spells}
+use Rattle.dfuse_host.specs.Wire.{DfuseHears, DfuseSpells}
 
 -- A session that begins: all pages of the image are to be erased, and the device is cleared first.
-abbrev pub begun : Plan → Limits → Session
-begun plan limits = record {
+abbrev pub dfuse_begun : Plan → Limits → Session
+dfuse_begun plan limits = record {
   plan = plan;
   phase = cleared (work.Erase (image_start plan.image.now));
   actions = max 1 limits.actions;
@@ -45,16 +45,16 @@ spent_at work.Leave s = Over (report.Verified (left_at s))
 spent_at w s = Over report.GaveUp
 
 -- The budget: a session that is not over, and has no action left, is over.
-abbrev pub budgeted : (left : ℕ) → Phase → Phase
-budgeted left (Over r) = Over r
-budgeted zero (On s) = spent_at s.work s.step
-budgeted (suc left) (On s) = On s
+abbrev pub dfuse_budgeted : (left : ℕ) → Phase → Phase
+dfuse_budgeted left (Over r) = Over r
+dfuse_budgeted zero (On s) = spent_at s.work s.step
+dfuse_budgeted (suc left) (On s) = On s
 
 -- A session after one action that leads to this phase.
-abbrev pub spent : Session → Phase → (restarts : ℕ) → Session
-spent s phase restarts = record {
+abbrev pub dfuse_spent : Session → Phase → (restarts : ℕ) → Session
+dfuse_spent s phase restarts = record {
   plan = s.plan;
-  phase = budgeted (pred s.actions) phase;
+  phase = dfuse_budgeted (pred s.actions) phase;
   actions = pred s.actions;
   restarts = restarts;
 }
@@ -66,49 +66,49 @@ resumed plan w p (step.PollWait ms) = unsure plan w (command_of plan w p)
 resumed plan w p s = cleared w
 
 -- A restart of the device that isn't one too many.
-abbrev pub restarted : Session → Phase → (restarts : ℕ) → Session
-restarted s phase zero = spent s (Over report.RestartsSpent) zero
-restarted s phase (suc restarts) = spent s phase restarts
+abbrev pub dfuse_restarted : Session → Phase → (restarts : ℕ) → Session
+dfuse_restarted s phase zero = dfuse_spent s (Over report.RestartsSpent) zero
+dfuse_restarted s phase (suc restarts) = dfuse_spent s phase restarts
 
 -- A restart of a device that was asked to leave ends the session: all was compared.
 abbrev pub restarted_leaving : Session → Place → Step → Session
-restarted_leaving s p step.Close = spent s (Over (report.Verified leaving.Unknown)) s.restarts
-restarted_leaving s p step.CloseProbe = spent s (Over (report.Verified leaving.Unknown)) s.restarts
-restarted_leaving s p step.ClosePoll = spent s (Over (report.Verified leaving.Unknown)) s.restarts
-restarted_leaving s p at = restarted s (resumed s.plan work.Leave p at) s.restarts
+restarted_leaving s p step.Close = dfuse_spent s (Over (report.Verified leaving.Unknown)) s.restarts
+restarted_leaving s p step.CloseProbe = dfuse_spent s (Over (report.Verified leaving.Unknown)) s.restarts
+restarted_leaving s p step.ClosePoll = dfuse_spent s (Over (report.Verified leaving.Unknown)) s.restarts
+restarted_leaving s p at = dfuse_restarted s (resumed s.plan work.Leave p at) s.restarts
 
 abbrev pub restarted_in : Session → Work → Place → Step → Session
 restarted_in s work.Leave p at = restarted_leaving s p at
-restarted_in s w p at = restarted s (resumed s.plan w p at) s.restarts
+restarted_in s w p at = dfuse_restarted s (resumed s.plan w p at) s.restarts
 
 -- What is heard: a restart, or else what the table's row takes.
-abbrev pub told : Session → Work → Place → Step → Heard → Session
-told s w p at heard.Restarted = restarted_in s w p at
-told s w p at h = spent s (row s.plan w p at h) s.restarts
+abbrev pub dfuse_told : Session → Work → Place → Step → Heard → Session
+dfuse_told s w p at heard.Restarted = restarted_in s w p at
+dfuse_told s w p at h = dfuse_spent s (row s.plan w p at h) s.restarts
 
 -- A session that is over stays as it is, and every other takes what it hears.
-abbrev pub after_phase : Session → Phase → Heard → Session
-after_phase s (Over r) h = s
-after_phase s (On at) h = told s at.work at.place at.step h
+abbrev pub dfuse_after_phase : Session → Phase → Heard → Session
+dfuse_after_phase s (Over r) h = s
+dfuse_after_phase s (On at) h = dfuse_told s at.work at.place at.step h
 
 -- A session after it hears this.
-abbrev pub after : Session → Heard → Session
-after s h = after_phase s s.phase h
+abbrev pub dfuse_after : Session → Heard → Session
+dfuse_after s h = dfuse_after_phase s s.phase h
 
 -- What a session that is asked for its next action answers: the action of its phase, as setup and body.
-abbrev pub Act : Session → Action → Type 0
-Act s action = Spells (deed s.plan s.phase) action
+abbrev pub DfuseAct : Session → Action → Type 0
+DfuseAct s action = DfuseSpells (dfuse_deed s.plan s.phase) action
 
 -- What is seen in a phase, as it is understood; of a session that is over it doesn't matter.
 abbrev pub HearsIn : Plan → Phase → Seen → Heard → Type 0
-HearsIn plan (On s) seen h = Hears plan s.work s.step seen h
+HearsIn plan (On s) seen h = DfuseHears plan s.work s.step seen h
 HearsIn plan (Over r) seen h = Unit {0}
 
 -- What a session becomes by what it sees: the bytes are understood as its step says, and the table gives the rest.
 pub record SessionRow (s : Session) (seen : Seen) (s' : Session) : Type 0 where
   pub heard : Heard
   pub hears : HearsIn s.plan s.phase seen heard
-  pub same : s' ≡ after s heard
+  pub same : s' ≡ dfuse_after s heard
 
 -- A session sees these, one after the other, and becomes what each makes of it.
 pub data SessionRows : Session → List Seen → Session → Type 0 where
@@ -117,14 +117,14 @@ pub data SessionRows : Session → List Seen → Session → Type 0 where
       → SessionRow s seen mid → SessionRows mid more s' → SessionRows s (seen ∷ more) s'
 
 -- The session is over.
-abbrev pub IsOver : Phase → Type 0
-IsOver (Over r) = Unit {0}
-IsOver (On s) = ⊥
+abbrev pub DfuseIsOver : Phase → Type 0
+DfuseIsOver (Over r) = Unit {0}
+DfuseIsOver (On s) = ⊥
 
 -- How often a session in this phase takes what is seen, at most, until it is over.
-abbrev pub takes_in : Phase → (actions : ℕ) → ℕ
-takes_in (Over r) actions = 0
-takes_in (On s) actions = max 1 actions
+abbrev pub dfuse_takes_in : Phase → (actions : ℕ) → ℕ
+dfuse_takes_in (Over r) actions = 0
+dfuse_takes_in (On s) actions = max 1 actions
 
-abbrev pub takes_left : Session → ℕ
-takes_left s = takes_in s.phase s.actions
+abbrev pub dfuse_takes_left : Session → ℕ
+dfuse_takes_left s = dfuse_takes_in s.phase s.actions

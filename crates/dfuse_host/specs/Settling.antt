@@ -19,13 +19,13 @@ abbrev pub stand : Work → Place → Step → Phase
 stand w p s = On (record { work = w; place = p; step = s })
 
 -- The address, if it lies before the end.
-abbrev pub before : (end : ℕ) → Option ℕ → Option ℕ
-before end None = None
-before end (Some at) = if nat_lt at end then Some at else None
+abbrev pub if_before : (end : ℕ) → Option ℕ → Option ℕ
+if_before end None = None
+if_before end (Some at) = if nat_lt at end then Some at else None
 
 -- The first byte of the image from an address to before another.
 unfoldable pub byte_in : Plan → (at end : ℕ) → Option ℕ
-byte_in plan at end = before end (next_byte at plan.image.now)
+byte_in plan at end = if_before end (next_byte at plan.image.now)
 
 -- The step that leads to a command: first the device leaves dfuUPLOAD-IDLE.
 abbrev pub sending : Place → Step

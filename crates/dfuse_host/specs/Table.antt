@@ -128,21 +128,21 @@ on_poll_wait w p ms h = stand w p (step.PollWait ms)
 -- ---- reading back
 
 -- The pointer stays where it was set when the device goes to dfuIDLE.
-abbrev pub begun : Place → Place
-begun (place.At p) = place.Reading p
-begun p = p
+abbrev pub reading_begun : Place → Place
+reading_begun (place.At p) = place.Reading p
+reading_begun p = p
 
-abbrev pub ended : Place → Place
-ended (place.Reading p) = place.At p
-ended p = p
+abbrev pub reading_ended : Place → Place
+reading_ended (place.Reading p) = place.At p
+reading_ended p = p
 
 abbrev pub on_begin_reading : Plan → Work → Place → Heard → Phase
-on_begin_reading plan w p heard.Acked = settle plan w (begun p)
+on_begin_reading plan w p heard.Acked = settle plan w (reading_begun p)
 on_begin_reading plan w p heard.Stalled = cleared w
 on_begin_reading plan w p h = stand w p step.BeginReading
 
 abbrev pub on_end_reading : Plan → Work → Place → Heard → Phase
-on_end_reading plan w p heard.Acked = settle plan w (ended p)
+on_end_reading plan w p heard.Acked = settle plan w (reading_ended p)
 on_end_reading plan w p heard.Stalled = cleared w
 on_end_reading plan w p h = stand w p step.EndReading
 

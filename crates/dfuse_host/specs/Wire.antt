@@ -18,62 +18,62 @@ use Rattle.dfuse_host.specs.declared.plan.Plan.{Plan}
 use Rattle.dfuse_host.specs.declared.work.Work.{Work}
 use Rattle.dfuse_host.specs.declared.step.Step.{Step}
 use Rattle.dfuse_host.specs.declared.step.Step.TheVariants as step
-use Rattle.dfuse_host.specs.Deeds.{Deed, Send, Wait, Done, read_bytes}
+use Rattle.dfuse_host.specs.Deeds.{DfuseDeed, Send, Wait, Done, read_bytes}
 
 -- The eight bytes are a setup that asks for this, with 0 if its value has no meaning.
-pub record IsAsked (q : Request) (bytes : List ℕ) : Type 0 where
+pub record DfuseIsAsked (q : Request) (bytes : List ℕ) : Type 0 where
   pub setup : Setup
   pub fields : IsSetup setup bytes
   pub asks : Asks setup q
   pub plain : IsPlain setup q
 
 -- An action as it is handed out: a request is the bytes of its setup, with its body. No other pair spells.
-abbrev pub Spells : Deed → Action → Type 0
-Spells (Send q body) (action.Send setup given) = IsAsked q setup × (given.now ≡ body)
-Spells (Send q body) (action.Command setup given) = IsAsked q setup × (given ≡ body)
-Spells (Wait ms) (action.Wait given) = given ≡ ms
-Spells (Done report) (action.Done given) = given ≡ report
-Spells deed given = ⊥
+abbrev pub DfuseSpells : DfuseDeed → Action → Type 0
+DfuseSpells (Send q body) (action.Send setup given) = DfuseIsAsked q setup × (given.now ≡ body)
+DfuseSpells (Send q body) (action.Command setup given) = DfuseIsAsked q setup × (given ≡ body)
+DfuseSpells (Wait ms) (action.Wait given) = given ≡ ms
+DfuseSpells (Done report) (action.Done given) = given ≡ report
+DfuseSpells deed given = ⊥
 
 -- Bytes that answer GETSTATUS are the status that they spell; if they spell none, it is as if nothing came.
-abbrev pub ReadsStatus : List ℕ → Heard → Type 0
-ReadsStatus bytes (heard.Told status) = IsStatus status bytes
-ReadsStatus bytes heard.Nothing = (s : StatusFields) → IsStatus s bytes → ⊥
-ReadsStatus bytes h = ⊥
+abbrev pub DfuseReadsStatus : List ℕ → Heard → Type 0
+DfuseReadsStatus bytes (heard.Told status) = IsStatus status bytes
+DfuseReadsStatus bytes heard.Nothing = (s : StatusFields) → IsStatus s bytes → ⊥
+DfuseReadsStatus bytes h = ⊥
 
 -- Bytes that answer GETSTATE are the state whose number is their one byte; else it is as if nothing came.
-abbrev pub ReadsState : List ℕ → Heard → Type 0
-ReadsState bytes (heard.StateIs state) = bytes ≡ state_byte state ∷ []
-ReadsState bytes heard.Nothing = (state : State) → bytes ≢ state_byte state ∷ []
-ReadsState bytes h = ⊥
+abbrev pub DfuseReadsState : List ℕ → Heard → Type 0
+DfuseReadsState bytes (heard.StateIs state) = bytes ≡ state_byte state ∷ []
+DfuseReadsState bytes heard.Nothing = (state : State) → bytes ≢ state_byte state ∷ []
+DfuseReadsState bytes h = ⊥
 
 -- Bytes that answer UPLOAD are compared with these of the image, if they are as many; else it is as if nothing came.
 abbrev pub compared : (wanted bytes : List ℕ) → Heard
 compared wanted bytes = if length bytes == length wanted then heard.Compared (bytes_eq bytes wanted) else heard.Nothing
 
 -- Bytes that come at a step: if the step asks for none, it is as if nothing came.
-abbrev pub HearsBytes : Plan → Work → Step → List ℕ → Heard → Type 0
-HearsBytes plan w step.AskState bytes h = ReadsState bytes h
-HearsBytes plan w step.Probe bytes h = ReadsState bytes h
-HearsBytes plan w step.CloseProbe bytes h = ReadsState bytes h
-HearsBytes plan w step.AskStatus bytes h = ReadsStatus bytes h
-HearsBytes plan w (step.Poll last) bytes h = ReadsStatus bytes h
-HearsBytes plan w step.ClosePoll bytes h = ReadsStatus bytes h
-HearsBytes plan w step.Read bytes h = h ≡ compared (read_bytes plan w) bytes
-HearsBytes plan w step.Abort bytes h = h ≡ heard.Nothing
-HearsBytes plan w (step.ClearWait ms) bytes h = h ≡ heard.Nothing
-HearsBytes plan w step.ClearStatus bytes h = h ≡ heard.Nothing
-HearsBytes plan w step.Send bytes h = h ≡ heard.Nothing
-HearsBytes plan w (step.PollWait ms) bytes h = h ≡ heard.Nothing
-HearsBytes plan w step.BeginReading bytes h = h ≡ heard.Nothing
-HearsBytes plan w step.EndReading bytes h = h ≡ heard.Nothing
-HearsBytes plan w step.Close bytes h = h ≡ heard.Nothing
+abbrev pub DfuseHearsBytes : Plan → Work → Step → List ℕ → Heard → Type 0
+DfuseHearsBytes plan w step.AskState bytes h = DfuseReadsState bytes h
+DfuseHearsBytes plan w step.Probe bytes h = DfuseReadsState bytes h
+DfuseHearsBytes plan w step.CloseProbe bytes h = DfuseReadsState bytes h
+DfuseHearsBytes plan w step.AskStatus bytes h = DfuseReadsStatus bytes h
+DfuseHearsBytes plan w (step.Poll last) bytes h = DfuseReadsStatus bytes h
+DfuseHearsBytes plan w step.ClosePoll bytes h = DfuseReadsStatus bytes h
+DfuseHearsBytes plan w step.Read bytes h = h ≡ compared (read_bytes plan w) bytes
+DfuseHearsBytes plan w step.Abort bytes h = h ≡ heard.Nothing
+DfuseHearsBytes plan w (step.ClearWait ms) bytes h = h ≡ heard.Nothing
+DfuseHearsBytes plan w step.ClearStatus bytes h = h ≡ heard.Nothing
+DfuseHearsBytes plan w step.Send bytes h = h ≡ heard.Nothing
+DfuseHearsBytes plan w (step.PollWait ms) bytes h = h ≡ heard.Nothing
+DfuseHearsBytes plan w step.BeginReading bytes h = h ≡ heard.Nothing
+DfuseHearsBytes plan w step.EndReading bytes h = h ≡ heard.Nothing
+DfuseHearsBytes plan w step.Close bytes h = h ≡ heard.Nothing
 
 -- What is seen at a step, as it is understood. Whether it fits the step is the table's matter.
-abbrev pub Hears : Plan → Work → Step → Seen → Heard → Type 0
-Hears plan w s (seen.Bytes bytes) h = HearsBytes plan w s bytes.now h
-Hears plan w s seen.Ack h = h ≡ heard.Acked
-Hears plan w s seen.Stall h = h ≡ heard.Stalled
-Hears plan w s seen.Nothing h = h ≡ heard.Nothing
-Hears plan w s seen.Waited h = h ≡ heard.Waited
-Hears plan w s seen.Restarted h = h ≡ heard.Restarted
+abbrev pub DfuseHears : Plan → Work → Step → Seen → Heard → Type 0
+DfuseHears plan w s (seen.Bytes bytes) h = DfuseHearsBytes plan w s bytes.now h
+DfuseHears plan w s seen.Ack h = h ≡ heard.Acked
+DfuseHears plan w s seen.Stall h = h ≡ heard.Stalled
+DfuseHears plan w s seen.Nothing h = h ≡ heard.Nothing
+DfuseHears plan w s seen.Waited h = h ≡ heard.Waited
+DfuseHears plan w s seen.Restarted h = h ≡ heard.Restarted

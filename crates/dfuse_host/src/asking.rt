@@ -4,7 +4,7 @@ ghost use Rattle.std.specs.Prelude.{◌≡◌, ◌≤◌, ◌<◌, ◌-◌, ◌^
 ghost use Rattle.dfu_wire.specs.Request.{IsUnnamed};
 ghost use Rattle.dfuse_host.specs.Commands.{bytes_in, command_of};
 ghost use Rattle.dfuse_host.specs.Deeds as deeds;
-ghost use Rattle.dfuse_host.specs.Wire.{Spells, IsAsked};
+ghost use Rattle.dfuse_host.specs.Wire.{DfuseSpells, DfuseIsAsked};
 
 use crate::action::Action;
 use crate::command::Command;
@@ -19,7 +19,7 @@ use dfu_wire::Request;
 /// One of the seven requests, as its setup's bytes.
 fn setup_of(request: Request) -> [u8; 8]
     requires { IsUnnamed request → ⊥ }
-    ensures { IsAsked request result }
+    ensures { DfuseIsAsked request result }
 {
     match request.setup() {
         Some(setup) => setup.encode(),
@@ -30,7 +30,7 @@ fn setup_of(request: Request) -> [u8; 8]
 /// One of the seven requests, with no body.
 fn ask<'f>(request: Request) -> Action<'f>
     requires { IsUnnamed request → ⊥ }
-    ensures { Spells (deeds.Send request []) result }
+    ensures { DfuseSpells (deeds.Send request []) result }
 {
     Action::Send {
         setup: setup_of(request),
@@ -40,7 +40,7 @@ fn ask<'f>(request: Request) -> Action<'f>
 
 /// A command with an address.
 fn address_command<'f>(number: u8, at: u64) -> Action<'f>
-    ensures { Spells (deeds.address_command number at) result }
+    ensures { DfuseSpells (deeds.address_command number at) result }
 {
     let [a, b, c, d] = ((at % 0x1_0000_0000) as u32).to_le_bytes();
     Action::Command {
@@ -55,7 +55,7 @@ fn address_command<'f>(number: u8, at: u64) -> Action<'f>
 /// A DNLOAD of bytes, for where the pointer was set.
 fn download(body: &[u8]) -> Action<'_>
     requires { length body.now < 2 ^ 16 }
-    ensures { Spells (deeds.download body.now) result }
+    ensures { DfuseSpells (deeds.dfuse_download body.now) result }
 {
     let length = body.len() as u16;
     Action::Send {
@@ -127,7 +127,7 @@ impl<'f> Plan<'f> {
 
     /// A command, as it is sent.
     fn sends(&self, work: Work, command: Command) -> Action<'f>
-        ensures { Spells (deeds.sends self.now work command) result }
+        ensures { DfuseSpells (deeds.sends self.now work command) result }
     {
         match command {
             Command::SetAddress(at) => address_command(0x21, at),
@@ -141,7 +141,7 @@ impl<'f> Plan<'f> {
 
     /// UPLOAD of the bytes that are to be read back.
     fn upload(&self, work: Work, place: Place) -> Action<'f>
-        ensures { Spells (deeds.upload self.now work place) result }
+        ensures { DfuseSpells (deeds.upload self.now work place) result }
     {
         let block = self.upload_block(place, stands_at(work));
         let length = self.read_bytes(work).len() as u16;
@@ -150,7 +150,7 @@ impl<'f> Plan<'f> {
 
     /// The action of a step.
     fn action_of(&self, work: Work, place: Place, step: Step) -> Action<'f>
-        ensures { Spells (deeds.deed_of self.now work place step) result }
+        ensures { DfuseSpells (deeds.deed_of self.now work place step) result }
     {
         match step {
             Step::Abort | Step::BeginReading | Step::EndReading => ask(Request::Abort),
@@ -168,7 +168,7 @@ impl<'f> Plan<'f> {
 
     /// The action of a phase.
     pub(crate) fn action(&self, phase: Phase) -> Action<'f>
-        ensures { Spells (deeds.deed self.now phase) result }
+        ensures { DfuseSpells (deeds.dfuse_deed self.now phase) result }
     {
         match phase {
             Phase::On(at) => self.action_of(at.work, at.place, at.step),

@@ -1,7 +1,7 @@
 //! Commands of DfuSe, and what follows once one is done.
 
 ghost use Rattle.std.specs.Prelude.{◌≡◌};
-ghost use Rattle.dfuse_host.specs.Commands.{writing, command_of, end_of_work, erased, written, done, cleared, again, unsure};
+ghost use Rattle.dfuse_host.specs.Commands.{writing, command_of, end_of_work, erased, after_write, done, cleared, again, unsure};
 
 use crate::image::image_end;
 use crate::phase::Phase;
@@ -82,7 +82,7 @@ impl Plan<'_> {
 
     /// Bytes were written.
     fn written(&self, work: Work, at: u64) -> Phase
-        ensures { result ≡ written self.now work at }
+        ensures { result ≡ after_write self.now work at }
     {
         match work {
             Work::Write { at: from, end } => {

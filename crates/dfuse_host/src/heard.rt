@@ -1,7 +1,7 @@
 //! What is understood of what is seen.
 
 ghost use Rattle.std.specs.Prelude.{◌≡◌};
-ghost use Rattle.dfuse_host.specs.Wire.{Hears, HearsBytes, ReadsState, ReadsStatus, compared};
+ghost use Rattle.dfuse_host.specs.Wire.{DfuseHears, DfuseHearsBytes, DfuseReadsState, DfuseReadsStatus, compared};
 
 use crate::plan::Plan;
 use crate::seen::Seen;
@@ -25,7 +25,7 @@ pub(crate) enum Heard {
 
 /// The answer to GETSTATUS.
 fn status_in(bytes: &[u8]) -> Heard
-    ensures { ReadsStatus bytes.now result }
+    ensures { DfuseReadsStatus bytes.now result }
 {
     match Status::decode(bytes) {
         Ok(status) => Heard::Told(status),
@@ -35,7 +35,7 @@ fn status_in(bytes: &[u8]) -> Heard
 
 /// The answer to GETSTATE, one byte.
 fn state_in(bytes: &[u8]) -> Heard
-    ensures { ReadsState bytes.now result }
+    ensures { DfuseReadsState bytes.now result }
 {
     match bytes {
         [byte] => match State::from_byte(*byte) {
@@ -61,7 +61,7 @@ fn compared(wanted: &[u8], bytes: &[u8]) -> Heard
 impl Plan<'_> {
     /// What bytes say that come at a step.
     fn answered(&self, work: Work, step: Step, bytes: &[u8]) -> Heard
-        ensures { HearsBytes self.now work step bytes.now result }
+        ensures { DfuseHearsBytes self.now work step bytes.now result }
     {
         match step {
             Step::AskState | Step::Probe | Step::CloseProbe => state_in(bytes),
@@ -73,7 +73,7 @@ impl Plan<'_> {
 
     /// What is understood of what is seen at a step.
     pub(crate) fn hear(&self, work: Work, step: Step, seen: Seen<'_>) -> Heard
-        ensures { Hears self.now work step seen.entry result }
+        ensures { DfuseHears self.now work step seen.entry result }
     {
         match seen {
             Seen::Ack => Heard::Acked,

@@ -1,7 +1,7 @@
 //! Reading back.
 
 ghost use Rattle.std.specs.Prelude.{◌≡◌};
-ghost use Rattle.dfuse_host.specs.Table.{begun, ended, on_begin_reading, on_end_reading, read_on, on_read};
+ghost use Rattle.dfuse_host.specs.Table.{reading_begun, reading_ended, on_begin_reading, on_end_reading, read_on, on_read};
 
 use crate::command::cleared;
 use crate::heard::Heard;
@@ -15,7 +15,7 @@ use crate::work::Work;
 
 /// The device went to dfuIDLE, from which bytes can be read.
 fn begun(place: Place) -> Place
-    ensures { result ≡ begun place }
+    ensures { result ≡ reading_begun place }
 {
     match place {
         Place::At(pointer) => Place::Reading(pointer),
@@ -25,7 +25,7 @@ fn begun(place: Place) -> Place
 
 /// The device left dfuUPLOAD-IDLE.
 fn ended(place: Place) -> Place
-    ensures { result ≡ ended place }
+    ensures { result ≡ reading_ended place }
 {
     match place {
         Place::Reading(pointer) => Place::At(pointer),

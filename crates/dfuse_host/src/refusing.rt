@@ -1,7 +1,7 @@
 //! When a plan is refused.
 
 ghost use Rattle.std.specs.Prelude.{◌≡◌, ◌↔◌, IsTrue, IfErr, OnOk};
-ghost use Rattle.dfuse_host.specs.Refusing.{has_empty, is_empty, ascends_from, apart_from, Grants, wants, IsSound, IsFirst};
+ghost use Rattle.dfuse_host.specs.Refusing.{has_empty, is_empty, ascends_from, apart_from, Grants, wants, IsSoundPlan, FirstPlanFault};
 
 use crate::element::Element;
 use crate::fault::PlanFault;
@@ -78,8 +78,8 @@ impl Plan<'_> {
 
     /// Checks the plan.
     pub(crate) fn check(&self) -> Result<(), PlanFault>
-        ensures sound { OnOk result (IsSound self.now) }
-        ensures fault { IfErr result (IsFirst self.now) }
+        ensures sound { OnOk result (IsSoundPlan self.now) }
+        ensures fault { IfErr result (FirstPlanFault self.now) }
     {
         let wants = |is_readable: bool, is_erasable: bool, is_writable: bool| Access {
             is_readable,

@@ -1,8 +1,8 @@
 //! A session.
 
 ghost use Rattle.std.specs.Prelude.{◌≡◌, ◌≤◌, ◌-◌, pred, IfOk, IfErr, OnOk};
-ghost use Rattle.dfuse_host.specs.Refusing.{IsSound, IsFirst};
-ghost use Rattle.dfuse_host.specs.Sessions.{Act, SessionRow, IsOver, takes_left, begun, budgeted, spent, spent_at, left_at, resumed, restarted, restarted_leaving, restarted_in, told, after, after_phase};
+ghost use Rattle.dfuse_host.specs.Refusing.{IsSoundPlan, FirstPlanFault};
+ghost use Rattle.dfuse_host.specs.Sessions.{DfuseAct, SessionRow, DfuseIsOver, dfuse_takes_left, dfuse_begun, dfuse_budgeted, dfuse_spent, spent_at, left_at, resumed, dfuse_restarted, restarted_leaving, restarted_in, dfuse_told, dfuse_after, dfuse_after_phase};
 
 use crate::action::Action;
 use crate::command::cleared;
@@ -51,7 +51,7 @@ fn spent_at(work: Work, step: Step) -> Phase
 
 /// The phase of a session with so many actions left.
 fn budgeted(left: u32, phase: Phase) -> Phase
-    ensures { result ≡ budgeted left phase }
+    ensures { result ≡ dfuse_budgeted left phase }
 {
     match phase {
         Phase::Over(_) => phase,
@@ -65,7 +65,7 @@ impl<'f> Session<'f> {
 
     /// The session after one action that leads to a phase.
     fn spent(self, phase: Phase, restarts: u16) -> Session<'f>
-        ensures { result ≡ spent self.entry phase restarts }
+        ensures { result ≡ dfuse_spent self.entry phase restarts }
     {
         let actions = self.actions.saturating_sub(1);
         Session {
@@ -91,7 +91,7 @@ impl<'f> Session<'f> {
 
     /// After a restart that may be one too many.
     fn restarted_once(self, at: Standing) -> Session<'f>
-        ensures { result ≡ restarted self.entry (resumed self.entry.plan at.work at.place at.step) self.entry.restarts }
+        ensures { result ≡ dfuse_restarted self.entry (resumed self.entry.plan at.work at.place at.step) self.entry.restarts }
     {
         if self.restarts == 0 {
             return self.spent(Phase::Over(Report::RestartsSpent), 0);
@@ -128,7 +128,7 @@ impl<'f> Session<'f> {
 
     /// After something was heard.
     fn after(self, at: Standing, heard: Heard) -> Session<'f>
-        ensures { result ≡ told self.entry at.work at.place at.step heard }
+        ensures { result ≡ dfuse_told self.entry at.work at.place at.step heard }
     {
         match heard {
             Heard::Restarted => self.restarted(at),
@@ -145,9 +145,9 @@ impl<'f> Session<'f> {
     ///
     /// The first fault of the plan, in the order of [`PlanFault`].
     pub fn begin(plan: Plan<'f>, limits: Limits) -> Result<Session<'f>, PlanFault>
-        ensures begun { IfOk result (λ s. s ≡ begun plan.entry limits) }
-        ensures sound { OnOk result (IsSound plan.entry) }
-        ensures fault { IfErr result (IsFirst plan.entry) }
+        ensures begun { IfOk result (λ s. s ≡ dfuse_begun plan.entry limits) }
+        ensures sound { OnOk result (IsSoundPlan plan.entry) }
+        ensures fault { IfErr result (FirstPlanFault plan.entry) }
     {
         match plan.check() {
             Ok(()) => Ok(Session {
@@ -164,7 +164,7 @@ impl<'f> Session<'f> {
 
     /// What the session wants done next. It changes nothing, so it may be asked again.
     pub fn next(&self) -> Action<'f>
-        ensures { Act self.now result }
+        ensures { DfuseAct self.now result }
     {
         self.plan.action(self.phase)
     }
@@ -174,8 +174,8 @@ impl<'f> Session<'f> {
     pub fn take(&mut self, seen: Seen<'_>)
         ensures row { SessionRow self.old seen.entry self.new }
         ensures plan { self.new.plan ≡ self.old.plan }
-        ensures budget { takes_left self.new ≤ takes_left self.old - 1 }
-        ensures over { IsOver self.old.phase → self.new ≡ self.old }
+        ensures budget { dfuse_takes_left self.new ≤ dfuse_takes_left self.old - 1 }
+        ensures over { DfuseIsOver self.old.phase → self.new ≡ self.old }
     {
         if let Phase::On(at) = self.phase {
             let heard = self.plan.hear(at.work, at.step, seen);

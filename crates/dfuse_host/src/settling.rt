@@ -1,7 +1,7 @@
 //! The order of work: what is done next, once the device is ready for a command.
 
 ghost use Rattle.std.specs.Prelude.{◌≡◌};
-ghost use Rattle.dfuse_host.specs.Settling.{before, byte_in, can_read, comparing, sending, settle, staying, leaving_by, to_leave, to_compare_front, to_write_front, to_compare, to_write, to_erase};
+ghost use Rattle.dfuse_host.specs.Settling.{if_before, byte_in, can_read, comparing, sending, settle, staying, leaving_by, to_leave, to_compare_front, to_write_front, to_compare, to_write, to_erase};
 
 use crate::image::{element_at, image_end, image_start, next_byte};
 use crate::phase::{Phase, Standing};

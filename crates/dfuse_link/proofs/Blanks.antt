@@ -11,7 +11,7 @@ use Rattle.dfuse_host.specs.declared.place.Place.{Place}
 use Rattle.dfuse_host.specs.declared.step.Step.{Step}
 use Rattle.dfuse_host.specs.declared.seen.Seen.{Seen}
 use Rattle.dfuse_host.specs.declared.session.Session.{Session}
-use Rattle.dfuse_host.specs.Deeds.{Deed, Send, Wait, Done, deed, deed_of}
+use Rattle.dfuse_host.specs.Deeds.{DfuseDeed, Send, Wait, Done, dfuse_deed, deed_of}
 use Rattle.dfuse_link.specs.Chips.{Chip, Order, Erases, Doing, Rests, Pending, Busy, Device, ChangedBy, Advances, goes_on, ends, fails}
 use Rattle.dfuse_link.specs.Reactions.{Reaction, order_of, set_off, told_of, Reacts, stalls, takes, closes, gives, lists, tells, shows, aborts, clears}
 use Rattle.dfuse_link.specs.Histories.{Arrives, never, again, UnderWay, none, request, sent, waited, restarted}
@@ -130,12 +130,12 @@ module _ (chip : Chip) (a : ℕ) where
 
   -- ---- turns
 
-  abbrev pub DeedSpares : Deed → (pointer : ℕ) → Type 0
+  abbrev pub DeedSpares : DfuseDeed → (pointer : ℕ) → Type 0
   DeedSpares (Send q body) pointer = BringsSparing chip a q body pointer
   DeedSpares (Wait ms) pointer = Unit {0}
   DeedSpares (Done report) pointer = Unit {0}
 
-  by_deed : (x : Deed) (d : Device) (r : Option Reaction) (d' : Device) → ArrivesBy chip x d r d' → DeedSpares x d.pointer →
+  by_deed : (x : DfuseDeed) (d : Device) (r : Option Reaction) (d' : Device) → ArrivesBy chip x d r d' → DeedSpares x d.pointer →
       IsBlankAt chip a d → IsBlankAt chip a d'
   by_deed (Send q body) d r d' comes new k = (arrives_both q body d r d' comes new k).0
   by_deed (Wait ms) d r d' comes new k = absurd comes
@@ -144,7 +144,7 @@ module _ (chip : Chip) (a : ℕ) where
   module _ (s : Session) (Q : Work → Type 0) (spares : (w : Work) (p : Place) (at : Step) (d : Device) → Q w →
       Stands chip s.plan w p at d → DeedSpares (deed_of s.plan w p at) d.pointer) where
     phase_blank : (p : Phase) (d : Device) (r : Option Reaction) (d' : Device) → InPhase Q p → StandsIn chip s.plan p d →
-        ArrivesBy chip (deed s.plan p) d r d' → IsBlankAt chip a d → IsBlankAt chip a d'
+        ArrivesBy chip (dfuse_deed s.plan p) d r d' → IsBlankAt chip a d → IsBlankAt chip a d'
     phase_blank (On at) d r d' q k comes h =
         by_deed (deed_of s.plan at.work at.place at.step) d r d' comes (spares at.work at.place at.step d q k) h
     phase_blank (Over rep) d r d' q k comes h = absurd comes
@@ -153,7 +153,7 @@ module _ (chip : Chip) (a : ℕ) where
         IsBlankAt chip a mid
     under_way d _ none q k h = h
     under_way d mid (request {reaction = reaction} asked body is comes) q k h =
-        phase_blank s.phase d reaction mid q k (subst (λ (x : Deed). ArrivesBy chip x d reaction mid) (sym is) comes) h
+        phase_blank s.phase d reaction mid q k (subst (λ (x : DfuseDeed). ArrivesBy chip x d reaction mid) (sym is) comes) h
 
   -- A blank byte stays blank in a turn.
   pub turn_blank : (Q : Work → Type 0) (l l' : Paired) → ((w : Work) (p : Place) (at : Step) (d : Device) → Q w →
@@ -162,7 +162,7 @@ module _ (chip : Chip) (a : ℕ) where
       IsBlankAt chip a l'.device
   turn_blank Q l l' spares x (sent asked body reaction is comes seen row) q k h =
       phase_blank l.session Q spares l.session.phase l.device reaction l'.device q k
-      (subst (λ (y : Deed). ArrivesBy chip y l.device reaction l'.device) (sym is) comes) h
+      (subst (λ (y : DfuseDeed). ArrivesBy chip y l.device reaction l'.device) (sym is) comes) h
   turn_blank Q l l' spares x (waited ms is same seen row) q k h = subst (λ (d : Device). IsBlankAt chip a d) (sym same) h
   turn_blank Q l l' spares x (restarted mid any way rests changed seen row) q k h =
       restarts_blank mid l'.device any rests changed (under_way l.session Q spares l.device mid way q k h)

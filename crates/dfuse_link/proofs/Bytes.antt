@@ -140,7 +140,7 @@ no_range : (wanted : Access) (a : ℕ) → IsGranted wanted (range_at a []) → 
 unfolding range_at
 no_range wanted a h = h
 
-in_range : (a : ℕ) (p : Pages) → has a p ≡ true → a < ranges.end_of p
+in_range : (a : ℕ) (p : Pages) → has a p ≡ true → a < ranges.end_of_range p
 in_range a p h = grind (arith, nat_tests)
 
 range_by : (wanted : Access) (a : ℕ) (p : Pages) (ps : List Pages) (t : Bool) → has a p ≡ t → IsRange p →

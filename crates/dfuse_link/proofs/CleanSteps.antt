@@ -24,9 +24,9 @@ use Rattle.dfuse_host.specs.declared.seen.Seen.TheVariants as seen
 use Rattle.dfuse_host.specs.Commands.{command_of, done}
 use Rattle.dfuse_host.specs.Deeds.{read_bytes}
 use Rattle.dfuse_host.specs.Settling.{stand, settle}
-use Rattle.dfuse_host.specs.Sessions.{spent, told}
-use Rattle.dfuse_host.specs.Table.{state_found, polled, begun, ended, read_on, close_polled}
-use Rattle.dfuse_host.specs.Wire.{ReadsStatus, ReadsState, Hears, compared}
+use Rattle.dfuse_host.specs.Sessions.{dfuse_spent, dfuse_told}
+use Rattle.dfuse_host.specs.Table.{state_found, polled, reading_begun, reading_ended, read_on, close_polled}
+use Rattle.dfuse_host.specs.Wire.{DfuseReadsStatus, DfuseReadsState, DfuseHears, compared}
 use Rattle.dfuse_host.proofs.ForCallers.{AnyHeard, by_heard, compared_as, heard_nothing}
 use Rattle.dfuse_link.specs.CleanRuns.{IsGiven, TellsStatus, TellsBusy, TellsState}
 use Rattle.dfuse_link.proofs.Heards.{one_state}
@@ -53,24 +53,25 @@ module _ (plan : Plan) (w : Work) (p : Place) where
   told_asks status x is = absurd is
 
   state_on : (n u : ℕ) → Lasts plan (settle plan w place.Lost) n u → (x : Seen) (h : AnyHeard) →
-      IsGiven (state_byte state.DfuIdle ∷ []) x → Hears plan w step.AskState x h → Onward plan w p step.AskState h n u
+      IsGiven (state_byte state.DfuIdle ∷ []) x → DfuseHears plan w step.AskState x h → Onward plan w p step.AskState h n u
   state_on n u l (seen.Bytes bytes) h is hears =
-      by_heard (λ y. ReadsState bytes.now y → Onward plan w p step.AskState y n u) (λ r. absurd r) (λ t r. absurd r)
+      by_heard (λ y. DfuseReadsState bytes.now y → Onward plan w p step.AskState y n u) (λ r. absurd r) (λ t r. absurd r)
       (λ t r.
       let idle : t ≡ state.DfuIdle = one_state t state.DfuIdle (ap (λ (xs : List ℕ). slice_index_or xs 0 0) (sym r ∙ is)) in
       record {
         next = settle plan w place.Lost;
         lasts = l;
         comes = λ actions restarts.
-            ap (λ (q : State). spent (session_at plan (stand w p step.AskState) actions restarts) (state_found plan w q) restarts) idle;
+            ap (λ (q : State). dfuse_spent (session_at plan (stand w p step.AskState) actions restarts) (state_found plan w q)
+            restarts) idle;
       })
       (λ b r. absurd r) (λ r. absurd r) (λ r. absurd (r state.DfuIdle is)) (λ r. absurd r) (λ r. absurd r) h hears
   state_on n u l x h is hears = absurd is
 
   busy_on : (n u : ℕ) → ((ms : ℕ) → 0 < ms → Lasts plan (stand w p (step.PollWait ms)) n u) → (x : Seen) (h : AnyHeard) → TellsBusy x →
-      Hears plan w (step.Poll zero) x h → Onward plan w p (step.Poll zero) h n u
+      DfuseHears plan w (step.Poll zero) x h → Onward plan w p (step.Poll zero) h n u
   busy_on n u l (seen.Bytes bytes) h is hears =
-      by_heard (λ y. ReadsStatus bytes.now y → Onward plan w p (step.Poll zero) y n u) (λ r. absurd r)
+      by_heard (λ y. DfuseReadsStatus bytes.now y → Onward plan w p (step.Poll zero) y n u) (λ r. absurd r)
       (λ t r.
       let same : is.status ≡ t = IsStatus-one is.status t bytes.now is.told r in
       let busy : t.state ≡ state.DownloadBusy = ap (λ (z : StatusFields). z.state) (sym same) ∙ is.is_busy in
@@ -78,16 +79,16 @@ module _ (plan : Plan) (w : Work) (p : Place) where
         next = stand w p (step.PollWait t.poll_ms);
         lasts = l t.poll_ms (subst (λ (z : StatusFields). 0 < z.poll_ms) same is.time);
         comes = λ actions restarts.
-            ap (λ (q : State). spent (session_at plan (stand w p (step.Poll zero)) actions restarts)
+            ap (λ (q : State). dfuse_spent (session_at plan (stand w p (step.Poll zero)) actions restarts)
             (polled plan w p t.code t.poll_ms q) restarts) busy;
       })
       (λ t r. absurd r) (λ b r. absurd r) (λ r. absurd r) (λ r. absurd (r is.status is.told)) (λ r. absurd r) (λ r. absurd r) h hears
   busy_on n u l x h is hears = absurd is.told
 
   idle_on : (last n u : ℕ) → Lasts plan (done plan w (command_of plan w p)) n u → (x : Seen) (h : AnyHeard) →
-      TellsState state.DownloadIdle x → Hears plan w (step.Poll (suc last)) x h → Onward plan w p (step.Poll (suc last)) h n u
+      TellsState state.DownloadIdle x → DfuseHears plan w (step.Poll (suc last)) x h → Onward plan w p (step.Poll (suc last)) h n u
   idle_on last n u l (seen.Bytes bytes) h is hears =
-      by_heard (λ y. ReadsStatus bytes.now y → Onward plan w p (step.Poll (suc last)) y n u) (λ r. absurd r)
+      by_heard (λ y. DfuseReadsStatus bytes.now y → Onward plan w p (step.Poll (suc last)) y n u) (λ r. absurd r)
       (λ t r.
       let same : is.status ≡ t = IsStatus-one is.status t bytes.now is.told r in
       let idle : t.state ≡ state.DownloadIdle = ap (λ (z : StatusFields). z.state) (sym same) ∙ is.is_there in
@@ -95,16 +96,16 @@ module _ (plan : Plan) (w : Work) (p : Place) where
         next = done plan w (command_of plan w p);
         lasts = l;
         comes = λ actions restarts.
-            ap (λ (q : State). spent (session_at plan (stand w p (step.Poll (suc last))) actions restarts)
+            ap (λ (q : State). dfuse_spent (session_at plan (stand w p (step.Poll (suc last))) actions restarts)
             (polled plan w p t.code t.poll_ms q) restarts) idle;
       })
       (λ t r. absurd r) (λ b r. absurd r) (λ r. absurd r) (λ r. absurd (r is.status is.told)) (λ r. absurd r) (λ r. absurd r) h hears
   idle_on last n u l x h is hears = absurd is.told
 
   leaves_on : (n u : ℕ) → Lasts plan (Over (Verified leaving.Left)) n u → (x : Seen) (h : AnyHeard) → TellsState state.Manifest x →
-      Hears plan w step.ClosePoll x h → Onward plan w p step.ClosePoll h n u
+      DfuseHears plan w step.ClosePoll x h → Onward plan w p step.ClosePoll h n u
   leaves_on n u l (seen.Bytes bytes) h is hears =
-      by_heard (λ y. ReadsStatus bytes.now y → Onward plan w p step.ClosePoll y n u) (λ r. absurd r)
+      by_heard (λ y. DfuseReadsStatus bytes.now y → Onward plan w p step.ClosePoll y n u) (λ r. absurd r)
       (λ t r.
       let same : is.status ≡ t = IsStatus-one is.status t bytes.now is.told r in
       let there : t.state ≡ state.Manifest = ap (λ (z : StatusFields). z.state) (sym same) ∙ is.is_there in
@@ -115,13 +116,13 @@ module _ (plan : Plan) (w : Work) (p : Place) where
         next = Over (Verified leaving.Left);
         lasts = l;
         comes = λ actions restarts.
-            ap (λ (q : Phase). spent (session_at plan (stand w p step.ClosePoll) actions restarts) q restarts) left;
+            ap (λ (q : Phase). dfuse_spent (session_at plan (stand w p step.ClosePoll) actions restarts) q restarts) left;
       })
       (λ t r. absurd r) (λ b r. absurd r) (λ r. absurd r) (λ r. absurd (r is.status is.told)) (λ r. absurd r) (λ r. absurd r) h hears
   leaves_on n u l x h is hears = absurd is.told
 
   read_on_by : (n u : ℕ) → Lasts plan (settle plan (read_on plan w) p) n u → (x : Seen) (h : AnyHeard) → IsGiven (read_bytes plan w) x →
-      Hears plan w step.Read x h → Onward plan w p step.Read h n u
+      DfuseHears plan w step.Read x h → Onward plan w p step.Read h n u
   read_on_by n u l (seen.Bytes bytes) h is hears =
       let same : h ≡ compared_as true =
       hears ∙ ap (λ (xs : List ℕ). compared (read_bytes plan w) xs) is ∙ compared_same (read_bytes plan w) in
@@ -129,7 +130,7 @@ module _ (plan : Plan) (w : Work) (p : Place) where
         next = settle plan (read_on plan w) p;
         lasts = l;
         comes = λ actions restarts.
-            ap (λ y. told (session_at plan (stand w p step.Read) actions restarts) w p step.Read y) same;
+            ap (λ y. dfuse_told (session_at plan (stand w p step.Read) actions restarts) w p step.Read y) same;
       }
   read_on_by n u l x h is hears = absurd is
 
@@ -138,21 +139,21 @@ module _ (plan : Plan) (w : Work) (p : Place) where
   pub lasts_abort : (n u : ℕ) → Lasts plan (stand w place.Lost step.AskState) n u → Lasts plan (stand w p step.Abort) (suc n) u
   lasts_abort n u l = acked plan w p step.Abort (stand w place.Lost step.AskState) n u (λ x c. c)
       (λ h e actions restarts.
-      ap (λ y. told (session_at plan (stand w p step.Abort) actions restarts) w p step.Abort y) e) l
+      ap (λ y. dfuse_told (session_at plan (stand w p step.Abort) actions restarts) w p step.Abort y) e) l
 
   pub lasts_ask_state : (n u : ℕ) → Lasts plan (settle plan w place.Lost) n u → Lasts plan (stand w p step.AskState) (suc n) u
   lasts_ask_state n u l =
       asked plan w p step.AskState n u (λ x c. bytes_ask (state_byte state.DfuIdle ∷ []) x c) (λ x h c e. state_on n u l x h c e)
 
-  pub lasts_begin : (n u : ℕ) → Lasts plan (settle plan w (begun p)) n u → Lasts plan (stand w p step.BeginReading) (suc n) u
-  lasts_begin n u l = acked plan w p step.BeginReading (settle plan w (begun p)) n u (λ x c. c)
+  pub lasts_begin : (n u : ℕ) → Lasts plan (settle plan w (reading_begun p)) n u → Lasts plan (stand w p step.BeginReading) (suc n) u
+  lasts_begin n u l = acked plan w p step.BeginReading (settle plan w (reading_begun p)) n u (λ x c. c)
       (λ h e actions restarts.
-      ap (λ y. told (session_at plan (stand w p step.BeginReading) actions restarts) w p step.BeginReading y) e) l
+      ap (λ y. dfuse_told (session_at plan (stand w p step.BeginReading) actions restarts) w p step.BeginReading y) e) l
 
-  pub lasts_end : (n u : ℕ) → Lasts plan (settle plan w (ended p)) n u → Lasts plan (stand w p step.EndReading) (suc n) u
-  lasts_end n u l = acked plan w p step.EndReading (settle plan w (ended p)) n u (λ x c. c)
+  pub lasts_end : (n u : ℕ) → Lasts plan (settle plan w (reading_ended p)) n u → Lasts plan (stand w p step.EndReading) (suc n) u
+  lasts_end n u l = acked plan w p step.EndReading (settle plan w (reading_ended p)) n u (λ x c. c)
       (λ h e actions restarts.
-      ap (λ y. told (session_at plan (stand w p step.EndReading) actions restarts) w p step.EndReading y) e) l
+      ap (λ y. dfuse_told (session_at plan (stand w p step.EndReading) actions restarts) w p step.EndReading y) e) l
 
   pub lasts_read : (n u : ℕ) → Lasts plan (settle plan (read_on plan w) p) n u → Lasts plan (stand w p step.Read) (suc n) u
   lasts_read n u l = asked plan w p step.Read n u (λ x c. bytes_ask (read_bytes plan w) x c) (λ x h c e. read_on_by n u l x h c e)
@@ -161,7 +162,7 @@ module _ (plan : Plan) (w : Work) (p : Place) where
   pub lasts_close : (n u : ℕ) → Lasts plan (Over (Verified leaving.Left)) n u → Lasts plan (stand w p step.Close) (suc (suc n)) u
   lasts_close n u l = acked plan w p step.Close (stand w p step.ClosePoll) (suc n) u (λ x c. c)
       (λ h e actions restarts.
-      ap (λ y. told (session_at plan (stand w p step.Close) actions restarts) w p step.Close y) e)
+      ap (λ y. dfuse_told (session_at plan (stand w p step.Close) actions restarts) w p step.Close y) e)
       (asked plan w p step.ClosePoll n u (λ x c. told_asks c.status x c.told) (λ x h c e. leaves_on n u l x h c e))
 
   -- ---- a command
@@ -178,8 +179,8 @@ module _ (plan : Plan) (w : Work) (p : Place) where
         next = stand w p (step.Poll ms);
         lasts = l;
         comes = λ actions restarts.
-            ap (λ y. told (session_at plan (stand w p (step.PollWait ms)) actions restarts) w p (step.PollWait ms) y)
-            (subst (λ (y : Seen). Hears plan w (step.PollWait ms) y h) c hears);
+            ap (λ y. dfuse_told (session_at plan (stand w p (step.PollWait ms)) actions restarts) w p (step.PollWait ms) y)
+            (subst (λ (y : Seen). DfuseHears plan w (step.PollWait ms) y h) c hears);
       })
 
   pub lasts_command : (n u : ℕ) → Lasts plan (done plan w (command_of plan w p)) n u → Lasts plan (stand w p step.Send) (4 + n) (1 + u)
@@ -189,5 +190,5 @@ module _ (plan : Plan) (w : Work) (p : Place) where
       (λ x h c e. busy_on (suc (suc n)) (1 + u) (λ ms some. lasts_wait ms (suc n) u (lasts_poll ms n u some l)) x h c e) in
       let all : Lasts plan (stand w p step.Send) (suc (suc (suc (suc n)))) (1 + u) =
       acked plan w p step.Send (stand w p (step.Poll zero)) (suc (suc (suc n))) (1 + u) (λ x c. c)
-      (λ h e actions restarts. ap (λ y. told (session_at plan (stand w p step.Send) actions restarts) w p step.Send y) e) busy in
+      (λ h e actions restarts. ap (λ y. dfuse_told (session_at plan (stand w p step.Send) actions restarts) w p step.Send y) e) busy in
       count_as plan (stand w p step.Send) (suc (suc (suc (suc n)))) (4 + n) (1 + u) (1 + u) (omega arith) refl all

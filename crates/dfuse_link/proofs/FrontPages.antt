@@ -10,7 +10,7 @@ use Rattle.dfuse_host.specs.Images.{end_of, next_byte, image_start, image_end}
 use Rattle.dfuse_host.specs.Plans.{page_start, page_end, front_end}
 use Rattle.dfuse_host.specs.Refusing.{has_empty, is_empty, apart_from}
 use Rattle.dfuse_host.specs.ReadBack.{HasByte}
-use Rattle.dfuse_host.specs.Settling.{before, byte_in}
+use Rattle.dfuse_host.specs.Settling.{if_before, byte_in}
 use Rattle.dfuse_link.specs.Chips.{Chip}
 use Rattle.dfuse_link.specs.Promises.{IsFor}
 use Rattle.dfuse_link.specs.Touched.{IsTrueMap}
@@ -75,14 +75,14 @@ from_start a (e ∷ es) h b =
     let both = and_true (leb 0 e.address) (apart_from (end_of e) es) h in
     elim b [ inl w ↦ w.0 | inr w ↦ omega (arith, lower (end_of e) a es both.1 w) ]
 
-before_step : (end b : ℕ) → b < end → before end (Some b) ≡ Some b
+before_step : (end b : ℕ) → b < end → if_before end (Some b) ≡ Some b
 before_step end b h = ap (λ (t : Bool). cond t (Some b) None) (less b end h)
 
 first_in : (plan : Plan) → IsFirstByte plan.image.now →
     byte_in plan (image_start plan.image.now) (image_end plan.image.now) ≡ Some (image_start plan.image.now)
 unfolding byte_in
 first_in plan f =
-    ap (before (image_end plan.image.now)) f.next
+    ap (if_before (image_end plan.image.now)) f.next
     ∙ before_step (image_end plan.image.now) (image_start plan.image.now) f.within
 
 front_short : (plan : Plan) → front_end plan ≤ page_end plan (image_start plan.image.now)

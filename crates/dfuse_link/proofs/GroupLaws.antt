@@ -6,7 +6,7 @@ use Rattle.dfuse_host.specs.declared.work.Work.{Work}
 use Rattle.dfuse_host.specs.declared.work.Work.TheVariants as work
 use Rattle.dfuse_host.specs.declared.place.Place.{Place}
 use Rattle.dfuse_host.specs.declared.place.Place.TheVariants as place
-use Rattle.dfuse_host.specs.Commands.{writing, command_of, done, erased, written, again, unsure}
+use Rattle.dfuse_host.specs.Commands.{writing, command_of, done, erased, after_write, again, unsure}
 use Rattle.dfuse_host.specs.Images.{image_start}
 use Rattle.dfuse_host.specs.Plans.{page_start, page_end, front_end, write_end}
 use Rattle.dfuse_host.specs.Settling.{stand, sending, to_write_front, to_write, erase_or, to_erase, settle}
@@ -67,7 +67,7 @@ module _ (one : OnePage) (chip : Chip) (plan : Plan) (m : Mixable chip plan) (d 
   placed_erased (work.EraseAgain page end) at = placed_write place.Lost (max page (front_end plan)) end
   placed_erased w at = placed_erase place.Lost (page_end plan at)
 
-  placed_written : (w : Work) (at : ℕ) → GoesIn (Placed plan) ⊥ (written plan w at)
+  placed_written : (w : Work) (at : ℕ) → GoesIn (Placed plan) ⊥ (after_write plan w at)
   placed_written (work.Write from end) at = placed_write place.Lost (max from (write_end plan at end)) end
   placed_written w at = placed_front place.Lost (write_end plan at (front_end plan))
 

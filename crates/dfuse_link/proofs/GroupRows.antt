@@ -15,7 +15,7 @@ use Rattle.dfuse_host.specs.declared.step.Step.{Step}
 use Rattle.dfuse_host.specs.declared.step.Step.TheVariants as step
 use Rattle.dfuse_host.specs.Commands.{command_of, done, unsure}
 use Rattle.dfuse_host.specs.Settling.{settle}
-use Rattle.dfuse_host.specs.Table.{state_found, ends_comparing, fault_found, status_found, on_abort, on_ask_state, on_ask_status, on_clear_wait, on_send, probed, on_probe, refused, polled, on_poll, on_poll_wait, begun, ended, on_begin_reading, on_end_reading, read_on, on_read, on_close, close_probed, on_close_probe, close_polled, on_close_poll, row}
+use Rattle.dfuse_host.specs.Table.{state_found, ends_comparing, fault_found, status_found, on_abort, on_ask_state, on_ask_status, on_clear_wait, on_send, probed, on_probe, refused, polled, on_poll, on_poll_wait, reading_begun, reading_ended, on_begin_reading, on_end_reading, read_on, on_read, on_close, close_probed, on_close_probe, close_polled, on_close_poll, row}
 use Rattle.dfuse_host.proofs.ForCallers.{AnyCommand, AnyHeard, by_heard, compared_as}
 use Rattle.dfuse_link.proofs.Claims.{SaysState}
 
@@ -122,12 +122,14 @@ module _ (plan : Plan) (G : Work → Type 0) (B : Type 0) (r : IsGroup plan G B)
 
   begin_goes : (h : AnyHeard) → GoesIn G B (on_begin_reading plan w p h)
   begin_goes h =
-      by_heard (λ x. GoesIn G B (on_begin_reading plan w p x)) (r.settles w (begun p) g) (λ s. inl g) (λ s. inl g) (λ b. inl g) (inl g)
+      by_heard (λ x. GoesIn G B (on_begin_reading plan w p x)) (r.settles w (reading_begun p) g) (λ s. inl g) (λ s. inl g)
+      (λ b. inl g) (inl g)
       (inl g) (inl g) (inl g) h
 
   end_goes : (h : AnyHeard) → GoesIn G B (on_end_reading plan w p h)
   end_goes h =
-      by_heard (λ x. GoesIn G B (on_end_reading plan w p x)) (r.settles w (ended p) g) (λ s. inl g) (λ s. inl g) (λ b. inl g) (inl g)
+      by_heard (λ x. GoesIn G B (on_end_reading plan w p x)) (r.settles w (reading_ended p) g) (λ s. inl g) (λ s. inl g)
+      (λ b. inl g) (inl g)
       (inl g) (inl g) (inl g) h
 
   compared_goes : (b : Bool) → GoesIn G B (on_read plan w p (compared_as b))

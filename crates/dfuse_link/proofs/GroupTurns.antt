@@ -14,10 +14,10 @@ use Rattle.dfuse_host.specs.declared.seen.Seen.{Seen}
 use Rattle.dfuse_host.specs.declared.seen.Seen.TheVariants as seen
 use Rattle.dfuse_host.specs.declared.session.Session.{Session}
 use Rattle.dfuse_host.specs.Commands.{command_of, done}
-use Rattle.dfuse_host.specs.Deeds.{Deed, Wait, deed, deed_of}
-use Rattle.dfuse_host.specs.Sessions.{budgeted, spent_at, resumed, restarted, restarted_leaving, restarted_in, told, after, after_phase, HearsIn, SessionRow}
+use Rattle.dfuse_host.specs.Deeds.{DfuseDeed, Wait, dfuse_deed, deed_of}
+use Rattle.dfuse_host.specs.Sessions.{dfuse_budgeted, spent_at, resumed, dfuse_restarted, restarted_leaving, restarted_in, dfuse_told, dfuse_after, dfuse_after_phase, HearsIn, SessionRow}
 use Rattle.dfuse_host.specs.Table.{row}
-use Rattle.dfuse_host.specs.Wire.{Hears}
+use Rattle.dfuse_host.specs.Wire.{DfuseHears}
 use Rattle.dfuse_host.proofs.ForCallers.{AnyHeard, by_heard}
 use Rattle.dfuse_link.specs.Chips.{Chip, Device, state_in}
 use Rattle.dfuse_link.specs.Reactions.{Reaction}
@@ -38,7 +38,7 @@ module _ (plan : Plan) (G : Work → Type 0) (B : Type 0) (r : IsGroup plan G B)
   spent_goes work.Leave s = tt
   spent_goes w s = tt
 
-  budget_goes : (n : ℕ) (p : Phase) → GoesIn G B p → GoesIn G B (budgeted n p)
+  budget_goes : (n : ℕ) (p : Phase) → GoesIn G B p → GoesIn G B (dfuse_budgeted n p)
   budget_goes n (Over rep) k = tt
   budget_goes zero (On s) k = spent_goes s.work s.step
   budget_goes (suc n) (On s) k = k
@@ -49,7 +49,7 @@ module _ (plan : Plan) (G : Work → Type 0) (B : Type 0) (r : IsGroup plan G B)
   resumed_goes w p s g = inl g
 
 module _ (s : Session) (G : Work → Type 0) (B : Type 0) (r : IsGroup s.plan G B) where
-  restarted_goes : (p : Phase) (n : ℕ) → GoesIn G B p → GoesIn G B (restarted s p n).phase
+  restarted_goes : (p : Phase) (n : ℕ) → GoesIn G B p → GoesIn G B (dfuse_restarted s p n).phase
   restarted_goes p zero k = budget_goes s.plan G B r (pred s.actions) (Over report.RestartsSpent) tt
   restarted_goes p (suc n) k = budget_goes s.plan G B r (pred s.actions) p k
 
@@ -64,9 +64,9 @@ module _ (s : Session) (G : Work → Type 0) (B : Type 0) (r : IsGroup s.plan G 
   restart_goes w p at g = restarted_goes (resumed s.plan w p at) s.restarts (resumed_goes s.plan G B r w p at g)
 
   told_goes : (w : Work) (p : Place) (at : Step) (h : AnyHeard) → G w → GoesIn G B (row s.plan w p at h) →
-      GoesIn G B (told s w p at h).phase
+      GoesIn G B (dfuse_told s w p at h).phase
   told_goes w p at h g =
-      by_heard (λ x. GoesIn G B (row s.plan w p at x) → GoesIn G B (told s w p at x).phase)
+      by_heard (λ x. GoesIn G B (row s.plan w p at x) → GoesIn G B (dfuse_told s w p at x).phase)
       (λ k. budget_goes s.plan G B r (pred s.actions) _ k) (λ t k. budget_goes s.plan G B r (pred s.actions) _ k)
       (λ t k. budget_goes s.plan G B r (pred s.actions) _ k) (λ b k. budget_goes s.plan G B r (pred s.actions) _ k)
       (λ k. budget_goes s.plan G B r (pred s.actions) _ k) (λ k. budget_goes s.plan G B r (pred s.actions) _ k)
@@ -83,7 +83,7 @@ DoneGoes chip plan G B d =
 module _ (chip : Chip) (s : Session) (G : Work → Type 0) (B : Device → Type 0) (d' : Device) (r : IsGroup s.plan G (B d'))
     (ok : DoneGoes chip s.plan G B d') where
   sent_asks : (w : Work) (p : Place) (at : Step) (d : Device) (h : AnyHeard) (n : Option Reaction) (x : Seen) → (g : G w) →
-      Stands chip s.plan w p at d → ArrivesBy chip (deed_of s.plan w p at) d n d' → IsSeenOf n x → Hears s.plan w at x h →
+      Stands chip s.plan w p at d → ArrivesBy chip (deed_of s.plan w p at) d n d' → IsSeenOf n x → DfuseHears s.plan w at x h →
       Asks s.plan G (B d') r w p g at h
   sent_asks w p (step.Poll last) d h n x g k comes is hears =
       let has = statuses_have chip (command_of s.plan w p) p d d' 6 _ n comes k in
@@ -95,7 +95,7 @@ module _ (chip : Chip) (s : Session) (G : Work → Type 0) (B : Device → Type 
   sent_asks w p at d h n x g k comes is hears = tt
 
   sent_goes : (p : Phase) (d : Device) (h : AnyHeard) (n : Option Reaction) (x : Seen) → InPhase G p → StandsIn chip s.plan p d →
-      ArrivesBy chip (deed s.plan p) d n d' → IsSeenOf n x → HearsIn s.plan p x h → GoesIn G (B d') (after_phase s p h).phase
+      ArrivesBy chip (dfuse_deed s.plan p) d n d' → IsSeenOf n x → HearsIn s.plan p x h → GoesIn G (B d') (dfuse_after_phase s p h).phase
   sent_goes (On at) d h n x g k comes is hears =
       told_goes s G (B d') r at.work at.place at.step h g
       (row_goes s.plan G (B d') r at.work at.place g at.step h
@@ -107,22 +107,23 @@ module _ (chip : Chip) (s : Session) (G : Work → Type 0) (B : Device → Type 
   wait_asks w p (step.Poll last) h ms g e = cc
   wait_asks w p at h ms g e = tt
 
-  wait_goes : (p : Phase) (h : AnyHeard) (ms : ℕ) → InPhase G p → deed s.plan p ≡ Wait ms → GoesIn G (B d') (after_phase s p h).phase
+  wait_goes : (p : Phase) (h : AnyHeard) (ms : ℕ) → InPhase G p → dfuse_deed s.plan p ≡ Wait ms →
+      GoesIn G (B d') (dfuse_after_phase s p h).phase
   wait_goes (On at) h ms g e =
       told_goes s G (B d') r at.work at.place at.step h g
       (row_goes s.plan G (B d') r at.work at.place g at.step h (wait_asks at.work at.place at.step h ms g e))
   wait_goes (Over rep) h ms g e = cc
 
   new_goes : (p : Phase) (h : AnyHeard) → s.phase ≡ p → InPhase G p → HearsIn s.plan p seen.Restarted h →
-      GoesIn G (B d') (after_phase s p h).phase
+      GoesIn G (B d') (dfuse_after_phase s p h).phase
   new_goes (On at) h f g hears =
-      subst (λ y. GoesIn G (B d') (told s at.work at.place at.step y).phase) (sym hears)
+      subst (λ y. GoesIn G (B d') (dfuse_told s at.work at.place at.step y).phase) (sym hears)
       (restart_goes s G (B d') r at.work at.place at.step g)
   new_goes (Over rep) h f g hears = subst (λ (q : Phase). GoesIn G (B d') q) (sym f) tt
 
 module _ (chip : Chip) (l l' : Paired) (G : Work → Type 0) (B : Device → Type 0) (r : IsGroup l.session.plan G (B l'.device))
     (ok : DoneGoes chip l.session.plan G B l'.device) where
-  next_goes : (x : Seen) (row : SessionRow l.session x l'.session) → GoesIn G (B l'.device) (after l.session row.heard).phase →
+  next_goes : (x : Seen) (row : SessionRow l.session x l'.session) → GoesIn G (B l'.device) (dfuse_after l.session row.heard).phase →
       GoesIn G (B l'.device) l'.session.phase
   next_goes x row k = subst (λ (p : Phase). GoesIn G (B l'.device) p) (sym (ap (λ (t : Session). t.phase) row.same)) k
 
@@ -131,7 +132,7 @@ module _ (chip : Chip) (l l' : Paired) (G : Work → Type 0) (B : Device → Typ
   turn_goes x (sent q body reaction is comes seen row) g k =
       next_goes x row
       (sent_goes chip l.session G B l'.device r ok l.session.phase l.device row.heard reaction x g k
-      (subst (λ (y : Deed). ArrivesBy chip y l.device reaction l'.device) (sym is) comes) seen row.hears)
+      (subst (λ (y : DfuseDeed). ArrivesBy chip y l.device reaction l'.device) (sym is) comes) seen row.hears)
   turn_goes x (waited ms is same seen row) g k =
       next_goes x row (wait_goes chip l.session G B l'.device r ok l.session.phase row.heard ms g is)
   turn_goes x (histories.restarted mid any way rests changed seen row) g k =

@@ -11,7 +11,7 @@ use Rattle.dfuse_host.specs.declared.work.Work.{Work}
 use Rattle.dfuse_host.specs.declared.step.Step.{Step}
 use Rattle.dfuse_host.specs.declared.seen.Seen.{Seen}
 use Rattle.dfuse_host.specs.declared.seen.Seen.TheVariants as seen
-use Rattle.dfuse_host.specs.Wire.{ReadsStatus, ReadsState, HearsBytes, Hears}
+use Rattle.dfuse_host.specs.Wire.{DfuseReadsStatus, DfuseReadsState, DfuseHearsBytes, DfuseHears}
 use Rattle.dfuse_host.proofs.ForCallers.{AnyHeard, by_heard}
 use Rattle.dfuse_link.specs.Chips.{Chip, state_in, Device}
 use Rattle.dfuse_link.specs.Reactions.{Reaction, Acks, Data, Stalls, Reacts, stalls, tells, shows}
@@ -86,22 +86,24 @@ module _ (chip : Chip) where
 
 -- ---- what a session hears
 
-state_heard : (bytes : List ℕ) (h : AnyHeard) (t : State) → ReadsState bytes h → bytes ≡ state_byte t ∷ [] → SaysState h t
+state_heard : (bytes : List ℕ) (h : AnyHeard) (t : State) → DfuseReadsState bytes h → bytes ≡ state_byte t ∷ [] → SaysState h t
 state_heard bytes h t =
-    by_heard (λ x. ReadsState bytes x → bytes ≡ state_byte t ∷ [] → SaysState x t) (λ r e. tt) (λ s r e. absurd r)
+    by_heard (λ x. DfuseReadsState bytes x → bytes ≡ state_byte t ∷ [] → SaysState x t) (λ r e. tt) (λ s r e. absurd r)
     (λ s r e. one_state t s (ap (λ (xs : List ℕ). slice_index_or xs 0 0) (sym e ∙ r))) (λ b r e. tt) (λ r e. tt) (λ r e. tt) (λ r e. tt)
     (λ r e. tt) h
 
-status_heard : (bytes : List ℕ) (h : AnyHeard) (d : Device) → ReadsStatus bytes h → SendsStatus bytes d → SaysState h (state_in d.doing)
+status_heard : (bytes : List ℕ) (h : AnyHeard) (d : Device) → DfuseReadsStatus bytes h → SendsStatus bytes d →
+    SaysState h (state_in d.doing)
 status_heard bytes h d =
-    by_heard (λ x. ReadsStatus bytes x → SendsStatus bytes d → SaysState x (state_in d.doing)) (λ r e. tt)
+    by_heard (λ x. DfuseReadsStatus bytes x → SendsStatus bytes d → SaysState x (state_in d.doing)) (λ r e. tt)
     (λ s r e. sym e.same ∙ ap (λ (z : StatusFields). z.state) (IsStatus-one e.status s bytes e.is r)) (λ s r e. absurd r)
     (λ b r e. tt) (λ r e. tt) (λ r e. tt) (λ r e. tt) (λ r e. tt) h
 
 module _ (plan : Plan) (w : Work) (s : Step) (h : AnyHeard) (d : Device) where
   -- What is heard of GETSTATE.
-  pub says_state : ((bytes : List ℕ) → HearsBytes plan w s bytes h → ReadsState bytes h) → (r : Option Reaction) (x : Seen) → IsSeenOf r x →
-      StateSent r d → Hears plan w s x h → SaysState h (state_in d.doing)
+  pub says_state : ((bytes : List ℕ) → DfuseHearsBytes plan w s bytes h → DfuseReadsState bytes h) → (r : Option Reaction) (x : Seen) →
+      IsSeenOf r x →
+      StateSent r d → DfuseHears plan w s x h → SaysState h (state_in d.doing)
   says_state reads r seen.Ack is sent e = subst (λ x. SaysState x (state_in d.doing)) (sym e) tt
   says_state reads r seen.Stall is sent e = subst (λ x. SaysState x (state_in d.doing)) (sym e) tt
   says_state reads r seen.Nothing is sent e = subst (λ x. SaysState x (state_in d.doing)) (sym e) tt
@@ -114,9 +116,9 @@ module _ (plan : Plan) (w : Work) (s : Step) (h : AnyHeard) (d : Device) where
   says_state reads None (seen.Bytes given) is sent e = absurd is
 
   -- What is heard of GETSTATUS.
-  pub says_status : ((bytes : List ℕ) → HearsBytes plan w s bytes h → ReadsStatus bytes h) → (r : Option Reaction) (x : Seen) →
+  pub says_status : ((bytes : List ℕ) → DfuseHearsBytes plan w s bytes h → DfuseReadsStatus bytes h) → (r : Option Reaction) (x : Seen) →
       IsSeenOf r x →
-      StatusSent r d → Hears plan w s x h → SaysState h (state_in d.doing)
+      StatusSent r d → DfuseHears plan w s x h → SaysState h (state_in d.doing)
   says_status reads r seen.Ack is sent e = subst (λ x. SaysState x (state_in d.doing)) (sym e) tt
   says_status reads r seen.Stall is sent e = subst (λ x. SaysState x (state_in d.doing)) (sym e) tt
   says_status reads r seen.Nothing is sent e = subst (λ x. SaysState x (state_in d.doing)) (sym e) tt

@@ -13,8 +13,8 @@ use Rattle.dfuse_host.specs.declared.seen.Seen.{Seen}
 use Rattle.dfuse_host.specs.declared.seen.Seen.TheVariants as seen
 use Rattle.dfuse_host.specs.declared.session.Session.{Session}
 use Rattle.dfuse_host.specs.Settling.{stand}
-use Rattle.dfuse_host.specs.Sessions.{budgeted, spent, told}
-use Rattle.dfuse_host.specs.Wire.{Hears}
+use Rattle.dfuse_host.specs.Sessions.{dfuse_budgeted, dfuse_spent, dfuse_told}
+use Rattle.dfuse_host.specs.Wire.{DfuseHears}
 use Rattle.dfuse_host.proofs.ForCallers.{AnyHeard}
 use Rattle.dfuse_link.specs.CleanRuns.{IsClean, CleanSession, clean_so_far, clean_on, waits_in}
 use Rattle.dfuse_link.specs.Counts.{EndsCounted}
@@ -58,13 +58,13 @@ phase_as plan p q n u e l = subst (λ (x : Phase). Lasts plan x n u) (sym e) l
 pub record Onward (plan : Plan) (w : Work) (p : Place) (s : Step) (h : AnyHeard) (n u : ℕ) : Type 0 where
   pub next : Phase
   pub lasts : Lasts plan next n u
-  pub comes : (actions restarts : ℕ) → told (session_at plan (stand w p s) actions restarts) w p s h ≡
-      spent (session_at plan (stand w p s) actions restarts) next restarts
+  pub comes : (actions restarts : ℕ) → dfuse_told (session_at plan (stand w p s) actions restarts) w p s h ≡
+      dfuse_spent (session_at plan (stand w p s) actions restarts) next restarts
 
 -- ---- one thing more
 
 -- A session that is over in time isn't cut off by its budget.
-fits : (plan : Plan) (next : Phase) (n u left : ℕ) → Lasts plan next n u → n ≤ left → budgeted left next ≡ next
+fits : (plan : Plan) (next : Phase) (n u left : ℕ) → Lasts plan next n u → n ≤ left → dfuse_budgeted left next ≡ next
 fits plan (Over r) n u left l h = refl
 fits plan (On at) n u zero l h =
     absurd ((l.runs zero zero [] (session_at plan (On at) zero zero) h clean_so_far).enough (omega (arith, h)))
@@ -81,7 +81,7 @@ lasts_over plan = record { runs = λ actions restarts seens s less run. over_run
 
 module _ (plan : Plan) (w : Work) (p : Place) where
   on_runs : (s : Step) (n u k : ℕ) → ((x : Seen) → IsClean plan w s x → one_wait x ≡ k) →
-      ((x : Seen) (h : AnyHeard) → IsClean plan w s x → Hears plan w s x h → Onward plan w p s h n u) →
+      ((x : Seen) (h : AnyHeard) → IsClean plan w s x → DfuseHears plan w s x h → Onward plan w p s h n u) →
       (actions restarts : ℕ) (seens : List Seen) (s' : Session) → suc n ≤ actions →
       CleanSession (session_at plan (stand w p s) actions restarts) seens s' → EndsCounted plan (suc n) (k + u) seens s'
   on_runs s n u k waits on actions restarts _ _ less clean_so_far =
@@ -99,23 +99,24 @@ module _ (plan : Plan) (w : Work) (p : Place) where
       }
 
   pub lasts_on : (s : Step) (n u k : ℕ) → ((x : Seen) → IsClean plan w s x → one_wait x ≡ k) →
-      ((x : Seen) (h : AnyHeard) → IsClean plan w s x → Hears plan w s x h → Onward plan w p s h n u) →
+      ((x : Seen) (h : AnyHeard) → IsClean plan w s x → DfuseHears plan w s x h → Onward plan w p s h n u) →
       Lasts plan (stand w p s) (suc n) (k + u)
   lasts_on s n u k waits on = record { runs = on_runs s n u k waits on }
 
   pub asked : (s : Step) (n u : ℕ) → ((x : Seen) → IsClean plan w s x → one_wait x ≡ 0) →
-      ((x : Seen) (h : AnyHeard) → IsClean plan w s x → Hears plan w s x h → Onward plan w p s h n u) → Lasts plan (stand w p s) (suc n) u
+      ((x : Seen) (h : AnyHeard) → IsClean plan w s x → DfuseHears plan w s x h → Onward plan w p s h n u) →
+      Lasts plan (stand w p s) (suc n) u
   asked s n u waits on = count_as plan (stand w p s) (suc n) (suc n) (0 + u) u refl (omega arith) (lasts_on s n u 0 waits on)
 
   -- A request that is acknowledged.
   pub acked : (s : Step) (next : Phase) (n u : ℕ) → ((x : Seen) → IsClean plan w s x → x ≡ seen.Ack) →
-      ((h : AnyHeard) → Hears plan w s seen.Ack h → (actions restarts : ℕ) →
-      told (session_at plan (stand w p s) actions restarts) w p s h ≡
-      spent (session_at plan (stand w p s) actions restarts) next restarts) →
+      ((h : AnyHeard) → DfuseHears plan w s seen.Ack h → (actions restarts : ℕ) →
+      dfuse_told (session_at plan (stand w p s) actions restarts) w p s h ≡
+      dfuse_spent (session_at plan (stand w p s) actions restarts) next restarts) →
       Lasts plan next n u → Lasts plan (stand w p s) (suc n) u
   acked s next n u is comes l = asked s n u (λ x c. ap one_wait (is x c))
       (λ x h c hears. record {
         next = next;
         lasts = l;
-        comes = comes h (subst (λ (y : Seen). Hears plan w s y h) (is x c) hears);
+        comes = comes h (subst (λ (y : Seen). DfuseHears plan w s y h) (is x c) hears);
       })

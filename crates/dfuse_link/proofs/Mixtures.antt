@@ -9,7 +9,7 @@ use Rattle.dfuse_host.specs.declared.work.Work.TheVariants as work
 use Rattle.dfuse_host.specs.declared.seen.Seen.{Seen}
 use Rattle.dfuse_host.specs.declared.session.Session.{Session}
 use Rattle.dfuse_host.specs.ReadBack.{HasByte, WasRead, WasReadIn, OnlyReadBack, ClosesAlways}
-use Rattle.dfuse_host.specs.Sessions.{after}
+use Rattle.dfuse_host.specs.Sessions.{dfuse_after}
 use Rattle.dfuse_host.specs.Touching.{Touches, TouchesIn, TouchesAlways}
 use Rattle.dfuse_link.specs.Chips.{Chip, Device, Advances}
 use Rattle.dfuse_link.specs.Histories.{History, so_far, passes, turns}
@@ -160,7 +160,7 @@ module _ (one : OnePage) (read : OnlyReadBack) (closes : ClosesAlways) (always :
       let row = turn_row chip l l' x turn in
       let plan : l'.session.plan ≡ l.session.plan =
       ap (λ (t : Session). t.plan) row.same ∙ plan_after l.session l.session.phase row.heard in
-      let phase : l'.session.phase ≡ (after l.session row.heard).phase = ap (λ (t : Session). t.phase) row.same in
+      let phase : l'.session.phase ≡ (dfuse_after l.session row.heard).phase = ap (λ (t : Session). t.phase) row.same in
       let so = turn_so chip read closes l l' x turn k.so in
       let touches : TouchesIn l.session.plan l'.session.phase =
       subst (λ (p : Phase). TouchesIn l.session.plan p) (sym phase)

@@ -8,7 +8,7 @@ use Rattle.dfuse_host.specs.Images.{end_of, holds, element_at, next_byte}
 use Rattle.dfuse_host.specs.Plans.{element_end}
 use Rattle.dfuse_host.specs.Refusing.{has_empty, is_empty}
 use Rattle.dfuse_host.specs.ReadBack.{HasByte}
-use Rattle.dfuse_host.specs.Settling.{before, byte_in}
+use Rattle.dfuse_host.specs.Settling.{if_before, byte_in}
 
 -- ---- the next byte
 
@@ -80,7 +80,7 @@ before_by end b c true h f =
     (same, omega (arith, same, ltb-true b end h))
 before_by end b c false h f = cc
 
-before_is : (end c : ℕ) (o : Option ℕ) → before end o ≡ Some c → (o ≡ Some c) × (c < end)
+before_is : (end c : ℕ) (o : Option ℕ) → if_before end o ≡ Some c → (o ≡ Some c) × (c < end)
 before_is end c None h = cc
 before_is end c (Some b) h = let k = before_by end b c (ltb b end) refl h in (ap Some k.0, k.1)
 
@@ -99,7 +99,7 @@ byte_is plan at end c h f =
       from = n.from;
       to = b.1;
       has = n.has;
-      itself = ap (before end) n.itself ∙ ap (λ (t : Bool). cond t (Some c) None) (less c end b.1);
+      itself = ap (if_before end) n.itself ∙ ap (λ (t : Bool). cond t (Some c) None) (less c end b.1);
     }
 
 -- ---- the element of a byte

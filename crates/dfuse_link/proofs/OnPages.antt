@@ -12,7 +12,7 @@ use Rattle.dfuse_memory.specs.Lookups.{has, range_at, page_in, page_at, IsGrante
 use Rattle.dfuse_host.specs.declared.element.Element.{Element}
 use Rattle.dfuse_host.specs.declared.plan.Plan.{Plan}
 use Rattle.dfuse_host.specs.Plans.{page_of, page_start, page_end}
-use Rattle.dfuse_host.specs.Refusing.{EachGranted, IsSound, wants}
+use Rattle.dfuse_host.specs.Refusing.{EachGranted, IsSoundPlan, wants}
 use Rattle.dfuse_host.specs.ReadBack.{HasByte}
 
 -- ---- ranges
@@ -28,7 +28,7 @@ no_range a q h = cc
 -- A range that is found has the address.
 record IsInRange (a : ℕ) (q : Pages) (ps : List Pages) : Type 0 where
   low : q.start ≤ a
-  high : a < ranges.end_of q
+  high : a < ranges.end_of_range q
   range : All IsRange ps → IsRange q
 
 in_by : (a : ℕ) (p q : Pages) (ps : List Pages) (t : Bool) → has a p ≡ t → (range_at a ps ≡ Some q → IsInRange a q ps) →
@@ -123,7 +123,7 @@ page_of_range plan a wanted None e all granted = absurd granted
 page_of_range plan a wanted (Some q) e all granted =
     record { page = page_in a q; on = on_page plan a (page_in a q) all (ap (option_map (page_in a)) e) }
 
-pub has_page : (plan : Plan) (a : ℕ) → IsSound plan → All IsRange plan.map.now.ranges → HasByte a plan.image.now → HasPage plan a
+pub has_page : (plan : Plan) (a : ℕ) → IsSoundPlan plan → All IsRange plan.map.now.ranges → HasByte a plan.image.now → HasPage plan a
 has_page plan a sound all b =
     page_of_range plan a (wants false false false) (range_at a plan.map.now.ranges) refl all
     (granted_at (wants false false false) a plan.map.now.ranges plan.image.now sound.0.0.0.1 b)

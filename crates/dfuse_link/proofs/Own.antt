@@ -15,7 +15,7 @@ use Rattle.dfuse_host.specs.declared.seen.Seen.{Seen}
 use Rattle.dfuse_host.specs.declared.seen.Seen.TheVariants as seen
 use Rattle.dfuse_host.specs.Settling.{settle}
 use Rattle.dfuse_host.specs.Table.{state_found, on_abort, on_ask_state, on_clear_wait}
-use Rattle.dfuse_host.specs.Wire.{ReadsState, Hears}
+use Rattle.dfuse_host.specs.Wire.{DfuseReadsState, DfuseHears}
 use Rattle.dfuse_host.proofs.ForCallers.{AnyHeard, by_heard}
 use Rattle.dfuse_link.specs.Chips.{Chip, Order, Doing, Rests, Pending, Busy, state_in, Device}
 use Rattle.dfuse_link.specs.Reactions.{Reaction, Acks, Data, Stalls, Reacts, stalls, shows, aborts, clears}
@@ -140,14 +140,14 @@ module _ (chip : Chip) (a : ℕ) where
       by_heard (λ _. Type 0) (Unit {0}) (λ s. Unit {0}) (λ s. Unit {0}) (λ b. Unit {0}) (SafeAt chip a doing) (Unit {0}) (Unit {0})
       (Unit {0}) h
 
-  no_stall : (bytes : List ℕ) (h : AnyHeard) (doing : Doing) → ReadsState bytes h → StallSafe h doing
+  no_stall : (bytes : List ℕ) (h : AnyHeard) (doing : Doing) → DfuseReadsState bytes h → StallSafe h doing
   no_stall bytes h doing =
-      by_heard (λ x. ReadsState bytes x → StallSafe x doing) (λ e. tt) (λ s e. tt) (λ s e. tt) (λ b e. tt) (λ e. absurd e) (λ e. tt)
+      by_heard (λ x. DfuseReadsState bytes x → StallSafe x doing) (λ e. tt) (λ s e. tt) (λ s e. tt) (λ b e. tt) (λ e. absurd e) (λ e. tt)
       (λ e. tt) (λ e. tt) h
 
   pub stall_heard : (plan : Plan) (w : Work) (h : AnyHeard) (d : Device) (body : List ℕ) (r : Option Reaction) (d' : Device) (x : Seen) →
       IsSeenOf r x →
-      Arrives chip (request.GetState 1) body d r d' → Hears plan w step.AskState x h → IsNow chip a d.doing → StallSafe h d'.doing
+      Arrives chip (request.GetState 1) body d r d' → DfuseHears plan w step.AskState x h → IsNow chip a d.doing → StallSafe h d'.doing
   stall_heard plan w h d body (Some Stalls) d' seen.Stall is comes e now =
       subst (λ y. StallSafe y d'.doing) (sym e) (stalled_now d 1 body d' comes now)
   stall_heard plan w h d body (Some Acks) d' seen.Stall is comes e now = absurd is

@@ -13,7 +13,7 @@ use Rattle.dfuse_host.specs.declared.report.Report.TheVariants as report
 use Rattle.dfuse_host.specs.declared.report.Leaving.TheVariants as leaving
 use Rattle.dfuse_host.specs.Commands.{command_of, unsure}
 use Rattle.dfuse_host.specs.Table.{row}
-use Rattle.dfuse_host.specs.Sessions.{budgeted, spent_at, resumed, restarted, restarted_leaving, restarted_in, told}
+use Rattle.dfuse_host.specs.Sessions.{dfuse_budgeted, spent_at, resumed, dfuse_restarted, restarted_leaving, restarted_in, dfuse_told}
 use Rattle.dfuse_host.proofs.ForCallers.{AnyCommand, by_command, AnyHeard, by_heard}
 use Rattle.dfuse_link.specs.Chips.{Chip, Doing}
 use Rattle.dfuse_link.proofs.Changes.{IsNow}
@@ -24,7 +24,7 @@ module _ (chip : Chip) (a : ℕ) (doing : Doing) (now : IsNow chip a doing) wher
   spent_own work.Leave s = now
   spent_own w s = now
 
-  budgeted_own : (n : ℕ) (p : Phase) → OwnIn chip a p doing → OwnIn chip a (budgeted n p) doing
+  budgeted_own : (n : ℕ) (p : Phase) → OwnIn chip a p doing → OwnIn chip a (dfuse_budgeted n p) doing
   budgeted_own n (Over r) own = now
   budgeted_own zero (On s) own = spent_own s.work s.step
   budgeted_own (suc n) (On s) own = own
@@ -37,7 +37,7 @@ module _ (chip : Chip) (a : ℕ) (doing : Doing) (now : IsNow chip a doing) wher
   resumed_own plan w p (step.PollWait ms) = unsure_own plan w (command_of plan w p)
   resumed_own plan w p s = now
 
-  restarted_own : (s : Session) (p : Phase) (n : ℕ) → OwnIn chip a p doing → OwnIn chip a (restarted s p n).phase doing
+  restarted_own : (s : Session) (p : Phase) (n : ℕ) → OwnIn chip a p doing → OwnIn chip a (dfuse_restarted s p n).phase doing
   restarted_own s p zero own = budgeted_own (pred s.actions) (Over report.RestartsSpent) now
   restarted_own s p (suc n) own = budgeted_own (pred s.actions) p own
 
@@ -52,9 +52,9 @@ module _ (chip : Chip) (a : ℕ) (doing : Doing) (now : IsNow chip a doing) wher
   restart_own s w p at = restarted_own s (resumed s.plan w p at) s.restarts (resumed_own s.plan w p at)
 
   pub told_own : (s : Session) (w : Work) (p : Place) (at : Step) (h : AnyHeard) → OwnIn chip a (row s.plan w p at h) doing →
-      OwnIn chip a (told s w p at h).phase doing
+      OwnIn chip a (dfuse_told s w p at h).phase doing
   told_own s w p at h =
-      by_heard (λ x. OwnIn chip a (row s.plan w p at x) doing → OwnIn chip a (told s w p at x).phase doing)
+      by_heard (λ x. OwnIn chip a (row s.plan w p at x) doing → OwnIn chip a (dfuse_told s w p at x).phase doing)
       (λ k. budgeted_own (pred s.actions) _ k) (λ t k. budgeted_own (pred s.actions) _ k) (λ t k. budgeted_own (pred s.actions) _ k)
       (λ b k. budgeted_own (pred s.actions) _ k) (λ k. budgeted_own (pred s.actions) _ k) (λ k. budgeted_own (pred s.actions) _ k)
       (λ k. budgeted_own (pred s.actions) _ k) (λ k. restart_own s w p at) h

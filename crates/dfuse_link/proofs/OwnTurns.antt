@@ -8,7 +8,7 @@ use Rattle.dfuse_host.specs.declared.session.Session.{Session}
 use Rattle.dfuse_host.specs.Refusing.{is_empty}
 use Rattle.dfuse_host.specs.ReadBack.{OnlyReadBack, ClosesAlways}
 use Rattle.dfuse_host.specs.Touching.{Touches, TouchesIn, TouchesAlways, OnlyTouched}
-use Rattle.dfuse_host.specs.Sessions.{begun, after}
+use Rattle.dfuse_host.specs.Sessions.{dfuse_begun, dfuse_after}
 use Rattle.dfuse_link.specs.Chips.{Chip, Order, Doing, Busy, Device, Advances}
 use Rattle.dfuse_link.specs.Histories.{History, so_far, passes, turns}
 use Rattle.dfuse_link.specs.Promises.{IsFor}
@@ -52,7 +52,7 @@ module _ (read : OnlyReadBack) (closes : ClosesAlways) (always : TouchesAlways) 
       let row = turn_row chip l l' x turn in
       let plan : l.session.plan ≡ l'.session.plan =
       sym (ap (λ (t : Session). t.plan) row.same ∙ plan_after l.session l.session.phase row.heard) in
-      let phase : (after l.session row.heard).phase ≡ l'.session.phase = sym (ap (λ (t : Session). t.phase) row.same) in
+      let phase : (dfuse_after l.session row.heard).phase ≡ l'.session.phase = sym (ap (λ (t : Session). t.phase) row.same) in
       let touches = always.1 l.session row.heard (is_filled chip l.session.plan k.so.for) k.so.closes k.touches in
       let stays = turn_stays chip a (Touches l.session.plan) l l'
       (λ w p at d t. step_none only chip l.session.plan a k.apart k.so.for w p at d t) x turn
@@ -61,7 +61,7 @@ module _ (read : OnlyReadBack) (closes : ClosesAlways) (always : TouchesAlways) 
         so = turn_so chip read closes l l' x turn k.so;
         apart = subst (λ (q : Plan). Apart chip q a) plan k.apart;
         touches = subst (λ (p : Phase). TouchesIn l'.session.plan p) phase
-            (subst (λ (q : Plan). TouchesIn q (after l.session row.heard).phase) plan touches);
+            (subst (λ (q : Plan). TouchesIn q (dfuse_after l.session row.heard).phase) plan touches);
         own = stays.own;
         byte = stays.byte ∙ k.byte;
       }
@@ -91,7 +91,7 @@ idle_now chip a doing idle = tt
 
 pub others_stay : OnlyReadBack → ClosesAlways → TouchesAlways → OnlyTouched → OthersStay
 others_stay read closes always only chip plan limits d d' s seens a for map idle history untouched =
-    (history_kept read closes always only chip a d d d' (begun plan limits) s seens history (record {
+    (history_kept read closes always only chip a d d d' (dfuse_begun plan limits) s seens history (record {
       so = begins_so chip plan limits d for;
       apart = record { untouched = untouched; map = map };
       touches = always.0 plan limits (is_filled chip plan for);

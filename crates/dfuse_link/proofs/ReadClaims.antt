@@ -19,7 +19,7 @@ use Rattle.dfuse_host.specs.Commands.{end_of_work, bytes_in}
 use Rattle.dfuse_host.specs.Deeds.{stands_at, read_bytes, upload_block, deed_of}
 use Rattle.dfuse_host.specs.Refusing.{apart_from}
 use Rattle.dfuse_host.specs.ReadBack.{ReadsBack}
-use Rattle.dfuse_host.specs.Wire.{Hears, compared}
+use Rattle.dfuse_host.specs.Wire.{DfuseHears, compared}
 use Rattle.dfuse_host.proofs.ForCallers.{AnyHeard, compared_as, heard_nothing}
 use Rattle.dfuse_link.specs.Chips.{Chip, Device}
 use Rattle.dfuse_link.specs.Reactions.{Reaction, Acks, Data, Stalls, StandsAt, Reacts, gives, lists}
@@ -230,7 +230,7 @@ module _ (chip : Chip) (plan : Plan) (w : Work) (a : ℕ) (transfer : plan.trans
 
   -- A byte that a session has just read back is the image's, and safe.
   pub read_right : (p : Place) (d d' : Device) (h : AnyHeard) (r : Option Reaction) (x : Seen) → Stands chip plan w p step.Read d →
-      ArrivesBy chip (deed_of plan w p step.Read) d r d' → IsSeenOf r x → Hears plan w step.Read x h → ReadsBack plan w step.Read h a →
+      ArrivesBy chip (deed_of plan w p step.Read) d r d' → IsSeenOf r x → DfuseHears plan w step.Read x h → ReadsBack plan w step.Read h a →
       (d'.memory a ≡ byte_at a plan.image.now) × SafeAt chip a d'.doing
   read_right p d d' h (Some (Data bytes)) (seen.Bytes given) k comes is e reads =
       read_by p d d' h (Some (Data bytes)) given.now bytes k comes is e reads

@@ -10,7 +10,7 @@ use Rattle.dfuse_host.specs.declared.work.Work.TheVariants as work
 use Rattle.dfuse_host.specs.declared.place.Place.{Place}
 use Rattle.dfuse_host.specs.declared.place.Place.TheVariants as place
 use Rattle.dfuse_host.specs.Commands.{command_of}
-use Rattle.dfuse_host.specs.Table.{state_found, ends_comparing, fault_found, status_found, on_abort, on_ask_state, on_ask_status, on_clear_wait, on_send, probed, on_probe, refused, polled, on_poll, on_poll_wait, begun, ended, on_begin_reading, on_end_reading, read_on, on_read, on_close, close_probed, on_close_probe, close_polled, on_close_poll}
+use Rattle.dfuse_host.specs.Table.{state_found, ends_comparing, fault_found, status_found, on_abort, on_ask_state, on_ask_status, on_clear_wait, on_send, probed, on_probe, refused, polled, on_poll, on_poll_wait, reading_begun, reading_ended, on_begin_reading, on_end_reading, read_on, on_read, on_close, close_probed, on_close_probe, close_polled, on_close_poll}
 use Rattle.dfuse_host.proofs.ForCallers.{AnyHeard, compared_as, by_heard}
 use Rattle.dfuse_link.specs.Chips.{Chip, Device, state_in}
 use Rattle.dfuse_link.proofs.Claims.{IsQuiet, Knows, MayHave, Has, CanRead, StandsIn, SaysState}
@@ -18,11 +18,11 @@ use Rattle.dfuse_link.proofs.SentClaims.{AckHas}
 use Rattle.dfuse_link.proofs.Deviced.{idle_quiet, told_done, synced_has}
 use Rattle.dfuse_link.proofs.SettlingClaims.{at_settle, at_done, at_unsure}
 
-begun_known : (p : Place) (pointer : ℕ) → Knows p pointer → Knows (begun p) pointer
+begun_known : (p : Place) (pointer : ℕ) → Knows p pointer → Knows (reading_begun p) pointer
 begun_known (place.At p) pointer k = k
 begun_known p pointer k = k
 
-ended_known : (p : Place) (pointer : ℕ) → Knows p pointer → Knows (ended p) pointer
+ended_known : (p : Place) (pointer : ℕ) → Knows p pointer → Knows (reading_ended p) pointer
 ended_known (place.Reading p) pointer k = k
 ended_known p pointer k = k
 
@@ -120,14 +120,14 @@ module _ (chip : Chip) (plan : Plan) (w : Work) (p : Place) (d : Device) where
   pub begin_row : (h : AnyHeard) → IsQuiet d.doing × Knows p d.pointer → StandsIn chip plan (on_begin_reading plan w p h) d
   begin_row h k =
       by_heard (λ x. StandsIn chip plan (on_begin_reading plan w p x) d)
-      (at_settle chip plan d k.0 w (begun p) (begun_known p d.pointer k.1))
+      (at_settle chip plan d k.0 w (reading_begun p) (begun_known p d.pointer k.1))
       (λ s. k) (λ s. k) (λ b. k)
       tt k k k h
 
   pub end_row : (h : AnyHeard) → IsQuiet d.doing × Knows p d.pointer → StandsIn chip plan (on_end_reading plan w p h) d
   end_row h k =
       by_heard (λ x. StandsIn chip plan (on_end_reading plan w p x) d)
-      (at_settle chip plan d k.0 w (ended p) (ended_known p d.pointer k.1)) (λ s. k)
+      (at_settle chip plan d k.0 w (reading_ended p) (ended_known p d.pointer k.1)) (λ s. k)
       (λ s. k) (λ b. k)
       tt k k k h
 

@@ -2,7 +2,7 @@
 use Rattle.std.proofs.Common.{[], ◌∷◌, arith}
 use Rattle.dfuse_host.specs.declared.seen.Seen.{Seen}
 use Rattle.dfuse_host.specs.Budget.{OverInTime}
-use Rattle.dfuse_host.specs.Sessions.{SessionRow, seen_all, sees, begun}
+use Rattle.dfuse_host.specs.Sessions.{SessionRow, seen_all, sees, dfuse_begun}
 use Rattle.dfuse_link.specs.Chips.{Chip}
 use Rattle.dfuse_link.specs.Histories.{sent, waited, restarted, so_far, passes, turns}
 use Rattle.dfuse_link.specs.Promises.{HistoriesAreRows, EndsInTime}
@@ -22,4 +22,5 @@ histories_are_rows chip d d' s s' (x ∷ seens) (turns {mid = mid} {at = at} tur
 
 pub ends_in_time : OverInTime → EndsInTime
 ends_in_time in_time chip plan limits d d' s seens history enough =
-    in_time (begun plan limits) s seens (histories_are_rows chip d d' (begun plan limits) s seens history) (omega (arith, enough))
+    in_time (dfuse_begun plan limits) s seens (histories_are_rows chip d d' (dfuse_begun plan limits) s seens history)
+    (omega (arith, enough))

@@ -16,7 +16,7 @@ use Rattle.dfuse_host.specs.declared.step.Step.TheVariants as step
 use Rattle.dfuse_host.specs.Images.{element_at}
 use Rattle.dfuse_host.specs.Plans.{front_end, write_end}
 use Rattle.dfuse_host.specs.Commands.{writing, bytes_in}
-use Rattle.dfuse_host.specs.Deeds.{Deed, Send, Wait, Done, sends, deed_of}
+use Rattle.dfuse_host.specs.Deeds.{DfuseDeed, Send, Wait, Done, sends, deed_of}
 use Rattle.dfuse_host.specs.ReadBack.{WasRead}
 use Rattle.dfuse_host.proofs.ForCallers.{set_address, write_at}
 use Rattle.dfuse_link.specs.Chips.{Chip, Order, Doing, Rests, Pending, Busy, Device, ChangedBy, Advances, goes_on, ends, fails}
@@ -133,7 +133,7 @@ module _ (chip : Chip) (a : ℕ) where
 -- ---- what a session sends
 
 -- An action brings no order that may change the byte.
-abbrev pub DeedBringsNone : Chip → (a : ℕ) → Deed → (pointer : ℕ) → Type 0
+abbrev pub DeedBringsNone : Chip → (a : ℕ) → DfuseDeed → (pointer : ℕ) → Type 0
 DeedBringsNone chip a (Send q body) pointer = BringsNone chip a q body pointer
 DeedBringsNone chip a (Wait ms) pointer = Unit {0}
 DeedBringsNone chip a (Done report) pointer = Unit {0}

@@ -13,7 +13,7 @@ use Rattle.dfuse_host.specs.declared.report.Report.TheVariants as report
 use Rattle.dfuse_host.specs.declared.report.Leaving.TheVariants as leaving
 use Rattle.dfuse_host.specs.Commands.{command_of}
 use Rattle.dfuse_host.specs.Table.{row}
-use Rattle.dfuse_host.specs.Sessions.{budgeted, spent_at, resumed, restarted, restarted_leaving, restarted_in, told, after_phase}
+use Rattle.dfuse_host.specs.Sessions.{dfuse_budgeted, spent_at, resumed, dfuse_restarted, restarted_leaving, restarted_in, dfuse_told, dfuse_after_phase}
 use Rattle.dfuse_host.proofs.ForCallers.{AnyHeard, by_heard}
 use Rattle.dfuse_link.specs.Chips.{Chip, Device}
 use Rattle.dfuse_link.proofs.Claims.{StandsIn}
@@ -21,7 +21,7 @@ use Rattle.dfuse_link.proofs.SettlingClaims.{at_unsure}
 
 -- ---- a session keeps its plan
 
-plan_restarted : (s : Session) (p : Phase) (n : ℕ) → (restarted s p n).plan ≡ s.plan
+plan_restarted : (s : Session) (p : Phase) (n : ℕ) → (dfuse_restarted s p n).plan ≡ s.plan
 plan_restarted s p zero = refl
 plan_restarted s p (suc n) = refl
 
@@ -35,11 +35,11 @@ plan_restart : (s : Session) (w : Work) (p : Place) (at : Step) → (restarted_i
 plan_restart s work.Leave p at = plan_leaving s p at
 plan_restart s w p at = plan_restarted s (resumed s.plan w p at) s.restarts
 
-plan_told : (s : Session) (w : Work) (p : Place) (at : Step) (h : AnyHeard) → (told s w p at h).plan ≡ s.plan
+plan_told : (s : Session) (w : Work) (p : Place) (at : Step) (h : AnyHeard) → (dfuse_told s w p at h).plan ≡ s.plan
 plan_told s w p at h =
-    by_heard (λ x. (told s w p at x).plan ≡ s.plan) refl (λ t. refl) (λ t. refl) (λ b. refl) refl refl refl (plan_restart s w p at) h
+    by_heard (λ x. (dfuse_told s w p at x).plan ≡ s.plan) refl (λ t. refl) (λ t. refl) (λ b. refl) refl refl refl (plan_restart s w p at) h
 
-pub plan_after : (s : Session) (p : Phase) (h : AnyHeard) → (after_phase s p h).plan ≡ s.plan
+pub plan_after : (s : Session) (p : Phase) (h : AnyHeard) → (dfuse_after_phase s p h).plan ≡ s.plan
 plan_after s (Over r) h = refl
 plan_after s (On at) h = plan_told s at.work at.place at.step h
 
@@ -50,7 +50,7 @@ module _ (chip : Chip) (plan : Plan) (d : Device) where
   at_spent work.Leave s = tt
   at_spent w s = tt
 
-  at_budgeted : (n : ℕ) (p : Phase) → StandsIn chip plan p d → StandsIn chip plan (budgeted n p) d
+  at_budgeted : (n : ℕ) (p : Phase) → StandsIn chip plan p d → StandsIn chip plan (dfuse_budgeted n p) d
   at_budgeted n (Over r) h = tt
   at_budgeted zero (On s) h = at_spent s.work s.step
   at_budgeted (suc n) (On s) h = h
@@ -61,7 +61,7 @@ module _ (chip : Chip) (s : Session) (d : Device) where
   at_resumed w p (step.PollWait ms) = at_unsure chip s.plan d w (command_of s.plan w p)
   at_resumed w p at = tt
 
-  at_restarted : (p : Phase) (n : ℕ) → StandsIn chip s.plan p d → StandsIn chip s.plan (restarted s p n).phase d
+  at_restarted : (p : Phase) (n : ℕ) → StandsIn chip s.plan p d → StandsIn chip s.plan (dfuse_restarted s p n).phase d
   at_restarted p zero h = at_budgeted chip s.plan d (pred s.actions) (Over report.RestartsSpent) tt
   at_restarted p (suc n) h = at_budgeted chip s.plan d (pred s.actions) p h
 
@@ -77,15 +77,16 @@ module _ (chip : Chip) (s : Session) (d : Device) where
 
   -- Behind what is heard, all is as the table's row says, and behind a restart nothing is claimed.
   pub told_claims : (w : Work) (p : Place) (at : Step) (h : AnyHeard) → StandsIn chip s.plan (row s.plan w p at h) d →
-      StandsIn chip s.plan (told s w p at h).phase d
+      StandsIn chip s.plan (dfuse_told s w p at h).phase d
   told_claims w p at h =
-      by_heard (λ x. StandsIn chip s.plan (row s.plan w p at x) d → StandsIn chip s.plan (told s w p at x).phase d)
+      by_heard (λ x. StandsIn chip s.plan (row s.plan w p at x) d → StandsIn chip s.plan (dfuse_told s w p at x).phase d)
       (λ k. at_budgeted chip s.plan d (pred s.actions) _ k) (λ t k. at_budgeted chip s.plan d (pred s.actions) _ k)
       (λ t k. at_budgeted chip s.plan d (pred s.actions) _ k)
       (λ b k. at_budgeted chip s.plan d (pred s.actions) _ k) (λ k. at_budgeted chip s.plan d (pred s.actions) _ k)
       (λ k. at_budgeted chip s.plan d (pred s.actions) _ k)
       (λ k. at_budgeted chip s.plan d (pred s.actions) _ k) (λ k. at_restart w p at) h
 
-  pub restarted_claims : (w : Work) (p : Place) (at : Step) (h x : AnyHeard) → h ≡ x → StandsIn chip s.plan (told s w p at x).phase d →
-      StandsIn chip s.plan (told s w p at h).phase d
-  restarted_claims w p at h x e k = subst (λ y. StandsIn chip s.plan (told s w p at y).phase d) (sym e) k
+  pub restarted_claims : (w : Work) (p : Place) (at : Step) (h x : AnyHeard) → h ≡ x →
+      StandsIn chip s.plan (dfuse_told s w p at x).phase d →
+      StandsIn chip s.plan (dfuse_told s w p at h).phase d
+  restarted_claims w p at h x e k = subst (λ y. StandsIn chip s.plan (dfuse_told s w p at y).phase d) (sym e) k

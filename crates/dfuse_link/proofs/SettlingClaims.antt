@@ -9,7 +9,7 @@ use Rattle.dfuse_host.specs.declared.step.Step.TheVariants as step
 use Rattle.dfuse_host.specs.Images.{image_start, image_end}
 use Rattle.dfuse_host.specs.Plans.{front_end, page_end, write_end}
 use Rattle.dfuse_host.specs.Settling.{stand, byte_in, can_read, sending, comparing, leaving_by, staying, to_leave, compare_front_or, to_compare_front, write_front_or, to_write_front, compare_or, to_compare, write_or, to_write, erase_or, to_erase, settle}
-use Rattle.dfuse_host.specs.Commands.{command_of, done, erased, written, unsure}
+use Rattle.dfuse_host.specs.Commands.{command_of, done, erased, after_write, unsure}
 use Rattle.dfuse_host.specs.Deeds.{stands_at}
 use Rattle.dfuse_host.proofs.ForCallers.{AnyCommand, by_command}
 use Rattle.dfuse_link.specs.Chips.{Chip, Device}
@@ -115,7 +115,7 @@ module _ (chip : Chip) (plan : Plan) (d : Device) (quiet : IsQuiet d.doing) wher
   at_erased (work.EraseAgain page end) at = at_write place.Lost _ end tt
   at_erased w at = at_erase place.Lost (page_end plan at) tt
 
-  at_written : (w : Work) (at : ℕ) → StandsIn chip plan (written plan w at) d
+  at_written : (w : Work) (at : ℕ) → StandsIn chip plan (after_write plan w at) d
   at_written (work.Write from end) at = at_write place.Lost _ end tt
   at_written w at = at_write_front place.Lost (write_end plan at (front_end plan)) tt
 

@@ -8,10 +8,10 @@ use Rattle.dfuse_host.specs.declared.step.Step.{Step}
 use Rattle.dfuse_host.specs.declared.step.Step.TheVariants as step
 use Rattle.dfuse_host.specs.declared.seen.Seen.{Seen}
 use Rattle.dfuse_host.specs.declared.session.Session.{Session}
-use Rattle.dfuse_host.specs.Deeds.{Deed, Wait, deed, deed_of}
+use Rattle.dfuse_host.specs.Deeds.{DfuseDeed, Wait, dfuse_deed, deed_of}
 use Rattle.dfuse_host.specs.Table.{row}
-use Rattle.dfuse_host.specs.Wire.{Hears}
-use Rattle.dfuse_host.specs.Sessions.{told, after, after_phase, HearsIn, SessionRow}
+use Rattle.dfuse_host.specs.Wire.{DfuseHears}
+use Rattle.dfuse_host.specs.Sessions.{dfuse_told, dfuse_after, dfuse_after_phase, HearsIn, SessionRow}
 use Rattle.dfuse_host.proofs.ForCallers.{AnyHeard}
 use Rattle.dfuse_link.specs.Chips.{Chip, Order, Doing, Busy, Device, Advances}
 use Rattle.dfuse_link.specs.Reactions.{Reaction}
@@ -64,16 +64,16 @@ module _ (chip : Chip) (s : Session) (a : ℕ) (Q : Work → Type 0)
   step_stays w p at d r d' touches k comes own = safe_stays d d' (step_safe w p at d r d' touches k comes own)
 
   pub phase_stays : (p : Phase) (d : Device) (r : Option Reaction) (d' : Device) → InPhase Q p → StandsIn chip s.plan p d →
-      ArrivesBy chip (deed s.plan p) d r d' → OwnIn chip a p d.doing → Stays chip a d d'
+      ArrivesBy chip (dfuse_deed s.plan p) d r d' → OwnIn chip a p d.doing → Stays chip a d d'
   phase_stays (On at) d r d' touches k comes own = step_stays at.work at.place at.step d r d' touches k comes own
   phase_stays (Over rep) d r d' touches k comes own = absurd comes
 
   -- What is so of the byte in the phase that follows.
   step_owns : (w : Work) (p : Place) (at : Step) (d : Device) (r : Option Reaction) (d' : Device) (h : AnyHeard) (x : Seen) →
       Q w →
-      Stands chip s.plan w p at d → ArrivesBy chip (deed_of s.plan w p at) d r d' → IsSeenOf r x → Hears s.plan w at x h →
+      Stands chip s.plan w p at d → ArrivesBy chip (deed_of s.plan w p at) d r d' → IsSeenOf r x → DfuseHears s.plan w at x h →
       OwnAt chip a at d.doing →
-      OwnIn chip a (told s w p at h).phase d'.doing
+      OwnIn chip a (dfuse_told s w p at h).phase d'.doing
   step_owns w p step.Abort d r d' h x touches k comes is hears own =
       let now = (aborts_now chip a _ d r d' comes).now own in told_own chip a d'.doing now s w p step.Abort h
       (abort_own chip a w d'.doing h now)
@@ -86,28 +86,29 @@ module _ (chip : Chip) (s : Session) (a : ℕ) (Q : Work → Type 0)
   step_owns w p (step.ClearWait ms) d r d' h x touches k comes is hears own = absurd comes
   step_owns w p step.ClearStatus d r d' h x touches k comes is hears own =
       let now = (clears_now chip a _ d r d' comes).now own in told_own chip a d'.doing now s w p step.ClearStatus h now
-  step_owns w p at d r d' h x touches k comes is hears own = phase_own chip a (told s w p at h).phase d'.doing
+  step_owns w p at d r d' h x touches k comes is hears own = phase_own chip a (dfuse_told s w p at h).phase d'.doing
       (step_safe w p at d r d' touches k comes own).safe
 
   pub phase_owns : (p : Phase) (d : Device) (r : Option Reaction) (d' : Device) (h : AnyHeard) (x : Seen) → InPhase Q p →
       StandsIn chip s.plan p d →
-      ArrivesBy chip (deed s.plan p) d r d' → IsSeenOf r x → HearsIn s.plan p x h → OwnIn chip a p d.doing →
-      OwnIn chip a (after_phase s p h).phase d'.doing
+      ArrivesBy chip (dfuse_deed s.plan p) d r d' → IsSeenOf r x → HearsIn s.plan p x h → OwnIn chip a p d.doing →
+      OwnIn chip a (dfuse_after_phase s p h).phase d'.doing
   phase_owns (On at) d r d' h x touches k comes is hears own = step_owns at.work at.place at.step d r d' h x touches k comes is hears own
   phase_owns (Over rep) d r d' h x touches k comes is hears own = absurd comes
 
   wait_owns : (w : Work) (p : Place) (at : Step) (doing : Doing) (h : AnyHeard) (ms : ℕ) → deed_of s.plan w p at ≡ Wait ms →
       OwnAt chip a at doing →
-      OwnIn chip a (told s w p at h).phase doing
+      OwnIn chip a (dfuse_told s w p at h).phase doing
   wait_owns w p (step.ClearWait m) doing h ms e own =
       told_own chip a doing own s w p (step.ClearWait m) h (clear_wait_own chip a w m doing h own)
   wait_owns w p step.Abort doing h ms e own = cc
   wait_owns w p step.AskState doing h ms e own = cc
   wait_owns w p step.ClearStatus doing h ms e own = cc
-  wait_owns w p at doing h ms e own = phase_own chip a (told s w p at h).phase doing own
+  wait_owns w p at doing h ms e own = phase_own chip a (dfuse_told s w p at h).phase doing own
 
-  pub phase_waits : (p : Phase) (doing : Doing) (h : AnyHeard) (ms : ℕ) → s.phase ≡ p → deed s.plan p ≡ Wait ms → OwnIn chip a p doing →
-      OwnIn chip a (after_phase s p h).phase doing
+  pub phase_waits : (p : Phase) (doing : Doing) (h : AnyHeard) (ms : ℕ) → s.phase ≡ p → dfuse_deed s.plan p ≡ Wait ms →
+      OwnIn chip a p doing →
+      OwnIn chip a (dfuse_after_phase s p h).phase doing
   phase_waits (On at) doing h ms f e own = wait_owns at.work at.place at.step doing h ms e own
   phase_waits (Over r) doing h ms f e own = cc
 
@@ -115,7 +116,7 @@ module _ (chip : Chip) (s : Session) (a : ℕ) (Q : Work → Type 0)
       Stays chip a d mid
   under_way d _ none touches k own = record { byte = refl; now = own_now chip a s.phase d.doing own }
   under_way d mid (request {reaction = reaction} q body is comes) touches k own =
-      phase_stays s.phase d reaction mid touches k (subst (λ (x : Deed). ArrivesBy chip x d reaction mid) (sym is) comes) own
+      phase_stays s.phase d reaction mid touches k (subst (λ (x : DfuseDeed). ArrivesBy chip x d reaction mid) (sym is) comes) own
 
 -- ---- a turn
 
@@ -126,7 +127,7 @@ pub record TurnStays (chip : Chip) (a : ℕ) (l l' : Paired) : Type 0 where
 
 module _ (chip : Chip) (a : ℕ) where
   own_next : (l l' : Paired) (x : Seen) (row : SessionRow l.session x l'.session) →
-      OwnIn chip a (after l.session row.heard).phase l'.device.doing → OwnIn chip a l'.session.phase l'.device.doing
+      OwnIn chip a (dfuse_after l.session row.heard).phase l'.device.doing → OwnIn chip a l'.session.phase l'.device.doing
   own_next l l' x row own =
       subst (λ (p : Phase). OwnIn chip a p l'.device.doing) (sym (ap (λ (t : Session). t.phase) row.same)) own
 
@@ -136,7 +137,7 @@ module _ (chip : Chip) (a : ℕ) where
     pub turn_stays : (x : Seen) → Turned chip l x l' → InPhase Q l.session.phase →
         StandsIn chip l.session.plan l.session.phase l.device → OwnIn chip a l.session.phase l.device.doing → TurnStays chip a l l'
     turn_stays x (sent q body reaction is comes seen row) touches k own =
-        let by = subst (λ (y : Deed). ArrivesBy chip y l.device reaction l'.device) (sym is) comes in
+        let by = subst (λ (y : DfuseDeed). ArrivesBy chip y l.device reaction l'.device) (sym is) comes in
         record {
           own = own_next l l' x row
               (phase_owns chip l.session a Q brings l.session.phase l.device reaction l'.device row.heard x touches k by seen
@@ -145,7 +146,7 @@ module _ (chip : Chip) (a : ℕ) where
         }
     turn_stays x (waited ms is same seen row) touches k own = record {
       own = own_next l l' x row
-          (subst (λ (d : Device). OwnIn chip a (after l.session row.heard).phase d.doing) (sym same)
+          (subst (λ (d : Device). OwnIn chip a (dfuse_after l.session row.heard).phase d.doing) (sym same)
           (phase_waits chip l.session a Q brings l.session.phase l.device.doing row.heard ms refl is own));
       byte = ap (λ (d : Device). d.memory a) same;
     }
@@ -153,7 +154,7 @@ module _ (chip : Chip) (a : ℕ) where
         let stays = under_way chip l.session a Q brings l.device mid way touches k own in
         record {
           own = own_next l l' x row
-              (phase_own chip a (after l.session row.heard).phase l'.device.doing (subst (SafeAt chip a) (sym rests) (λ y. y)));
+              (phase_own chip a (dfuse_after l.session row.heard).phase l'.device.doing (subst (SafeAt chip a) (sym rests) (λ y. y)));
           byte = changed_stays chip a mid.doing mid.memory l'.device.memory changed stays.now ∙ stays.byte;
         }
 

@@ -6,7 +6,7 @@ use Rattle.dfuse_host.specs.declared.place.Place.{Place}
 use Rattle.dfuse_host.specs.declared.step.Step.{Step}
 use Rattle.dfuse_host.specs.declared.step.Step.TheVariants as step
 use Rattle.dfuse_host.specs.declared.seen.Seen.{Seen}
-use Rattle.dfuse_host.specs.Wire.{Hears}
+use Rattle.dfuse_host.specs.Wire.{DfuseHears}
 use Rattle.dfuse_host.specs.Commands.{command_of}
 use Rattle.dfuse_host.specs.Deeds.{Wait, sends, deed_of}
 use Rattle.dfuse_host.specs.Table.{row}
@@ -24,7 +24,7 @@ module _ (chip : Chip) (plan : Plan) (w : Work) (p : Place) (d d' : Device) (h :
   -- A request was sent.
   pub sent_claims : (s : Step) (r : Option Reaction) (x : Seen) → Stands chip plan w p s d → ArrivesBy chip (deed_of plan w p s) d r d' →
       IsSeenOf r x →
-      Hears plan w s x h → StandsIn chip plan (row plan w p s h) d'
+      DfuseHears plan w s x h → StandsIn chip plan (row plan w p s h) d'
   sent_claims step.Abort r x k comes is hears = abort_row chip plan w p d' h
   sent_claims step.AskState r x k comes is hears =
       ask_state_row chip plan w p d' h (says_state plan w step.AskState h d' (λ bytes e. e) r x is

@@ -11,14 +11,14 @@ use Rattle.dfuse_host.specs.declared.session.Session.{Session}
 use Rattle.dfuse_host.specs.declared.limits.Limits.{Limits}
 use Rattle.dfuse_host.specs.Images.{image_start, image_end}
 use Rattle.dfuse_host.specs.Plans.{page_start, page_end, front_end, write_end, read_end}
-use Rattle.dfuse_host.specs.Refusing.{IsSound}
-use Rattle.dfuse_host.specs.Sessions.{begun, IsOver}
+use Rattle.dfuse_host.specs.Refusing.{IsSoundPlan}
+use Rattle.dfuse_host.specs.Sessions.{dfuse_begun, DfuseIsOver}
 use Rattle.dfuse_host.specs.Settling.{byte_in, can_read}
 use Rattle.dfuse_link.specs.CleanRuns.{CleanSession, waits_in}
 
 -- A session can begin with this plan, and its map is as each that was read: its ranges have pages, and share no address.
 pub record IsPlanned (plan : Plan) : Type 0 where
-  pub sound : IsSound plan
+  pub sound : IsSoundPlan plan
   pub ranges : All IsRange plan.map.now.ranges
   pub apart : are_apart plan.map.now.ranges ≡ true
 
@@ -93,15 +93,15 @@ requests plan c =
 -- A session is over as Verified, and as having left if it was asked to, once so much was seen, of which so many are ends of waits, and no
 -- earlier.
 pub record EndsCounted (plan : Plan) (n waits : ℕ) (seens : List Seen) (s : Session) : Type 0 where
-  pub over : IsOver s.phase → (s.phase ≡ Over (Verified (if plan.leaves then leaving.Left else leaving.Stayed))) × (length seens ≡ n) ×
+  pub over : DfuseIsOver s.phase → (s.phase ≡ Over (Verified (if plan.leaves then leaving.Left else leaving.Stayed))) × (length seens ≡ n) ×
       (waits_in seens ≡ waits)
-  pub enough : n ≤ length seens → IsOver s.phase
+  pub enough : n ≤ length seens → DfuseIsOver s.phase
 
 -- If the device works, and nothing gets lost, a session ends as Verified after exactly as many requests as are counted, and a wait for each
 -- command.
 abbrev pub CleanRunsAreCounted : Type 0
 CleanRunsAreCounted = (plan : Plan) (limits : Limits) (c : PlanCounts plan) (seens : List Seen) (s : Session) → IsPlanned plan →
-    requests plan c + commands plan c ≤ limits.actions → CleanSession (begun plan limits) seens s →
+    requests plan c + commands plan c ≤ limits.actions → CleanSession (dfuse_begun plan limits) seens s →
     EndsCounted plan (requests plan c + commands plan c) (commands plan c) seens s
 
 -- Each plan can be counted.

@@ -12,7 +12,7 @@ use Rattle.dfuse_host.specs.declared.session.Session.{Session}
 use Rattle.dfuse_host.specs.declared.limits.Limits.{Limits}
 use Rattle.dfuse_host.specs.Images.{element_at, image_start}
 use Rattle.dfuse_host.specs.Plans.{page_start, front_end}
-use Rattle.dfuse_host.specs.Sessions.{begun}
+use Rattle.dfuse_host.specs.Sessions.{dfuse_begun}
 use Rattle.dfuse_link.specs.Chips.{Chip, Device}
 use Rattle.dfuse_link.specs.Histories.{History}
 use Rattle.dfuse_link.specs.Promises.{IsFor}
@@ -26,7 +26,7 @@ ImageStands plan IsThere memory =
 -- While a session writes its front, each byte of the image behind the front stands in the memory.
 abbrev pub RestStands : Type 0
 RestStands = (chip : Chip) (plan : Plan) (limits : Limits) (d d' : Device) (s : Session) (seens : List Seen) (here : Standing) (at : ℕ)
-    → IsFor chip plan → History chip d (begun plan limits) seens d' s → s.phase ≡ On here → here.work ≡ WriteFront at
+    → IsFor chip plan → History chip d (dfuse_begun plan limits) seens d' s → s.phase ≡ On here → here.work ≡ WriteFront at
     → ImageStands plan (λ (a : ℕ). front_end plan ≤ a) d'.memory
 
 -- An address of the front.
@@ -49,7 +49,7 @@ FrontIsBlank chip plan memory = (a : ℕ) → IsOfFront plan a → chip.blank (m
 abbrev pub NoMixture : Type 0
 NoMixture = (chip : Chip) (plan : Plan) (limits : Limits) (d d' : Device) (s : Session) (seens : List Seen) → IsFor chip plan →
     are_apart plan.map.now.ranges ≡ true → IsTrueMap chip plan → ErasesFront chip plan → CarriesNone d →
-    History chip d (begun plan limits) seens d' s →
+    History chip d (dfuse_begun plan limits) seens d' s →
     ((a : ℕ) → IsElsewhere plan a → d'.memory a ≡ d.memory a)
     ⊎ (FrontIsBlank chip plan d'.memory ⊎ ImageStands plan (IsElsewhere plan) d'.memory)
 
@@ -57,6 +57,6 @@ NoMixture = (chip : Chip) (plan : Plan) (limits : Limits) (d d' : Device) (s : S
 abbrev pub NoneButErasing : Type 0
 NoneButErasing = (chip : Chip) (plan : Plan) (limits : Limits) (d d' : Device) (s : Session) (seens : List Seen) (here : Standing) →
     IsFor chip plan → are_apart plan.map.now.ranges ≡ true → IsTrueMap chip plan → ErasesFront chip plan → CarriesNone d →
-    History chip d (begun plan limits) seens d' s → s.phase ≡ On here → ((at : ℕ) → here.work ≡ work.Erase at → ⊥) →
+    History chip d (dfuse_begun plan limits) seens d' s → s.phase ≡ On here → ((at : ℕ) → here.work ≡ work.Erase at → ⊥) →
     ((page end : ℕ) → here.work ≡ work.EraseAgain page end → ⊥) →
     FrontIsBlank chip plan d'.memory ⊎ ImageStands plan (λ (a : ℕ). front_end plan ≤ a) d'.memory

@@ -5,7 +5,7 @@ use Rattle.dfu_wire.specs.declared.requests.Request.{Request}
 use Rattle.dfuse_host.specs.declared.seen.Seen.{Seen}
 use Rattle.dfuse_host.specs.declared.seen.Seen.TheVariants as seen
 use Rattle.dfuse_host.specs.declared.session.Session.{Session}
-use Rattle.dfuse_host.specs.Deeds.{Send, Wait, deed}
+use Rattle.dfuse_host.specs.Deeds.{Send, Wait, dfuse_deed}
 use Rattle.dfuse_host.specs.Sessions.{SessionRow}
 use Rattle.dfuse_link.specs.Chips.{Chip, Rests, Device, ChangedBy, Advances}
 use Rattle.dfuse_link.specs.Reactions.{Reaction, Acks, Data, Stalls, Reacts}
@@ -27,15 +27,15 @@ IsSeenOf reaction s = ⊥
 -- What may have come to a device before it restarts: nothing, or the session's request.
 pub data UnderWay (chip : Chip) (s : Session) (d : Device) : Device → Type 0 where
   none : UnderWay chip s d d
-  request : {mid : Device} {reaction : Option Reaction} (q : Request) (body : List ℕ) → deed s.plan s.phase ≡ Send q body
+  request : {mid : Device} {reaction : Option Reaction} (q : Request) (body : List ℕ) → dfuse_deed s.plan s.phase ≡ Send q body
       → Arrives chip q body d reaction mid → UnderWay chip s d mid
 
 -- The session's action, and what is seen of it: a request was sent; a wait is over; or the device restarted, which the session is told. It
 -- is in any state then, and its pointer anywhere; an order that isn't started is dropped, and one that it carries out is cut off.
 pub data Turn (chip : Chip) (d : Device) (s : Session) (x : Seen) (d' : Device) (s' : Session) : Type 0 where
-  sent : (q : Request) (body : List ℕ) (reaction : Option Reaction) → deed s.plan s.phase ≡ Send q body
+  sent : (q : Request) (body : List ℕ) (reaction : Option Reaction) → dfuse_deed s.plan s.phase ≡ Send q body
       → Arrives chip q body d reaction d' → IsSeenOf reaction x → SessionRow s x s' → Turn chip d s x d' s'
-  waited : (ms : ℕ) → deed s.plan s.phase ≡ Wait ms → d' ≡ d → x ≡ seen.Waited → SessionRow s x s' → Turn chip d s x d' s'
+  waited : (ms : ℕ) → dfuse_deed s.plan s.phase ≡ Wait ms → d' ≡ d → x ≡ seen.Waited → SessionRow s x s' → Turn chip d s x d' s'
   restarted : (mid : Device) (any : State) → UnderWay chip s d mid → d'.doing ≡ Rests any
       → ChangedBy chip mid.doing mid.memory d'.memory → x ≡ seen.Restarted → SessionRow s x s' → Turn chip d s x d' s'
 

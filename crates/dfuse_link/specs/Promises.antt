@@ -10,22 +10,22 @@ use Rattle.dfuse_host.specs.declared.report.Leaving.{Leaving}
 use Rattle.dfuse_host.specs.declared.report.Report.TheVariants.{Verified}
 use Rattle.dfuse_host.specs.declared.session.Session.{Session}
 use Rattle.dfuse_host.specs.declared.limits.Limits.{Limits}
-use Rattle.dfuse_host.specs.Refusing.{IsSound}
-use Rattle.dfuse_host.specs.Sessions.{begun, IsOver, SessionRows}
+use Rattle.dfuse_host.specs.Refusing.{IsSoundPlan}
+use Rattle.dfuse_host.specs.Sessions.{dfuse_begun, DfuseIsOver, SessionRows}
 use Rattle.dfuse_link.specs.Chips.{Chip, Device}
 use Rattle.dfuse_link.specs.Reactions.{StandsAt}
 use Rattle.dfuse_link.specs.Histories.{History}
 
 -- A session can begin with this plan, whose map has ranges as each map that was read, and the device counts addresses by its blocks.
 pub record IsFor (chip : Chip) (plan : Plan) : Type 0 where
-  pub sound : IsSound plan
+  pub sound : IsSoundPlan plan
   pub ranges : All IsRange plan.map.now.ranges
   pub transfer : plan.transfer ≡ chip.transfer
 
 -- Once Verified is reported, each element of the image stands in its range of the device's memory.
 abbrev pub VerifiedIsTrue : Type 0
 VerifiedIsTrue = (chip : Chip) (plan : Plan) (limits : Limits) (d d' : Device) (s : Session) (seens : List Seen) (leaving : Leaving)
-    → IsFor chip plan → History chip d (begun plan limits) seens d' s → s.phase ≡ Over (Verified leaving)
+    → IsFor chip plan → History chip d (dfuse_begun plan limits) seens d' s → s.phase ≡ Over (Verified leaving)
     → AllByRecursion (λ (e : Element). StandsAt d'.memory e.address e.bytes.now) plan.image.now
 
 -- What the session sees are rows of it, one after the other.
@@ -36,4 +36,4 @@ HistoriesAreRows = (chip : Chip) (d d' : Device) (s s' : Session) (seens : List 
 -- Whatever comes, the session is over after as many things seen as it has actions, and after one if it has none.
 abbrev pub EndsInTime : Type 0
 EndsInTime = (chip : Chip) (plan : Plan) (limits : Limits) (d d' : Device) (s : Session) (seens : List Seen)
-    → History chip d (begun plan limits) seens d' s → max 1 limits.actions ≤ length seens → IsOver s.phase
+    → History chip d (dfuse_begun plan limits) seens d' s → max 1 limits.actions ≤ length seens → DfuseIsOver s.phase

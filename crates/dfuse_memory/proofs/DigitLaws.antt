@@ -1,7 +1,7 @@
 -- Digits at the front of a text, and what they say.
 use Rattle.std.proofs.Common.{◌≡◌, ℕ, zero, suc, ◌+◌, ◌*◌, ◌^◌, ◌<◌, ◌≤◌, List, [], ◌∷◌, length, take, drop, get_or, refl, ap, ◌∙◌, arith}
 use Rattle.std.proofs.Math.Nat.{pow-succ', pow-le-pow_right}
-use Rattle.dfuse_memory.specs.Reading.{digit_value, digits_in, said}
+use Rattle.dfuse_memory.specs.Reading.{digit_value, digits_in, digits_number}
 use Rattle.dfuse_memory.proofs.TestLaws.{less, not_less}
 
 -- A digit is counted.
@@ -48,18 +48,18 @@ digits_end base (x ∷ xs) (suc i) h = digits_end base xs i (omega (arith, h))
 
 -- What digits say goes on from what those before say.
 pub said_more : (base n : ℕ) (xs : List ℕ) (i : ℕ) → i < length xs →
-    said base n (take (suc i) xs) ≡ base * said base n (take i xs) + digit_value (get_or xs i 0)
-unfolding said
+    digits_number base n (take (suc i) xs) ≡ base * digits_number base n (take i xs) + digit_value (get_or xs i 0)
+unfolding digits_number
 said_more base n [] i h = absurd (omega (arith, h))
 said_more base n (x ∷ xs) zero h = refl
 said_more base n (x ∷ xs) (suc i) h = said_more base (base * n + digit_value x) xs i (omega (arith, h))
 
 pub said_next : (base n : ℕ) (xs : List ℕ) (i j : ℕ) → j ≡ suc i → i < length xs →
-    said base n (take j xs) ≡ base * said base n (take i xs) + digit_value (get_or xs i 0)
-said_next base n xs i j e h = ap (λ (k : ℕ). said base n (take k xs)) e ∙ said_more base n xs i h
+    digits_number base n (take j xs) ≡ base * digits_number base n (take i xs) + digit_value (get_or xs i 0)
+said_next base n xs i j e h = ap (λ (k : ℕ). digits_number base n (take k xs)) e ∙ said_more base n xs i h
 
-pub said_none : (base n : ℕ) (xs : List ℕ) → said base n (take 0 xs) ≡ n
-unfolding said
+pub said_none : (base n : ℕ) (xs : List ℕ) → digits_number base n (take 0 xs) ≡ n
+unfolding digits_number
 said_none base n xs = refl
 
 -- A power of 17 is 17 times the one before.

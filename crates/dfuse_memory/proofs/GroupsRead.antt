@@ -5,14 +5,14 @@ use Rattle.std.proofs.lemmas.Bool.Decides.{nat_tests}
 use Rattle.dfuse_memory.specs.declared.pages.Access.{Access}
 use Rattle.dfuse_memory.specs.declared.pages.Pages.{Pages}
 use Rattle.dfuse_memory.specs.Ranges.{IsRange}
-use Rattle.dfuse_memory.specs.Reading.{Said, Grouped, behind, count_at, unit_of, unit_at, size_at, access_of, access_at, ranged, group_at, digit_value}
+use Rattle.dfuse_memory.specs.Reading.{NumberRead, Grouped, behind, count_at, unit_bytes, unit_at, size_at, access_of, access_at, ranged, group_at, digit_value}
 use Rattle.dfuse_memory.specs.Grammar.{IsNumber, IsUnit, IsGroup}
 use Rattle.dfuse_memory.proofs.NumbersRead.{NoDigitFirst, no_digit, number_read}
 use Rattle.dfuse_memory.proofs.TestLaws.{not_less, differ}
 
 -- ---- what is spelled is read
 
-same_said : (v w : ℕ) (r : List ℕ) → v ≡ w → ◌≡◌ {A = Said} (record { value = v; rest = r }) (record { value = w; rest = r })
+same_said : (v w : ℕ) (r : List ℕ) → v ≡ w → ◌≡◌ {A = NumberRead} (record { value = v; rest = r }) (record { value = w; rest = r })
 same_said v w r h = cc
 
 pub behind_read : (b : ℕ) (rest : List ℕ) → behind b (b ∷ rest) ≡ Some rest
@@ -26,22 +26,22 @@ count_read n ds rest h some =
     rw (number_read 10 5 n ds (42 ∷ rest) h (no_digit 10 42 rest (omega arith)), differ n 0 (λ z. omega (arith, z, some)), behind_read 42 rest) refl
 
 -- A letter from a to g is no unit.
-no_unit : (letter : ℕ) → 97 ≤ letter → unit_of letter ≡ 0
+no_unit : (letter : ℕ) → 97 ≤ letter → unit_bytes letter ≡ 0
 no_unit letter h = grind (arith, nat_tests)
 
 unit_read : (times value : ℕ) (unit : List ℕ) (letter : ℕ) (rest : List ℕ) → IsUnit times unit → 97 ≤ letter →
     unit_at value (unit ++ letter ∷ rest) ≡ record { value = times * value; rest = letter ∷ rest }
 unfolding unit_at
 unit_read times value [] letter rest h a =
-    rw (eq-eqb (unit_of letter) 0 (no_unit letter a)) (same_said _ _ _ (omega (arith, ap (λ (t : ℕ). t * value) h)))
+    rw (eq-eqb (unit_bytes letter) 0 (no_unit letter a)) (same_said _ _ _ (omega (arith, ap (λ (t : ℕ). t * value) h)))
 unit_read times value (b ∷ []) letter rest h a =
-    rw (differ (unit_of b) 0 h.1) (same_said _ _ _ (ap (λ (t : ℕ). t * value) (sym h.0)))
+    rw (differ (unit_bytes b) 0 h.1) (same_said _ _ _ (ap (λ (t : ℕ). t * value) (sym h.0)))
 unit_read times value (a ∷ b ∷ bs) letter rest h c = absurd h
 
 no_digits : (b : ℕ) → 97 ≤ b → 10 ≤ digit_value b
 no_digits b h = grind (arith, nat_tests)
 
-unit_no_digit : (b : ℕ) → unit_of b ≢ 0 → 10 ≤ digit_value b
+unit_no_digit : (b : ℕ) → unit_bytes b ≢ 0 → 10 ≤ digit_value b
 unit_no_digit b h = grind (arith, nat_tests)
 
 stops : (times : ℕ) (unit : List ℕ) (letter : ℕ) (rest : List ℕ) → IsUnit times unit → 97 ≤ letter → NoDigitFirst 10 (unit ++ letter ∷ rest)

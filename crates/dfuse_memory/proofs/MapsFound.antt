@@ -7,8 +7,8 @@ use Rattle.std.proofs.lemmas.List.{append-nil}
 use Rattle.dfuse_memory.specs.declared.pages.Pages.{Pages}
 use Rattle.dfuse_memory.specs.declared.fault.MapFault.{MapFault}
 use Rattle.dfuse_memory.specs.declared.fault.MapFault.TheVariants.{NoMap, TooManyRanges, Overlaps}
-use Rattle.dfuse_memory.specs.Ranges.{end_of, are_apart}
-use Rattle.dfuse_memory.specs.Reading.{Said, Content, Grouped, Named, ◌>>=◌, or, behind, going, group_at, address_at, next_at, ranges_at, trimmed, is_stroke, cut_at, name_at, parted, map_at}
+use Rattle.dfuse_memory.specs.Ranges.{end_of_range, are_apart}
+use Rattle.dfuse_memory.specs.Reading.{NumberRead, MapContent, Grouped, Named, ◌>>=◌, or, behind, going, group_at, address_at, next_at, ranges_at, trimmed, is_stroke, cut_at, map_name_at, map_if_apart, map_at}
 use Rattle.dfuse_memory.specs.Grammar.{IsMap, AreRanges, last, following, elsewhere, HasNoStroke, EndsInNoSpace}
 use Rattle.dfuse_memory.proofs.Steps.{then_ok, or_ok, behind_found}
 use Rattle.dfuse_memory.proofs.GroupsFound.{GroupSpelled, group_found}
@@ -32,8 +32,8 @@ last_spelled most start g ps text s e h =
       few = omega arith;
     })
 
-more_spelled : (most start : ℕ) (g : Grouped) (place : Said) (qs ps : List Pages) (text : List ℕ) → GroupSpelled start g text →
-    Leads (end_of g.pages) (Some place) g.rest → RangesSpelled most place.value qs place.rest →
+more_spelled : (most start : ℕ) (g : Grouped) (place : NumberRead) (qs ps : List Pages) (text : List ℕ) → GroupSpelled start g text →
+    Leads (end_of_range g.pages) (Some place) g.rest → RangesSpelled most place.value qs place.rest →
     ◌≡◌ {A = Result (List Pages) MapFault} (Ok (g.pages ∷ qs)) (Ok ps) → RangesSpelled (suc most) start ps text
 unfolding Leads
 more_spelled most start g place qs ps text s leads rest h =
@@ -49,9 +49,10 @@ more_spelled most start g place qs ps text s leads rest h =
       few = omega (arith, rest.few);
     })
 
-going_spelled : (most start : ℕ) (g : Grouped) (o : Option Said) (ps : List Pages) (text : List ℕ) → GroupSpelled start g text →
-    Leads (end_of g.pages) o g.rest → ((place : Said) (qs : List Pages) → ranges_at most place.value place.rest ≡ Ok qs → RangesSpelled most place.value qs place.rest) →
-    going g.pages o (λ (place : Said). ranges_at most place.value place.rest) ≡ Ok ps → RangesSpelled (suc most) start ps text
+going_spelled : (most start : ℕ) (g : Grouped) (o : Option NumberRead) (ps : List Pages) (text : List ℕ) → GroupSpelled start g text →
+    Leads (end_of_range g.pages) o g.rest → ((place : NumberRead) (qs : List Pages) → ranges_at most place.value place.rest ≡ Ok qs →
+    RangesSpelled most place.value qs place.rest) →
+    going g.pages o (λ (place : NumberRead). ranges_at most place.value place.rest) ≡ Ok ps → RangesSpelled (suc most) start ps text
 unfolding Leads
 going_spelled most start g None ps text s leads rest h = last_spelled most start g ps text s leads h
 going_spelled most start g (Some place) ps text s leads rest h =
@@ -64,11 +65,11 @@ ranges_found zero start ps text h =
     let t = then_ok (group_at start text) (λ (g : Grouped). Err TooManyRanges) ps h in
     let wrong = t.2 in cc
 ranges_found (suc n) start ps text h =
-    let g = then_ok (group_at start text) (λ (g : Grouped). next_at (end_of g.pages) g.rest
-    >>= λ (next : Option Said). going g.pages next (λ (place : Said). ranges_at n place.value place.rest)) ps h in
-    let o = then_ok (next_at (end_of (g.0).pages) (g.0).rest)
-    (λ (next : Option Said). going (g.0).pages next (λ (place : Said). ranges_at n place.value place.rest)) ps g.2 in
-    going_spelled n start g.0 o.0 ps text (group_found start g.0 text g.1) (next_found (end_of (g.0).pages) o.0 (g.0).rest o.1)
+    let g = then_ok (group_at start text) (λ (g : Grouped). next_at (end_of_range g.pages) g.rest
+    >>= λ (next : Option NumberRead). going g.pages next (λ (place : NumberRead). ranges_at n place.value place.rest)) ps h in
+    let o = then_ok (next_at (end_of_range (g.0).pages) (g.0).rest)
+    (λ (next : Option NumberRead). going (g.0).pages next (λ (place : NumberRead). ranges_at n place.value place.rest)) ps g.2 in
+    going_spelled n start g.0 o.0 ps text (group_found start g.0 text g.1) (next_found (end_of_range (g.0).pages) o.0 (g.0).rest o.1)
     (λ place qs e. ranges_found n place.value qs place.rest e) o.2
 
 -- ---- the name
@@ -181,8 +182,8 @@ cut_found text (Some k) n s h =
       no_space = t.no_space;
     })
 
-name_found : (n : Named) (text : List ℕ) → name_at text ≡ Ok n → NameSpelled n text
-unfolding name_at
+name_found : (n : Named) (text : List ℕ) → map_name_at text ≡ Ok n → NameSpelled n text
+unfolding map_name_at
 name_found n text h =
     let s = then_ok (or NoMap (behind 64 text)) (λ (behind : List ℕ). or NoMap (cut_at behind (position is_stroke behind))) n h in
     let at = behind_found 64 text s.0 (or_ok NoMap (behind 64 text) s.0 s.1) in
@@ -191,24 +192,25 @@ name_found n text h =
 
 -- ---- the map
 
-parted_by : (name : List ℕ) (ranges : List Pages) (m : Content) (t : Bool) → are_apart ranges ≡ t →
-    ◌≡◌ {A = Result Content MapFault} (cond t (Ok (record { name = name; ranges = ranges })) (Err Overlaps)) (Ok m) →
-    (are_apart ranges ≡ true) × ◌≡◌ {A = Content} (record { name = name; ranges = ranges }) m
+parted_by : (name : List ℕ) (ranges : List Pages) (m : MapContent) (t : Bool) → are_apart ranges ≡ t →
+    ◌≡◌ {A = Result MapContent MapFault} (cond t (Ok (record { name = name; ranges = ranges })) (Err Overlaps)) (Ok m) →
+    (are_apart ranges ≡ true) × ◌≡◌ {A = MapContent} (record { name = name; ranges = ranges }) m
 parted_by name ranges m true e h = (e, cc)
 parted_by name ranges m false e h = cc
 
 -- A map that was read was spelled.
-pub map_found : (m : Content) (text : List ℕ) → map_at text ≡ Ok m → IsMap m text
+pub map_found : (m : MapContent) (text : List ℕ) → map_at text ≡ Ok m → IsMap m text
 unfolding map_at
 map_found m text h =
-    let n = then_ok (name_at text) (λ (n : Named). address_at n.rest >>= λ (a : Said). ranges_at 32 a.value a.rest >>= parted n.name) m h in
-    let a = then_ok (address_at (n.0).rest) (λ (a : Said). ranges_at 32 a.value a.rest >>= parted (n.0).name) m n.2 in
-    let r = then_ok (ranges_at 32 (a.0).value (a.0).rest) (parted (n.0).name) m a.2 in
+    let n = then_ok (map_name_at text) (λ (n : Named). address_at n.rest >>= λ (a : NumberRead). ranges_at 32 a.value a.rest >>=
+    map_if_apart n.name) m h in
+    let a = then_ok (address_at (n.0).rest) (λ (a : NumberRead). ranges_at 32 a.value a.rest >>= map_if_apart (n.0).name) m n.2 in
+    let r = then_ok (ranges_at 32 (a.0).value (a.0).rest) (map_if_apart (n.0).name) m a.2 in
     let p = parted_by (n.0).name r.0 m (are_apart r.0) refl r.2 in
     let name = name_found n.0 text n.1 in
     let address = address_found a.0 (n.0).rest a.1 in
     let ranges = ranges_found 32 (a.0).value r.0 (a.0).rest r.1 in
-    subst (λ (c : Content). IsMap c text) p.1 (record {
+    subst (λ (c : MapContent). IsMap c text) p.1 (record {
       spaces = name.spaces;
       place = (a.0).value;
       address = address.address;

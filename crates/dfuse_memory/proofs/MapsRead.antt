@@ -4,8 +4,8 @@ use Rattle.std.specs.Prelude.{replicate}
 use Rattle.std.specs.List.{prefix_len, position}
 use Rattle.std.proofs.lemmas.List.{append-nil, take_at, drop_at}
 use Rattle.dfuse_memory.specs.declared.pages.Pages.{Pages}
-use Rattle.dfuse_memory.specs.Ranges.{end_of}
-use Rattle.dfuse_memory.specs.Reading.{Content, Named, group_at, next_at, ranges_at, trimmed, is_stroke, cut_at, name_at, map_at}
+use Rattle.dfuse_memory.specs.Ranges.{end_of_range}
+use Rattle.dfuse_memory.specs.Reading.{MapContent, Named, group_at, next_at, ranges_at, trimmed, is_stroke, cut_at, map_name_at, map_at}
 use Rattle.dfuse_memory.specs.Grammar.{IsMap, IsGroup, AreRanges, HasNoStroke, EndsInNoSpace}
 use Rattle.dfuse_memory.specs.Grammar.{last, following, elsewhere}
 use Rattle.dfuse_memory.proofs.GroupsRead.{behind_read, group_read}
@@ -20,10 +20,10 @@ unfolding ranges_at
 one_read n start p group g =
     let read : group_at start group ≡ Ok (record { pages = p; rest = [] }) =
     ap (group_at start) (sym (append-nil group)) ∙ group_read start p group [] g in
-    rw (read, end_read (end_of p)) refl
+    rw (read, end_read (end_of_range p)) refl
 
 more_read : (n start place : ℕ) (p : Pages) (ps : List Pages) (group rest more : List ℕ) → IsGroup start p group →
-    next_at (end_of p) rest ≡ Ok (Some (record { value = place; rest = more })) → ranges_at n place more ≡ Ok ps →
+    next_at (end_of_range p) rest ≡ Ok (Some (record { value = place; rest = more })) → ranges_at n place more ≡ Ok ps →
     ranges_at (suc n) start (group ++ rest) ≡ Ok (p ∷ ps)
 unfolding ranges_at
 more_read n start place p ps group rest more g e h = rw (group_read start p group rest g, e, h) refl
@@ -36,10 +36,11 @@ ranges_read zero start (p ∷ []) text (last g) few = absurd (omega (arith, few)
 ranges_read (suc n) start (p ∷ []) text (last g) few = one_read n start p text g
 ranges_read zero start (p ∷ ps) text (following {group = group} {more = more} g rest) few = absurd (omega (arith, few))
 ranges_read (suc n) start (p ∷ ps) text (following {group = group} {more = more} g rest) few =
-    more_read n start (end_of p) p ps group (44 ∷ more) more g (comma_read (end_of p) more) (ranges_read n (end_of p) ps more rest (omega (arith, few)))
+    more_read n start (end_of_range p) p ps group (44 ∷ more) more g (comma_read (end_of_range p) more)
+    (ranges_read n (end_of_range p) ps more rest (omega (arith, few)))
 ranges_read zero start (p ∷ ps) text (elsewhere {place = place} {group = group} {address = address} {more = more} g a rest) few = absurd (omega (arith, few))
 ranges_read (suc n) start (p ∷ ps) text (elsewhere {place = place} {group = group} {address = address} {more = more} g a rest) few =
-    more_read n start place p ps group (47 ∷ (address ++ 47 ∷ more)) more g (stroke_read (end_of p) place address more a)
+    more_read n start place p ps group (47 ∷ (address ++ 47 ∷ more)) more g (stroke_read (end_of_range p) place address more a)
     (ranges_read n place ps more rest (omega (arith, few)))
 
 -- ---- the name
@@ -94,12 +95,12 @@ cut_read name spaces rest h k =
     rw (whole, at) (same_named _ _ _ _ (ap trimmed (take_at front (47 ∷ rest) (length front) refl) ∙ name_kept name spaces k) behind)
 
 name_read : (name : List ℕ) (spaces : ℕ) (rest : List ℕ) → HasNoStroke name → EndsInNoSpace name →
-    name_at (64 ∷ (name ++ (replicate spaces 32 ++ 47 ∷ rest))) ≡ Ok (record { name = name; rest = rest })
-unfolding name_at
+    map_name_at (64 ∷ (name ++ (replicate spaces 32 ++ 47 ∷ rest))) ≡ Ok (record { name = name; rest = rest })
+unfolding map_name_at
 name_read name spaces rest h k = rw (behind_read 64 (name ++ (replicate spaces 32 ++ 47 ∷ rest)), cut_read name spaces rest h k) refl
 
 -- A map that is spelled is read.
-pub map_read : (m : Content) (text : List ℕ) → IsMap m text → map_at text ≡ Ok m
+pub map_read : (m : MapContent) (text : List ℕ) → IsMap m text → map_at text ≡ Ok m
 unfolding map_at
 map_read m text h =
     rw (

@@ -2,7 +2,7 @@
 use Rattle.std.proofs.Common.{◌≡◌, ℕ, zero, suc, ◌≤◌, ◌||◌, Bool, true, false, cond, eqb, ltb, List, [], ◌∷◌, ◌++◌, length, take, drop, refl, sym, ap, ◌∙◌, arith, Option, Some, None, length-take}
 use Rattle.std.proofs.lemmas.Bool.{ltb-true, ltb-false}
 use Rattle.std.proofs.lemmas.List.{take-append-drop, take_at, drop_at}
-use Rattle.dfuse_memory.specs.Reading.{Said, digit_value, digits_in, said, number_at}
+use Rattle.dfuse_memory.specs.Reading.{NumberRead, digit_value, digits_in, digits_number, map_number_at}
 use Rattle.dfuse_memory.specs.Grammar.{AreDigits, IsNumber}
 use Rattle.dfuse_memory.proofs.DigitLaws.{digits_cons, digits_no, digits_none}
 use Rattle.dfuse_memory.proofs.TestLaws.{not_less, differ, not_zero, or_false}
@@ -27,19 +27,20 @@ passes : (a b : Bool) → a ≡ false → b ≡ false → (a || b) ≡ false
 passes true b h k = h
 passes false b h k = k
 
-same_said : (v w : ℕ) (r s : List ℕ) → v ≡ w → r ≡ s → ◌≡◌ {A = Option Said} (Some (record { value = v; rest = r })) (Some (record { value = w; rest = s }))
+same_said : (v w : ℕ) (r s : List ℕ) → v ≡ w → r ≡ s →
+    ◌≡◌ {A = Option NumberRead} (Some (record { value = v; rest = r })) (Some (record { value = w; rest = s }))
 same_said v w r s h e = cc
 
 -- A number that is spelled before something else is read.
 pub number_read : (base most n : ℕ) (ds rest : List ℕ) → IsNumber base most n ds → NoDigitFirst base rest →
-    number_at base most (ds ++ rest) ≡ Some (record { value = n; rest = rest })
-unfolding number_at
+    map_number_at base most (ds ++ rest) ≡ Some (record { value = n; rest = rest })
+unfolding map_number_at
 number_read base most n ds rest h stop =
     let k = counted base ds rest h.are_digits stop in
     let none = differ (digits_in base (ds ++ rest)) 0 (λ z. omega (arith, z, k, h.some)) in
     let few = not_less most (digits_in base (ds ++ rest)) (omega (arith, k, h.few)) in
     rw (passes (eqb (digits_in base (ds ++ rest)) 0) (ltb most (digits_in base (ds ++ rest))) none few)
-    (same_said _ _ _ _ (ap (said base 0) (take_at ds rest (digits_in base (ds ++ rest)) (sym k)) ∙ sym h.makes)
+    (same_said _ _ _ _ (ap (digits_number base 0) (take_at ds rest (digits_in base (ds ++ rest)) (sym k)) ∙ sym h.makes)
     (drop_at ds rest (digits_in base (ds ++ rest)) (sym k)))
 
 are_by : (base b : ℕ) (bs : List ℕ) (t : Bool) → ltb (digit_value b) base ≡ t → AreDigits base (take (digits_in base bs) bs) →
@@ -68,31 +69,31 @@ unfolding digits_in
 within base [] = omega arith
 within base (b ∷ bs) = within_by (digits_in base bs) b bs (ltb (digit_value b) base) (within base bs)
 
-unless : (t : Bool) (x y : Said) → cond t None (Some x) ≡ Some y → (t ≡ false) × (x ≡ y)
+unless : (t : Bool) (x y : NumberRead) → cond t None (Some x) ≡ Some y → (t ≡ false) × (x ≡ y)
 unless true x y h = cc
 unless false x y h = (refl, cc)
 
 -- A number that was read was spelled by these digits.
-pub record Spelled (base most : ℕ) (n : Said) (text : List ℕ) : Type 0 where
+pub record Spelled (base most : ℕ) (n : NumberRead) (text : List ℕ) : Type 0 where
   pub digits : List ℕ
   pub text_is : text ≡ digits ++ n.rest
   pub number_is : IsNumber base most n.value digits
 
-pub number_found : (base most : ℕ) (n : Said) (text : List ℕ) → number_at base most text ≡ Some n → Spelled base most n text
-unfolding number_at
+pub number_found : (base most : ℕ) (n : NumberRead) (text : List ℕ) → map_number_at base most text ≡ Some n → Spelled base most n text
+unfolding map_number_at
 number_found base most n text h =
     let k = digits_in base text in
-    let said_is : Said = record { value = said base 0 (take k text); rest = drop k text } in
+    let said_is : NumberRead = record { value = digits_number base 0 (take k text); rest = drop k text } in
     let u = unless (eqb k 0 || ltb most k) said_is n h in
     let both = or_false (eqb k 0) (ltb most k) u.0 in
     let long = length-take k text in
     let room = within base text in record {
       digits = take k text;
-      text_is = sym (take-append-drop k text) ∙ ap (λ (m : Said). take k text ++ m.rest) u.1;
+      text_is = sym (take-append-drop k text) ∙ ap (λ (m : NumberRead). take k text ++ m.rest) u.1;
       number_is = record {
         are_digits = are_digits base text;
         some = omega (arith, long, room, not_zero k both.0);
         few = omega (arith, long, ltb-false most k both.1);
-        makes = ap (λ (m : Said). m.value) (sym u.1);
+        makes = ap (λ (m : NumberRead). m.value) (sym u.1);
       };
     }

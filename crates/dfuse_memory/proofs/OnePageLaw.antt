@@ -6,8 +6,8 @@ use Rattle.std.proofs.Math.Nat.{le-div_iff_mul-le, div-lt_iff_lt-mul}
 use Rattle.std.proofs.lemmas.Bool.Decides.{nat_tests}
 use Rattle.dfuse_memory.specs.declared.pages.Pages.{Pages}
 use Rattle.dfuse_memory.specs.declared.pages.Page.{Page}
-use Rattle.dfuse_memory.specs.Ranges.{IsRange, end_of}
-use Rattle.dfuse_memory.specs.Lookups.{has, range_at, page_in, page_end, OnePage}
+use Rattle.dfuse_memory.specs.Ranges.{IsRange, end_of_range}
+use Rattle.dfuse_memory.specs.Lookups.{has, range_at, page_in, end_of_page, OnePage}
 use Rattle.dfuse_memory.proofs.OneRange.{same_range, found, no_range}
 
 -- A range that is found is one of them, and has the address.
@@ -35,14 +35,14 @@ page_by : (o : Option Pages) (a : ℕ) (page : Page) → option_map (page_in a) 
 page_by None a page h = cc
 page_by (Some p) a page h = (p, refl, cc)
 
-from_has : (a : ℕ) (p : Pages) → has a p ≡ true → (p.start ≤ a) × (a < end_of p)
+from_has : (a : ℕ) (p : Pages) → has a p ≡ true → (p.start ≤ a) × (a < end_of_range p)
 from_has a p h = grind (arith, nat_tests)
 
-to_has : (a : ℕ) (p : Pages) → p.start ≤ a → a < end_of p → has a p ≡ true
+to_has : (a : ℕ) (p : Pages) → p.start ≤ a → a < end_of_range p → has a p ≡ true
 to_has a p h k = grind (arith, nat_tests)
 
 -- Two addresses of a page of one range have it both.
-same_page : (p : Pages) (a b : ℕ) → IsRange p → p.start ≤ a → a < end_of p → (page_in a p).start ≤ b → b < page_end (page_in a p) →
+same_page : (p : Pages) (a b : ℕ) → IsRange p → p.start ≤ a → a < end_of_range p → (page_in a p).start ≤ b → b < end_of_page (page_in a p) →
     (has b p ≡ true) × (page_in b p ≡ page_in a p)
 same_page p a b s from to low high =
     let q = (a - p.start) / p.size in
@@ -58,5 +58,6 @@ one_page ranges a b page s apart h low high =
     let p = f.0 in
     let sound = sound_found a p ranges s f.1 in
     let at = from_has a p sound.1 in
-    let t = same_page p a b sound.0 at.0 at.1 (subst (λ (g : Page). g.start ≤ b) (sym f.2) low) (subst (λ (g : Page). b < page_end g) (sym f.2) high) in
+    let t = same_page p a b sound.0 at.0 at.1 (subst (λ (g : Page). g.start ≤ b) (sym f.2) low)
+    (subst (λ (g : Page). b < end_of_page g) (sym f.2) high) in
     ap (option_map (page_in b)) (same_range a b p ranges apart f.1 t.0) ∙ ap Some (t.1 ∙ f.2)

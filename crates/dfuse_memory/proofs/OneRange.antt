@@ -4,7 +4,7 @@ use Rattle.std.proofs.lemmas.Bool.{cases_lt}
 use Rattle.std.proofs.lemmas.Bool.Decides.{nat_tests}
 use Rattle.dfuse_memory.specs.declared.pages.Access.{Access}
 use Rattle.dfuse_memory.specs.declared.pages.Pages.{Pages}
-use Rattle.dfuse_memory.specs.Ranges.{end_of, is_apart, is_apart_from, are_apart}
+use Rattle.dfuse_memory.specs.Ranges.{end_of_range, is_apart, is_apart_from, are_apart}
 use Rattle.dfuse_memory.specs.Lookups.{has, range_at, grants, IsGranted, AllGranted}
 use Rattle.dfuse_memory.proofs.TestLaws.{and_true}
 
@@ -52,13 +52,13 @@ same_range x y p (q ∷ qs) a f h =
       | inr w ↦ behind y q qs (not_both y q p (apart_one x q p qs both.0 w.1) h) ∙ same_range x y p qs both.1 w.1 h
     ]
 
-within : (y : ℕ) (p : Pages) → p.start ≤ y → y < end_of p → has y p ≡ true
+within : (y : ℕ) (p : Pages) → p.start ≤ y → y < end_of_range p → has y p ≡ true
 within y p h k = grind (arith, nat_tests)
 
 -- What is granted up to an address is granted up to the end of the range that has it.
 pub granted_on : (wanted : Access) (start at : ℕ) (p : Pages) (ranges : List Pages) → are_apart ranges ≡ true →
-    AllGranted wanted start at ranges → range_at at ranges ≡ Some p → p.start ≤ at → at < end_of p → grants p.access wanted ≡ true →
-    AllGranted wanted start (end_of p) ranges
+    AllGranted wanted start at ranges → range_at at ranges ≡ Some p → p.start ≤ at → at < end_of_range p → grants p.access wanted ≡ true →
+    AllGranted wanted start (end_of_range p) ranges
 granted_on wanted start at p ranges apart before f from to g = λ a h k. elim (cases_lt a at) [
   | inl w ↦ before a h w
   | inr w ↦ subst (IsGranted wanted) (sym (same_range at a p ranges apart f (within a p (omega (arith, from, w)) k))) g

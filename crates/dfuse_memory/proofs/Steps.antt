@@ -2,7 +2,7 @@
 use Rattle.std.proofs.Common.{◌≡◌, ℕ, ◌≤◌, Bool, true, false, cond, eqb, List, [], ◌∷◌, refl, Option, Some, None, Result, Ok, Err}
 use Rattle.std.proofs.lemmas.Bool.{eqb-true}
 use Rattle.dfuse_memory.specs.declared.fault.MapFault.{MapFault}
-use Rattle.dfuse_memory.specs.Reading.{Said, ◌>>=◌, or, counting, behind}
+use Rattle.dfuse_memory.specs.Reading.{NumberRead, ◌>>=◌, or, counting, behind}
 use Rattle.dfuse_memory.proofs.TestLaws.{not_zero}
 
 -- Two steps came to an end: the first did, and then the second.
@@ -14,12 +14,12 @@ pub or_ok : {A : Type 0} (fault : MapFault) (o : Option A) (x : A) → or fault 
 or_ok fault None x h = cc
 or_ok fault (Some y) x h = cc
 
-counting_by : (fault : MapFault) (n m : Said) (t : Bool) → eqb n.value 0 ≡ t →
-    ◌≡◌ {A = Result Said MapFault} (cond t (Err fault) (Ok n)) (Ok m) → (n ≡ m) × (eqb n.value 0 ≡ false)
+counting_by : (fault : MapFault) (n m : NumberRead) (t : Bool) → eqb n.value 0 ≡ t →
+    ◌≡◌ {A = Result NumberRead MapFault} (cond t (Err fault) (Ok n)) (Ok m) → (n ≡ m) × (eqb n.value 0 ≡ false)
 counting_by fault n m true e h = cc
 counting_by fault n m false e h = (cc, e)
 
-pub counting_ok : (fault : MapFault) (n m : Said) → counting fault n ≡ Ok m → (n ≡ m) × (1 ≤ n.value)
+pub counting_ok : (fault : MapFault) (n m : NumberRead) → counting fault n ≡ Ok m → (n ≡ m) × (1 ≤ n.value)
 counting_ok fault n m h =
     let b = counting_by fault n m (eqb n.value 0) refl h in (b.0, not_zero n.value b.1)
 

@@ -2,8 +2,8 @@
 use Rattle.std.specs.Prelude.{◌≡◌, ◌≢◌, ℕ, ◌*◌, ◌<◌, ◌≤◌, true, ◌⊎◌, List, [], ◌∷◌, ◌++◌, length, replicate}
 use Rattle.dfuse_memory.specs.declared.pages.Pages.{Pages}
 use Rattle.dfuse_memory.specs.declared.fault.MapFault.{MapFault}
-use Rattle.dfuse_memory.specs.Ranges.{IsRange, end_of, are_apart}
-use Rattle.dfuse_memory.specs.Reading.{Content, digit_value, said, unit_of, access_of, map_at}
+use Rattle.dfuse_memory.specs.Ranges.{IsRange, end_of_range, are_apart}
+use Rattle.dfuse_memory.specs.Reading.{MapContent, digit_value, digits_number, unit_bytes, access_of, map_at}
 use Rattle.std.specs.Prelude.{Err}
 
 -- These bytes are digits of a base.
@@ -16,12 +16,12 @@ pub record IsNumber (base most n : ℕ) (digits : List ℕ) : Type 0 where
   pub are_digits : AreDigits base digits
   pub some : 1 ≤ length digits
   pub few : length digits ≤ most
-  pub makes : n ≡ said base 0 digits
+  pub makes : n ≡ digits_number base 0 digits
 
 -- A unit has so many bytes: K 1,024, M 1,048,576, and B, the space, and none at all 1.
 abbrev pub IsUnit : (times : ℕ) → List ℕ → Type 0
 IsUnit times [] = times ≡ 1
-IsUnit times (b ∷ []) = (times ≡ unit_of b) × (unit_of b ≢ 0)
+IsUnit times (b ∷ []) = (times ≡ unit_bytes b) × (unit_bytes b ≢ 0)
 IsUnit times (a ∷ b ∷ bs) = ⊥
 
 -- A range that begins at this address: a count, `*`, a size and its unit, and the letter of what may be done.
@@ -62,7 +62,7 @@ pub record IsAddress (address : ℕ) (text : List ℕ) : Type 0 where
 pub data AreRanges : (start : ℕ) → List Pages → List ℕ → Type 0 where
   last : {start : ℕ} {p : Pages} {text : List ℕ} → IsGroup start p text → AreRanges start (p ∷ []) text
   following : {start : ℕ} {p : Pages} {ps : List Pages} {group more : List ℕ} →
-      IsGroup start p group → AreRanges (end_of p) ps more → AreRanges start (p ∷ ps) (group ++ 44 ∷ more)
+      IsGroup start p group → AreRanges (end_of_range p) ps more → AreRanges start (p ∷ ps) (group ++ 44 ∷ more)
   elsewhere : {start place : ℕ} {p : Pages} {ps : List Pages} {group address more : List ℕ} →
       IsGroup start p group → IsAddress place address → AreRanges place ps more →
       AreRanges start (p ∷ ps) (group ++ 47 ∷ (address ++ 47 ∷ more))
@@ -79,7 +79,7 @@ EndsInNoSpace (b ∷ []) = b ≢ 32
 EndsInNoSpace (a ∷ b ∷ bs) = EndsInNoSpace (b ∷ bs)
 
 -- A string is a map: `@`, a name, spaces, and between strokes an address, and up to 32 ranges from there on that share no address.
-pub record IsMap (m : Content) (text : List ℕ) : Type 0 where
+pub record IsMap (m : MapContent) (text : List ℕ) : Type 0 where
   pub spaces : ℕ
   pub place : ℕ
   pub address : List ℕ
@@ -93,5 +93,5 @@ pub record IsMap (m : Content) (text : List ℕ) : Type 0 where
   pub apart : are_apart m.ranges ≡ true
 
 -- This is the first fault of a string that is no map.
-abbrev pub First : MapFault → List ℕ → Type 0
-First fault text = map_at text ≡ Err fault
+abbrev pub FirstMapFault : MapFault → List ℕ → Type 0
+FirstMapFault fault text = map_at text ≡ Err fault

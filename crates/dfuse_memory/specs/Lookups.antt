@@ -5,11 +5,11 @@ use Rattle.dfuse_memory.specs.declared.pages.Access.{Access}
 use Rattle.dfuse_memory.specs.declared.pages.Pages.{Pages}
 use Rattle.dfuse_memory.specs.declared.pages.Page.{Page}
 use Rattle.std.specs.List.{All}
-use Rattle.dfuse_memory.specs.Ranges.{IsRange, end_of, are_apart}
+use Rattle.dfuse_memory.specs.Ranges.{IsRange, end_of_range, are_apart}
 
 -- A range has this address.
 abbrev pub has : ℕ → Pages → Bool
-has address p = nat_le p.start address && nat_lt address (end_of p)
+has address p = nat_le p.start address && nat_lt address (end_of_range p)
 
 -- The range that has this address: the first, and in a map the only one.
 unfoldable pub range_at : ℕ → List Pages → Option Pages
@@ -29,8 +29,8 @@ abbrev pub page_at : ℕ → List Pages → Option Page
 page_at address ranges = option_map (page_in address) (range_at address ranges)
 
 -- The address behind the last byte of a page.
-abbrev pub page_end : Page → ℕ
-page_end p = p.start + p.size
+abbrev pub end_of_page : Page → ℕ
+end_of_page p = p.start + p.size
 
 -- What is wanted is granted.
 abbrev pub grants : (granted wanted : Access) → Bool
@@ -51,4 +51,4 @@ AllGranted wanted start end ranges = (a : ℕ) → start ≤ a → a < end → I
 abbrev pub OnePage : Type 0
 OnePage =
     (ranges : List Pages) (a b : ℕ) (page : Page) → All IsRange ranges → are_apart ranges ≡ true → page_at a ranges ≡ Some page →
-    page.start ≤ b → b < page_end page → page_at b ranges ≡ Some page
+    page.start ≤ b → b < end_of_page page → page_at b ranges ≡ Some page

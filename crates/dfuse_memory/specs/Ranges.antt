@@ -3,18 +3,18 @@ use Rattle.std.specs.Prelude.{ℕ, ◌+◌, ◌*◌, ◌^◌, ◌≤◌, ◌&&�
 use Rattle.dfuse_memory.specs.declared.pages.Pages.{Pages}
 
 -- The address behind the last byte of a range.
-abbrev pub end_of : Pages → ℕ
-end_of p = p.start + p.count * p.size
+abbrev pub end_of_range : Pages → ℕ
+end_of_range p = p.start + p.count * p.size
 
 -- A range has a page, each page a byte, and the last byte an address.
 pub record IsRange (p : Pages) : Type 0 where
   pub some_pages : 1 ≤ p.count
   pub some_bytes : 1 ≤ p.size
-  pub ends : end_of p ≤ 2 ^ 32
+  pub ends : end_of_range p ≤ 2 ^ 32
 
 -- Two ranges share no address: one ends before the other begins.
 abbrev pub is_apart : Pages → Pages → Bool
-is_apart p q = nat_le (end_of p) q.start || nat_le (end_of q) p.start
+is_apart p q = nat_le (end_of_range p) q.start || nat_le (end_of_range q) p.start
 
 -- A range shares no address with any of these.
 abbrev pub is_apart_from : Pages → List Pages → Bool

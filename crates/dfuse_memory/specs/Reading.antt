@@ -1,7 +1,7 @@
 -- How a map is read from the front of a string, piece by piece, with the fault of each piece.
 use Rattle.std.specs.Prelude.{ℕ, zero, suc, ◌+◌, ◌-◌, ◌*◌, ◌/◌, ◌%◌, ◌^◌, ◌==◌, ◌&&◌, ◌||◌, nat_lt, nat_le, Bool, if◌then◌else◌, List, [], ◌∷◌, length, take, drop, Option, Some, None, Result, Ok, Err}
 use Rattle.std.specs.List.{position}
-use Rattle.dfuse_memory.specs.Ranges.{end_of, are_apart}
+use Rattle.dfuse_memory.specs.Ranges.{end_of_range, are_apart}
 use Rattle.dfuse_memory.specs.declared.pages.Access.{Access}
 use Rattle.dfuse_memory.specs.declared.pages.Pages.{Pages}
 use Rattle.dfuse_memory.specs.declared.fault.MapFault.{MapFault}
@@ -19,7 +19,7 @@ or fault None = Err fault
 or fault (Some x) = Ok x
 
 -- A number, and the text behind it.
-pub record Said : Type 0 where
+pub record NumberRead : Type 0 where
   pub value : ℕ
   pub rest : List ℕ
 
@@ -37,15 +37,15 @@ digits_in base [] = 0
 digits_in base (b ∷ bs) = if nat_lt (digit_value b) base then suc (digits_in base bs) else 0
 
 -- The number that these digits make behind those that make n.
-unfoldable pub said : (base n : ℕ) → List ℕ → ℕ
-said base n [] = n
-said base n (b ∷ bs) = said base (base * n + digit_value b) bs
+unfoldable pub digits_number : (base n : ℕ) → List ℕ → ℕ
+digits_number base n [] = n
+digits_number base n (b ∷ bs) = digits_number base (base * n + digit_value b) bs
 
 -- The number at the front: one digit at least, and so many at most, of all that stand there.
-unfoldable pub number_at : (base most : ℕ) → List ℕ → Option Said
-number_at base most text =
+unfoldable pub map_number_at : (base most : ℕ) → List ℕ → Option NumberRead
+map_number_at base most text =
     if digits_in base text == 0 || nat_lt most (digits_in base text) then None
-    else Some (record { value = said base 0 (take (digits_in base text) text); rest = drop (digits_in base text) text })
+    else Some (record { value = digits_number base 0 (take (digits_in base text) text); rest = drop (digits_in base text) text })
 
 -- What stands behind this byte, if the text begins with it.
 unfoldable pub behind : ℕ → List ℕ → Option (List ℕ)
@@ -53,30 +53,31 @@ behind byte [] = None
 behind byte (b ∷ bs) = if b == byte then Some bs else None
 
 -- A number that isn't 0.
-abbrev pub counting : MapFault → Said → Result Said MapFault
+abbrev pub counting : MapFault → NumberRead → Result NumberRead MapFault
 counting fault n = if n.value == 0 then Err fault else Ok n
 
 -- A count of pages, and `*`.
-unfoldable pub count_at : List ℕ → Result Said MapFault
+unfoldable pub count_at : List ℕ → Result NumberRead MapFault
 count_at text =
-    or BadCount (number_at 10 5 text) >>= counting BadCount
+    or BadCount (map_number_at 10 5 text) >>= counting BadCount
     >>= λ n. or BadCount (behind 42 n.rest) >>= λ rest. Ok (record { value = n.value; rest = rest })
 
 -- How many bytes a unit has: K, M, B and the space; 0 for any other byte.
-abbrev pub unit_of : ℕ → ℕ
-unit_of b = if b == 75 then 1024 else if b == 77 then 1048576 else if b == 66 || b == 32 then 1 else 0
+abbrev pub unit_bytes : ℕ → ℕ
+unit_bytes b = if b == 75 then 1024 else if b == 77 then 1048576 else if b == 66 || b == 32 then 1 else 0
 
 -- A size in the unit that stands at the front; bytes, if none does.
-unfoldable pub unit_at : ℕ → List ℕ → Said
+unfoldable pub unit_at : ℕ → List ℕ → NumberRead
 unit_at value [] = record { value = value; rest = [] }
-unit_at value (b ∷ bs) = if unit_of b == 0 then record { value = value; rest = b ∷ bs } else record { value = unit_of b * value; rest = bs }
+unit_at value (b ∷ bs) = if unit_bytes b == 0 then record { value = value; rest = b ∷ bs } else record
+    { value = unit_bytes b * value; rest = bs }
 
 -- The size of a page, with its unit.
-unfoldable pub size_at : List ℕ → Result Said MapFault
-size_at text = or BadSize (number_at 10 5 text) >>= counting BadSize >>= λ n. Ok (unit_at n.value n.rest)
+unfoldable pub size_at : List ℕ → Result NumberRead MapFault
+size_at text = or BadSize (map_number_at 10 5 text) >>= counting BadSize >>= λ n. Ok (unit_at n.value n.rest)
 
 -- What may be done with pages, and the text behind the letter that says it.
-pub record Allows : Type 0 where
+pub record LetterRead : Type 0 where
   pub access : Access
   pub rest : List ℕ
 
@@ -89,7 +90,7 @@ access_of letter = record {
 }
 
 -- The letter that says what may be done with pages.
-unfoldable pub access_at : List ℕ → Result Allows MapFault
+unfoldable pub access_at : List ℕ → Result LetterRead MapFault
 access_at [] = Err BadType
 access_at (b ∷ bs) = if nat_le 97 b && nat_le b 103 then Ok (record { access = access_of b; rest = bs }) else Err BadType
 
@@ -99,7 +100,7 @@ pub record Grouped : Type 0 where
   pub rest : List ℕ
 
 -- A range of so many pages of this size, if it ends by the last address.
-abbrev pub ranged : (start count size : ℕ) → Allows → Result Grouped MapFault
+abbrev pub ranged : (start count size : ℕ) → LetterRead → Result Grouped MapFault
 ranged start count size a =
     if nat_lt (2 ^ 32) (start + count * size) then Err PastTheEnd
     else Ok (record { pages = record { start = start; size = size; count = count; access = a.access }; rest = a.rest })
@@ -115,26 +116,26 @@ behind_prefix (a ∷ []) = a ∷ []
 behind_prefix (a ∷ b ∷ bs) = if (a == 48) && ((b == 120) || (b == 88)) then bs else a ∷ b ∷ bs
 
 -- The address at which ranges begin, and `/`.
-unfoldable pub address_at : List ℕ → Result Said MapFault
+unfoldable pub address_at : List ℕ → Result NumberRead MapFault
 address_at text =
-    or BadAddress (number_at 16 8 (behind_prefix text))
+    or BadAddress (map_number_at 16 8 (behind_prefix text))
     >>= λ n. or BadAddress (behind 47 n.rest) >>= λ rest. Ok (record { value = n.value; rest = rest })
 
 -- A place, if there is one.
-abbrev pub placed : Result Said MapFault → Result (Option Said) MapFault
-placed place = place >>= λ p. Ok (Some p)
+abbrev pub place_found : Result NumberRead MapFault → Result (Option NumberRead) MapFault
+place_found place = place >>= λ p. Ok (Some p)
 
 -- Where the next range begins, behind one that ends at this address: there behind `,`, and at an address of its own behind `/`; nowhere at
 -- the end of the text.
-unfoldable pub next_at : (end : ℕ) → List ℕ → Result (Option Said) MapFault
+unfoldable pub next_at : (end : ℕ) → List ℕ → Result (Option NumberRead) MapFault
 next_at end [] = Ok None
 next_at end (b ∷ bs) =
     if b == 44 then Ok (Some (record { value = end; rest = bs }))
-    else if b == 47 then placed (address_at bs)
+    else if b == 47 then place_found (address_at bs)
     else Err Trailing
 
 -- A range, and those that are read from the next place, if there is one.
-abbrev pub going : Pages → Option Said → (Said → Result (List Pages) MapFault) → Result (List Pages) MapFault
+abbrev pub going : Pages → Option NumberRead → (NumberRead → Result (List Pages) MapFault) → Result (List Pages) MapFault
 going pages None more = Ok (pages ∷ [])
 going pages (Some place) more = more place >>= λ ranges. Ok (pages ∷ ranges)
 
@@ -143,7 +144,7 @@ unfoldable pub ranges_at : (most start : ℕ) → List ℕ → Result (List Page
 ranges_at zero start text = group_at start text >>= λ g. Err TooManyRanges
 ranges_at (suc n) start text =
     group_at start text
-    >>= λ g. next_at (end_of g.pages) g.rest
+    >>= λ g. next_at (end_of_range g.pages) g.rest
     >>= λ next. going g.pages next (λ place. ranges_at n place.value place.rest)
 
 -- A name, and the text behind it.
@@ -166,18 +167,18 @@ cut_at text None = None
 cut_at text (Some n) = Some (record { name = trimmed (take n text); rest = drop (n + 1) text })
 
 -- The name behind `@`.
-unfoldable pub name_at : List ℕ → Result Named MapFault
-name_at text = or NoMap (behind 64 text) >>= λ behind. or NoMap (cut_at behind (position is_stroke behind))
+unfoldable pub map_name_at : List ℕ → Result Named MapFault
+map_name_at text = or NoMap (behind 64 text) >>= λ behind. or NoMap (cut_at behind (position is_stroke behind))
 
 -- What a map says: a name, and ranges.
-pub record Content : Type 0 where
+pub record MapContent : Type 0 where
   pub name : List ℕ
   pub ranges : List Pages
 
 -- A map whose ranges share no address.
-abbrev pub parted : (name : List ℕ) → List Pages → Result Content MapFault
-parted name ranges = if are_apart ranges then Ok (record { name = name; ranges = ranges }) else Err Overlaps
+abbrev pub map_if_apart : (name : List ℕ) → List Pages → Result MapContent MapFault
+map_if_apart name ranges = if are_apart ranges then Ok (record { name = name; ranges = ranges }) else Err Overlaps
 
 -- A string is a map, or has a first fault.
-unfoldable pub map_at : List ℕ → Result Content MapFault
-map_at text = name_at text >>= λ n. address_at n.rest >>= λ a. ranges_at 32 a.value a.rest >>= parted n.name
+unfoldable pub map_at : List ℕ → Result MapContent MapFault
+map_at text = map_name_at text >>= λ n. address_at n.rest >>= λ a. ranges_at 32 a.value a.rest >>= map_if_apart n.name

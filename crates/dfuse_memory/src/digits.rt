@@ -1,7 +1,7 @@
 //! Numbers in digits.
 
 ghost use Rattle.std.specs.Prelude.{◌≡◌, ◌^◌, ◌≤◌, ◌<◌, length, IfSome};
-ghost use Rattle.dfuse_memory.specs.Reading.{digit_value, digits_in, said, number_at};
+ghost use Rattle.dfuse_memory.specs.Reading.{digit_value, digits_in, digits_number, map_number_at};
 
 use crate::text::Number;
 
@@ -37,7 +37,7 @@ fn digits_in(base: u64, text: &[u8]) -> usize
 fn said(base: u64, digits: &[u8]) -> u64
     requires base { base ≤ 16 }
     requires few { length digits.now ≤ 8 }
-    ensures value { result ≡ said base 0 digits.now }
+    ensures value { result ≡ digits_number base 0 digits.now }
     ensures small { result < 17 ^ length digits.now }
 {
     let mut value: u64 = 0;
@@ -48,11 +48,11 @@ fn said(base: u64, digits: &[u8]) -> u64
 }
 
 /// The number that stands at the front, in this base and in at most so many digits. All digits there belong to it.
-#[tactic(auto, unfolding(crate::specs::Reading::number_at))]
+#[tactic(auto, unfolding(crate::specs::Reading::map_number_at))]
 pub(crate) fn take_number(base: u64, most: usize, text: &[u8]) -> Option<Number<'_>>
     requires base { base ≤ 16 }
     requires few { most ≤ 8 }
-    ensures value { result ≡ number_at base most text.now }
+    ensures value { result ≡ map_number_at base most text.now }
     ensures small { IfSome result (λ n. n.value < 17 ^ most) }
 {
     let count = digits_in(base, text);

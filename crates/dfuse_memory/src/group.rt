@@ -2,7 +2,7 @@
 
 ghost use Rattle.std.specs.Prelude.{◌≡◌, ◌*◌, ◌≤◌, ◌<◌, ◌^◌, IfOk};
 ghost use Rattle.dfuse_memory.specs.Ranges.{IsRange};
-ghost use Rattle.dfuse_memory.specs.Reading.{unit_of, unit_at, access_of, count_at, size_at, access_at, group_at};
+ghost use Rattle.dfuse_memory.specs.Reading.{unit_bytes, unit_at, access_of, count_at, size_at, access_at, group_at};
 
 use crate::digits::take_number;
 use crate::fault::MapFault;
@@ -20,9 +20,9 @@ struct Allowed<'t> {
 
 impl<'t> Model for Allowed<'t> {
     ghost use Rattle.dfuse_memory.specs.Ranges.{IsRange};
-    ghost use Rattle.dfuse_memory.specs.Reading.{Allows};
+    ghost use Rattle.dfuse_memory.specs.Reading.{LetterRead};
 
-    ghost Value = { Allows };
+    ghost Value = { LetterRead };
 
     ghost view = { λ a. record { access = a.access; rest = a.rest.now } };
 }
@@ -45,7 +45,7 @@ impl<'t> Model for Group<'t> {
 
 /// How many bytes a unit has, or 0.
 fn unit_of(byte: u8) -> u64
-    ensures value { result ≡ unit_of byte }
+    ensures value { result ≡ unit_bytes byte }
     ensures small { result ≤ 2 ^ 20 }
 {
     match byte {

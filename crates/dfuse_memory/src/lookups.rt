@@ -2,8 +2,8 @@
 
 ghost use Rattle.std.specs.Prelude.{◌≡◌, ◌≤◌, ◌<◌, ◌+◌, ◌^◌, ◌↔◌, true, IsTrue, IfSome};
 ghost use Rattle.std.specs.List.{All};
-ghost use Rattle.dfuse_memory.specs.Ranges.{IsRange, end_of, are_apart};
-ghost use Rattle.dfuse_memory.specs.Lookups.{has, range_at, page_at, page_in, page_end, AllGranted};
+ghost use Rattle.dfuse_memory.specs.Ranges.{IsRange, end_of_range, are_apart};
+ghost use Rattle.dfuse_memory.specs.Lookups.{has, range_at, page_at, page_in, end_of_page, AllGranted};
 
 use crate::pages::{Access, Page, Pages};
 use crate::ranges::end_of;
@@ -21,7 +21,7 @@ fn has(address: u64, pages: &Pages) -> bool
 pub(crate) fn range_at(address: u64, ranges: &[Pages]) -> Option<Pages>
     requires { All IsRange ranges.now }
     ensures value { result ≡ range_at address ranges.now }
-    ensures sound { IfSome result (λ p. IsRange p × (p.start ≤ address) × (address < end_of p)) }
+    ensures sound { IfSome result (λ p. IsRange p × (p.start ≤ address) × (address < end_of_range p)) }
 {
     for pages in ranges {
         if has(address, pages) {
@@ -35,11 +35,11 @@ pub(crate) fn range_at(address: u64, ranges: &[Pages]) -> Option<Pages>
 fn page_in(address: u64, pages: &Pages) -> Page
     requires range { IsRange pages.now }
     requires from { pages.now.start ≤ address }
-    requires to { address < end_of pages.now }
+    requires to { address < end_of_range pages.now }
     ensures value { result ≡ page_in address pages.now }
     ensures from { result.start ≤ address }
-    ensures to { address < page_end result }
-    ensures within { page_end result ≤ end_of pages.now }
+    ensures to { address < end_of_page result }
+    ensures within { end_of_page result ≤ end_of_range pages.now }
 {
     let start = pages.start as u64;
     let number = (address - start) / pages.size;
@@ -54,7 +54,7 @@ fn page_in(address: u64, pages: &Pages) -> Page
 pub(crate) fn page_at(address: u64, ranges: &[Pages]) -> Option<Page>
     requires { All IsRange ranges.now }
     ensures value { result ≡ page_at address ranges.now }
-    ensures has { IfSome result (λ p. (p.start ≤ address) × (address < page_end p) × (page_end p ≤ 2 ^ 32)) }
+    ensures has { IfSome result (λ p. (p.start ≤ address) × (address < end_of_page p) × (end_of_page p ≤ 2 ^ 32)) }
 {
     match range_at(address, ranges) {
         Some(pages) => Some(page_in(address, &pages)),

@@ -3,10 +3,10 @@
 ghost use Rattle.std.specs.Prelude.{◌≡◌, ◌≤◌, ◌<◌, ◌^◌, ◌↔◌, length, true, IsTrue, Ok, Err, IfOk, IfSome};
 ghost use Rattle.std.specs.List.{All};
 ghost use Rattle.dfuse_memory.specs.Ranges.{IsRange, are_apart};
-ghost use Rattle.dfuse_memory.specs.Reading.{Content, map_at};
+ghost use Rattle.dfuse_memory.specs.Reading.{MapContent, map_at};
 ghost use Rattle.dfuse_memory.specs.declared.fault.MapFault.{MapFault};
-ghost use Rattle.dfuse_memory.specs.Grammar.{IsMap, First};
-ghost use Rattle.dfuse_memory.specs.Lookups.{range_at, page_at, page_end, AllGranted};
+ghost use Rattle.dfuse_memory.specs.Grammar.{IsMap, FirstMapFault};
+ghost use Rattle.dfuse_memory.specs.Lookups.{range_at, page_at, end_of_page, AllGranted};
 
 use crate::apart::are_apart;
 use crate::fault::MapFault;
@@ -30,9 +30,9 @@ impl<'t> Model for Map<'t> {
     ghost use Rattle.std.specs.Prelude.{◌≡◌, true};
     ghost use Rattle.std.specs.List.{All};
     ghost use Rattle.dfuse_memory.specs.Ranges.{IsRange, are_apart};
-    ghost use Rattle.dfuse_memory.specs.Reading.{Content};
+    ghost use Rattle.dfuse_memory.specs.Reading.{MapContent};
 
-    ghost Value = { Content };
+    ghost Value = { MapContent };
 
     ghost view = { λ m. record { name = m.name.now; ranges = m.ranges.items } };
 
@@ -75,9 +75,9 @@ impl<'t> Map<'t> {
         // What is read is a map.
         ensures found { IfOk result (λ m. IsMap m text.now) }
         // Each map is read.
-        ensures only { (m : Content) → IsMap m text.now → result ≡ Ok m }
+        ensures only { (m : MapContent) → IsMap m text.now → result ≡ Ok m }
         // All else has a first fault, which is the answer.
-        ensures fault { (fault : MapFault) → (result ≡ Err fault) ↔ First fault text.now }
+        ensures fault { (fault : MapFault) → (result ≡ Err fault) ↔ FirstMapFault fault text.now }
     {
         read_map(text)
     }
@@ -109,7 +109,7 @@ impl<'t> Map<'t> {
     /// The page that has this address.
     pub fn page_at(&self, address: u32) -> Option<Page>
         ensures value { result ≡ page_at address self.now.ranges }
-        ensures has { IfSome result (λ p. (p.start ≤ address) × (address < page_end p) × (page_end p ≤ 2 ^ 32)) }
+        ensures has { IfSome result (λ p. (p.start ≤ address) × (address < end_of_page p) × (end_of_page p ≤ 2 ^ 32)) }
     {
         lookups::page_at(address as u64, &self.ranges)
     }

@@ -2,7 +2,7 @@
 
 ghost use Rattle.std.specs.Prelude.{◌≡◌, ◌<◌, length, IfSome};
 ghost use Rattle.std.specs.List.{position};
-ghost use Rattle.dfuse_memory.specs.Reading.{is_stroke, trimmed, name_at};
+ghost use Rattle.dfuse_memory.specs.Reading.{is_stroke, trimmed, map_name_at};
 
 use crate::fault::MapFault;
 use crate::text::behind;
@@ -48,9 +48,9 @@ fn stroke_in(text: &[u8]) -> Option<usize>
 }
 
 /// Takes a name that `@` begins and `/` ends.
-#[tactic(auto, using(std::proofs::lemmas::Bool::Decides::nat_tests), unfolding(crate::specs::Reading::name_at))]
+#[tactic(auto, using(std::proofs::lemmas::Bool::Decides::nat_tests), unfolding(crate::specs::Reading::map_name_at))]
 pub(crate) fn take_name(text: &[u8]) -> Result<Named<'_>, MapFault>
-    ensures { result ≡ name_at text.now }
+    ensures { result ≡ map_name_at text.now }
 {
     let Some(name) = behind(b'@', text) else {
         return Err(MapFault::NoMap);

@@ -2,9 +2,9 @@
 
 ghost use Rattle.std.specs.Prelude.{◌≡◌, ◌<◌, ◌≤◌, ◌^◌, IfOk};
 ghost use Rattle.std.specs.List.{All};
-ghost use Rattle.dfuse_memory.specs.Ranges.{IsRange, end_of, is_apart, is_apart_from, are_apart};
+ghost use Rattle.dfuse_memory.specs.Ranges.{IsRange, end_of_range, is_apart, is_apart_from, are_apart};
 ghost use Rattle.dfuse_memory.specs.Reading.{ranges_at};
-ghost use Rattle.dfuse_memory.specs.inside.Listing.{Lists};
+ghost use Rattle.dfuse_memory.specs.inside.Listing.{ListsRanges};
 
 use crate::fault::MapFault;
 use crate::group::take_group;
@@ -16,7 +16,7 @@ use arrayvec::ArrayVec;
 /// The address behind the last byte of a range.
 pub(crate) fn end_of(pages: &Pages) -> u64
     requires { IsRange pages.now }
-    ensures value { result ≡ end_of pages.now }
+    ensures value { result ≡ end_of_range pages.now }
     ensures fits { result ≤ 2 ^ 32 }
 {
     pages.start as u64 + pages.count as u64 * pages.size
@@ -25,7 +25,7 @@ pub(crate) fn end_of(pages: &Pages) -> u64
 /// Takes ranges up to the end of the text, the first of which begins at this address.
 pub(crate) fn take_ranges(start: u64, text: &[u8]) -> Result<ArrayVec<Pages, MOST_RANGES>, MapFault>
     requires { start < 2 ^ 33 }
-    ensures value { Lists result (ranges_at 32 start text.now) }
+    ensures value { ListsRanges result (ranges_at 32 start text.now) }
     ensures sound { IfOk result (λ ranges. All IsRange ranges.items) }
 {
     let mut ranges = ArrayVec::new();

@@ -13,9 +13,9 @@ pub(crate) struct Number<'t> {
 }
 
 impl<'t> Model for Number<'t> {
-    ghost use Rattle.dfuse_memory.specs.Reading.{Said};
+    ghost use Rattle.dfuse_memory.specs.Reading.{NumberRead};
 
-    ghost Value = { Said };
+    ghost Value = { NumberRead };
 
     ghost view = { λ n. record { value = n.value; rest = n.rest.now } };
 }

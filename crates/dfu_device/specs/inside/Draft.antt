@@ -10,7 +10,7 @@ use Rattle.dfu_device.specs.declared.reply.Reply.TheVariants as reply
 use Rattle.dfu_device.specs.Stage.{Reply, Ack, Data, StateOf, Stall, state_of, status_of}
 use Rattle.dfu_device.specs.Table.{Plan}
 use Rattle.dfu_device.specs.Shown.{Shown, profile}
-use Rattle.dfu_device.specs.Rows.{Answers, Done, Serves, Handles}
+use Rattle.dfu_device.specs.Rows.{Answers, Done, ServesRequest, Handles}
 
 -- The draft of a reply, where so many bytes are asked for.
 abbrev pub draft_of : (asked : ℕ) → ReplyRead → Draft
@@ -43,14 +43,14 @@ DraftDone p len w d w' = (a : Answer) (out : List ℕ) → Drafted d w' a out �
 
 -- The row of a request that goes by the table, with its answer drafted.
 abbrev pub DraftServed : Asked → List ℕ → Shown → Draft → Shown → Type 0
-DraftServed q body w d w' = (a : Answer) (out : List ℕ) → Drafted d w' a out → Serves q body w a out w'
+DraftServed q body w d w' = (a : Answer) (out : List ℕ) → Drafted d w' a out → ServesRequest q body w a out w'
 
 -- The row of a setup with its body, with its answer drafted.
 abbrev pub DraftHandled : List ℕ → List ℕ → Shown → Draft → Shown → Type 0
 DraftHandled setup body w d w' = (a : Answer) (out : List ℕ) → Drafted d w' a out → Handles setup body w a out w'
 
 -- The bytes of a draft stand at the front of a buffer.
-pub record Gave (d : Draft) (w : Shown) (a : Answer) (count : ℕ) (out out' : List ℕ) : Type 0 where
+pub record GaveDraft (d : Draft) (w : Shown) (a : Answer) (count : ℕ) (out out' : List ℕ) : Type 0 where
   pub sent : List ℕ
   pub says : Drafted d w a sent
   pub count_is : count ≡ length sent

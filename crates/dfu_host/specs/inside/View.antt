@@ -58,8 +58,8 @@ state_with memory t p = record {
 }
 
 -- The parts of a session: its task and how far it has come.
-abbrev pub parts_of : Task → Progress → Parts
-parts_of t p = record {
+abbrev pub session_parts : Task → Progress → Parts
+session_parts t p = record {
   goal = t.goal;
   transfer = t.transfer;
   tolerant = t.tolerant;

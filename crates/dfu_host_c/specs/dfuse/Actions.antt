@@ -1,16 +1,16 @@
 -- What the record of an action says, and what the buffer of bodies has.
 use Rattle.std.specs.Prelude.{◌≡◌, ◌<◌, ◌≤◌, ℕ, List, ◌++◌, length, replicate, drop}
 use Rattle.dfu_wire.specs.declared.requests.Request.{Request}
-use Rattle.dfuse_host.specs.Deeds.{Deed, Send, Wait, Done}
-use Rattle.dfuse_host.specs.Wire.{IsAsked}
-use Rattle.dfu_host_c.specs.dfuse.ReportNumbers.{more_in, report_number}
+use Rattle.dfuse_host.specs.Deeds.{DfuseDeed, Send, Wait, Done}
+use Rattle.dfuse_host.specs.Wire.{DfuseIsAsked}
+use Rattle.dfu_host_c.specs.dfuse.ReportNumbers.{more_in, dfuse_report_number}
 use Rattle.dfu_host_c.specs.declared.dfuse.action.DfuseAction.{DfuseAction}
 
 -- The record says to send a request, for which its setup asks, with so many bytes as its body, which stand at the front of the buffer; no
 -- other byte of it changes.
-pub record IsSend (q : Request) (body : List ℕ) (r : DfuseAction) (old new : List ℕ) : Type 0 where
+pub record DfuseIsSend (q : Request) (body : List ℕ) (r : DfuseAction) (old new : List ℕ) : Type 0 where
   pub what : r.what ≡ 0
-  pub asked : IsAsked q r.setup
+  pub asked : DfuseIsAsked q r.setup
   pub size : r.length ≡ length body
   pub room : length body ≤ length old
   pub copied : new ≡ body ++ drop (length body) old
@@ -18,19 +18,19 @@ pub record IsSend (q : Request) (body : List ℕ) (r : DfuseAction) (old new : L
   pub more : r.more ≡ 0
 
 -- The record says to do something else than to send a request: nothing is in it of a setup or a body, and the buffer stays.
-pub record IsOther (what value more : ℕ) (r : DfuseAction) (old new : List ℕ) : Type 0 where
+pub record DfuseIsOther (what value more : ℕ) (r : DfuseAction) (old new : List ℕ) : Type 0 where
   pub same : r ≡ record { what = what; value = value; more = more; length = 0; setup = replicate 8 0 }
   pub stays : new ≡ old
 
 -- The record says what a session does: 0 to send a request, 1 to wait so many milliseconds, and 3 that it is done, with this report. A number
 -- that an action does not have is 0.
-abbrev pub Tells : Deed → DfuseAction → (old new : List ℕ) → Type 0
-Tells (Send q body) r old new = IsSend q body r old new
-Tells (Wait ms) r old new = IsOther 1 ms 0 r old new
-Tells (Done report) r old new = IsOther 3 (report_number report) (more_in report) r old new
+abbrev pub DfuseTells : DfuseDeed → DfuseAction → (old new : List ℕ) → Type 0
+DfuseTells (Send q body) r old new = DfuseIsSend q body r old new
+DfuseTells (Wait ms) r old new = DfuseIsOther 1 ms 0 r old new
+DfuseTells (Done report) r old new = DfuseIsOther 3 (dfuse_report_number report) (more_in report) r old new
 
 -- A request is to be sent whose body has more bytes than the buffer.
-abbrev pub HasNoRoom : Deed → (old : List ℕ) → Type 0
-HasNoRoom (Send q body) old = length old < length body
-HasNoRoom (Wait ms) old = ⊥
-HasNoRoom (Done report) old = ⊥
+abbrev pub BodyHasNoRoom : DfuseDeed → (old : List ℕ) → Type 0
+BodyHasNoRoom (Send q body) old = length old < length body
+BodyHasNoRoom (Wait ms) old = ⊥
+BodyHasNoRoom (Done report) old = ⊥

@@ -1,8 +1,8 @@
 -- A DfuSe file, as records for C.
 use Rattle.std.specs.Prelude.{◌≡◌, ℕ, ℤ, List, length, Option, Some, None}
 use Rattle.dfuse_host.specs.declared.element.Element.{Element}
-use Rattle.dfuse_file.specs.Reading.{Content}
-use Rattle.dfuse_file.specs.Grammar.{IsDfuSe, First}
+use Rattle.dfuse_file.specs.Reading.{DfuseContent}
+use Rattle.dfuse_file.specs.Grammar.{IsDfuSe, FirstFileFault}
 use Rattle.dfuse_file.specs.Images.{elements_for, image_fault, one_setting, ListsBehind}
 use Rattle.dfuse_file.specs.declared.fault.FileFault.{FileFault}
 use Rattle.dfuse_file.specs.declared.image.ImageFault.{ImageFault}
@@ -15,7 +15,7 @@ setting_number (Some setting) = setting
 setting_number None = 256
 
 -- What a file says as numbers: how many targets it has, their setting, and the identifiers of its suffix.
-abbrev pub file_record : Content → DfuseFile
+abbrev pub file_record : DfuseContent → DfuseFile
 file_record f = record {
   targets = length f.targets;
   setting = setting_number (one_setting f.targets);
@@ -27,24 +27,24 @@ file_record f = record {
 -- The bytes are no DfuSe file, and this is the number of their first fault.
 pub record IsNoDfuSe (bytes : List ℕ) (result : ℤ) : Type 0 where
   pub fault : FileFault
-  pub first : First fault bytes
+  pub first : FirstFileFault fault bytes
   pub number_is : result ≡ dfuse_refusal fault
 
 -- The bytes are a DfuSe file, and the record says what it has.
 pub record HasFile (bytes : List ℕ) (r : DfuseFile) : Type 0 where
-  pub file : Content
+  pub file : DfuseContent
   pub is_file : IsDfuSe file bytes
   pub says : r ≡ file_record file
 
 -- The bytes are a DfuSe file, and the first places have all its elements for this setting, which are so many, in the order of the file.
-pub record HasElements (bytes : List ℕ) (setting : ℕ) (old new : List Element) (count : ℕ) : Type 0 where
-  pub file : Content
+pub record HasFileElements (bytes : List ℕ) (setting : ℕ) (old new : List Element) (count : ℕ) : Type 0 where
+  pub file : DfuseContent
   pub is_file : IsDfuSe file bytes
   pub listed : ListsBehind 0 (elements_for setting file.targets) old (Some count) new
 
 -- The bytes are a DfuSe file, and this is the number of why there is no image of this setting in so many places.
 pub record HasNoElements (bytes : List ℕ) (setting : ℕ) (places : ℕ) (result : ℤ) : Type 0 where
-  pub file : Content
+  pub file : DfuseContent
   pub fault : ImageFault
   pub is_file : IsDfuSe file bytes
   pub first : image_fault places setting file.targets ≡ Some fault

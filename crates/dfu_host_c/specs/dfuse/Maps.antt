@@ -1,8 +1,8 @@
 -- A memory map, as records for C.
 use Rattle.std.specs.Prelude.{◌≡◌, ℕ, ℤ, ◌+◌, ◌*◌, List, length, Some, None}
 use Rattle.std.specs.List.{slice_get}
-use Rattle.dfuse_memory.specs.Reading.{Content}
-use Rattle.dfuse_memory.specs.Grammar.{IsMap, First}
+use Rattle.dfuse_memory.specs.Reading.{MapContent}
+use Rattle.dfuse_memory.specs.Grammar.{IsMap, FirstMapFault}
 use Rattle.dfuse_memory.specs.declared.fault.MapFault.{MapFault}
 use Rattle.dfuse_memory.specs.declared.pages.Access.{Access}
 use Rattle.dfuse_memory.specs.declared.pages.Pages.{Pages}
@@ -12,7 +12,7 @@ use Rattle.dfu_host_c.specs.declared.dfuse.map.DfuseMap.{DfuseMap}
 use Rattle.dfu_host_c.specs.declared.dfuse.map.DfuseRange.{DfuseRange}
 
 -- What a map has, as numbers: how long its name is, and how many ranges there are.
-abbrev pub map_record : Content → DfuseMap
+abbrev pub map_record : MapContent → DfuseMap
 map_record m = record { name = length m.name; ranges = length m.ranges }
 
 -- What may be done with pages as a number: bit 0 to read, bit 1 to erase, bit 2 to write them.
@@ -26,18 +26,18 @@ range_record p = record { start = p.start; size = p.size; count = p.count; acces
 -- The string is no map, and this is the number of its first fault.
 pub record IsNoMap (text : List ℕ) (result : ℤ) : Type 0 where
   pub fault : MapFault
-  pub first : First fault text
+  pub first : FirstMapFault fault text
   pub number_is : result ≡ map_refusal fault
 
 -- The string is a map, and the record says what it has.
 pub record HasMap (text : List ℕ) (r : DfuseMap) : Type 0 where
-  pub map : Content
+  pub map : MapContent
   pub is_map : IsMap map text
   pub says : r ≡ map_record map
 
 -- The string is a map, and the record says its range of this number.
 pub record HasRange (text : List ℕ) (number : ℕ) (r : DfuseRange) : Type 0 where
-  pub map : Content
+  pub map : MapContent
   pub pages : Pages
   pub is_map : IsMap map text
   pub found : slice_get map.ranges number ≡ Some pages
@@ -45,6 +45,6 @@ pub record HasRange (text : List ℕ) (number : ℕ) (r : DfuseRange) : Type 0 w
 
 -- The string is a map, and has no range of this number.
 pub record HasNoRange (text : List ℕ) (number : ℕ) : Type 0 where
-  pub map : Content
+  pub map : MapContent
   pub is_map : IsMap map text
   pub none : slice_get map.ranges number ≡ None

@@ -8,7 +8,7 @@ use Rattle.dfuse_host.specs.declared.place.Place.{Place}
 use Rattle.dfuse_host.specs.declared.place.Place.TheVariants as place
 use Rattle.dfuse_host.specs.declared.step.Step.{Step}
 use Rattle.dfuse_host.specs.declared.step.Step.TheVariants as step
-use Rattle.dfu_host_c.specs.dfuse.ReportNumbers.{more_in, report_at, report_number}
+use Rattle.dfu_host_c.specs.dfuse.ReportNumbers.{more_in, dfuse_report_at, dfuse_report_number}
 use Rattle.dfu_host_c.specs.declared.dfuse.phases.Numbers.{Numbers}
 
 -- The work of this number, 0 to 6, at this address and up to that; none if there is none.
@@ -56,9 +56,9 @@ abbrev on : Work → Place → Step → Phase
 on w p s = On (record { work = w; place = p; step = s })
 
 -- The phase of these numbers: of a session that is over, or of one that goes on; none if there is none.
-abbrev pub phase_at : Numbers → Option Phase
-phase_at n =
-    if n.work == 7 then option_map Over (report_at n.report n.more)
+abbrev pub dfuse_phase_at : Numbers → Option Phase
+dfuse_phase_at n =
+    if n.work == 7 then option_map Over (dfuse_report_at n.report n.more)
     else option_and_then (λ w. option_and_then (λ p. option_map (on w p) (step_at n.step n.more)) (place_at n.place n.pointer))
     (work_at n.work n.at n.end)
 
@@ -93,10 +93,10 @@ end_in (work.CompareFront at) = 0
 end_in work.Leave = 0
 
 -- The number of what is known of the pointer, as `place_at` has it.
-abbrev pub place_number : Place → ℕ
-place_number place.Lost = 0
-place_number (place.At pointer) = 1
-place_number (place.Reading pointer) = 2
+abbrev pub dfuse_place_number : Place → ℕ
+dfuse_place_number place.Lost = 0
+dfuse_place_number (place.At pointer) = 1
+dfuse_place_number (place.Reading pointer) = 2
 
 -- The address that the pointer was set to; 0 if it isn't known.
 abbrev pub pointer_in : Place → ℕ
@@ -141,18 +141,18 @@ ms_in step.CloseProbe = 0
 ms_in step.ClosePoll = 0
 
 -- The numbers that the library writes for a phase: what it does not have is 0.
-abbrev pub numbers_in : Phase → Numbers
-numbers_in (On s) = record {
+abbrev pub dfuse_numbers_in : Phase → Numbers
+dfuse_numbers_in (On s) = record {
   work = work_number s.work;
   at = at_in s.work;
   end = end_in s.work;
-  place = place_number s.place;
+  place = dfuse_place_number s.place;
   pointer = pointer_in s.place;
   step = step_number s.step;
   more = ms_in s.step;
   report = 0;
 }
-numbers_in (Over report) = record {
+dfuse_numbers_in (Over report) = record {
   work = 7;
   at = 0;
   end = 0;
@@ -160,5 +160,5 @@ numbers_in (Over report) = record {
   pointer = 0;
   step = 0;
   more = more_in report;
-  report = report_number report;
+  report = dfuse_report_number report;
 }

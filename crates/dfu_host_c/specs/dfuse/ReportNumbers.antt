@@ -16,8 +16,8 @@ leaving_at number =
     else None
 
 -- The report of this number, 1 to 7. Verified has how the device left by its second number, and Refused its code; none if there is none.
-abbrev pub report_at : (number more : ℕ) → Option Report
-report_at number more =
+abbrev pub dfuse_report_at : (number more : ℕ) → Option Report
+dfuse_report_at number more =
     if number == 1 then option_map report.Verified (leaving_at more)
     else if number == 2 then Some report.Different
     else if number == 3 then option_map report.Refused (code_at more)
@@ -33,15 +33,15 @@ leaving_number leaving.Stayed = 0
 leaving_number leaving.Left = 1
 leaving_number leaving.Unknown = 2
 
--- The number of a report, as `report_at` has it.
-abbrev pub report_number : Report → ℕ
-report_number (report.Verified l) = 1
-report_number report.Different = 2
-report_number (report.Refused code) = 3
-report_number report.ReadProtected = 4
-report_number report.GaveUp = 5
-report_number report.RestartsSpent = 6
-report_number report.NotDfu = 7
+-- The number of a report, as `dfuse_report_at` has it.
+abbrev pub dfuse_report_number : Report → ℕ
+dfuse_report_number (report.Verified l) = 1
+dfuse_report_number report.Different = 2
+dfuse_report_number (report.Refused code) = 3
+dfuse_report_number report.ReadProtected = 4
+dfuse_report_number report.GaveUp = 5
+dfuse_report_number report.RestartsSpent = 6
+dfuse_report_number report.NotDfu = 7
 
 -- What a report has: how the device left, or a code. Every other has nothing, and it counts as 0.
 abbrev pub more_in : Report → ℕ

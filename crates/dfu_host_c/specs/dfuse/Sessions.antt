@@ -1,7 +1,7 @@
 -- What the record of a DfuSe session stands for.
 use Rattle.std.specs.Prelude.{◌≡◌, ℕ, Bool, true, false, ◌==◌, not, if◌then◌else◌, List, Option, Some, None, option_map}
 use Rattle.std.specs.Borrow.{Bor}
-use Rattle.dfuse_memory.specs.Reading.{Content}
+use Rattle.dfuse_memory.specs.Reading.{MapContent}
 use Rattle.dfuse_memory.specs.Grammar.{IsMap}
 use Rattle.dfuse_host.specs.declared.element.Element.{Element}
 use Rattle.dfuse_host.specs.declared.phase.Phase.{Phase}
@@ -9,7 +9,7 @@ use Rattle.dfuse_host.specs.declared.limits.Limits.{Limits}
 use Rattle.dfuse_host.specs.declared.plan.Plan.{Plan}
 use Rattle.dfuse_host.specs.declared.session.Session.{Session}
 use Rattle.dfu_host_c.specs.Sessions.{version}
-use Rattle.dfu_host_c.specs.dfuse.PhaseNumbers.{numbers_in, phase_at}
+use Rattle.dfu_host_c.specs.dfuse.PhaseNumbers.{dfuse_numbers_in, dfuse_phase_at}
 use Rattle.dfu_host_c.specs.declared.dfuse.phases.Numbers.{Numbers}
 use Rattle.dfu_host_c.specs.declared.dfuse.plan.DfusePlan.{DfusePlan}
 use Rattle.dfu_host_c.specs.declared.dfuse.session.DfuseSession.{DfuseSession}
@@ -29,10 +29,10 @@ numbers_of r = record {
 
 -- The phase of a record of this version; none if it is none.
 abbrev pub phase_in : DfuseSession → Option Phase
-phase_in r = if r.version == version then phase_at (numbers_of r) else None
+phase_in r = if r.version == version then dfuse_phase_at (numbers_of r) else None
 
 -- The plan of a record, over a map and an image.
-abbrev pub plan_in : DfuseSession → (map : Bor Content) → (image : Bor (List Element)) → Plan
+abbrev pub plan_in : DfuseSession → (map : Bor MapContent) → (image : Bor (List Element)) → Plan
 plan_in r map image = record {
   map = map;
   image = image;
@@ -43,7 +43,7 @@ plan_in r map image = record {
 }
 
 -- The session of a record in this phase.
-abbrev pub session_with : DfuseSession → (map : Bor Content) → (image : Bor (List Element)) → Phase → Session
+abbrev pub session_with : DfuseSession → (map : Bor MapContent) → (image : Bor (List Element)) → Phase → Session
 session_with r map image phase = record {
   plan = plan_in r map image;
   phase = phase;
@@ -52,7 +52,7 @@ session_with r map image phase = record {
 }
 
 -- The session of a record, over a map and an image; none if it has no phase, or is of another version.
-abbrev pub session_in : DfuseSession → (map : Bor Content) → (image : Bor (List Element)) → Option Session
+abbrev pub session_in : DfuseSession → (map : Bor MapContent) → (image : Bor (List Element)) → Option Session
 session_in r map image = option_map (session_with r map image) (phase_in r)
 
 -- A bit as a number.
@@ -61,17 +61,17 @@ bit true = 1
 bit false = 0
 
 -- The record that the library writes of a session.
-abbrev pub record_of : Session → DfuseSession
-record_of s = record {
+abbrev pub dfuse_record_of : Session → DfuseSession
+dfuse_record_of s = record {
   version = version;
-  work = (numbers_in s.phase).work;
-  at = (numbers_in s.phase).at;
-  end = (numbers_in s.phase).end;
-  pointer = (numbers_in s.phase).pointer;
-  place = (numbers_in s.phase).place;
-  step = (numbers_in s.phase).step;
-  more = (numbers_in s.phase).more;
-  report = (numbers_in s.phase).report;
+  work = (dfuse_numbers_in s.phase).work;
+  at = (dfuse_numbers_in s.phase).at;
+  end = (dfuse_numbers_in s.phase).end;
+  pointer = (dfuse_numbers_in s.phase).pointer;
+  place = (dfuse_numbers_in s.phase).place;
+  step = (dfuse_numbers_in s.phase).step;
+  more = (dfuse_numbers_in s.phase).more;
+  report = (dfuse_numbers_in s.phase).report;
   start = s.plan.start;
   actions = s.actions;
   restarts = s.restarts;
@@ -81,14 +81,14 @@ record_of s = record {
 }
 
 -- The record is that of this session, over the map of this string and over this image.
-pub record IsHeld (r : DfuseSession) (text : List ℕ) (image : Bor (List Element)) (s : Session) : Type 0 where
-  pub map : Bor Content
+pub record DfuseIsHeld (r : DfuseSession) (text : List ℕ) (image : Bor (List Element)) (s : Session) : Type 0 where
+  pub map : Bor MapContent
   pub is_map : IsMap map.now text
   pub says : session_in r map image ≡ Some s
 
 -- The plan of a record for C, over a map and an image.
-abbrev pub plan_of : DfusePlan → (map : Bor Content) → (image : Bor (List Element)) → Plan
-plan_of r map image = record {
+abbrev pub dfuse_plan_of : DfusePlan → (map : Bor MapContent) → (image : Bor (List Element)) → Plan
+dfuse_plan_of r map image = record {
   map = map;
   image = image;
   transfer = r.transfer;
@@ -98,5 +98,5 @@ plan_of r map image = record {
 }
 
 -- The limits of a record for C.
-abbrev pub limits_of : DfusePlan → Limits
-limits_of r = record { actions = r.actions; restarts = r.restarts }
+abbrev pub dfuse_limits_of : DfusePlan → Limits
+dfuse_limits_of r = record { actions = r.actions; restarts = r.restarts }

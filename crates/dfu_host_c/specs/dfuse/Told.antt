@@ -5,8 +5,8 @@ use Rattle.dfuse_host.specs.declared.seen.Seen.{Seen}
 use Rattle.dfuse_host.specs.declared.seen.Seen.TheVariants as seen
 
 -- What is seen by the number of C, of which 1 has these bytes; none if there is none. A session of DfuSe resets no bus.
-abbrev pub seen_at : (number : ℕ) → (bytes : Bor (List ℕ)) → Option Seen
-seen_at number bytes =
+abbrev pub dfuse_seen_at : (number : ℕ) → (bytes : Bor (List ℕ)) → Option Seen
+dfuse_seen_at number bytes =
     if number == 0 then Some seen.Ack
     else if number == 1 then Some (seen.Bytes bytes)
     else if number == 2 then Some seen.Stall

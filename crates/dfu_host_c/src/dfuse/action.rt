@@ -1,11 +1,11 @@
 //! What is to be done next, as a record for C.
 
 ghost use Rattle.std.specs.Prelude.{◌≡◌, ◌⊎◌, ℕ, List, pos};
-ghost use Rattle.dfuse_host.specs.Deeds.{Deed, Send};
-ghost use Rattle.dfuse_host.specs.Wire.{IsAsked, Spells};
+ghost use Rattle.dfuse_host.specs.Deeds.{DfuseDeed, Send};
+ghost use Rattle.dfuse_host.specs.Wire.{DfuseIsAsked, DfuseSpells};
 ghost use Rattle.dfu_wire.specs.declared.requests.Request.{Request};
-ghost use Rattle.dfu_host_c.specs.dfuse.Actions.{HasNoRoom, IsOther, Tells};
-ghost use Rattle.dfu_host_c.specs.dfuse.Calls.{IsNext, NoRoomFor, NoSession};
+ghost use Rattle.dfu_host_c.specs.dfuse.Actions.{BodyHasNoRoom, DfuseIsOther, DfuseTells};
+ghost use Rattle.dfu_host_c.specs.dfuse.Calls.{DfuseIsNext, NoRoomFor, NoSession};
 ghost use Rattle.dfu_host_c.specs.dfuse.Refusals.{no_room};
 ghost use Rattle.dfu_host_c.specs.Refusals.{no_session};
 
@@ -34,9 +34,9 @@ pub struct DfuseAction {
 
 /// Writes what is sent, with its body.
 fn send(setup: [u8; 8], sent: &[u8], body: &mut [u8], action: &mut DfuseAction) -> i32
-    ensures outcome { (request : Request) → IsAsked request setup
-        → ((result ≡ pos 0) × Tells (Send request sent.now) action.new body.old body.new)
-        ⊎ ((result ≡ no_room) × HasNoRoom (Send request sent.now) body.old × (action.new ≡ action.old) × (body.new ≡ body.old)) }
+    ensures outcome { (request : Request) → DfuseIsAsked request setup
+        → ((result ≡ pos 0) × DfuseTells (Send request sent.now) action.new body.old body.new)
+        ⊎ ((result ≡ no_room) × BodyHasNoRoom (Send request sent.now) body.old × (action.new ≡ action.old) × (body.new ≡ body.old)) }
 {
     if sent.len() > body.len() {
         return NO_ROOM;
@@ -54,7 +54,7 @@ fn send(setup: [u8; 8], sent: &[u8], body: &mut [u8], action: &mut DfuseAction) 
 
 /// What is done without a request.
 fn other(what: u32, value: u32, more: u32) -> DfuseAction
-    ensures { (bytes : List ℕ) → IsOther what value more result bytes bytes }
+    ensures { (bytes : List ℕ) → DfuseIsOther what value more result bytes bytes }
 {
     DfuseAction {
         length: 0,
@@ -67,9 +67,9 @@ fn other(what: u32, value: u32, more: u32) -> DfuseAction
 
 /// Writes an action, with its body.
 fn tell(given: Action<'_>, body: &mut [u8], action: &mut DfuseAction) -> i32
-    ensures outcome { (deed : Deed) → Spells deed given.entry
-        → ((result ≡ pos 0) × Tells deed action.new body.old body.new)
-        ⊎ ((result ≡ no_room) × HasNoRoom deed body.old × (action.new ≡ action.old) × (body.new ≡ body.old)) }
+    ensures outcome { (deed : DfuseDeed) → DfuseSpells deed given.entry
+        → ((result ≡ pos 0) × DfuseTells deed action.new body.old body.new)
+        ⊎ ((result ≡ no_room) × BodyHasNoRoom deed body.old × (action.new ≡ action.old) × (body.new ≡ body.old)) }
 {
     match given {
         Action::Send { setup, body: sent } => send(setup, sent, body, action),
@@ -95,7 +95,7 @@ pub extern "C" fn dfuse_next(
     body: &mut [u8],
     action: &mut DfuseAction,
 ) -> i32
-    ensures outcome { ((result ≡ pos 0) × IsNext session.now map.now image.entry action.new body.old body.new)
+    ensures outcome { ((result ≡ pos 0) × DfuseIsNext session.now map.now image.entry action.new body.old body.new)
         ⊎ ((result ≡ no_room) × NoRoomFor session.now map.now image.entry body.old × (action.new ≡ action.old) × (body.new ≡ body.old))
         ⊎ ((result ≡ no_session) × NoSession session.now map.now × (action.new ≡ action.old) × (body.new ≡ body.old)) }
 {

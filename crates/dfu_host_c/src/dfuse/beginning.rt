@@ -1,7 +1,7 @@
 //! The call that begins a session.
 
 ghost use Rattle.std.specs.Prelude.{◌≡◌, ◌⊎◌, pos};
-ghost use Rattle.dfu_host_c.specs.dfuse.Calls.{Begins, IsRefused};
+ghost use Rattle.dfu_host_c.specs.dfuse.Calls.{DfuseBegins, DfuseIsRefused};
 ghost use Rattle.dfu_host_c.specs.dfuse.Maps.{IsNoMap};
 
 use crate::dfuse::holding::record_of;
@@ -19,9 +19,9 @@ pub extern "C" fn dfuse_begin(
     image: &[Element<'_>],
     plan: &DfusePlan,
 ) -> i32
-    ensures outcome { ((result ≡ pos 0) × Begins map.now image.entry plan.now session.new)
+    ensures outcome { ((result ≡ pos 0) × DfuseBegins map.now image.entry plan.now session.new)
         ⊎ (IsNoMap map.now result × (session.new ≡ session.old))
-        ⊎ (IsRefused map.now image.entry plan.now result × (session.new ≡ session.old)) }
+        ⊎ (DfuseIsRefused map.now image.entry plan.now result × (session.new ≡ session.old)) }
 {
     let map = match Map::read(map) {
         Ok(map) => map,

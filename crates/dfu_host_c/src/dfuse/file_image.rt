@@ -1,7 +1,7 @@
 //! What a DfuSe file has for an alternate setting, for C.
 
 ghost use Rattle.std.specs.Prelude.{◌≡◌, ◌⊎◌, length, pos};
-ghost use Rattle.dfu_host_c.specs.dfuse.Files.{HasElements, HasNoElements, IsNoDfuSe};
+ghost use Rattle.dfu_host_c.specs.dfuse.Files.{HasFileElements, HasNoElements, IsNoDfuSe};
 
 use crate::dfuse::file_refusals;
 use dfuse_file::read;
@@ -17,7 +17,7 @@ pub extern "C" fn dfuse_file_image<'f>(
     count: &mut u64,
 ) -> i32
     ensures size { length places.new ≡ length places.old }
-    ensures outcome { ((result ≡ pos 0) × HasElements file.now setting places.old places.new count.new)
+    ensures outcome { ((result ≡ pos 0) × HasFileElements file.now setting places.old places.new count.new)
         ⊎ (IsNoDfuSe file.now result × (places.new ≡ places.old) × (count.new ≡ count.old))
         ⊎ (HasNoElements file.now setting (length places.old) result × (count.new ≡ count.old)) }
 {

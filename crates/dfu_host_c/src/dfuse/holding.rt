@@ -2,8 +2,8 @@
 
 ghost use Rattle.std.specs.Prelude.{◌≡◌, IfSome, None, Some};
 ghost use Rattle.dfuse_memory.specs.Grammar.{IsMap};
-ghost use Rattle.dfuse_memory.specs.Reading.{Content};
-ghost use Rattle.dfu_host_c.specs.dfuse.Sessions.{numbers_of, phase_in, record_of, session_in};
+ghost use Rattle.dfuse_memory.specs.Reading.{MapContent};
+ghost use Rattle.dfu_host_c.specs.dfuse.Sessions.{numbers_of, phase_in, dfuse_record_of, session_in};
 
 use crate::dfuse::phases::{Numbers, numbers_of, phase_at};
 use crate::dfuse::session::DfuseSession;
@@ -40,7 +40,7 @@ fn phase_in(given: &DfuseSession) -> Option<Phase>
 /// The map of a string; none if it is no map.
 pub(crate) fn map_of(text: &[u8]) -> Option<Map<'_>>
     ensures some { IfSome result (λ m. IsMap m text.now) }
-    ensures none { result ≡ None → (m : Content) → IsMap m text.now → ⊥ }
+    ensures none { result ≡ None → (m : MapContent) → IsMap m text.now → ⊥ }
 {
     match Map::read(text) {
         Ok(map) => Some(map),
@@ -78,7 +78,7 @@ pub(crate) fn session_of<'f>(
 
 /// The record of a session.
 pub(crate) fn record_of(session: &Session<'_>) -> DfuseSession
-    ensures value { result ≡ record_of session.now }
+    ensures value { result ≡ dfuse_record_of session.now }
     ensures says { session_in result session.now.plan.map session.now.plan.image ≡ Some session.now }
 {
     let numbers = numbers_of(session.phase);

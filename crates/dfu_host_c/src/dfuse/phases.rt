@@ -2,7 +2,7 @@
 
 ghost use Rattle.std.specs.Prelude.{◌≡◌, ◌≢◌, Some};
 ghost use Rattle.dfuse_host.specs.declared.phase.Phase.TheVariants.{On};
-ghost use Rattle.dfu_host_c.specs.dfuse.PhaseNumbers.{numbers_in, phase_at, place_at, place_number, pointer_in, step_at, step_number, ms_in, work_at, work_number, at_in, end_in};
+ghost use Rattle.dfu_host_c.specs.dfuse.PhaseNumbers.{dfuse_numbers_in, dfuse_phase_at, place_at, dfuse_place_number, pointer_in, step_at, step_number, ms_in, work_at, work_number, at_in, end_in};
 
 use crate::dfuse::reports::{report_at, report_numbers};
 use dfuse_host::{Phase, Place, Standing, Step, Work};
@@ -74,7 +74,7 @@ fn step_at(number: u32, ms: u32) -> Option<Step>
 
 /// The phase of these numbers; none if there is none.
 pub(crate) fn phase_at(n: Numbers) -> Option<Phase>
-    ensures { result ≡ phase_at n }
+    ensures { result ≡ dfuse_phase_at n }
 {
     if n.work == 7 {
         return match report_at(n.report, n.more) {
@@ -116,7 +116,7 @@ fn work_numbers(work: Work) -> (u32, u64, u64)
 /// The number of what is known of the pointer, and its address.
 fn place_numbers(place: Place) -> (u32, u64)
     ensures place { place_at result.0 result.1 ≡ Some place }
-    ensures number { result.0 ≡ place_number place }
+    ensures number { result.0 ≡ dfuse_place_number place }
     ensures pointer { result.1 ≡ pointer_in place }
 {
     match place {
@@ -153,8 +153,8 @@ fn step_numbers(step: Step) -> (u32, u32)
 
 /// The numbers of a phase.
 pub(crate) fn numbers_of(phase: Phase) -> Numbers
-    ensures phase { phase_at result ≡ Some phase }
-    ensures numbers { result ≡ numbers_in phase }
+    ensures phase { dfuse_phase_at result ≡ Some phase }
+    ensures numbers { result ≡ dfuse_numbers_in phase }
 {
     match phase {
         Phase::On(standing) => numbers_on(standing),
@@ -176,8 +176,8 @@ pub(crate) fn numbers_of(phase: Phase) -> Numbers
 
 /// The numbers of a session that goes on.
 fn numbers_on(standing: Standing) -> Numbers
-    ensures phase { phase_at result ≡ Some (On standing) }
-    ensures numbers { result ≡ numbers_in (On standing) }
+    ensures phase { dfuse_phase_at result ≡ Some (On standing) }
+    ensures numbers { result ≡ dfuse_numbers_in (On standing) }
 {
     let (work, at, end) = work_numbers(standing.work);
     let (place, pointer) = place_numbers(standing.place);

@@ -1,7 +1,7 @@
 //! Reports as numbers, both ways.
 
 ghost use Rattle.std.specs.Prelude.{◌≡◌, Some};
-ghost use Rattle.dfu_host_c.specs.dfuse.ReportNumbers.{leaving_at, leaving_number, report_at, report_number, more_in};
+ghost use Rattle.dfu_host_c.specs.dfuse.ReportNumbers.{leaving_at, leaving_number, dfuse_report_at, dfuse_report_number, more_in};
 
 use crate::reports::{code_at, code_number};
 use dfuse_host::{Leaving, Report};
@@ -20,7 +20,7 @@ fn leaving_at(number: u32) -> Option<Leaving>
 
 /// The report of a number; none if it is 0 or over 7, or what it has is the number of nothing.
 pub(crate) fn report_at(number: u32, more: u32) -> Option<Report>
-    ensures { result ≡ report_at number more }
+    ensures { result ≡ dfuse_report_at number more }
 {
     match number {
         1 => match leaving_at(more) {
@@ -54,8 +54,8 @@ fn leaving_number(leaving: Leaving) -> u32
 
 /// The number of a report, and what it has: how the device left, or a code; else 0.
 pub(crate) fn report_numbers(report: Report) -> (u32, u32)
-    ensures report { report_at result.0 result.1 ≡ Some report }
-    ensures number { result.0 ≡ report_number report }
+    ensures report { dfuse_report_at result.0 result.1 ≡ Some report }
+    ensures number { result.0 ≡ dfuse_report_number report }
     ensures more { result.1 ≡ more_in report }
 {
     match report {

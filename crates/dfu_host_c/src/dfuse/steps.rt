@@ -2,8 +2,8 @@
 
 ghost use Rattle.std.specs.Prelude.{◌≡◌, ◌⊎◌, None, pos};
 ghost use Rattle.dfu_host_c.specs.Refusals.{no_seen, no_session};
-ghost use Rattle.dfu_host_c.specs.dfuse.Calls.{NoSession, Took};
-ghost use Rattle.dfu_host_c.specs.dfuse.Told.{seen_at};
+ghost use Rattle.dfu_host_c.specs.dfuse.Calls.{NoSession, DfuseTook};
+ghost use Rattle.dfu_host_c.specs.dfuse.Told.{dfuse_seen_at};
 
 use crate::dfuse::holding::{map_of, record_of, session_of};
 use crate::dfuse::seen::seen_at;
@@ -20,9 +20,9 @@ pub extern "C" fn dfuse_take(
     seen: u32,
     bytes: &[u8],
 ) -> i32
-    ensures outcome { ((result ≡ pos 0) × Took session.old session.new map.now image.entry seen bytes.entry)
+    ensures outcome { ((result ≡ pos 0) × DfuseTook session.old session.new map.now image.entry seen bytes.entry)
         ⊎ ((result ≡ no_session) × NoSession session.old map.now × (session.new ≡ session.old))
-        ⊎ ((result ≡ no_seen) × (seen_at seen bytes.entry ≡ None) × (session.new ≡ session.old)) }
+        ⊎ ((result ≡ no_seen) × (dfuse_seen_at seen bytes.entry ≡ None) × (session.new ≡ session.old)) }
 {
     let Some(map) = map_of(map) else {
         return NO_SESSION;

@@ -4,7 +4,7 @@ use Rattle.std.specs.Io.KnownBytes.{Appends}
 use Rattle.dfu_host.specs.declared.limits.Limits.{Limits}
 use Rattle.dfu_sim.specs.Bench.{Bench}
 use Rattle.dfu_suffix.specs.Writing.{IsOutInPart}
-use Rattle.dfu_link.specs.Expecting.{Expectation, Meets, still, Fails}
+use Rattle.dfu_link.specs.Expecting.{Expectation, Meets, still, FailsToPrint}
 use Rattle.dfu_link.specs.Said.{given_bytes}
 use Rattle.dfu_link.specs.ScriptRun.{Point}
 use Rattle.dfu_link.specs.declared.scripting.expectation.Expectation.{Expectation as ExpectationHeld}
@@ -43,7 +43,7 @@ pub record PrintsNext (e : Option Expectation) (old : Option (List ℕ)) (text :
     (r : Result Unit ScriptFault) : Type 0 where
   pub ok : OnOk r (Prints e old text e' new)
   pub err : OnErr r (IsOutInPart old new text)
-  pub fault : IfErr r (λ f. Fails e text old new f)
+  pub fault : IfErr r (λ f. FailsToPrint e text old new f)
 
 -- Why a line can't be expected: one is already, or there is no memory.
 abbrev pub CannotExpect : Option Expectation → ScriptFault → Type 0

@@ -5,7 +5,7 @@ use Rattle.dfu_slots.specs.Medium.{AllWrites}
 use Rattle.dfu_slots.specs.Medium.Fuse.{Whole}
 use Rattle.dfu_slots.specs.Image.{Active}
 use Rattle.dfu_slots.specs.Seen.{SlotsState, image_of, format_series}
-use Rattle.dfu_link.specs.ScriptRun.{blank}
+use Rattle.dfu_link.specs.ScriptRun.{blank_slots}
 use Rattle.dfu_link.specs.declared.scripting.fault.ScriptFault.{ScriptFault}
 use Rattle.dfu_link.specs.declared.scripting.fault.ScriptFault.TheVariants.{BadConfig, NoMemory}
 
@@ -13,7 +13,7 @@ use Rattle.dfu_link.specs.declared.scripting.fault.ScriptFault.TheVariants.{BadC
 pub record Formed (grain : Grain) (capacity : ℕ) (image : List ℕ) (s : SlotsState) : Type 0 where
   pub whole : IsWhole grain capacity
   pub fits : length image ≤ capacity
-  pub formatted : AllWrites (blank grain capacity) (format_series (blank grain capacity) image) s.medium
+  pub formatted : AllWrites (blank_slots grain capacity) (format_series (blank_slots grain capacity) image) s.medium
   pub active : Active s.medium image
   pub image_is : image_of s ≡ image
   pub unarmed : s.medium.fuse ≡ Whole

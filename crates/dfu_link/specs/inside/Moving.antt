@@ -9,13 +9,13 @@ use Rattle.dfu_link.specs.Texts.{image_line}
 use Rattle.dfu_link.specs.Words.{lines_of}
 use Rattle.dfu_link.specs.Said.{Offer, HasTear, Said, Does, given_bytes, said_by}
 use Rattle.dfu_link.specs.Lines.{line_of}
-use Rattle.dfu_link.specs.ScriptRun.{Settings, Prepares, IsReady, at_rest, AllCome, Point, LineActs, LinesRun}
+use Rattle.dfu_link.specs.ScriptRun.{Settings, Prepares, HasToStart, at_rest, AllCome, Point, LineActs, LinesRun}
 use Rattle.dfu_link.specs.Falls.{HasBroken, BreaksIn, LineFalls, NextFalls}
 use Rattle.dfu_link.specs.TextLimit.{GoesOver, IsStopped}
 use Rattle.dfu_link.specs.Expecting.{Expectation, Meets}
 use Rattle.dfu_link.specs.inside.Expected.{at_point, Prints}
 use Rattle.dfu_link.specs.declared.scripting.expectation.Ahead.{Ahead}
-use Rattle.dfu_link.specs.inside.Source.{SourceState, Gives, Next, StopsSource}
+use Rattle.dfu_link.specs.inside.Source.{SourceState, GivesLines, Next, StopsSource}
 use Rattle.dfu_link.specs.declared.scripting.line.EventLine.{EventLine as EventLineRead}
 use Rattle.dfu_link.specs.declared.scripting.held.OfferedFile.{OfferedFile}
 use Rattle.dfu_link.specs.declared.scripting.held.OfferedFile.TheVariants.{Decoded, Given}
@@ -30,13 +30,13 @@ pub record HasPlayed (check : List ℕ) (b : Bench) (e : Option Expectation) (ev
   pub prints : Prints e old out e' new
 
 -- How playing events went: with Ok they were played, and with a fault it stopped among them.
-pub record Plays (check : List ℕ) (b : Bench) (e : Option Expectation) (events : List Happening) (old : Option (List ℕ)) (b' : Bench)
+pub record PlaysEvents (check : List ℕ) (b : Bench) (e : Option Expectation) (events : List Happening) (old : Option (List ℕ)) (b' : Bench)
     (e' : Option Expectation) (new : Option (List ℕ)) (r : Result Unit ScriptFault) : Type 0 where
   pub ok : OnOk r (HasPlayed check b e events old b' e' new)
   pub fault : IfErr r (λ f. HasBroken check b e events old new f)
 
 -- What a line says was done, and what it prints is out.
-pub record HasActed (p : Point) (said : Said) (old : Option (List ℕ)) (p' : Point) (new : Option (List ℕ)) : Type 0 where
+pub record HasDoneLine (p : Point) (said : Said) (old : Option (List ℕ)) (p' : Point) (new : Option (List ℕ)) : Type 0 where
   pub out : List ℕ
   pub acts : (k : ℕ) → LineActs k p said out p'
   pub told : Appends old new out
@@ -46,13 +46,14 @@ abbrev pub HasStopped : Point → Said → Option (List ℕ) → Option (List �
 HasStopped p said old new fault = (line : List ℕ) → line_of p.given line ≡ Some said → BreaksIn p line old new fault
 
 -- How doing what a line says went.
-pub record Acts (p : Point) (said : Said) (old : Option (List ℕ)) (p' : Point) (new : Option (List ℕ)) (r : Result Unit ScriptFault)
+pub record DoesLine (p : Point) (said : Said) (old : Option (List ℕ)) (p' : Point) (new : Option (List ℕ)) (r : Result Unit ScriptFault)
     : Type 0 where
-  pub ok : OnOk r (HasActed p said old p' new)
+  pub ok : OnOk r (HasDoneLine p said old p' new)
   pub fault : IfErr r (λ f. HasStopped p said old new f)
 
 -- The host passed so often that nothing was printed of it.
-pub record IsSilent (check : List ℕ) (b : Bench) (e : Option Expectation) (old : Option (List ℕ)) (b' : Bench) (e' : Option Expectation) (new : Option (List ℕ)) : Type 0 where
+pub record SilentPasses (check : List ℕ) (b : Bench) (e : Option Expectation) (old : Option (List ℕ)) (b' : Bench)
+    (e' : Option Expectation) (new : Option (List ℕ)) : Type 0 where
   pub times : ℕ
   pub plays : AllCome check b (replicate times (Goes Pass unharmed)) [] b'
   pub prints : Prints e old [] e' new
@@ -85,7 +86,7 @@ pub record LineEnds (k : ℕ) (p : Point) (line : List ℕ) (old : Option (List 
 pub record Moves (p : Point) (s : SourceState) (old : Option (List ℕ)) (p' : Point) (s' : SourceState) (new : Option (List ℕ)) : Type 0 where
   pub done : List (List ℕ)
   pub shown : List ℕ
-  pub gives : Gives s done s'
+  pub gives : GivesLines s done s'
   pub runs : LinesRun (s.number + 1) p done shown p'
   pub told : Appends old new shown
 
@@ -93,7 +94,7 @@ pub record Moves (p : Point) (s : SourceState) (old : Option (List ℕ)) (p' : P
 pub record Ends (p : Point) (s : SourceState) (old new : Option (List ℕ)) : Type 0 where
   pub done : List (List ℕ)
   pub last : SourceState
-  pub gives : Gives s done last
+  pub gives : GivesLines s done last
   pub ended : IsAtEnd last.left
   pub shown : List ℕ
   pub end : Point
@@ -139,15 +140,15 @@ PlainlyFalls d l k line old new fault = (b : Bench) → b.device ≡ d → LineF
 -- Lines that a source gave have set something.
 pub record Prepared (x : Settings) (s : SourceState) (x' : Settings) (s' : SourceState) : Type 0 where
   pub done : List (List ℕ)
-  pub gives : Gives s done s'
+  pub gives : GivesLines s done s'
   pub prepares : Prepares x done x'
 
 -- Lines that a source gave have set something, and now the device has to start: the next line is given, or there is none.
-pub record Configured (x : Settings) (s : SourceState) (x' : Settings) (more : Bool) (s' : SourceState) : Type 0 where
+pub record LinesConfigured (x : Settings) (s : SourceState) (x' : Settings) (more : Bool) (s' : SourceState) : Type 0 where
   pub at : SourceState
   pub prepared : Prepared x s x' at
   pub next : Next at more s'
-  pub ready : IfSome at.left (λ left. IsReady x' (lines_of left))
+  pub ready : IfSome at.left (λ left. HasToStart x' (lines_of left))
   pub reached : IfSome at.left (λ left. ¬ GoesOver at.room left)
 
 -- Lines that a source gave have set something, and then no more does.

@@ -6,8 +6,8 @@ use Rattle.dfu_link.specs.declared.scripting.setup_fault.SetupFault.{SetupFault}
 use Rattle.dfu_link.specs.declared.scripting.setup_fault.SetupFault.TheVariants as fault
 
 -- The room for images has this fault.
-abbrev pub HasFault : SetupFault → Settings → Type 0
-HasFault fault.Unit s = ¬ IsMultiple s.grain.unit s.capacity
-HasFault fault.Sector s = (0 < s.grain.sector) × (s.capacity % s.grain.sector ≢ 0)
-HasFault fault.Image s = s.capacity < length s.image
-HasFault f s = ⊥
+abbrev pub HasRoomFault : SetupFault → Settings → Type 0
+HasRoomFault fault.Unit s = ¬ IsMultiple s.grain.unit s.capacity
+HasRoomFault fault.Sector s = (0 < s.grain.sector) × (s.capacity % s.grain.sector ≢ 0)
+HasRoomFault fault.Image s = s.capacity < length s.image
+HasRoomFault f s = ⊥

@@ -19,14 +19,14 @@ check_bytes None = []
 check_bytes (Some front) = front.items
 
 -- A medium is written in this unit and erased in these sectors.
-abbrev pub grain_of : WriteUnit → Sector → Grain
-grain_of unit sector = record { unit = unit; sector = sector.bytes }
+abbrev pub setup_grain : WriteUnit → Sector → Grain
+setup_grain unit sector = record { unit = unit; sector = sector.bytes }
 
 -- What is set.
 abbrev pub settings_of : Setup → Settings
 settings_of s = record {
   device = record { ids = s.ids; functional = s.functional; least = s.least; busy_ms = s.busy_ms; manifest_ms = s.manifest_ms };
-  grain = grain_of s.unit s.sector;
+  grain = setup_grain s.unit s.sector;
   capacity = s.room.bytes;
   image = image_bytes s.image;
   check = check_bytes s.check;

@@ -38,26 +38,26 @@ pub record TakesPiece (left : Option (List ℕ)) (line : List ℕ) (bytes : ℕ)
   pub taken : Consumes left left' (if ended then piece ++ 10 ∷ [] else piece)
 
 -- These lines were taken from the front of a text, in as many bytes as the room is less.
-pub record Took (text : List ℕ) (room : ℕ) (lines : List (List ℕ)) (left : List ℕ) (room' : ℕ) : Type 0 where
+pub record TookLines (text : List ℕ) (room : ℕ) (lines : List (List ℕ)) (left : List ℕ) (room' : ℕ) : Type 0 where
   pub front : List ℕ
   pub split : text ≡ front ++ left
   pub are : lines_of text ≡ lines ++ lines_of left
   pub rooms : room ≡ length front + room'
 
 -- The same where the reader tells the text.
-abbrev pub Takes : Option (List ℕ) → ℕ → List (List ℕ) → Option (List ℕ) → ℕ → Type 0
-Takes None room lines left room' = ⊤
-Takes (Some text) room lines None room' = ⊥
-Takes (Some text) room lines (Some left) room' = Took text room lines left room'
+abbrev pub TakesLines : Option (List ℕ) → ℕ → List (List ℕ) → Option (List ℕ) → ℕ → Type 0
+TakesLines None room lines left room' = ⊤
+TakesLines (Some text) room lines None room' = ⊥
+TakesLines (Some text) room lines (Some left) room' = TookLines text room lines left room'
 
 -- A source gave these lines one after the other.
-pub record Gives (s : SourceState) (lines : List (List ℕ)) (s' : SourceState) : Type 0 where
+pub record GivesLines (s : SourceState) (lines : List (List ℕ)) (s' : SourceState) : Type 0 where
   pub count : s'.number ≡ s.number + length lines
-  pub takes : Takes s.left s.room lines s'.left s'.room
+  pub takes : TakesLines s.left s.room lines s'.left s'.room
 
 -- A source gave a line.
 pub record GivesLine (s s' : SourceState) : Type 0 where
-  pub gives : Gives s (s'.line ∷ []) s'
+  pub gives : GivesLines s (s'.line ∷ []) s'
   pub ends : IfSome s.left (λ left. ¬ GoesOver s.room left)
   pub less : s'.room < s.room
 

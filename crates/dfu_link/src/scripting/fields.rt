@@ -4,7 +4,7 @@
 ghost use Rattle.std.specs.Prelude.{◌≡◌};
 ghost use Rattle.dfu_link.specs.Words.{words_of};
 ghost use Rattle.dfu_link.specs.Said.{given_bytes, hex_bytes, offered_bytes, said_of};
-ghost use Rattle.dfu_link.specs.Lines.{Tells, number_at, short_at, hex_at, no_file, file_at, identifier_at, attributes_at, is_comment, ends};
+ghost use Rattle.dfu_link.specs.Lines.{Tells, number_field, short_at, hex_at, no_file, offered_file, identifier_at, attributes_at, is_comment, ends};
 
 use crate::scripting::hex_text::HexText;
 use crate::scripting::line::{Line, Offered};
@@ -14,9 +14,9 @@ use crate::scripting::wrong::{Field, LineFault};
 use dfu_wire::identifier;
 
 /// A number.
-#[tactic(auto, unfolding(crate::specs::Lines::number_at))]
+#[tactic(auto, unfolding(crate::specs::Lines::number_field))]
 pub(crate) fn number_at(line: &[u8], n: usize, of: usize) -> Result<(u32, &[u8]), LineFault>
-    ensures { Tells (λ x. (x.0, words_of x.1.now)) result (number_at n of (words_of line.now)) }
+    ensures { Tells (λ x. (x.0, words_of x.1.now)) result (number_field n of (words_of line.now)) }
 {
     let (word, rest) = word_at(line).ok_or(LineFault::Count(of))?;
     let value = number(word).ok_or(LineFault::Word(Field::Number, n))?;
@@ -55,14 +55,14 @@ fn no_file(word: &[u8], n: usize) -> LineFault
 }
 
 /// A file that is offered, where these bytes are given.
-#[tactic(auto, unfolding(crate::specs::Lines::file_at))]
+#[tactic(auto, unfolding(crate::specs::Lines::offered_file))]
 pub(crate) fn file_at<'l, 'g>(
     given: Option<&'g [u8]>,
     line: &'l [u8],
     n: usize,
     of: usize,
 ) -> Result<(Offered<'l, 'g>, &'l [u8]), LineFault>
-    ensures { Tells (λ x. (offered_bytes x.0, words_of x.1.now)) result (file_at (given_bytes given.entry) n of (words_of line.now)) }
+    ensures { Tells (λ x. (offered_bytes x.0, words_of x.1.now)) result (offered_file (given_bytes given.entry) n of (words_of line.now)) }
 {
     let (word, rest) = word_at(line).ok_or(LineFault::Count(of))?;
     let file = offered(given, word).ok_or(no_file(word, n))?;

@@ -3,7 +3,7 @@
 ghost use Rattle.dfu_link.specs.Words.{words_of};
 ghost use Rattle.dfu_sim.specs.Happening.{fate_of, harm_in};
 ghost use Rattle.dfu_link.specs.Said.{given_bytes, said_of, Go, Does, harm_fate};
-ghost use Rattle.dfu_link.specs.Lines.{Tells, ends, ids_of, device_of, unit_line, erase_of, capacity_of, image_of, check_of, limits_of, offer_of, time_of, refuse_of, pass_of, slip_of, harmed_of, until_of, by_fate, go_of, expect_of};
+ghost use Rattle.dfu_link.specs.Lines.{Tells, ends, said_ids, said_device, unit_line, erase_of, said_capacity, said_image, check_of, said_limits, offer_of, time_of, refuse_of, pass_of, slip_of, harmed_of, until_of, by_fate, go_of, expect_of};
 
 use crate::scripting::fields::{
     attributes_at, ended, file_at, hex_at, identifier_at, number_at, short_at,
@@ -17,9 +17,9 @@ use dfu_sim::{Aim, Fate};
 use dfu_wire::{Functional, Ids};
 
 /// `ids VVVV PPPP DDDD`.
-#[tactic(auto, unfolding(crate::specs::Lines::ids_of))]
+#[tactic(auto, unfolding(crate::specs::Lines::said_ids))]
 pub(crate) fn ids(line: &[u8]) -> Result<Line<'_, 'static>, LineFault>
-    ensures { Tells said_of result (ids_of (words_of line.now)) }
+    ensures { Tells said_of result (said_ids (words_of line.now)) }
 {
     let (vendor, rest) = identifier_at(line, 2, 4)?;
     let (product, rest) = identifier_at(rest, 3, 4)?;
@@ -33,9 +33,9 @@ pub(crate) fn ids(line: &[u8]) -> Result<Line<'_, 'static>, LineFault>
 }
 
 /// `device FF DETACH TRANSFER LEAST BUSY MANIFEST`.
-#[tactic(auto, unfolding(crate::specs::Lines::device_of))]
+#[tactic(auto, unfolding(crate::specs::Lines::said_device))]
 pub(crate) fn device(line: &[u8]) -> Result<Line<'_, 'static>, LineFault>
-    ensures { Tells said_of result (device_of (words_of line.now)) }
+    ensures { Tells said_of result (said_device (words_of line.now)) }
 {
     let (attributes, rest) = attributes_at(line, 2, 7)?;
     let (detach_ms, rest) = short_at(rest, 3, 7)?;
@@ -74,9 +74,9 @@ pub(crate) fn erase(line: &[u8]) -> Result<Line<'_, 'static>, LineFault>
 }
 
 /// `capacity N`.
-#[tactic(auto, unfolding(crate::specs::Lines::capacity_of))]
+#[tactic(auto, unfolding(crate::specs::Lines::said_capacity))]
 pub(crate) fn capacity(line: &[u8]) -> Result<Line<'_, 'static>, LineFault>
-    ensures { Tells said_of result (capacity_of (words_of line.now)) }
+    ensures { Tells said_of result (said_capacity (words_of line.now)) }
 {
     let (word, rest) = word_at(line).ok_or(LineFault::Count(2))?;
     let bytes = values::count(word, 1_048_576).ok_or(LineFault::Word(Field::Capacity, 2))?;
@@ -84,9 +84,9 @@ pub(crate) fn capacity(line: &[u8]) -> Result<Line<'_, 'static>, LineFault>
 }
 
 /// `image HEX`.
-#[tactic(auto, unfolding(crate::specs::Lines::image_of))]
+#[tactic(auto, unfolding(crate::specs::Lines::said_image))]
 pub(crate) fn image(line: &[u8]) -> Result<Line<'_, 'static>, LineFault>
-    ensures { Tells said_of result (image_of (words_of line.now)) }
+    ensures { Tells said_of result (said_image (words_of line.now)) }
 {
     let (image, rest) = hex_at(line, 2, 2)?;
     ended(Line::Set(ConfigLine::Image(image)), 2, rest)
@@ -102,9 +102,9 @@ pub(crate) fn check(line: &[u8]) -> Result<Line<'_, 'static>, LineFault>
 }
 
 /// `limits A R`.
-#[tactic(auto, unfolding(crate::specs::Lines::limits_of))]
+#[tactic(auto, unfolding(crate::specs::Lines::said_limits))]
 pub(crate) fn limits(line: &[u8]) -> Result<Line<'_, 'static>, LineFault>
-    ensures { Tells said_of result (limits_of (words_of line.now)) }
+    ensures { Tells said_of result (said_limits (words_of line.now)) }
 {
     let (actions, rest) = number_at(line, 2, 3)?;
     let (restarts, rest) = short_at(rest, 3, 3)?;

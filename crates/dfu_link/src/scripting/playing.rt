@@ -8,7 +8,7 @@ ghost use Rattle.dfu_link.specs.ScriptRun.{checked};
 ghost use Rattle.dfu_sim.specs.Refusing.{IsLive};
 ghost use Rattle.dfu_link.specs.Said.{GoesOn, harm_fate, said_by, tear_bytes};
 ghost use Rattle.dfu_link.specs.inside.Expected.{expectation_of, point_at, at_point};
-ghost use Rattle.dfu_link.specs.inside.Moving.{Plays, Acts, file_bytes};
+ghost use Rattle.dfu_link.specs.inside.Moving.{PlaysEvents, DoesLine, file_bytes};
 
 use crate::beside::Played;
 use crate::scripting::checking::checked;
@@ -31,7 +31,7 @@ fn play<'f, M: Faulty, W: Write>(
     writer: &mut W,
 ) -> Result<(), ScriptFault>
     ensures { (check : List ℕ) → checked check world.old.bench (happening event.entry) ≡ happening event.entry →
-        Plays check world.old.bench (expectation_of next.old) (happening event.entry ∷ []) (W.contents writer.old) world.new.bench
+        PlaysEvents check world.old.bench (expectation_of next.old) (happening event.entry ∷ []) (W.contents writer.old) world.new.bench
         (expectation_of next.new) (W.contents writer.new) result }
 {
     let answer = world.step(event);
@@ -77,7 +77,8 @@ fn play_actions<'f, T: Watch<M>, M: Faulty, W: Write>(
     writer: &mut W,
     watch: &mut T,
 ) -> Result<(), ScriptFault>
-    ensures { Plays check.now world.old.bench (expectation_of next.old) (replicate times (Goes (fate_of fate.entry) (harm_in fate.entry)))
+    ensures { PlaysEvents check.now world.old.bench (expectation_of next.old)
+        (replicate times (Goes (fate_of fate.entry) (harm_in fate.entry)))
         (W.contents writer.old) world.new.bench (expectation_of next.new) (W.contents writer.new) result }
 {
     for turn in 0..times {
@@ -98,7 +99,7 @@ fn pass_on<'f, T: Watch<M>, M: Faulty, W: Write>(
     watch: &mut T,
 ) -> Result<(), ScriptFault>
     ensures { (given : Option (List ℕ)) (limits : Limits) →
-        Acts (point_at given check.now limits (expectation_of next.old) world.old.bench) GoesOn (W.contents writer.old)
+        DoesLine (point_at given check.now limits (expectation_of next.old) world.old.bench) GoesOn (W.contents writer.old)
         (point_at given check.now limits (expectation_of next.new) world.new.bench) (W.contents writer.new) result }
 {
     'passes: loop {
@@ -145,7 +146,8 @@ pub(crate) fn play_events<'f, T: Watch<M>, M: Faulty, W: Write>(
 ) -> Result<(), ScriptFault>
     requires file { file.now ≡ file_bytes (said_by events) }
     requires tear { torn.now ≡ tear_bytes events }
-    ensures { Acts (at_point ahead.old world.old.bench) (said_by events.entry) (W.contents writer.old) (at_point ahead.new world.new.bench)
+    ensures { DoesLine (at_point ahead.old world.old.bench) (said_by events.entry) (W.contents writer.old)
+        (at_point ahead.new world.new.bench)
         (W.contents writer.new) result }
 {
     let limits = ahead.limits;
@@ -187,7 +189,8 @@ pub(crate) fn play_live<'f, T: Watch<M>, M: Faulty, W: Write>(
 ) -> Result<(), ScriptFault>
     requires live { IsLive world.old.bench.session }
     requires tear { torn.now ≡ tear_bytes events }
-    ensures { Acts (at_point ahead.old world.old.bench) (said_by events.entry) (W.contents writer.old) (at_point ahead.new world.new.bench)
+    ensures { DoesLine (at_point ahead.old world.old.bench) (said_by events.entry) (W.contents writer.old)
+        (at_point ahead.new world.new.bench)
         (W.contents writer.new) result }
 {
     let limits = ahead.limits;

@@ -1,7 +1,7 @@
 //! Why no device can be set up like this.
 
 ghost use Rattle.std.specs.Prelude.{IfSome};
-ghost use Rattle.dfu_link.specs.inside.SetupFaults.{HasFault};
+ghost use Rattle.dfu_link.specs.inside.SetupFaults.{HasRoomFault};
 ghost use Rattle.dfu_link.specs.inside.SetupView.{settings_of};
 
 use crate::scripting::setup::Setup;
@@ -47,7 +47,7 @@ fn device_fault(setup: &Setup<'_>, fault: ConfigFault) -> SetupFault {
 
 /// The fault of the room for images.
 fn room_fault(setup: &Setup<'_>) -> Option<SetupFault>
-    ensures { IfSome result (λ fault. HasFault fault (settings_of setup.now)) }
+    ensures { IfSome result (λ fault. HasRoomFault fault (settings_of setup.now)) }
 {
     let bytes = setup.room.bytes;
     if bytes % setup.unit.size() != 0 {

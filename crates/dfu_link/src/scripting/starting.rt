@@ -3,10 +3,10 @@
 ghost use Rattle.std.specs.Prelude.{◌≡◌, ◌≢◌, ◌<◌, ◌+◌, ◌*◌, ◌%◌, IfOk, IfErr, true, false};
 ghost use Rattle.dfu_slots.specs.Units.{gate_room, IsMultiple};
 ghost use Rattle.dfu_link.specs.Said.{hex_bytes};
-ghost use Rattle.dfu_link.specs.ScriptRun.{Starts};
+ghost use Rattle.dfu_link.specs.ScriptRun.{DeviceStarts};
 ghost use Rattle.dfu_link.specs.Falls.{StartFalls};
 ghost use Rattle.dfu_link.specs.inside.Moving.{IsUnarmed};
-ghost use Rattle.dfu_link.specs.inside.SetupView.{settings_of, grain_of, image_bytes};
+ghost use Rattle.dfu_link.specs.inside.SetupView.{settings_of, setup_grain, image_bytes};
 ghost use Rattle.dfu_link.specs.inside.Forming.{Formed, FormFalls};
 
 use crate::scripting::fault::ScriptFault;
@@ -46,7 +46,7 @@ pub(crate) fn first_image<'s>(setup: &'s Setup<'_>) -> &'s [u8]
 /// How many bytes a medium of two slots has that is written in this unit and erased in these sectors,
 /// with so much room.
 fn medium_len(unit: Unit, sector: Sector, room: Room) -> u32
-    ensures value { result ≡ 2 * (2 * gate_room (grain_of unit sector) + room.bytes) }
+    ensures value { result ≡ 2 * (2 * gate_room (setup_grain unit sector) + room.bytes) }
     ensures whole { IsMultiple unit room.bytes → IsMultiple unit result }
 {
     2 * (2 * unit.size().max(16).max(sector.bytes) + room.bytes)
@@ -68,8 +68,8 @@ fn form(
     room: Room,
     image: &[u8],
 ) -> Result<Slots<SimMedium>, ScriptFault>
-    ensures ok { IfOk result (λ slots. Formed (grain_of unit sector) room.bytes image.now slots) }
-    ensures fault { IfErr result (λ f. FormFalls (grain_of unit sector) room.bytes image.now f) }
+    ensures ok { IfOk result (λ slots. Formed (setup_grain unit sector) room.bytes image.now slots) }
+    ensures fault { IfErr result (λ f. FormFalls (setup_grain unit sector) room.bytes image.now f) }
 {
     if room.bytes % unit.size() != 0 {
         return Err(ScriptFault::BadConfig);
@@ -93,7 +93,7 @@ fn form(
 
 /// Starts the device, in appIDLE on a formatted medium in memory.
 fn start_device(alloc: Global, setup: &Setup<'_>) -> Result<Device<SimMedium>, ScriptFault>
-    ensures ok { IfOk result (λ d. Starts (settings_of setup.now) d) }
+    ensures ok { IfOk result (λ d. DeviceStarts (settings_of setup.now) d) }
     ensures unarmed { IfOk result (λ d. IsUnarmed d) }
     ensures fault { IfErr result (λ f. StartFalls (settings_of setup.now) f) }
 {
@@ -123,7 +123,7 @@ pub(crate) fn start(
     setup: &Setup<'_>,
     stopped: &Stopped,
 ) -> Result<Device<SimMedium>, ScriptFault>
-    ensures ok { IfOk result (λ d. Starts (settings_of setup.now) d) }
+    ensures ok { IfOk result (λ d. DeviceStarts (settings_of setup.now) d) }
     ensures unarmed { IfOk result (λ d. IsUnarmed d) }
     ensures fault { IfErr result (λ f. StartFalls (settings_of setup.now) f) }
 {

@@ -2,7 +2,7 @@
 
 ghost use Rattle.std.specs.Prelude.{◌≡◌, ◌≤◌, IfSome};
 ghost use Rattle.dfu_link.specs.Words.{Reads};
-ghost use Rattle.dfu_link.specs.Fields.{small_of, count_of, attributes_of, unit_named, unit_of, sector_of, objection_of};
+ghost use Rattle.dfu_link.specs.Fields.{small_of, count_of, attributes_of_word, unit_named, unit_of_word, sector_of, objection_of};
 
 use crate::scripting::line::Sector;
 use crate::scripting::words::{number, pair};
@@ -40,9 +40,9 @@ pub(crate) fn short(word: &[u8]) -> Option<u16>
 }
 
 /// The attributes of a functional descriptor: two hexadecimal digits, 00 to 0f.
-#[tactic(auto, unfolding(crate::specs::Fields::attributes_of), using(std::proofs::lemmas::Bool::Decides::nat_tests))]
+#[tactic(auto, unfolding(crate::specs::Fields::attributes_of_word), using(std::proofs::lemmas::Bool::Decides::nat_tests))]
 pub(crate) fn attributes(word: &[u8]) -> Option<u8>
-    ensures { Reads (λ n. n) result (attributes_of word.now) }
+    ensures { Reads (λ n. n) result (attributes_of_word word.now) }
 {
     let n = pair(word)?;
     if n <= 15 { Some(n) } else { None }
@@ -62,9 +62,9 @@ fn unit_named(bytes: u32) -> Option<Unit>
 }
 
 /// How many bytes the medium writes at a time.
-#[tactic(auto, unfolding(crate::specs::Fields::unit_of))]
+#[tactic(auto, unfolding(crate::specs::Fields::unit_of_word))]
 pub(crate) fn unit(word: &[u8]) -> Option<Unit>
-    ensures { result ≡ unit_of word.now }
+    ensures { result ≡ unit_of_word word.now }
 {
     let n = number(word)?;
     unit_named(n)

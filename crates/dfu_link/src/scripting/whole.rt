@@ -4,7 +4,7 @@ ghost use Rattle.std.specs.Prelude.{IfOk, IfErr, IfSome};
 ghost use Rattle.dfu_link.specs.Said.{given_bytes};
 ghost use Rattle.dfu_link.specs.Falls.{Ended};
 ghost use Rattle.dfu_link.specs.Printed.{HasPrinted};
-ghost use Rattle.dfu_link.specs.inside.Moving.{Configured, CannotConfigure};
+ghost use Rattle.dfu_link.specs.inside.Moving.{LinesConfigured, CannotConfigure};
 ghost use Rattle.dfu_link.specs.inside.SetupView.{settings_of};
 
 use crate::beside::Beside;
@@ -31,7 +31,7 @@ fn configure<R: Read + Drop>(
     source: &mut Source<R>,
     stopped: &Stopped,
 ) -> Result<bool, ScriptFault>
-    ensures ok { IfOk result (λ more. Configured (settings_of setup.old) source.old (settings_of setup.new) more source.new) }
+    ensures ok { IfOk result (λ more. LinesConfigured (settings_of setup.old) source.old (settings_of setup.new) more source.new) }
     ensures fault { IfErr result (λ f. CannotConfigure (settings_of setup.old) source.old f) }
 {
     'settings: loop {

@@ -3,7 +3,7 @@
 ghost use Rattle.std.specs.Prelude.{◌≡◌, ◌↔◌, ◌+◌, ◌*◌, Some, None, IsTrue, is_some};
 ghost use Rattle.std.specs.List.{position, AllPass};
 ghost use Rattle.hex.specs.Hex.{is_hex_digit};
-ghost use Rattle.dfu_link.specs.Words.{Reads, is_space, is_no_space, words_of, first, text_behind, number_of, bytes_of, pair_of};
+ghost use Rattle.dfu_link.specs.Words.{Reads, is_space, is_no_space, words_of, first_word, text_behind, number_of, hex_word_bytes, pair_of};
 ghost use Rattle.dfu_link.specs.Said.{given_bytes, hex_bytes, offered_bytes};
 ghost use Rattle.dfu_link.specs.Fields.{named_bytes};
 
@@ -26,7 +26,7 @@ fn start_at(line: &[u8]) -> Option<usize>
 
 /// The first word, and the line after it. Nothing where there is no word.
 pub(crate) fn word_at(line: &[u8]) -> Option<(&[u8], &[u8])>
-    ensures { Reads (λ x. (x.0.now, words_of x.1.now)) result (first (words_of line.now)) }
+    ensures { Reads (λ x. (x.0.now, words_of x.1.now)) result (first_word (words_of line.now)) }
 {
     let start = start_at(line)?;
     let (_, line) = line.split_at(start);
@@ -82,7 +82,7 @@ fn are_digits(word: &[u8]) -> bool
 }
 
 fn is_hex_text(word: &[u8]) -> bool
-    ensures { result ≡ is_some (bytes_of word.now) }
+    ensures { result ≡ is_some (hex_word_bytes word.now) }
 {
     if word == b"-".as_slice() {
         return true;
@@ -92,7 +92,7 @@ fn is_hex_text(word: &[u8]) -> bool
 
 /// An even number of hexadecimal digits of either case, or `-` for no bytes.
 pub(crate) fn hex_text(word: &[u8]) -> Option<HexText<'_>>
-    ensures { Reads hex_bytes result (bytes_of word.now) }
+    ensures { Reads hex_bytes result (hex_word_bytes word.now) }
 {
     if is_hex_text(word) {
         Some(HexText { text: word })

@@ -20,7 +20,7 @@ use Rattle.dfu_sim.specs.declared.fault.LinkFault.{LinkFault}
 use Rattle.dfu_sim.specs.declared.fault.LinkFault.TheVariants.{NoHost}
 use Rattle.dfu_sim.specs.Happening.{Harm, harmed}
 use Rattle.dfu_sim.specs.Bench.{Session, Nobody, Hosted}
-use Rattle.dfu_sim.specs.Opening.{goal_of}
+use Rattle.dfu_sim.specs.Opening.{goal_of_aim}
 use Rattle.dfu_sim.specs.Play.{silent, Took, settled}
 use Rattle.dfu_sim.specs.Bytes.{HearsBack}
 use Rattle.dfu_sim.specs.Refusing.{IsOffered}
@@ -41,7 +41,7 @@ seen_over FailsWrite s = s
 seen_over LiesInWrite s = s
 
 -- A host took what it heard of what came back. It finds no memory only where its phase wants some.
-pub record HasHeard (h : HostState) (b : Back) (out : List ℕ) (h' : HostState) : Type 0 where
+pub record HasHeardBack (h : HostState) (b : Back) (out : List ℕ) (h' : HostState) : Type 0 where
   pub heard : Heard
   pub hears : HearsBack (deed h.task h.phase) b out heard
   pub room : heard ≡ NoRoom → IsTrue (wants_memory h.phase)
@@ -67,4 +67,4 @@ abort_told (Hosted h) = Ok None
 pub record HasBegun (s : Setting) (aim : Aim) (file : List ℕ) (limits : Limits) (h : HostState) : Type 0 where
   pub content : Content
   pub offered : IsOffered s aim file content.payload
-  pub host : h ≡ started s.functional (goal_of aim content.payload) limits
+  pub host : h ≡ started s.functional (goal_of_aim aim content.payload) limits

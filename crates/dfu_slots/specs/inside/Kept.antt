@@ -5,7 +5,7 @@ use Rattle.dfu_slots.specs.Seen.{SlotsState}
 use Rattle.dfu_slots.specs.Store.{IsStore}
 
 -- It is a store, and these are the places of its active slot and of its spare.
-pub record IsKept (s : SlotsState) (active spare : ℕ) : Type 0 where
+pub record IsStoreAt (s : SlotsState) (active spare : ℕ) : Type 0 where
   pub store : IsStore s
   pub active_there : active ≡ active_at (gate_of s.medium) s.medium.bytes
   pub spare_there : spare ≡ spare_at (gate_of s.medium) s.medium.bytes

@@ -2,7 +2,7 @@
 use Rattle.std.specs.Prelude.{ℕ, ◌-◌, ◌==◌, ◌||◌, Bool, not, nat_lt, if◌then◌else◌, List, drop, slice_index, Result, Ok, Err}
 use Rattle.byteorder.specs.Endian.{little_number}
 use Rattle.dfu_suffix.specs.Grammar.{is_signed}
-use Rattle.dfu_suffix.specs.inside.Reading.{ids_of}
+use Rattle.dfu_suffix.specs.inside.Reading.{tail_ids}
 use Rattle.dfu_suffix.specs.declared.summary.Summary.{Summary}
 use Rattle.dfu_suffix.specs.declared.fault.SuffixFault.{SuffixFault}
 use Rattle.dfu_suffix.specs.declared.fault.SuffixFault.TheVariants.{TooShort, NoSignature, BadLength, DfuSe, BadCrc}
@@ -12,14 +12,14 @@ abbrev pub told_by : List ℕ → ℕ → Summary
 told_by tail count = record {
   payload = count - slice_index tail 11;
   suffix = slice_index tail 11;
-  ids = ids_of tail;
+  ids = tail_ids tail;
   dfu = little_number 2 (drop 6 tail);
   crc = little_number 4 (drop 12 tail);
 }
 
 -- The last 16 of so many bytes say a summary, or a fault that has nothing to do with the register or the limit.
-unfoldable pub told : List ℕ → ℕ → Result Summary SuffixFault
-told tail count =
+unfoldable pub tail_summary : List ℕ → ℕ → Result Summary SuffixFault
+tail_summary tail count =
     if nat_lt count 16 then Err TooShort
     else if not (is_signed tail) then Err NoSignature
     else if nat_lt (slice_index tail 11) 16 || nat_lt count (slice_index tail 11) then Err BadLength
@@ -33,4 +33,4 @@ sealed intact (Err fault) = Err fault
 
 -- A file that isn't too large is judged by its last 16 bytes, its length, and the register over all of it.
 abbrev pub judged : List ℕ → ℕ → ℕ → Result Summary SuffixFault
-judged tail count register = sealed (register == 0) (told tail count)
+judged tail count register = sealed (register == 0) (tail_summary tail count)

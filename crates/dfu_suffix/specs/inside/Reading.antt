@@ -6,8 +6,8 @@ use Rattle.dfu_wire.specs.declared.ids.Ids.{Ids}
 use Rattle.dfu_suffix.specs.declared.fault.SuffixFault.{SuffixFault}
 
 -- The last 16 bytes say these identifiers.
-abbrev pub ids_of : List ℕ → Ids
-ids_of tail = record {
+abbrev pub tail_ids : List ℕ → Ids
+tail_ids tail = record {
   device = little_number 2 (drop 0 tail);
   product = little_number 2 (drop 2 tail);
   vendor = little_number 2 (drop 4 tail);
@@ -17,7 +17,7 @@ ids_of tail = record {
 abbrev pub content_of : List ℕ → Content
 content_of bytes = record {
   payload = take (length bytes - slice_index (tail_of bytes) 11) bytes;
-  ids = ids_of (tail_of bytes);
+  ids = tail_ids (tail_of bytes);
   dfu = little_number 2 (drop 6 (tail_of bytes));
   suffix = slice_index (tail_of bytes) 11;
 }

@@ -5,11 +5,11 @@ use Rattle.dfuse_memory.specs.declared.pages.Pages.{Pages}
 use Rattle.dfuse_memory.specs.declared.fault.MapFault.{MapFault}
 
 -- Ranges before others, unless these have a fault.
-abbrev pub joined : List Pages → Result (List Pages) MapFault → Result (List Pages) MapFault
-joined before (Err fault) = Err fault
-joined before (Ok more) = Ok (before ++ more)
+abbrev pub ranges_joined : List Pages → Result (List Pages) MapFault → Result (List Pages) MapFault
+ranges_joined before (Err fault) = Err fault
+ranges_joined before (Ok more) = Ok (before ++ more)
 
 -- The vector has these ranges, or the fault is this one.
-abbrev pub Lists : Result (ArrayVec Pages) MapFault → Result (List Pages) MapFault → Type 0
-Lists (Err fault) read = read ≡ Err fault
-Lists (Ok ranges) read = read ≡ Ok ranges.items
+abbrev pub ListsRanges : Result (ArrayVec Pages) MapFault → Result (List Pages) MapFault → Type 0
+ListsRanges (Err fault) read = read ≡ Err fault
+ListsRanges (Ok ranges) read = read ≡ Ok ranges.items

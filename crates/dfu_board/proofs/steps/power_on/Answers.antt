@@ -3,7 +3,7 @@ use Rattle.std.proofs.Common.{refl, sym, subst}
 use Rattle.dfu_slots.specs.Medium.{MediumState}
 use Rattle.dfu_slots.specs.Image.{HasImage}
 use Rattle.dfu_board.specs.Board.{Restart, Nothing}
-use Rattle.dfu_board.specs.Happens.{Starts, Happens}
+use Rattle.dfu_board.specs.Happens.{BoardStarts, Happens}
 use Rattle.dfu_board.specs.Steps.{board}
 use Rattle.dfu_board.proofs.Served.{on_step, some_of, on_some}
 use Rattle.dfu_board.proofs.steps.power_on.Goals as goal
@@ -15,7 +15,7 @@ returns-clause-on c = λ block held.
 
 pub returns-clause-step : goal.returns-clause-step
 returns-clause-step c = λ b block held same.
-    on_some (λ a. Starts false (board a block held c.args.flash.now))
+    on_some (λ a. BoardStarts false (board a block held c.args.flash.now))
     (λ a. Happens b (Restart false) Nothing (board a block held c.args.flash.now)) c.power_on.result (λ a on. (refl, sym same, on))
     (on_step c.power_on.result block held c.args.flash.now c.args.config c.args.unit c.args.sector
     (c.power_on.ensures.device block held) (c.power_on.ensures.is block held) c.power_on.ensures.work c.power_on.ensures.sector)

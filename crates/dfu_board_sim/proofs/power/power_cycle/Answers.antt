@@ -1,5 +1,5 @@
 use Rattle.std.proofs.Common.{false, ◌∙◌, refl, sym, ap, subst, List, [], ◌∷◌, ℕ}
-use Rattle.dfu_board.specs.Happens.{Starts}
+use Rattle.dfu_board.specs.Happens.{BoardStarts}
 use Rattle.dfu_board.specs.Steps.{board}
 use Rattle.dfu_board_sim.specs.Standing.{board_of}
 use Rattle.dfu_board_sim.proofs.Resting.{room_on}
@@ -12,7 +12,8 @@ returns-clause-restarted c =
     let a = c.in-Some.asking in
     let set_up = c.in-Some.ensures.set_up in
     restarted (board_of chip) (board a chip.block chip.held chip.flash.items) refl
-    (subst (λ (f : List ℕ). Starts false (board a chip.block chip.held f)) c.deref.ensures.value (c.in-Some.ensures.on chip.block chip.held))
+    (subst (λ (f : List ℕ). BoardStarts false (board a chip.block chip.held f)) c.deref.ensures.value
+    (c.in-Some.ensures.on chip.block chip.held))
     (record { config = set_up.0; unit = set_up.1; sector = set_up.2 })
 
 pub returns-clause-stands : goal.returns-clause-stands
@@ -22,7 +23,7 @@ returns-clause-stands c =
     let set_up = c.in-Some.ensures.set_up in
     let b = board_of chip in
     let b' = board a chip.block chip.held chip.flash.items in
-    let on : Starts false b' = subst (λ (f : List ℕ). Starts false (board a chip.block chip.held f)) c.deref.ensures.value
+    let on : BoardStarts false b' = subst (λ (f : List ℕ). BoardStarts false (board a chip.block chip.held f)) c.deref.ensures.value
     (c.in-Some.ensures.on chip.block chip.held) in
     let power = restarted b b' refl on (record { config = set_up.0; unit = set_up.1; sector = set_up.2 }) in
     let room = room_on b b' c.requires.holds.room (record { config = set_up.0; unit = set_up.1; sector = set_up.2 }) refl in

@@ -2,7 +2,7 @@ use Rattle.std.specs.Prelude.{Option, Some, None, IfSome, IfNone}
 use Rattle.std.proofs.Common.{◌≡◌, inl, inr, refl, ap, subst, ◌∙◌, w32, arith}
 use Rattle.std.proofs.lemmas.Int.{to_z-of_z}
 use Rattle.dfu_device_c.specs.declared.refusal.Refusal.{Refusal}
-use Rattle.dfu_device_c.specs.Kept.{block_in, held_in}
+use Rattle.dfu_device_c.specs.Kept.{block_in, held_back_in}
 use Rattle.dfu_device_c.specs.Numbers.{refusal_number}
 use Rattle.dfu_device_c.proofs.Found.{is_found}
 use Rattle.dfu_device_c.proofs.candidate.dfu_core_candidate.Goals as goal
@@ -22,7 +22,7 @@ returns-in-Ok-Some c = record {
     is = (is_found _ _ _ _ _ c.in-Ok.is c.found.ensures.ok c.found.ensures.config c.found.ensures.room).ok;
     within = of_some _ _ _ c.in-Ok-Some.field-0-is c.in-Ok-Some.ensures.within;
     there = λ block whole. of_some _ _ _ c.in-Ok-Some.field-0-is
-        (c.in-Ok-Some.ensures.some (block_in c.in-Ok.asking block) (held_in c.in-Ok.asking block) whole);
+        (c.in-Ok-Some.ensures.some (block_in c.in-Ok.asking block) (held_back_in c.in-Ok.asking block) whole);
   });
 }
 
@@ -35,7 +35,7 @@ returns-in-Ok-None c = record {
       asking = c.in-Ok.asking;
       is = (is_found _ _ _ _ _ c.in-Ok.is c.found.ensures.ok c.found.ensures.config c.found.ensures.room).ok;
       none = λ block. of_none _ _ c.in-Ok-None.field-0-is
-          (c.in-Ok-None.ensures.none (block_in c.in-Ok.asking block) (held_in c.in-Ok.asking block));
+          (c.in-Ok-None.ensures.none (block_in c.in-Ok.asking block) (held_back_in c.in-Ok.asking block));
     }),
   );
 }
@@ -50,7 +50,7 @@ returns-in-Err-candidate c = record {
       c.in-Err-candidate.refusal,
       to_z-of_z w32 _ (omega (arith, c.number-in-Err-candidate.type_inv)) ∙ c.number-in-Err-candidate.ensures
           ∙ ap (λ (e : Refusal). refusal_number e) c.refused.ensures,
-      λ block. c.in-Err-candidate.ensures.refused (block_in c.in-Ok.asking block) (held_in c.in-Ok.asking block),
+      λ block. c.in-Err-candidate.ensures.refused (block_in c.in-Ok.asking block) (held_back_in c.in-Ok.asking block),
     )),
   );
 }

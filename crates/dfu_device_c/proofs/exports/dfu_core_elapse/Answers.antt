@@ -8,7 +8,7 @@ use Rattle.dfu_asks.specs.Refused.{Fits}
 use Rattle.dfu_device_c.specs.declared.refusal.Refusal.{Refusal}
 use Rattle.dfu_device_c.specs.Kept.{with_memory}
 use Rattle.dfu_device_c.specs.Numbers.{passed_number}
-use Rattle.dfu_device_c.specs.Calls.{Passed, IsIntact, IsRefusedAsking}
+use Rattle.dfu_device_c.specs.Calls.{TimePassed, IsIntact, IsRefusedAsking}
 use Rattle.dfu_device_c.proofs.Kept.{goes, refuses}
 use Rattle.dfu_device_c.proofs.Found.{cause_of, is_found}
 use Rattle.dfu_device_c.proofs.Split.{split_in, has_room, whole, refused_for, unchanged, called, cut}
@@ -44,7 +44,7 @@ returns-in-Ok-Asks c =
     let zeros : List ℕ = 0 ∷ 0 ∷ 0 ∷ 0 ∷ 0 ∷ 0 ∷ [] in
     record {
       outcome = inl (goes c.args.config.now r block c.keep.new.kept memory a a'
-          (λ x y. Passed (IsIntact block flash x) (with_memory block x) flash
+          (λ x y. TimePassed (IsIntact block flash x) (with_memory block x) flash
           (λ z sent d'. (z ≡ answer.Ack) × (sent ≡ []) × Elapses c.args.ms (device_in (with_memory block x) flash) d') _
           (with_memory memory y))
           found.config found.room found.ok done.same (c.keep.ensures c.args.config.now)
@@ -82,7 +82,7 @@ returns-in-Ok-Answered c =
     let zeros : List ℕ = 0 ∷ 0 ∷ 0 ∷ 0 ∷ 0 ∷ 0 ∷ [] in
     record {
       outcome = inl (goes c.args.config.now r block c.keep-in-Ok-Answered.new.kept memory a a'
-          (λ x y. Passed (IsIntact block flash x) (with_memory block x) flash
+          (λ x y. TimePassed (IsIntact block flash x) (with_memory block x) flash
           (λ z sent d'. (z ≡ answer.Ack) × (sent ≡ []) × Elapses c.args.ms (device_in (with_memory block x) flash) d') _
           (with_memory memory y))
           found.config found.room found.ok done.same (c.keep-in-Ok-Answered.ensures c.args.config.now)

@@ -4,7 +4,7 @@ use Rattle.dfu_device.specs.Lent.{answer_room}
 use Rattle.dfu_device.specs.Rows.{Handles}
 use Rattle.dfu_asks.specs.Lent.{lent}
 use Rattle.dfu_asks.specs.Asks.{device_in}
-use Rattle.dfu_asks.specs.Calls.{Called}
+use Rattle.dfu_asks.specs.Calls.{DeviceCalled}
 use Rattle.dfu_asks.specs.Refused.{Fits}
 use Rattle.dfu_device_c.specs.declared.refusal.Refusal.{Refusal}
 use Rattle.dfu_device_c.specs.Addressed.{addressed}
@@ -56,7 +56,7 @@ returns-in-Ok-Asks-clause-outcome c =
           (λ l z sent d'. Handles (addressed c.args.config.now.interface c.args.setup.now) c.args.body.now (device_in l flash) z sent d')
           c.in-Ok-Asks.field-0 (with_memory block a) (lent a front held) (with_memory memory a')
           (lent a' c.handle.new.block c.handle.new.held) parts.before parts.after
-          (subst (λ (x : List ℕ). Called (lent a front held) flash c.args.out.now
+          (subst (λ (x : List ℕ). DeviceCalled (lent a front held) flash c.args.out.now
           (λ z sent d'. Handles x c.args.body.now (device_in (lent a front held) flash) z sent d')
           (lent a' c.handle.new.block c.handle.new.held) c.handle.new.out c.in-Ok-Asks.field-0) c.addressed-setup.ensures
           (done.outcome (whole a block front held parts.was flash intact)));
@@ -91,7 +91,7 @@ returns-in-Ok-Answered-clause-outcome c =
           (λ l z sent d'. Handles (addressed c.args.config.now.interface c.args.setup.now) c.args.body.now (device_in l flash) z sent d')
           c.in-Ok-Answered.field-0 (with_memory block a) (lent a front held) (with_memory memory a')
           (lent a' c.handle.new.block c.handle.new.held) parts.before parts.after
-          (subst (λ (x : List ℕ). Called (lent a front held) flash c.args.out.now
+          (subst (λ (x : List ℕ). DeviceCalled (lent a front held) flash c.args.out.now
           (λ z sent d'. Handles x c.args.body.now (device_in (lent a front held) flash) z sent d')
           (lent a' c.handle.new.block c.handle.new.held) c.handle.new.out c.in-Ok-Answered.field-0) c.addressed-setup.ensures
           (done.outcome (whole a block front held parts.was flash intact)));

@@ -1,6 +1,6 @@
 use Rattle.std.proofs.Common.{ℕ, length, refl, sym, subst, inl, inr}
 use Rattle.dfu_asks.specs.Steps.{Step}
-use Rattle.dfu_asks.specs.Carried.{IsPiece, IsSound}
+use Rattle.dfu_asks.specs.Carried.{IsPiece, ErasesWhole}
 use Rattle.dfu_asks.specs.Phases.{steps_left}
 use Rattle.dfu_device_c.proofs.Handed.{is_kind, programs, by_number, same_step}
 use Rattle.dfu_device_c.proofs.format.dfu_core_format_next.Goals as goal
@@ -56,8 +56,8 @@ returns c =
         piece = subst (λ (s : Step). IsPiece (steps_left f (length flash) image) f.done s) (sym same) says.piece;
         some = says.most.some;
         most = λ two. says.most.programs (programs p.erases c.kind_of-ask.result c.kind_of-ask.ensures two);
-        sector = subst (λ (n : ℕ). IsSound n (by_number c.kind_of-ask.result p.at p.len c.next.new.out)) is.sector
-            (subst (λ (s : Step). IsSound f.sector.size s) (sym same) says.sector);
+        sector = subst (λ (n : ℕ). ErasesWhole n (by_number c.kind_of-ask.result p.at p.len c.next.new.out)) is.sector
+            (subst (λ (s : Step). ErasesWhole f.sector.size s) (sym same) says.sector);
         within = says.within.0;
       });
     }

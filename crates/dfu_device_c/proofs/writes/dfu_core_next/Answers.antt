@@ -1,7 +1,7 @@
 use Rattle.std.proofs.Common.{inl, inr, ℕ, refl, sym, ◌∙◌, subst, w32, arith}
 use Rattle.std.proofs.lemmas.Int.{to_z-of_z}
 use Rattle.dfu_asks.specs.Steps.{Step}
-use Rattle.dfu_asks.specs.Carried.{IsPiece, IsSound}
+use Rattle.dfu_asks.specs.Carried.{IsPiece, ErasesWhole}
 use Rattle.dfu_asks.specs.Asks.{steps_in}
 use Rattle.dfu_asks.specs.Lent.{LentAsking, lent}
 use Rattle.dfu_device_c.specs.Writes.{IsAsking, refuses_unfound, refuses_piece}
@@ -90,8 +90,8 @@ returns c =
             (subst (λ (s : Step). IsPiece (steps_in l due.0) due.0.done s) (sym same) (says.piece due.0 due.1.work_is));
         some = says.most.some;
         most = λ is. says.most.programs (programs p.erases c.kind_of-ask.result c.kind_of-ask.ensures is);
-        sector = subst (λ (n : ℕ). IsSound n (by_number c.kind_of-ask.result p.at p.len c.next.new.out)) found.ok.set_up.sector_is
-            (subst (λ (s : Step). IsSound l.sector.size s) (sym same) says.sector);
+        sector = subst (λ (n : ℕ). ErasesWhole n (by_number c.kind_of-ask.result p.at p.len c.next.new.out)) found.ok.set_up.sector_is
+            (subst (λ (s : Step). ErasesWhole l.sector.size s) (sym same) says.sector);
         spare = says.spare;
       });
     }

@@ -6,12 +6,12 @@ use Rattle.dfu_asks.specs.Steps.{Step}
 use Rattle.dfu_asks.specs.Carried.{IsPiece}
 use Rattle.dfu_asks.specs.Lent.{LentAsking, lent}
 use Rattle.dfu_asks.specs.Asks.{device_of, steps_in}
-use Rattle.dfu_asks.specs.Calls.{Asks, Took}
+use Rattle.dfu_asks.specs.Calls.{AsksWrites, DeviceTook}
 use Rattle.dfu_asks.specs.Refused.{IsLeft}
 use Rattle.dfu_device_c.specs.Kept.{with_memory}
 use Rattle.dfu_device_c.specs.Numbers.{reply_number}
 use Rattle.dfu_device_c.specs.Calls.{Went}
-use Rattle.dfu_device_c.specs.Writes.{IsAtWork, refuses_unfound, refuses_piece}
+use Rattle.dfu_device_c.specs.Writes.{AsksOnSomeFlash, refuses_unfound, refuses_piece}
 use Rattle.dfu_device_c.proofs.Kept.{goes}
 use Rattle.dfu_device_c.proofs.Found.{not_taken, is_found, is_unfound}
 use Rattle.dfu_device_c.proofs.Split.{split_in, has_room, lent_is, unchanged, cut, same_front}
@@ -70,11 +70,11 @@ returns-in-Ok-Asks c =
             left = subst (λ (l : LentAsking). IsLeft l done.taken.work) (sym parts.before) done.taken.is_left;
             reply = c.in-Ok-Asks.field-0;
             number_is = sym (ap reply_number c.in-Ok-Asks.field-0-is);
-            took = λ len s was mid. subst (λ (l : LentAsking). (asks : Asks l len s was mid) (p : Step)
+            took = λ len s was mid. subst (λ (l : LentAsking). (asks : AsksWrites l len s was mid) (p : Step)
                 → IsPiece (steps_in l asks.work) asks.work.done p → Torn mid p.write.at p.write.bytes c.args.flash.now
-                → Took (device_of l s) len s was p.write (not (c.args.failed == 0)) c.args.flash.now c.args.out.now
+                → DeviceTook (device_of l s) len s was p.write (not (c.args.failed == 0)) c.args.flash.now c.args.out.now
                 (with_memory memory a') c.took.new.out c.in-Ok-Asks.field-0) (sym parts.before)
-                (λ asks p piece torn. subst (λ (l : LentAsking). Took (device_of (lent a front held) s) len s was p.write
+                (λ asks p piece torn. subst (λ (l : LentAsking). DeviceTook (device_of (lent a front held) s) len s was p.write
                 (not (c.args.failed == 0)) c.args.flash.now c.args.out.now l c.took.new.out c.in-Ok-Asks.field-0) (sym parts.after)
                 (done.outcome len s was mid asks p piece torn));
           }));
@@ -112,11 +112,11 @@ returns-in-Ok-Answered c =
             reply = c.in-Ok-Answered.field-0;
             number_is = to_z-of_z w32 _ (omega (arith, c.number_of.type_inv)) ∙ c.number_of.ensures
                 ∙ sym (ap reply_number c.in-Ok-Answered.field-0-is);
-            took = λ len s was mid. subst (λ (l : LentAsking). (asks : Asks l len s was mid) (p : Step)
+            took = λ len s was mid. subst (λ (l : LentAsking). (asks : AsksWrites l len s was mid) (p : Step)
                 → IsPiece (steps_in l asks.work) asks.work.done p → Torn mid p.write.at p.write.bytes c.args.flash.now
-                → Took (device_of l s) len s was p.write (not (c.args.failed == 0)) c.args.flash.now c.args.out.now
+                → DeviceTook (device_of l s) len s was p.write (not (c.args.failed == 0)) c.args.flash.now c.args.out.now
                 (with_memory memory a') c.took.new.out c.in-Ok-Answered.field-0) (sym parts.before)
-                (λ asks p piece torn. subst (λ (l : LentAsking). Took (device_of (lent a front held) s) len s was p.write
+                (λ asks p piece torn. subst (λ (l : LentAsking). DeviceTook (device_of (lent a front held) s) len s was p.write
                 (not (c.args.failed == 0)) c.args.flash.now c.args.out.now l c.took.new.out c.in-Ok-Answered.field-0) (sym parts.after)
                 (done.outcome len s was mid asks p piece torn));
           }));
@@ -140,7 +140,7 @@ returns-in-Err-took c =
       outcome = inr (inl (
         refuses_piece a (to_z-of_z w32 _ (omega (arith, c.number-in-Err-took.type_inv)) ∙ c.number-in-Err-took.ensures) found.config found.room
             found.ok
-            (subst (λ (l : LentAsking). ¬ IsAtWork l) (sym (lent_is a block front held parts))
+            (subst (λ (l : LentAsking). ¬ AsksOnSomeFlash l) (sym (lent_is a block front held parts))
             (not_taken c.in-Err-took.field-0 (lent a front held) _ (omega (arith, c.if-out-lt6.false)) done.refused)),
         refl,
         unchanged block front held front c.took.new.held halves.ensures.value refl done.unchanged.1,

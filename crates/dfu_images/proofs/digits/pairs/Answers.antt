@@ -1,6 +1,6 @@
 use Rattle.std.proofs.Common.{◌≡◌, ◌*◌, length, ◌+◌, ◌<◌, drop, get_or, ℕ, List, sym, subst, arith}
 use Rattle.std.proofs.Common.{inl, inr}
-use Rattle.dfu_images.specs.Digits.{hex, pairs}
+use Rattle.dfu_images.specs.Digits.{hex_value, pairs}
 use Rattle.dfu_images.proofs.PairLaws.{joined, spelled_all, spelled_odd, spelled_high, spelled_low, spelled_more}
 use Rattle.dfu_images.proofs.digits.pairs.Goals as goal
 
@@ -24,8 +24,8 @@ loop-at-preserved c =
     let xs = c.args.digits.now in
     let i = c.loop-at.at in
     let j : i + 1 < length xs = omega arith in
-    let high : hex (get_or xs i 0) < 16 = omega (arith, c.hex-high.ensures.value, c.hex-high.ensures.small, c.if-high-eq16.false) in
-    let low : hex (get_or xs (i + 1) 0) < 16 = omega (arith, c.hex-low.ensures.value, c.hex-low.ensures.small, c.if-low-eq16.false) in
+    let high : hex_value (get_or xs i 0) < 16 = omega (arith, c.hex-high.ensures.value, c.hex-high.ensures.small, c.if-high-eq16.false) in
+    let low : hex_value (get_or xs (i + 1) 0) < 16 = omega (arith, c.hex-low.ensures.value, c.hex-low.ensures.small, c.if-low-eq16.false) in
     let more = spelled_more xs c.loop-at.bytes.items i (i + 1) (i + 2) (16 * c.hex-high.result + c.hex-low.result) (omega arith) (omega arith) j high low
     (omega (arith, c.hex-high.ensures.value, c.hex-low.ensures.value)) c.loop-at.invariant.so_far in
     record {

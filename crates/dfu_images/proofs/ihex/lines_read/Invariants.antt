@@ -1,12 +1,12 @@
 use Rattle.std.proofs.Common.{◌≡◌, ◌+◌, ◌≤◌, length}
 use Rattle.dfu_images.specs.Lines.{lines, lines_read}
-use Rattle.dfu_images.specs.IntelHex.{start, is_ended, line_read}
+use Rattle.dfu_images.specs.IntelHex.{hex_start, is_ended, hex_line_read}
 use Rattle.dfu_images.proofs.ihex.lines_read.Given as goal
 
 abbrev pub invariant-loop-next : goal.invariant-loop-next
 invariant-loop-next l = record {
   few : l.at + length l.rest ≤ length l.text + 1;
-  so_far : lines_read is_ended line_read l.at l.state (lines l.rest) ≡ lines_read is_ended line_read 1 start (lines l.text);
+  so_far : lines_read is_ended hex_line_read l.at l.state (lines l.rest) ≡ lines_read is_ended hex_line_read 1 hex_start (lines l.text);
 }
 
 abbrev pub decreases-loop-next : goal.decreases-loop-next

@@ -1,6 +1,6 @@
 use Rattle.std.proofs.Common.{List, ℕ, sym, ap, ◌∙◌, arith, Bor}
 use Rattle.dfu_images.specs.Lines.{lines}
-use Rattle.dfu_images.specs.SRecord.{State, is_whole, line_read}
+use Rattle.dfu_images.specs.SRecord.{SRecordState, is_whole, srec_line_read}
 use Rattle.dfu_images.proofs.LineLaws.{some_first}
 use Rattle.dfu_images.proofs.ReadLaws.{line_done, line_fault, all_done, end_missing}
 use Rattle.dfu_images.proofs.srec.lines_read.Goals as goal
@@ -8,19 +8,20 @@ use Rattle.dfu_images.proofs.srec.lines_read.Goals as goal
 pub returns-in-Err : goal.returns-in-Err
 returns-in-Err c =
     let first = some_first c.take_line.result.1 (λ (rest : Bor (List ℕ)). lines rest.now) _ _ c.take_line.ensures.value in
-    line_fault is_whole line_read c.in-Err.fault _ _ _ _ _ _ _ first.1 c.bare.ensures c.in-Err.ensures.value c.loop-next.invariant.so_far
+    line_fault is_whole srec_line_read c.in-Err.fault _ _ _ _ _ _ _ first.1 c.bare.ensures c.in-Err.ensures.value
+    c.loop-next.invariant.so_far
 
 pub returns-in-None : goal.returns-in-None
 returns-in-None c =
     let only = rw c.in-None.is at c.take_line.ensures.value in
-    let done = line_done is_whole line_read _ _ _ _ _ _ _ _ only c.bare.ensures c.in-Ok.ensures.value c.loop-next.invariant.so_far in
-    all_done is_whole line_read _ _ _ (sym (ap (λ (s : State). s.is_whole) c.state.view_is) ∙ c.if-state.true) done
+    let done = line_done is_whole srec_line_read _ _ _ _ _ _ _ _ only c.bare.ensures c.in-Ok.ensures.value c.loop-next.invariant.so_far in
+    all_done is_whole srec_line_read _ _ _ (sym (ap (λ (s : SRecordState). s.is_whole) c.state.view_is) ∙ c.if-state.true) done
 
 pub returns-in-None-2 : goal.returns-in-None-2
 returns-in-None-2 c =
     let only = rw c.in-None-2.is at c.take_line.ensures.value in
-    let done = line_done is_whole line_read _ _ _ _ _ _ _ _ only c.bare.ensures c.in-Ok.ensures.value c.loop-next.invariant.so_far in
-    end_missing is_whole line_read _ _ _ (sym (ap (λ (s : State). s.is_whole) c.state.view_is) ∙ c.if-state.false) done
+    let done = line_done is_whole srec_line_read _ _ _ _ _ _ _ _ only c.bare.ensures c.in-Ok.ensures.value c.loop-next.invariant.so_far in
+    end_missing is_whole srec_line_read _ _ _ (sym (ap (λ (s : SRecordState). s.is_whole) c.state.view_is) ∙ c.if-state.false) done
 
 pub loop-next-preserved : goal.loop-next-preserved
 loop-next-preserved c =
@@ -29,5 +30,5 @@ loop-next-preserved c =
     record {
       few = omega (arith, shorter, c.loop-next.invariant.few);
       counted = omega (arith, c.in-Ok.ensures.counted, c.loop-next.invariant.counted);
-      so_far = line_done is_whole line_read _ _ _ _ _ _ _ _ first c.bare.ensures c.in-Ok.ensures.value c.loop-next.invariant.so_far;
+      so_far = line_done is_whole srec_line_read _ _ _ _ _ _ _ _ first c.bare.ensures c.in-Ok.ensures.value c.loop-next.invariant.so_far;
     }

@@ -1,5 +1,5 @@
 use Rattle.std.proofs.Common.{ℕ, Option, sym, subst, IfSome}
-use Rattle.dfu_trial.specs.Calls.{IsTaken, IsWithin, runs_in}
+use Rattle.dfu_trial.specs.Calls.{MediumTakes, MarkIsWithin, runs_in}
 use Rattle.dfu_trial.specs.Laws.{CarriedIf, Starts}
 use Rattle.dfu_trial.specs.declared.operation.Operation.{Operation}
 use Rattle.dfu_trial.specs.declared.starting.Starting.{Starting}
@@ -9,20 +9,20 @@ use Rattle.dfu_trial.proofs.booting.boot.Goals as goal
 pub carry_out-requires-clause-taken : goal.carry_out-requires-clause-taken
 carry_out-requires-clause-taken g c =
     let m = g.M.Medium.state c.args.medium.now in
-    subst (λ (o : Option Operation). IfSome o (λ op. IsTaken m op)) c.in-Some.is c.start-starting.ensures.taken
+    subst (λ (o : Option Operation). IfSome o (λ op. MediumTakes m op)) c.in-Some.is c.start-starting.ensures.taken
 
 pub carry_out-requires-clause-within : goal.carry_out-requires-clause-within
 carry_out-requires-clause-within g c =
     let m = g.M.Medium.state c.args.medium.now in
-    subst (λ (o : Option Operation). IfSome o (λ op. IsWithin m op)) c.in-Some.is c.start-starting.ensures.within
+    subst (λ (o : Option Operation). IfSome o (λ op. MarkIsWithin m op)) c.in-Some.is c.start-starting.ensures.within
 
 pub runs-requires : goal.runs-requires
 runs-requires g c =
     let m = g.M.Medium.state c.args.medium.now in
     let now = g.M.Medium.state c.carry_out.new.medium in
-    subst (λ (o : Option Operation). IfSome o (λ op. IsWithin now op)) (sym c.in-Some.is)
+    subst (λ (o : Option Operation). IfSome o (λ op. MarkIsWithin now op)) (sym c.in-Some.is)
     (within_kept m now c.in-Some.operation c.carry_out.ensures
-    (subst (λ (o : Option Operation). IfSome o (λ op. IsWithin m op)) c.in-Some.is c.start-starting.ensures.within))
+    (subst (λ (o : Option Operation). IfSome o (λ op. MarkIsWithin m op)) c.in-Some.is c.start-starting.ensures.within))
 
 pub returns-in-Some-clause-booted : goal.returns-in-Some-clause-booted
 returns-in-Some-clause-booted g c =

@@ -3,7 +3,7 @@ use Rattle.std.proofs.lemmas.Bool.Decides.{nat_tests}
 use Rattle.dfuse_memory.specs.declared.pages.Pages.{Pages}
 use Rattle.std.specs.List.{All}
 use Rattle.dfuse_memory.specs.Ranges.{IsRange}
-use Rattle.dfuse_memory.specs.Reading.{Said, Grouped, ranges_at}
+use Rattle.dfuse_memory.specs.Reading.{NumberRead, Grouped, ranges_at}
 use Rattle.dfuse_memory.proofs.RangeLaws.{Goes, goes_first, goes_fault, goes_full, goes_behind, goes_last, goes_on, sound_more, next_by, pushed_by, goes_moved}
 use Rattle.dfuse_memory.proofs.ranges.take_ranges.Goals as goal
 
@@ -45,7 +45,7 @@ loop-group-preserved c =
     let place = goes_on _ _ _ _ _ c.in-Ok-Some.next c.loop-group.invariant.goes room (sym c.take_group.ensures.value ∙ c.in-Ok.is) next in
     let more = pushed_by c.in-Ok.group _ _ _ _ (sym c.group.view_is) c.push.ensures.items in
     record {
-      fits = omega (arith, rw c.in-Ok-Some.field-0-is at c.in-Ok-Some.ensures.small, ap (λ (n : Said). n.value) c.next.view_is);
+      fits = omega (arith, rw c.in-Ok-Some.field-0-is at c.in-Ok-Some.ensures.small, ap (λ (n : NumberRead). n.value) c.next.view_is);
       few = omega (arith, room, c.push.ensures.len);
       sound = subst (All IsRange) (sym c.push.ensures.items) (sound_more c.loop-group.ranges.items _ c.loop-group.invariant.sound
           (subst IsRange (ap (λ (h : Grouped). h.pages) (sym c.group.view_is)) c.in-Ok.ensures.sound));

@@ -11,8 +11,8 @@ use Rattle.dfu_device.proofs.Carried.{filled}
 use Rattle.dfu_asks.specs.Lent.{lent}
 use Rattle.dfu_asks.specs.Due.{IsSureOrDue}
 use Rattle.dfu_asks.specs.Asks.{store_in, device_in}
-use Rattle.dfu_asks.specs.Calls.{Called}
-use Rattle.dfu_asks.specs.Refused.{IsKept}
+use Rattle.dfu_asks.specs.Calls.{DeviceCalled}
+use Rattle.dfu_asks.specs.Refused.{IsKeptOn}
 use Rattle.dfu_asks.proofs.Calling.{called_by}
 use Rattle.dfu_asks.proofs.Quiet.{time_due, time_quiet, decided_time}
 use Rattle.dfu_asks.proofs.Sending.{time_within}
@@ -22,7 +22,7 @@ pub returns-clause-outcome : goal.returns-clause-outcome
 returns-clause-outcome c = λ kept.
     let flash = c.in_ok-medium.medium.bytes.now in
     let same_flash : flash ≡ c.args.flash.now = c.in_ok-medium.ensures.medium.2 in
-    let here = subst (λ (f : List ℕ). IsKept c.args.self.now c.args.block.now c.args.held.now f) (sym same_flash) kept in
+    let here = subst (λ (f : List ℕ). IsKeptOn c.args.self.now c.args.block.now c.args.held.now f) (sym same_flash) kept in
     let l = lent c.args.self.now c.args.block.now c.args.held.now in
     let now = lent c.carry_out.new.self c.carry_out.new.block c.carry_out.new.held in
     let s = store_in l flash in
@@ -48,7 +48,7 @@ returns-clause-outcome c = λ kept.
     let due : IsSureOrDue p (profile w) w.stage None 0 =
     subst (λ (z : Plan). IsSureOrDue z (profile w) w.stage None 0) (sym row) (time_due (profile w) w.stage c.args.ms) in (
       c.carry_out.new.out,
-      subst (λ (f : List ℕ). Called l f zeros
+      subst (λ (f : List ℕ). DeviceCalled l f zeros
           (λ x sent d'. (x ≡ answer.Ack) × (sent ≡ []) × Elapses c.args.ms (device_in l f) d') now c.carry_out.new.out c.carry_out.result)
           same_flash
           (called_by l flash zeros (λ x sent d'. Done p 0 w x sent d')

@@ -2,15 +2,15 @@ use Rattle.std.proofs.Common.{List, ℕ, sym, ◌∙◌, subst, rules}
 use Rattle.dfu_device.specs.Rows.{Handles}
 use Rattle.dfu_asks.specs.Lent.{lent}
 use Rattle.dfu_asks.specs.Asks.{device_in}
-use Rattle.dfu_asks.specs.Calls.{Called}
-use Rattle.dfu_asks.specs.Refused.{IsKept}
+use Rattle.dfu_asks.specs.Calls.{DeviceCalled}
+use Rattle.dfu_asks.specs.Refused.{IsKeptOn}
 use Rattle.dfu_asks.proofs.Calling.{no_work}
 use Rattle.dfu_asks.proofs.asking.Asking.handle.Goals as goal
 
 pub returns-clause-outcome : goal.returns-clause-outcome
 returns-clause-outcome c =
     let l = lent c.args.self.now c.args.block.now c.args.held.now in
-    subst (λ (flash : List ℕ). IsKept c.args.self.now c.args.block.now c.args.held.now flash → Called l flash c.args.out.now
+    subst (λ (flash : List ℕ). IsKeptOn c.args.self.now c.args.block.now c.args.held.now flash → DeviceCalled l flash c.args.out.now
     (λ x sent d'. Handles c.args.setup.now c.args.body.now (device_in l flash) x sent d')
     (lent c.respond.new.self c.respond.new.block c.respond.new.held) c.respond.new.out c.respond.result)
     c.in_ok-medium.ensures.medium.2 c.respond.ensures.outcome

@@ -2,7 +2,7 @@ use Rattle.std.proofs.Common.{◌≡◌, ⊎_elim, List, length, drop, sym, ◌�
 use Rattle.dfu_asks.specs.declared.work.Work.{Work}
 use Rattle.dfu_asks.specs.Lent.{lent}
 use Rattle.dfu_asks.specs.Steps.{Step}
-use Rattle.dfu_asks.specs.Carried.{total, IsPiece, IsSound}
+use Rattle.dfu_asks.specs.Carried.{total, IsPiece, ErasesWhole}
 use Rattle.dfu_asks.specs.Jobs.{steps_for}
 use Rattle.dfu_asks.specs.Cuts.{zeroed, step_of}
 use Rattle.dfu_asks.specs.Asks.{writes_in, steps_in}
@@ -76,7 +76,7 @@ returns-then-not-is_sound-clause-none c = λ w p is piece sound.
     absurd (is_false c.is_sound.result c.if-not-is_sound.true
     ((c.is_sound.ensures (drop c.next_piece.new.cut.from
     (zeroed c.next_piece.new.cut.source c.next_piece.new.cut.stock c.next_piece.new.cut.front))).1
-    (subst (λ (y : Step). IsSound a.sector.size y) one sound)))
+    (subst (λ (y : Step). ErasesWhole a.sector.size y) one sound)))
 
 pub returns-then-not-is_sound-clause-goes : goal.returns-then-not-is_sound-clause-goes
 returns-then-not-is_sound-clause-goes c = λ len s was k.

@@ -12,7 +12,7 @@ use Rattle.dfu_device.proofs.Carried.{filled}
 use Rattle.dfu_asks.specs.Lent.{LentAsking, lent}
 use Rattle.dfu_asks.specs.Due.{IsSureOrDue}
 use Rattle.dfu_asks.specs.Asks.{store_in, device_in, IsDevice}
-use Rattle.dfu_asks.specs.Calls.{Called, called_ended}
+use Rattle.dfu_asks.specs.Calls.{DeviceCalled, called_ended}
 use Rattle.dfu_asks.specs.declared.reply.Reply.TheVariants as reply
 use Rattle.dfu_asks.proofs.Calling.{kept_ended, called_by}
 use Rattle.dfu_asks.proofs.Quiet.{request_due, decided}
@@ -22,7 +22,7 @@ use Rattle.dfu_asks.proofs.asking.Asking.respond.Goals as goal
 -- A setup that the table does not have is stalled, and nothing changes.
 stalled : (l : LentAsking) (flash out setup body : List ℕ) → IsDevice l flash → l.work ≡ None
     → Handles setup body (device_in l flash) answer.Stall [] (device_in l flash)
-    → Called l flash out (λ x sent d'. Handles setup body (device_in l flash) x sent d') l out (reply.Answered answer.Stall 0)
+    → DeviceCalled l flash out (λ x sent d'. Handles setup body (device_in l flash) x sent d') l out (reply.Answered answer.Stall 0)
 stalled l flash out setup body is none row = called_ended answer.Stall 0
     (kept_ended l l flash
     (record { config = refl; unit = refl; sector = refl; held = refl; end = refl; noted = refl; work = refl }) is

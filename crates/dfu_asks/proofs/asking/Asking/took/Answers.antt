@@ -12,7 +12,7 @@ use Rattle.dfu_asks.specs.Steps.{Step}
 use Rattle.dfu_asks.specs.declared.work.Work.{Work}
 use Rattle.dfu_asks.specs.Carried.{total, carried, IsReached}
 use Rattle.dfu_asks.specs.Asks.{writes_in, steps_in, device_of, IsWorking}
-use Rattle.dfu_asks.specs.Calls.{HasEnded, Took, took_well, took_failed, took_lied}
+use Rattle.dfu_asks.specs.Calls.{HasEnded, DeviceTook, took_well, took_failed, took_lied}
 use Rattle.dfu_asks.proofs.Pieces.{reached_step}
 use Rattle.dfu_asks.proofs.Calling.{same_work, is_true, is_false, one_piece, taken_from, piece_failed, piece_stands}
 use Rattle.dfu_asks.proofs.asking.Asking.took.Goals as goal
@@ -37,7 +37,7 @@ took_badly : (d : Shown) (len : ℕ) (s : SlotsState) (was : List ℕ) (p : Writ
     (out' : List ℕ) (x : Answer) (count : ℕ) (fault : WriteFault) → fault ≡ (if failed then Failed else NotVerified)
     → (failed ≡ false → ¬ (slice_range flash p.at (p.at + length p.bytes) ≡ p.bytes))
     → HasEnded flash x count out out' now (λ y sent w'. Fails fault len d y sent w')
-    → Took d len s was p failed flash out now out' (reply.Answered x count)
+    → DeviceTook d len s was p failed flash out now out' (reply.Answered x count)
 took_badly d len s was p true flash out now out' x count fault is other ended =
     took_failed x count refl refl
     (subst (λ (f : WriteFault). HasEnded flash x count out out' now (λ y sent w'. Fails f len d y sent w')) is ended)

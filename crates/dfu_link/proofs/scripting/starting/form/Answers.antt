@@ -6,14 +6,14 @@ use Rattle.dfu_slots.specs.Seen.{format_series}
 use Rattle.dfu_slots.specs.Image.{IsSized}
 use Rattle.dfu_slots.specs.Changes.{CanFormat, IsFormatFault}
 use Rattle.dfu_slots.specs.Unarmed.{broken_whole, all_whole}
-use Rattle.dfu_link.specs.ScriptRun.{blank}
-use Rattle.dfu_link.specs.inside.SetupView.{grain_of}
+use Rattle.dfu_link.specs.ScriptRun.{blank_slots}
+use Rattle.dfu_link.specs.inside.SetupView.{setup_grain}
 use Rattle.dfu_link.proofs.Blank.{made_blank, room_blank, blank_sized}
 use Rattle.dfu_link.proofs.scripting.starting.form.Goals as goal
 
 pub unreachable-requires : goal.unreachable-requires
 unreachable-requires c =
-    let w = grain_of c.args.unit c.args.sector in
+    let w = setup_grain c.args.unit c.args.sector in
     let n = c.args.room.bytes in
     let whole : IsWhole w n = record {
       units = subst (λ (k : ℕ). n % k ≡ 0) c.size.ensures.value c.if-room-size-ne0.false;
@@ -21,7 +21,7 @@ unreachable-requires c =
       pages = c.args.sector.pages;
       bound = c.args.sector.most;
     } in
-    let same : c.in-Ok.medium ≡ blank w n =
+    let same : c.in-Ok.medium ≡ blank_slots w n =
     c.in-Ok.ensures ∙ made_blank w n c.medium_len-len.result c.medium_len-len.ensures.value in
     (subst (λ f. IsFormatFault f c.in-Ok.medium c.args.image.now) c.in-WrongSize.is c.in-Err.ensures.fault)
     (subst IsSized (sym same) (blank_sized w n c.args.room.some c.args.room.most whole))
@@ -35,9 +35,9 @@ unreachable-requires-in-Failed c =
 
 pub returns-in-Ok-format-clause-ok : goal.returns-in-Ok-format-clause-ok
 returns-in-Ok-format-clause-ok c =
-    let w = grain_of c.args.unit c.args.sector in
+    let w = setup_grain c.args.unit c.args.sector in
     let n = c.args.room.bytes in
-    let b = blank w n in
+    let b = blank_slots w n in
     let image = c.args.image.now in
     let s = c.in-Ok-format.slots in
     let same : c.in-Ok.medium ≡ b = c.in-Ok.ensures ∙ made_blank w n c.medium_len-len.result c.medium_len-len.ensures.value in

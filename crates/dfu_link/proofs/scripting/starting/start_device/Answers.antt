@@ -1,7 +1,7 @@
 use Rattle.std.proofs.Common.{◌≡◌, List, ℕ, subst, refl}
 use Rattle.dfu_link.specs.Falls.{refused}
 use Rattle.dfu_link.specs.inside.Forming.{Formed}
-use Rattle.dfu_link.specs.inside.SetupView.{grain_of, image_bytes}
+use Rattle.dfu_link.specs.inside.SetupView.{setup_grain, image_bytes}
 use Rattle.dfu_link.proofs.scripting.starting.start_device.Goals as goal
 
 pub returns-in_default-clause-fault : goal.returns-in_default-clause-fault
@@ -10,7 +10,7 @@ returns-in_default-clause-fault c = refused c.in_default.field-0 c.in_default.en
 pub returns-clause-ok : goal.returns-clause-ok
 returns-clause-ok c =
     let setup = c.args.setup.now in
-    let w = grain_of setup.unit setup.sector in
+    let w = setup_grain setup.unit setup.sector in
     let image : c.first_image.result.now ≡ image_bytes setup.image = c.first_image.ensures in
     let formed : Formed w setup.room.bytes (image_bytes setup.image) c.in_ok-slots.slots = subst
     (λ (bytes : List ℕ). Formed w setup.room.bytes bytes c.in_ok-slots.slots) image c.in_ok-slots.ensures.ok in

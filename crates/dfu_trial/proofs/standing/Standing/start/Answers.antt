@@ -1,6 +1,6 @@
 use Rattle.std.proofs.Common.{◌+◌, ℕ, subst, sym, arith}
 use Rattle.dfu_trial.specs.Marks.{mark_at}
-use Rattle.dfu_trial.specs.Calls.{IsStanding, IsTaken, IsWithin}
+use Rattle.dfu_trial.specs.Calls.{IsStanding, MediumTakes, MarkIsWithin}
 use Rattle.dfu_trial.specs.declared.standing.Standing.{Standing}
 use Rattle.dfu_trial.specs.declared.operation.Operation.TheVariants.{Mark}
 use Rattle.dfu_trial.proofs.Asked.{start_in, start_taken, start_within, end_taken}
@@ -16,8 +16,8 @@ pub returns-then-trial-tries-clause-taken : goal.returns-then-trial-tries-clause
 returns-then-trial-tries-clause-taken g c =
     let m = g.M.Medium.state c.args.medium.now in
     let stands = subst (λ (s : Standing). IsStanding m c.args.tries s) c.in-OnTrial.is c.requires.stands in
-    subst (λ (at : ℕ). IsTaken m (Mark at c.mark_size.result)) (sym c.mark_at-mark.ensures)
-    (subst (λ (len : ℕ). IsTaken m (Mark (mark_at m.grain c.in-OnTrial.trial.slot (c.in-OnTrial.trial.starts + 1)) len))
+    subst (λ (at : ℕ). MediumTakes m (Mark at c.mark_size.result)) (sym c.mark_at-mark.ensures)
+    (subst (λ (len : ℕ). MediumTakes m (Mark (mark_at m.grain c.in-OnTrial.trial.slot (c.in-OnTrial.trial.starts + 1)) len))
     (sym c.mark_size.ensures.value)
     (start_taken m c.args.tries c.in-OnTrial.trial c.requires.tries stands c.if-trial-tries.true))
 
@@ -25,8 +25,8 @@ pub returns-then-trial-tries-clause-within : goal.returns-then-trial-tries-claus
 returns-then-trial-tries-clause-within g c =
     let m = g.M.Medium.state c.args.medium.now in
     let stands = subst (λ (s : Standing). IsStanding m c.args.tries s) c.in-OnTrial.is c.requires.stands in
-    subst (λ (at : ℕ). IsWithin m (Mark at c.mark_size.result)) (sym c.mark_at-mark.ensures)
-    (subst (λ (len : ℕ). IsWithin m (Mark (mark_at m.grain c.in-OnTrial.trial.slot (c.in-OnTrial.trial.starts + 1)) len))
+    subst (λ (at : ℕ). MarkIsWithin m (Mark at c.mark_size.result)) (sym c.mark_at-mark.ensures)
+    (subst (λ (len : ℕ). MarkIsWithin m (Mark (mark_at m.grain c.in-OnTrial.trial.slot (c.in-OnTrial.trial.starts + 1)) len))
     (sym c.mark_size.ensures.value)
     (start_within m c.args.tries c.in-OnTrial.trial c.requires.tries stands c.if-trial-tries.true))
 

@@ -1,10 +1,10 @@
 use Rattle.std.proofs.Common.{◌≡◌, ◌↔◌, List, ap, ◌∙◌, subst, IsTrue}
 use Rattle.dfuse_memory.specs.declared.pages.Pages.{Pages}
-use Rattle.dfuse_memory.specs.Reading.{Content}
+use Rattle.dfuse_memory.specs.Reading.{MapContent}
 use Rattle.dfuse_memory.specs.Lookups.{AllGranted}
 use Rattle.dfuse_memory.proofs.map.Map.grants.Goals as goal
 
 pub returns : goal.returns
 returns c =
-    let same : c.deref.result.now ≡ c.args.self.now.ranges = c.deref.ensures.0 ∙ ap (λ (m : Content). m.ranges) c.self.view_is in
+    let same : c.deref.result.now ≡ c.args.self.now.ranges = c.deref.ensures.0 ∙ ap (λ (m : MapContent). m.ranges) c.self.view_is in
     subst (λ (ranges : List Pages). IsTrue c.all_granted.result ↔ AllGranted c.args.wanted c.args.start c.args.end ranges) same c.all_granted.ensures

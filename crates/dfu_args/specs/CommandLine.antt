@@ -1,0 +1,135 @@
+-- The command line of the program, in clap's own words.
+use Rattle.std.specs.Prelude.{◌≡◌, ◌||◌, Bool, true, false, List, [], ◌∷◌, Option, Some, None, codes, map}
+use Rattle.std.specs.Option.{option_map}
+use Rattle.std.specs.Str.{bytes_eq}
+use Rattle.std.specs.String.{string_bytes}
+use Rattle.clap.specs.Words.{App, Row, Rule, Text, all_of, first_of, matches_of, new_app, new_rule, subcommand_of, with_rule, with_subcommand}
+use Rattle.clap.specs.declared.builder.ArgAction.TheVariants.{Append, Set, SetTrue}
+use Rattle.dfu_args.specs.declared.task.Job.{Job}
+use Rattle.dfu_args.specs.declared.task.Job.TheVariants.{Check, Add, Extract, Change, Show, Run, Judge}
+
+-- A positional argument that is needed has to be there, with one value.
+abbrev pub needed : Text → Rule
+needed id = record (new_rule id) { required = true; action = Some Set; value_names = 1 }
+
+-- A positional argument that is repeated has to be there, with one value or more.
+abbrev pub repeated : Text → Rule
+repeated id = record (new_rule id) { required = true; action = Some Append; value_names = 1 }
+
+-- A positional argument that is optional has a default, and may have more values than one.
+abbrev pub optional : Text → Text → Rule
+optional id default = record (new_rule id) { action = Some Append; value_names = 1; defaults = default ∷ [] }
+
+-- An option `--ID` has a value, and a default where it isn't given.
+abbrev pub option : Text → Text → Rule
+option id default = record (new_rule id) { long = Some id; action = Some Set; defaults = default ∷ [] }
+
+-- An option `--ID` that is unset has no value where it isn't given.
+abbrev pub unset : Text → Rule
+unset id = record (new_rule id) { long = Some id; action = Some Set }
+
+-- A flag `--ID` has no value, and is off where it isn't given.
+abbrev pub flag : Text → Rule
+flag id = record (new_rule id) { long = Some id; action = Some SetTrue }
+
+-- Each command takes the flag `--explain`.
+abbrev pub explained : App → App
+explained app = with_rule app (flag (codes "explain"))
+
+-- The command `check` takes each FILE, and the flag `--json`.
+abbrev pub check_app : App
+check_app = explained (with_rule (with_rule (new_app (codes "check")) (repeated (codes "file"))) (flag (codes "json")))
+
+-- The command `add` takes FILE, OUT and the options `--vid`, `--pid` and `--did`, each `ffff` by default, `--format` and `--fill`.
+abbrev pub add_app : App
+add_app =
+    explained (with_rule (with_rule (with_rule (with_rule (with_rule (with_rule (with_rule (new_app (codes "add")) (needed (codes "file")))
+    (needed (codes "to"))) (option (codes "vid") (codes "ffff"))) (option (codes "pid") (codes "ffff")))
+    (option (codes "did") (codes "ffff"))) (unset (codes "format"))) (unset (codes "fill")))
+
+-- The command `extract` takes FILE and OUT.
+abbrev pub extract_app : App
+extract_app = explained (with_rule (with_rule (new_app (codes "extract")) (needed (codes "file"))) (needed (codes "to")))
+
+-- The command `set` takes FILE and the options `--vid`, `--pid` and `--did`.
+abbrev pub set_app : App
+set_app =
+    explained (with_rule (with_rule (with_rule (with_rule (new_app (codes "set")) (needed (codes "file"))) (unset (codes "vid")))
+    (unset (codes "pid"))) (unset (codes "did")))
+
+-- The command `show` takes KIND, each HEX and the flag `--json`.
+abbrev pub show_app : App
+show_app =
+    explained (with_rule (with_rule (with_rule (new_app (codes "show")) (needed (codes "kind"))) (repeated (codes "hex")))
+    (flag (codes "json")))
+
+-- The command `run` takes SCRIPT, the flags `--trace` and `--board`, and the option `--file`.
+abbrev pub run_app : App
+run_app =
+    explained (with_rule (with_rule (with_rule (with_rule (new_app (codes "run")) (needed (codes "script"))) (flag (codes "trace")))
+    (flag (codes "board"))) (unset (codes "file")))
+
+-- The command `judge` takes each FILE, `-` by default, the options `--interface`, `0` by default, and `--device`, `only` by default, and
+-- the flags `--dfuse` and `--json`.
+abbrev pub judge_app : App
+judge_app =
+    explained (with_rule (with_rule (with_rule (with_rule (with_rule (new_app (codes "judge")) (optional (codes "file") (codes "-")))
+    (option (codes "interface") (codes "0"))) (option (codes "device") (codes "only"))) (flag (codes "dfuse"))) (flag (codes "json")))
+
+-- The command `dfu` with no subcommand yet has to get one, and has a version.
+abbrev pub bare_app : App
+bare_app = record (new_app (codes "dfu")) {
+  top = record (new_app (codes "dfu")).top { subcommand_required = true; has_version = true };
+}
+
+-- It takes the flag `--explain` before its subcommand too.
+abbrev pub top_app : App
+top_app = explained bare_app
+
+-- The whole command `dfu` has the subcommands `check`, `add`, `extract`, `set`, `show`, `run` and `judge`.
+unfoldable pub dfu_app : App
+dfu_app =
+    with_subcommand (with_subcommand (with_subcommand (with_subcommand (with_subcommand (with_subcommand (with_subcommand top_app
+    check_app.top) add_app.top) extract_app.top) set_app.top) show_app.top) run_app.top) judge_app.top
+
+-- The text of a flag says that it is on.
+abbrev pub is_on : Option Text → Bool
+is_on None = false
+is_on (Some text) = bytes_eq text (codes "true")
+
+-- The job is what the subcommand and its arguments state, each text in its own place.
+abbrev pub States : Option (Text × List Row) → Job → Type 0
+States None job = ⊥
+States (Some p) (Check files json) = (p.0 ≡ codes "check") × (all_of (codes "file") p.1 ≡ Some (map string_bytes files.items))
+    × (json ≡ is_on (first_of (codes "json") p.1))
+States (Some p) (Add file to vid pid did format fill) =
+    (p.0 ≡ codes "add") × (first_of (codes "file") p.1 ≡ Some (string_bytes file)) × (first_of (codes "to") p.1 ≡ Some (string_bytes to))
+    × (first_of (codes "vid") p.1 ≡ Some (string_bytes vid)) × (first_of (codes "pid") p.1 ≡ Some (string_bytes pid))
+    × (first_of (codes "did") p.1 ≡ Some (string_bytes did)) × (first_of (codes "format") p.1 ≡ option_map string_bytes format)
+    × (first_of (codes "fill") p.1 ≡ option_map string_bytes fill)
+States (Some p) (Extract file to) = (p.0 ≡ codes "extract") × (first_of (codes "file") p.1 ≡ Some (string_bytes file))
+    × (first_of (codes "to") p.1 ≡ Some (string_bytes to))
+States (Some p) (Change file vid pid did) =
+    (p.0 ≡ codes "set") × (first_of (codes "file") p.1 ≡ Some (string_bytes file))
+    × (first_of (codes "vid") p.1 ≡ option_map string_bytes vid) × (first_of (codes "pid") p.1 ≡ option_map string_bytes pid)
+    × (first_of (codes "did") p.1 ≡ option_map string_bytes did)
+States (Some p) (Show kind hex json) = (p.0 ≡ codes "show") × (first_of (codes "kind") p.1 ≡ Some (string_bytes kind))
+    × (all_of (codes "hex") p.1 ≡ Some (map string_bytes hex.items)) × (json ≡ is_on (first_of (codes "json") p.1))
+States (Some p) (Run script trace board file) = (p.0 ≡ codes "run") × (first_of (codes "script") p.1 ≡ Some (string_bytes script))
+    × (trace ≡ is_on (first_of (codes "trace") p.1)) × (board ≡ is_on (first_of (codes "board") p.1))
+    × (first_of (codes "file") p.1 ≡ option_map string_bytes file)
+States (Some p) (Judge files interface device dfuse json) =
+    (p.0 ≡ codes "judge") × (all_of (codes "file") p.1 ≡ Some (map string_bytes files.items))
+    × (first_of (codes "interface") p.1 ≡ Some (string_bytes interface)) × (first_of (codes "device") p.1 ≡ Some (string_bytes device))
+    × (dfuse ≡ is_on (first_of (codes "dfuse") p.1)) × (json ≡ is_on (first_of (codes "json") p.1))
+
+-- The rows of a subcommand, which has none where there is no subcommand.
+abbrev pub rows_in : Option (Text × List Row) → List Row
+rows_in None = []
+rows_in (Some p) = p.1
+
+-- The words ask for the reason of a refusal: they have the flag `--explain`, before the subcommand or behind it.
+abbrev pub asks_why : List Text → Bool
+asks_why words =
+    is_on (first_of (codes "explain") (matches_of dfu_app words))
+    || is_on (first_of (codes "explain") (rows_in (subcommand_of dfu_app words)))

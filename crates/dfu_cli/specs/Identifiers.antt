@@ -1,0 +1,28 @@
+-- The identifiers that the options of `dfu add` and `dfu set` give.
+use Rattle.std.specs.Prelude.{ℕ, List, Option, Some, None, codes, if◌then◌else◌, is_some, option_and_then}
+use Rattle.dfu_fs.specs.declared.changing.Change.{Change}
+use Rattle.dfu_wire.specs.declared.ids.Ids.{Ids}
+use Rattle.dfu_wire.specs.Identifier.{identifier_in}
+
+-- Three numbers are the identifiers of a device, where each of them is there.
+abbrev pub ids_in : (vendor product device : Option ℕ) → Option Ids
+ids_in (Some vendor) (Some product) (Some device) = Some (record { device = device; product = product; vendor = vendor })
+ids_in vendor product device = None
+
+-- Three texts of four hexadecimal digits are the identifiers of a device.
+abbrev pub ids_said : (vendor product device : List ℕ) → Option Ids
+ids_said vendor product device = ids_in (identifier_in vendor) (identifier_in product) (identifier_in device)
+
+-- The first option whose text is no identifier, as a label, and the text.
+abbrev pub wrong_option : (vendor product device : List ℕ) → Option (List ℕ × List ℕ)
+wrong_option vendor product device =
+    if is_some (identifier_in vendor) then (if is_some (identifier_in product) then (if is_some (identifier_in device) then None
+    else Some (codes "--did ", device)) else Some (codes "--pid ", product)) else Some (codes "--vid ", vendor)
+
+-- The identifiers that change: each option that is given, with its number.
+abbrev pub change_said : (vendor product device : Option (List ℕ)) → Change
+change_said vendor product device = record {
+  vendor = option_and_then identifier_in vendor;
+  product = option_and_then identifier_in product;
+  device = option_and_then identifier_in device;
+}

@@ -1,0 +1,14 @@
+-- What is written of a line that has a number.
+use Rattle.std.specs.Prelude.{◌⊎◌, ℕ, List, [], ◌∷◌, ◌++◌, Option}
+use Rattle.std.specs.Fmt.{decimal}
+use Rattle.dfu_suffix.specs.declared.fault.SuffixFault.TheVariants as suffix
+use Rattle.dfu_output.specs.declared.exit.Exit.{Exit}
+use Rattle.dfu_output.specs.declared.exit.Exit.TheVariants.{Refused}
+use Rattle.dfu_output.specs.AnswerLines.{fault_line}
+use Rattle.dfu_output.specs.Output.{Wrote}
+
+-- A line that names a line of the script by its number is written, or, where there is no memory for that, the line that
+-- says so.
+abbrev pub WritesNumber : List ℕ → ℕ → Option (List ℕ) → Option (List ℕ) → Exit → Type 0
+WritesNumber text n old new result =
+    Wrote old new (text ++ decimal n ++ 10 ∷ []) Refused result ⊎ Wrote old new (fault_line suffix.NoMemory) Refused result

@@ -1,0 +1,98 @@
+//! Captures that `dfu judge` reads.
+
+use crate::numbering::number_of;
+use dfu_pcap::{Address, CaptureFault};
+use std::io::{self, Read};
+
+/// The most bytes of a capture.
+pub(crate) const MAX_CAPTURE: usize = 16_777_216;
+
+/// The address that `--device` says; `Some(None)` where it is `only`, and `None` where it is neither.
+pub(crate) fn device_in(word: &str) -> Option<Option<Address>> {
+    if word == "only" {
+        return Some(None);
+    }
+    let (bus, device) = word.split_once('.')?;
+    let bus = u16::try_from(number_of(bus)?).ok()?;
+    let device = u8::try_from(number_of(device)?).ok()?;
+    Some(Some(Address { bus, device }))
+}
+
+/// Bytes that were read, and the reader behind them.
+#[derive(Drop)]
+pub(crate) struct Headed<R> {
+    head: [u8; 4],
+    from: usize,
+    to: usize,
+    rest: R,
+}
+
+impl<R: Read + Drop> Headed<R> {
+    /// A reader whose first four bytes were read; fewer where it has no more.
+    pub(crate) fn new(mut rest: R) -> io::Result<Headed<R>> {
+        let mut head = [0u8; 4];
+        let mut to = 0usize;
+        for _turn in 0..4 {
+            let mut byte = [0u8; 1];
+            if rest.read(&mut byte)? == 0 {
+                break;
+            }
+            if let Some(slot) = head.get_mut(to) {
+                *slot = byte[0];
+                to = to.saturating_add(1);
+            }
+        }
+        Ok(Headed {
+            head,
+            from: 0,
+            to,
+            rest,
+        })
+    }
+
+    /// The bytes that were read first.
+    pub(crate) fn head(&self) -> &[u8] {
+        self.head.get(..self.to).unwrap_or(&[])
+    }
+}
+
+impl<R: Read> Read for Headed<R> {
+    fn read(&mut self, buf: &mut [u8]) -> io::Result<usize> {
+        let ready = self.head.get(self.from..self.to).unwrap_or(&[]);
+        if ready.is_empty() {
+            return self.rest.read(buf);
+        }
+        let count = ready.len().min(buf.len());
+        buf[..count].copy_from_slice(&ready[..count]);
+        self.from = self.from.saturating_add(count);
+        Ok(count)
+    }
+}
+
+/// The line of a capture that gives no log.
+pub(crate) fn capture_line(fault: CaptureFault) -> &'static str {
+    match fault {
+        CaptureFault::NotUsbmon => "refused NotUsbmon\n",
+        CaptureFault::CutPacket => "refused CutPacket\n",
+        CaptureFault::NoDevice => "refused NoDevice\n",
+        CaptureFault::ManyDevices => "refused ManyDevices\n",
+        CaptureFault::NoMemory => "refused NoMemory\n",
+    }
+}
+
+/// Why a capture gives no log, in words.
+pub(crate) fn capture_why(fault: CaptureFault) -> Option<&'static str> {
+    match fault {
+        CaptureFault::NotUsbmon => Some(
+            "its packets aren't those of usbmon (link type 189 or 220) or USBPcap (249)",
+        ),
+        CaptureFault::CutPacket => Some(
+            "a transfer of the device was captured in part; capture with a longer snapshot length",
+        ),
+        CaptureFault::NoDevice => Some("no device gets a request of DFU at this interface"),
+        CaptureFault::ManyDevices => Some(
+            "more than one device gets requests of DFU; name one with --device BUS.DEVICE",
+        ),
+        CaptureFault::NoMemory => None,
+    }
+}

@@ -1,0 +1,114 @@
+//! The commands that make files: `dfu add`, `dfu extract` and `dfu set`, where the words can be used.
+
+use crate::identifiers::{IdTexts, change_said, ids_said};
+use crate::words::{
+    bad_fill, bad_format, bad_identifier, bad_place, lone_fill, no_change, refused,
+};
+use dfu_fs::{How, Owned, add_file, extract_file, set_file};
+use dfu_image_output::{Taken, fill_in, format_in};
+use dfu_output::Answer;
+use std::alloc::Global;
+use std::rt::Files;
+
+/// How `--format` and `--fill` have FILE taken, or why they can't be used.
+fn how_said(
+    alloc: Global,
+    format: &Option<String>,
+    fill: &Option<String>,
+) -> Result<How, Option<String>> {
+    let taken = match format {
+        Some(word) => match format_in(word) {
+            Some(taken) => taken,
+            None => return Err(bad_format(alloc, word)),
+        },
+        None => Taken::Unsaid,
+    };
+    let Some(word) = fill else {
+        return Ok(How { taken, fill: None });
+    };
+    let Some(byte) = fill_in(word) else {
+        return Err(bad_fill(alloc, word));
+    };
+    match taken {
+        Taken::Raw | Taken::Unsaid => Err(lone_fill(alloc, word)),
+        _ => Ok(How {
+            taken,
+            fill: Some(byte),
+        }),
+    }
+}
+
+/// Adds a suffix, where the words can be used.
+pub(crate) fn perform_add<R: Files + Input + Print + AllocGlobal>(
+    rt: &R,
+    file: &str,
+    to: &str,
+    texts: &IdTexts<'_>,
+    format: &Option<String>,
+    fill: &Option<String>,
+) -> Answer
+where
+    R::File: Owned,
+{
+    let alloc = rt.alloc();
+    let Some(ids) = ids_said(texts) else {
+        return refused(rt, bad_identifier(alloc, texts));
+    };
+    if to == "-" {
+        return refused(rt, bad_place(alloc, "OUT "));
+    }
+    match how_said(alloc, format, fill) {
+        Ok(how) => add_file(rt, file, to, ids, how),
+        Err(reason) => refused(rt, reason),
+    }
+}
+
+/// Makes a file of a payload, where the words can be used.
+pub(crate) fn perform_extract<R: Files + Input + Print + AllocGlobal>(
+    rt: &R,
+    file: &str,
+    to: &str,
+    explain: bool,
+) -> Answer
+where
+    R::File: Owned,
+{
+    if to == "-" {
+        return refused(rt, bad_place(rt.alloc(), "OUT "));
+    }
+    extract_file(rt, file, to, explain)
+}
+
+/// The text of an option; one that isn't given counts as an identifier that is right.
+fn text_in(text: &Option<String>) -> &str {
+    match text {
+        Some(text) => text,
+        None => "ffff",
+    }
+}
+
+/// Changes identifiers, where the words can be used.
+pub(crate) fn perform_set<R: Files + Input + Print + AllocGlobal>(
+    rt: &R,
+    file: &str,
+    vid: &Option<String>,
+    pid: &Option<String>,
+    did: &Option<String>,
+    explain: bool,
+) -> Answer
+where
+    R::File: Owned,
+{
+    let alloc = rt.alloc();
+    let texts = IdTexts::new(text_in(vid), text_in(pid), text_in(did));
+    if ids_said(&texts).is_none() {
+        return refused(rt, bad_identifier(alloc, &texts));
+    }
+    if file == "-" {
+        return refused(rt, bad_place(alloc, "FILE "));
+    }
+    if vid.is_none() && pid.is_none() && did.is_none() {
+        return refused(rt, no_change(alloc, file));
+    }
+    set_file(rt, file, &change_said(vid, pid, did), explain)
+}

@@ -1,0 +1,158 @@
+//! `dfu judge --dfuse`: what is written of a log, if the device is to speak DfuSe.
+
+use dfu_conformance::{Departure, Event, Line, Verdict};
+use dfu_output::{
+    Exit, LogFault, LogLines, dfuse_departure_text, fault_text, is_single, stop_text, verdict_text,
+    write_out,
+};
+use dfu_suffix::{SuffixFault, write_whole};
+use dfuse_conformance::DfuseJudge;
+use std::alloc::Global;
+use std::io::{Read, Write};
+
+/// How many bytes are asked for at a time.
+const PIECE: usize = 65_536;
+
+/// A device that is followed through a log.
+#[derive(Drop)]
+struct Followed {
+    judge: DfuseJudge,
+    lines: LogLines,
+    has_departed: bool,
+    events: u64,
+    // After how many of them one state was left.
+    single: u64,
+}
+
+impl Followed {
+    /// A device of which no byte of a log came; `None` if an allocation was refused.
+    fn new(alloc: Global) -> Option<Followed> {
+        Some(Followed {
+            judge: DfuseJudge::new(),
+            lines: LogLines::new(alloc)?,
+            has_departed: false,
+            events: 0,
+            single: 0,
+        })
+    }
+
+    /// An event comes. If the device departs, the departure is handed out.
+    fn come(&mut self, event: &Event) -> Option<Departure> {
+        self.events = self.events.saturating_add(1);
+        match self.judge.take(event) {
+            Some(departure) => {
+                self.has_departed = true;
+                Some(departure)
+            }
+            None => {
+                if is_single(&self.judge.at) {
+                    self.single = self.single.saturating_add(1);
+                }
+                None
+            }
+        }
+    }
+
+    /// A byte comes. If it ends a line at which the device departs, the departure is handed out.
+    fn take(&mut self, interface: u8, byte: u8) -> Result<Option<Departure>, LogFault> {
+        match self.lines.take(interface, byte)? {
+            Some(Line::Came(event)) => Ok(self.come(&event)),
+            Some(Line::Blank) | Some(Line::Elsewhere) | None => Ok(None),
+        }
+    }
+
+    /// The verdict on all events that came.
+    fn verdict(&self) -> Verdict {
+        if self.has_departed {
+            Verdict::NotKept
+        } else {
+            Verdict::Kept
+        }
+    }
+}
+
+/// Writes the lines of a departure.
+fn tell<W: Write>(
+    alloc: Global,
+    number: u64,
+    departure: &Departure,
+    writer: &mut W,
+) -> Result<(), LogFault> {
+    match dfuse_departure_text(alloc, number, departure) {
+        Ok(text) => match write_whole(writer, text.as_bytes()) {
+            Ok(()) => Ok(()),
+            Err(_) => Err(LogFault::Write),
+        },
+        Err(_) => Err(LogFault::NoMemory),
+    }
+}
+
+/// A byte of the log comes, and a departure is told.
+fn step<W: Write>(
+    alloc: Global,
+    interface: u8,
+    followed: &mut Followed,
+    byte: u8,
+    writer: &mut W,
+) -> Result<(), LogFault> {
+    match followed.take(interface, byte)? {
+        Some(departure) => tell(alloc, followed.lines.number(), &departure, writer),
+        None => Ok(()),
+    }
+}
+
+/// All of a log comes, and the end of its last line.
+fn judge_all<R: Read + Drop, W: Write>(
+    alloc: Global,
+    interface: u8,
+    mut reader: R,
+    followed: &mut Followed,
+    writer: &mut W,
+) -> Result<(), LogFault> {
+    let mut piece = [0u8; PIECE];
+    for _turn in 0..u64::MAX {
+        let Ok(count) = reader.read(&mut piece) else {
+            return Err(LogFault::Read);
+        };
+        let came = piece.get(..count).unwrap_or(&[]);
+        if came.is_empty() {
+            break;
+        }
+        for byte in came {
+            step(alloc, interface, followed, *byte, writer)?;
+        }
+    }
+    step(alloc, interface, followed, b'\n', writer)
+}
+
+/// Writes the verdict on all events that came.
+fn verdict_out<W: Write>(alloc: Global, followed: &Followed, writer: &mut W) -> Exit {
+    let verdict = followed.verdict();
+    let exit = match verdict {
+        Verdict::Kept => Exit::Done,
+        _ => Exit::Refused,
+    };
+    let at = &followed.judge.at;
+    match verdict_text(alloc, verdict, at, followed.events, followed.single) {
+        Ok(line) => write_out(writer, line.as_bytes(), exit),
+        Err(_) => fault_text(SuffixFault::NoMemory, writer),
+    }
+}
+
+/// Judges the log that the reader gives as `judge_with_fault` does, but by what DfuSe adds to the standard: `kept` is a device that speaks
+/// DfuSe, and `not kept` one that doesn't.
+pub(crate) fn judge_dfuse<R: Read + Drop, W: Write>(
+    alloc: Global,
+    interface: u8,
+    reader: R,
+    writer: &mut W,
+) -> (Exit, Option<LogFault>) {
+    let Some(mut followed) = Followed::new(alloc) else {
+        let fault = LogFault::NoMemory;
+        return (stop_text(alloc, fault, writer), Some(fault));
+    };
+    match judge_all(alloc, interface, reader, &mut followed, writer) {
+        Ok(()) => (verdict_out(alloc, &followed, writer), None),
+        Err(fault) => (stop_text(alloc, fault, writer), Some(fault)),
+    }
+}

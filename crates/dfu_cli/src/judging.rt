@@ -1,0 +1,258 @@
+//! `dfu judge`: the verdict on a log or a capture of a file or of standard input.
+
+use crate::captures::{Headed, MAX_CAPTURE, capture_line, capture_why};
+use crate::dfusing::judge_dfuse;
+use crate::eventful::Eventful;
+use crate::line_ends::LineEnds;
+use crate::numbering::number_of;
+use crate::prefixing::Prefixed;
+use crate::watching::Watched;
+use dfu_conformance::LineFault;
+use dfu_fs::{error_reason, file_reason, gather_fault, open};
+use dfu_json::JsonLines;
+use dfu_output::{Answer, Exit, LogFault, fault_text, judge_with_fault, name_before, write_out};
+use dfu_pcap::{Address, is_capture, log_of};
+use dfu_suffix::{SuffixFault, gather};
+use std::alloc::Global;
+use std::io::{self, Printer, Read};
+use std::rt::Files;
+
+/// The number of an interface, 0 to 255.
+pub(crate) fn interface_in(word: &str) -> Option<u8> {
+    match number_of(word) {
+        Some(number) => u8::try_from(number).ok(),
+        None => None,
+    }
+}
+
+/// What is wrong with a line, in words.
+fn fault_why(why: LineFault) -> &'static str {
+    match why {
+        LineFault::Long => "it has over 262,158 bytes",
+        LineFault::Setup => {
+            "its first field isn't the sixteen hexadecimal digits of a setup, and it isn't reset or power"
+        }
+        LineFault::Body => "its second field isn't the bytes of a body in hexadecimal digits, or -",
+        LineFault::Answer => {
+            "behind its second field isn't ack, stall, nothing or the bytes of an answer in hexadecimal digits"
+        }
+    }
+}
+
+/// Why a log was judged no further, where its line doesn't say it.
+fn stop_reason<S>(
+    alloc: Global,
+    name: &str,
+    fault: LogFault,
+    watched: &Watched<S>,
+) -> Option<String> {
+    match fault {
+        LogFault::BadLine { number, why } => {
+            let why = fault_why(why);
+            match format!(in alloc; "line {number}: {why}") {
+                Ok(why) => file_reason(alloc, name, &why),
+                Err(_) => None,
+            }
+        }
+        LogFault::Read => match &watched.error {
+            Some(error) => error_reason(alloc, name, error),
+            None => None,
+        },
+        LogFault::TooLarge => file_reason(
+            alloc,
+            name,
+            "it has over 1,099,511,627,775 bytes; cut it",
+        ),
+        LogFault::NoMemory => file_reason(alloc, name, "there is no memory for it"),
+        LogFault::Write => None,
+    }
+}
+
+/// How files are to be judged.
+#[derive(Clone, Copy)]
+pub(crate) struct How {
+    /// The number of the interface.
+    pub interface: u8,
+    /// Of a capture the address, if one is named.
+    pub only: Option<Address>,
+    /// Whether the device is to speak DfuSe.
+    pub dfuse: bool,
+    /// Whether each line is an object.
+    pub json: bool,
+}
+
+/// What is to be judged of what a reader gives.
+#[derive(Clone, Copy)]
+struct Judged<'w> {
+    /// The name of the file.
+    pub name: &'w str,
+    /// What stands before each line.
+    pub before: &'w str,
+    /// How it is to be judged.
+    pub how: How,
+}
+
+/// The output for the lines of what is judged.
+fn output<'o, R: Print + AllocGlobal>(
+    rt: &'o R,
+    judged: Judged<'o>,
+) -> Prefixed<'o, JsonLines<'o, Printer<'o, R>>> {
+    Prefixed::new(
+        judged.before,
+        JsonLines::new(
+            rt.alloc(),
+            judged.how.json,
+            Some(judged.name),
+            io::writer(rt),
+        ),
+    )
+}
+
+/// Judges the log that a reader gives.
+fn judge_text_of<R: Print + AllocGlobal, S: Read + Drop>(
+    rt: &R,
+    judged: Judged<'_>,
+    log: S,
+) -> Answer {
+    let alloc = rt.alloc();
+    let mut watched = Watched::new(log);
+    let mut out = Eventful::new(output(rt, judged));
+    let (exit, fault) = if judged.how.dfuse {
+        judge_dfuse(alloc, judged.how.interface, &mut watched, &mut out)
+    } else {
+        judge_with_fault(alloc, judged.how.interface, &mut watched, &mut out)
+    };
+    if out.is_without() {
+        let why =
+            "no request of DFU at the interface is in it; record a session, or see --interface";
+        return Answer {
+            exit: write_out(out.behind(), b"refused NoEvents\n", Exit::Refused),
+            reason: file_reason(alloc, judged.name, why),
+        };
+    }
+    let reason = match fault {
+        Some(fault) => stop_reason(alloc, judged.name, fault, &watched),
+        None => None,
+    };
+    Answer { exit, reason }
+}
+
+/// Judges the log of a device that is in a capture.
+fn judge_bytes<R: Print + AllocGlobal>(rt: &R, judged: Judged<'_>, capture: &[u8]) -> Answer {
+    let alloc = rt.alloc();
+    match log_of(alloc, capture, judged.how.interface, judged.how.only) {
+        Ok(log) => judge_text_of(rt, judged, log.as_slice()),
+        Err(fault) => {
+            let line = capture_line(fault).as_bytes();
+            Answer {
+                exit: write_out(&mut output(rt, judged), line, Exit::Refused),
+                reason: match capture_why(fault) {
+                    Some(why) => file_reason(alloc, judged.name, why),
+                    None => None,
+                },
+            }
+        }
+    }
+}
+
+/// Judges the capture that a reader gives.
+fn judge_capture<R: Print + AllocGlobal, S: Read + Drop>(
+    rt: &R,
+    judged: Judged<'_>,
+    capture: S,
+) -> Answer {
+    let alloc = rt.alloc();
+    let mut watched = Watched::new(capture);
+    match gather(alloc, &mut watched, MAX_CAPTURE) {
+        Ok(bytes) => judge_bytes(rt, judged, &bytes),
+        Err(fault) => Answer {
+            exit: fault_text(gather_fault(fault), &mut output(rt, judged)),
+            reason: match &watched.error {
+                Some(error) => error_reason(alloc, judged.name, error),
+                None => None,
+            },
+        },
+    }
+}
+
+/// A file or standard input that can't be read.
+fn unread<R: Print + AllocGlobal>(rt: &R, judged: Judged<'_>, error: &io::Error) -> Answer {
+    Answer {
+        exit: fault_text(SuffixFault::Read, &mut output(rt, judged)),
+        reason: error_reason(rt.alloc(), judged.name, error),
+    }
+}
+
+/// Judges a log or a capture, or that of standard input where the name is `-`, with the reason where it is judged no further.
+fn judge_file<R: Files + Input + Print + AllocGlobal>(rt: &R, judged: Judged<'_>) -> Answer {
+    let given = match open(rt, judged.name) {
+        Ok(given) => given,
+        Err(error) => return unread(rt, judged, &error),
+    };
+    match Headed::new(given) {
+        Ok(given) => {
+            if is_capture(given.head()) {
+                judge_capture(rt, judged, given)
+            } else {
+                judge_text_of(rt, judged, LineEnds::new(given))
+            }
+        }
+        Err(error) => unread(rt, judged, &error),
+    }
+}
+
+/// Judges a file, with no name before its lines.
+fn judge_bare<R: Files + Input + Print + AllocGlobal>(rt: &R, name: &str, how: How) -> Answer {
+    judge_file(
+        rt,
+        Judged {
+            name,
+            before: "",
+            how,
+        },
+    )
+}
+
+/// Judges one of several files, with its name before each line.
+fn judge_named<R: Files + Input + Print + AllocGlobal>(rt: &R, name: &str, how: How) -> Answer {
+    match name_before(rt.alloc(), name) {
+        Ok(before) => judge_file(
+            rt,
+            Judged {
+                name,
+                before: &before,
+                how,
+            },
+        ),
+        Err(_) => Answer {
+            exit: fault_text(SuffixFault::NoMemory, &mut io::writer(rt)),
+            reason: None,
+        },
+    }
+}
+
+/// Judges logs and captures, or those of standard input where a name is `-`, each with the reason where it is judged no further. Of more
+/// than one file each line begins with its name; with `json` each line is a JSON object, with the name as its member `file`. The end is the
+/// worst one.
+pub(crate) fn judge_files<R: Files + Input + Print + AllocGlobal>(
+    rt: &R,
+    names: &[String],
+    how: How,
+) -> Answer {
+    if let [name] = names {
+        return judge_bare(rt, name, how);
+    }
+    let mut all = Answer {
+        exit: Exit::Done,
+        reason: None,
+    };
+    for name in names {
+        let answer = if how.json {
+            judge_bare(rt, name, how)
+        } else {
+            judge_named(rt, name, how)
+        };
+        all = all.and(rt.alloc(), answer);
+    }
+    all
+}

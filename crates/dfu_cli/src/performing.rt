@@ -1,0 +1,232 @@
+//! What the words of a command line ask for is done.
+
+use crate::captures::device_in;
+use crate::changing::{perform_add, perform_extract, perform_set};
+use crate::hexing::bare;
+use crate::identifiers::IdTexts;
+use crate::judging::{How, interface_in, judge_files};
+use crate::offered::read_file;
+use crate::remembering::Remembering;
+use crate::scripts::{Ways, run_script};
+use crate::shown::show_reason;
+use crate::tips::advised;
+use crate::words::{bad_device, bad_file, bad_interface, bad_kind, refused};
+use dfu_args::{Asked, Job, JobFault, asked};
+use dfu_fs::{Owned, check_files};
+use dfu_json::JsonLines;
+use dfu_output::{Answer, Exit, fault_text, show_text};
+use dfu_suffix::SuffixFault;
+use std::io::{self, IsTerminal};
+use std::rt::Files;
+
+/// Whether bytes of this kind can be shown.
+fn is_kind(kind: &str) -> bool {
+    matches!(
+        kind,
+        "functional" | "status" | "state" | "setup" | "configuration"
+    )
+}
+
+fn perform_show<R: Print + AllocGlobal>(
+    rt: &R,
+    kind: &str,
+    words: &[String],
+    json: bool,
+) -> Answer {
+    let alloc = rt.alloc();
+    // Words that aren't understood have no object.
+    let lines = JsonLines::new(alloc, json && is_kind(kind), None, io::writer(rt));
+    let mut out = Remembering::new(lines);
+    let Ok(digits) = bare(alloc, words) else {
+        return Answer {
+            exit: fault_text(SuffixFault::NoMemory, &mut out),
+            reason: None,
+        };
+    };
+    // A text stays one where signs of ASCII go.
+    let hex = std::str::from_utf8(&digits).unwrap_or("?");
+    let exit = show_text(alloc, kind, hex, &mut out);
+    let reason = match exit {
+        Exit::BadWords => bad_kind(alloc, kind),
+        Exit::Refused => show_reason(alloc, kind, out.front()),
+        _ => None,
+    };
+    Answer { exit, reason }
+}
+
+/// Judges a log or a capture, where the words can be used.
+fn perform_judge<R: Files + Input + Print + AllocGlobal>(
+    rt: &R,
+    names: &[String],
+    interface: &str,
+    device: &str,
+    dfuse: bool,
+    json: bool,
+) -> Answer {
+    let Some(interface) = interface_in(interface) else {
+        return refused(rt, bad_interface(rt.alloc(), interface));
+    };
+    let Some(only) = device_in(device) else {
+        return refused(rt, bad_device(rt.alloc(), device));
+    };
+    let how = How {
+        interface,
+        only,
+        dfuse,
+        json,
+    };
+    judge_files(rt, names, how)
+}
+
+/// Runs a script in these ways, where the words can be used: the script and its file can't both be standard input.
+fn perform_run<R: Files + Input + Print + AllocGlobal>(
+    rt: &R,
+    script: &str,
+    file: &Option<String>,
+    ways: Ways<'_>,
+) -> Answer
+where
+    R::File: IsTerminal,
+    R::Reader: IsTerminal,
+{
+    let Some(name) = file else {
+        return run_script(rt, script, ways);
+    };
+    if script == "-" && name.as_str() == "-" {
+        return refused(rt, bad_file(rt.alloc()));
+    }
+    match read_file(rt, name) {
+        Ok(bytes) => run_script(
+            rt,
+            script,
+            Ways {
+                file: Some(&bytes),
+                ..ways
+            },
+        ),
+        Err(answer) => answer,
+    }
+}
+
+/// Does a job.
+fn perform<R: Files + Input + Print + AllocGlobal>(rt: &R, job: &Job, explain: bool) -> Answer
+where
+    R::File: Owned + IsTerminal,
+    R::Reader: IsTerminal,
+{
+    match job {
+        Job::Check { files, json } => check_files(rt, files, explain, *json),
+        Job::Add {
+            file,
+            to,
+            vid,
+            pid,
+            did,
+            format,
+            fill,
+        } => perform_add(rt, file, to, &IdTexts::new(vid, pid, did), format, fill),
+        Job::Extract { file, to } => perform_extract(rt, file, to, explain),
+        Job::Change {
+            file,
+            vid,
+            pid,
+            did,
+        } => perform_set(rt, file, vid, pid, did, explain),
+        Job::Show { kind, hex, json } => perform_show(rt, kind, hex, *json),
+        Job::Run {
+            script,
+            trace,
+            board,
+            file,
+        } => perform_run(
+            rt,
+            script,
+            file,
+            Ways::without_file(*trace, *board, explain),
+        ),
+        Job::Judge {
+            files,
+            interface,
+            device,
+            dfuse,
+            json,
+        } => perform_judge(rt, files, interface, device, *dfuse, *json),
+    }
+}
+
+/// The parser's text, with other tips where it has misleading ones, if there is memory for it.
+fn print_advised<R: Print + AllocGlobal>(rt: &R, error: &clap::Error) -> io::Result<()> {
+    let alloc = rt.alloc();
+    let Ok(text) = format!(in alloc; "{error}") else {
+        return rt.print(error);
+    };
+    match advised(alloc, &text) {
+        Ok(text) => rt.print(text.as_str()),
+        Err(_) => rt.print(error),
+    }
+}
+
+/// The parser's text, which for a mistake ends with how to ask for help.
+fn print_text<R: Print + AllocGlobal>(rt: &R, error: &clap::Error) -> u8 {
+    match print_advised(rt, error) {
+        Ok(()) => error.exit_code() as u8,
+        Err(_error) => Exit::Fault.status(),
+    }
+}
+
+/// Does what the words ask for. It answers the exit status, and the reason where that is wanted: by the
+/// words, or since `is_wanted` says so.
+fn answer_words<R: Files + Input + Print + AllocGlobal>(
+    rt: &R,
+    words: &[String],
+    is_wanted: bool,
+) -> (u8, Option<String>)
+where
+    R::File: Owned + IsTerminal,
+    R::Reader: IsTerminal,
+{
+    match asked(rt.alloc(), words) {
+        Ok(Asked { job, explain }) => {
+            let is_wanted = is_wanted || explain;
+            let Answer { exit, reason } = perform(rt, &job, is_wanted);
+            let reason = if is_wanted { reason } else { None };
+            (exit.status(), reason)
+        }
+        Err(fault) => match fault {
+            JobFault::Words(error) => (print_text(rt, &error), None),
+            JobFault::NoMemory => (no_memory(rt).status(), None),
+        },
+    }
+}
+
+/// Does what the words ask for, and answers the exit status. No reason is written.
+pub fn run_words<R: Files + Input + Print + AllocGlobal>(rt: &R, words: &[String]) -> u8
+where
+    R::File: Owned + IsTerminal,
+    R::Reader: IsTerminal,
+{
+    let (status, _) = answer_words(rt, words, false);
+    status
+}
+
+/// Does what `run_words` does, and writes the reason of a refusal to standard error, where the words
+/// have `--explain` or `is_wanted` is set. Where it can't be written nothing else changes.
+pub fn run_explained<R: Files + Input + Print + Eprint + AllocGlobal>(
+    rt: &R,
+    words: &[String],
+    is_wanted: bool,
+) -> u8
+where
+    R::File: Owned + IsTerminal,
+    R::Reader: IsTerminal,
+{
+    let (status, reason) = answer_words(rt, words, is_wanted);
+    if let Some(line) = &reason {
+        let _ = rt.eprint(line.as_str());
+    }
+    status
+}
+
+fn no_memory<R: Print>(rt: &R) -> Exit {
+    fault_text(SuffixFault::NoMemory, &mut io::writer(rt))
+}

@@ -1,0 +1,260 @@
+//! `dfu run`: the script of a file or of standard input, and how often it prints.
+
+ghost use Rattle.std.specs.Prelude.{◌≡◌, None};
+
+use crate::beside::{Stop, run_beside_traced_with_stop, run_beside_with_stop};
+use crate::buffering::run_buffered_with_fault;
+use crate::line::{line_why, setup_why};
+use crate::running::run_traced_with_fault;
+use crate::sharing::Shared;
+use crate::watching::Watched;
+use dfu_fs::{error_reason, file_reason, open};
+use dfu_link::{Reason, ScriptFault, Stopped};
+use dfu_output::{Answer, Exit, fault_text};
+use dfu_suffix::SuffixFault;
+use std::alloc::Global;
+use std::io::{self, BufWriter, IsTerminal, Printer, Read, Write};
+use std::rt::Files;
+
+/// How many bytes the buffer of `run` has. Two writes after one another put out at least so many,
+/// whatever the lines are; so there is at most one for each 8,192 bytes, and one more.
+const BUFFER: usize = 16_384;
+
+/// A buffer in front of the output: with this room, or where there is no memory for that, with none,
+/// so that each text goes through at once.
+fn buffer_of<R: Print + AllocGlobal>(rt: &R, room: usize) -> BufWriter<Printer<'_, R>> {
+    if let Ok(buffer) = BufWriter::with_capacity(rt.alloc(), room, io::writer(rt)) {
+        return buffer;
+    }
+    let Ok(buffer) = BufWriter::with_capacity(rt.alloc(), 0, io::writer(rt)) else {
+        unreachable!()
+    };
+    buffer
+}
+
+/// How a script is run, beside its own lines.
+#[derive(Clone, Copy)]
+pub(crate) struct Ways<'f> {
+    /// Whether each action of the host is told.
+    pub trace: bool,
+    /// Whether a board plays each event too.
+    pub board: bool,
+    /// The bytes that FILE stands for, if there are any.
+    pub file: Option<&'f [u8]>,
+    /// Whether the reason is wanted if it stops.
+    pub explain: bool,
+}
+
+impl Ways<'_> {
+    /// These ways, and no bytes that FILE stands for.
+    pub(crate) fn without_file(trace: bool, board: bool, explain: bool) -> Ways<'static>
+        ensures trace { result.trace ≡ trace }
+        ensures board { result.board ≡ board }
+        ensures file { result.file ≡ None }
+        ensures explain { result.explain ≡ explain }
+    {
+        Ways {
+            trace,
+            board,
+            file: None,
+            explain,
+        }
+    }
+}
+
+/// Why a script stopped, where its line doesn't say it.
+fn stop_reason<S>(
+    alloc: Global,
+    name: &str,
+    stop: Stop,
+    stopped: &Stopped,
+    watched: &Watched<S>,
+) -> Option<String> {
+    match stop {
+        Stop::Fault(fault) => fault_reason(alloc, name, fault, stopped, watched),
+        Stop::Differs(number) => line_reason(
+            alloc,
+            name,
+            number,
+            "after an event of it the board differs from the device; report that, with the script",
+        ),
+    }
+}
+
+/// Why a script stopped at a fault, where its line doesn't say it.
+fn fault_reason<S>(
+    alloc: Global,
+    name: &str,
+    fault: ScriptFault,
+    stopped: &Stopped,
+    watched: &Watched<S>,
+) -> Option<String> {
+    match fault {
+        ScriptFault::BadLine(number) => {
+            let why = line_why(alloc, stopped.reason()).ok()?;
+            line_reason(alloc, name, number, &why)
+        }
+        ScriptFault::BadConfig => match stopped.reason() {
+            Some(Reason::Setup(fault, number)) => {
+                line_reason(alloc, name, number, setup_why(fault))
+            }
+            _ => None,
+        },
+        ScriptFault::Read => match &watched.error {
+            Some(error) => error_reason(alloc, name, error),
+            None => None,
+        },
+        ScriptFault::LateConfig(number) => line_reason(
+            alloc,
+            name,
+            number,
+            "it sets up the device, and stands behind a line that does something; move it up",
+        ),
+        ScriptFault::Expected(number) => line_reason(
+            alloc,
+            name,
+            number,
+            "the last line that was printed isn't the one that it expects; correct either",
+        ),
+        ScriptFault::NonePrinted(number) => line_reason(
+            alloc,
+            name,
+            number,
+            "nothing was printed since the one before that expects a line; take one of them out",
+        ),
+        ScriptFault::TooLarge => file_reason(
+            alloc,
+            name,
+            "it has over 16,777,216 bytes; shorten it",
+        ),
+        ScriptFault::NoMemory => file_reason(alloc, name, "there is no memory for it"),
+        ScriptFault::Write => None,
+    }
+}
+
+/// The line that says why, of a line of a script.
+fn line_reason(alloc: Global, name: &str, number: u32, why: &str) -> Option<String> {
+    match format!(in alloc; "line {number}: {why}") {
+        Ok(why) => file_reason(alloc, name, &why),
+        Err(_) => None,
+    }
+}
+
+/// Runs a script on a board too, with its trace if that is wanted, as `run_traced` does.
+fn run_beside<R: Read + Drop, W: Write + Drop>(
+    alloc: Global,
+    ways: Ways<'_>,
+    reader: R,
+    buffer: BufWriter<W>,
+    stopped: &Stopped,
+) -> (Exit, Option<Stop>) {
+    let shared = Shared::new(buffer);
+    let (exit, stop, _, is_traced) = if ways.trace {
+        run_beside_traced_with_stop(
+            alloc,
+            ways.file,
+            reader,
+            shared.writer(),
+            &mut shared.writer(),
+            stopped,
+        )
+    } else {
+        let (exit, stop, writer) = run_beside_with_stop(
+            alloc,
+            ways.file,
+            reader,
+            shared.writer(),
+            stopped,
+        );
+        (exit, stop, writer, true)
+    };
+    if shared.finish() && is_traced {
+        (exit, stop)
+    } else {
+        (Exit::Fault, stop)
+    }
+}
+
+/// Runs a script with its trace: both have a writer of their own, and share the buffer. Where a line of the trace
+/// isn't out, or what is printed, the end is Fault.
+fn run_traced<R: Read + Drop, W: Write + Drop>(
+    alloc: Global,
+    file: Option<&[u8]>,
+    reader: R,
+    buffer: BufWriter<W>,
+    stopped: &Stopped,
+) -> (Exit, Option<ScriptFault>) {
+    let shared = Shared::new(buffer);
+    let (exit, fault, is_traced) = run_traced_with_fault(
+        alloc,
+        file,
+        reader,
+        &mut shared.writer(),
+        &mut shared.writer(),
+        stopped,
+    );
+    if shared.finish() && is_traced {
+        (exit, fault)
+    } else {
+        (Exit::Fault, fault)
+    }
+}
+
+/// Runs a script on the device alone, with its trace if that is wanted.
+fn run_alone<R: Read + Drop, W: Write + Drop>(
+    alloc: Global,
+    ways: Ways<'_>,
+    reader: R,
+    buffer: BufWriter<W>,
+    stopped: &Stopped,
+) -> (Exit, Option<ScriptFault>) {
+    if ways.trace {
+        return run_traced(alloc, ways.file, reader, buffer, stopped);
+    }
+    let (exit, fault, _) = run_buffered_with_fault(alloc, ways.file, reader, buffer, stopped);
+    (exit, fault)
+}
+
+/// Runs a script through a buffer, so that it makes few writes. Where the script is typed at a
+/// terminal, what a line prints is out before the next one is waited for, so the buffer has no room.
+fn run_from<R: Print + AllocGlobal, S: Read + IsTerminal + Drop>(
+    rt: &R,
+    name: &str,
+    script: S,
+    ways: Ways<'_>,
+) -> Answer {
+    let alloc = rt.alloc();
+    let room = if script.is_terminal() { 0 } else { BUFFER };
+    let mut watched = Watched::new(script);
+    let stopped = Stopped::new();
+    let (exit, stop) = if ways.board {
+        run_beside(alloc, ways, &mut watched, buffer_of(rt, room), &stopped)
+    } else {
+        let (exit, fault) = run_alone(alloc, ways, &mut watched, buffer_of(rt, room), &stopped);
+        (exit, fault.map(Stop::Fault))
+    };
+    let reason = match stop {
+        Some(stop) if ways.explain => stop_reason(alloc, name, stop, &stopped, &watched),
+        _ => None,
+    };
+    Answer { exit, reason }
+}
+
+/// Runs a script, or that of standard input where the name is `-`, in these ways.
+pub(crate) fn run_script<R: Files + Input + Print + AllocGlobal>(
+    rt: &R,
+    script: &str,
+    ways: Ways<'_>,
+) -> Answer
+where
+    R::File: IsTerminal,
+    R::Reader: IsTerminal,
+{
+    match open(rt, script) {
+        Ok(reader) => run_from(rt, script, reader, ways),
+        Err(error) => Answer {
+            exit: fault_text(SuffixFault::Read, &mut io::writer(rt)),
+            reason: error_reason(rt.alloc(), script, &error),
+        },
+    }
+}

@@ -1,0 +1,199 @@
+-- What proofs of other crates cite: a row is found by its fields, and two moves are one.
+use Rattle.std.specs.Prelude.{◌≡◌, ℕ, ◌+◌, ◌==◌, ◌&&◌, ◌||◌, not, Bool, true, List, [], ◌∷◌, Contains, if◌then◌else◌}
+use Rattle.std.specs.List.{list_any, list_all}
+use Rattle.std.proofs.Common.{refl, sym, ap, subst, ◌∙◌, inl, inr}
+use Rattle.std.proofs.lemmas.Bool.{not-true, and_parts, and_from, or_cases, eqb-true, eq-eqb, true_from_ne_false, both_ways}
+use Rattle.std.proofs.lemmas.List.Folds.{Any-from_list_any, list_all_at}
+use Rattle.dfu_conformance.specs.declared.place.Place.{Place}
+use Rattle.dfu_conformance.specs.declared.asked.Asked.{Asked}
+use Rattle.dfu_conformance.specs.declared.reading.Reading.TheVariants.{Bootloader, RuntimeMute, SelfReset, DetachAtOnce, DetachLeaves, ErrorWithoutCode}
+use Rattle.dfu_conformance.specs.declared.row.Row.{Row}
+use Rattle.dfu_conformance.specs.declared.row.Drift.{Drift}
+use Rattle.dfu_conformance.specs.declared.row.When.{When}
+use Rattle.dfu_conformance.specs.declared.row.When.TheVariants.{Always, CanDownload, CanUpload, Tolerant, NotTolerant, WillDetach, By}
+use Rattle.dfu_conformance.specs.declared.row.Gives.{Gives}
+use Rattle.dfu_conformance.specs.declared.row.Gives.TheVariants as gives
+use Rattle.dfu_conformance.specs.declared.event.Event.{Event}
+use Rattle.dfu_conformance.specs.declared.drifts.TheConstants.{DRIFTS}
+use Rattle.dfu_conformance.specs.Fits.{place_number, asked_number, asks, row_shows}
+use Rattle.dfu_conformance.specs.Held.{meets, reading_bit}
+use Rattle.dfu_conformance.specs.MayAnswer.{GoesBy, MovesBy, MayMove, Run}
+use Rattle.dfu_conformance.proofs.Places.{same_place}
+
+-- What a row gives, by number.
+abbrev pub gives_number : Gives → ℕ
+gives_number gives.Ack = 0
+gives_number gives.Stall = 1
+gives_number gives.Status = 2
+gives_number gives.NoCode = 3
+gives_number gives.State = 4
+gives_number gives.Full = 5
+gives_number gives.Short = 6
+gives_number gives.Silent = 7
+
+gives_of : ℕ → Gives
+gives_of n =
+    if n == 0 then gives.Ack else if n == 1 then gives.Stall else if n == 2 then gives.Status else if n == 3 then gives.NoCode
+    else if n == 4 then gives.State else if n == 5 then gives.Full else if n == 6 then gives.Short else gives.Silent
+
+gives_back : (g : Gives) → gives_of (gives_number g) ≡ g
+unfolding gives_of
+gives_back gives.Ack = refl
+gives_back gives.Stall = refl
+gives_back gives.Status = refl
+gives_back gives.NoCode = refl
+gives_back gives.State = refl
+gives_back gives.Full = refl
+gives_back gives.Short = refl
+gives_back gives.Silent = refl
+
+-- Of which devices a row speaks, by number.
+abbrev pub when_number : When → ℕ
+when_number Always = 0
+when_number CanDownload = 1
+when_number CanUpload = 2
+when_number Tolerant = 3
+when_number NotTolerant = 4
+when_number WillDetach = 5
+when_number (By reading) = 6 + reading_bit reading
+
+when_of : ℕ → When
+when_of n =
+    if n == 0 then Always else if n == 1 then CanDownload else if n == 2 then CanUpload else if n == 3 then Tolerant
+    else if n == 4 then NotTolerant else if n == 5 then WillDetach else if n == 6 then By Bootloader else if n == 7 then By RuntimeMute
+    else if n == 8 then By SelfReset else if n == 9 then By DetachAtOnce else if n == 10 then By DetachLeaves else By ErrorWithoutCode
+
+when_back : (w : When) → when_of (when_number w) ≡ w
+unfolding when_of
+when_back Always = refl
+when_back CanDownload = refl
+when_back CanUpload = refl
+when_back Tolerant = refl
+when_back NotTolerant = refl
+when_back WillDetach = refl
+when_back (By Bootloader) = refl
+when_back (By RuntimeMute) = refl
+when_back (By SelfReset) = refl
+when_back (By DetachAtOnce) = refl
+when_back (By DetachLeaves) = refl
+when_back (By ErrorWithoutCode) = refl
+
+-- The row has these fields.
+abbrev pub is_row : Place → Asked → When → Gives → Place → Row → Bool
+is_row from asked when g next row =
+    (place_number row.from == place_number from) && ((asked_number row.asked == asked_number asked)
+    && ((when_number row.when == when_number when) && ((gives_number row.gives == gives_number g)
+    && (place_number row.next == place_number next))))
+
+-- A device goes by a row with these fields, which some row of the list has.
+pub by_row : (rows : List Row) (from : Place) (asked : Asked) (when : When) (g : Gives) (next : Place) (a r : ℕ) (e : Event)
+    → list_any (is_row from asked when g next) rows ≡ true → meets when a r ≡ true → asks asked e ≡ true
+    → row_shows g from next e.length e.answer ≡ true → GoesBy rows a r from e next
+by_row rows from asked when g next a r e some of_it is_asked is_shown =
+    let (k, row, in', is, fields) = Any-from_list_any (is_row from asked when g next) rows some in
+    let f = and_parts _ _ fields in
+    let q = and_parts _ _ f.1 in
+    let w = and_parts _ _ q.1 in
+    let n = and_parts _ _ w.1 in
+    let same_from : row.from ≡ from = same_place row.from from (eqb-true _ _ f.0) in
+    let same_next : row.next ≡ next = same_place row.next next (eqb-true _ _ n.1) in
+    let same_when : row.when ≡ when = sym (when_back row.when) ∙ ap when_of (eqb-true _ _ w.0) ∙ when_back when in
+    let same_gives : row.gives ≡ g = sym (gives_back row.gives) ∙ ap gives_of (eqb-true _ _ n.0) ∙ gives_back g in
+    record {
+      row = row;
+      listed = (k, in', is);
+      begins = same_from;
+      ends = same_next;
+      speaks = and_from _ _
+          (ap (λ (x : ℕ). (x == asked_number e.asked) || (not e.is_plain && (x == 8))) (eqb-true _ _ q.0) ∙ is_asked)
+          ((λ i. row_shows (same_gives i) (same_from i) (same_next i) e.length e.answer) ∙ is_shown);
+      of_it = ap (λ (x : When). meets x a r) same_when ∙ of_it;
+    }
+
+-- The move has these fields.
+abbrev pub is_move : Place → When → Place → Drift → Bool
+is_move from when next d =
+    (place_number d.from == place_number from) && ((when_number d.when == when_number when) && (place_number d.next == place_number next))
+
+-- A device makes a move with these fields, which some move of the list has.
+pub by_move : (moves : List Drift) (from : Place) (when : When) (next : Place) (a r : ℕ) → list_any (is_move from when next) moves ≡ true
+    → meets when a r ≡ true → MovesBy moves a r from next
+by_move moves from when next a r some of_it =
+    let (k, row, in', is, fields) = Any-from_list_any (is_move from when next) moves some in
+    let f = and_parts _ _ fields in
+    let w = and_parts _ _ f.1 in
+    record {
+      row = row;
+      listed = (k, in', is);
+      begins = same_place row.from from (eqb-true _ _ f.0);
+      ends = same_place row.next next (eqb-true _ _ w.1);
+      of_it = ap (λ (x : When). meets x a r) (sym (when_back row.when) ∙ ap when_of (eqb-true _ _ w.0) ∙ when_back when) ∙ of_it;
+    }
+
+-- A move leads from where this one begins to where that one ends, for all devices that make both.
+closes : Drift → Drift → Drift → Bool
+closes d e f =
+    ((place_number f.from == place_number d.from) && (place_number f.next == place_number e.next))
+    && ((when_number f.when == 0) || ((when_number f.when == when_number d.when) || (when_number f.when == when_number e.when)))
+
+-- Two moves that follow each other have a third that leads as both do.
+follow : Drift → Drift → Bool
+follow d e = not (place_number d.next == place_number e.from) || list_any (closes d e) DRIFTS
+
+all_follow : list_all (λ (d : Drift). list_all (λ (e : Drift). follow d e) DRIFTS) DRIFTS ≡ true
+unfolding follow closes
+all_follow = refl
+
+-- What all elements of a list pass each passes.
+pub passes : {X : Type 0} (p : X → Bool) (xs : List X) (x : X) → Contains xs x → list_all p xs ≡ true → p x ≡ true
+passes p xs x (k, in', is) all = true_from_ne_false (p x) (λ fails.
+    both_ways (list_all p xs) (list_all_at p xs k x in' (ap p is ∙ fails)) all)
+
+-- Two moves that a device makes are one.
+one_move : (a r : ℕ) (p q s : Place) → MovesBy DRIFTS a r p q → MovesBy DRIFTS a r q s → MovesBy DRIFTS a r p s
+unfolding follow closes
+one_move a r p q s m n =
+    let both : follow m.row n.row ≡ true =
+    passes (λ (e : Drift). follow m.row e) DRIFTS n.row n.listed
+    (passes (λ (d : Drift). list_all (λ (e : Drift). follow d e) DRIFTS) DRIFTS m.row m.listed all_follow) in
+    elim (or_cases _ _ both) [
+      | inl apart ↦ absurd (both_ways (place_number m.row.next == place_number n.row.from)
+          (not-true _ apart) (eq-eqb _ _ (ap place_number (m.ends ∙ sym n.begins))))
+      | inr some ↦
+          let (k, row, in', is, closed) = Any-from_list_any (closes m.row n.row) DRIFTS some in
+          let c = and_parts _ _ closed in
+          let ends = and_parts _ _ c.0 in
+          record {
+            row = row;
+            listed = (k, in', is);
+            begins = same_place row.from m.row.from (eqb-true _ _ ends.0) ∙ m.begins;
+            ends = same_place row.next n.row.next (eqb-true _ _ ends.1) ∙ n.ends;
+            of_it = of_one a r row m.row n.row m.of_it n.of_it c.1;
+          }
+    ]
+  where
+    same_when : (x y : When) → (when_number x == when_number y) ≡ true → x ≡ y
+    same_when x y e = sym (when_back x) ∙ ap when_of (eqb-true _ _ e) ∙ when_back y
+
+    of_one : (a r : ℕ) (f d e : Drift) → meets d.when a r ≡ true → meets e.when a r ≡ true
+        → ((when_number f.when == 0) || ((when_number f.when == when_number d.when) || (when_number f.when == when_number e.when))) ≡ true
+        → meets f.when a r ≡ true
+    of_one a r f d e of_d of_e some = elim (or_cases _ _ some) [
+      | inl always ↦ ap (λ (x : When). meets x a r) (same_when f.when Always always)
+      | inr some ↦ elim (or_cases _ _ some) [
+        | inl as_d ↦ ap (λ (x : When). meets x a r) (same_when f.when d.when as_d) ∙ of_d
+        | inr as_e ↦ ap (λ (x : When). meets x a r) (same_when f.when e.when as_e) ∙ of_e
+      ]
+    ]
+
+-- A device that may move twice may move once to the same place.
+pub moves_twice : (a r : ℕ) (p q s : Place) → MayMove a r p q → MayMove a r q s → MayMove a r p s
+moves_twice a r p q s (inl same) n = subst (λ (x : Place). MayMove a r x s) same n
+moves_twice a r p q s (inr m) (inl same) = inr (subst (λ (x : Place). MovesBy DRIFTS a r p x) (sym same) m)
+moves_twice a r p q s (inr m) (inr n) = inr (one_move a r p q s m n)
+
+-- A run from where a device moved is one from where it was.
+pub moves_first : (a r : ℕ) (p q : Place) (events : List Event) (last : Place) → MayMove a r p q → Run a r q events last
+    → Run a r p events last
+moves_first a r p q [] last m run = moves_twice a r p q last m run
+moves_first a r p q (e ∷ events) last m (here, next, moved, may, rest) = (here, next, moves_twice a r p q here m moved, may, rest)

@@ -1,0 +1,44 @@
+-- One word more is joined.
+use Rattle.std.specs.Prelude.{◌≡◌, ℕ, zero, suc, ◌+◌, ◌<◌, ◌≤◌, ◌==◌, ◌||◌, ◌&&◌, max, min, Bool, List, length, slice_index, slice_index_or, slice_set, bit_and, bit_or}
+use Rattle.std.specs.Int.{bit_at}
+use Rattle.std.proofs.Common.{refl, ap, ◌∙◌, arith, inl, inr, get_or-set_same, get_or-set_other}
+use Rattle.std.proofs.lemmas.Bool.{cases_eq}
+use Rattle.std.proofs.lemmas.Nat.Bits.{bit_at_and, bit_at_or, bit_at-lt}
+use Rattle.dfu_conformance.specs.Held.{word_has_bit}
+
+-- The greater of a bit and the smaller of two is 1 where the first is, or both others are.
+bits_join : (p q s : ℕ) → p < 2 → q < 2 → s < 2 → (max p (min q s) == 1) ≡ ((p == 1) || ((q == 1) && (s == 1)))
+bits_join zero zero zero a b c = refl
+bits_join zero zero (suc zero) a b c = refl
+bits_join zero (suc zero) zero a b c = refl
+bits_join zero (suc zero) (suc zero) a b c = refl
+bits_join (suc zero) zero zero a b c = refl
+bits_join (suc zero) zero (suc zero) a b c = refl
+bits_join (suc zero) (suc zero) zero a b c = refl
+bits_join (suc zero) (suc zero) (suc zero) a b c = refl
+bits_join (suc (suc p)) q s a b c = absurd (omega arith)
+bits_join p (suc (suc q)) s a b c = absurd (omega arith)
+bits_join p q (suc (suc s)) a b c = absurd (omega arith)
+
+-- A bit of a word that was joined.
+word_join : (x y z r : ℕ) → (bit_at (bit_or x (bit_and y z)) r == 1) ≡ ((bit_at x r == 1) || ((bit_at y r == 1) && (bit_at z r == 1)))
+word_join x y z r =
+    ap (λ (n : ℕ). n == 1) (bit_at_or x (bit_and y z) r ∙ ap (λ (n : ℕ). max (bit_at x r) n) (bit_at_and y z r))
+    ∙ bits_join (bit_at x r) (bit_at y r) (bit_at z r) (bit_at-lt x r) (bit_at-lt y r) (bit_at-lt z r)
+
+-- All words up to this one are joined.
+pub joined : (after start before : List ℕ) (at word : ℕ) (m : ℕ → ℕ → Bool) → at < length after
+    → ((a : ℕ) → at ≤ a → slice_index after a ≡ slice_index start a)
+    → ((a r : ℕ) → a < at → r < 64 → word_has_bit after a r ≡ (word_has_bit start a r || (word_has_bit before a r && m a r)))
+    → ((r : ℕ) → r < 64 → (bit_at word r == 1) ≡ m at r)
+    → (a r : ℕ) → a < at + 1 → r < 64
+    → word_has_bit (slice_set after at (bit_or (slice_index_or after at 0) (bit_and (slice_index_or before at 0) word))) a r
+    ≡ (word_has_bit start a r || (word_has_bit before a r && m a r))
+joined after start before at word m in' kept done says a r below within = elim (cases_eq a at) [
+  | inl same ↦ rw same (
+      ap (λ (w : ℕ). bit_at w r == 1) (get_or-set_same after at _ 0 in')
+      ∙ word_join (slice_index_or after at 0) (slice_index_or before at 0) word r
+      ∙ ap (λ (w : ℕ). (bit_at w r == 1) || ((bit_at (slice_index_or before at 0) r == 1) && (bit_at word r == 1))) (kept at (omega arith))
+      ∙ ap (λ (b : Bool). word_has_bit start at r || (word_has_bit before at r && b)) (says r within))
+  | inr other ↦ ap (λ (w : ℕ). bit_at w r == 1) (get_or-set_other after at a _ 0 other) ∙ done a r (omega arith) within
+]

@@ -1,0 +1,57 @@
+-- The least set of readings that passes a test.
+use Rattle.std.specs.Prelude.{◌≡◌, ℕ, ◌<◌, ◌≤◌, zero, suc, nat_le, Bool, true, false, Option, Some, None, count_ones}
+use Rattle.std.proofs.Common.{refl, ap, ◌∙◌, inl, inr, arith}
+use Rattle.std.proofs.lemmas.Bool.{cases_eq, both_ways, cond_both, leb-true, leb-false}
+use Rattle.dfu_conformance.specs.inside.Stepped.{better_of, least_below}
+
+-- Of the sets of readings below n this one is the least that passes, or none passes.
+abbrev pub LeastTo : (ℕ → Bool) → ℕ → Option ℕ → Type 0
+LeastTo p n None = (r : ℕ) → r < n → p r ≡ false
+LeastTo p n (Some s) = (s < n) × (p s ≡ true)
+    × ((r : ℕ) → r < n → p r ≡ true → count_ones s ≤ count_ones r)
+    × ((r : ℕ) → r < s → p r ≡ true → count_ones s < count_ones r)
+
+-- One set more, which does not pass.
+skipped : (p : ℕ → Bool) (n : ℕ) (o : Option ℕ) → p n ≡ false → LeastTo p n o → LeastTo p (suc n) o
+skipped p n None off so = λ r below. elim (cases_eq r n) [ inl same ↦ ap p same ∙ off | inr other ↦ so r (omega arith) ]
+skipped p n (Some s) off so = (
+  omega (arith, so.0),
+  so.1,
+  λ r below passes. elim (cases_eq r n) [
+    | inl same ↦ absurd (both_ways (p r) (ap p same
+        ∙ off) passes)
+    | inr other ↦ so.2 r (omega arith) passes
+  ],
+  so.3,
+)
+
+-- One set more, which passes and has isnt fewer readings.
+outdone : (p : ℕ → Bool) (n s : ℕ) → count_ones s ≤ count_ones n → LeastTo p n (Some s) → LeastTo p (suc n) (Some s)
+outdone p n s more so = (
+  omega (arith, so.0),
+  so.1,
+  λ r below passes. elim (cases_eq r n) [ inl same ↦ rw same more | inr other ↦ so.2 r (omega arith) passes ],
+  so.3,
+)
+
+-- One set more, which passes and has the fewest readings.
+wins : (p : ℕ → Bool) (n : ℕ) → p n ≡ true → ((r : ℕ) → r < n → p r ≡ true → count_ones n < count_ones r) → LeastTo p (suc n) (Some n)
+wins p n on fewest = (
+  omega arith,
+  on,
+  λ r below passes. elim (cases_eq r n) [ inl same ↦ rw same (omega arith) | inr other ↦ omega (arith, fewest r (omega arith) passes) ],
+  fewest,
+)
+
+-- One set more.
+more : (p : ℕ → Bool) (n : ℕ) (o : Option ℕ) (b : Bool) → p n ≡ b → LeastTo p n o → LeastTo p (suc n) (better_of b n o)
+more p n o false off so = skipped p n o off so
+more p n None true on so = wins p n on (λ r below passes. absurd (both_ways (p r) (so r below) passes))
+more p n (Some s) true on so = cond_both (nat_le (count_ones s) (count_ones n)) (Some s) (Some n) (LeastTo p (suc n))
+    (λ is_so. outdone p n s (leb-true _ _ is_so) so)
+    (λ not_so. wins p n on (λ r below passes. omega (arith, leb-false _ _ not_so, so.2 r below passes)))
+
+-- The best of the sets below a number is the least of them.
+pub least_to : (p : ℕ → Bool) (n : ℕ) → LeastTo p n (least_below p n)
+least_to p zero = λ r below. absurd (omega arith)
+least_to p (suc n) = more p n (least_below p n) (p n) refl (least_to p n)

@@ -1,0 +1,110 @@
+-- A line of a log, read: SETUP BODY ANSWER, `reset`, `power`, a comment, or an empty line.
+use Rattle.std.specs.Prelude.{◌≡◌, ℕ, ◌+◌, ◌*◌, ◌/◌, ◌%◌, ◌-◌, ◌==◌, ◌&&◌, nat_le, nat_lt, Bool, true, List, [], ◌∷◌, length, take, drop, slice_index, codes, Option, Some, None, MatchBool, is_none, if◌then◌else◌}
+use Rattle.std.specs.List.{list_all, position_or_len}
+use Rattle.std.specs.Str.{bytes_eq}
+use Rattle.dfu_wire.specs.declared.setups.Setup.{Setup}
+use Rattle.dfu_wire.specs.declared.requests.Request.{Request}
+use Rattle.dfu_wire.specs.declared.requests.Request.TheVariants as request
+use Rattle.dfu_wire.specs.Request.{Asks}
+use Rattle.dfu_conformance.specs.declared.event.Answer.{Answer}
+use Rattle.dfu_conformance.specs.declared.event.Answer.TheVariants as answer
+use Rattle.dfu_conformance.specs.declared.log.Line.{Line}
+use Rattle.dfu_conformance.specs.declared.log.Line.TheVariants.{Blank, Elsewhere, Came}
+use Rattle.dfu_conformance.specs.declared.log.LineFault.{LineFault}
+use Rattle.dfu_conformance.specs.declared.log.LineFault.TheVariants as fault
+use Rattle.dfu_conformance.specs.Setups.{event_of, reset, power}
+
+-- A byte parts the fields of a line where it is 20h.
+abbrev pub is_space : ℕ → Bool
+is_space byte = byte == 32
+
+-- The first field of a line, up to its first space.
+abbrev pub field_of : List ℕ → List ℕ
+field_of line = take (position_or_len is_space line) line
+
+-- What stands behind the first space.
+abbrev pub rest_of : List ℕ → List ℕ
+rest_of line = drop (position_or_len is_space line + 1) line
+
+-- The value of a hexadecimal digit of either case, and 16 of any other byte.
+abbrev pub digit_value : ℕ → ℕ
+digit_value byte =
+    if nat_le 48 byte && nat_le byte 57 then byte - 48
+    else if nat_le 97 byte && nat_le byte 102 then byte - 87
+    else if nat_le 65 byte && nat_le byte 70 then byte - 55
+    else 16
+
+-- The byte is a hexadecimal digit.
+abbrev pub is_digit : ℕ → Bool
+is_digit byte = nat_lt (digit_value byte) 16
+
+-- Text that stands for bytes: pairs of hexadecimal digits, at most 65,535 of them.
+unfoldable pub is_hex : List ℕ → Bool
+is_hex text = nat_le (length text) 131070 && (length text % 2 == 0) && list_all is_digit text
+
+-- The byte that pair n of digits stands for, where there are so many, and 0 elsewhere.
+abbrev pub pair_byte : List ℕ → ℕ → ℕ
+pair_byte text n =
+    if nat_lt (2 * n + 1) (length text)
+    then (16 * digit_value (slice_index text (2 * n)) + digit_value (slice_index text (2 * n + 1))) % 256
+    else 0
+
+-- A setup: sixteen digits.
+unfoldable pub setup_in : List ℕ → Option Setup
+setup_in text =
+    if is_hex text && (length text == 16) then Some (record {
+      kind = pair_byte text 0;
+      request = pair_byte text 1;
+      value = pair_byte text 2 + 256 * pair_byte text 3;
+      index = pair_byte text 4 + 256 * pair_byte text 5;
+      length = pair_byte text 6 + 256 * pair_byte text 7;
+    }) else None
+
+-- How many bytes a body has: those that its text stands for, or none where it is a dash.
+unfoldable pub body_in : List ℕ → Option ℕ
+body_in text =
+    if bytes_eq text (codes "-") then Some 0
+    else if is_hex text && nat_lt 0 (length text) then Some (length text / 2)
+    else None
+
+-- An answer: a word, or the bytes that came.
+unfoldable pub answer_in : List ℕ → Option Answer
+answer_in text =
+    if bytes_eq text (codes "ack") then Some (answer.Bytes 0 0 0)
+    else if bytes_eq text (codes "stall") then Some answer.Stall
+    else if bytes_eq text (codes "nothing") then Some answer.Nothing
+    else if is_hex text && nat_lt 0 (length text) then Some (answer.Bytes (length text / 2) (pair_byte text 0) (pair_byte text 4))
+    else None
+
+-- A line says nothing where it is empty or begins with '#'.
+abbrev pub is_blank : List ℕ → Bool
+is_blank [] = true
+is_blank (byte ∷ bytes) = byte == 35
+
+-- The first field that is wrong of a line that is read as none.
+abbrev pub why_unread : List ℕ → LineFault
+why_unread text =
+    if is_none (setup_in (field_of text)) then fault.Setup
+    else if is_none (body_in (field_of (rest_of text))) then fault.Body
+    else fault.Answer
+
+-- What a request is read as that a setup asks for: one that is not of the class, or for another interface, is passed over.
+abbrev pub IsRead : Request → Setup → (body : ℕ) → Answer → Option Line → Type 0
+IsRead request.NotDfu s body a read = read ≡ Some Elsewhere
+IsRead q s body a read = read ≡ Some (Came (event_of s q body a))
+
+-- A request by its fields: nothing is read where one of them is none; the interface is wIndex.
+abbrev pub SaysRequest : (interface : ℕ) → Option Setup → Option ℕ → Option Answer → Option Line → Type 0
+SaysRequest interface (Some s) (Some body) (Some a) read =
+    MatchBool (s.index == interface)
+    ((q : Request) → Asks (record s { index = 0 }) q → IsRead q (record s { index = 0 }) body a read)
+    (read ≡ Some Elsewhere)
+SaysRequest interface s body a read = read ≡ None
+
+-- What a line is read as, for this interface; nothing where it is none of a log.
+abbrev pub LineSays : (interface : ℕ) → List ℕ → Option Line → Type 0
+LineSays interface text read =
+    MatchBool (is_blank text) (read ≡ Some Blank)
+    (MatchBool (bytes_eq text (codes "reset")) (read ≡ Some (Came reset))
+    (MatchBool (bytes_eq text (codes "power")) (read ≡ Some (Came power))
+    (SaysRequest interface (setup_in (field_of text)) (body_in (field_of (rest_of text))) (answer_in (rest_of (rest_of text))) read)))

@@ -1,0 +1,47 @@
+-- What a setup asks for, as the table has it, and whether it is as section 3 of USB DFU 1.1 has it.
+use Rattle.std.specs.Prelude.{ℕ, ◌==◌, ◌&&◌, Bool, true, not, if◌then◌else◌}
+use Rattle.dfu_wire.specs.declared.setups.Setup.{Setup}
+use Rattle.dfu_wire.specs.declared.requests.Request.{Request}
+use Rattle.dfu_wire.specs.declared.requests.Request.TheVariants as request
+use Rattle.dfu_conformance.specs.declared.asked.Asked.{Asked}
+use Rattle.dfu_conformance.specs.declared.asked.Asked.TheVariants.{Detach, Block, Close, Upload, GetStatus, ClrStatus, GetState, Abort, Other, Reset, Power}
+use Rattle.dfu_conformance.specs.declared.event.Event.{Event}
+use Rattle.dfu_conformance.specs.declared.event.Answer.{Answer}
+use Rattle.dfu_conformance.specs.declared.event.Answer.TheVariants as answer
+
+-- A request as the table has it: a DNLOAD of no bytes is another one.
+abbrev pub asked_by : Request → Asked
+asked_by (request.Detach timeout) = Detach
+asked_by (request.Dnload block len) = if len == 0 then Close else Block
+asked_by (request.Upload block len) = Upload
+asked_by (request.GetStatus len) = GetStatus
+asked_by request.ClrStatus = ClrStatus
+asked_by (request.GetState len) = GetState
+asked_by request.Abort = Abort
+asked_by request.OtherClass = Other
+asked_by request.NotDfu = Other
+
+-- The request has the wValue and the wLength of section 3, where it is one of the seven.
+abbrev pub has_its_numbers : Request → (value : ℕ) → Bool
+has_its_numbers (request.Upload block len) value = not (len == 0)
+has_its_numbers (request.GetStatus len) value = (len == 6) && (value == 0)
+has_its_numbers request.ClrStatus value = value == 0
+has_its_numbers (request.GetState len) value = (len == 1) && (value == 0)
+has_its_numbers request.Abort value = value == 0
+has_its_numbers q value = true
+
+-- The request is as section 3 has it, and its body has as many bytes as its setup says: wLength to the device, and none from it.
+abbrev pub is_plain : Setup → Request → (body : ℕ) → Bool
+is_plain s q body = (body == (if s.kind == 0x21 then s.length else 0)) && has_its_numbers q s.value
+
+-- What came to a device by a setup that asks for this, with so many bytes of a body, and what was seen of the answer.
+abbrev pub event_of : Setup → Request → (body : ℕ) → Answer → Event
+event_of s q body a = record { asked = asked_by q; is_plain = is_plain s q body; length = s.length; answer = a }
+
+-- A reset of the bus came.
+abbrev pub reset : Event
+reset = record { asked = Reset; is_plain = true; length = 0; answer = answer.Bytes 0 0 0 }
+
+-- Power came back.
+abbrev pub power : Event
+power = record { asked = Power; is_plain = true; length = 0; answer = answer.Bytes 0 0 0 }

@@ -1,0 +1,188 @@
+//! What comes to a device, and what is seen of its answer.
+
+ghost use Rattle.std.specs.Prelude.{◌≡◌, ◌↔◌, IfSome, IsNone};
+ghost use Rattle.dfu_conformance.specs.Fits.{fits, stays, asks, row_shows, has_code, number_of_state};
+ghost use Rattle.dfu_conformance.specs.Setups.{asked_by, has_its_numbers, is_plain};
+
+use crate::{Asked, Gives, Place, Row};
+use dfu_wire::{Request, Setup};
+
+/// What was seen of an answer.
+#[derive(Clone, Copy, Debug, PartialEq, Eq)]
+pub enum Answer {
+    /// A stall.
+    Stall,
+    /// Nothing: it isn't known whether the request came.
+    Nothing,
+    /// So many bytes; none where the request was acknowledged.
+    Bytes {
+        /// How many they are.
+        count: u32,
+        /// The first of them, or 0.
+        first: u8,
+        /// The fifth of them, or 0.
+        fifth: u8,
+    },
+}
+
+/// What came to a device, and what was seen of its answer. Of a reset and of power nothing is seen.
+#[derive(Clone, Copy, Debug, PartialEq, Eq)]
+pub struct Event {
+    /// What came.
+    pub asked: Asked,
+    /// Whether the request is as section 3 has it: wValue and wLength, and a body of wLength bytes.
+    pub is_plain: bool,
+    /// wLength.
+    pub length: u16,
+    /// What was seen of the answer.
+    pub answer: Answer,
+}
+
+impl Event {
+    ghost use Rattle.dfu_wire.specs.Request.{Asks};
+    ghost use Rattle.dfu_wire.specs.declared.requests.Request.{Request};
+    ghost use Rattle.dfu_conformance.specs.Setups.{event_of};
+
+    /// A request by its setup, how many bytes of a body went with it, and its answer. `None` where it is no request of the class for
+    /// interface 0.
+    pub fn exchange(setup: &Setup, body: usize, answer: Answer) -> Option<Event>
+        ensures some { IfSome result (λ e. (q : Request) → Asks setup.now q → e ≡ event_of setup.now q body answer) }
+        ensures none { IsNone result ↔ Asks setup.now Request.NotDfu }
+    {
+        let request = setup.request();
+        match request {
+            Request::NotDfu => None,
+            request => Some(Event {
+                asked: asked_for(&request),
+                is_plain: is_told(setup, &request, body),
+                length: setup.length,
+                answer,
+            }),
+        }
+    }
+}
+
+/// A request as the table has it.
+fn asked_for(request: &Request) -> Asked
+    ensures { result ≡ asked_by request.now }
+{
+    match *request {
+        Request::Detach { .. } => Asked::Detach,
+        Request::Dnload { length: 0, .. } => Asked::Close,
+        Request::Dnload { .. } => Asked::Block,
+        Request::Upload { .. } => Asked::Upload,
+        Request::GetStatus { .. } => Asked::GetStatus,
+        Request::ClrStatus => Asked::ClrStatus,
+        Request::GetState { .. } => Asked::GetState,
+        Request::Abort => Asked::Abort,
+        Request::OtherClass | Request::NotDfu => Asked::Other,
+    }
+}
+
+/// Whether a request is as section 3 has it.
+fn is_told(setup: &Setup, request: &Request, body: usize) -> bool
+    ensures { result ≡ is_plain setup.now request.now body }
+{
+    let Setup {
+        kind,
+        value,
+        length,
+        ..
+    } = *setup;
+    let wanted = if kind == 0x21 { length as usize } else { 0 };
+    body == wanted && has_numbers(request, value)
+}
+
+/// Whether a request has the wValue and the wLength of section 3.
+fn has_numbers(request: &Request, value: u16) -> bool
+    ensures { result ≡ has_its_numbers request.now value }
+{
+    match *request {
+        Request::Upload { length, .. } => length != 0,
+        Request::GetStatus { length } => length == 6 && value == 0,
+        Request::GetState { length } => length == 1 && value == 0,
+        Request::ClrStatus | Request::Abort => value == 0,
+        _ => true,
+    }
+}
+
+/// Whether a row speaks of an event: of what was asked, and of what was seen.
+pub fn speaks_of(row: &Row, event: &Event) -> bool
+    ensures { result ≡ fits row.now event.now }
+{
+    is_asked(row.asked, event) && is_shown(row, event)
+}
+
+/// Whether a row is about what was asked. A request that is not as section 3 has it may be taken as any other, too.
+pub(crate) fn is_asked(asked: Asked, event: &Event) -> bool
+    ensures { result ≡ asks asked event.now }
+{
+    asked.number() == event.asked.number()
+        || !event.is_plain && asked.number() == Asked::Other.number()
+}
+
+/// Whether what was seen is what a row gives.
+fn is_shown(row: &Row, event: &Event) -> bool
+    ensures { result ≡ row_shows row.now.gives row.now.from row.now.next event.now.length event.now.answer }
+{
+    let length = event.length as u32;
+    match event.answer {
+        Answer::Nothing => true,
+        Answer::Stall => match row.gives {
+            Gives::Stall | Gives::Silent => true,
+            _ => false,
+        },
+        Answer::Bytes {
+            count,
+            first,
+            fifth,
+        } => match row.gives {
+            Gives::Silent => true,
+            Gives::Stall => false,
+            Gives::Ack => count == 0,
+            Gives::Full => count == length,
+            Gives::Short => count < length || count == 0 && length == 0,
+            Gives::State => count == length.min(1)
+                && (count == 0 || first as usize == state_of(row.from)),
+            Gives::Status => {
+                count == length.min(6)
+                    && (count == 0 || is_code_of(row.next, first))
+                    && (count < 5 || fifth as usize == state_of(row.next))
+            }
+            Gives::NoCode => count == length.min(6)
+                && (count == 0 || first == 0)
+                && (count < 5 || fifth as usize == state_of(row.next)),
+        },
+    }
+}
+
+/// The number of the state of the standard that a place is.
+fn state_of(place: Place) -> usize
+    ensures { result ≡ number_of_state place }
+{
+    match place {
+        Place::Fresh => 2,
+        place => place.number(),
+    }
+}
+
+/// Whether a status may have this code where it enters this place.
+fn is_code_of(place: Place, code: u8) -> bool
+    ensures { result ≡ has_code place code }
+{
+    match place {
+        Place::Error => 0 < code && code < 16,
+        _ => code == 0,
+    }
+}
+
+/// Whether a device may be where it was.
+pub(crate) fn may_stay(event: &Event) -> bool
+    ensures { result ≡ stays event.now }
+{
+    match event.answer {
+        Answer::Nothing => true,
+        Answer::Stall => !event.is_plain,
+        Answer::Bytes { .. } => false,
+    }
+}

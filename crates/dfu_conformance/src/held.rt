@@ -1,0 +1,223 @@
+//! Which devices are held at each place.
+
+ghost use Rattle.std.specs.Prelude.{◌≡◌, ◌<◌, ◌≤◌, ℕ, ◌||◌, ◌&&◌, slice_index, length, ◌==◌, List, [], false, true, slice_index_or};
+ghost use Rattle.std.specs.Int.{bit_at};
+ghost use Rattle.std.specs.List.{list_any};
+ghost use Rattle.dfu_conformance.specs.Held.{meets, word_has_bit, reading_bit, stands};
+ghost use Rattle.dfu_conformance.specs.inside.Stepped.{leads, drifts, stepped, some_held, anywhere, better_of, least_below};
+ghost use Rattle.dfu_conformance.specs.Fits.{place_number, stays};
+ghost use Rattle.dfu_conformance.specs.declared.marks.TheConstants.{MARKS};
+
+use crate::drifts::DRIFTS;
+use crate::event::{may_stay, speaks_of};
+use crate::habits::HABITS;
+use crate::marks::MARKS;
+use crate::standard::STANDARD;
+use crate::{Drift, Event, Place, Reading, Row, When};
+
+/// For each bmAttributes the sets of readings: bit r of word a is the device of bmAttributes a and of the readings that are the bits of r.
+pub(crate) type Devices = [u64; 16];
+
+/// The sets of readings of which a row speaks, at these bmAttributes, 0 to 15.
+fn word(when: When, attributes: usize) -> u64
+    ensures { (r : ℕ) → r < 64 → (bit_at result r == 1) ≡ meets when attributes r }
+{
+    match when {
+        When::Always => all_if(true),
+        When::CanDownload => all_if(attributes % 2 == 1),
+        When::CanUpload => all_if(attributes / 2 % 2 == 1),
+        When::Tolerant => all_if(attributes / 4 % 2 == 1),
+        When::NotTolerant => all_if(attributes / 4 % 2 == 0),
+        When::WillDetach => all_if(attributes / 8 % 2 == 1),
+        When::By(reading) => readings_with(reading),
+    }
+}
+
+/// All sets of readings, or none.
+fn all_if(yes: bool) -> u64
+    ensures { (r : ℕ) → r < 64 → (bit_at result r == 1) ≡ yes }
+{
+    if yes { u64::MAX } else { 0 }
+}
+
+/// The sets of readings in which this one is.
+fn readings_with(reading: Reading) -> u64
+    ensures { (r : ℕ) → r < 64 → (bit_at result r == 1) ≡ (bit_at r (reading_bit reading) == 1) }
+{
+    match reading {
+        Reading::Bootloader => 0xaaaa_aaaa_aaaa_aaaa,
+        Reading::RuntimeMute => 0xcccc_cccc_cccc_cccc,
+        Reading::SelfReset => 0xf0f0_f0f0_f0f0_f0f0,
+        Reading::DetachAtOnce => 0xff00_ff00_ff00_ff00,
+        Reading::DetachLeaves => 0xffff_0000_ffff_0000,
+        Reading::ErrorWithoutCode => 0xffff_ffff_0000_0000,
+    }
+}
+
+/// These devices, and those of the others of which a row speaks.
+fn join(to: &Devices, from: &Devices, when: When) -> Devices
+    ensures size { length result ≡ 16 }
+    ensures all { (a r : ℕ) → a < 16 → r < 64 →
+        word_has_bit result a r ≡ (word_has_bit to.now a r || (word_has_bit from.now a r && meets when a r)) }
+{
+    let mut after = *to;
+    for a in 0..16 {
+        after[a] |= from[a] & word(when, a);
+    }
+    after
+}
+
+/// Whether there is no device.
+fn is_empty(devices: &Devices) -> bool
+    ensures { result ≡ true → (a r : ℕ) → a < 16 → r < 64 → word_has_bit devices.now a r ≡ false }
+{
+    for a in 0..16 {
+        if devices[a] != 0 {
+            return false;
+        }
+    }
+    true
+}
+
+/// For each place the devices that may stand there.
+pub(crate) type Places = [Devices; 12];
+
+/// The devices of which a row speaks are led from one place to another.
+fn lead(before: &Places, from: Place, when: When, after: &mut Places, to: Place)
+    ensures { (n : Place) (a r : ℕ) → a < 16 → r < 64
+        → stands after.new n a r
+        ≡ (stands after.old n a r || ((place_number to == place_number n) && (stands before.now from a r && meets when a r))) }
+{
+    if is_empty(&before[from.number()]) {
+        return;
+    }
+    let to = to.number();
+    after[to] = join(&after[to], &before[from.number()], when);
+}
+
+/// The devices are added that go by one of these rows.
+fn pass(rows: &[Row], before: &Places, event: &Event, after: &mut Places)
+    ensures { (n : Place) (a r : ℕ) → a < 16 → r < 64
+        → stands after.new n a r ≡ (stands after.old n a r || list_any (leads before.now event.now n a r) rows.now) }
+{
+    for row in rows {
+        if speaks_of(row, event) {
+            lead(before, row.from, row.when, after, row.next);
+        }
+    }
+}
+
+/// The devices are added that go by a row of a reset or of power: no such row speaks of a request.
+#[tactic(auto, using(crate::proofs::Requests::none_lead))]
+fn pass_marks(before: &Places, event: &Event, after: &mut Places)
+    ensures { (n : Place) (a r : ℕ) → a < 16 → r < 64
+        → stands after.new n a r ≡ (stands after.old n a r || list_any (leads before.now event.now n a r) MARKS) }
+{
+    if event.asked.number() > 8 {
+        pass(&MARKS, before, event, after);
+    }
+}
+
+/// The devices are added that make one of these moves by themselves.
+fn drift(moves: &[Drift], before: &Places) -> Places
+    ensures { (n : Place) (a r : ℕ) → a < 16 → r < 64
+        → stands result n a r ≡ (stands before.now n a r || list_any (drifts before.now n a r) moves.now) }
+{
+    let mut after = *before;
+    for one in moves {
+        lead(before, one.from, one.when, &mut after, one.next);
+    }
+    after
+}
+
+/// The devices that may be where they were, by an event.
+fn rest(before: &Places, event: &Event) -> Places
+    ensures { (n : Place) (a r : ℕ) → a < 16 → r < 64 → stands result n a r ≡ (stays event.now && stands before.now n a r) }
+{
+    if may_stay(event) {
+        *before
+    } else {
+        [[0; 16]; 12]
+    }
+}
+
+/// The devices that may stand at each place after an event, where these might before it.
+pub(crate) fn step(before: &Places, event: &Event) -> Places
+    ensures { (n : Place) (a r : ℕ) → a < 16 → r < 64 → stands result n a r ≡ stepped before.now event.now n a r }
+{
+    let mut after = rest(before, event);
+    pass(&STANDARD, before, event, &mut after);
+    pass_marks(before, event, &mut after);
+    pass(&HABITS, before, event, &mut after);
+    drift(&DRIFTS, &after)
+}
+
+/// Whether this bit is 1.
+fn has_bit(word: u64, bit: u8) -> bool
+    requires { bit < 64 }
+    ensures { result ≡ (bit_at word bit == 1) }
+{
+    word >> bit & 1 == 1
+}
+
+/// Whether a device with this set of readings is held, whatever its bmAttributes.
+fn is_held(devices: &Devices, readings: u8) -> bool
+    requires { readings < 64 }
+    ensures { result ≡ some_held devices.now readings }
+{
+    let mut is_some = false;
+    for a in 0..16 {
+        is_some = is_some || has_bit(devices[a], readings);
+    }
+    is_some
+}
+
+/// By place, whether a device with this set of readings may stand there.
+pub(crate) fn places_of(places: &Places, readings: u8) -> [bool; 12]
+    requires { readings < 64 }
+    ensures { (n : ℕ) → n < 12 → slice_index_or result n false ≡ some_held (slice_index_or places.now n []) readings }
+{
+    let mut at = [false; 12];
+    for n in 0..12 {
+        at[n] = is_held(&places[n], readings);
+    }
+    at
+}
+
+/// Whether a device with this set of readings may stand anywhere.
+pub(crate) fn is_any_held(places: &Places, readings: u8) -> bool
+    requires { readings < 64 }
+    ensures { result ≡ anywhere places.now readings }
+{
+    let mut is_some = false;
+    for n in 0..12 {
+        is_some = is_some || is_held(&places[n], readings);
+    }
+    is_some
+}
+
+/// Of the sets of readings below a number the least with which a device may stand somewhere: one with the fewest readings, and of these the
+/// first by its number.
+pub(crate) fn least_held(places: &Places, sets: u8) -> Option<u8>
+    requires { sets ≤ 64 }
+    ensures { result ≡ least_below (anywhere places.now) sets }
+{
+    let mut least = None;
+    for readings in 0..sets {
+        least = better(is_any_held(places, readings), readings, least);
+    }
+    least
+}
+
+/// The better of a set of readings, if it is held, and another set, if there is one.
+fn better(held: bool, readings: u8, least: Option<u8>) -> Option<u8>
+    ensures { result ≡ better_of held readings least }
+{
+    if !held {
+        return least;
+    }
+    match least {
+        Some(than) if than.count_ones() <= readings.count_ones() => least,
+        _ => Some(readings),
+    }
+}

@@ -1,0 +1,136 @@
+//! The judge.
+
+ghost use Rattle.std.specs.Prelude.{◌≡◌, ◌<◌, ℕ, List, IsNone, IfSome, [], ◌∷◌, ◌++◌, slice_index_or, true, false};
+ghost use Rattle.dfu_conformance.specs.inside.Stepped.{anywhere, some_held};
+
+use crate::held::{Places, is_any_held, least_held, places_of, step};
+use crate::{Departure, Event, Verdict};
+use std::marker::Model;
+
+/// Every device, at every place.
+const EVERY: Places = [[u64::MAX; 16]; 12];
+
+/// A judge of one device, of which nothing is known at first: it follows every device of the standard at once, with each set of habits.
+/// It takes no memory beyond its own 3,080 bytes.
+#[derive(Drop)]
+pub struct Judge {
+    // Up to the first departure the devices since the start are those since the last departure, and these are not kept apart.
+    has_departed: bool,
+    since: Places,
+    whole: Places,
+}
+
+// a clause sees the devices that are held, since the last departure and since the start
+impl Model for Judge {
+    ghost use Rattle.dfu_conformance.specs.Held.{Judged, since_of};
+
+    ghost Value = { Judged };
+
+    ghost view = { λ s. record { since = since_of s.has_departed s.since s.whole; whole = s.whole } };
+}
+
+/// The departure at an event, where no device without habits is left after it.
+fn departure(before: &Places, after: &Places, event: &Event) -> Option<Departure>
+    ensures none { IsNone result → anywhere after.now 0 ≡ true }
+    ensures some { IfSome result (λ d. (d.event ≡ event.now) × (anywhere after.now 0 ≡ false)
+        × ((n : ℕ) → n < 12 → slice_index_or d.before n false ≡ some_held (slice_index_or before.now n []) 0)) }
+{
+    if is_any_held(after, 0) {
+        return None;
+    }
+    Some(Departure {
+        before: places_of(before, 0),
+        event: *event,
+    })
+}
+
+impl Judge {
+    ghost use Rattle.dfu_conformance.specs.MayAnswer.{CanAnswer, IsHeld, IsHeldPlain};
+    ghost use Rattle.dfu_conformance.specs.Verdict.{IsVerdict, HasBits, ArePlacesAfter, Departs};
+    ghost use Rattle.dfu_conformance.specs.declared.event.Event.{Event};
+
+    /// A judge of a device of which nothing is known: it may be anywhere.
+    pub fn new() -> Judge
+        ensures whole { IsHeld result.whole [] }
+        ensures since { IsHeldPlain result.since [] }
+    {
+        Judge {
+            has_departed: false,
+            since: EVERY,
+            whole: EVERY,
+        }
+    }
+
+    /// An event comes. Where no device of the standard is left, the departure is handed out, and from then on the device may be
+    /// anywhere again, for departures; for the verdict it stays as it is.
+    pub fn take(&mut self, event: &Event) -> Option<Departure>
+        ensures whole { (es : List Event) → IsHeld self.old.whole es → IsHeld self.new.whole (es ++ event.now ∷ []) }
+        ensures kept { IsNone result → (es : List Event) → IsHeldPlain self.old.since es
+            → CanAnswer 0 (es ++ event.now ∷ []) × IsHeldPlain self.new.since (es ++ event.now ∷ []) }
+        ensures departs { IfSome result (λ d. (d.event ≡ event.now) × ((es : List Event) → IsHeldPlain self.old.since es
+            → Departs es d self.new.since)) }
+    {
+        let whole = step(&self.whole, event);
+        if self.has_departed {
+            let since = step(&self.since, event);
+            match departure(&self.since, &since, event) {
+                Some(departure) => {
+                    self.whole = whole;
+                    self.since = EVERY;
+                    Some(departure)
+                }
+                None => {
+                    self.whole = whole;
+                    self.since = since;
+                    None
+                }
+            }
+        } else {
+            match departure(&self.whole, &whole, event) {
+                Some(departure) => {
+                    self.has_departed = true;
+                    self.whole = whole;
+                    self.since = EVERY;
+                    Some(departure)
+                }
+                None => {
+                    self.whole = whole;
+                    None
+                }
+            }
+        }
+    }
+
+    /// The verdict on all events that came.
+    pub fn verdict(&self) -> Verdict
+        ensures is { (es : List Event) → IsHeld self.now.whole es → IsVerdict result es }
+        ensures bits { HasBits result }
+    {
+        if is_any_held(&self.whole, 0) {
+            return Verdict::Kept;
+        }
+        match least_held(&self.whole, 64) {
+            Some(readings) => Verdict::KeptBy { readings },
+            None => Verdict::NotKept,
+        }
+    }
+
+    /// Where the device may stand now, if it has this set of readings, 0 to 63: by place, in the order of [`crate::Place`].
+    pub fn places(&self, readings: u8) -> [bool; 12]
+        requires { readings < 64 }
+        ensures { (es : List Event) → IsHeld self.now.whole es → ArePlacesAfter readings es result }
+    {
+        places_of(&self.whole, readings)
+    }
+
+    /// Where a device without habits may stand now, by the events since the last departure: by place, in the order of [`crate::Place`].
+    pub fn standing(&self) -> [bool; 12]
+        ensures { (es : List Event) → IsHeldPlain self.now.since es → ArePlacesAfter 0 es result }
+    {
+        if self.has_departed {
+            places_of(&self.since, 0)
+        } else {
+            places_of(&self.whole, 0)
+        }
+    }
+}

@@ -1,0 +1,140 @@
+//! The fields of a line of a log.
+
+ghost use Rattle.std.specs.Prelude.{◌≡◌, ◌≤◌, ◌<◌, ◌+◌, ◌*◌, length};
+ghost use Rattle.std.specs.List.{list_all, position, position_or_len};
+ghost use Rattle.dfu_conformance.specs.Line.{is_space, is_digit, digit_value, pair_byte, is_hex, setup_in, body_in, answer_in};
+
+use crate::Answer;
+use dfu_wire::Setup;
+
+/// The first space of a line.
+fn first_space(line: &[u8]) -> Option<usize>
+    ensures { result ≡ position is_space line.now }
+{
+    line.iter().position(|byte| *byte == b' ')
+}
+
+/// Where the first field of a line ends: at its first space, or at its end.
+pub(crate) fn field_end(line: &[u8]) -> usize
+    ensures value { result ≡ position_or_len is_space line.now }
+    ensures within { result ≤ length line.now }
+{
+    match first_space(line) {
+        Some(at) => at,
+        None => line.len(),
+    }
+}
+
+/// The value of a hexadecimal digit of either case, and 16 of any other byte.
+fn value_of(byte: u8) -> u8
+    ensures value { result ≡ digit_value byte }
+    ensures fits { result ≤ 16 }
+{
+    match byte {
+        b'0'..=b'9' => byte - b'0',
+        b'a'..=b'f' => byte - b'a' + 10,
+        b'A'..=b'F' => byte - b'A' + 10,
+        _ => 16,
+    }
+}
+
+/// Whether all bytes are hexadecimal digits.
+fn are_digits(text: &[u8]) -> bool
+    ensures { result ≡ list_all is_digit text.now }
+{
+    text.iter().all(|byte| value_of(*byte) < 16)
+}
+
+/// Whether a text stands for bytes: pairs of hexadecimal digits, at most 65,535 of them.
+#[tactic(auto, unfolding(crate::specs::Line::is_hex))]
+fn is_bytes(text: &[u8]) -> bool
+    ensures { result ≡ is_hex text.now }
+{
+    if text.len() > 131_070 {
+        return false;
+    }
+    if text.len() % 2 != 0 {
+        return false;
+    }
+    are_digits(text)
+}
+
+/// The byte that pair n of digits stands for, where there are so many, and 0 elsewhere.
+fn byte_at(text: &[u8], n: usize) -> u8
+    requires { n < 8 }
+    ensures { result ≡ pair_byte text.now n }
+{
+    if 2 * n + 1 >= text.len() {
+        return 0;
+    }
+    let high = value_of(text[2 * n]) as u16;
+    let low = value_of(text[2 * n + 1]) as u16;
+    ((16 * high + low) % 256) as u8
+}
+
+/// A number of two bytes, the low byte first.
+fn number_at(text: &[u8], n: usize) -> u16
+    requires { n < 7 }
+    ensures { result ≡ pair_byte text.now n + 256 * pair_byte text.now (n + 1) }
+{
+    byte_at(text, n) as u16 + 256 * byte_at(text, n + 1) as u16
+}
+
+/// A setup: sixteen digits.
+#[tactic(auto, unfolding(crate::specs::Line::setup_in))]
+pub(crate) fn setup_of(text: &[u8]) -> Option<Setup>
+    ensures { result ≡ setup_in text.now }
+{
+    if !is_bytes(text) || text.len() != 16 {
+        return None;
+    }
+    Some(Setup {
+        kind: byte_at(text, 0),
+        request: byte_at(text, 1),
+        value: number_at(text, 2),
+        index: number_at(text, 4),
+        length: number_at(text, 6),
+    })
+}
+
+/// How many bytes a body has: those that its text stands for, or none where it is a dash.
+#[tactic(auto, unfolding(crate::specs::Line::body_in))]
+pub(crate) fn body_of(text: &[u8]) -> Option<usize>
+    ensures { result ≡ body_in text.now }
+{
+    if text == b"-".as_slice() {
+        return Some(0);
+    }
+    if !is_bytes(text) || text.is_empty() {
+        return None;
+    }
+    Some(text.len() / 2)
+}
+
+/// An answer: a word, or the bytes that came.
+#[tactic(auto, unfolding(crate::specs::Line::answer_in, crate::specs::Line::is_hex))]
+pub(crate) fn answer_of(text: &[u8]) -> Option<Answer>
+    ensures { result ≡ answer_in text.now }
+{
+    if text == b"ack".as_slice() {
+        return Some(Answer::Bytes {
+            count: 0,
+            first: 0,
+            fifth: 0,
+        });
+    }
+    if text == b"stall".as_slice() {
+        return Some(Answer::Stall);
+    }
+    if text == b"nothing".as_slice() {
+        return Some(Answer::Nothing);
+    }
+    if !is_bytes(text) || text.is_empty() || text.len() > 131_070 {
+        return None;
+    }
+    Some(Answer::Bytes {
+        count: (text.len() / 2) as u32,
+        first: byte_at(text, 0),
+        fifth: byte_at(text, 4),
+    })
+}

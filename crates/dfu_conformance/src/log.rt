@@ -1,0 +1,149 @@
+//! The lines of a log.
+
+ghost use Rattle.std.specs.Prelude.{◌≡◌, MatchBool, Some, None};
+ghost use Rattle.dfu_wire.specs.Request.{Asks};
+ghost use Rattle.dfu_wire.specs.declared.requests.Request.{Request};
+ghost use Rattle.dfu_conformance.specs.Line.{LineSays, SaysRequest, IsRead, field_of, rest_of, is_blank, why_unread};
+ghost use Rattle.dfu_conformance.specs.Setups.{reset, power};
+
+use crate::line::{answer_of, body_of, field_end, setup_of};
+use crate::{Answer, Asked, Event};
+use dfu_wire::Setup;
+
+/// What a line of a log says.
+#[derive(Clone, Copy, Debug, PartialEq, Eq)]
+pub enum Line {
+    /// Nothing: it is empty, or begins with `#`.
+    Blank,
+    /// A request that is no request of the class, or one for another interface.
+    Elsewhere,
+    /// What came to the device.
+    Came(Event),
+}
+
+/// What is wrong with a line that is none of a log.
+#[derive(Clone, Copy, Debug, PartialEq, Eq)]
+pub enum LineFault {
+    /// It has over 262,158 bytes: no line that is read is longer, but a comment.
+    Long,
+    /// Its first field is no setup.
+    Setup,
+    /// Its second field is no body.
+    Body,
+    /// What stands behind its second field is no answer.
+    Answer,
+}
+
+/// Nothing is answered to a reset, nor to power.
+const SILENT: Answer = Answer::Bytes {
+    count: 0,
+    first: 0,
+    fifth: 0,
+};
+
+/// The first field of a line, and what stands behind its space.
+fn parts(line: &[u8]) -> (&[u8], &[u8])
+    ensures field { result.0.now ≡ field_of line.now }
+    ensures rest { result.1.now ≡ rest_of line.now }
+{
+    let end = field_end(line);
+    let rest = if end < line.len() {
+        &line[end + 1..]
+    } else {
+        &[]
+    };
+    (&line[..end], rest)
+}
+
+/// What a line says of a device whose DFU interface has this number, wIndex of its requests:
+///
+/// - `SETUP BODY ANSWER`, with one space between them: the sixteen hexadecimal digits of a setup; the bytes of its body in such digits, or
+///   `-`; and `ack`, `stall`, `nothing`, or the bytes that were answered;
+/// - `reset` and `power`;
+/// - an empty line, or one that begins with `#`.
+///
+/// `None` for any other line. Bytes are at most 65,535.
+pub fn read_line(interface: u8, line: &[u8]) -> Option<Line>
+    ensures { LineSays interface line.now result }
+{
+    if begins_blank(line) {
+        return Some(Line::Blank);
+    }
+    if line == b"reset".as_slice() {
+        return Some(Line::Came(mark(Asked::Reset)));
+    }
+    if line == b"power".as_slice() {
+        return Some(Line::Came(mark(Asked::Power)));
+    }
+    let (setup, rest) = parts(line);
+    let (body, answer) = parts(rest);
+    request_of(interface, setup_of(setup), body_of(body), answer_of(answer))
+}
+
+/// The first field that is wrong of a line that `read_line` reads as none.
+pub fn why_unread(line: &[u8]) -> LineFault
+    ensures { result ≡ why_unread line.now }
+{
+    let (setup, rest) = parts(line);
+    let (body, _) = parts(rest);
+    if setup_of(setup).is_none() {
+        return LineFault::Setup;
+    }
+    if body_of(body).is_none() {
+        return LineFault::Body;
+    }
+    LineFault::Answer
+}
+
+/// Whether a line says nothing.
+fn begins_blank(line: &[u8]) -> bool
+    ensures { result ≡ is_blank line.now }
+{
+    match line {
+        [] => true,
+        [first, ..] => *first == b'#',
+    }
+}
+
+/// A reset or power.
+fn mark(asked: Asked) -> Event
+    ensures { result ≡ record reset { asked = asked } }
+{
+    Event {
+        asked,
+        is_plain: true,
+        length: 0,
+        answer: SILENT,
+    }
+}
+
+/// A request by its fields.
+fn request_of(
+    interface: u8,
+    setup: Option<Setup>,
+    body: Option<usize>,
+    answer: Option<Answer>,
+) -> Option<Line>
+    ensures { SaysRequest interface setup body answer result }
+{
+    match (setup, body, answer) {
+        (Some(setup), Some(body), Some(answer)) => {
+            if setup.index != interface as u16 {
+                return Some(Line::Elsewhere);
+            }
+            let for_us = Setup { index: 0, ..setup };
+            Some(line_of(&for_us, body, answer))
+        }
+        _ => None,
+    }
+}
+
+/// A request for interface 0.
+fn line_of(setup: &Setup, body: usize, answer: Answer) -> Line
+    ensures { (q : Request) → Asks setup.now q → IsRead q setup.now body answer (Some result) }
+{
+    match Event::exchange(setup, body, answer) {
+        Some(event) => Line::Came(event),
+        None => Line::Elsewhere,
+    }
+}

@@ -1,0 +1,39 @@
+//! What a judge says.
+
+ghost use Rattle.std.specs.Prelude.{◌≡◌, ◌&&◌, slice_index_or, false};
+ghost use Rattle.dfu_conformance.specs.Fits.{place_number, asks};
+
+use crate::event::is_asked;
+use crate::{Event, Row};
+
+/// What a judge says of all that came.
+#[derive(Clone, Copy, Debug, PartialEq, Eq)]
+pub enum Verdict {
+    /// A device of the standard may have answered so.
+    Kept,
+    /// None of the standard may, but one with these habits: bit n is reading n of [`crate::Reading`]. No set with fewer readings would do.
+    KeptBy {
+        /// The set of readings, 1 to 63.
+        readings: u8,
+    },
+    /// No device may have, with whatever habits.
+    NotKept,
+}
+
+/// An event after which no device of the standard is left.
+#[derive(Clone, Copy, Debug, PartialEq, Eq)]
+pub struct Departure {
+    /// Where the device might stand before it: by place, in the order of [`crate::Place`].
+    pub before: [bool; 12],
+    /// What came.
+    pub event: Event,
+}
+
+impl Departure {
+    /// Whether a row says what was allowed: it begins where the device might stand, and speaks of what was asked.
+    pub fn allows(&self, row: &Row) -> bool
+        ensures { result ≡ (slice_index_or self.now.before (place_number row.now.from) false && asks row.now.asked self.now.event) }
+    {
+        self.before[row.from.number()] && is_asked(row.asked, &self.event)
+    }
+}

@@ -1,0 +1,16 @@
+//! The verdict on a whole list of events.
+
+ghost use Rattle.dfu_conformance.specs.Verdict.{IsVerdict};
+
+use crate::{Event, Judge, Verdict};
+
+/// The verdict on these events, of a device of which nothing is known.
+pub fn verdict_on(events: &[Event]) -> Verdict
+    ensures { IsVerdict result events.now }
+{
+    let mut judge = Judge::new();
+    for event in events {
+        let _ = judge.take(event);
+    }
+    judge.verdict()
+}

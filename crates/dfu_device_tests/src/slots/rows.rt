@@ -1,0 +1,168 @@
+//! Calls row by row: what each answers, where the puts end then, and how long the active image is.
+use super::{assert_image, formatted, formatted_in_units};
+use crate::slots::rows::Step::{Arm, Begin, Commit, Disarm, Lie, Put};
+use dfu_slots::{Faulty, PutFault, SimMedium, Slots};
+use std::process::Abort;
+use std::test::Fail;
+
+// What is done to a store; a put goes where the puts end.
+#[derive(Clone, Copy)]
+pub(super) enum Step {
+    Begin,
+    Put(&'static [u8]),
+    Commit(u32),
+    Arm(u32, &'static [u8], bool),
+    Lie(u32, &'static [u8]),
+    Disarm,
+}
+
+// A step, what it answers (Ok where it answers nothing), where the puts end then, and the length of the active image.
+pub(super) type Row = (Step, Result<(), PutFault>, u32, u32);
+
+#[rattlefmt::skip]
+static PAST_THE_CAPACITY: [Row; 4] = [
+    (Begin, Ok(()), 0, 1),
+    (Put(&[0xff; 65]), Err(PutFault::TooLarge), 0, 1),
+    (Put(&[0xff; 64]), Ok(()), 64, 1),
+    (Put(&[0xff]), Err(PutFault::TooLarge), 64, 1),
+];
+
+#[rattlefmt::skip]
+static STOPPED: [Row; 6] = [
+    (Begin, Ok(()), 0, 1),
+    (Arm(0, &[0xaa], true), Ok(()), 0, 1),
+    (Put(&[0xff; 4]), Err(PutFault::Failed), 0, 1),
+    (Put(&[0xff; 4]), Err(PutFault::Failed), 0, 1),
+    (Disarm, Ok(()), 0, 1),
+    (Put(&[0xff; 4]), Ok(()), 4, 1),
+];
+
+// A failed commit leaves the old image, or the new one where the gate is torn open.
+#[rattlefmt::skip]
+static TORN_GATE: [Row; 8] = [
+    (Begin, Ok(()), 0, 1),
+    (Put(&[0xff; 4]), Ok(()), 4, 1),
+    (Arm(1, &[0x00], false), Ok(()), 4, 1),
+    (Commit(4), Err(PutFault::Failed), 0, 1),
+    (Begin, Ok(()), 0, 1),
+    (Put(&[0xff; 4]), Ok(()), 4, 1),
+    (Arm(1, &[0xa5], false), Ok(()), 4, 1),
+    (Commit(4), Err(PutFault::Failed), 0, 4),
+];
+
+#[rattlefmt::skip]
+#[test]
+fn a_store_answers_row_by_row(rt: HostRuntime) -> Result<(), Fail> {
+    for rows in [&PAST_THE_CAPACITY[..], &STOPPED[..], &TORN_GATE[..]] {
+        let mut slots = formatted(rt.alloc())?;
+        play(&rt, &mut slots, rows);
+    }
+    Ok(())
+}
+
+#[rattlefmt::skip]
+static WITHOUT_BEGIN: [Row; 3] = [
+    (Put(&[1; 5]), Ok(()), 5, 1),
+    (Put(&[2; 60]), Err(PutFault::TooLarge), 5, 1),
+    (Begin, Ok(()), 0, 1),
+];
+
+// What was put is forgotten where a put fails, where a commit fails, and where one works.
+#[rattlefmt::skip]
+static FORGOTTEN: [Row; 13] = [
+    (Begin, Ok(()), 0, 1),
+    (Put(&[1; 5]), Ok(()), 5, 1),
+    (Arm(0, &[], false), Ok(()), 5, 1),
+    (Put(&[2; 20]), Err(PutFault::Failed), 0, 1),
+    (Put(&[1; 5]), Ok(()), 5, 1),
+    (Arm(0, &[], false), Ok(()), 5, 1),
+    (Commit(5), Err(PutFault::Failed), 0, 1),
+    (Put(&[1; 5]), Ok(()), 5, 1),
+    (Commit(5), Ok(()), 0, 5),
+    (Commit(0), Err(PutFault::NotBegun), 0, 5),
+    (Put(&[1; 5]), Err(PutFault::NotBegun), 0, 5),
+    (Arm(0, &[], false), Ok(()), 0, 5),
+    (Begin, Err(PutFault::Failed), 0, 5),
+];
+
+#[rattlefmt::skip]
+#[test]
+fn a_store_in_units_answers_row_by_row(rt: HostRuntime) -> Result<(), Fail> {
+    for rows in [&WITHOUT_BEGIN[..], &FORGOTTEN[..]] {
+        let mut slots = formatted_in_units(rt.alloc())?;
+        play(&rt, &mut slots, rows);
+    }
+    Ok(())
+}
+
+// Does a step.
+#[rattlefmt::skip]
+fn carry_out(rt: &impl Abort, slots: &mut Slots<SimMedium>, step: Step) -> Result<(), PutFault> {
+    match step {
+        Begin => slots.begin(),
+        Put(bytes) => {
+            assert!(rt; bytes.len() <= 4096);
+            slots.put(slots.put_end(), bytes)
+        }
+        Commit(len) => {
+            assert!(rt; len <= slots.put_end());
+            slots.commit(len)
+        }
+        Arm(writes, tear, stop) => {
+            slots.arm(writes, tear, stop);
+            Ok(())
+        }
+        Lie(writes, tear) => {
+            slots.arm_lie(writes, tear);
+            Ok(())
+        }
+        Disarm => {
+            slots.disarm();
+            Ok(())
+        }
+    }
+}
+
+// Does one step after the other.
+#[rattlefmt::skip]
+pub(super) fn play(rt: &impl Abort, slots: &mut Slots<SimMedium>, rows: &[Row]) {
+    for (number, row) in rows.iter().enumerate() {
+        let (step, wanted, end, len) = *row;
+        let found = carry_out(rt, slots, step);
+        assert_eq!(rt; (found, slots.put_end(), slots.active_len()), (wanted, end, len), "row {number}");
+    }
+}
+
+// Three puts of an image of 64 bytes, by the lengths of the pieces, and how many bytes they come to.
+#[rattlefmt::skip]
+static PIECES: [[&'static [u8]; 4]; 6] = [
+    [&[0; 8], &[1; 1], &[2; 20], &[0, 0, 0, 0, 0, 0, 0, 0, 1, 2, 2, 2, 2, 2, 2, 2, 2, 2, 2, 2, 2, 2, 2, 2, 2, 2, 2, 2, 2]],
+    [&[], &[3; 16], &[3; 48], &[3; 64]],
+    [&[4; 15], &[5; 1], &[5; 16], &[4, 4, 4, 4, 4, 4, 4, 4, 4, 4, 4, 4, 4, 4, 4, 5, 5, 5, 5, 5, 5, 5, 5, 5, 5, 5, 5, 5, 5, 5, 5, 5]],
+    [&[6; 17], &[6; 30], &[6; 17], &[6; 64]],
+    [&[7], &[8], &[9], &[7, 8, 9]],
+    [&[1; 40], &[], &[1; 7], &[1; 47]],
+];
+
+// Puts three pieces, and reads the image back.
+#[rattlefmt::skip]
+fn read_back(rt: &impl Abort, slots: &mut Slots<SimMedium>, [first, second, third, image]: [&'static [u8]; 4]) {
+    for step in [Begin, Put(first), Put(second), Put(third)] {
+        let done = carry_out(rt, slots, step).is_ok();
+        assert!(rt; done);
+    }
+    let end = slots.put_end();
+    let done = carry_out(rt, slots, Commit(end)).is_ok();
+    assert!(rt; done);
+    assert_image(rt, slots, image);
+}
+
+#[rattlefmt::skip]
+#[test]
+fn puts_of_any_length_are_read_back(rt: HostRuntime) -> Result<(), Fail> {
+    for pieces in &PIECES {
+        let mut slots = formatted_in_units(rt.alloc())?;
+        read_back(&rt, &mut slots, *pieces);
+    }
+    Ok(())
+}

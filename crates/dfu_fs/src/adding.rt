@@ -1,0 +1,178 @@
+//! `dfu add`.
+
+use crate::given::{Given, Held, open};
+use crate::noting::Noting;
+use crate::owner::Owned;
+use crate::reasons::{error_reason, file_reason, given_reason};
+use crate::refusing::{gather_fault, refused, unread};
+use crate::replacing::{Replacement, finish};
+use dfu_image_output::{Taken, image_line, looks_like, refused_line, why};
+use dfu_images::{FileFault, format_of, image_of};
+use dfu_output::{Answer, Exit, add_with_fault, fault_text, write_out};
+use dfu_suffix::{Findings, SuffixFault, gather};
+use dfu_wire::Ids;
+use std::alloc::Global;
+use std::io::{self, Read};
+use std::rt::Files;
+
+/// The most bytes of a file that is taken as one of a format.
+const MAX_FILE: usize = 16_777_216;
+
+/// How FILE is taken, and what fills the gaps of its image.
+#[derive(Clone, Copy, Debug, PartialEq, Eq)]
+pub struct How {
+    /// `--format`.
+    pub taken: Taken,
+    /// `--fill`.
+    pub fill: Option<u8>,
+}
+
+/// The names and the identifiers.
+#[derive(Clone, Copy)]
+struct Added<'w> {
+    file: &'w str,
+    to: &'w str,
+    ids: Ids,
+}
+
+/// What a file was taken as that looks like one of a format.
+fn hint(alloc: Global, file: &str, head: &[u8]) -> Option<String> {
+    let format = format_of(head)?;
+    match looks_like(alloc, format) {
+        Ok(why) => file_reason(alloc, file, &why),
+        Err(_) => None,
+    }
+}
+
+/// Adds a suffix to what a reader gives, and makes OUT only where that succeeded; then this text follows the line. The reason of a fault
+/// stands beside the end.
+fn add_read<R: Files + Print + AllocGlobal, S: Read + Drop>(
+    rt: &R,
+    added: Added<'_>,
+    noting: &mut Noting<S>,
+    behind: &str,
+) -> Answer
+where
+    R::File: Owned,
+{
+    let alloc = rt.alloc();
+    let mut made = Replacement::new(rt, added.to);
+    let mut line = Vec::new(alloc);
+    let (exit, fault) = add_with_fault(alloc, &mut *noting, added.ids, &mut made, &mut line);
+    if exit == Exit::Done && line.extend_from_slice(behind.as_bytes()).is_ok() {
+        return finish(rt, added.to, made, &line);
+    }
+    let reason = match (fault, &made.error) {
+        (Some(SuffixFault::Write), Some(error)) => error_reason(alloc, added.to, error),
+        (Some(fault), _) => given_reason(alloc, added.file, fault, noting, &Findings::new()),
+        (None, _) => None,
+    };
+    made.abandon();
+    match exit {
+        Exit::Done => Answer {
+            exit: fault_text(SuffixFault::NoMemory, &mut io::writer(rt)),
+            reason,
+        },
+        _ => Answer {
+            exit: write_out(&mut io::writer(rt), &line, exit),
+            reason,
+        },
+    }
+}
+
+/// A file that makes no image.
+fn refuse_image<R: Print + AllocGlobal>(rt: &R, file: &str, fault: FileFault) -> Answer {
+    let alloc = rt.alloc();
+    let mut out = io::writer(rt);
+    Answer {
+        exit: match refused_line(alloc, fault) {
+            Ok(line) => write_out(&mut out, line.as_bytes(), Exit::Refused),
+            Err(_) => fault_text(SuffixFault::NoMemory, &mut out),
+        },
+        reason: match why(alloc, fault) {
+            Ok(why) => file_reason(alloc, file, &why),
+            Err(_) => None,
+        },
+    }
+}
+
+/// Adds a suffix to bytes that were read.
+fn add_bytes<R: Files + Input + Print + AllocGlobal>(
+    rt: &R,
+    added: Added<'_>,
+    bytes: Vec<u8>,
+    behind: &str,
+) -> Answer
+where
+    R::File: Owned,
+{
+    let given: Given<R::File, R::Reader> = Given::Bytes(Held::new(bytes));
+    add_read(rt, added, &mut Noting::new(given), behind)
+}
+
+/// Adds a suffix to the image of a file, of the format that is asked for or that its first bytes look like; to the file as it is where
+/// they look like none.
+fn add_image<R: Files + Input + Print + AllocGlobal>(
+    rt: &R,
+    added: Added<'_>,
+    how: How,
+    noting: &mut Noting<Given<R::File, R::Reader>>,
+) -> Answer
+where
+    R::File: Owned,
+{
+    let alloc = rt.alloc();
+    let bytes = match gather(alloc, &mut *noting, MAX_FILE) {
+        Ok(bytes) => bytes,
+        Err(fault) => return refused(rt, added.file, gather_fault(fault), noting),
+    };
+    let format = match how.taken {
+        Taken::As(format) => Some(format),
+        _ => format_of(&bytes),
+    };
+    let Some(format) = format else {
+        return add_bytes(rt, added, bytes, "");
+    };
+    match image_of(alloc, format, how.fill, &bytes) {
+        Ok(image) => match image_line(alloc, format, image.address) {
+            Ok(line) => add_bytes(rt, added, image.bytes, &line),
+            Err(_) => refused(rt, added.file, SuffixFault::NoMemory, noting),
+        },
+        Err(fault) => refuse_image(rt, added.file, fault),
+    }
+}
+
+/// Adds a suffix to a file, or to standard input where its name is `-`, and makes the other file only where that succeeded. Of an image a
+/// second line says its format and the address of its first byte. The reason of a fault stands beside the end, or that a file looks like
+/// one of a format where nothing said how to take it.
+pub fn add_file<R: Files + Input + Print + AllocGlobal>(
+    rt: &R,
+    file: &str,
+    to: &str,
+    ids: Ids,
+    how: How,
+) -> Answer
+where
+    R::File: Owned,
+{
+    let reader = match open(rt, file) {
+        Ok(reader) => reader,
+        Err(error) => return unread(rt, file, &error),
+    };
+    let added = Added { file, to, ids };
+    let mut noting = Noting::new(reader);
+    match how.taken {
+        Taken::Auto | Taken::As(_) => add_image(rt, added, how, &mut noting),
+        Taken::Raw => add_read(rt, added, &mut noting, ""),
+        Taken::Unsaid => {
+            let answer = add_read(rt, added, &mut noting, "");
+            match answer.exit {
+                Exit::Done => Answer {
+                    exit: Exit::Done,
+                    reason: hint(rt.alloc(), file, noting.head()),
+                },
+                _ => answer,
+            }
+        }
+    }
+}

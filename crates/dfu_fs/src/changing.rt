@@ -1,0 +1,80 @@
+//! Other identifiers for a file.
+
+ghost use Rattle.std.specs.Prelude.{◌≡◌, ◌++◌, ◌-◌, IfOk, length, take};
+ghost use Rattle.dfu_fs.specs.Changing.{ChangesFile, changed, with_register, fields};
+
+use dfu_suffix::{Crc, SuffixFault, read};
+use dfu_wire::Ids;
+use std::alloc::{AllocError, Global};
+
+/// The identifiers that change, each with what it becomes.
+#[derive(Clone, Copy, Debug, PartialEq, Eq)]
+pub struct Change {
+    /// idVendor.
+    pub vendor: Option<u16>,
+    /// idProduct.
+    pub product: Option<u16>,
+    /// bcdDevice.
+    pub device: Option<u16>,
+}
+
+fn changed(change: &Change, ids: Ids) -> Ids
+    ensures { result ≡ changed change.now ids }
+{
+    Ids {
+        device: change.device.unwrap_or(ids.device),
+        product: change.product.unwrap_or(ids.product),
+        vendor: change.vendor.unwrap_or(ids.vendor),
+    }
+}
+
+/// The bytes before the last 16, or none where there are fewer.
+fn front_of(bytes: &[u8]) -> &[u8]
+    ensures { result.now ≡ take (length bytes.now - 16) bytes.now }
+{
+    let (front, _) = bytes.split_at(bytes.len().saturating_sub(16));
+    front
+}
+
+/// Bytes with the fields of a suffix behind them, and the check sum of all that.
+#[tactic(auto, using(std::proofs::lemmas::List::append_assoc))]
+fn rewritten(
+    alloc: Global,
+    front: &[u8],
+    ids: Ids,
+    dfu: u16,
+    suffix: u8,
+) -> Result<Vec<u8>, AllocError>
+    ensures { IfOk result (λ v. v.items ≡ with_register (front.now ++ fields ids dfu suffix)) }
+{
+    let mut text = Vec::with_capacity(alloc, front.len().saturating_add(16))?;
+    text.extend_from_slice(front)?;
+    text.extend_from_slice(&ids.device.to_le_bytes())?;
+    text.extend_from_slice(&ids.product.to_le_bytes())?;
+    text.extend_from_slice(&ids.vendor.to_le_bytes())?;
+    text.extend_from_slice(&dfu.to_le_bytes())?;
+    text.extend_from_slice(&[b'U', b'F', b'D', suffix])?;
+    let mut crc = Crc::new();
+    crc.update_long(&text);
+    text.extend_from_slice(&crc.value().to_le_bytes())?;
+    Ok(text)
+}
+
+/// A file with other identifiers, and the check sum for them; the payload, bcdDFU and the extra bytes stay.
+///
+/// # Errors
+///
+/// The first fault of the bytes, as `read` of dfu_suffix has it; NoMemory where an allocation was refused.
+pub fn with_ids(alloc: Global, bytes: &[u8], change: &Change) -> Result<Vec<u8>, SuffixFault>
+    ensures { ChangesFile change.now bytes.now result }
+{
+    let file = match read(bytes) {
+        Ok(file) => file,
+        Err(fault) => return Err(fault),
+    };
+    let ids = changed(change, file.ids());
+    match rewritten(alloc, front_of(bytes), ids, file.dfu(), file.suffix()) {
+        Ok(text) => Ok(text),
+        Err(_) => Err(SuffixFault::NoMemory),
+    }
+}

@@ -1,0 +1,80 @@
+//! `dfu check`.
+
+use crate::given::open;
+use crate::noting::Noting;
+use crate::reasons::{error_reason, given_reason};
+use dfu_json::JsonLines;
+use dfu_output::{Answer, Exit, check_with_fault, fault_text, name_before, write_out};
+use dfu_suffix::{Findings, SuffixFault};
+use std::io;
+use std::rt::Files;
+
+/// Checks a file, or standard input where the name is `-`, and says why it is refused where that is wanted. The line is an object where
+/// `json` says so.
+fn check_file<R: Files + Input + Print + AllocGlobal>(
+    rt: &R,
+    file: &str,
+    explain: bool,
+    json: bool,
+) -> Answer {
+    let alloc = rt.alloc();
+    let mut out = JsonLines::new(alloc, json, Some(file), io::writer(rt));
+    match open(rt, file) {
+        Ok(reader) => {
+            let mut noting = Noting::new(reader);
+            let mut findings = Findings::new();
+            let (exit, fault) = check_with_fault(alloc, &mut noting, &mut out, &mut findings);
+            let reason = match fault {
+                Some(fault) if explain => given_reason(alloc, file, fault, &noting, &findings),
+                _ => None,
+            };
+            Answer { exit, reason }
+        }
+        Err(error) => Answer {
+            exit: fault_text(SuffixFault::Read, &mut out),
+            reason: error_reason(alloc, file, &error),
+        },
+    }
+}
+
+/// Checks one of several files, with its name before the line.
+fn check_named<R: Files + Input + Print + AllocGlobal>(
+    rt: &R,
+    file: &str,
+    explain: bool,
+) -> Answer {
+    let exit = match name_before(rt.alloc(), file) {
+        Ok(text) => write_out(&mut io::writer(rt), text.as_bytes(), Exit::Done),
+        Err(_) => fault_text(SuffixFault::NoMemory, &mut io::writer(rt)),
+    };
+    match exit {
+        Exit::Done => check_file(rt, file, explain, false),
+        _ => Answer { exit, reason: None },
+    }
+}
+
+/// Checks files, or standard input where a name is `-`, and says why each is refused where that is wanted. Of more than one file each line
+/// begins with its name. Where `json` says so each line is a JSON object with the name as its member `file`. The end is the worst one.
+pub fn check_files<R: Files + Input + Print + AllocGlobal>(
+    rt: &R,
+    files: &[String],
+    explain: bool,
+    json: bool,
+) -> Answer {
+    if let [file] = files {
+        return check_file(rt, file, explain, json);
+    }
+    let mut all = Answer {
+        exit: Exit::Done,
+        reason: None,
+    };
+    for file in files {
+        let answer = if json {
+            check_file(rt, file, explain, true)
+        } else {
+            check_named(rt, file, explain)
+        };
+        all = all.and(rt.alloc(), answer);
+    }
+    all
+}

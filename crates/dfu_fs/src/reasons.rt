@@ -1,0 +1,114 @@
+//! Why a file could not be read, written or accepted.
+
+ghost use Rattle.std.specs.Prelude.{◌≡◌, ◌≢◌, [], IfSome, List, ℕ, codes};
+ghost use Rattle.std.specs.String.{string_bytes};
+ghost use Rattle.dfu_output.specs.ReasonLines.{reason_line};
+
+use crate::noting::Noting;
+use crate::suffixes::{length_why, sums_why};
+use dfu_output::reason_line;
+use dfu_suffix::{Findings, SuffixFault};
+use std::alloc::{AllocError, Global};
+use std::io;
+
+/// What a file is called in a reason: its name, but standard input for the name `-`.
+fn called(name: &str) -> &str
+    ensures input { name.now ≡ codes "-" → result.now ≡ codes "standard input" }
+    ensures file { name.now ≢ codes "-" → result.now ≡ name.now }
+{
+    if name == "-" { "standard input" } else { name }
+}
+
+/// The line that says why, of a file, which is standard input where its name is `-`; none where there is no memory for it.
+pub fn file_reason(alloc: Global, name: &str, why: &str) -> Option<String>
+    ensures input { name.now ≡ codes "-" → IfSome result (λ t. string_bytes t ≡ reason_line [] (codes "standard input") why.now) }
+    ensures file { name.now ≢ codes "-" → IfSome result (λ t. string_bytes t ≡ reason_line [] name.now why.now) }
+{
+    match reason_line(alloc, "", called(name), why) {
+        Ok(line) => Some(line),
+        Err(_) => None,
+    }
+}
+
+/// The same, where the system refused a call: in its words.
+pub fn error_reason(alloc: Global, name: &str, error: &io::Error) -> Option<String>
+    ensures input { name.now ≡ codes "-" →
+        IfSome result (λ t. (why : List ℕ) × (string_bytes t ≡ reason_line [] (codes "standard input") why)) }
+    ensures file { name.now ≢ codes "-" → IfSome result (λ t. (why : List ℕ) × (string_bytes t ≡ reason_line [] name.now why)) }
+{
+    match format!(in alloc; "{error}") {
+        Ok(why) => file_reason(alloc, name, &why),
+        Err(_) => None,
+    }
+}
+
+fn made_reason(alloc: Global, name: &str, why: Result<String, AllocError>) -> Option<String> {
+    match why {
+        Ok(why) => file_reason(alloc, name, &why),
+        Err(_) => None,
+    }
+}
+
+/// What is wrong with what a reader gave, in words, and what to do.
+fn fault_why(fault: SuffixFault) -> Option<&'static str> {
+    match fault {
+        SuffixFault::TooShort => {
+            Some("it has under 16 bytes, and so no suffix; dfu add gives a raw image one")
+        }
+        SuffixFault::NoSignature => {
+            Some("it has no suffix, which has the letters UFD; dfu add gives a raw image one")
+        }
+        SuffixFault::DfuSe => Some(
+            "it is of another format, DfuSe; use a tool for that, as dfu-util",
+        ),
+        SuffixFault::AlreadySuffixed => {
+            Some("it has a suffix already: use it as it is, or dfu set changes its identifiers")
+        }
+        SuffixFault::TooLarge => {
+            Some(
+                "it has over 16,777,216 bytes, with a suffix that is added; is it a firmware file?",
+            )
+        }
+        SuffixFault::NoMemory => Some("there is no memory for it"),
+        _ => None,
+    }
+}
+
+/// Why the bytes of a file are refused, by what was found of them.
+pub(crate) fn found_reason(
+    alloc: Global,
+    name: &str,
+    fault: SuffixFault,
+    findings: &Findings,
+) -> Option<String> {
+    match fault {
+        SuffixFault::BadCrc => made_reason(
+            alloc,
+            name,
+            sums_why(alloc, findings.crc, findings.register),
+        ),
+        SuffixFault::BadLength => made_reason(
+            alloc,
+            name,
+            length_why(alloc, findings.suffix, findings.count),
+        ),
+        _ => match fault_why(fault) {
+            Some(why) => file_reason(alloc, name, why),
+            None => None,
+        },
+    }
+}
+
+/// Why what a reader gave is refused, or that it failed.
+pub(crate) fn given_reason<R>(
+    alloc: Global,
+    name: &str,
+    fault: SuffixFault,
+    noting: &Noting<R>,
+    findings: &Findings,
+) -> Option<String> {
+    match (fault, &noting.error) {
+        (SuffixFault::Read, Some(error)) => error_reason(alloc, name, error),
+        _ => found_reason(alloc, name, fault, findings),
+    }
+}

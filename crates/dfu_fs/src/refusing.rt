@@ -1,0 +1,55 @@
+//! The answers where a file can't be read, or is refused.
+
+use crate::noting::Noting;
+use crate::reasons::{error_reason, found_reason, given_reason};
+use dfu_output::{Answer, fault_text};
+use dfu_suffix::{Findings, GatherFault, SuffixFault, check_with};
+use std::io;
+
+/// The answer where a file can't be opened for reading.
+pub(crate) fn unread<R: Print + AllocGlobal>(rt: &R, file: &str, error: &io::Error) -> Answer {
+    Answer {
+        exit: fault_text(SuffixFault::Read, &mut io::writer(rt)),
+        reason: error_reason(rt.alloc(), file, error),
+    }
+}
+
+/// The answer where a file isn't read whole, or there is no memory for what is made of it.
+pub(crate) fn refused<R: Print + AllocGlobal, S>(
+    rt: &R,
+    file: &str,
+    fault: SuffixFault,
+    noting: &Noting<S>,
+) -> Answer {
+    Answer {
+        exit: fault_text(fault, &mut io::writer(rt)),
+        reason: given_reason(rt.alloc(), file, fault, noting, &Findings::new()),
+    }
+}
+
+/// The answer where the bytes of a file are refused. They are looked at once more where the reason is wanted.
+pub(crate) fn refused_bytes<R: Print + AllocGlobal>(
+    rt: &R,
+    file: &str,
+    fault: SuffixFault,
+    bytes: &[u8],
+    explain: bool,
+) -> Answer {
+    let mut findings = Findings::new();
+    if explain {
+        let _ = check_with(bytes, &mut findings);
+    }
+    Answer {
+        exit: fault_text(fault, &mut io::writer(rt)),
+        reason: found_reason(rt.alloc(), file, fault, &findings),
+    }
+}
+
+/// The fault of a file that wasn't read whole.
+pub fn gather_fault(fault: GatherFault) -> SuffixFault {
+    match fault {
+        GatherFault::TooLarge => SuffixFault::TooLarge,
+        GatherFault::NoMemory => SuffixFault::NoMemory,
+        GatherFault::Read => SuffixFault::Read,
+    }
+}

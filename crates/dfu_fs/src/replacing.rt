@@ -1,0 +1,153 @@
+//! A file that takes the place of another, whole.
+
+ghost use Rattle.std.specs.Prelude.{◌≤◌, length, IfOk};
+
+use crate::owner::Owned;
+use crate::part::{Part, begin, put, remove};
+use crate::reasons::error_reason;
+use dfu_output::{Answer, Exit, fault_text, write_out};
+use dfu_suffix::{SuffixFault, write_whole};
+use std::io::{self, ErrorKind, Write};
+use std::rt::Files;
+
+/// What is to take the place of OUT, or of what OUT leads to, whole: bytes are written beside it, and
+/// then take its name, so that a cut of the machine leaves the old file or the new one. Until then
+/// what was there is as it was. The part is made at the first write, so that where nothing is
+/// written OUT isn't looked at.
+#[derive(Drop)]
+pub(crate) struct Replacement<'a, R: Files> {
+    rt: &'a R,
+    out: &'a str,
+    part: Option<Part<R::File>>,
+    /// At what making or writing the part failed.
+    pub error: Option<io::Error>,
+}
+
+impl<'a, R: Files> Replacement<'a, R> {
+    pub(crate) fn new(rt: &'a R, out: &'a str) -> Self {
+        Replacement {
+            rt,
+            out,
+            part: None,
+            error: None,
+        }
+    }
+
+    /// Replaces OUT by what was written. Where it fails, what was there is as it was.
+    pub(crate) fn finish(self) -> io::Result<()> {
+        let Some(part) = &self.part else {
+            return Err(io::Error::from(ErrorKind::NotFound));
+        };
+        let placed = put(self.rt, part);
+        if placed.is_err() {
+            remove(self.rt, part);
+        }
+        placed
+    }
+
+    /// Leaves OUT as it was.
+    pub(crate) fn abandon(self) {
+        if let Some(part) = &self.part {
+            remove(self.rt, part);
+        }
+    }
+}
+
+impl<R: Files + AllocGlobal> Replacement<'_, R>
+where
+    R::File: Owned,
+{
+    /// Makes the part, unless it is there.
+    fn make(&mut self) -> io::Result<()> {
+        if self.part.is_none() {
+            self.part = Some(begin(self.rt, self.out)?);
+        }
+        Ok(())
+    }
+
+    /// Makes the part, also where nothing is to be written.
+    fn is_made(&mut self) -> bool {
+        match self.make() {
+            Ok(()) => true,
+            Err(error) => {
+                self.error = Some(error);
+                false
+            }
+        }
+    }
+
+    fn put(&mut self, buf: &[u8]) -> io::Result<usize>
+        ensures { IfOk result (λ n. n ≤ length buf.now) }
+    {
+        self.make()?;
+        match &mut self.part {
+            Some(part) => part.file.write(buf),
+            None => Ok(0),
+        }
+    }
+}
+
+impl<R: Files + AllocGlobal> Write for Replacement<'_, R>
+where
+    R::File: Owned,
+{
+    fn write(&mut self, buf: &[u8]) -> io::Result<usize> {
+        match self.put(buf) {
+            Ok(count) => Ok(count),
+            Err(error) => {
+                let kind = error.kind();
+                self.error = Some(error);
+                Err(io::Error::from(kind))
+            }
+        }
+    }
+
+    fn flush(&mut self) -> io::Result<()> {
+        Ok(())
+    }
+}
+
+/// Puts what was made in OUT's place, and writes the line for it.
+pub(crate) fn finish<R: Files + Print + AllocGlobal>(
+    rt: &R,
+    to: &str,
+    made: Replacement<'_, R>,
+    line: &[u8],
+) -> Answer {
+    let mut out = io::writer(rt);
+    match made.finish() {
+        Ok(()) => Answer {
+            exit: write_out(&mut out, line, Exit::Done),
+            reason: None,
+        },
+        Err(error) => Answer {
+            exit: fault_text(SuffixFault::Write, &mut out),
+            reason: error_reason(rt.alloc(), to, &error),
+        },
+    }
+}
+
+/// Makes OUT of this text, and writes the line for it.
+pub(crate) fn replace<R: Files + Print + AllocGlobal>(
+    rt: &R,
+    to: &str,
+    text: &[u8],
+    line: &[u8],
+) -> Answer
+where
+    R::File: Owned,
+{
+    let mut made = Replacement::new(rt, to);
+    if made.is_made() && write_whole(&mut made, text).is_ok() {
+        return finish(rt, to, made, line);
+    }
+    let reason = match &made.error {
+        Some(error) => error_reason(rt.alloc(), to, error),
+        None => None,
+    };
+    made.abandon();
+    Answer {
+        exit: fault_text(SuffixFault::Write, &mut io::writer(rt)),
+        reason,
+    }
+}

@@ -1,0 +1,65 @@
+-- The lines for files that builds produce, each ended by 0Ah.
+use Rattle.std.specs.Prelude.{ℕ, List, [], ◌∷◌, ◌++◌, codes}
+use Rattle.std.specs.Fmt.{decimal}
+use Rattle.dfu_images.specs.declared.fault.ImageFault.{ImageFault}
+use Rattle.dfu_images.specs.declared.fault.ImageFault.TheVariants as fault
+use Rattle.dfu_images.specs.declared.laying.LayFault.{LayFault}
+use Rattle.dfu_images.specs.declared.laying.LayFault.TheVariants as lay
+use Rattle.dfu_images.specs.declared.making.FileFault.{FileFault}
+use Rattle.dfu_images.specs.declared.making.FileFault.TheVariants.{Unread, NoData, Unlaid}
+use Rattle.dfu_images.specs.declared.format.Format.{Format}
+use Rattle.dfu_images.specs.declared.format.Format.TheVariants.{IntelHex, SRecord, Uf2, Elf}
+use Rattle.dfu_output.specs.AnswerLines.{hex}
+
+-- The name of a format, as `--format` has it.
+abbrev pub format_name : Format → List ℕ
+format_name IntelHex = codes "ihex"
+format_name SRecord = codes "srec"
+format_name Uf2 = codes "uf2"
+format_name Elf = codes "elf"
+
+-- The line for an image is `format FORMAT address AAAAAAAA`, with the address of its first byte.
+unfoldable pub image_format_line : Format → ℕ → List ℕ
+image_format_line format address = codes "format " ++ format_name format ++ (codes " address " ++ hex 8 address) ++ 10 ∷ []
+
+-- A fault of a file by its name, with the line, block or segment, or the address, that it names.
+unfoldable pub unread_text : ImageFault → List ℕ
+unread_text fault.NoMemory = codes "NoMemory"
+unread_text (fault.NoMark at) = codes "NoMark " ++ decimal at
+unread_text (fault.BadDigit at) = codes "BadDigit " ++ decimal at
+unread_text (fault.BadLength at) = codes "BadLength " ++ decimal at
+unread_text (fault.BadChecksum at) = codes "BadChecksum " ++ decimal at
+unread_text (fault.BadType at) = codes "BadType " ++ decimal at
+unread_text (fault.BadCount at) = codes "BadCount " ++ decimal at
+unread_text (fault.PastSegment at) = codes "PastSegment " ++ decimal at
+unread_text (fault.Trailing at) = codes "Trailing " ++ decimal at
+unread_text fault.NoEnd = codes "NoEnd"
+unread_text fault.BadSize = codes "BadSize"
+unread_text (fault.BadMagic at) = codes "BadMagic " ++ decimal at
+unread_text (fault.BadBlock at) = codes "BadBlock " ++ decimal at
+unread_text (fault.BadNumber at) = codes "BadNumber " ++ decimal at
+unread_text (fault.FileContainer at) = codes "FileContainer " ++ decimal at
+unread_text (fault.OtherFamily at) = codes "OtherFamily " ++ decimal at
+unread_text fault.NotElf = codes "NotElf"
+unread_text fault.CutHeader = codes "CutHeader"
+unread_text (fault.CutSegment at) = codes "CutSegment " ++ decimal at
+unread_text (fault.PastTheEnd at) = codes "PastTheEnd " ++ decimal at
+unread_text (fault.TooLarge at) = codes "TooLarge " ++ decimal at
+unread_text (fault.TooManyElements at) = codes "TooManyElements " ++ decimal at
+unread_text (fault.Overlaps address) = codes "Overlaps " ++ hex 8 address
+
+-- Why elements make no piece, by its name; of a gap with its addresses.
+unfoldable pub unlaid_text : LayFault → List ℕ
+unlaid_text lay.NoMemory = codes "NoMemory"
+unlaid_text (lay.Gap from to) = codes "Gap " ++ hex 8 from ++ (codes " " ++ hex 8 to)
+unlaid_text lay.TooLarge = codes "TooLarge"
+
+-- Why a file makes no image, by its name.
+abbrev pub fault_text : FileFault → List ℕ
+fault_text (Unread fault) = unread_text fault
+fault_text NoData = codes "NoData"
+fault_text (Unlaid fault) = unlaid_text fault
+
+-- The line for a file that makes no image is `refused NAME`, and what the fault names.
+unfoldable pub refused_line : FileFault → List ℕ
+refused_line fault = codes "refused " ++ fault_text fault ++ 10 ∷ []

@@ -1,0 +1,73 @@
+//! What `--format` and `--fill` ask for.
+
+ghost use Rattle.std.specs.Prelude.{◌≡◌, ◌≤◌, codes, None, Some};
+ghost use Rattle.dfu_images.specs.Digits.{hex_value};
+ghost use Rattle.dfu_image_output.specs.Asked.{IsNoFormat, fill_in};
+
+use dfu_images::Format;
+
+/// How FILE is taken.
+#[derive(Clone, Copy, Debug, PartialEq, Eq)]
+pub enum Taken {
+    /// Without a word: as it is, with a reason where it looks like a file of a format.
+    Unsaid,
+    /// As it is.
+    Raw,
+    /// As a file of the format that its first bytes look like, and as it is if they look like none.
+    Auto,
+    /// As a file of this format.
+    As(Format),
+}
+
+/// The value of a digit, or 16.
+fn digit(byte: u8) -> u8
+    ensures value { result ≡ hex_value byte }
+    ensures small { result ≤ 16 }
+{
+    match byte {
+        b'0'..=b'9' => byte - b'0',
+        b'a'..=b'f' => byte - b'a' + 10,
+        b'A'..=b'F' => byte - b'A' + 10,
+        _ => 16,
+    }
+}
+
+/// The byte that two hexadecimal digits of either case are.
+#[tactic(auto, using(std::proofs::lemmas::Bool::Decides::nat_tests))]
+pub fn fill_in(word: &str) -> Option<u8>
+    ensures { result ≡ fill_in word.now }
+{
+    match word.as_bytes() {
+        [high, low] => {
+            let high = digit(*high);
+            let low = digit(*low);
+            if high < 16 && low < 16 {
+                Some(16 * high + low)
+            } else {
+                None
+            }
+        }
+        _ => None,
+    }
+}
+
+/// How the word of `--format` has FILE taken.
+pub fn format_in(word: &str) -> Option<Taken>
+    ensures raw { word.now ≡ codes "raw" → result ≡ Some Taken.Raw }
+    ensures auto { word.now ≡ codes "auto" → result ≡ Some Taken.Auto }
+    ensures ihex { word.now ≡ codes "ihex" → result ≡ Some (Taken.As Format.IntelHex) }
+    ensures srec { word.now ≡ codes "srec" → result ≡ Some (Taken.As Format.SRecord) }
+    ensures uf2 { word.now ≡ codes "uf2" → result ≡ Some (Taken.As Format.Uf2) }
+    ensures elf { word.now ≡ codes "elf" → result ≡ Some (Taken.As Format.Elf) }
+    ensures other { IsNoFormat word.now → result ≡ None }
+{
+    match word {
+        "raw" => Some(Taken::Raw),
+        "auto" => Some(Taken::Auto),
+        "ihex" => Some(Taken::As(Format::IntelHex)),
+        "srec" => Some(Taken::As(Format::SRecord)),
+        "uf2" => Some(Taken::As(Format::Uf2)),
+        "elf" => Some(Taken::As(Format::Elf)),
+        _ => None,
+    }
+}

@@ -1,0 +1,84 @@
+//! The lines for files that make no image.
+
+ghost use Rattle.std.specs.Prelude.{◌≡◌, IfOk};
+ghost use Rattle.std.specs.String.{string_bytes};
+ghost use Rattle.dfu_image_output.specs.ImageLines.{fault_text, refused_line, unlaid_text, unread_text};
+
+use crate::numbers::{addressed, ended, numbered};
+use dfu_images::{FileFault, ImageFault, LayFault};
+use dfu_output::{made_field, push};
+use std::alloc::{AllocError, Global};
+
+/// A fault of a file by its name, with what it names.
+#[tactic(auto, unfolding(crate::specs::ImageLines::unread_text))]
+fn unread_text(alloc: Global, fault: ImageFault) -> Result<String, AllocError>
+    ensures { IfOk result (λ t. string_bytes t ≡ unread_text fault) }
+{
+    match fault {
+        ImageFault::NoMemory => String::from_str(alloc, "NoMemory"),
+        ImageFault::NoMark(at) => numbered(alloc, "NoMark ", at),
+        ImageFault::BadDigit(at) => numbered(alloc, "BadDigit ", at),
+        ImageFault::BadLength(at) => numbered(alloc, "BadLength ", at),
+        ImageFault::BadChecksum(at) => numbered(alloc, "BadChecksum ", at),
+        ImageFault::BadType(at) => numbered(alloc, "BadType ", at),
+        ImageFault::BadCount(at) => numbered(alloc, "BadCount ", at),
+        ImageFault::PastSegment(at) => numbered(alloc, "PastSegment ", at),
+        ImageFault::Trailing(at) => numbered(alloc, "Trailing ", at),
+        ImageFault::NoEnd => String::from_str(alloc, "NoEnd"),
+        ImageFault::BadSize => String::from_str(alloc, "BadSize"),
+        ImageFault::BadMagic(at) => numbered(alloc, "BadMagic ", at),
+        ImageFault::BadBlock(at) => numbered(alloc, "BadBlock ", at),
+        ImageFault::BadNumber(at) => numbered(alloc, "BadNumber ", at),
+        ImageFault::FileContainer(at) => numbered(alloc, "FileContainer ", at),
+        ImageFault::OtherFamily(at) => numbered(alloc, "OtherFamily ", at),
+        ImageFault::NotElf => String::from_str(alloc, "NotElf"),
+        ImageFault::CutHeader => String::from_str(alloc, "CutHeader"),
+        ImageFault::CutSegment(at) => numbered(alloc, "CutSegment ", at),
+        ImageFault::PastTheEnd(at) => numbered(alloc, "PastTheEnd ", at),
+        ImageFault::TooLarge(at) => numbered(alloc, "TooLarge ", at),
+        ImageFault::TooManyElements(at) => numbered(alloc, "TooManyElements ", at),
+        ImageFault::Overlaps(address) => addressed(alloc, "Overlaps ", address),
+    }
+}
+
+/// Why elements make no piece, by its name.
+#[tactic(auto, unfolding(crate::specs::ImageLines::unlaid_text))]
+fn unlaid_text(alloc: Global, fault: LayFault) -> Result<String, AllocError>
+    ensures { IfOk result (λ t. string_bytes t ≡ unlaid_text fault) }
+{
+    match fault {
+        LayFault::NoMemory => String::from_str(alloc, "NoMemory"),
+        LayFault::Gap(from, to) => {
+            let mut text = ended(alloc, "Gap ", from)?;
+            made_field(&mut text, " ", format!(in alloc; "{to:08x}")?)?;
+            Ok(text)
+        }
+        LayFault::TooLarge => String::from_str(alloc, "TooLarge"),
+    }
+}
+
+/// Why a file makes no image, by its name.
+fn fault_text(alloc: Global, fault: FileFault) -> Result<String, AllocError>
+    ensures { IfOk result (λ t. string_bytes t ≡ fault_text fault) }
+{
+    match fault {
+        FileFault::Unread(fault) => unread_text(alloc, fault),
+        FileFault::NoData => String::from_str(alloc, "NoData"),
+        FileFault::Unlaid(fault) => unlaid_text(alloc, fault),
+    }
+}
+
+/// The line for a file that makes no image: `refused NAME`, and behind some names a number or addresses in eight hexadecimal digits.
+///
+/// # Errors
+///
+/// There is no memory for it.
+#[tactic(auto, unfolding(crate::specs::ImageLines::refused_line))]
+pub fn refused_line(alloc: Global, fault: FileFault) -> Result<String, AllocError>
+    ensures { IfOk result (λ t. string_bytes t ≡ refused_line fault) }
+{
+    let mut line = String::from_str(alloc, "refused ")?;
+    push(&mut line, &fault_text(alloc, fault)?)?;
+    push(&mut line, "\n")?;
+    Ok(line)
+}

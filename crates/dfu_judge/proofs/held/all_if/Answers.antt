@@ -1,8 +1,0 @@
-use Rattle.dfu_judge.proofs.Words.{all, none}
-use Rattle.dfu_judge.proofs.held.all_if.Goals as goal
-
-pub returns-then-yes : goal.returns-then-yes
-returns-then-yes c = rw c.if-yes.true all
-
-pub returns-else-yes : goal.returns-else-yes
-returns-else-yes c = rw c.if-yes.false none

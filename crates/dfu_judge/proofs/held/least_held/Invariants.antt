@@ -1,6 +1,0 @@
-use Rattle.std.specs.Prelude.{◌≡◌}
-use Rattle.dfu_judge.specs.inside.Stepped.{anywhere, least_below}
-use Rattle.dfu_judge.proofs.held.least_held.Given as goal
-
-abbrev pub invariant-loop-readings : goal.invariant-loop-readings
-invariant-loop-readings l = l.least ≡ least_below (anywhere l.places) l.readings

@@ -1,8 +1,0 @@
-use Rattle.dfu_judge.proofs.Everywhere.{held_first, held_first_plain}
-use Rattle.dfu_judge.proofs.judge.Judge.new.Goals as goal
-
-pub returns-clause-whole : goal.returns-clause-whole
-returns-clause-whole c = held_first
-
-pub returns-clause-since : goal.returns-clause-since
-returns-clause-since c = held_first_plain

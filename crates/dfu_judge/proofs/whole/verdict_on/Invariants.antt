@@ -1,6 +1,0 @@
-use Rattle.std.specs.Prelude.{take}
-use Rattle.dfu_judge.specs.MayAnswer.{IsHeld}
-use Rattle.dfu_judge.proofs.whole.verdict_on.Given as goal
-
-abbrev pub invariant-loop-event : goal.invariant-loop-event
-invariant-loop-event l = IsHeld l.judge.whole (take l.event-index l.events)

@@ -1,4 +1,0 @@
-pub mod Lists
-pub mod Pieces
-pub mod Saying
-pub mod Steps

@@ -1,9 +1,0 @@
-use Rattle.std.specs.Prelude.{◌≡◌, ◌++◌, take}
-use Rattle.std.specs.String.{string_bytes}
-use Rattle.dfu_judge_text.specs.declared.names.TheConstants.{READINGS}
-use Rattle.dfu_judge_text.specs.Texts.{each, reading_text}
-use Rattle.dfu_judge_text.proofs.texts.push_readings.Given as goal
-
-abbrev pub invariant-loop-reading : goal.invariant-loop-reading
-invariant-loop-reading l =
-    string_bytes l.line ≡ string_bytes l.fn.line ++ each (reading_text l.readings) (take l.reading-index READINGS)

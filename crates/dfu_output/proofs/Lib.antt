@@ -1,0 +1,6 @@
+mod ShownLaws
+mod Behind
+mod LogLists
+mod LogPieces
+mod LogSaying
+mod LogSteps

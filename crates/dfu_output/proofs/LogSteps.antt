@@ -1,0 +1,161 @@
+-- A log goes on by a byte.
+use Rattle.std.specs.Prelude.{◌≡◌, ℕ, ◌+◌, ◌<◌, List, [], ◌∷◌, ◌++◌, length, Bool, Option, Some, None, cond}
+use Rattle.std.proofs.Common.{sym, ap, ◌∙◌, subst, arith, length-append}
+use Rattle.std.proofs.lemmas.List.{append-nil}
+use Rattle.dfu_conformance.specs.declared.event.Event.{Event}
+use Rattle.dfu_conformance.specs.declared.verdict.Departure.{Departure}
+use Rattle.dfu_conformance.specs.declared.log.Line.{Line}
+use Rattle.dfu_conformance.specs.declared.log.Line.TheVariants as line
+use Rattle.dfu_conformance.specs.Line.{LineSays}
+use Rattle.dfu_conformance.specs.MayAnswer.{CanAnswer, IsHeld, IsHeldPlain}
+use Rattle.dfu_conformance.specs.Verdict.{ArePlacesAfter, Departs}
+use Rattle.dfu_output.specs.judge.Course.{LogCourse, goes_on, departs, LineEndLeads, says_nothing, says_elsewhere, says_event, Judges, goes, ends, course_line_ended, departing, going_on}
+use Rattle.dfu_output.specs.judge.Texts.{is_single}
+use Rattle.dfu_conformance.specs.declared.log.LineFault.{LineFault}
+use Rattle.dfu_output.specs.declared.judge.fault.LogFault.{LogFault}
+use Rattle.dfu_output.specs.declared.judge.fault.LogFault.TheVariants.{BadLine, TooLarge, NoMemory, Read, Write}
+use Rattle.dfu_output.specs.judge.Lines.{LinesState, GoesToLine, EndsLine, TakesByte, IsBadLine, CannotTake}
+use Rattle.dfu_output.specs.judge.Judging.{CannotGo}
+use Rattle.dfu_output.specs.judge.inside.Going.{JudgingState, IsAt, EventCame, JudgedText}
+
+counted : (events : List Event) (e : Event) (n : ℕ) → n ≡ length events → n + 1 ≡ length (events ++ e ∷ [])
+counted events e n is = omega (arith, is, length-append events (e ∷ []))
+
+-- An event goes on.
+pub come_on : (s : JudgingState) (w v : List (List ℕ)) (n : ℕ) (text : List ℕ) (c : LogCourse) (e : Event) (at : List Bool) → IsAt s text c
+    → IsHeld w (c.events ++ e ∷ []) → CanAnswer 0 (c.since ++ e ∷ []) × IsHeldPlain v (c.since ++ e ∷ [])
+    → ArePlacesAfter 0 (c.since ++ e ∷ []) at → n ≡ s.single + cond (is_single at) 1 0
+    → EventCame text c e None (record s { whole = w; since = v; events = s.events + 1; single = n })
+come_on s w v n text c e at is held plain places single = record {
+  next = going_on c e at;
+  comes = goes_on at plain.0 places;
+  at = record {
+    whole = held;
+    since = plain.1;
+    line = is.line;
+    room = is.room;
+    number = is.number;
+    events = counted c.events e s.events is.events;
+    single = single ∙ ap (λ (k : ℕ). k + cond (is_single at) 1 0) is.single;
+  };
+  out = sym (append-nil c.out);
+}
+
+-- An event departs.
+pub come_off : (s : JudgingState) (w v : List (List ℕ)) (text : List ℕ) (c : LogCourse) (e : Event) (d : Departure) → IsAt s text c
+    → IsHeld w (c.events ++ e ∷ []) → d.event ≡ e → Departs c.since d v
+    → EventCame text c e (Some d) (record s { whole = w; since = v; events = s.events + 1 })
+come_off s w v text c e d is held same off = record {
+  next = departing c d;
+  comes = departs d same (subst (λ (x : Event). CanAnswer 0 (c.since ++ x ∷ []) → ⊥) same off.none) off.before;
+  at = record {
+    whole = subst (λ (x : Event). IsHeld w (c.events ++ x ∷ [])) (sym same) held;
+    since = off.anew;
+    line = is.line;
+    room = is.room;
+    number = is.number;
+    events = counted c.events d.event s.events is.events;
+    single = is.single;
+  };
+  out = ap (λ (k : ℕ). c.out ++ Rattle.dfu_output.specs.judge.Texts.departure_text k d) (sym is.number);
+}
+
+-- What was taken at a byte that ended this line, or none.
+pub takes_as : (interface : ℕ) (s t : LinesState) (byte : ℕ) (o p : Option Line) → o ≡ p → TakesByte interface s t byte o
+    → TakesByte interface s t byte p
+takes_as interface s t byte o p same took = subst (λ (x : Option Line). TakesByte interface s t byte x) same took
+
+-- Where a line was ended the state is at its end.
+pub at_end : (interface byte : ℕ) (s : JudgingState) (lines : LinesState) (text : List ℕ) (c : LogCourse) (says : Line) → IsAt s text c
+    → EndsLine interface s.lines lines byte says → IsAt (record s { lines = lines }) (text ++ 10 ∷ []) (course_line_ended c)
+at_end interface byte s lines text c says is e = record {
+  whole = is.whole;
+  since = is.since;
+  line = e.line;
+  room = omega (arith, is.room, e.room, length-append text (10 ∷ []));
+  number = e.number ∙ ap (λ (k : ℕ). k + 1) is.number;
+  events = is.events;
+  single = is.single;
+}
+
+-- What is said of the line that was ended.
+pub said : (interface byte : ℕ) (s : JudgingState) (lines : LinesState) (text : List ℕ) (c : LogCourse) (says : Line) → IsAt s text c
+    → EndsLine interface s.lines lines byte says → LineSays interface c.line (Some says)
+said interface byte s lines text c says is e = subst (λ (t : List ℕ). LineSays interface t (Some says)) is.line e.said
+
+-- What was taken at a byte that is a 0Ah.
+ended_by : (interface byte : ℕ) (text : List ℕ) (c : LogCourse) (o : Option Departure) (s : JudgingState) → byte ≡ 10
+    → JudgedText interface (text ++ 10 ∷ []) c o s → JudgedText interface (text ++ byte ∷ []) c o s
+ended_by interface byte text c o s end took = subst (λ (k : ℕ). JudgedText interface (text ++ k ∷ []) c o s) (sym end) took
+
+-- The end of a line at which an event came.
+pub took_event : (interface byte : ℕ) (s t : JudgingState) (lines : LinesState) (text : List ℕ) (c : LogCourse) (e : Event)
+    (o : Option Departure) → IsAt s text c → Judges interface text c → EndsLine interface s.lines lines byte (line.Came e)
+    → EventCame (text ++ 10 ∷ []) (course_line_ended c) e o t → JudgedText interface (text ++ byte ∷ []) c o t
+took_event interface byte s t lines text c e o is judged end came = ended_by interface byte text c o t end.end (record {
+  next = came.next;
+  judged = ends judged (says_event e (said interface byte s lines text c (line.Came e) is end) came.comes);
+  at = came.at;
+  out = came.out;
+})
+
+-- The end of a line that says nothing of the device.
+took_none : (interface byte : ℕ) (s : JudgingState) (text : List ℕ) (c : LogCourse) → byte ≡ 10 → Judges interface text c
+    → LineEndLeads interface c (course_line_ended c) → IsAt s (text ++ 10 ∷ []) (course_line_ended c) →
+    JudgedText interface (text ++ byte ∷ []) c None s
+took_none interface byte s text c end judged ends_it is = ended_by interface byte text c None s end (record {
+  next = course_line_ended c;
+  judged = ends judged ends_it;
+  at = is;
+  out = sym (append-nil c.out);
+})
+
+-- It is empty, or a comment.
+pub took_blank : (interface byte : ℕ) (s : JudgingState) (lines : LinesState) (text : List ℕ) (c : LogCourse) → IsAt s text c
+    → Judges interface text c → EndsLine interface s.lines lines byte line.Blank
+    → JudgedText interface (text ++ byte ∷ []) c None (record s { lines = lines })
+took_blank interface byte s lines text c is judged end =
+    took_none interface byte _ text c end.end judged (says_nothing (said interface byte s lines text c line.Blank is end))
+    (at_end interface byte s lines text c line.Blank is end)
+
+-- It is of another interface or class.
+pub took_elsewhere : (interface byte : ℕ) (s : JudgingState) (lines : LinesState) (text : List ℕ) (c : LogCourse) → IsAt s text c
+    → Judges interface text c → EndsLine interface s.lines lines byte line.Elsewhere
+    → JudgedText interface (text ++ byte ∷ []) c None (record s { lines = lines })
+took_elsewhere interface byte s lines text c is judged end =
+    took_none interface byte _ text c end.end judged (says_elsewhere (said interface byte s lines text c line.Elsewhere is end))
+    (at_end interface byte s lines text c line.Elsewhere is end)
+
+-- A byte that goes to its line.
+pub kept_byte : (interface byte : ℕ) (s : JudgingState) (lines : LinesState) (text : List ℕ) (c : LogCourse) → IsAt s text c
+    → Judges interface text c → GoesToLine s.lines lines byte → JudgedText interface (text ++ byte ∷ []) c None (record s { lines = lines })
+kept_byte interface byte s lines text c is judged g = record {
+  next = record c { line = c.line ++ byte ∷ [] };
+  judged = goes byte judged g.inner (subst (λ (x : List ℕ). length x < 262158) is.line g.short);
+  at = record {
+    whole = is.whole;
+    since = is.since;
+    line = g.line ∙ ap (λ (x : List ℕ). x ++ byte ∷ []) is.line;
+    room = omega (arith, is.room, g.room, length-append text (byte ∷ []));
+    number = g.number ∙ is.number;
+    events = is.events;
+    single = is.single;
+  };
+  out = sym (append-nil c.out);
+}
+
+bad_line : (interface : ℕ) (line text rest : List ℕ) (why : LineFault) → line ≡ text → IsBadLine interface line rest why
+    → IsBadLine interface text rest why
+bad_line interface line text rest why same bad = subst (λ (t : List ℕ). IsBadLine interface t rest why) same bad
+
+-- Why a byte isn't taken is why the next byte of the text isn't judged.
+pub cannot_go : (interface : ℕ) (s : JudgingState) (text : List ℕ) (c : LogCourse) (rest : List ℕ) (fault : LogFault) → IsAt s text c
+    → CannotTake interface s.lines rest fault → CannotGo interface text c rest fault
+cannot_go interface s text c rest (BadLine n why) is (number, bad) = (
+  number ∙ ap (λ (k : ℕ). k + 1) is.number,
+  bad_line interface s.lines.line c.line rest why is.line bad,
+)
+cannot_go interface s text c rest TooLarge is none = omega (arith, is.room, none)
+cannot_go interface s text c rest NoMemory is why_not = absurd why_not
+cannot_go interface s text c rest Read is why_not = absurd why_not
+cannot_go interface s text c rest Write is why_not = absurd why_not

@@ -1,0 +1,16 @@
+use Rattle.std.proofs.Common.{◌∙◌, ◌++◌, ℕ, List, ap}
+use Rattle.dfu_conformance.specs.declared.standard.TheConstants.{STANDARD}
+use Rattle.dfu_conformance.specs.declared.habits.TheConstants.{HABITS}
+use Rattle.dfuse_conformance.specs.declared.rows.TheConstants.{DFUSE}
+use Rattle.dfu_output.specs.judge.Texts.{each}
+use Rattle.dfu_output.specs.judge.Dfuse.{dfuse_allowed_text, dfuse_departure_text, stalled_text}
+use Rattle.dfu_output.proofs.judge.dfuse.dfuse_departure_text.Goals as goal
+
+pub returns : goal.returns
+unfolding dfuse_departure_text
+returns c =
+    let d = c.args.departure.now in
+    let standard = c.in_ok-push_rows.ensures ∙ ap (λ (t : List ℕ). t ++ each (dfuse_allowed_text d) STANDARD) c.in_ok-line.ensures in
+    let habits = c.in_ok-push_rows-2.ensures ∙ ap (λ (t : List ℕ). t ++ each (dfuse_allowed_text d) HABITS) standard in
+    let dfuse = c.in_ok-push_rows-3.ensures ∙ ap (λ (t : List ℕ). t ++ each (dfuse_allowed_text d) DFUSE) habits in
+    c.in_ok-push_stalled.ensures ∙ ap (λ (t : List ℕ). t ++ stalled_text d.event) dfuse

@@ -1,0 +1,13 @@
+use Rattle.std.specs.Prelude.{◌≡◌, ◌+◌, ◌++◌, ℕ, List, [], Option, take}
+use Rattle.std.specs.Io.KnownBytes.{Consumes}
+use Rattle.dfu_output.specs.judge.inside.Going.{Going}
+use Rattle.dfu_output.proofs.judge.reading.judge_all.Given as goal
+
+abbrev pub invariant-pieces : goal.invariant-pieces
+invariant-pieces g l =
+    (front : List ℕ) × Consumes (g.R.Read.remaining l.fn.reader) (g.R.Read.remaining l.reader) front
+    × ((old : Option (List ℕ)) → Going l.interface old (g.W.Write.contents l.fn.writer) [] l.fn.judging
+    → Going l.interface old (g.W.Write.contents l.writer) front l.judging)
+
+abbrev pub decreases-pieces : goal.decreases-pieces
+decreases-pieces g l = l.judging.lines.room

@@ -1,0 +1,13 @@
+use Rattle.std.proofs.Common.{arith}
+use Rattle.std.specs.String.{string_bytes}
+use Rattle.dfu_conformance.specs.declared.standard.TheConstants.{STANDARD}
+use Rattle.dfu_output.specs.judge.Texts.{allowed_text}
+use Rattle.dfu_output.proofs.LogLists.{line_more, line_none}
+use Rattle.dfu_output.proofs.judge.texts.push_allowed.Goals as goal
+
+pub loop-row-init : goal.loop-row-init
+loop-row-init c = line_none _ _
+
+pub loop-row-preserved : goal.loop-row-preserved
+loop-row-preserved c = line_more (allowed_text c.args.departure.now) _ c.loop-row.row-index _ _ _ _
+    (omega arith) c.loop-row.invariant c.in_ok-push_if_allowed.ensures

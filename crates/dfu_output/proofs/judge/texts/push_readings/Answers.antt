@@ -1,0 +1,13 @@
+use Rattle.std.proofs.Common.{arith}
+use Rattle.std.specs.String.{string_bytes}
+use Rattle.dfu_output.specs.declared.judge.names.TheConstants.{READINGS}
+use Rattle.dfu_output.specs.judge.Texts.{reading_text}
+use Rattle.dfu_output.proofs.LogLists.{line_more, line_none}
+use Rattle.dfu_output.proofs.judge.texts.push_readings.Goals as goal
+
+pub loop-reading-init : goal.loop-reading-init
+loop-reading-init c = line_none _ _
+
+pub loop-reading-preserved : goal.loop-reading-preserved
+loop-reading-preserved c = line_more (reading_text c.args.readings) _ c.loop-reading.reading-index _ _ _ _
+    (omega arith) c.loop-reading.invariant c.in_ok-push_reading.ensures

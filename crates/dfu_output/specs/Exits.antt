@@ -1,0 +1,11 @@
+-- The exit status.
+use Rattle.std.specs.Prelude.{ℕ}
+use Rattle.dfu_output.specs.declared.exit.Exit.{Exit}
+use Rattle.dfu_output.specs.declared.exit.Exit.TheVariants.{Done, Refused, BadWords, Fault}
+
+-- Each end of a command has its exit status, from 0 to 3.
+abbrev pub exit_status : Exit → ℕ
+exit_status Done = 0
+exit_status Refused = 1
+exit_status BadWords = 2
+exit_status Fault = 3

@@ -1,0 +1,11 @@
+pub mod Exits
+pub mod Output
+pub mod AnswerLines
+pub mod CheckText
+pub mod ShowLines
+pub mod Configuration
+pub mod ShowText
+pub mod AddText
+pub mod ReasonLines
+pub mod ShownText
+pub mod judge

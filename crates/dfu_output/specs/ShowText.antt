@@ -1,0 +1,127 @@
+-- What `dfu show` writes.
+use Rattle.std.specs.Prelude.{◌≡◌, ◌≢◌, ◌⊎◌, ◌<◌, ◌%◌, ℕ, List, [], ◌∷◌, length, slice_index, Option, Result, Ok, Err, IsOk, codes}
+use Rattle.hex.specs.Hex.{decode_of}
+use Rattle.hex.specs.declared.error.FromHexError.{FromHexError}
+use Rattle.dfu_wire.specs.Functional.{IsFunctional, FirstFunctionalFault}
+use Rattle.dfu_wire.specs.Request.{Asks}
+use Rattle.dfu_wire.specs.Setup.{IsSetup}
+use Rattle.dfu_wire.specs.State.{state_byte}
+use Rattle.dfu_wire.specs.Status.{StatusFields, IsStatus, FirstStatusFault}
+use Rattle.dfu_wire.specs.declared.states.State.{State}
+use Rattle.dfu_wire.specs.declared.functionals.Functional.{Functional}
+use Rattle.dfu_wire.specs.declared.fault.WireFault.{WireFault}
+use Rattle.dfu_wire.specs.declared.fault.WireFault.TheVariants as wire_fault
+use Rattle.dfu_output.specs.declared.asked.AskedBy.{AskedBy}
+use Rattle.dfu_output.specs.declared.exit.Exit.{Exit}
+use Rattle.dfu_output.specs.declared.exit.Exit.TheVariants.{Done, Refused}
+use Rattle.dfu_suffix.specs.declared.fault.SuffixFault.TheVariants.{NoMemory}
+use Rattle.dfu_output.specs.AnswerLines.{fault_line}
+use Rattle.dfu_output.specs.Output.{Wrote}
+use Rattle.dfu_output.specs.Configuration.{Configured}
+use Rattle.dfu_output.specs.ShowLines.{functional_line, no_hex_line, setup_line, state_line, status_line, wire_line}
+
+-- The bytes are this descriptor, or this is their first fault.
+abbrev pub ReadsFunctional : List ℕ → Result Functional WireFault → Type 0
+ReadsFunctional bytes (Ok f) = IsFunctional f bytes
+ReadsFunctional bytes (Err e) = FirstFunctionalFault e bytes
+
+-- The bytes are this status, or this is their first fault.
+abbrev pub ReadsStatusBytes : List ℕ → Result StatusFields WireFault → Type 0
+ReadsStatusBytes bytes (Ok s) = IsStatus s bytes
+ReadsStatusBytes bytes (Err e) = FirstStatusFault e bytes
+
+-- The bytes are the answer to GETSTATE, one byte with a state's number (USB DFU 1.1, section 6.1.5); or this is their first
+-- fault: there are none, or more than one, or the number is over 10.
+abbrev pub ReadsStateBytes : List ℕ → Result State WireFault → Type 0
+ReadsStateBytes bytes (Ok s) = bytes ≡ state_byte s ∷ []
+ReadsStateBytes bytes (Err wire_fault.Short) = bytes ≡ []
+ReadsStateBytes bytes (Err wire_fault.Long) = 1 < length bytes
+ReadsStateBytes bytes (Err wire_fault.UnknownState) = (length bytes ≡ 1) × (10 < slice_index bytes 0)
+ReadsStateBytes bytes (Err e) = ⊥
+
+-- The bytes are these eight of a setup, which asks for this whatever its interface is; or this is their first fault: they are
+-- fewer than eight, or more.
+abbrev pub ReadsSetup : List ℕ → Result AskedBy WireFault → Type 0
+ReadsSetup bytes (Ok s) = (length bytes ≡ 8) × IsSetup s.setup bytes × Asks (record s.setup { index = 0 }) s.asked
+ReadsSetup bytes (Err wire_fault.Short) = length bytes < 8
+ReadsSetup bytes (Err wire_fault.Long) = 8 < length bytes
+ReadsSetup bytes (Err e) = ⊥
+
+-- The line for bytes that were read as a descriptor is that of the descriptor, or that of the fault.
+abbrev pub functional_answer : Result Functional WireFault → List ℕ
+functional_answer (Ok f) = functional_line f
+functional_answer (Err e) = wire_line e
+
+-- The line for bytes that were read as a status is that of the status, with the sixth byte as its string, or that of the
+-- fault.
+abbrev pub status_answer : Result StatusFields WireFault → ℕ → List ℕ
+status_answer (Ok s) string = status_line s string
+status_answer (Err e) string = wire_line e
+
+-- The line for bytes that were read as a state is that of the state, or that of the fault.
+abbrev pub state_answer : Result State WireFault → List ℕ
+state_answer (Ok s) = state_line s
+state_answer (Err e) = wire_line e
+
+-- The line for bytes that were read as a setup is that of the setup, or that of the fault.
+abbrev pub setup_answer : Result AskedBy WireFault → List ℕ
+setup_answer (Ok s) = setup_line s.setup s.asked
+setup_answer (Err e) = wire_line e
+
+-- The command ends with Done where the bytes could be read, and else with Refused.
+abbrev pub read_exit : {T : Type 0} → Result T WireFault → Exit
+read_exit (Ok x) = Done
+read_exit (Err e) = Refused
+
+-- The line is that of the bytes as a descriptor; or, where they are one, it says that there was no memory for it.
+abbrev pub WritesFunctional : (bytes : List ℕ) (old new : Option (List ℕ)) → Exit → Type 0
+WritesFunctional bytes old new result =
+    (answer : Result Functional WireFault) × ReadsFunctional bytes answer
+    × (Wrote old new (functional_answer answer) (read_exit answer) result
+    ⊎ (IsOk answer × Wrote old new (fault_line NoMemory) Refused result))
+
+-- The line is that of the bytes as a status; or, where they are one, it says that there was no memory for it.
+abbrev pub WritesStatus : (bytes : List ℕ) (old new : Option (List ℕ)) → Exit → Type 0
+WritesStatus bytes old new result =
+    (answer : Result StatusFields WireFault) × ReadsStatusBytes bytes answer
+    × (Wrote old new (status_answer answer (slice_index bytes 5)) (read_exit answer) result
+    ⊎ (IsOk answer × Wrote old new (fault_line NoMemory) Refused result))
+
+-- The line is that of the bytes as a state; or, where they are one, it says that there was no memory for it.
+abbrev pub WritesState : (bytes : List ℕ) (old new : Option (List ℕ)) → Exit → Type 0
+WritesState bytes old new result =
+    (answer : Result State WireFault) × ReadsStateBytes bytes answer
+    × (Wrote old new (state_answer answer) (read_exit answer) result
+    ⊎ (IsOk answer × Wrote old new (fault_line NoMemory) Refused result))
+
+-- The line is that of the bytes as a setup; or, where they are one, it says that there was no memory for it.
+abbrev pub WritesSetup : (bytes : List ℕ) (old new : Option (List ℕ)) → Exit → Type 0
+WritesSetup bytes old new result =
+    (answer : Result AskedBy WireFault) × ReadsSetup bytes answer
+    × (Wrote old new (setup_answer answer) (read_exit answer) result
+    ⊎ (IsOk answer × Wrote old new (fault_line NoMemory) Refused result))
+
+-- The text for bytes that were read as a configuration, or the line for the fault.
+abbrev pub configuration_answer : Result (List ℕ) WireFault → List ℕ
+configuration_answer (Ok text) = text
+configuration_answer (Err e) = wire_line e
+
+-- What is written is the text for the bytes as a configuration; or it says that there was no memory for it.
+abbrev pub WritesConfiguration : (bytes : List ℕ) (old new : Option (List ℕ)) → Exit → Type 0
+WritesConfiguration bytes old new result =
+    ((answer : Result (List ℕ) WireFault) × Configured bytes answer × Wrote old new (configuration_answer answer) (read_exit answer) result)
+    ⊎ Wrote old new (fault_line NoMemory) Refused result
+
+-- The text is hexadecimal and its bytes are written so, or it isn't and the line says that, or the count of its digits is
+-- even and there was no memory for the bytes, and the line says that.
+abbrev pub WritesBytes : ((bytes : List ℕ) (old new : Option (List ℕ)) → Exit → Type 0) →
+    (text : List ℕ) (old new : Option (List ℕ)) → Exit → Type 0
+WritesBytes Writes text old new result =
+    ((bytes : List ℕ) × (decode_of text ≡ Ok bytes) × Writes bytes old new result)
+    ⊎ (((e : FromHexError) × (decode_of text ≡ Err e) × Wrote old new no_hex_line Refused result)
+    ⊎ ((length text % 2 ≡ 0) × Wrote old new (fault_line NoMemory) Refused result))
+
+-- A word is none of the five kinds of bytes.
+abbrev pub IsNoKind : List ℕ → Type 0
+IsNoKind kind = (kind ≢ codes "functional") × (kind ≢ codes "status") × (kind ≢ codes "state") × (kind ≢ codes "setup")
+    × (kind ≢ codes "configuration")

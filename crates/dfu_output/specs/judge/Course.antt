@@ -1,0 +1,55 @@
+-- How a log is judged, a byte at a time.
+use Rattle.std.specs.Prelude.{◌≡◌, ◌≢◌, ℕ, ◌+◌, ◌<◌, List, [], ◌∷◌, ◌++◌, length, Bool, Some, cond}
+use Rattle.dfu_conformance.specs.declared.event.Event.{Event}
+use Rattle.dfu_conformance.specs.declared.verdict.Departure.{Departure}
+use Rattle.dfu_conformance.specs.declared.log.Line.TheVariants.{Blank, Elsewhere, Came}
+use Rattle.dfu_conformance.specs.Line.{LineSays}
+use Rattle.dfu_conformance.specs.MayAnswer.{CanAnswer}
+use Rattle.dfu_conformance.specs.Verdict.{ArePlacesAfter}
+use Rattle.dfu_output.specs.judge.Texts.{departure_text, is_single}
+
+-- How far a log was judged: how many lines were ended, the line that is not, the events that came, those since the last departure, after
+-- how many one state was left, and what is printed.
+pub record LogCourse : Type 0 where
+  pub number : ℕ
+  pub line : List ℕ
+  pub events : List Event
+  pub since : List Event
+  pub single : ℕ
+  pub out : List ℕ
+
+-- No byte was judged.
+abbrev pub at_first : LogCourse
+at_first = record { number = 0; line = []; events = []; since = []; single = 0; out = [] }
+
+-- A line is ended.
+abbrev pub course_line_ended : LogCourse → LogCourse
+course_line_ended c = record c { number = c.number + 1; line = [] }
+
+-- An event goes on where a device without habits may have answered all since the last departure; it counts where one state is left then.
+abbrev pub going_on : LogCourse → Event → List Bool → LogCourse
+going_on c e at = record c { events = c.events ++ e ∷ []; since = c.since ++ e ∷ []; single = c.single + cond (is_single at) 1 0 }
+
+-- An event departs where none may have, and its lines are printed; from then on the device may be anywhere.
+abbrev pub departing : LogCourse → Departure → LogCourse
+departing c d = record c { events = c.events ++ d.event ∷ []; since = []; out = c.out ++ departure_text c.number d }
+
+-- What an event at the line that was ended last leads to.
+pub data EventLeads (c : LogCourse) (e : Event) : LogCourse → Type 0 where
+  goes_on : (at : List Bool) → CanAnswer 0 (c.since ++ e ∷ []) → ArePlacesAfter 0 (c.since ++ e ∷ []) at → EventLeads c e (going_on c e at)
+  departs : (d : Departure) → d.event ≡ e → (CanAnswer 0 (c.since ++ e ∷ []) → ⊥) → ArePlacesAfter 0 c.since d.before
+      → EventLeads c e (departing c d)
+
+-- What the end of a line leads to: it says nothing, or something of another interface or class, or that an event came.
+pub data LineEndLeads (interface : ℕ) (c : LogCourse) : LogCourse → Type 0 where
+  says_nothing : LineSays interface c.line (Some Blank) → LineEndLeads interface c (course_line_ended c)
+  says_elsewhere : LineSays interface c.line (Some Elsewhere) → LineEndLeads interface c (course_line_ended c)
+  says_event : {d : LogCourse} (e : Event) → LineSays interface c.line (Some (Came e)) → EventLeads (course_line_ended c) e d →
+      LineEndLeads interface c d
+
+-- A text is judged so far: each byte goes to its line, which has at most 262,158, and each 0Ah ends one.
+pub data Judges (interface : ℕ) : List ℕ → LogCourse → Type 0 where
+  begins : Judges interface [] at_first
+  goes : {text : List ℕ} {c : LogCourse} (byte : ℕ) → Judges interface text c → byte ≢ 10 → length c.line < 262158
+      → Judges interface (text ++ byte ∷ []) (record c { line = c.line ++ byte ∷ [] })
+  ends : {text : List ℕ} {c d : LogCourse} → Judges interface text c → LineEndLeads interface c d → Judges interface (text ++ 10 ∷ []) d

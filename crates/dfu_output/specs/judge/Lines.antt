@@ -1,0 +1,51 @@
+-- The lines of a log, a byte at a time.
+use Rattle.std.specs.Prelude.{◌≡◌, ◌≢◌, ℕ, ◌+◌, ◌<◌, ◌==◌, Bool, true, false, List, [], ◌∷◌, ◌++◌, length, Option, Some, None}
+use Rattle.dfu_conformance.specs.declared.log.Line.{Line}
+use Rattle.dfu_conformance.specs.declared.log.LineFault.{LineFault}
+use Rattle.dfu_conformance.specs.declared.log.LineFault.TheVariants.{Long}
+use Rattle.dfu_conformance.specs.Line.{LineSays, why_unread}
+use Rattle.dfu_output.specs.declared.judge.fault.LogFault.{LogFault}
+use Rattle.dfu_output.specs.declared.judge.fault.LogFault.TheVariants.{BadLine, TooLarge}
+
+-- The line that is not ended, how many bytes may still come, and how many lines were ended.
+pub record LinesState : Type 0 where
+  pub line : List ℕ
+  pub room : ℕ
+  pub number : ℕ
+
+-- A byte goes to its line: it is no 0Ah, and there is room for it in the log and in the line, which has at most 262,158.
+pub record GoesToLine (s t : LinesState) (byte : ℕ) : Type 0 where
+  pub room : t.room + 1 ≡ s.room
+  pub inner : byte ≢ 10
+  pub short : length s.line < 262158
+  pub line : t.line ≡ s.line ++ byte ∷ []
+  pub number : t.number ≡ s.number
+
+-- A byte ends its line, which says this.
+pub record EndsLine (interface : ℕ) (s t : LinesState) (byte : ℕ) (says : Line) : Type 0 where
+  pub room : t.room + 1 ≡ s.room
+  pub end : byte ≡ 10
+  pub said : LineSays interface s.line (Some says)
+  pub line : t.line ≡ []
+  pub number : t.number ≡ s.number + 1
+
+-- A byte was taken: it went to its line, or ended it.
+abbrev pub TakesByte : (interface : ℕ) (s t : LinesState) (byte : ℕ) → Option Line → Type 0
+TakesByte interface s t byte None = GoesToLine s t byte
+TakesByte interface s t byte (Some says) = EndsLine interface s t byte says
+
+-- The next byte is a 0Ah.
+abbrev pub ends_line : List ℕ → Bool
+ends_line [] = false
+ends_line (byte ∷ bytes) = byte == 10
+
+-- A line is none of a log: it is ended and can't be read, or it has 262,158 bytes and goes on.
+abbrev pub IsBadLine : (interface : ℕ) (line rest : List ℕ) → LineFault → Type 0
+IsBadLine interface line rest Long = (length line ≡ 262158) × (ends_line rest ≡ false)
+IsBadLine interface line rest why = LineSays interface line None × (why ≡ why_unread line) × (ends_line rest ≡ true)
+
+-- Why the first of these bytes isn't taken: there is no room for it in the log, or its line is none.
+abbrev pub CannotTake : (interface : ℕ) → LinesState → (rest : List ℕ) → LogFault → Type 0
+CannotTake interface s rest (BadLine n why) = (n ≡ s.number + 1) × IsBadLine interface s.line rest why
+CannotTake interface s rest TooLarge = s.room ≡ 0
+CannotTake interface s rest fault = ⊥

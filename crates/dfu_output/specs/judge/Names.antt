@@ -1,0 +1,79 @@
+-- The names of what stands in a line of `dfu judge`.
+use Rattle.std.specs.Prelude.{ℕ, List, [], codes}
+use Rattle.dfu_conformance.specs.declared.place.Place.{Place}
+use Rattle.dfu_conformance.specs.declared.place.Place.TheVariants as place
+use Rattle.dfu_conformance.specs.declared.asked.Asked.{Asked}
+use Rattle.dfu_conformance.specs.declared.asked.Asked.TheVariants as asked
+use Rattle.dfu_conformance.specs.declared.row.Gives.{Gives}
+use Rattle.dfu_conformance.specs.declared.row.Gives.TheVariants as answer
+use Rattle.dfu_conformance.specs.declared.row.Source.{Source}
+use Rattle.dfu_conformance.specs.declared.row.Source.TheVariants as source
+use Rattle.dfu_conformance.specs.declared.reading.Reading.{Reading}
+use Rattle.dfu_conformance.specs.declared.reading.Reading.TheVariants as reading
+use Rattle.dfu_conformance.specs.declared.row.When.{When}
+use Rattle.dfu_conformance.specs.declared.row.When.TheVariants.{Always, CanDownload, CanUpload, Tolerant, NotTolerant, WillDetach, By}
+
+-- The name of the state of the standard that a place is.
+abbrev pub place_name : Place → List ℕ
+place_name place.AppIdle = codes "appIDLE"
+place_name place.AppDetach = codes "appDETACH"
+place_name place.DfuIdle = codes "dfuIDLE"
+place_name place.DownloadSync = codes "dfuDNLOAD-SYNC"
+place_name place.DownloadBusy = codes "dfuDNBUSY"
+place_name place.DownloadIdle = codes "dfuDNLOAD-IDLE"
+place_name place.ManifestSync = codes "dfuMANIFEST-SYNC"
+place_name place.Manifest = codes "dfuMANIFEST"
+place_name place.ManifestWaitReset = codes "dfuMANIFEST-WAIT-RESET"
+place_name place.UploadIdle = codes "dfuUPLOAD-IDLE"
+place_name place.Error = codes "dfuERROR"
+place_name place.Fresh = codes "dfuIDLE"
+
+-- The name of what came to a device.
+abbrev pub asked_name : Asked → List ℕ
+asked_name asked.Detach = codes "DETACH"
+asked_name asked.Block = codes "DNLOAD"
+asked_name asked.Close = codes "DNLOAD-0"
+asked_name asked.Upload = codes "UPLOAD"
+asked_name asked.GetStatus = codes "GETSTATUS"
+asked_name asked.ClrStatus = codes "CLRSTATUS"
+asked_name asked.GetState = codes "GETSTATE"
+asked_name asked.Abort = codes "ABORT"
+asked_name asked.Other = codes "other"
+asked_name asked.Reset = codes "reset"
+asked_name asked.Power = codes "power"
+
+-- The name of an answer that a row gives.
+abbrev pub answer_name : Gives → List ℕ
+answer_name answer.Ack = codes "ack"
+answer_name answer.Stall = codes "stall"
+answer_name answer.Status = codes "status"
+answer_name answer.NoCode = codes "status-OK"
+answer_name answer.State = codes "state"
+answer_name answer.Full = codes "full"
+answer_name answer.Short = codes "short"
+answer_name answer.Silent = codes "nothing"
+
+-- The name of where a row stands in the standard.
+abbrev pub source_name : Source → List ℕ
+source_name source.A = codes "appendix-A"
+source_name source.Open = codes "open"
+source_name source.Habit = codes "habit"
+
+-- The name of a habit.
+abbrev pub reading_name : Reading → List ℕ
+reading_name reading.Bootloader = codes "bootloader"
+reading_name reading.RuntimeMute = codes "runtime-mute"
+reading_name reading.SelfReset = codes "self-reset"
+reading_name reading.DetachAtOnce = codes "detach-at-once"
+reading_name reading.DetachLeaves = codes "detach-leaves"
+reading_name reading.ErrorWithoutCode = codes "error-without-code"
+
+-- Of which devices a row speaks, with a space before it, and nothing where it is every one.
+abbrev pub when_name : When → List ℕ
+when_name Always = []
+when_name CanDownload = codes " download"
+when_name CanUpload = codes " upload"
+when_name Tolerant = codes " tolerant"
+when_name NotTolerant = codes " not-tolerant"
+when_name WillDetach = codes " will-detach"
+when_name (By reading) = codes " habit"

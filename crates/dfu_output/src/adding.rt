@@ -1,0 +1,74 @@
+//! `dfu add`: a file with a suffix, and the line for it.
+
+ghost use Rattle.std.specs.Prelude.{◌≡◌, IfOk};
+ghost use Rattle.std.specs.String.{string_bytes};
+ghost use Rattle.dfu_output.specs.AddText.{HasAddFault, WritesAdd, wrote_line};
+
+use crate::exit::Exit;
+use crate::faults::fault_text;
+use crate::numbers::{made_field, push};
+use crate::output::write_out;
+use dfu_suffix::{SuffixFault, add};
+use dfu_wire::Ids;
+use std::alloc::{AllocError, Global};
+use std::io::{Read, Write};
+
+/// The line for a file that was made: `wrote N`, with the number of its bytes.
+///
+/// # Errors
+///
+/// There is no memory for it.
+#[tactic(auto, unfolding(crate::specs::AddText::wrote_line))]
+pub fn wrote_line(alloc: Global, count: u32) -> Result<String, AllocError>
+    ensures { IfOk result (λ t. string_bytes t ≡ wrote_line count) }
+{
+    let mut line = String::from_str(alloc, "wrote")?;
+    made_field(&mut line, " ", count.to_string(alloc)?)?;
+    push(&mut line, "\n")?;
+    Ok(line)
+}
+
+/// Writes to `file` what the reader gives and a suffix for it, and one line to `out`: `wrote N`
+/// with Done, N being the number of bytes in `file`; `refused NAME` with Refused; `fault Read` or
+/// `fault Write`, of `file`, with Fault. After `fault Write` a front of the text is in `file`, not
+/// all of it, and after any other line but `wrote N` nothing is. Where the line can't be made for
+/// want of memory it is `refused NoMemory`, and `file` may be whole.
+///
+/// Where `out` fails it answers Fault, and a front of the line is out, not all of it.
+pub fn add_text<R: Read + Drop, F: Write, W: Write>(
+    alloc: Global,
+    reader: R,
+    ids: Ids,
+    file: &mut F,
+    out: &mut W,
+) -> Exit
+    ensures { WritesAdd (R.remaining reader) ids (F.contents file.old) (F.contents file.new) (W.contents out.old)
+        (W.contents out.new) result }
+{
+    let (exit, _) = add_with_fault(alloc, reader, ids, file, out);
+    exit
+}
+
+/// Does what `add_text` does, and returns beside the end the fault whose line was to be written.
+pub fn add_with_fault<R: Read + Drop, F: Write, W: Write>(
+    alloc: Global,
+    reader: R,
+    ids: Ids,
+    file: &mut F,
+    out: &mut W,
+) -> (Exit, Option<SuffixFault>)
+    ensures line { WritesAdd (R.remaining reader) ids (F.contents file.old) (F.contents file.new) (W.contents out.old)
+        (W.contents out.new) result.0 }
+    ensures fault { HasAddFault (R.remaining reader) ids (F.contents file.old) (F.contents file.new) result.1 }
+{
+    match add(alloc, reader, ids, file) {
+        Ok(count) => match wrote_line(alloc, count) {
+            Ok(line) => (write_out(out, line.as_bytes(), Exit::Done), None),
+            Err(_) => {
+                let fault = SuffixFault::NoMemory;
+                (fault_text(fault, out), Some(fault))
+            }
+        },
+        Err(fault) => (fault_text(fault, out), Some(fault)),
+    }
+}

@@ -1,0 +1,73 @@
+//! `dfu check`: the line for a file.
+
+ghost use Rattle.std.specs.Prelude.{◌≡◌, IfOk};
+ghost use Rattle.std.specs.String.{string_bytes};
+ghost use Rattle.dfu_output.specs.AnswerLines.{ok_line};
+ghost use Rattle.dfu_output.specs.CheckText.{HasCheckFault, HasFindings, WritesCheck};
+
+use crate::exit::Exit;
+use crate::faults::fault_text;
+use crate::numbers::{hex4, hex8, made_field, push};
+use crate::output::write_out;
+use dfu_suffix::{Findings, SuffixFault, Summary, check_with};
+use std::alloc::{AllocError, Global};
+use std::io::{Read, Write};
+
+#[tactic(auto, unfolding(crate::specs::AnswerLines::ok_line))]
+fn ok_line(alloc: Global, summary: &Summary) -> Result<String, AllocError>
+    ensures { IfOk result (λ t. string_bytes t ≡ ok_line summary.now) }
+{
+    let mut line = String::from_str(alloc, "ok")?;
+    made_field(&mut line, " payload ", summary.payload.to_string(alloc)?)?;
+    made_field(
+        &mut line,
+        " suffix ",
+        u32::from(summary.suffix).to_string(alloc)?,
+    )?;
+    made_field(&mut line, " device ", hex4(alloc, summary.ids.device)?)?;
+    made_field(&mut line, " product ", hex4(alloc, summary.ids.product)?)?;
+    made_field(&mut line, " vendor ", hex4(alloc, summary.ids.vendor)?)?;
+    made_field(&mut line, " dfu ", hex4(alloc, summary.dfu)?)?;
+    made_field(&mut line, " crc ", hex8(alloc, summary.crc)?)?;
+    push(&mut line, "\n")?;
+    Ok(line)
+}
+
+/// Checks what the reader gives, and writes one line: `ok payload P suffix S device DDDD product
+/// PPPP vendor VVVV dfu BBBB crc CCCCCCCC` with Done, `refused NAME` with Refused, or
+/// `fault Read` with Fault. Memory is taken for the line of a file alone: where that is refused,
+/// the line is `refused NoMemory`.
+///
+/// Where the writer fails it answers Fault; a front of the line is out, not all of it, and nothing
+/// more is written.
+pub fn check_text<R: Read + Drop, W: Write>(alloc: Global, reader: R, writer: &mut W) -> Exit
+    ensures { WritesCheck (R.remaining reader) (W.contents writer.old) (W.contents writer.new) result }
+{
+    let mut findings = Findings::new();
+    let (exit, _) = check_with_fault(alloc, reader, writer, &mut findings);
+    exit
+}
+
+/// Does what `check_text` does, returns beside the end the fault whose line was to be written, and leaves in
+/// `findings` what the reason of BadLength or BadCrc is made of. After TooShort, TooLarge and Read they say nothing.
+pub fn check_with_fault<R: Read + Drop, W: Write>(
+    alloc: Global,
+    reader: R,
+    writer: &mut W,
+    findings: &mut Findings,
+) -> (Exit, Option<SuffixFault>)
+    ensures line { WritesCheck (R.remaining reader) (W.contents writer.old) (W.contents writer.new) result.0 }
+    ensures fault { HasCheckFault (R.remaining reader) result.1 }
+    ensures findings { HasFindings (R.remaining reader) result.1 findings.new }
+{
+    match check_with(reader, findings) {
+        Ok(summary) => match ok_line(alloc, &summary) {
+            Ok(line) => (write_out(writer, line.as_bytes(), Exit::Done), None),
+            Err(_) => {
+                let fault = SuffixFault::NoMemory;
+                (fault_text(fault, writer), Some(fault))
+            }
+        },
+        Err(fault) => (fault_text(fault, writer), Some(fault)),
+    }
+}

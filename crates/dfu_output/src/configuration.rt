@@ -1,0 +1,156 @@
+//! The interfaces for upgrades of a configuration descriptor and those that follow it (USB 2.0, sections 9.5 and 9.6).
+
+ghost use Rattle.std.specs.Prelude.{◌≡◌, ◌++◌, ◌≤◌, IfOk, IfErr, OnOk, length, slice_index, Ok, Err};
+ghost use Rattle.std.specs.String.{string_bytes};
+ghost use Rattle.dfu_output.specs.Configuration.{Added, Configured, Walked, configuration_line, interface_line, mode_name};
+
+use crate::numbers::{field, made_field, push};
+use crate::show_lines::functional_line;
+use dfu_wire::{Functional, WireFault};
+use std::alloc::{AllocError, Global};
+
+// The type of an interface descriptor.
+const INTERFACE: u8 = 4;
+
+// The type of a functional descriptor.
+const FUNCTIONAL: u8 = 0x21;
+
+fn mode_name(protocol: u8) -> &'static str
+    ensures { result.now ≡ mode_name protocol }
+{
+    match protocol {
+        1 => "run-time",
+        2 => "dfu",
+        _ => "other",
+    }
+}
+
+#[tactic(auto, unfolding(crate::specs::Configuration::interface_line))]
+fn interface_line(
+    alloc: Global,
+    number: u8,
+    alternate: u8,
+    protocol: u8,
+    string: u8,
+) -> Result<String, AllocError>
+    ensures { IfOk result (λ t. string_bytes t ≡ interface_line number alternate protocol string) }
+{
+    let mut line = String::from_str(alloc, "interface")?;
+    made_field(&mut line, " ", u32::from(number).to_string(alloc)?)?;
+    made_field(
+        &mut line,
+        " alternate ",
+        u32::from(alternate).to_string(alloc)?,
+    )?;
+    field(&mut line, " mode ", mode_name(protocol))?;
+    made_field(&mut line, " string ", u32::from(string).to_string(alloc)?)?;
+    push(&mut line, "\n")?;
+    Ok(line)
+}
+
+// Adds what a descriptor gives, and answers whether the next one is within an interface for upgrades.
+fn add(
+    alloc: Global,
+    line: &mut String,
+    inside: bool,
+    descriptor: &[u8],
+) -> Result<Result<bool, WireFault>, AllocError>
+    requires { 2 ≤ length descriptor.now }
+    ensures { IfOk result (λ r. Added inside descriptor.now (string_bytes line.old) (string_bytes line.new) r) }
+{
+    if descriptor[1] == INTERFACE {
+        if descriptor.len() < 9 {
+            return Ok(Err(WireFault::WrongLength));
+        }
+        if descriptor[5] != 0xfe || descriptor[6] != 1 {
+            return Ok(Ok(false));
+        }
+        let [number, alternate] = [descriptor[2], descriptor[3]];
+        let added = interface_line(alloc, number, alternate, descriptor[7], descriptor[8])?;
+        push(line, &added)?;
+        return Ok(Ok(true));
+    }
+    if !inside || descriptor[1] != FUNCTIONAL {
+        return Ok(Ok(inside));
+    }
+    match Functional::decode(descriptor) {
+        Ok(functional) => {
+            push(line, &functional_line(alloc, &functional)?)?;
+            Ok(Ok(inside))
+        }
+        Err(fault) => Ok(Err(fault)),
+    }
+}
+
+#[tactic(auto, unfolding(crate::specs::Configuration::configuration_line))]
+fn configuration_line(alloc: Global, value: u8) -> Result<String, AllocError>
+    ensures { IfOk result (λ t. string_bytes t ≡ configuration_line value) }
+{
+    let mut line = String::from_str(alloc, "configuration ")?;
+    push(&mut line, &u32::from(value).to_string(alloc)?)?;
+    push(&mut line, "\n")?;
+    Ok(line)
+}
+
+// Adds what the descriptors in a row give.
+fn walk(alloc: Global, line: &mut String, bytes: &[u8]) -> Result<Result<(), WireFault>, AllocError>
+    ensures { IfOk result (λ r. Walked bytes.now (string_bytes line.old) (string_bytes line.new) r) }
+{
+    let mut rest = bytes;
+    let mut inside = false;
+    while !rest.is_empty() {
+        let length = usize::from(rest[0]);
+        if length < 2 {
+            return Ok(Err(WireFault::WrongLength));
+        }
+        if rest.len() < length {
+            return Ok(Err(WireFault::Short));
+        }
+        let (descriptor, behind) = rest.split_at(length);
+        match add(alloc, line, inside, descriptor)? {
+            Ok(now) => inside = now,
+            Err(fault) => return Ok(Err(fault)),
+        }
+        rest = behind;
+    }
+    Ok(Ok(()))
+}
+
+/// The text for a configuration descriptor and those that follow it; or the first fault:
+///
+/// 1. `Short`: there are fewer than nine bytes.
+/// 2. `WrongType`: the second byte is not 02h.
+/// 3. `WrongLength`: the first byte is not 9.
+/// 4. `Short`, `Long`: there are fewer bytes than wTotalLength says, or more.
+/// 5. Of the first descriptor that can't be read, in their order: `WrongLength`, where it says that it has fewer than two bytes, or
+///    an interface has fewer than nine; `Short`, where it ends behind the last byte; or the fault of a functional descriptor.
+pub(crate) fn configuration_text(
+    alloc: Global,
+    bytes: &[u8],
+) -> Result<Result<String, WireFault>, AllocError>
+    ensures text { IfOk result (λ r. IfOk r (λ t. Configured bytes.now (Ok (string_bytes t)))) }
+    ensures fault { IfOk result (λ r. IfErr r (λ e. Configured bytes.now (Err e))) }
+{
+    if bytes.len() < 9 {
+        return Ok(Err(WireFault::Short));
+    }
+    if bytes[1] != 2 {
+        return Ok(Err(WireFault::WrongType));
+    }
+    if bytes[0] != 9 {
+        return Ok(Err(WireFault::WrongLength));
+    }
+    let total = usize::from(u16::from_le_bytes([bytes[2], bytes[3]]));
+    if bytes.len() < total {
+        return Ok(Err(WireFault::Short));
+    }
+    if bytes.len() > total {
+        return Ok(Err(WireFault::Long));
+    }
+    let mut line = configuration_line(alloc, bytes[5])?;
+    let (_, behind) = bytes.split_at(9);
+    match walk(alloc, &mut line, behind)? {
+        Ok(()) => Ok(Ok(line)),
+        Err(fault) => Ok(Err(fault)),
+    }
+}

@@ -1,0 +1,80 @@
+//! The lines of a departure from DfuSe.
+
+ghost use Rattle.std.specs.Prelude.{◌≡◌, ◌++◌, IfOk, OnOk};
+ghost use Rattle.std.specs.String.{string_bytes};
+ghost use Rattle.dfu_output.specs.judge.Dfuse.{dfuse_allowed_text, dfuse_departure_text, may_stall_text, event_request_name, stalled_text};
+ghost use Rattle.dfu_output.specs.judge.Texts.{each};
+
+use crate::judge::names::asked_name;
+use crate::judge::texts::{departs_line, push_if_allowed};
+use crate::numbers::{field, push};
+use dfu_conformance::{Departure, Event, HABITS, Row, STANDARD};
+use dfuse_conformance::{DFUSE, is_of_dfuse, is_told};
+use std::alloc::{AllocError, Global};
+
+/// Adds the line of a row that is for a DfuSe device and says what was allowed.
+fn push_if_dfuse(line: &mut String, departure: &Departure, row: &Row) -> Result<(), AllocError>
+    ensures { OnOk result (string_bytes line.new ≡ string_bytes line.old ++ dfuse_allowed_text departure.now row.now) }
+{
+    if !is_of_dfuse(row.when) {
+        return Ok(());
+    }
+    push_if_allowed(line, departure, row)
+}
+
+/// Adds a line for each of these rows that is for a DfuSe device and says what was allowed.
+fn push_rows(line: &mut String, departure: &Departure, rows: &[Row]) -> Result<(), AllocError>
+    ensures { OnOk result (string_bytes line.new ≡ string_bytes line.old ++ each (dfuse_allowed_text departure.now) rows.now) }
+{
+    for row in rows {
+        push_if_dfuse(line, departure, row)?;
+    }
+    Ok(())
+}
+
+/// The name of what was asked; of a request that is not as section 3 has it, `other`.
+fn request_name(event: &Event) -> &'static str
+    ensures { result.now ≡ event_request_name event.now }
+{
+    if event.is_plain {
+        asked_name(event.asked)
+    } else {
+        "other"
+    }
+}
+
+/// Adds that a request may be stalled with no change.
+fn push_may_stall(line: &mut String, event: &Event) -> Result<(), AllocError>
+    ensures { OnOk result (string_bytes line.new ≡ string_bytes line.old ++ may_stall_text event.now) }
+{
+    field(line, "allowed any ", request_name(event))?;
+    push(line, " stall unchanged open\n")?;
+    Ok(())
+}
+
+/// Adds it of a request that doesn't have to be answered.
+fn push_stalled(line: &mut String, event: &Event) -> Result<(), AllocError>
+    ensures { OnOk result (string_bytes line.new ≡ string_bytes line.old ++ stalled_text event.now) }
+{
+    if is_told(event) {
+        return Ok(());
+    }
+    push_may_stall(line, event)
+}
+
+/// The lines of a departure from DfuSe at a line of a log.
+#[tactic(auto, unfolding(crate::specs::judge::Dfuse::dfuse_departure_text))]
+pub fn dfuse_departure_text(
+    alloc: Global,
+    number: u64,
+    departure: &Departure,
+) -> Result<String, AllocError>
+    ensures { IfOk result (λ t. string_bytes t ≡ dfuse_departure_text number departure.now) }
+{
+    let mut line = departs_line(alloc, number, departure)?;
+    push_rows(&mut line, departure, &STANDARD)?;
+    push_rows(&mut line, departure, &HABITS)?;
+    push_rows(&mut line, departure, &DFUSE)?;
+    push_stalled(&mut line, &departure.event)?;
+    Ok(line)
+}

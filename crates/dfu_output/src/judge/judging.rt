@@ -1,0 +1,126 @@
+//! A log that is judged, a byte at a time.
+
+ghost use Rattle.std.specs.Prelude.{◌≡◌, ◌+◌, ◌<◌, ◌++◌, ◌∷◌, [], IfErr, IfOk, IfSome, List, OnOk, ℕ};
+ghost use Rattle.dfu_conformance.specs.Verdict.{IsVerdict, ArePlacesAfter};
+ghost use Rattle.dfu_output.specs.judge.Course.{LogCourse, Judges, at_first};
+ghost use Rattle.dfu_output.specs.judge.Judging.{CannotGo, readings_of};
+ghost use Rattle.dfu_output.specs.judge.inside.Going.{EventCame, IsAt, JudgedText};
+
+use crate::judge::fault::LogFault;
+use crate::judge::lines::LogLines;
+use crate::judge::texts::is_single;
+use dfu_conformance::{Departure, Event, Judge, Line, Verdict};
+use std::alloc::Global;
+use std::marker::Model;
+
+/// A log that is judged.
+///
+/// Contracts see it as a `JudgingState`.
+#[derive(Drop)]
+pub(crate) struct Judging {
+    judge: Judge,
+    lines: LogLines,
+    events: u64,
+    single: u64,
+}
+
+impl Model for Judging {
+    ghost use Rattle.std.specs.Prelude.{◌≤◌, ◌+◌};
+    ghost use Rattle.dfu_output.specs.judge.inside.Going.{JudgingState};
+
+    ghost Value = { JudgingState };
+
+    ghost view = { λ s. record {
+      whole = s.judge.whole;
+      since = s.judge.since;
+      lines = s.lines;
+      events = s.events;
+      single = s.single;
+    } };
+
+    ghost invariant = { λ s. (s.events + s.lines.room ≤ 1099511627776) × (s.single ≤ s.events) };
+}
+
+impl Judging {
+    /// A log of which no byte came; `None` where an allocation was refused.
+    pub(crate) fn new(alloc: Global) -> Option<Judging>
+        ensures { IfSome result (λ s. IsAt s [] at_first) }
+    {
+        let lines = LogLines::new(alloc)?;
+        Some(Judging {
+            judge: Judge::new(),
+            lines,
+            events: 0,
+            single: 0,
+        })
+    }
+
+    /// How many lines were ended.
+    pub(crate) fn number(&self) -> u64
+        ensures { result ≡ self.now.lines.number }
+    {
+        self.lines.number()
+    }
+
+    /// An event comes.
+    fn come(&mut self, event: &Event) -> Option<Departure>
+        requires slack { self.old.events + self.old.lines.room < 1099511627776 }
+        ensures came { (text : List ℕ) (c : LogCourse) → IsAt self.old text c → EventCame text c event.now result self.new }
+        ensures lines { self.new.lines ≡ self.old.lines }
+    {
+        self.events += 1;
+        match self.judge.take(event) {
+            Some(departure) => Some(departure),
+            None => {
+                if is_single(&self.judge.standing()) {
+                    self.single += 1;
+                }
+                None
+            }
+        }
+    }
+
+    /// A byte comes. Where it ends a line at which the device departs, the departure is handed out.
+    ///
+    /// # Errors
+    ///
+    /// TooLarge where 1,099,511,627,776 bytes came before it; BadLine where it makes a line too long, or ends one that can't be read.
+    pub(crate) fn take(&mut self, interface: u8, byte: u8) -> Result<Option<Departure>, LogFault>
+        ensures ok { (text : List ℕ) (c : LogCourse) → IsAt self.old text c → Judges interface text c
+            → IfOk result (λ o. JudgedText interface (text ++ byte ∷ []) c o self.new) }
+        ensures err { (text : List ℕ) (c : LogCourse) → IsAt self.old text c
+            → IfErr result (λ f. (tail : List ℕ) → CannotGo interface text c (byte ∷ tail) f) }
+        ensures room { OnOk result (self.new.lines.room + 1 ≡ self.old.lines.room) }
+    {
+        match self.lines.take(interface, byte) {
+            Err(fault) => Err(fault),
+            Ok(None) => Ok(None),
+            Ok(Some(line)) => match line {
+                Line::Came(event) => Ok(self.come(&event)),
+                Line::Blank => Ok(None),
+                Line::Elsewhere => Ok(None),
+            },
+        }
+    }
+
+    /// The verdict on all events that came, the places where the device may be by it, and the counts.
+    pub(crate) fn verdict(&self) -> (Verdict, [bool; 12])
+        ensures { (text : List ℕ) (c : LogCourse) → IsAt self.now text c
+            → IsVerdict result.0 c.events × ArePlacesAfter (readings_of result.0) c.events result.1 }
+    {
+        let verdict = self.judge.verdict();
+        match verdict {
+            Verdict::Kept => (verdict, self.judge.places(0)),
+            Verdict::KeptBy { readings } => (verdict, self.judge.places(readings)),
+            Verdict::NotKept => (verdict, self.judge.places(0)),
+        }
+    }
+
+    /// How many events came, and after how many of them one state was left.
+    pub(crate) fn counts(&self) -> (u64, u64)
+        ensures events { result.0 ≡ self.now.events }
+        ensures single { result.1 ≡ self.now.single }
+    {
+        (self.events, self.single)
+    }
+}

@@ -1,0 +1,143 @@
+//! The lines of a log, a byte at a time.
+
+ghost use Rattle.std.specs.Prelude.{◌≡◌, ◌≢◌, ◌+◌, ◌<◌, ◌≤◌, ◌++◌, ◌∷◌, [], IfErr, IfOk, IfSome, List, OnErr, OnOk, length, vec_capacity, ℕ};
+ghost use Rattle.dfu_output.specs.judge.Lines.{CannotTake, EndsLine, GoesToLine, TakesByte};
+
+use crate::judge::fault::LogFault;
+use dfu_conformance::{Line, LineFault, read_line, why_unread};
+use std::alloc::Global;
+use std::marker::Model;
+
+/// The most bytes of a line, without its 0Ah: no line that is read has more, but a comment.
+const MAX_LINE: usize = 262_158;
+
+/// The most bytes of a log, with the end of its last line.
+const MAX_LOG: u64 = 1_099_511_627_776;
+
+/// A log that is read. It holds a line, in a buffer that is reserved once.
+///
+/// Contracts see it as a `LinesState`.
+#[derive(Drop)]
+pub struct LogLines {
+    line: Vec<u8>,
+    // How many bytes may still come.
+    room: u64,
+    number: u64,
+}
+
+impl Model for LogLines {
+    ghost use Rattle.std.specs.Prelude.{◌≤◌, ◌+◌, length, vec_capacity};
+    ghost use Rattle.dfu_output.specs.judge.Lines.{LinesState};
+
+    ghost Value = { LinesState };
+
+    ghost view = { λ s. record {
+      line = s.line.items;
+      room = s.room;
+      number = s.number;
+    } };
+
+    ghost invariant = { λ s. (s.number + s.room ≤ 1099511627776)
+        × (length s.line.items ≤ 262158) × (262158 ≤ vec_capacity s.line) };
+}
+
+/// Puts a byte to the end of a line that has room for it.
+fn put(line: &mut Vec<u8>, byte: u8)
+    requires room { length line.old.items < 262158 }
+    requires capacity { 262158 ≤ vec_capacity line.old }
+    ensures items { line.new.items ≡ line.old.items ++ byte ∷ [] }
+    ensures capacity { vec_capacity line.old ≤ vec_capacity line.new }
+{
+    let Ok(()) = line.push(byte) else {
+        unreachable!();
+    };
+}
+
+impl LogLines {
+    /// A log of which no byte came; `None` if an allocation was refused.
+    pub fn new(alloc: Global) -> Option<LogLines>
+        ensures { IfSome result (λ s. s ≡ record { line = []; room = 1099511627776; number = 0 }) }
+    {
+        let Ok(line) = Vec::with_capacity(alloc, MAX_LINE) else {
+            return None;
+        };
+        Some(LogLines {
+            line,
+            room: MAX_LOG,
+            number: 0,
+        })
+    }
+
+    /// How many lines were ended.
+    pub fn number(&self) -> u64
+        ensures { result ≡ self.now.number }
+    {
+        self.number
+    }
+
+    /// A byte comes that ends no line.
+    fn keep(&mut self, byte: u8) -> Result<(), LogFault>
+        requires some { 0 < self.old.room }
+        requires inner { byte ≢ 10 }
+        ensures ok { OnOk result (GoesToLine self.old self.new byte) }
+        ensures err { (interface : ℕ) → IfErr result (λ f. (tail : List ℕ) → CannotTake interface self.old (byte ∷ tail) f) }
+        ensures room { OnOk result (self.new.room + 1 ≡ self.old.room) }
+        ensures stays { OnErr result (self.new ≡ self.old) }
+    {
+        if self.line.len() >= MAX_LINE {
+            return Err(LogFault::BadLine {
+                number: self.number + 1,
+                why: LineFault::Long,
+            });
+        }
+        self.room -= 1;
+        put(&mut self.line, byte);
+        Ok(())
+    }
+
+    /// A line is ended.
+    fn end_line(&mut self, interface: u8) -> Result<Line, LogFault>
+        requires some { 0 < self.old.room }
+        ensures ok { IfOk result (λ says. EndsLine interface self.old self.new 10 says) }
+        ensures err { IfErr result (λ f. (tail : List ℕ) → CannotTake interface self.old (10 ∷ tail) f) }
+        ensures room { OnOk result (self.new.room + 1 ≡ self.old.room) }
+        ensures stays { OnErr result (self.new ≡ self.old) }
+    {
+        let Some(line) = read_line(interface, &self.line) else {
+            return Err(LogFault::BadLine {
+                number: self.number + 1,
+                why: why_unread(&self.line),
+            });
+        };
+        self.room -= 1;
+        self.number += 1;
+        self.line.clear();
+        Ok(line)
+    }
+
+    /// A byte comes. If it ends a line, what the line says is handed out.
+    ///
+    /// # Errors
+    ///
+    /// TooLarge if 1,099,511,627,776 bytes came before it; BadLine if it makes a line too long, or ends one that can't be read.
+    pub fn take(&mut self, interface: u8, byte: u8) -> Result<Option<Line>, LogFault>
+        ensures ok { IfOk result (λ o. TakesByte interface self.old self.new byte o) }
+        ensures err { IfErr result (λ f. (tail : List ℕ) → CannotTake interface self.old (byte ∷ tail) f) }
+        ensures room { OnOk result (self.new.room + 1 ≡ self.old.room) }
+        ensures stays { OnErr result (self.new ≡ self.old) }
+    {
+        if self.room == 0 {
+            return Err(LogFault::TooLarge);
+        }
+        if byte == b'\n' {
+            return match self.end_line(interface) {
+                Ok(line) => Ok(Some(line)),
+                Err(fault) => Err(fault),
+            };
+        }
+        match self.keep(byte) {
+            Ok(()) => Ok(None),
+            Err(fault) => Err(fault),
+        }
+    }
+}

@@ -1,0 +1,130 @@
+//! `dfu judge`: what is written of a log.
+
+ghost use Rattle.std.specs.Prelude.{◌≡◌, ◌+◌, ◌++◌, ◌∷◌, [], IfErr, IfSome, List, OnOk, Option, length, ℕ};
+ghost use Rattle.dfu_output.specs.judge.Judging.{LogStops, WritesJudgment, WritesOfLog};
+ghost use Rattle.dfu_output.specs.judge.inside.Going.{Going};
+
+use crate::exit::Exit;
+use crate::judge::fault::LogFault;
+use crate::judge::judging::Judging;
+use crate::judge::telling::{stop_text, tell, verdict_out};
+use std::alloc::Global;
+use std::io::{Read, Write};
+
+/// How many bytes are asked for at a time.
+const PIECE: usize = 65_536;
+
+/// A byte of the log comes, and a departure is told.
+fn step<W: Write>(
+    alloc: Global,
+    interface: u8,
+    judging: &mut Judging,
+    byte: u8,
+    writer: &mut W,
+) -> Result<(), LogFault>
+    ensures ok { (old : Option (List ℕ)) (text : List ℕ) → Going interface old (W.contents writer.old) text judging.old
+        → OnOk result (Going interface old (W.contents writer.new) (text ++ byte ∷ []) judging.new) }
+    ensures err { (old : Option (List ℕ)) (text : List ℕ) → Going interface old (W.contents writer.old) text judging.old
+        → IfErr result (λ f. (tail : List ℕ) → LogStops interface old (W.contents writer.new) (text ++ byte ∷ tail) f) }
+    ensures room { OnOk result (judging.new.lines.room + 1 ≡ judging.old.lines.room) }
+{
+    match judging.take(interface, byte) {
+        Ok(None) => Ok(()),
+        Ok(Some(departure)) => match tell(alloc, judging.number(), &departure, writer) {
+            Ok(()) => Ok(()),
+            Err(fault) => Err(fault),
+        },
+        Err(fault) => Err(fault),
+    }
+}
+
+/// A piece of the log comes.
+fn feed<W: Write>(
+    alloc: Global,
+    interface: u8,
+    judging: &mut Judging,
+    piece: &[u8],
+    writer: &mut W,
+) -> Result<(), LogFault>
+    ensures ok { (old : Option (List ℕ)) (text : List ℕ) → Going interface old (W.contents writer.old) text judging.old
+        → OnOk result (Going interface old (W.contents writer.new) (text ++ piece.now) judging.new) }
+    ensures err { (old : Option (List ℕ)) (text : List ℕ) → Going interface old (W.contents writer.old) text judging.old
+        → IfErr result (λ f. (tail : List ℕ) → LogStops interface old (W.contents writer.new) ((text ++ piece.now) ++ tail) f) }
+    ensures room { OnOk result (judging.new.lines.room + length piece.now ≡ judging.old.lines.room) }
+{
+    for byte in piece {
+        match step(alloc, interface, judging, *byte, writer) {
+            Ok(()) => {}
+            Err(fault) => return Err(fault),
+        }
+    }
+    Ok(())
+}
+
+/// All of a log comes, and the end of its last line.
+fn judge_all<R: Read + Drop, W: Write>(
+    alloc: Global,
+    interface: u8,
+    mut reader: R,
+    judging: &mut Judging,
+    writer: &mut W,
+) -> Result<(), LogFault>
+    ensures ok { (old : Option (List ℕ)) → Going interface old (W.contents writer.old) [] judging.old → IfSome (R.remaining reader)
+        (λ text. OnOk result (Going interface old (W.contents writer.new) (text ++ 10 ∷ []) judging.new)) }
+    ensures err { (old : Option (List ℕ)) → Going interface old (W.contents writer.old) [] judging.old → IfSome (R.remaining reader)
+        (λ text. IfErr result (λ f. LogStops interface old (W.contents writer.new) (text ++ 10 ∷ []) f)) }
+{
+    let mut piece = [0u8; PIECE];
+    'pieces: loop {
+        match reader.read(&mut piece) {
+            Ok(count) => {
+                if count == 0 {
+                    return step(alloc, interface, judging, b'\n', writer);
+                }
+                match feed(alloc, interface, judging, &piece[..count], writer) {
+                    Ok(()) => {}
+                    Err(fault) => return Err(fault),
+                }
+            }
+            Err(_) => return Err(LogFault::Read),
+        }
+    }
+}
+
+/// Does what `judge_text` does, and returns beside the end the fault at which judging stopped.
+pub fn judge_with_fault<R: Read + Drop, W: Write>(
+    alloc: Global,
+    interface: u8,
+    reader: R,
+    writer: &mut W,
+) -> (Exit, Option<LogFault>)
+    ensures { WritesJudgment interface (R.remaining reader) (W.contents writer.old) (W.contents writer.new) result.0 result.1 }
+{
+    let Some(mut judging) = Judging::new(alloc) else {
+        let fault = LogFault::NoMemory;
+        return (stop_text(alloc, fault, writer), Some(fault));
+    };
+    match judge_all(alloc, interface, reader, &mut judging, writer) {
+        Ok(()) => (verdict_out(alloc, &judging, writer), None),
+        Err(fault) => (stop_text(alloc, fault, writer), Some(fault)),
+    }
+}
+
+/// Judges the log that the reader gives, of a device whose DFU interface has this number: requests to other interfaces are passed over.
+/// Departures are written as they come, each with what was allowed, and at the end the verdict, whose forms docs/JUDGE.md has. The end is
+/// Done where the device is kept without habits, and else Refused.
+///
+/// For a log that was judged no further the line is `refused BadLine N` or `refused NAME` with Refused, or `fault Read` with Fault; what
+/// was written before stands before it. Memory is taken for a line and for what is written: where it is refused the line is `refused
+/// NoMemory`. Where the writer fails it answers Fault; a front of the text is out, not all of it, and nothing more is written.
+pub fn judge_text<R: Read + Drop, W: Write>(
+    alloc: Global,
+    interface: u8,
+    reader: R,
+    writer: &mut W,
+) -> Exit
+    ensures { WritesOfLog interface (R.remaining reader) (W.contents writer.old) (W.contents writer.new) result }
+{
+    let (exit, _) = judge_with_fault(alloc, interface, reader, writer);
+    exit
+}

@@ -1,0 +1,229 @@
+//! The lines of a departure and of a verdict.
+
+ghost use Rattle.std.specs.Prelude.{◌≡◌, ◌<◌, ◌≤◌, ◌++◌, ◌∷◌, IfOk, OnOk, [], codes, cond};
+ghost use Rattle.std.specs.String.{string_bytes};
+ghost use Rattle.dfu_conformance.specs.Held.{reading_bit};
+ghost use Rattle.dfu_output.specs.judge.Texts.{allowed_text, counts_text, departs_text, departure_text, each, is_single, may_be_in, reading_text, readings_text, row_line, spaced_state, states_text, unchanged_text, verdict_text};
+
+use crate::judge::names::{
+    READINGS, STATES, answer_name, asked_name, place_name, reading_name, source_name, when_name,
+};
+use crate::numbers::{field, made_field, push};
+use dfu_conformance::{Departure, Event, Place, Reading, Row, STANDARD, Verdict};
+use std::alloc::{AllocError, Global};
+
+/// Whether a device may be in this state, where these are the places at which it may be.
+pub(crate) fn may_be_in(at: &[bool; 12], place: Place) -> bool
+    ensures { result ≡ may_be_in at.now place }
+{
+    match place {
+        Place::DfuIdle => at[2] || at[11],
+        place => at[place.number()],
+    }
+}
+
+/// 1, or 0.
+fn one_if(yes: bool) -> usize
+    ensures value { result ≡ cond yes 1 0 }
+    ensures fits { result ≤ 1 }
+{
+    if yes { 1 } else { 0 }
+}
+
+/// Whether there is one state in which a device may be.
+#[tactic(auto, unfolding(crate::specs::judge::Texts::is_single))]
+pub fn is_single(at: &[bool; 12]) -> bool
+    ensures { result ≡ is_single at.now }
+{
+    let mut count = 0usize;
+    for place in &STATES {
+        count += one_if(may_be_in(at, *place));
+    }
+    count == 1
+}
+
+/// Adds the name of a state in which a device may be.
+fn push_state(line: &mut String, at: &[bool; 12], place: Place) -> Result<(), AllocError>
+    ensures { OnOk result (string_bytes line.new ≡ string_bytes line.old ++ spaced_state at.now place) }
+{
+    if !may_be_in(at, place) {
+        return Ok(());
+    }
+    field(line, " ", place_name(place))
+}
+
+/// Adds the states in which a device may be.
+fn push_states(line: &mut String, at: &[bool; 12]) -> Result<(), AllocError>
+    ensures { OnOk result (string_bytes line.new ≡ string_bytes line.old ++ states_text at.now) }
+{
+    for place in &STATES {
+        push_state(line, at, *place)?;
+    }
+    Ok(())
+}
+
+/// Adds the name of a habit that is in the set.
+fn push_reading(line: &mut String, readings: u8, reading: Reading) -> Result<(), AllocError>
+    ensures { OnOk result (string_bytes line.new ≡ string_bytes line.old ++ reading_text readings reading) }
+{
+    if readings >> reading_bit(reading) & 1 != 1 {
+        return Ok(());
+    }
+    field(line, " ", reading_name(reading))
+}
+
+/// The bit of a habit in the number of a set.
+fn reading_bit(reading: Reading) -> u8
+    ensures value { result ≡ reading_bit reading }
+    ensures fits { result < 6 }
+{
+    match reading {
+        Reading::Bootloader => 0,
+        Reading::RuntimeMute => 1,
+        Reading::SelfReset => 2,
+        Reading::DetachAtOnce => 3,
+        Reading::DetachLeaves => 4,
+        Reading::ErrorWithoutCode => 5,
+    }
+}
+
+/// Adds the habits of a set.
+fn push_readings(line: &mut String, readings: u8) -> Result<(), AllocError>
+    ensures { OnOk result (string_bytes line.new ≡ string_bytes line.old ++ readings_text readings) }
+{
+    for reading in &READINGS {
+        push_reading(line, readings, *reading)?;
+    }
+    Ok(())
+}
+
+/// Adds the line of a row.
+#[tactic(auto, unfolding(crate::specs::judge::Texts::row_line))]
+fn push_row(line: &mut String, row: &Row) -> Result<(), AllocError>
+    ensures { OnOk result (string_bytes line.new ≡ string_bytes line.old ++ row_line row.now) }
+{
+    field(line, "allowed ", place_name(row.from))?;
+    field(line, " ", asked_name(row.asked))?;
+    field(line, " ", answer_name(row.gives))?;
+    field(line, " ", place_name(row.next))?;
+    field(line, " ", source_name(row.source))?;
+    field(line, when_name(row.when), "\n")
+}
+
+/// Adds the line of a row that says what was allowed.
+pub(crate) fn push_if_allowed(
+    line: &mut String,
+    departure: &Departure,
+    row: &Row,
+) -> Result<(), AllocError>
+    ensures { OnOk result (string_bytes line.new ≡ string_bytes line.old ++ allowed_text departure.now row.now) }
+{
+    if !departure.allows(row) {
+        return Ok(());
+    }
+    push_row(line, row)
+}
+
+/// Adds a line for each row that says what was allowed.
+fn push_allowed(line: &mut String, departure: &Departure) -> Result<(), AllocError>
+    ensures { OnOk result (string_bytes line.new ≡ string_bytes line.old ++ each (allowed_text departure.now) STANDARD) }
+{
+    for row in &STANDARD {
+        push_if_allowed(line, departure, row)?;
+    }
+    Ok(())
+}
+
+/// Adds, of a request that is not as section 3 has it, that it may be stalled with no change.
+fn push_unchanged(line: &mut String, event: &Event) -> Result<(), AllocError>
+    ensures { OnOk result (string_bytes line.new ≡ string_bytes line.old ++ unchanged_text event.now) }
+{
+    if event.is_plain {
+        return Ok(());
+    }
+    push(line, "allowed any other stall unchanged open\n")
+}
+
+/// The first line of a departure at a line of a log.
+#[tactic(auto, unfolding(crate::specs::judge::Texts::departs_text))]
+pub(crate) fn departs_line(
+    alloc: Global,
+    number: u64,
+    departure: &Departure,
+) -> Result<String, AllocError>
+    ensures { IfOk result (λ t. string_bytes t ≡ departs_text number departure.now) }
+{
+    let mut line = String::from_str(alloc, "departs ")?;
+    made_field(&mut line, "", number.to_string(alloc)?)?;
+    field(&mut line, " ", asked_name(departure.event.asked))?;
+    push(&mut line, " in")?;
+    push_states(&mut line, &departure.before)?;
+    push(&mut line, "\n")?;
+    Ok(line)
+}
+
+/// The lines of a departure at a line of a log.
+#[tactic(auto, unfolding(crate::specs::judge::Texts::departure_text))]
+pub(crate) fn departure_text(
+    alloc: Global,
+    number: u64,
+    departure: &Departure,
+) -> Result<String, AllocError>
+    ensures { IfOk result (λ t. string_bytes t ≡ departure_text number departure.now) }
+{
+    let mut line = departs_line(alloc, number, departure)?;
+    push_allowed(&mut line, departure)?;
+    push_unchanged(&mut line, &departure.event)?;
+    Ok(line)
+}
+
+/// Adds how many events came, and after how many of them one state was left.
+fn push_counts(alloc: Global, line: &mut String, events: u64, single: u64) -> Result<(), AllocError>
+    ensures { OnOk result (string_bytes line.new ≡ string_bytes line.old ++ counts_text events single) }
+{
+    made_field(line, " events ", events.to_string(alloc)?)?;
+    made_field(line, " single ", single.to_string(alloc)?)
+}
+
+/// Adds the states in which a device may be, and ends the line.
+fn end_states(line: &mut String, at: &[bool; 12]) -> Result<(), AllocError>
+    ensures { OnOk result (string_bytes line.new ≡ string_bytes line.old ++ ((codes " states" ++ states_text at.now) ++ 10 ∷ [])) }
+{
+    push(line, " states")?;
+    push_states(line, at)?;
+    push(line, "\n")
+}
+
+/// The line of a verdict.
+#[tactic(auto, unfolding(crate::specs::judge::Texts::verdict_text))]
+pub fn verdict_text(
+    alloc: Global,
+    verdict: Verdict,
+    at: &[bool; 12],
+    events: u64,
+    single: u64,
+) -> Result<String, AllocError>
+    ensures { IfOk result (λ t. string_bytes t ≡ verdict_text verdict at.now events single) }
+{
+    match verdict {
+        Verdict::Kept => {
+            let mut line = String::from_str(alloc, "kept")?;
+            push_counts(alloc, &mut line, events, single)?;
+            end_states(&mut line, at)?;
+            Ok(line)
+        }
+        Verdict::KeptBy { readings } => {
+            let mut line = String::from_str(alloc, "kept by")?;
+            push_readings(&mut line, readings)?;
+            push_counts(alloc, &mut line, events, single)?;
+            end_states(&mut line, at)?;
+            Ok(line)
+        }
+        Verdict::NotKept => {
+            let mut line = String::from_str(alloc, "not kept")?;
+            push_counts(alloc, &mut line, events, single)?;
+            push(&mut line, "\n")?;
+            Ok(line)
+        }
+    }
+}

@@ -1,0 +1,162 @@
+//! The records of a capture: pcap, and pcapng as Wireshark writes it.
+
+ghost use Rattle.std.specs.Prelude.{◌≡◌, ◌<◌, ◌≤◌, ◌+◌, drop, take, is_some, true, IfSome, IsNone, length};
+ghost use Rattle.dfu_pcap.specs.Packets.{begins_capture, captured_in};
+
+use crate::numbers::{byte_at, four, from, two};
+
+/// How many interfaces of a capture are known.
+const LINKS: usize = 16;
+
+/// What a capture is: pcap or pcapng, the order of its bytes, and the link type of each interface.
+#[derive(Clone, Copy)]
+pub(crate) struct Form {
+    is_ng: bool,
+    is_big: bool,
+    links: [u16; LINKS],
+    count: usize,
+}
+
+/// A packet: its link type, and its bytes; `is_big` says in which order its numbers are.
+#[derive(Clone, Copy)]
+pub(crate) struct Packet<'c> {
+    pub link: u16,
+    pub is_big: bool,
+    pub bytes: &'c [u8],
+}
+
+/// A record: the packet that it has, if any, whether it counts as one, as each does that other programs show, and how many bytes it takes.
+#[derive(Clone, Copy)]
+pub(crate) struct Record<'c> {
+    pub is_counted: bool,
+    pub packet: Option<Packet<'c>>,
+    pub size: usize,
+}
+
+/// The form of a capture, by its first bytes; `None` where it is none.
+pub(crate) fn form_of(bytes: &[u8]) -> Option<Form>
+    ensures { is_some result ≡ begins_capture bytes.now }
+{
+    let (is_ng, is_big) = match four(bytes, true) {
+        0xd4c3_b2a1 | 0x4d3c_b2a1 => (false, false),
+        0xa1b2_c3d4 | 0xa1b2_3c4d => (false, true),
+        0x0a0d_0d0a => (true, byte_at(bytes, 8) == 0x1a),
+        _ => return None,
+    };
+    let mut form = Form {
+        is_ng,
+        is_big,
+        links: [0; LINKS],
+        count: 0,
+    };
+    if !is_ng {
+        form.links[0] = (four(from(bytes, 20), is_big) % 65_536) as u16;
+        form.count = 1;
+    }
+    Some(form)
+}
+
+/// How many bytes stand before the first record.
+pub(crate) fn head_of(form: &Form) -> usize {
+    if form.is_ng { 0 } else { 24 }
+}
+
+/// The bytes from a place on, so many of them; `None` where there are fewer.
+fn part(bytes: &[u8], at: usize, count: usize) -> Option<&[u8]>
+    ensures some { IfSome result (λ p. (p.now ≡ take count (drop at bytes.now)) × (at + count ≤ length bytes.now)) }
+    ensures none { IsNone result → length bytes.now < at + count }
+{
+    let end = at.checked_add(count)?;
+    bytes.get(at..end)
+}
+
+impl Form {
+    /// The link type of an interface; 0 where it isn't known.
+    fn link(&self, interface: u32) -> u16 {
+        match self.links.get(interface as usize) {
+            Some(link) => *link,
+            None => 0,
+        }
+    }
+
+    /// The record of pcap that begins the bytes; `None` where it isn't whole.
+    fn plain_record<'c>(&self, bytes: &'c [u8]) -> Option<Record<'c>>
+        ensures size { IfSome result (λ r. (r.size ≡ 16 + captured_in self.now.is_big bytes.now) × (r.size ≤ length bytes.now)) }
+        ensures packet { IfSome result (λ r. IfSome r.packet (λ p. (p.is_big ≡ self.now.is_big)
+            × (p.bytes.now ≡ take (captured_in self.now.is_big bytes.now) (drop 16 bytes.now)))) }
+        ensures counted { IfSome result (λ r. (r.is_counted ≡ true) × (is_some r.packet ≡ true)) }
+        ensures none { IsNone result → length bytes.now < 16 + captured_in self.now.is_big bytes.now }
+    {
+        let count = four(from(bytes, 8), self.is_big) as usize;
+        let packet = Packet {
+            link: self.link(0),
+            is_big: self.is_big,
+            bytes: part(bytes, 16, count)?,
+        };
+        Some(Record {
+            is_counted: true,
+            packet: Some(packet),
+            size: count.checked_add(16)?,
+        })
+    }
+
+    /// The packet of an enhanced packet block.
+    fn block_packet<'c>(&self, block: &'c [u8]) -> Option<Packet<'c>> {
+        let count = four(from(block, 20), self.is_big) as usize;
+        Some(Packet {
+            link: self.link(four(from(block, 8), self.is_big)),
+            is_big: self.is_big,
+            bytes: part(block, 28, count)?,
+        })
+    }
+
+    /// An interface is described.
+    fn add_link(&mut self, link: u16) {
+        if let Some(slot) = self.links.get_mut(self.count) {
+            *slot = link;
+            self.count = self.count.saturating_add(1);
+        }
+    }
+
+    /// The block of pcapng that begins the bytes; `None` where it isn't whole. A section's head says the order of bytes and forgets the
+    /// interfaces.
+    fn block<'c>(&mut self, bytes: &'c [u8]) -> Option<Record<'c>>
+        ensures { IfSome result (λ r. 0 < r.size) }
+    {
+        let is_section = four(bytes, false) == 0x0a0d_0d0a;
+        if is_section {
+            self.is_big = byte_at(bytes, 8) == 0x1a;
+            self.count = 0;
+        }
+        let size = four(from(bytes, 4), self.is_big) as usize;
+        if size < 12 {
+            return None;
+        }
+        let block = part(bytes, 0, size)?;
+        let kind = four(block, self.is_big);
+        let packet = match kind {
+            1 => {
+                self.add_link(two(from(block, 8), self.is_big));
+                None
+            }
+            6 => self.block_packet(block),
+            _ => None,
+        };
+        Some(Record {
+            is_counted: matches!(kind, 2 | 3 | 6),
+            packet,
+            size,
+        })
+    }
+
+    /// The record that begins the bytes; `None` at the end of the capture, and where it ends in the middle.
+    pub(crate) fn record<'c>(&mut self, bytes: &'c [u8]) -> Option<Record<'c>>
+        ensures { IfSome result (λ r. 0 < r.size) }
+    {
+        if self.is_ng {
+            self.block(bytes)
+        } else {
+            self.plain_record(bytes)
+        }
+    }
+}

@@ -1,0 +1,86 @@
+//! The packets of usbmon (link types 189 and 220).
+
+ghost use Rattle.std.specs.Prelude.{◌≡◌, drop, take, length, nat_lt, not, is_none, Some, IfSome};
+ghost use Rattle.dfu_pcap.specs.Packets.{byte, two_in, four_in, eight_in, head_in, is_control, kind_in, setup_in_packet, ending_in};
+
+use crate::address::Address;
+use crate::event::{Ending, Kind, UsbEvent};
+use crate::numbers::{byte_at, eight, four, from, front, two};
+
+/// How a transfer ended: byte 28 on has 0, or -32 of a stall.
+fn ending_of(bytes: &[u8], is_big: bool) -> Ending
+    ensures { result ≡ ending_in is_big bytes.now }
+{
+    match four(from(bytes, 28), is_big) {
+        0 => Ending::Done,
+        0xffff_ffe0 => Ending::Stalled,
+        _ => Ending::Failed,
+    }
+}
+
+/// How many bytes stand before the data, by the link type; `None` where it is none of usbmon.
+pub(crate) fn head_of(link: u16) -> Option<usize>
+    ensures { result ≡ head_in link }
+{
+    match link {
+        189 => Some(48),
+        220 => Some(64),
+        _ => None,
+    }
+}
+
+/// Whether an event submits a transfer or completes one.
+fn kind_of(bytes: &[u8]) -> Kind
+    ensures { result ≡ kind_in bytes.now }
+{
+    match byte_at(bytes, 8) {
+        b'S' => Kind::Submits,
+        b'C' => Kind::Completes,
+        _ => Kind::Other,
+    }
+}
+
+/// The setup, where there is one.
+fn setup_of(bytes: &[u8]) -> Option<[u8; 8]>
+    ensures { result ≡ setup_in_packet bytes.now }
+{
+    if byte_at(bytes, 14) == 0 {
+        Some(eight(bytes, 40))
+    } else {
+        None
+    }
+}
+
+/// What a packet with so many bytes before its data says; `None` where it is no control transfer to endpoint 0, or hasn't a whole head.
+/// The bytes of each number are in the order that is given: bytes 0 to 7 are the id, 11 the device, 12 and 13 the bus, 28 to 31 the status,
+/// 32 to 35 the length, and 36 to 39 how many bytes of data follow the head.
+pub fn packet_event(bytes: &[u8], head: usize, is_big: bool) -> Option<UsbEvent<'_>>
+    ensures none { is_none result ≡ not (is_control head bytes.now) }
+    ensures kind { IfSome result (λ e. e.kind ≡ kind_in bytes.now) }
+    ensures id { IfSome result (λ e. e.id ≡ eight_in (drop 0 bytes.now)) }
+    ensures address { IfSome result (λ e. (e.address.bus ≡ two_in is_big (drop 12 bytes.now)) × (e.address.device ≡ byte bytes.now 11)) }
+    ensures setup { IfSome result (λ e. e.setup ≡ setup_in_packet bytes.now) }
+    ensures ending { IfSome result (λ e. e.ending ≡ ending_in is_big bytes.now) }
+    ensures moved { IfSome result (λ e. e.moved ≡ Some (four_in is_big (drop 32 bytes.now))) }
+    ensures data { IfSome result (λ e. e.data.now ≡ take (four_in is_big (drop 36 bytes.now)) (drop head bytes.now)) }
+    ensures cut { IfSome result (λ e. e.is_cut ≡ nat_lt (length e.data.now) (four_in is_big (drop 32 bytes.now))) }
+{
+    if bytes.len() < head || byte_at(bytes, 9) != 2 || byte_at(bytes, 10) % 128 != 0 {
+        return None;
+    }
+    let length = four(from(bytes, 32), is_big);
+    let data = front(from(bytes, head), four(from(bytes, 36), is_big) as usize);
+    Some(UsbEvent {
+        kind: kind_of(bytes),
+        id: eight(bytes, 0),
+        address: Address {
+            bus: two(from(bytes, 12), is_big),
+            device: byte_at(bytes, 11),
+        },
+        setup: setup_of(bytes),
+        ending: ending_of(bytes, is_big),
+        moved: Some(length),
+        data,
+        is_cut: data.len() < length as usize,
+    })
+}

@@ -1,0 +1,92 @@
+//! The packets of USBPcap, the recorder of Windows (link type 249). Its numbers have the low byte first.
+
+ghost use Rattle.std.specs.Prelude.{◌≡◌, drop, take, length, nat_lt, not, is_none, Some, None, IfSome};
+ghost use Rattle.dfu_pcap.specs.Packets.{byte, two_in, four_in, eight_in};
+ghost use Rattle.dfu_pcap.specs.Usbpcap.{is_recorded_control, recorded_kind, recorded_setup, recorded_ending, recorded_length, recorded_from};
+ghost use Rattle.std.specs.Prelude.{false};
+
+use crate::address::Address;
+use crate::event::{Ending, Kind, UsbEvent};
+use crate::numbers::{byte_at, eight, four, from, front, two};
+
+/// How many bytes the head of a control transfer has at least.
+const HEAD: usize = 28;
+
+/// Which part of a transfer a packet is, by its stage (byte 27) and its direction (bit 0 of byte 16).
+fn kind_of(bytes: &[u8]) -> Kind
+    ensures { result ≡ recorded_kind bytes.now }
+{
+    let answers = byte_at(bytes, 16) % 2 == 1;
+    match byte_at(bytes, 27) {
+        0 => Kind::Submits,
+        1 if answers => Kind::Completes,
+        1 => Kind::Carries,
+        2 if answers => Kind::Completes,
+        3 => Kind::Completes,
+        _ => Kind::Other,
+    }
+}
+
+/// How a transfer ended, by the status of Windows' USB stack.
+fn ending_of(bytes: &[u8]) -> Ending
+    ensures { result ≡ recorded_ending bytes.now }
+{
+    match four(from(bytes, 10), false) {
+        0 => Ending::Done,
+        0xc000_0004 => Ending::Stalled,
+        _ => Ending::Failed,
+    }
+}
+
+/// The setup of a submission: the first eight bytes after the head.
+fn setup_of(bytes: &[u8], head: usize) -> Option<[u8; 8]>
+    ensures { result ≡ recorded_setup head bytes.now }
+{
+    if byte_at(bytes, 27) == 0 {
+        Some(eight(bytes, head))
+    } else {
+        None
+    }
+}
+
+/// What a packet says; `None` if it is no control transfer to endpoint 0, or hasn't a whole head.
+///
+/// Bytes 0 and 1 say how many bytes the head has, 28 at least; 2 to 9 are the id, 10 to 13 the status, 16 the direction, 17 and 18 the bus,
+/// 19 and 20 the device, 21 the endpoint, 22 the kind of transfer, 23 to 26 how many bytes follow the head, and 27 the stage. The first
+/// eight of the bytes that follow the head of a submission are the setup.
+pub fn recorded_event(bytes: &[u8]) -> Option<UsbEvent<'_>>
+    ensures none { is_none result ≡ not (is_recorded_control bytes.now) }
+    ensures kind { IfSome result (λ e. e.kind ≡ recorded_kind bytes.now) }
+    ensures id { IfSome result (λ e. e.id ≡ eight_in (drop 2 bytes.now)) }
+    ensures address { IfSome result (λ e. (e.address.bus ≡ two_in false (drop 17 bytes.now)) × (e.address.device ≡ byte bytes.now 19)) }
+    ensures setup { IfSome result (λ e. e.setup ≡ recorded_setup (two_in false bytes.now) bytes.now) }
+    ensures ending { IfSome result (λ e. e.ending ≡ recorded_ending bytes.now) }
+    ensures moved { IfSome result (λ e. e.moved ≡ None) }
+    ensures data { IfSome result (λ e. e.data.now ≡ take (recorded_length bytes.now) (drop (recorded_from bytes.now) bytes.now)) }
+    ensures cut { IfSome result (λ e. e.is_cut ≡ nat_lt (length e.data.now) (recorded_length bytes.now)) }
+{
+    let head = two(bytes, false) as usize;
+    if head < HEAD || bytes.len() < head || byte_at(bytes, 22) != 2 {
+        return None;
+    }
+    if byte_at(bytes, 21) % 128 != 0 || byte_at(bytes, 20) != 0 {
+        return None;
+    }
+    let setup = setup_of(bytes, head);
+    let before = if setup.is_some() { 8 } else { 0 };
+    let length = (four(from(bytes, 23), false) as usize).saturating_sub(before);
+    let data = front(from(bytes, head + before), length);
+    Some(UsbEvent {
+        kind: kind_of(bytes),
+        id: eight(bytes, 2),
+        address: Address {
+            bus: two(from(bytes, 17), false),
+            device: byte_at(bytes, 19),
+        },
+        setup,
+        ending: ending_of(bytes),
+        moved: None,
+        data,
+        is_cut: data.len() < length,
+    })
+}

@@ -1,0 +1,141 @@
+//! `dfu add --format`, `dfu extract` and `dfu set` on the machine in memory.
+
+use crate::cli::acting::{ADD, OLD, calls, ends, holds, machine_with, prints};
+use crate::cli::machine::Kind;
+use crate::cli::{DIGITS, FOUR_ONES};
+use std::test::Fail;
+
+/// Its second line has a space.
+static HEX: &[u8] = b":020000040800F2\n:0400000031323334 32\n";
+
+/// The same, as objcopy writes them.
+static DIGITS_HEX: &[u8] = b":020000040800F2\r\n:090000003132333435363738391A\r\n:00000001FF\r\n";
+
+// What is made is as of the raw image, and a second line says where it begins.
+#[test]
+fn adds_the_image(rt: HostRuntime) -> Result<(), Fail> {
+    for format in &["auto", "ihex"] {
+        let machine = machine_with(rt.alloc(), DIGITS_HEX, "")?;
+        let line = format!(in rt.alloc(); "{ADD} --format {format}")?;
+        ends(&rt, &machine, &line, 0)?;
+        prints(&rt, &machine, "wrote 25\nformat ihex address 08000000\n")?;
+        holds(&rt, &machine, "a;b;", "b", &DIGITS)?;
+    }
+    Ok(())
+}
+
+// A raw image is taken as it is.
+#[test]
+fn adds_what_looks_like_none(rt: HostRuntime) -> Result<(), Fail> {
+    for format in &["auto", "raw"] {
+        let machine = machine_with(rt.alloc(), b"123456789", "")?;
+        let line = format!(in rt.alloc(); "{ADD} --format {format}")?;
+        ends(&rt, &machine, &line, 0)?;
+        prints(&rt, &machine, "wrote 25\n")?;
+        holds(&rt, &machine, "a;b;", "b", &DIGITS)?;
+    }
+    Ok(())
+}
+
+// Nothing is made of a file that is refused.
+#[test]
+fn refuses_by_name(rt: HostRuntime) -> Result<(), Fail> {
+    let machine = machine_with(rt.alloc(), HEX, "")?;
+    machine.put("b", Kind::File, OLD)?;
+    let line = format!(in rt.alloc(); "{ADD} --format auto")?;
+    ends(&rt, &machine, &line, 1)?;
+    prints(&rt, &machine, "refused BadDigit 2\n")?;
+    calls(&rt, &machine, "open a;")?;
+    holds(&rt, &machine, "a;b;", "b", OLD)
+}
+
+/// FILE, further words, what is printed, and the end.
+static ROWS: [(&[u8], &str, &str, u8); 5] = [
+    (b":00000001FF\n", "--format ihex", "refused NoData\n", 1),
+    (
+        b":0100000001FE\n:0100020001FC\n:00000001FF\n",
+        "--format ihex",
+        "refused Gap 00000001 00000002\n",
+        1,
+    ),
+    (
+        b":0100000001FE\n:0100020001FC\n:00000001FF\n",
+        "--format ihex --fill a5",
+        "wrote 19\nformat ihex address 00000000\n",
+        0,
+    ),
+    (
+        b":0100000001FE\n:0100000001FE\n:00000001FF\n",
+        "--format ihex",
+        "refused Overlaps 00000000\n",
+        1,
+    ),
+    (b"S1040010AA41\n", "--format auto", "refused NoEnd\n", 1),
+];
+
+#[test]
+fn says_what_came(rt: HostRuntime) -> Result<(), Fail> {
+    for (file, words, printed, end) in &ROWS {
+        let machine = machine_with(rt.alloc(), file, "")?;
+        let line = format!(in rt.alloc(); "dfu add a b {words}")?;
+        ends(&rt, &machine, &line, *end)?;
+        prints(&rt, &machine, printed)?;
+    }
+    Ok(())
+}
+
+// The payload alone is made, and OUT is as it was where FILE is refused.
+#[test]
+fn extracts(rt: HostRuntime) -> Result<(), Fail> {
+    let machine = machine_with(rt.alloc(), &DIGITS, "")?;
+    ends(&rt, &machine, "dfu extract a b", 0)?;
+    prints(&rt, &machine, "wrote 9\n")?;
+    holds(&rt, &machine, "a;b;", "b", b"123456789")?;
+    let machine = machine_with(rt.alloc(), b"123456789", "")?;
+    machine.put("b", Kind::File, OLD)?;
+    ends(&rt, &machine, "dfu extract a b", 1)?;
+    calls(&rt, &machine, "open a;")?;
+    holds(&rt, &machine, "a;b;", "b", OLD)
+}
+
+/// What checking the nine digits prints.
+const SET: &str =
+    "ok payload 9 suffix 16 device 0100 product 0001 vendor 1209 dfu 0100 crc fe701c62\n";
+
+// Those that are given change, and back.
+#[test]
+fn sets_identifiers(rt: HostRuntime) -> Result<(), Fail> {
+    let machine = machine_with(rt.alloc(), &DIGITS, "")?;
+    ends(&rt, &machine, "dfu set a --vid ffff --did ffff", 0)?;
+    ends(&rt, &machine, "dfu check a", 0)?;
+    ends(&rt, &machine, "dfu set a --vid 1209 --did 0100", 0)?;
+    holds(&rt, &machine, "a;", "a", &DIGITS)?;
+    let state = machine.state.try_borrow()?;
+    assert!(rt; state.printed.as_slice().ends_with(SET.as_bytes()));
+    Ok(())
+}
+
+/// Calls that fail, what is printed then, and the names that stand there.
+static FAULTS: [(&str, &str, &str); 9] = [
+    ("open", "fault Read\n", "a;"),
+    ("see", "fault Write\n", "a;"),
+    ("look", "fault Write\n", "a;"),
+    ("create", "fault Write\n", "a;"),
+    ("rights", "fault Write\n", "a;"),
+    ("write", "fault Write\n", "a;"),
+    ("sync", "fault Write\n", "a;"),
+    ("rename", "fault Write\n", "a;"),
+    ("rename remove", "fault Write\n", "a;.dfu-part-0;"),
+];
+
+// Each call fails in its turn: the file is as it was, and no part is left where it can be removed.
+#[test]
+fn keeps_the_file_at_a_fault(rt: HostRuntime) -> Result<(), Fail> {
+    for (failing, printed, names) in &FAULTS {
+        let machine = machine_with(rt.alloc(), &FOUR_ONES, failing)?;
+        ends(&rt, &machine, "dfu set a --vid 1209", 3)?;
+        prints(&rt, &machine, printed)?;
+        holds(&rt, &machine, names, "a", &FOUR_ONES)?;
+    }
+    Ok(())
+}

@@ -1,0 +1,107 @@
+//! What is said on standard error, on the machine in memory.
+
+use crate::cli::acting::{OLD, machine_over};
+use crate::cli::host::Host;
+use crate::cli::machine::{Kind, Machine};
+use crate::cli::words_of;
+use dfu_cli::run_explained;
+use std::process::Abort;
+use std::test::Fail;
+
+/// The words end with this status, and this is printed and said.
+pub fn says(
+    rt: &impl Abort,
+    machine: &Machine,
+    line: &str,
+    is_wanted: bool,
+    row: (u8, &str, &str),
+) -> Result<(), Fail> {
+    let words = words_of(machine.alloc, line)?;
+    let status = run_explained(&Host { machine }, &words, is_wanted);
+    let state = machine.state.try_borrow()?;
+    let (wanted, printed, told) = row;
+    assert_eq!(rt; status, wanted, "{line}");
+    assert_eq!(rt; state.printed.as_slice(), printed.as_bytes(), "{line}");
+    assert_eq!(rt; state.told.as_slice(), told.as_bytes(), "{line}");
+    Ok(())
+}
+
+const BAD_LINE: &str =
+    "dfu: standard input: line 2: its word 3 isn't a number from 1 to 1,000,000\n";
+
+const BAD_SETUP: &str =
+    "dfu: standard input: line 1: its first field isn't the sixteen hexadecimal digits of a setup, and it isn't reset or power\n";
+
+/// Words, the call that fails, and the status, what is printed and what is said.
+#[rattlefmt::skip]
+static SAID: [(&str, &str, (u8, &str, &str)); 15] = [
+    ("dfu check c", "", (3, "fault Read\n", "dfu: c: entity not found\n")),
+    ("dfu check a", "open", (3, "fault Read\n", "dfu: a: permission denied\n")),
+    ("dfu run - --file c", "", (3, "fault Read\n", "dfu: c: entity not found\n")),
+    ("dfu add c b", "", (3, "fault Read\n", "dfu: c: entity not found\n")),
+    ("dfu add a b", "see", (3, "fault Write\n", "dfu: b: permission denied\n")),
+    ("dfu add a b", "rights", (3, "fault Write\n", "dfu: b: permission denied\n")),
+    ("dfu add a b", "write", (3, "fault Write\n", "dfu: b: permission denied\n")),
+    ("dfu add a b", "sync", (3, "fault Write\n", "dfu: b: permission denied\n")),
+    ("dfu add a b", "rename", (3, "fault Write\n", "dfu: b: permission denied\n")),
+    ("dfu add a b", "", (0, "wrote 25\n", "")),
+    ("dfu check a", "", (1, "refused TooShort\n", "dfu: a: it has under 16 bytes, and so no suffix; dfu add gives a raw image one\n")),
+    ("dfu run -", "", (1, "state appIDLE status OK image 00\nrefused BadLine 2\n", BAD_LINE)),
+    ("dfu judge -", "", (1, "refused BadLine 1\n", BAD_SETUP)),
+    ("dfu judge - --interface 256", "", (2, "bad words\n", "dfu: --interface 256: it has to be a number from 0 to 255\n")),
+    ("dfu judge - --device 1", "", (2, "bad words\n", "dfu: --device 1: it has to be only, or a bus and a device, as 1.7\n")),
+];
+
+#[test]
+fn says_why(rt: HostRuntime) -> Result<(), Fail> {
+    for (line, failing, row) in &SAID {
+        let mut machine = machine_over(rt.alloc(), Kind::File, OLD, failing)?;
+        machine.input = b"show\ngo pass 0\nshow\n";
+        says(&rt, &machine, line, true, *row)?;
+    }
+    Ok(())
+}
+
+// Without the flag, and where no reason is wanted, nothing is said; the flag says that it is wanted.
+#[test]
+fn says_it_where_it_is_wanted(rt: HostRuntime) -> Result<(), Fail> {
+    for (line, failing, (status, printed, told)) in &SAID {
+        let mut machine = machine_over(rt.alloc(), Kind::File, OLD, failing)?;
+        machine.input = b"show\ngo pass 0\nshow\n";
+        says(&rt, &machine, line, false, (*status, printed, ""))?;
+        let mut machine = machine_over(rt.alloc(), Kind::File, OLD, failing)?;
+        machine.input = b"show\ngo pass 0\nshow\n";
+        let flagged = format!(in rt.alloc(); "{line} --explain")?;
+        says(&rt, &machine, &flagged, false, (*status, printed, told))?;
+    }
+    Ok(())
+}
+
+// Standard error that fails changes nothing.
+#[test]
+fn ends_the_same_unsaid(rt: HostRuntime) -> Result<(), Fail> {
+    let machine = machine_over(rt.alloc(), Kind::File, OLD, "eprint")?;
+    says(&rt, &machine, "dfu check c", true, (3, "fault Read\n", ""))
+}
+
+/// Words that are refused, and what is said of them.
+#[rattlefmt::skip]
+static WORDS: [(&str, &str); 8] = [
+    ("dfu add a b --vid 0x12", "dfu: --vid 0x12: it has to be four hexadecimal digits, as 1209\n"),
+    ("dfu add a b --vid 1209 --pid 0x01 --did 1", "dfu: --pid 0x01: it has to be four hexadecimal digits, as 1209\n"),
+    ("dfu add a b --vid 1209 --pid 0001 --did 1", "dfu: --did 1: it has to be four hexadecimal digits, as 1209\n"),
+    ("dfu add a b --did 1 --vid 12095", "dfu: --vid 12095: it has to be four hexadecimal digits, as 1209\n"),
+    ("dfu run - --file -", "dfu: --file -: the script is standard input already\n"),
+    ("dfu add a -", "dfu: OUT -: it has to be a file, as ./- for one with this name\n"),
+    ("dfu show name 00", "dfu: KIND name: it has to be functional, status, state, setup or configuration\n"),
+    ("dfu show a\u{1b}[31m\u{7f}\u{fc} 00", "dfu: KIND a?[31m?\u{fc}: it has to be functional, status, state, setup or configuration\n"),
+];
+
+#[test]
+fn says_which_word_is_wrong(rt: HostRuntime) -> Result<(), Fail> {
+    for (line, told) in &WORDS {
+        let machine = machine_over(rt.alloc(), Kind::File, OLD, "")?;
+        says(&rt, &machine, line, true, (2, "bad words\n", told))?;
+    }
+    Ok(())
+}

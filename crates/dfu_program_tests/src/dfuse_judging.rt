@@ -1,0 +1,169 @@
+//! What a judge of DfuSe says of logs that were worked out by hand.
+
+mod sessions;
+
+use dfu_conformance::{
+    Answer, Asked, Departure, Event, HABITS, Judge, Line, Place, Row, STANDARD, read_line,
+};
+use dfuse_conformance::{DFUSE, DfuseJudge, first_departure, is_of_dfuse};
+use sessions::{LOGS, SESSION};
+use std::process::Abort;
+
+/// What a line of a log says came, if it does.
+fn event_of(rt: &impl Abort, line: &[u8]) -> Option<Event> {
+    let read = read_line(0, line);
+    assert!(rt; read.is_some(), "a line that can't be read: {line:?}");
+    match read {
+        Some(Line::Came(event)) => Some(event),
+        _ => None,
+    }
+}
+
+/// A judge that took these lines, the sum of the numbers of the lines at which the device departed, counted from 1, and the last departure.
+fn judged(rt: &impl Abort, lines: &[&[u8]]) -> (DfuseJudge, u32, Option<Departure>) {
+    let mut judge = DfuseJudge::new();
+    let (mut number, mut sum) = (0u32, 0u32);
+    let mut last = None;
+    for line in lines {
+        number = number.saturating_add(1);
+        if let Some(event) = event_of(rt, line)
+            && let Some(departure) = judge.take(&event)
+        {
+            sum = sum.saturating_add(number);
+            last = Some(departure);
+        }
+    }
+    (judge, sum, last)
+}
+
+#[test]
+fn logs_depart_where_they_should(rt: HostRuntime) {
+    for (name, lines, departures) in &LOGS {
+        let (_, sum, _) = judged(&rt, lines);
+        assert_eq!(rt; sum, *departures, "{name}");
+    }
+}
+
+/// By place, where a device may be that is at one of these.
+fn at(places: &[Place]) -> [bool; 12] {
+    let mut at = [false; 12];
+    for place in places {
+        if let Some(slot) = at.get_mut(place.number()) {
+            *slot = true;
+        }
+    }
+    at
+}
+
+#[test]
+fn a_session_is_kept_and_departs_from_dfu_at_the_leave(rt: HostRuntime) {
+    let (judge, sum, _) = judged(&rt, &SESSION);
+    assert_eq!(rt; sum, 0);
+    assert_eq!(rt;
+        judge.at,
+        at(&[
+            Place::Manifest,
+            Place::ManifestWaitReset,
+            Place::AppIdle,
+            Place::Error,
+        ])
+    );
+    let mut standard = Judge::new();
+    let (mut number, mut sum) = (0u32, 0u32);
+    for line in &SESSION {
+        number = number.saturating_add(1);
+        if let Some(event) = event_of(&rt, line)
+            && standard.take(&event).is_some()
+        {
+            sum = sum.saturating_add(number);
+        }
+    }
+    assert_eq!(rt; sum, 33, "DNLOAD of no bytes in dfuIDLE");
+}
+
+/// How many of these rows say what was allowed to a DfuSe device.
+fn allowed(departure: &Departure, rows: &[Row]) -> u32 {
+    let mut count = 0u32;
+    for row in rows {
+        if departure.allows(row) && is_of_dfuse(row.when) {
+            count = count.saturating_add(1);
+        }
+    }
+    count
+}
+
+#[test]
+fn a_departure_says_what_was_allowed(rt: HostRuntime) {
+    let (judge, sum, last) = judged(
+        &rt,
+        &[
+            b"power",
+            b"a103000000000600 - 000000000200",
+            b"2101000000000500 4100000008 ack",
+            b"a103000000000600 - 006400000400",
+            b"a102020000000400 - 01020304",
+        ],
+    );
+    assert_eq!(rt; sum, 5);
+    assert_eq!(rt; judge.at, [true; 12]);
+    assert!(rt; last.is_some());
+    if let Some(departure) = last {
+        assert_eq!(rt;
+            departure.before,
+            at(&[Place::DownloadSync, Place::DownloadBusy, Place::Error])
+        );
+        let stalls = allowed(&departure, &STANDARD);
+        assert_eq!(rt; stalls, 3, "a stall, to dfuERROR, from each of the three");
+        assert_eq!(rt; allowed(&departure, &HABITS), 0);
+        assert_eq!(rt; allowed(&departure, &DFUSE), 0);
+    }
+}
+
+/// An event of no request.
+const fn mark(asked: Asked) -> Event {
+    Event {
+        asked,
+        is_plain: true,
+        length: 0,
+        answer: Answer::Bytes {
+            count: 0,
+            first: 0,
+            fifth: 0,
+        },
+    }
+}
+
+/// GETSTATE as section 3 has it, answered with this state.
+const fn told(state: u8) -> Event {
+    Event {
+        asked: Asked::GetState,
+        is_plain: true,
+        length: 1,
+        answer: Answer::Bytes {
+            count: 1,
+            first: state,
+            fifth: 0,
+        },
+    }
+}
+
+#[test]
+fn the_first_departure_is_told(rt: HostRuntime) {
+    assert!(rt; first_departure(&[]).is_none());
+    let kept = [
+        mark(Asked::Power),
+        told(2),
+        told(2),
+        mark(Asked::Reset),
+        told(0),
+    ];
+    assert!(rt; first_departure(&kept).is_none());
+    let departs = [mark(Asked::Power), told(2), told(9), told(5)];
+    let first = first_departure(&departs);
+    assert!(rt; first.is_some());
+    if let Some((number, departure)) = first {
+        assert_eq!(rt; number, 2);
+        assert_eq!(rt; departure.before, at(&[Place::DfuIdle]));
+        assert_eq!(rt; departure.event, told(9));
+    }
+}

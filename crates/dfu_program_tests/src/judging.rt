@@ -1,0 +1,113 @@
+//! What a judge says of devices that were worked out by hand, of wrong ones, and of the device of this repository.
+
+mod captures;
+mod cells;
+mod lines;
+mod runs;
+mod verdicts;
+mod walker;
+mod ways;
+mod wrong_rows;
+
+use dfu_conformance::{Answer, Asked, Event};
+use dfu_wire::Setup;
+
+/// GETSTATUS as section 3 has it.
+pub(crate) const GET_STATUS: [u8; 8] = [0xa1, 3, 0, 0, 0, 0, 6, 0];
+
+/// GETSTATE as section 3 has it.
+pub(crate) const GET_STATE: [u8; 8] = [0xa1, 5, 0, 0, 0, 0, 1, 0];
+
+/// One request of each kind, in the order of the cells: DETACH, DNLOAD, DNLOAD of no bytes, UPLOAD, GETSTATUS, CLRSTATUS, GETSTATE,
+/// ABORT, and one that is none of the seven.
+pub(crate) static REQUESTS: [[u8; 8]; 9] = [
+    [0x21, 0, 10, 0, 0, 0, 0, 0],
+    [0x21, 1, 0, 0, 0, 0, 4, 0],
+    [0x21, 1, 1, 0, 0, 0, 0, 0],
+    [0xa1, 2, 0, 0, 0, 0, 8, 0],
+    GET_STATUS,
+    [0x21, 4, 0, 0, 0, 0, 0, 0],
+    GET_STATE,
+    [0x21, 6, 0, 0, 0, 0, 0, 0],
+    [0x21, 9, 0, 0, 0, 0, 0, 0],
+];
+
+/// A reset of the bus.
+pub(crate) const RESET: Event = Event {
+    asked: Asked::Reset,
+    is_plain: true,
+    length: 0,
+    answer: Answer::Bytes {
+        count: 0,
+        first: 0,
+        fifth: 0,
+    },
+};
+
+/// Power that comes back.
+pub(crate) const POWER: Event = Event {
+    asked: Asked::Power,
+    is_plain: true,
+    length: 0,
+    answer: Answer::Bytes {
+        count: 0,
+        first: 0,
+        fifth: 0,
+    },
+};
+
+/// An acknowledgement, or no bytes.
+pub(crate) const ACK: Answer = Answer::Bytes {
+    count: 0,
+    first: 0,
+    fifth: 0,
+};
+
+/// What is seen of these bytes.
+pub(crate) fn bytes(out: &[u8]) -> Answer {
+    let count = if out.len() < 70_000 {
+        out.len() as u32
+    } else {
+        70_000
+    };
+    Answer::Bytes {
+        count,
+        first: match out.first() {
+            Some(byte) => *byte,
+            None => 0,
+        },
+        fifth: match out.get(4) {
+            Some(byte) => *byte,
+            None => 0,
+        },
+    }
+}
+
+/// A status with this code and this state.
+pub(crate) fn status(code: u8, state: u8) -> Answer {
+    Answer::Bytes {
+        count: 6,
+        first: code,
+        fifth: state,
+    }
+}
+
+/// A state.
+pub(crate) fn state(state: u8) -> Answer {
+    Answer::Bytes {
+        count: 1,
+        first: state,
+        fifth: 0,
+    }
+}
+
+/// A request with a whole body and its answer.
+pub(crate) fn asked(bytes: &[u8; 8], answer: Answer) -> Option<Event> {
+    let setup = Setup::decode(bytes);
+    let body = if setup.kind == 0x21 {
+        setup.length as usize
+    } else {
+        0
+    };
+    Event::exchange(&setup, body, answer)
+}

@@ -1,0 +1,67 @@
+//! Lines of a log, by hand.
+
+use super::{ACK, POWER, RESET};
+use dfu_conformance::{Answer, Asked, Event, Line, read_line};
+use std::process::Abort;
+
+/// Lines that are none of a log.
+#[rattlefmt::skip]
+static NO_LINES: [&'static [u8]; 17] = [
+    b" ", b"reset ", b"Reset", b"x a103000000000600 - ack", b"a103000000000600", b"a103000000000600 -", b"a103000000000600 - ",
+    b"a1030000000006 - ack", b"a1030000000006000 - ack", b"a10300000000060g - ack", b"a103000000000600 0 ack", b"a103000000000600  ack",
+    b"a103000000000600 - 000", b"a103000000000600 - Ack", b"a103000000000600 - ack ", b"a103000000000600\t-\tack",
+    b"A103000000000600 - 0F010203 04",
+];
+
+/// A status of six bytes.
+const TOLD: Answer = Answer::Bytes {
+    count: 6,
+    first: 15,
+    fifth: 4,
+};
+
+/// Lines for an interface that say nothing of it.
+#[rattlefmt::skip]
+static OTHERS: [(u8, &'static [u8], Line); 7] = [
+    (0, b"", Line::Blank),
+    (0, b"# power", Line::Blank),
+    (0, b"reset", Line::Came(RESET)),
+    (0, b"power", Line::Came(POWER)),
+    (0, b"a103000001000600 - stall", Line::Elsewhere),
+    (1, b"a103000000000600 - stall", Line::Elsewhere),
+    (1, b"8006000100001200 - ack", Line::Elsewhere),
+];
+
+/// Lines of requests, for an interface: what is asked, whether it is as section 3 has it, wLength, and the answer.
+#[rattlefmt::skip]
+static REQUESTS: [(u8, &'static [u8], Asked, bool, u16, Answer); 5] = [
+    (0, b"A103000000000600 - 0F010203040A", Asked::GetStatus, true, 6, TOLD),
+    (0, b"2101000000000400 a5a5a5a5 ack", Asked::Block, true, 4, ACK),
+    (0, b"2101000000000400 a5a5a5 stall", Asked::Block, false, 4, Answer::Stall),
+    (0, b"2101010000000000 - nothing", Asked::Close, true, 0, Answer::Nothing),
+    (1, b"a103000001000600 - stall", Asked::GetStatus, true, 6, Answer::Stall),
+];
+
+/// What this line says is what is wanted.
+fn expect(rt: &impl Abort, interface: u8, line: &[u8], wanted: Option<Line>) {
+    assert_eq!(rt; read_line(interface, line), wanted, "{line:?}");
+}
+
+#[test]
+fn lines_say_what_they_say(rt: HostRuntime) {
+    for (interface, line, wanted) in &OTHERS {
+        expect(&rt, *interface, line, Some(*wanted));
+    }
+    for (interface, line, asked, is_plain, length, answer) in &REQUESTS {
+        let event = Event {
+            asked: *asked,
+            is_plain: *is_plain,
+            length: *length,
+            answer: *answer,
+        };
+        expect(&rt, *interface, line, Some(Line::Came(event)));
+    }
+    for line in &NO_LINES {
+        expect(&rt, 0, line, None);
+    }
+}

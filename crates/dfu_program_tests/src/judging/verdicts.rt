@@ -1,0 +1,163 @@
+//! Logs with the verdict on each: short ones that were worked out by hand, and those of `captures`.
+
+use super::captures::{
+    DFU_FLASH, DFU_UTIL, DFU_UTIL_RESET, DFU_UTIL_UPLOAD, UBOOT_DFU_FLASH, UBOOT_DFU_UTIL,
+};
+use super::{ACK, asked};
+use dfu_conformance::{Departure, Judge, Line, Place, STANDARD, Verdict, read_line};
+use std::process::Abort;
+
+/// A log: its name, its lines, how many departures are told, and the verdict.
+type Log = (&'static str, &'static [&'static [u8]], u32, Verdict);
+
+/// Logs, and what is told of each.
+#[rattlefmt::skip]
+static LOGS: [Log; 11] = [
+    ("nothing", &[], 0, Verdict::Kept),
+    ("a bootloader", &[b"power", b"a103000000000600 - 000000000200", b"reset", b"a103000000000600 - 000000000200"],
+        1, Verdict::KeptBy { readings: 1 }),
+    ("a mute application", &[b"power", b"a103000000000600 - stall", b"21000a0000000000 - ack", b"reset",
+        b"a103000000000600 - 000000000200"], 1, Verdict::KeptBy { readings: 2 }),
+    ("a device that leaves of itself", &[b"power", b"a103000000000600 - 000000000000", b"21000a0000000000 - ack", b"reset",
+        b"a103000000000600 - 000000000200", b"2101000000000400 a5a5a5a5 ack", b"a103000000000600 - 000000000500",
+        b"2101010000000000 - ack", b"a103000000000600 - 000000000700", b"a103000000000600 - 000000000000"],
+        1, Verdict::KeptBy { readings: 4 }),
+    ("one that detaches at once, by bitWillDetach", &[b"power", b"a103000000000600 - 000000000000", b"21000a0000000000 - ack",
+        b"2101000000000400 a5a5a5a5 ack", b"a103000000000600 - 000000000500", b"2101010000000000 - ack",
+        b"a103000000000600 - 000000000700", b"a103000000000600 - 000000000700", b"2104000000000000 - stall"], 0, Verdict::Kept),
+    ("an error without a code", &[b"power", b"a103000000000600 - 000000000a00"], 1, Verdict::KeptBy { readings: 32 }),
+    ("two habits", &[b"power", b"a103000000000600 - 000000000200", b"21000a0000000000 - ack", b"a103000000000600 - 000000000000"],
+        1, Verdict::KeptBy { readings: 17 }),
+    ("what no habit explains", &[b"power", b"a103000000000600 - 000000000000", b"a103000000000600 - 000000000500"],
+        1, Verdict::NotKept),
+    ("two departures, behind each of which anything may be", &[b"power", b"a103000000000600 - 000000000000",
+        b"a103000000000600 - 000000000500", b"a102000000000800 - stall", b"a103000000000600 - 0f0000000a00",
+        b"a103000000000600 - 000000000200"], 2, Verdict::NotKept),
+    ("a request that is not as section 3 has it, stalled with no change", &[b"power", b"a103000000000600 - 000000000000",
+        b"21000a0000000000 - ack", b"reset", b"a103000000000600 - 000000000200", b"a103000000000700 - stall",
+        b"a103000000000600 - 000000000200"], 0, Verdict::Kept),
+    ("requests that are no events", &[b"a103000001000600 - ack", b"8006000100001200 - ack"], 0, Verdict::Kept),
+];
+
+/// A judge that took these lines, how many departures it told, and the last of them.
+fn judged(rt: &impl Abort, lines: &[&[u8]]) -> (Judge, u32, Option<Departure>) {
+    let mut judge = Judge::new();
+    let mut count = 0u32;
+    let mut last = None;
+    for line in lines {
+        let read = read_line(0, line);
+        assert!(rt; read.is_some(), "a line that can't be read");
+        if let Some(Line::Came(event)) = read
+            && let Some(departure) = judge.take(&event)
+        {
+            count = count.saturating_add(1);
+            last = Some(departure);
+        }
+    }
+    (judge, count, last)
+}
+
+/// This log has so many departures, and this verdict.
+fn expect(rt: &impl Abort, name: &str, lines: &[&[u8]], departures: u32, verdict: Verdict) {
+    let (judge, count, _) = judged(rt, lines);
+    assert_eq!(rt; (count, judge.verdict()), (departures, verdict), "{name}");
+}
+
+#[test]
+fn logs_have_their_verdicts(rt: HostRuntime) {
+    for (name, lines, departures, verdict) in &LOGS {
+        expect(&rt, name, lines, *departures, *verdict);
+    }
+}
+
+#[test]
+fn captures_have_their_verdicts(rt: HostRuntime) {
+    expect(&rt, "dfu-flash", &DFU_FLASH, 0, Verdict::Kept);
+    expect(&rt, "dfu-util", &DFU_UTIL, 0, Verdict::Kept);
+    expect(&rt, "dfu-util -R", &DFU_UTIL_RESET, 0, Verdict::Kept);
+    expect(&rt, "dfu-util -U", &DFU_UTIL_UPLOAD, 0, Verdict::Kept);
+    expect(
+        &rt,
+        "dfu-flash, to a device by U-Boot's rules",
+        &UBOOT_DFU_FLASH,
+        1,
+        Verdict::KeptBy { readings: 1 },
+    );
+    expect(
+        &rt,
+        "dfu-util, to a device by U-Boot's rules",
+        &UBOOT_DFU_UTIL,
+        0,
+        Verdict::Kept,
+    );
+}
+
+/// By place, where a device may be that is at one of these.
+fn at(places: &[Place]) -> [bool; 12] {
+    let mut at = [false; 12];
+    for place in places {
+        if let Some(slot) = at.get_mut(place.number()) {
+            *slot = true;
+        }
+    }
+    at
+}
+
+#[test]
+fn a_departure_says_where_the_device_was_and_what_was_allowed(rt: HostRuntime) {
+    let (judge, _, last) = judged(
+        &rt,
+        &[
+            b"power",
+            b"a103000000000600 - 000000000000",
+            b"a103000000000600 - stall",
+        ],
+    );
+    let mut allowed = 0u32;
+    if let Some(departure) = last {
+        assert_eq!(rt; departure.before, at(&[Place::AppIdle]));
+        for row in &STANDARD {
+            if departure.allows(row) {
+                assert_eq!(rt; (row.from, row.next), (Place::AppIdle, Place::AppIdle));
+                allowed = allowed.saturating_add(1);
+            }
+        }
+    }
+    assert_eq!(rt; allowed, 1, "GETSTATUS is answered in appIDLE");
+    assert_eq!(rt;
+        judge.places(0),
+        at(&[]),
+        "no device without habits is left"
+    );
+    assert_eq!(rt;
+        judge.places(2),
+        at(&[Place::AppIdle]),
+        "one that is mute is in appIDLE"
+    );
+}
+
+#[test]
+fn a_lost_answer_leaves_both_ways_open(rt: HostRuntime) {
+    let (judge, _, _) = judged(
+        &rt,
+        &[
+            b"power",
+            b"a103000000000600 - 000000000000",
+            b"21000a0000000000 - ack",
+            b"reset",
+            b"a103000000000600 - 000000000200",
+            b"2101000000000400 a5a5a5a5 nothing",
+        ],
+    );
+    assert_eq!(rt;
+        judge.places(0),
+        at(&[Place::DfuIdle, Place::DownloadSync, Place::Error])
+    );
+}
+
+#[test]
+fn a_request_to_another_interface_is_no_event(rt: HostRuntime) {
+    for setup in &[[0xa1u8, 3, 0, 0, 1, 0, 6, 0], [0x80, 6, 0, 1, 0, 0, 18, 0]] {
+        assert!(rt; asked(setup, ACK).is_none(), "{setup:?}");
+    }
+}

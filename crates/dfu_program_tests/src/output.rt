@@ -1,0 +1,81 @@
+//! The lines of known files. `tests/show` has those of known bytes, over the program.
+
+mod readers;
+mod reasons;
+mod streams;
+
+use dfu_output::{Exit, add_text, check_text};
+use dfu_wire::Ids;
+use std::alloc::Global;
+use std::process::Abort;
+
+/// Payload FFFFFFFFh, identifiers FFFFh.
+static FOUR_ONES: [u8; 20] = [
+    0xff, 0xff, 0xff, 0xff, 0xff, 0xff, 0xff, 0xff, 0xff, 0xff, 0x00, 0x01, 0x55, 0x46, 0x44, 0x10,
+    0x71, 0xc8, 0x51, 0x0c,
+];
+
+/// Payload '123456789', vendor 1209h, product 0001h, device 0100h.
+static DIGITS: [u8; 25] = [
+    0x31, 0x32, 0x33, 0x34, 0x35, 0x36, 0x37, 0x38, 0x39, 0x00, 0x01, 0x01, 0x00, 0x09, 0x12, 0x00,
+    0x01, 0x55, 0x46, 0x44, 0x10, 0x62, 0x1c, 0x70, 0xfe,
+];
+
+const DIGITS_IDS: Ids = Ids {
+    device: 0x0100,
+    product: 0x0001,
+    vendor: 0x1209,
+};
+
+/// The file is answered with this line, and this end.
+fn checks(rt: &impl Abort, alloc: Global, file: &[u8], line: &str, end: Exit) {
+    let mut out = Vec::new(alloc);
+    assert_eq!(rt; check_text(alloc, file, &mut out), end, "{line}");
+    assert_eq!(rt; out.as_slice(), line.as_bytes());
+}
+
+#[test]
+fn checks_known_files(rt: HostRuntime) {
+    let ones =
+        "ok payload 4 suffix 16 device ffff product ffff vendor ffff dfu 0100 crc 0c51c871\n";
+    let digits =
+        "ok payload 9 suffix 16 device 0100 product 0001 vendor 1209 dfu 0100 crc fe701c62\n";
+    checks(&rt, rt.alloc(), &FOUR_ONES, ones, Exit::Done);
+    checks(&rt, rt.alloc(), &DIGITS, digits, Exit::Done);
+    let (short, end) = ("refused TooShort\n", Exit::Refused);
+    checks(&rt, rt.alloc(), &FOUR_ONES[..15], short, end);
+    checks(
+        &rt,
+        rt.alloc(),
+        &FOUR_ONES[..19],
+        "refused NoSignature\n",
+        end,
+    );
+}
+
+/// The file is answered with this line and this end, and these bytes are written.
+fn adds(rt: &impl Abort, alloc: Global, payload: &[u8], file: &[u8], line: &str, end: Exit) {
+    let mut made = Vec::new(alloc);
+    let mut out = Vec::new(alloc);
+    let exit = add_text(alloc, payload, DIGITS_IDS, &mut made, &mut out);
+    assert_eq!(rt; exit, end);
+    assert_eq!(rt; (made.as_slice(), out.as_slice()), (file, line.as_bytes()));
+}
+
+#[test]
+fn adds_a_suffix(rt: HostRuntime) {
+    adds(
+        &rt,
+        rt.alloc(),
+        b"123456789",
+        &DIGITS,
+        "wrote 25\n",
+        Exit::Done,
+    );
+}
+
+#[test]
+fn adds_no_second_suffix(rt: HostRuntime) {
+    let line = "refused AlreadySuffixed\n";
+    adds(&rt, rt.alloc(), &FOUR_ONES, b"", line, Exit::Refused);
+}

@@ -1,0 +1,94 @@
+//! Readers and writers that fail: what is answered, and what is out.
+
+use crate::output::readers::{Failing, Refusing};
+use crate::output::{DIGITS, DIGITS_IDS, FOUR_ONES};
+use dfu_output::{Exit, add_text, check_text, show_text};
+use std::alloc::Global;
+use std::io::Write;
+
+#[test]
+fn checks_a_reader_that_fails(rt: HostRuntime) {
+    let mut out = Vec::new(rt.alloc());
+    assert_eq!(rt; check_text(rt.alloc(), Failing, &mut out), Exit::Fault);
+    assert_eq!(rt; out.as_slice(), &b"fault Read\n"[..]);
+}
+
+// A writer that refuses after some bytes: a front is out, and nothing more is tried.
+#[test]
+fn stops_at_a_writer_that_fails(rt: HostRuntime) {
+    for room in [0usize, 1, 16] {
+        let mut out = Refusing {
+            left: room,
+            calls_after: 0,
+        };
+        assert_eq!(rt;
+            check_text(rt.alloc(), &FOUR_ONES[..15], &mut out),
+            Exit::Fault
+        );
+        assert_eq!(rt; (out.left, out.calls_after), (0, 1), "with room for {room}");
+    }
+}
+
+/// KIND and HEX of `show`, and for how many bytes there is room.
+static SHORT_OF_ROOM: [(&str, &str, usize); 3] = [
+    ("status", "000500000400", 41),
+    ("status", "-", 3),
+    ("state", "00", 9),
+];
+
+#[test]
+fn shows_to_a_writer_that_fails(rt: HostRuntime) {
+    for (kind, hex, room) in &SHORT_OF_ROOM {
+        let mut out = Refusing {
+            left: *room,
+            calls_after: 0,
+        };
+        assert_eq!(rt;
+            show_text(rt.alloc(), kind, hex, &mut out),
+            Exit::Fault,
+            "{kind} {hex}"
+        );
+        assert_eq!(rt; (out.left, out.calls_after), (0, 1), "{kind} {hex}");
+    }
+}
+
+#[test]
+fn adds_to_a_reader_that_fails(rt: HostRuntime) {
+    let mut file = Vec::new(rt.alloc());
+    let mut out = Vec::new(rt.alloc());
+    let exit = add_text(rt.alloc(), Failing, DIGITS_IDS, &mut file, &mut out);
+    assert_eq!(rt; exit, Exit::Fault);
+    assert_eq!(rt; file.len(), 0);
+    assert_eq!(rt; out.as_slice(), &b"fault Read\n"[..]);
+}
+
+/// How nine digits get a suffix.
+fn adds<F: Write, W: Write>(alloc: Global, file: &mut F, out: &mut W) -> Exit {
+    add_text(alloc, &b"123456789"[..], DIGITS_IDS, file, out)
+}
+
+// The file would have 25 bytes.
+#[test]
+fn adds_to_a_file_that_fails(rt: HostRuntime) {
+    let mut file = Refusing {
+        left: 24,
+        calls_after: 0,
+    };
+    let mut out = Vec::new(rt.alloc());
+    assert_eq!(rt; adds(rt.alloc(), &mut file, &mut out), Exit::Fault);
+    assert_eq!(rt; (file.left, file.calls_after), (0, 1));
+    assert_eq!(rt; out.as_slice(), &b"fault Write\n"[..]);
+}
+
+// The file is whole, and the line isn't.
+#[test]
+fn adds_with_a_line_that_fails(rt: HostRuntime) {
+    let mut file = Vec::new(rt.alloc());
+    let mut out = Refusing {
+        left: 8,
+        calls_after: 0,
+    };
+    assert_eq!(rt; adds(rt.alloc(), &mut file, &mut out), Exit::Fault);
+    assert_eq!(rt; file.as_slice(), &DIGITS[..]);
+    assert_eq!(rt; (out.left, out.calls_after), (0, 1));
+}

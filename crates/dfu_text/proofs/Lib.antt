@@ -1,2 +1,0 @@
-mod ShownLaws
-mod Behind

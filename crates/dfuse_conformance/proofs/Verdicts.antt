@@ -1,0 +1,85 @@
+-- What a judge of DfuSe says is right.
+use Rattle.std.specs.Prelude.{◌≡◌, ℕ, ◌+◌, ◌<◌, true, false, Bool, List, [], ◌∷◌, ◌++◌, length, take, drop, slice_index_or}
+use Rattle.std.proofs.Common.{refl, sym, ap, ◌∙◌, subst, inl}
+use Rattle.std.proofs.lemmas.Bool.{both_ways}
+use Rattle.std.proofs.lemmas.List.{take-append-drop}
+use Rattle.dfu_conformance.specs.declared.place.Place.{Place}
+use Rattle.dfu_conformance.specs.declared.place.Place.TheVariants.{AppIdle, AppDetach, DfuIdle, DownloadSync, DownloadBusy, DownloadIdle, ManifestSync, Manifest, ManifestWaitReset, UploadIdle, Error, Fresh}
+use Rattle.dfu_conformance.specs.declared.event.Event.{Event}
+use Rattle.dfu_conformance.specs.declared.verdict.Departure.{Departure}
+use Rattle.dfuse_conformance.specs.declared.judge.TheConstants.{EVERYWHERE}
+use Rattle.dfuse_conformance.specs.Runs.{DfuseCanAnswer, DfuseRun}
+use Rattle.dfuse_conformance.specs.Verdicts.{may_stand, AreHeld, DfuseDeparts, IsFirstDeparture}
+use Rattle.dfuse_conformance.specs.inside.Stepped.{after_event, is_somewhere}
+use Rattle.dfuse_conformance.proofs.Exact.{held_more, run_front}
+use Rattle.dfuse_conformance.proofs.Somewhere.{held_can}
+
+-- A device may stand at each place at first.
+everywhere : (p : Place) → may_stand EVERYWHERE p ≡ true
+everywhere AppIdle = refl
+everywhere AppDetach = refl
+everywhere DfuIdle = refl
+everywhere DownloadSync = refl
+everywhere DownloadBusy = refl
+everywhere DownloadIdle = refl
+everywhere ManifestSync = refl
+everywhere Manifest = refl
+everywhere ManifestWaitReset = refl
+everywhere UploadIdle = refl
+everywhere Error = refl
+everywhere Fresh = refl
+
+-- So exactly the places are held at which it may be after no event: all.
+pub held_first : AreHeld EVERYWHERE []
+held_first p = (λ x. (p, inl refl), λ x. everywhere p)
+
+-- No event may have been answered so.
+pub can_nothing : DfuseCanAnswer []
+can_nothing = (AppIdle, (AppIdle, inl refl))
+
+-- A step.
+abbrev pub IsStep : List Bool → Event → List Bool → Type 0
+IsStep before e after = (n : Place) → may_stand after n ≡ after_event before e n
+
+-- If a device may stand somewhere behind an event, it may have answered it so.
+pub goes_on : (before after : List Bool) (events : List Event) (e : Event) → IsStep before e after → AreHeld before events
+    → is_somewhere after ≡ true → DfuseCanAnswer (events ++ e ∷ []) × AreHeld after (events ++ e ∷ [])
+goes_on before after events e says so left =
+    let next = held_more before after events e so says in ((held_can after (events ++ e ∷ []) next).0 left, next)
+
+-- If it may stand nowhere, the event is a departure.
+pub departs : (before after : List Bool) (events : List Event) (e : Event) → IsStep before e after → AreHeld before events
+    → is_somewhere after ≡ false → DfuseDeparts events (record { before = before; event = e }) EVERYWHERE
+departs before after events e says so none = record {
+  before = so;
+  none = λ may. both_ways (is_somewhere after) none ((held_can after (events ++ e ∷ []) (held_more before after events e so says)).1 may);
+  anew = held_first;
+}
+
+-- A device that may have answered all events may have answered the first of them.
+can_front : (n : ℕ) (events : List Event) → DfuseCanAnswer events → DfuseCanAnswer (take n events)
+can_front n events may = go (take-append-drop n events) may
+  where
+    go : take n events ++ drop n events ≡ events → DfuseCanAnswer events → DfuseCanAnswer (take n events)
+    go e (last, (from, run)) =
+        let (here, front) = run_front from (take n events) (drop n events) last
+        (subst (λ (es : List Event). DfuseRun from es last) (sym e) run) in
+        (here, (from, front))
+
+-- A departure behind the first events is the first one, and no device may have answered all.
+pub is_first : (events : List Event) (n : ℕ) (e : Event) (d : Departure) (anew : List Bool) → n < length events
+    → DfuseCanAnswer (take n events) → take (n + 1) events ≡ take n events ++ e ∷ [] → d.event ≡ e → DfuseDeparts (take n events) d anew
+    → IsFirstDeparture events n d × (DfuseCanAnswer events → ⊥)
+is_first events n e d anew below may more is so =
+    let event : take (n + 1) events ≡ take n events ++ d.event ∷ [] =
+    more ∙ ap (λ (y : Event). take n events ++ y ∷ []) (sym is) in
+    let none : DfuseCanAnswer (take (n + 1) events) → ⊥ = λ can. so.none (subst DfuseCanAnswer event can) in (
+      record {
+        below = below;
+        kept = may;
+        before = so.before;
+        event = event;
+        none = none;
+      },
+      λ can. none (can_front (n + 1) events can),
+    )

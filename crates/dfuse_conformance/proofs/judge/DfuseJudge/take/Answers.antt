@@ -1,0 +1,16 @@
+use Rattle.std.proofs.Common.{refl, sym, ◌∙◌}
+use Rattle.dfuse_conformance.proofs.Verdicts.{goes_on, departs}
+use Rattle.dfuse_conformance.proofs.judge.DfuseJudge.take.Goals as goal
+
+pub returns-then-is_anywhere-clause-kept : goal.returns-then-is_anywhere-clause-kept
+returns-then-is_anywhere-clause-kept c is_none events so =
+    goes_on c.args.self.now.at c.step-after.result events c.args.event.now c.step-after.ensures so (sym c.is_anywhere.ensures
+    ∙ c.if-is_anywhere.true)
+
+pub returns-clause-departs : goal.returns-clause-departs
+returns-clause-departs c = (
+  refl,
+  λ events so.
+      departs c.args.self.now.at c.step-after.result events c.args.event.now c.step-after.ensures so (sym c.is_anywhere.ensures
+      ∙ c.if-is_anywhere.false),
+)

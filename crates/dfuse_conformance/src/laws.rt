@@ -1,0 +1,8 @@
+//! A law of the table. It is the contract of a function with an empty body, which is proved and not to be called.
+
+ghost use Rattle.dfuse_conformance.specs.Laws.{StandardIsKept};
+
+/// A DfuSe device may answer whatever a device of USB DFU 1.1 may that has its bmAttributes and habits.
+pub fn standard_is_kept()
+    ensures { StandardIsKept }
+{}

@@ -1,0 +1,61 @@
+//! Whether a row is for a DfuSe device, and whether it may be where it was.
+
+ghost use Rattle.std.specs.Prelude.{◌≡◌, ◌==◌};
+ghost use Rattle.std.specs.Int.{bit_at};
+ghost use Rattle.dfu_conformance.specs.Held.{reading_bit};
+ghost use Rattle.dfuse_conformance.specs.Runs.{dfuse_habits, is_told, of_dfuse, rests};
+
+use dfu_conformance::{Answer, Asked, Event, Reading, When};
+
+/// Whether a DfuSe device may have this habit: bit n of 0Fh is reading n.
+fn is_habit(reading: Reading) -> bool
+    ensures { result ≡ (bit_at dfuse_habits (reading_bit reading) == 1) }
+{
+    match reading {
+        Reading::Bootloader => true,
+        Reading::RuntimeMute => true,
+        Reading::SelfReset => true,
+        Reading::DetachAtOnce => true,
+        Reading::DetachLeaves => false,
+        Reading::ErrorWithoutCode => false,
+    }
+}
+
+/// Whether a row or a move that is for these devices is for a DfuSe device: one that can download and upload, isn't tolerant and detaches
+/// by itself (bmAttributes 0Bh), with the habits bootloader, runtime-mute, self-reset and detach-at-once.
+pub fn is_of_dfuse(when: When) -> bool
+    ensures { result ≡ of_dfuse when }
+{
+    match when {
+        When::Always => true,
+        When::CanDownload => true,
+        When::CanUpload => true,
+        When::Tolerant => false,
+        When::NotTolerant => true,
+        When::WillDetach => true,
+        When::By(reading) => is_habit(reading),
+    }
+}
+
+/// Whether a request has to be answered: GETSTATUS and GETSTATE as section 3 of USB DFU 1.1 has them. Any other request may be stalled, and
+/// nothing changes.
+pub fn is_told(event: &Event) -> bool
+    ensures { result ≡ is_told event.now }
+{
+    match event.asked {
+        Asked::GetStatus => event.is_plain,
+        Asked::GetState => event.is_plain,
+        _ => false,
+    }
+}
+
+/// Whether a device may be where it was: nothing was seen of an answer, or a request was stalled that doesn't have to be answered.
+pub(crate) fn may_rest(event: &Event) -> bool
+    ensures { result ≡ rests event.now }
+{
+    match event.answer {
+        Answer::Nothing => true,
+        Answer::Stall => !is_told(event),
+        Answer::Bytes { .. } => false,
+    }
+}

@@ -1,0 +1,87 @@
+//! Where a device may stand.
+
+ghost use Rattle.std.specs.Prelude.{◌≡◌, ◌||◌, ◌&&◌, ◌==◌};
+ghost use Rattle.std.specs.List.{list_any};
+ghost use Rattle.dfu_conformance.specs.Fits.{place_number};
+ghost use Rattle.dfuse_conformance.specs.Runs.{of_dfuse, rests};
+ghost use Rattle.dfuse_conformance.specs.Verdicts.{may_stand};
+ghost use Rattle.dfuse_conformance.specs.inside.Stepped.{is_somewhere, moves_to, leads_to, after_event};
+
+use crate::rows::DFUSE;
+use crate::speaks::{is_of_dfuse, may_rest};
+use dfu_conformance::{DRIFTS, Drift, Event, HABITS, MARKS, Place, Row, STANDARD, When, speaks_of};
+
+/// By place, whether a device may stand there.
+pub(crate) type Places = [bool; 12];
+
+/// A device is led from one place to another, if it may stand at the first and is one of those.
+fn lead(before: &Places, from: Place, when: When, after: &mut Places, to: Place)
+    ensures { (n : Place) → may_stand after.new n
+        ≡ (may_stand after.old n || ((place_number to == place_number n) && (may_stand before.now from && of_dfuse when))) }
+{
+    let to = to.number();
+    after[to] = after[to] || before[from.number()] && is_of_dfuse(when);
+}
+
+/// The place is added to which a row leads.
+fn go(row: &Row, before: &Places, event: &Event, after: &mut Places)
+    ensures { (n : Place) → may_stand after.new n ≡ (may_stand after.old n || leads_to before.now event.now n row.now) }
+{
+    if speaks_of(row, event) {
+        lead(before, row.from, row.when, after, row.next);
+    }
+}
+
+/// The places are added to which one of these rows leads.
+fn pass(rows: &[Row], before: &Places, event: &Event, after: &mut Places)
+    ensures { (n : Place) → may_stand after.new n ≡ (may_stand after.old n || list_any (leads_to before.now event.now n) rows.now) }
+{
+    for row in rows {
+        go(row, before, event, after);
+    }
+}
+
+/// The places are added to which one of these moves leads.
+fn drift(moves: &[Drift], before: &Places) -> Places
+    ensures { (n : Place) → may_stand result n ≡ (may_stand before.now n || list_any (moves_to before.now n) moves.now) }
+{
+    let mut after = *before;
+    for one in moves {
+        lead(before, one.from, one.when, &mut after, one.next);
+    }
+    after
+}
+
+/// The places where a device may be as before.
+fn rest(before: &Places, event: &Event) -> Places
+    ensures { (n : Place) → may_stand result n ≡ (rests event.now && may_stand before.now n) }
+{
+    if may_rest(event) {
+        *before
+    } else {
+        [false; 12]
+    }
+}
+
+/// The places where a device may stand after an event, if it might stand at these before it.
+pub(crate) fn step(before: &Places, event: &Event) -> Places
+    ensures { (n : Place) → may_stand result n ≡ after_event before.now event.now n }
+{
+    let mut after = rest(before, event);
+    pass(&STANDARD, before, event, &mut after);
+    pass(&MARKS, before, event, &mut after);
+    pass(&HABITS, before, event, &mut after);
+    pass(&DFUSE, before, event, &mut after);
+    drift(&DRIFTS, &after)
+}
+
+/// Whether a device may stand anywhere.
+pub(crate) fn is_anywhere(at: &Places) -> bool
+    ensures { result ≡ is_somewhere at.now }
+{
+    let mut is_some = false;
+    for n in 0..12 {
+        is_some = is_some || at[n];
+    }
+    is_some
+}

@@ -1,0 +1,23 @@
+//! The first departure of a whole list of events.
+
+ghost use Rattle.std.specs.Prelude.{◌≡◌, IsNone, IfSome};
+ghost use Rattle.dfuse_conformance.specs.Runs.{DfuseCanAnswer};
+ghost use Rattle.dfuse_conformance.specs.Verdicts.{IsFirstDeparture};
+
+use crate::judge::DfuseJudge;
+use dfu_conformance::{Departure, Event};
+
+/// The first event that no DfuSe device may have answered so, if nothing is known of it before these events: its place in the list, counted
+/// from 0, and the departure. `None` if a DfuSe device may have answered all.
+pub fn first_departure(events: &[Event]) -> Option<(usize, Departure)>
+    ensures kept { IsNone result → DfuseCanAnswer events.now }
+    ensures departs { IfSome result (λ f. IsFirstDeparture events.now f.0 f.1 × (DfuseCanAnswer events.now → ⊥)) }
+{
+    let mut judge = DfuseJudge::new();
+    for n in 0..events.len() {
+        if let Some(departure) = judge.take(&events[n]) {
+            return Some((n, departure));
+        }
+    }
+    None
+}

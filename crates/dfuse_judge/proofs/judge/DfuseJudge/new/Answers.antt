@@ -1,5 +1,0 @@
-use Rattle.dfuse_judge.proofs.Verdicts.{held_first}
-use Rattle.dfuse_judge.proofs.judge.DfuseJudge.new.Goals as goal
-
-pub returns : goal.returns
-returns c = held_first

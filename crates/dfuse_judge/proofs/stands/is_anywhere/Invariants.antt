@@ -1,6 +1,0 @@
-use Rattle.std.specs.Prelude.{◌≡◌, ℕ, false, slice_index_or}
-use Rattle.dfu_judge.specs.inside.Stepped.{some_below}
-use Rattle.dfuse_judge.proofs.stands.is_anywhere.Given as goal
-
-abbrev pub invariant-loop-n : goal.invariant-loop-n
-invariant-loop-n l = l.is_some ≡ some_below (λ (n : ℕ). slice_index_or l.at n false) l.n
