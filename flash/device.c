@@ -76,13 +76,16 @@ static int keep_one(struct device *device, const struct wanted *wanted)
     return open;
 }
 
-/* How many of what is on the bus it may be, at its path, or if none is there, elsewhere. */
+/* How many of what is on the bus it may be, at its path, or if nothing is there, elsewhere: one that can't be read for a moment has not
+   left, and another board may have its serial number. */
 static int look_for(struct device *device)
 {
     const struct wanted here = {.path = device->path, .place = device->place};
     const struct wanted named = {.path = device->bus, .serial = device->serial, .place = device->place};
     int same = has_ports(device->path) ? keep_one(device, &here) : 0;
-    return same > 0 || device->serial == NULL ? same : keep_one(device, &named);
+    if (same > 0 || device->serial == NULL || (has_ports(device->path) && !is_free(device->usb, device->path)))
+        return same;
+    return keep_one(device, &named);
 }
 
 /* One that is back, and that nobody may open, or that another program took: what it is now may have other rules than before. */

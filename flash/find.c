@@ -21,20 +21,31 @@ bool has_ports(const char *path)
     return strchr(path, '-') != NULL;
 }
 
-bool is_at(libusb_context *usb, const char *path)
+/* How many devices are at a path; -1 if the bus can't be listed. */
+static int count_at(libusb_context *usb, const char *path)
 {
     libusb_device **devices;
     char here[PATH_ROOM];
-    bool is = false;
+    int found = 0;
     ssize_t count = libusb_get_device_list(usb, &devices);
     if (count < 0)
-        return false;
+        return -1;
     for (ssize_t at = 0; at < count; at++) {
         path_of(devices[at], here);
-        is = is || strcmp(here, path) == 0;
+        found += strcmp(here, path) == 0;
     }
     libusb_free_device_list(devices, 1);
-    return is;
+    return found;
+}
+
+bool is_at(libusb_context *usb, const char *path)
+{
+    return count_at(usb, path) > 0;
+}
+
+bool is_free(libusb_context *usb, const char *path)
+{
+    return count_at(usb, path) == 0;
 }
 
 static bool has_ids(const struct found *found, uint16_t vendor, uint16_t product)

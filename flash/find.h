@@ -86,6 +86,9 @@ bool has_ports(const char *path);
 /* Whether any device is at the path, with DFU or without. */
 bool is_at(libusb_context *usb, const char *path);
 
+/* Whether the bus can be listed, and no device is at that path. */
+bool is_free(libusb_context *usb, const char *path);
+
 /* The functional descriptor of the setting number `at` of an interface: from its extra bytes, from those of the other settings,
    after the last of which it often is once for all, from those of the configuration, or asked for. */
 void descriptor_find(struct found *found, libusb_device_handle *handle, const struct libusb_config_descriptor *configuration,
