@@ -28,7 +28,7 @@ static const struct {
     {DFUSE_NOT_DFU, "not-dfu",
         {STATUS_GONE, "the device is in its application; the device may have the old image, the new one or neither"}},
     {DFUSE_UPLOADED, "uploaded",
-        {STATUS_DONE, "the device gave so many bytes of its memory, from that address on"}},
+        {STATUS_DONE, "the device gave the bytes of its memory that were asked for"}},
     {DFUSE_NO_MEMORY, "no-memory",
         {STATUS_GIVEN_UP, "there was no memory for the image"}},
 };

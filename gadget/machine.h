@@ -50,7 +50,7 @@ bool machine_refuse_close(struct machine *machine, const uint8_t setup[8], uint8
 void machine_pass(struct machine *machine, int64_t ms);
 void machine_reset(struct machine *machine);
 
-/* In how many milliseconds time changes the state; 0 if it doesn't. */
+/* Milliseconds until time changes the state; 0 if it doesn't. */
 int64_t machine_due(struct machine *machine);
 int32_t machine_state(struct machine *machine);
 

@@ -93,7 +93,7 @@ enum dfu_attribute {
 enum dfu_result {
     DFU_STALL = -1,       /**< stall the request; the device may be in another state now */
     DFU_NO_CONFIG = -2,   /**< the configuration has another version, or a number that is out of its range */
-    DFU_NO_MEDIUM = -3,   /**< the flash has no active image, another than the record's, or 2^32 bytes or more */
+    DFU_NO_MEDIUM = -3,   /**< the flash has no active image, its active image isn't the record's, or it has 2^32 bytes or more */
     DFU_NO_DEVICE = -4,   /**< the record is not of a device on that flash with that block, or of another version */
     DFU_NO_ROOM = -5,     /**< out has less room than an answer may need: 6 bytes, or the transfer size if that is more */
     DFU_WRONG_SIZE = -6,  /**< the flash has no length that two slots can have */
@@ -110,7 +110,7 @@ enum dfu_result {
 
 /** @brief Kinds of operations of the flash. */
 enum dfu_operation {
-    DFU_ERASE = 1,  /**< the sector at `at`, of `length` bytes, is to read FFh; `bytes` says nothing */
+    DFU_ERASE = 1,  /**< the sector at `at`, of `length` bytes, is to read FFh; `bytes` isn't used */
     DFU_PROGRAM = 2 /**< the first `length` bytes of `bytes` go to `at`; with sectors there is FFh before */
 };
 
@@ -173,7 +173,7 @@ struct dfu_record {
 struct dfu_ask {
     uint32_t kind;      /**< DFU_ERASE or DFU_PROGRAM */
     uint32_t at;        /**< where: flash[at] is its first byte */
-    uint32_t length;    /**< that of a sector; or 1 to 256, whole in the unit */
+    uint32_t length;    /**< that of a sector; or 1 to 256, a multiple of the unit */
     uint8_t bytes[256]; /**< of DFU_PROGRAM */
 };
 
@@ -197,7 +197,7 @@ int32_t dfu_core_begin(const struct dfu_config *config, struct dfu_record *recor
  * @param block  memory of `most` bytes, at least the transfer size and the unit together: in the first of them a block waits to be
  *               written, and behind the transfer size bytes that were put wait until a unit is whole
  * @param body   the whole data stage, `length` bytes; of length 0 if the host reads
- * @param out    room for the answer: at least 6 bytes and the transfer size. It is not body, and not block
+ * @param out    room for the answer: at least the transfer size, and at least 6 bytes. It is not body, and not block
  * @return how many bytes of out are the answer, 0 if it is acknowledged or has none; DFU_STALL; DFU_ASKS;
  *         DFU_NO_ROOM, DFU_NO_CONFIG, DFU_NO_BLOCK, DFU_NO_DEVICE (not with any flash), DFU_ASKED,
  *         DFU_NO_MEDIUM (the record's header is not in an open slot of the flash), DFU_NO_DEVICE (not with this flash) */
@@ -257,7 +257,7 @@ int32_t dfu_core_refuse(const struct dfu_config *config, struct dfu_record *reco
 int32_t dfu_core_candidate(const struct dfu_config *config, const struct dfu_record *record, const uint8_t *flash, size_t size,
                            struct dfu_place *place);
 
-/** @brief In how many milliseconds dfu_core_elapse changes the state.
+/** @brief Milliseconds until dfu_core_elapse changes the state.
  * @return 1 or more, of which 2,147,483,647 says as many or more; 0 if no time changes it; DFU_NO_CONFIG; DFU_NO_DEVICE as
  *         dfu_core_state */
 int32_t dfu_core_due(const struct dfu_config *config, const struct dfu_record *record);

@@ -6,7 +6,7 @@
  * The flash is mapped into memory for reading, and written by a driver of two functions. Two slots hold an image each: a download goes
  * to the spare one, and becomes active in one step at its end. So whenever power is lost, the old image or the whole new one is active.
  *
- *     static uint8_t block[DFU_BLOCK_SIZE(1024, 16)], data[1024];   // wTransferSize 1,024, unit 16. They are apart: TWO BUFFERS
+ *     static uint8_t block[DFU_BLOCK_SIZE(1024, 16)], data[1024];   // wTransferSize 1,024, unit 16. They must not overlap
  *     static struct dfu_device dfu = {.config = &config, .flash = flash, .size = size, .block = block, .most = sizeof block,
  *                                     .driver = &driver};
  *
@@ -17,7 +17,7 @@
  *                           n = dfu_device_serve(&dfu, setup, data, data, sizeof data)
  *                           n >= 0: answer with n bytes of data, or acknowledge if the host sent. Else stall endpoint 0
  *     its answer is out:    dfu_device_work(&dfu)
- *     the bus is reset:     dfu_device_reset(&dfu), once per enumeration
+ *     the bus is reset:     dfu_device_reset(&dfu), for the reset that counts: see below
  *     time, in appDETACH alone:  dfu_device_elapse(&dfu, milliseconds). If that leads to dfuIDLE (bitWillDetach), leave the bus and
  *                           come back, and report no reset for it
  *     then:                 dfu_device_state(&dfu): in appIDLE start the image at dfu_device_image; in appDETACH it runs still;
@@ -35,8 +35,8 @@
  * Rules of the loop:
  * - THE WORK, dfu_device_work, writes the block or puts the image in place. Call it right after each answer is out, in one go: no
  *   clock is asked, the host waits while it works, and gets NAK if it asks. It comes before the next request and a reset too, as
- *   dfu_device_serve and dfu_device_reset have it: a host may be early, and a stack may not say that an answer is out. Without it a
- *   request is an error, and a reset ends the upgrade; either drops what was taken.
+ *   dfu_device_serve and dfu_device_reset have it: a host may be early, and a stack may not say that an answer is out. Without it
+ *   dfu_device_handle takes a request as an error, and a reset ends the upgrade; either drops what was taken.
  * - Passing milliseconds are for appDETACH alone. The times of dfuDNBUSY and dfuMANIFEST pass in the work.
  * - The reset that counts is the first reset, or unplugging, after a SET_CONFIGURATION of another value than 0. Hosts reset a device
  *   twice as they enumerate it, and a second reset would lead from dfuIDLE to appIDLE. The first enumeration of a device that began in
@@ -47,16 +47,17 @@
  *   dfu_device_would_stall. 1: dfu_device_handle with any body of that length, and stall the setup. 0: receive the data stage.
  *
  * What the program owes, always:
- * - No pointer is NULL, also if its length is 0, but driver. Each points to as much as its length or its type says. Nothing that is
+ * - No pointer is NULL, even with length 0, but driver. Each points to as much as its length or its type says. Nothing that is
  *   handed in begins at address 0 or overlaps anything else that is, but for body and out, which may be the same memory: if the host
  *   sends, out is left as it is, and else no body is read.
  * - One call at a time for a device, and DFU_STACK bytes of stack. Two devices share nothing: a call for one may interrupt one for
  *   the other. An interrupt that may come within a call makes none for the same device.
- * and so that the device goes on from where it was:
+ * What keeps the device where it was:
  * - The configuration stays. Record, block and flash are as the last call left them. A record begins with power_on or begin, after each
  *   loss of power.
- * - Flash reads as it is: caches are invalidated once an operation is carried out. Only the operations that are asked for change it.
- *   One that a loss of power breaks off may leave any bytes in its range, and no other byte changed.
+ * - Flash reads what it holds, and the same each time, also after an operation that was broken off; invalidate caches after each one.
+ *   Only the operations that are asked for change it. One that a loss of power breaks off may leave any bytes in its range, and no
+ *   other byte changed.
  *
  * What to do on a refusal. Stall the request, and:
  * - DFU_NO_CONFIG, DFU_NO_BLOCK, DFU_NO_ROOM, DFU_WRONG_SIZE, DFU_TOO_LARGE: a mistake of the program. It stays until that is mended.
@@ -95,13 +96,13 @@
 extern "C" {
 #endif
 
-/** @brief Bytes of stack below a call, at most: as measured without optimisation. With it they are 1,500 at most. */
+/** @brief Bytes of stack below a call: the deepest that was measured without optimisation, rounded up. With it 1,500 were enough. */
 #define DFU_STACK 3000
 
 /** @brief Bytes that the gate of a slot has for itself, and as many its header. */
 #define DFU_GATE(unit, sector) ((unit) > (sector) ? ((unit) > 16 ? (unit) : 16) : ((sector) > 16 ? (sector) : 16))
 
-/** @brief Bytes of flash for images of at most `capacity` bytes, which is 1 to 16,777,216, and whole in the unit and in the sector.
+/** @brief Bytes of flash for images of at most `capacity` bytes, which is 1 to 16,777,216, and a multiple of the unit and of the sector.
  *
  *      64 KiB, erased by 1,024, programmed by  16: DFU_MEDIUM_SIZE( 16, 1024,  30720): images of up to  30 KiB
  *     128 KiB, erased by 2,048, programmed by  64: DFU_MEDIUM_SIZE( 64, 2048,  61440): images of up to  60 KiB

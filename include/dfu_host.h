@@ -41,7 +41,7 @@
  *   phase it is as DFU_SEEN_RESTART.
  *
  * What the program owes, always:
- * - No pointer is NULL, also if its length is 0. Each points to as many bytes as its length says.
+ * - No pointer is NULL, even with length 0. Each points to as many bytes as its length says.
  * - Nothing that is handed in overlaps anything else that is.
  * - answer has room for as many bytes as a.setup[6] and a.setup[7] ask for (the low byte first).
  * - Calls of one session come from one thread at a time.

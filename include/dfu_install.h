@@ -57,7 +57,7 @@ extern "C" {
 /** @brief A run area. The program fills it in. */
 struct dfu_install {
     const uint8_t *run;              /**< the run area, mapped for reading */
-    size_t size;                     /**< bytes of it, whole in its sectors */
+    size_t size;                     /**< bytes of it, a multiple of its sector */
     struct dfu_run_area area;        /**< the size of a sector, and DFU_NOWHERE */
     const struct dfu_driver *driver; /**< what writes it; NULL for a program that carries out what is asked by itself */
 };

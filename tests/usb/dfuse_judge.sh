@@ -37,10 +37,12 @@ of_usb() {
 }
 
 write_here 3072 3000
-for kind in '' 'USB_ERASE=1 USB_BUSY=1' 'USB_ERASE=1 USB_BUSY=1 USB_TOLD=nothing' 'USB_EARLY=stall USB_TOLD=nothing USB_ERASE=3 USB_BUSY=1' \
+for kind in '' 'USB_ERASE=1 USB_BUSY=1' 'USB_ERASE=1 USB_BUSY=1 USB_TOLD=nothing' \
+    'USB_EARLY=stall USB_TOLD=nothing USB_ERASE=3 USB_BUSY=1' \
     'USB_CELLS=any USB_POINTER=erase' USB_PENDING=08000000 'USB_AWAY=2 USB_ERASE=1' USB_TRANSFER=64 'USB_TRANSFER=64 USB_CELLS=fail' \
     USB_FAILS=3 USB_PROTECTED=1 USB_LIES=08000d00; do
-    for fate in '' 'lost-out 5' 'lost-back 6' 'lost-out 9,lost-back 10' 'twice 6' 'leave 2' 'leave 9' 'leave 30' 'cut 7' 'cut 12,leave 14'; do
+    for fate in '' 'lost-out 5' 'lost-back 6' 'lost-out 9,lost-back 10' 'twice 6' 'leave 2' 'leave 9' 'leave 30' \
+        'cut 7' 'cut 12,leave 14'; do
         recorded "$kind" --address "$address" image
         keeps "a log of $kind with $fate"
     done
