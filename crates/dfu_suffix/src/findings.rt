@@ -23,7 +23,12 @@ pub struct Findings {
 
 impl Findings {
     /// Findings before any check: each is 0.
-    pub fn new() -> Findings {
+    pub fn new() -> Findings
+        ensures count { result.count ≡ 0 }
+        ensures suffix { result.suffix ≡ 0 }
+        ensures crc { result.crc ≡ 0 }
+        ensures register { result.register ≡ 0 }
+    {
         Findings {
             count: 0,
             suffix: 0,
