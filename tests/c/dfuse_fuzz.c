@@ -2,7 +2,9 @@
  * SEED, in a folder with the old memory `old`, 16 pages of 1,024 bytes from 08000000h on. It is linked with dfu-flash, whose main is
  * flash_main, and with the stand-in, and each run is a process of its own. Each ends with a status of dfu-flash's own and no report of a
  * sanitizer, whose status is 99; a refusal sends nothing; a success is one by a second reader of the file, and has its bytes in the memory;
- * and if the device's map is true, no page without a byte of the file has changed. */
+ * and if the device's map is true, no page without a byte of the file has changed. This last one isn't asked of a device that stalls
+ * GETSTATE while a command that an earlier session sent isn't started: the host then asks for the status, which starts it, and the law of
+ * dfuse_link leaves such a device out too. */
 #define _GNU_SOURCE
 #include "dfuse_varied.h"
 
@@ -86,6 +88,19 @@ static int has_sent(void)
     return is;
 }
 
+/* Whether the device stalled GETSTATE before the first download, while a command of an earlier session wasn't started. */
+static int has_hidden_command(void)
+{
+    char line[256];
+    FILE *log = fopen("log", "r");
+    int is = 0;
+    while (log != NULL && !is && fgets(line, sizeof line, log) != NULL && strstr(line, " DNLOAD ") == NULL)
+        is = strstr(line, " GETSTATE 0 1 stall -> stall, dfuDNLOAD-SYNC") != NULL;
+    if (log != NULL)
+        fclose(log);
+    return is;
+}
+
 /* Whether the memory has the elements; and whether each page without one is as it was. */
 static int has_image(const struct second *second)
 {
@@ -133,7 +148,7 @@ static const char *fault_of(int status)
         return "a success with a file that is none";
     if (status == 0 && !has_image(&second))
         return "a success without the image";
-    if (kept == SIZE && is_true && second.answer == 0 && !others_stand(&second))
+    if (kept == SIZE && is_true && second.answer == 0 && !others_stand(&second) && !has_hidden_command())
         return "another page has changed";
     return kept == SIZE && second.answer != 0 && memcmp(saved, old, SIZE) != 0 ? "no file, and the memory has changed" : NULL;
 }
