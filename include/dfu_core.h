@@ -3,10 +3,10 @@
  * @file dfu_core.h
  * @brief The proved device of USB DFU 1.1: types, numbers and calls. A bootloader includes dfu_device.h, which is built on this.
  *
- * The body is dfu_device.c, in C11, for processors of 32 or 64 bits that store the low byte of a number first. It has no state, takes
- * no memory, and wants at most memcpy, memmove and memset of a C library. What the program owes is in dfu_device.h. If it does, each
- * call is a row of Fustrelan's device table. Else a call takes the device that record, block and flash are now, or refuses: whatever
- * they hold, it ends, and touches nothing but what its pointers say.
+ * The code is dfu_device.c, in C11, for little-endian processors of 32 or 64 bits. It keeps no state, allocates nothing, and needs at
+ * most memcpy, memmove and memset of a C library. dfu_device.h says what the program has to keep to; if it does, each call answers as
+ * Fustrelan's device table says. If record, block or flash were changed between two calls, the next one works on what it finds, or
+ * refuses. Whatever they hold, a call returns, and touches only the memory that its pointers and lengths name.
  */
 #ifndef DFU_CORE_H
 #define DFU_CORE_H
@@ -93,45 +93,45 @@ enum dfu_attribute {
 enum dfu_result {
     DFU_STALL = -1,       /**< stall the request; the device may be in another state now */
     DFU_NO_CONFIG = -2,   /**< the configuration has another version, or a number that is out of its range */
-    DFU_NO_MEDIUM = -3,   /**< the flash has no active image, its active image isn't the record's, or it has 2^32 bytes or more */
-    DFU_NO_DEVICE = -4,   /**< the record is not of a device on that flash with that block, or of another version */
+    DFU_NO_MEDIUM = -3,   /**< the flash has no active image, or another than the record says, or 2^32 bytes or more */
+    DFU_NO_DEVICE = -4,   /**< the record does not belong to this flash and block, or another version wrote it */
     DFU_NO_ROOM = -5,     /**< out has less room than an answer may need: 6 bytes, or the transfer size if that is more */
-    DFU_WRONG_SIZE = -6,  /**< the flash has no length that two slots can have */
+    DFU_WRONG_SIZE = -6,  /**< the flash can't be divided into two slots: take DFU_MEDIUM_SIZE bytes */
     DFU_TOO_LARGE = -7,   /**< the image is longer than a slot's data */
     DFU_NOT_WRITTEN = -8, /**< an operation of a format failed, or other bytes were read back */
-    DFU_NOT_LONG = -9,    /**< the host sends no more bytes with this setup than a block may have */
+    DFU_NOT_LONG = -9,    /**< the data stage of this setup is no longer than a block may be */
     DFU_NO_BLOCK = -10,   /**< the block's memory has fewer bytes than the transfer size and the unit together */
-    DFU_ASKS = -11,       /**< operations of the flash are due: next, carry it out, took, until that answers otherwise */
-    DFU_ASKED = -12,      /**< operations are due, and come first */
-    DFU_NO_CLOSE = -13,   /**< the setup closes no download */
+    DFU_ASKS = -11,       /**< operations of the flash are due: call next, carry it out, call took, until that answers otherwise */
+    DFU_ASKED = -12,      /**< operations are due, and have to be carried out first */
+    DFU_NO_CLOSE = -13,   /**< this setup doesn't close a download */
     DFU_NO_STATUS = -14,  /**< the status is neither DFU_STATUS_ERR_TARGET nor DFU_STATUS_ERR_FILE */
     DFU_NO_CANDIDATE = -20 /**< no image was taken that may be refused */
 };
 
 /** @brief Kinds of operations of the flash. */
 enum dfu_operation {
-    DFU_ERASE = 1,  /**< the sector at `at`, of `length` bytes, is to read FFh; `bytes` isn't used */
-    DFU_PROGRAM = 2 /**< the first `length` bytes of `bytes` go to `at`; with sectors there is FFh before */
+    DFU_ERASE = 1,  /**< erase the sector at `at`, of `length` bytes, to FFh; `bytes` isn't used */
+    DFU_PROGRAM = 2 /**< program the first `length` bytes of `bytes` at `at`; if there are sectors, FFh is there now */
 };
 
 /** @brief What a device is set up with; the same in every call. */
 struct dfu_config {
-    uint32_t version;         /**< DFU_VERSION: an archive of another version refuses */
-    uint16_t device;          /**< bcdDevice: this and the next two are for the program's descriptors, and no call goes by them */
+    uint32_t version;         /**< DFU_VERSION: an archive of another version refuses it */
+    uint16_t device;          /**< bcdDevice: this and the next two are for the program's descriptors; no call looks at them */
     uint16_t product;         /**< idProduct */
     uint16_t vendor;          /**< idVendor */
     uint16_t detach_ms;       /**< wDetachTimeOut, milliseconds */
     uint16_t transfer;        /**< wTransferSize, bytes: 1 to 4,096 */
     uint8_t attributes;       /**< bmAttributes: enum dfu_attribute; bits 4 to 7 are ignored */
     uint8_t interface_number; /**< bInterfaceNumber: a setup whose wIndex is another number is stalled */
-    uint32_t busy_ms;         /**< how long a block takes to be written: 0 to 16,777,215 ms */
-    uint32_t manifest_ms;     /**< how long an image takes to be put in place: 0 to 16,777,215 ms, at least 1 if not tolerant */
-    uint32_t least;           /**< the fewest bytes of an image, 1 to 16,777,216: with more than a slot holds no download can end */
+    uint32_t busy_ms;         /**< how long it takes to write a block: 0 to 16,777,215 ms */
+    uint32_t manifest_ms;     /**< how long it takes to put an image in place: 0 to 16,777,215 ms, at least 1 if not tolerant */
+    uint32_t least;           /**< the fewest bytes of an image, 1 to 16,777,216; with more than a slot holds, no download can succeed */
     uint32_t unit;            /**< bytes programmed at a time: 1, 16, 64 or 256 */
     uint32_t sector;          /**< bytes erased at a time: a multiple of 256 up to 131,072; 0: the flash is written over in place */
 };
 
-/** @brief What is kept of a device. A program reads it by dfu_core_state, dfu_core_code and dfu_core_candidate, and writes none of it.
+/** @brief A device between two calls. A program reads it by dfu_core_state, dfu_core_code and dfu_core_candidate, and never writes it.
  *
  * | mode | state                                 | first         | second   | number            |
  * |------|---------------------------------------|---------------|----------|-------------------|
@@ -157,24 +157,24 @@ struct dfu_record {
     uint32_t put_end;     /**< how many bytes were put in the spare slot */
     uint32_t slot;        /**< the active slot, 0 or 1 */
     uint16_t number;      /**< as above */
-    uint16_t length;      /**< modes 3 and 5: so many bytes at the front of the block's memory are not written yet */
+    uint16_t length;      /**< modes 3 and 5: how many bytes at the front of the block's memory are not written yet */
     uint8_t header[16];   /**< the header of the active slot, as it is on the flash */
-    uint32_t work;        /**< which operations are due: 0 none, 1 of a block, 2 those that put an image in place, 3 of a format */
-    uint32_t spare;       /**< of what is due: where the spare slot begins; of a format, how much of the image comes before its part */
-    uint32_t sum;         /**< of what is due: the image's register */
-    uint32_t done;        /**< of what is due: how many bytes are carried out; of a format, in its part */
-    uint32_t asked;       /**< 0, or 1 more than wLength of the GETSTATUS that waits */
-    uint8_t generation;   /**< of what is due: the image's generation; of a format its part, 0 to 4 */
-    uint8_t close;        /**< of what is due: whether the gate is closed first, 1 or 0 */
-    uint16_t held_length; /**< so many bytes behind the transfer size in the block's memory were put, and make no whole unit yet */
+    uint32_t work;        /**< which operations are due: 0 none, 1 a block's, 2 those that put an image in place, 3 a format's */
+    uint32_t spare;       /**< while some are due: where the spare slot begins; in a format: bytes of the image before its part */
+    uint32_t sum;         /**< while some are due: the image's CRC register */
+    uint32_t done;        /**< while some are due: how many bytes are carried out; in a format: of its part */
+    uint32_t asked;       /**< 0, or 1 more than wLength of the GETSTATUS that waits for its answer */
+    uint8_t generation;   /**< while some are due: the image's generation; in a format: its part, 0 to 4 */
+    uint8_t close;        /**< while some are due: 1 if the gate is closed first, else 0 */
+    uint16_t held_length; /**< how many bytes after the transfer size in the block's memory wait until a unit is whole */
 };
 
 /** @brief An operation of the flash that is due. */
 struct dfu_ask {
     uint32_t kind;      /**< DFU_ERASE or DFU_PROGRAM */
     uint32_t at;        /**< where: flash[at] is its first byte */
-    uint32_t length;    /**< that of a sector; or 1 to 256, a multiple of the unit */
-    uint8_t bytes[256]; /**< of DFU_PROGRAM */
+    uint32_t length;    /**< DFU_ERASE: the size of a sector; DFU_PROGRAM: 1 to 256, a multiple of the unit */
+    uint8_t bytes[256]; /**< DFU_PROGRAM: the bytes to program */
 };
 
 /** @brief Where the active image is: its first byte is flash[at]. */
@@ -183,30 +183,31 @@ struct dfu_place {
     uint32_t length; /**< bytes; 0: there is no application */
 };
 
-/* The calls. Of the refusals that are named the first that holds is the result; a refusal changes nothing. The flash is only read. */
+/* The calls. Each returns the first of its refusals that holds, in the order in which they are named. A refusal changes nothing, and no
+ * call writes the flash. */
 
-/** @brief The device gets power: the record is that of a device in appIDLE, whatever it held.
+/** @brief The device gets power: afterwards the record is that of a device in appIDLE, whatever it held before.
  * @return 0; DFU_NO_CONFIG, DFU_NO_MEDIUM */
 int32_t dfu_core_power_on(const struct dfu_config *config, struct dfu_record *record, const uint8_t *flash, size_t size);
 
-/** @brief The device gets power and begins in dfuIDLE: as dfu_core_power_on, a DETACH and a reset of the bus.
+/** @brief The device gets power and begins in dfuIDLE, as after dfu_core_power_on, a DETACH and a reset of the bus.
  * @return as dfu_core_power_on */
 int32_t dfu_core_begin(const struct dfu_config *config, struct dfu_record *record, const uint8_t *flash, size_t size);
 
 /** @brief Answers a setup with its body.
- * @param block  memory of `most` bytes, at least the transfer size and the unit together: in the first of them a block waits to be
- *               written, and behind the transfer size bytes that were put wait until a unit is whole
- * @param body   the whole data stage, `length` bytes; of length 0 if the host reads
- * @param out    room for the answer: at least the transfer size, and at least 6 bytes. It is not body, and not block
- * @return how many bytes of out are the answer, 0 if it is acknowledged or has none; DFU_STALL; DFU_ASKS;
+ * @param block  memory of `most` bytes, at least the transfer size and the unit together. A block waits at its front to be written;
+ *               after the transfer size, bytes that fill no whole unit wait for more
+ * @param body   the whole data stage, `length` bytes; length 0 if the host reads
+ * @param out    room for the answer: at least the transfer size, and at least 6 bytes. It may not overlap block
+ * @return how many bytes of out are the answer, 0 for an acknowledgement or an empty answer; DFU_STALL; DFU_ASKS;
  *         DFU_NO_ROOM, DFU_NO_CONFIG, DFU_NO_BLOCK, DFU_NO_DEVICE (not with any flash), DFU_ASKED,
  *         DFU_NO_MEDIUM (the record's header is not in an open slot of the flash), DFU_NO_DEVICE (not with this flash) */
 int32_t dfu_core_handle(const struct dfu_config *config, struct dfu_record *record, uint8_t *block, size_t most,
                         const uint8_t *flash, size_t size, const uint8_t setup[8], const uint8_t *body, size_t length,
                         uint8_t *out, size_t room);
 
-/** @brief So many milliseconds pass. They count in appDETACH, dfuDNBUSY and dfuMANIFEST. A call changes the state at most once;
- *         the rest of its time is dropped.
+/** @brief `ms` milliseconds pass. They count in appDETACH, dfuDNBUSY and dfuMANIFEST. A call changes the state at most once, and drops
+ *         the rest of its time.
  * @return 0; DFU_ASKS; the refusals of dfu_core_handle but DFU_NO_ROOM */
 int32_t dfu_core_elapse(const struct dfu_config *config, struct dfu_record *record, uint8_t *block, size_t most,
                         const uint8_t *flash, size_t size, uint32_t ms);
@@ -216,49 +217,51 @@ int32_t dfu_core_elapse(const struct dfu_config *config, struct dfu_record *reco
 int32_t dfu_core_usb_reset(const struct dfu_config *config, struct dfu_record *record, uint8_t *block, size_t most,
                            const uint8_t *flash, size_t size);
 
-/** @brief The operation that is due. It lies in the spare slot of the flash as it is, whatever the record holds; in a whole unit or
- *         sector if the record is as the last call left it. It may be asked for again.
+/** @brief Says which operation is due. Whatever the record holds, its range is within the slot that is the spare one on the flash now; if
+ *         the record is as the last call left it, the range is whole units, or a whole sector. It may be asked for again.
  * @return 0; DFU_NO_CONFIG, DFU_NO_BLOCK, DFU_NO_DEVICE (none is due, or the flash is not as it was left) */
 int32_t dfu_core_next(const struct dfu_config *config, const struct dfu_record *record, const uint8_t *block, size_t most,
                       const uint8_t *flash, size_t size, struct dfu_ask *ask);
 
-/** @brief That operation was carried out, or failed if `failed` is not 0. It is read back. Of the block's memory only the bytes behind
- *         the transfer size may change.
+/** @brief The program carried that operation out, or it failed if `failed` is not 0. The call reads it back. In the block's memory only
+ *         the bytes after the transfer size may change.
  * @return DFU_ASKS if the next one is due; the answer of the call that asked, its bytes in out;
  *         DFU_NO_ROOM (out has less than 6 bytes), DFU_NO_CONFIG, DFU_NO_BLOCK, DFU_NO_DEVICE */
 int32_t dfu_core_took(const struct dfu_config *config, struct dfu_record *record, uint8_t *block, size_t most,
                       const uint8_t *flash, size_t size, uint32_t failed, uint8_t *out, size_t room);
 
-/** @brief Whether dfu_core_handle will stall this setup, whatever body of wLength bytes comes with it. The flash has size bytes.
+/** @brief Whether dfu_core_handle will stall this setup, whatever body of wLength bytes comes with it. `size` is the
+ *         flash's.
  * @return 1 or 0; DFU_NO_CONFIG, DFU_NO_DEVICE, DFU_ASKED */
 int32_t dfu_core_would_stall(const struct dfu_config *config, const struct dfu_record *record, size_t size, const uint8_t setup[8]);
 
-/** @brief As dfu_core_handle for a setup whose body has more than transfer bytes, without the body.
+/** @brief As dfu_core_handle for a setup whose data stage is longer than the transfer size, without its bytes.
  * @return DFU_STALL; DFU_NO_CONFIG, DFU_NO_DEVICE, DFU_ASKED, DFU_NOT_LONG */
 int32_t dfu_core_too_long(const struct dfu_config *config, struct dfu_record *record, const uint8_t setup[8]);
 
-/** @brief The program refuses the image that this setup closes: in dfuDNLOAD-IDLE, with as many bytes taken as an image has at least, a
- *         DNLOAD with wLength 0. The device enters dfuERROR with the status, and nothing is written. It is called in place of
- *         dfu_core_handle; else that takes the image.
+/** @brief The program refuses the image whose download this setup closes: a DNLOAD with wLength 0 in dfuDNLOAD-IDLE, once at least
+ *         config.least bytes were taken. The device enters dfuERROR with the status, and nothing is written. Call it in place of
+ *         dfu_core_handle, which would take the image.
  * @param status DFU_STATUS_ERR_TARGET if the image is not for this device, DFU_STATUS_ERR_FILE if it fails a test, such as a signature's
  * @return DFU_STALL; DFU_NO_CONFIG, DFU_NO_DEVICE, DFU_ASKED, DFU_NO_STATUS, DFU_NO_CLOSE */
 int32_t dfu_core_refuse_close(const struct dfu_config *config, struct dfu_record *record, const uint8_t setup[8], uint32_t status);
 
-/** @brief The program refuses the image that was closed, for a check that takes longer than a transfer may: dfuMANIFEST-SYNC, before the
- *         image is in place, and dfuMANIFEST lead to dfuERROR with the status, and nothing is put in place. No other state changes.
+/** @brief The program refuses an image after its close, when its check takes longer than a transfer may. From dfuMANIFEST-SYNC, if the
+ *         image isn't in place yet, and from dfuMANIFEST the device enters dfuERROR with the status, and nothing is put in place.
+ *         Any other state stays.
  * @param status as for dfu_core_refuse_close
  * @return 0; DFU_NO_CONFIG, DFU_NO_DEVICE, DFU_ASKED, DFU_NO_STATUS */
 int32_t dfu_core_refuse(const struct dfu_config *config, struct dfu_record *record, uint32_t status);
 
-/** @brief Where the image is that was taken and may be refused: in dfuDNLOAD-IDLE, in dfuMANIFEST-SYNC before it is in place, and in
- *         dfuMANIFEST. Its bytes are those of the place, and after them, in the block's memory behind the transfer size, as many as
- *         the record's held_length says.
+/** @brief Where the image is that was taken and may still be refused: in dfuDNLOAD-IDLE, in dfuMANIFEST-SYNC before it is in place, and
+ *         in dfuMANIFEST. Its bytes are those at the place, followed by the record's held_length bytes more, which are in the block's
+ *         memory, after the transfer size.
  * @return 0; DFU_NO_CONFIG, DFU_NO_DEVICE, DFU_ASKED, DFU_NO_MEDIUM, DFU_NO_DEVICE, as dfu_core_handle; DFU_NO_CANDIDATE */
 int32_t dfu_core_candidate(const struct dfu_config *config, const struct dfu_record *record, const uint8_t *flash, size_t size,
                            struct dfu_place *place);
 
 /** @brief Milliseconds until dfu_core_elapse changes the state.
- * @return 1 or more, of which 2,147,483,647 says as many or more; 0 if no time changes it; DFU_NO_CONFIG; DFU_NO_DEVICE as
+ * @return 1 or more, and 2,147,483,647 means that many or more; 0 if no time changes it; DFU_NO_CONFIG; DFU_NO_DEVICE as
  *         dfu_core_state */
 int32_t dfu_core_due(const struct dfu_config *config, const struct dfu_record *record);
 
@@ -278,19 +281,19 @@ int32_t dfu_core_code(const struct dfu_record *record);
  * @return 0; DFU_NO_CONFIG, DFU_NO_MEDIUM */
 int32_t dfu_core_image(const struct dfu_config *config, const uint8_t *flash, size_t size, struct dfu_place *place);
 
-/** @brief Begins a format: the image, of 0 bytes or more, is to go into the first slot, whatever is on the flash. Until it ends the
- *         other calls are refused with DFU_ASKED. The image is the same in all three calls: the record keeps no pointer.
+/** @brief Begins a format, which puts the image, of 0 bytes or more, into the first slot, whatever is on the flash. Until it ends other
+ *         calls are refused with DFU_ASKED. Pass the same image to all three calls: the record keeps no pointer.
  * @return DFU_ASKS; DFU_NO_CONFIG, DFU_NO_MEDIUM (2^32 bytes or more), DFU_WRONG_SIZE, DFU_TOO_LARGE */
 int32_t dfu_core_format_start(const struct dfu_config *config, struct dfu_record *record, const uint8_t *flash, size_t size,
                               const uint8_t *image, size_t length);
 
-/** @brief The operation of the format that is due. It lies within the flash, whatever the record holds.
+/** @brief Says which operation of the format is due. Whatever the record holds, its range is within the flash.
  * @return 0; DFU_NO_CONFIG, DFU_NO_DEVICE (none is due) */
 int32_t dfu_core_format_next(const struct dfu_config *config, const struct dfu_record *record, const uint8_t *flash, size_t size,
                              const uint8_t *image, size_t length, struct dfu_ask *ask);
 
-/** @brief That operation was carried out, or failed if `failed` is not 0. It is read back.
- * @return DFU_ASKS if the next one is due; 0 if the image is active; DFU_NOT_WRITTEN, and none is due any more;
+/** @brief The program carried that operation out, or it failed if `failed` is not 0. The call reads it back.
+ * @return DFU_ASKS if the next one is due; 0 once the image is active; DFU_NOT_WRITTEN, and then none is due any more;
  *         DFU_NO_CONFIG, DFU_NO_DEVICE */
 int32_t dfu_core_format_took(const struct dfu_config *config, struct dfu_record *record, const uint8_t *flash, size_t size,
                              const uint8_t *image, size_t length, uint32_t failed);

@@ -3,8 +3,9 @@
  * @file dfu_device.h
  * @brief A device of USB device firmware upgrade (USB DFU 1.1), as a bootloader runs it.
  *
- * The flash is mapped into memory for reading, and written by a driver of two functions. Two slots hold an image each: a download goes
- * to the spare one, and becomes active in one step at its end. So whenever power is lost, the old image or the whole new one is active.
+ * The flash is mapped into memory for reading, and written by a driver of two functions. It has two slots, each for one image. A download
+ * goes to the spare slot, and becomes active in one step at its end. So whenever power is lost, the old image or the whole new one is
+ * active.
  *
  *     static uint8_t block[DFU_BLOCK_SIZE(1024, 16)], data[1024];   // wTransferSize 1,024, unit 16. They must not overlap
  *     static struct dfu_device dfu = {.config = &config, .flash = flash, .size = size, .block = block, .most = sizeof block,
@@ -20,62 +21,64 @@
  *     the bus is reset:     dfu_device_reset(&dfu), for the reset that counts: see below
  *     time, in appDETACH alone:  dfu_device_elapse(&dfu, milliseconds). If that leads to dfuIDLE (bitWillDetach), leave the bus and
  *                           come back, and report no reset for it
- *     then:                 dfu_device_state(&dfu): in appIDLE start the image at dfu_device_image; in appDETACH it runs still;
- *                           elsewhere the upgrade does. An image that is a program of its own answers by dfu_runtime.h
+ *     then:                 dfu_device_state(&dfu): in appIDLE start the image at dfu_device_image; in appDETACH it is still running;
+ *                           in any other state the upgrade is. An image that is a program of its own answers by dfu_runtime.h
  *
  * A program that can't wait for its flash has no driver. It calls dfu_device_handle and dfu_device_answered in place of serve and work:
  *
  *     while (n == DFU_ASKS && dfu_device_next(&dfu, &ask) == 0) {
- *         failed = not 0 if the flash could not do what ask says, once it has done it;
+ *         do what ask says; failed = not 0 if the flash could not;
  *         n = dfu_device_took(&dfu, failed, out, sizeof out);
  *     }
  *
- * and n is the answer of the call that asked then. Meanwhile the host gets NAK, and every other call is refused with DFU_ASKED.
+ * Then n is the answer of the call that asked. Meanwhile the host gets NAK, and every other call is refused with DFU_ASKED.
  *
  * Rules of the loop:
- * - THE WORK, dfu_device_work, writes the block or puts the image in place. Call it right after each answer is out, in one go: no
- *   clock is asked, the host waits while it works, and gets NAK if it asks. It comes before the next request and a reset too, as
- *   dfu_device_serve and dfu_device_reset have it: a host may be early, and a stack may not say that an answer is out. Without it
- *   dfu_device_handle takes a request as an error, and a reset ends the upgrade; either drops what was taken.
- * - Passing milliseconds are for appDETACH alone. The times of dfuDNBUSY and dfuMANIFEST pass in the work.
- * - The reset that counts is the first reset, or unplugging, after a SET_CONFIGURATION of another value than 0. Hosts reset a device
- *   twice as they enumerate it, and a second reset would lead from dfuIDLE to appIDLE. The first enumeration of a device that began in
- *   dfuIDLE has none that counts.
- * - The time until a block or an image is written is busy_ms and manifest_ms: DFU_BLOCK_ERASES and DFU_BLOCK_PROGRAMS times what the part
- *   needs at most. With 0 they are written before the GETSTATUS is answered; for fwupd manifest_ms should be 0 if the device is tolerant.
- * - A stack that acknowledges a data stage as it takes it (Linux's FunctionFS does) asks before it: dfu_device_work, then
- *   dfu_device_would_stall. 1: dfu_device_handle with any body of that length, and stall the setup. 0: receive the data stage.
+ * - THE WORK, dfu_device_work, writes the block or puts the image in place. Call it right after each answer is out. It does all at once,
+ *   and reads no clock; a host that asks meanwhile gets NAK. dfu_device_serve and dfu_device_reset do it first too, since a host may be
+ *   early, and a stack may not say that an answer is out. If it was left out, dfu_device_handle takes the next request as an error, and a
+ *   reset ends the upgrade; either drops what was taken.
+ * - Report passing milliseconds only in appDETACH. The times of dfuDNBUSY and dfuMANIFEST pass within the work.
+ * - The reset that counts is the first reset of the bus, or unplugging, after a SET_CONFIGURATION with a value other than 0. Hosts reset a
+ *   device twice while they enumerate it, and a second reset would lead from dfuIDLE to appIDLE. In the first enumeration of a device that
+ *   began in dfuIDLE no reset counts.
+ * - busy_ms is how long it takes to write a block: DFU_BLOCK_ERASES and DFU_BLOCK_PROGRAMS times what the part needs at most. manifest_ms
+ *   is the same for an image, with DFU_COMMIT_ERASES and DFU_COMMIT_PROGRAMS. With 0 they are written before the GETSTATUS is answered. For
+ *   fwupd manifest_ms should be 0 if the device is tolerant.
+ * - If the stack acknowledges a data stage while it receives it, as Linux's FunctionFS does, ask before it comes: call dfu_device_work,
+ *   then dfu_device_would_stall. If that says 1, call dfu_device_handle with any body of that length, and stall the setup. If it says 0,
+ *   receive the data stage.
  *
- * What the program owes, always:
- * - No pointer is NULL, even with length 0, but driver. Each points to as much as its length or its type says. Nothing that is
- *   handed in begins at address 0 or overlaps anything else that is, but for body and out, which may be the same memory: if the host
- *   sends, out is left as it is, and else no body is read.
- * - One call at a time for a device, and DFU_STACK bytes of stack. Two devices share nothing: a call for one may interrupt one for
- *   the other. An interrupt that may come within a call makes none for the same device.
- * What keeps the device where it was:
- * - The configuration stays. Record, block and flash are as the last call left them. A record begins with power_on or begin, after each
- *   loss of power.
+ * What the program has to keep to, always:
+ * - Only driver may be NULL; every other pointer points to as many bytes as its length or its type says, even if the length is 0. Nothing
+ *   may begin at address 0, and no two may overlap, except that body and out may be the same memory: if the host sends, out isn't
+ *   written, and else body isn't read.
+ * - One call at a time for a device, and DFU_STACK bytes of stack. Two devices share nothing, so a call for one may interrupt a call for
+ *   the other. An interrupt that may come within a call must not make one for the same device.
+ * So that a device goes on from where it was:
+ * - The configuration stays the same, and record, block and flash are as the last call left them. After each loss of power a record begins
+ *   with power_on or begin.
  * - Flash reads what it holds, and the same each time, also after an operation that was broken off; invalidate caches after each one.
- *   Only the operations that are asked for change it. One that a loss of power breaks off may leave any bytes in its range, and no
- *   other byte changed.
+ *   Only the operations that are asked for change it. One that a loss of power breaks off may leave any bytes in its range, but must not
+ *   change a byte outside.
  *
  * What to do on a refusal. Stall the request, and:
- * - DFU_NO_CONFIG, DFU_NO_BLOCK, DFU_NO_ROOM, DFU_WRONG_SIZE, DFU_TOO_LARGE: a mistake of the program. It stays until that is mended.
+ * - DFU_NO_CONFIG, DFU_NO_BLOCK, DFU_NO_ROOM, DFU_WRONG_SIZE, DFU_TOO_LARGE: a mistake of the program, which has to be mended.
  * - DFU_NO_MEDIUM of power_on, begin or image: there is no image. Format.
  * - DFU_NO_MEDIUM or DFU_NO_DEVICE elsewhere: flash, block or record changed. Give power again; the host begins again.
  * - DFU_ASKED: operations are due. Carry them out (dfu_device_settle with DFU_ASKS), then make the call again.
  * - DFU_NOT_WRITTEN: format again; if that goes on, the part or its driver is broken.
- * - DFU_NOT_LONG, DFU_NO_CLOSE: it is a request for dfu_device_handle.
+ * - DFU_NOT_LONG, DFU_NO_CLOSE: call dfu_device_handle with this request.
  * - DFU_NO_STATUS: a mistake of the program. DFU_NO_CANDIDATE: there is nothing to check.
  *
- * A check of images. A program that takes its maker's images alone checks each one before its close: if dfu_device_would_stall says 0
- * of a DNLOAD with wLength 0 in dfuDNLOAD-IDLE, it checks the bytes of dfu_device_candidate, of which the last may be in the block's
- * memory, and calls dfu_device_refuse_close if they fail, or else dfu_device_handle. A program that never asks takes every image. And
- * such a check is no secure boot: who can write the flash can write an image. So check it again before it is started.
+ * A check of images, for a program that takes only its maker's. When a DNLOAD with wLength 0 comes in dfuDNLOAD-IDLE, and
+ * dfu_device_would_stall says 0 of it, check the bytes that dfu_device_candidate names; the last of them may be in the block's memory. If
+ * they fail, call dfu_device_refuse_close, else dfu_device_handle. A program that never checks takes every image. Such a check is no
+ * secure boot, since who can write the flash can write an image: check it again before it is started.
  *
  * Images are read by power_on, begin, image and format_start, at the start and the end of the work that puts one in place, and by the
- * first operation of a download. No other call reads one. So an image that fades under its standing header while the device runs is
- * found at the next power-on.
+ * first operation of a download. No other call reads one. So if an image's bytes fade while the device runs, and its header doesn't, the
+ * next power-on finds it.
  *
  * Memory: sizeof(struct dfu_device), 96 bytes with pointers of 32 bits, and the two buffers: in all, with a unit of 16, 240 bytes for
  * blocks of 64, 2,160 for 1,024, and 8,304 for 4,096.
@@ -96,10 +99,10 @@
 extern "C" {
 #endif
 
-/** @brief Bytes of stack below a call: the deepest that was measured without optimisation, rounded up. With it 1,500 were enough. */
+/** @brief Bytes of stack below a call: the most that was measured without optimisation, rounded up. With optimisation 1,500 were enough. */
 #define DFU_STACK 3000
 
-/** @brief Bytes that the gate of a slot has for itself, and as many its header. */
+/** @brief Bytes that the gate of a slot takes; its header takes as many. */
 #define DFU_GATE(unit, sector) ((unit) > (sector) ? ((unit) > 16 ? (unit) : 16) : ((sector) > 16 ? (sector) : 16))
 
 /** @brief Bytes of flash for images of at most `capacity` bytes, which is 1 to 16,777,216, and a multiple of the unit and of the sector.
@@ -108,23 +111,23 @@ extern "C" {
  *     128 KiB, erased by 2,048, programmed by  64: DFU_MEDIUM_SIZE( 64, 2048,  61440): images of up to  60 KiB
  *     256 KiB, erased by 4,096, programmed by 256: DFU_MEDIUM_SIZE(256, 4096, 122880): images of up to 120 KiB
  *
- *  A microcontroller's own flash has so much less as its bootloader takes. An image is in either slot, and no host can choose
- *  which: bring it to the one place for which it is linked by dfu_install.h. */
+ *  In a microcontroller's own flash the bootloader takes a part of this. An image may be in either slot, and no host can choose which:
+ *  dfu_install.h brings it to the one place for which it is linked. */
 #define DFU_MEDIUM_SIZE(unit, sector, capacity) (2 * (2 * DFU_GATE(unit, sector) + (capacity)))
 
-/** @brief Bytes of the block's memory: a block, and behind it a unit, in which bytes wait until it is whole. With less a call answers
- *  DFU_NO_BLOCK; the bytes behind these are never touched. */
+/** @brief Bytes of the block's memory: a block, and after it a unit, in which bytes wait until it is whole. With less a call answers
+ *  DFU_NO_BLOCK. If there are more bytes, they are never touched. */
 #define DFU_BLOCK_SIZE(transfer, unit) ((transfer) + (unit))
 
-/** @brief Erases that a block costs at most: the gate's, and each sector's that begins in it. */
+/** @brief The most erases for one block: the gate's, and one for each sector that begins in it. */
 #define DFU_BLOCK_ERASES(transfer, sector) \
     ((sector) == 0 ? 0 : 1 + ((transfer) + (sector) - 1) / ((sector) + ((sector) == 0)))
-/** @brief Programs that a block costs at most: one for each 256 bytes, and one for a unit that was begun before, or for the gate
- *  of flash without sectors. */
+/** @brief The most programs for one block: one for each 256 bytes, and one for a unit that was begun before, or for the gate of flash
+ *  without sectors. */
 #define DFU_BLOCK_PROGRAMS(transfer) (((transfer) + 255) / 256 + 1)
-/** @brief Erases that putting an image in place costs at most: for the last unit, the header and the gate. */
+/** @brief The most erases that put an image in place: for the last unit, the header and the gate. */
 #define DFU_COMMIT_ERASES(sector) ((sector) == 0 ? 0 : 3)
-/** @brief Programs that it costs at most: the last unit, the header, the gate. */
+/** @brief The most programs that do: the last unit, the header, the gate. */
 #define DFU_COMMIT_PROGRAMS 3
 
 /** @brief What writes the flash. Each function returns 0 if it is done, else any number. */
@@ -139,10 +142,10 @@ struct dfu_device {
     const struct dfu_config *config; /**< what it is set up with */
     const uint8_t *flash;            /**< both slots, mapped for reading */
     size_t size;                     /**< bytes of flash, DFU_MEDIUM_SIZE */
-    uint8_t *block;                  /**< memory in which a block waits to be written, and the rest of the ones before */
-    size_t most;                     /**< bytes of it, at least DFU_BLOCK_SIZE */
-    const struct dfu_driver *driver; /**< NULL for a program that carries out what is asked by itself */
-    struct dfu_record record;        /**< private, but for held_length of a candidate */
+    uint8_t *block;                  /**< memory in which a block waits to be written, with the rest of those before it */
+    size_t most;                     /**< its bytes, at least DFU_BLOCK_SIZE */
+    const struct dfu_driver *driver; /**< NULL if the program carries out the operations itself */
+    struct dfu_record record;        /**< private, except held_length, for the bytes of a candidate */
     uint32_t unused;                 /**< fills the struct up to a multiple of 8 bytes */
 };
 
@@ -169,7 +172,7 @@ static inline int32_t dfu_device_elapse(struct dfu_device *d, uint32_t ms) {
     return dfu_core_elapse(d->config, &d->record, d->block, d->most, d->flash, d->size, ms);
 }
 
-/** @brief As dfu_core_usb_reset: the work has to be done before. */
+/** @brief As dfu_core_usb_reset. The work has to be done before it. */
 static inline int32_t dfu_device_usb_reset(struct dfu_device *d) {
     return dfu_core_usb_reset(d->config, &d->record, d->block, d->most, d->flash, d->size);
 }
@@ -249,14 +252,14 @@ static inline int32_t dfu_device_format_took(struct dfu_device *d, const uint8_t
     return dfu_core_format_took(d->config, &d->record, d->flash, d->size, image, length, failed);
 }
 
-/** @brief Carries out an operation by the driver. @return 0 if it is done */
+/** @brief Has the driver carry out an operation. @return 0 if it is done */
 static inline uint32_t dfu_device_carry_out(const struct dfu_driver *driver, const struct dfu_ask *ask) {
     const int failed = ask->kind == DFU_ERASE ? driver->erase(driver->own, ask->at, ask->length)
                                               : driver->program(driver->own, ask->at, ask->bytes, ask->length);
     return failed != 0;
 }
 
-/** @brief An answer is out: in dfuDNBUSY and dfuMANIFEST the time that is due passes at once. @return 0; DFU_ASKS; as dfu_core_elapse */
+/** @brief An answer is out: the time of dfuDNBUSY or dfuMANIFEST passes at once. @return 0; DFU_ASKS; as dfu_core_elapse */
 static inline int32_t dfu_device_answered(struct dfu_device *d) {
     const int32_t state = dfu_device_state(d), due = dfu_device_due(d);
     if (state != DFU_STATE_DNBUSY && state != DFU_STATE_MANIFEST)
@@ -264,7 +267,7 @@ static inline int32_t dfu_device_answered(struct dfu_device *d) {
     return due < 0 ? due : dfu_device_elapse(d, DFU_TO(uint32_t, due));
 }
 
-/** @brief While n is DFU_ASKS, and there is a driver, carries out what is due. @return the answer of the call that gave n; as
+/** @brief While n is DFU_ASKS, and there is a driver, has it carry out what is due. @return the answer of the call that gave n; as
  *         dfu_core_next and dfu_core_took */
 static inline int32_t dfu_device_settle(struct dfu_device *d, int32_t n, uint8_t *out, size_t room) {
     while (n == DFU_ASKS && d->driver) {
@@ -276,26 +279,26 @@ static inline int32_t dfu_device_settle(struct dfu_device *d, int32_t n, uint8_t
     return n;
 }
 
-/** @brief The work: dfu_device_answered, and carries out what is due. @return 0; as dfu_core_elapse and dfu_device_settle */
+/** @brief The work: dfu_device_answered, then what is due is carried out. @return 0; as dfu_core_elapse and dfu_device_settle */
 static inline int32_t dfu_device_work(struct dfu_device *d) {
     uint8_t none[6];
     return dfu_device_settle(d, dfu_device_answered(d), none, sizeof none);
 }
 
-/** @brief The work, dfu_device_handle, and carries out what is due. @return as dfu_core_handle; as dfu_device_work */
+/** @brief The work, then dfu_device_handle, then what is due is carried out. @return as dfu_core_handle; as dfu_device_work */
 static inline int32_t dfu_device_serve(struct dfu_device *d, const uint8_t setup[8], const uint8_t *body, uint8_t *out, size_t room) {
     const int32_t worked = dfu_device_work(d);
     return worked < 0 ? worked : dfu_device_settle(d, dfu_device_handle(d, setup, body, out, room), out, room);
 }
 
-/** @brief The work, and the bus is reset. @return 0; as dfu_core_usb_reset; as dfu_device_work */
+/** @brief The work, then dfu_device_usb_reset. @return 0; as dfu_core_usb_reset; as dfu_device_work */
 static inline int32_t dfu_device_reset(struct dfu_device *d) {
     const int32_t worked = dfu_device_work(d);
     return worked < 0 ? worked : dfu_device_usb_reset(d);
 }
 
-/** @brief Puts an image of 0 bytes or more into the first slot, whatever is on the flash, by the driver. A loss of power within it
- *         may leave no image. Then call dfu_device_power_on. @return 0; as the calls of a format */
+/** @brief By the driver, puts an image of 0 bytes or more into the first slot, whatever is on the flash. A loss of power within it may
+ *         leave no image. Afterwards call dfu_device_power_on. @return 0; as the calls of a format */
 static inline int32_t dfu_device_format(struct dfu_device *d, const uint8_t *image, size_t length) {
     int32_t n = dfu_device_format_start(d, image, length);
     while (n == DFU_ASKS && d->driver) {

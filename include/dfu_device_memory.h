@@ -1,14 +1,14 @@
 /* SPDX-License-Identifier: MIT OR Apache-2.0 */
 /**
  * @file dfu_device_memory.h
- * @brief A driver for dfu_device.h whose flash is plain memory, as FRAM or MRAM that is mapped, or a file of a host.
+ * @brief A driver for dfu_device.h whose flash is plain memory, such as FRAM or MRAM that is mapped, or a file on a host.
  *
  *     static uint8_t medium[DFU_MEDIUM_SIZE(1, 0, 1024)];
  *     static const struct dfu_driver driver = DFU_MEMORY_DRIVER(medium);
  *     static struct dfu_device dfu = {.config = &config, .flash = medium, .size = sizeof medium, .driver = &driver, ..};
  *
- * The stores are plain, a byte at a time and in order. Caches and memory have to let them through in the processor's order: what
- * opens a slot comes last.
+ * The stores are plain, a byte at a time and in order. Caches and memory have to keep that order, since the byte that opens a slot comes
+ * last.
  */
 #ifndef DFU_DEVICE_MEMORY_H
 #define DFU_DEVICE_MEMORY_H
@@ -26,10 +26,10 @@
 extern "C" {
 #endif
 
-/** @brief The driver of a medium, to initialize a struct dfu_driver with: medium is the same memory as flash. */
+/** @brief Initializes a struct dfu_driver: medium is the same memory as flash. */
 #define DFU_MEMORY_DRIVER(medium) {(medium), dfu_memory_erase, dfu_memory_program}
 
-/** @brief Erases so many bytes to FFh. @return 0 */
+/** @brief Erases `length` bytes to FFh. @return 0 */
 static inline int dfu_memory_erase(void *own, uint32_t at, uint32_t length) {
     volatile uint8_t *to = DFU_TO(uint8_t *, own) + at;
     uint32_t i;
@@ -38,7 +38,7 @@ static inline int dfu_memory_erase(void *own, uint32_t at, uint32_t length) {
     return 0;
 }
 
-/** @brief Stores so many bytes. @return 0 */
+/** @brief Stores `length` bytes. @return 0 */
 static inline int dfu_memory_program(void *own, uint32_t at, const uint8_t *bytes, uint32_t length) {
     volatile uint8_t *to = DFU_TO(uint8_t *, own) + at;
     uint32_t i;
@@ -47,7 +47,7 @@ static inline int dfu_memory_program(void *own, uint32_t at, const uint8_t *byte
     return 0;
 }
 
-/** @brief Makes in memory what a flash is to hold at first: what a programmer writes to it. @return as dfu_device_format */
+/** @brief Makes, in memory, the first contents of a flash, for a programmer to write. @return as dfu_device_format */
 static inline int32_t dfu_memory_format(const struct dfu_config *config, uint8_t *medium, size_t size, const uint8_t *image,
                                         size_t length) {
     const struct dfu_driver driver = DFU_MEMORY_DRIVER(medium);

@@ -1,16 +1,16 @@
 /* SPDX-License-Identifier: MIT OR Apache-2.0 */
 /* The host of USB device firmware upgrade (USB DFU 1.1) for a program in C: which request, wait or reset comes next.
  *
- * The library sends nothing, takes no memory and has no state. The program keeps the record of the session, does what
- * dfu_host_next says, and reports to dfu_host_take what came of it. Of a C library it wants at most memcpy, memmove and
- * memset. Its body is dfu_host.c, in C11, for processors of 32 or 64 bits that store the low byte of a number first.
+ * The library sends nothing, allocates nothing and keeps no state. The program keeps the record of the session, does what
+ * dfu_host_next says, and reports to dfu_host_take what came of it. The code is dfu_host.c, in C11, for little-endian
+ * processors of 32 or 64 bits. It needs at most memcpy, memmove and memset of a C library.
  *
  * Return values: 0 or more is an answer; a negative number is a refusal. A refusal changes nothing.
  *
  * The loop of a flashing tool:
  *
  *     struct dfu_session s; struct dfu_action a; struct dfu_file f; uint8_t answer[65535];
- *     if (dfu_host_version() != DFU_VERSION) the archive is that of another header
+ *     if (dfu_host_version() != DFU_VERSION) the library belongs to another header
  *     if (dfu_host_file(file, length, &f) != 0) refused
  *     if (dfu_host_download(&s, file, length, descriptor, size, &device, 100000, 3) != 0) refused
  *     for (;;) {
@@ -25,13 +25,14 @@
  *
  * What came of a transfer, by its outcome:
  *     acknowledged, if a.setup[0] is 21h (the host sends)      DFU_SEEN_ACK
- *     answered, if a.setup[0] is A1h (the device answers)      DFU_SEEN_BYTES, with the bytes, of any count from 0 on
+ *     answered, if a.setup[0] is A1h (the device answers)      DFU_SEEN_BYTES, with the bytes, however many
  *     stalled                                                  DFU_SEEN_STALL
- *     not finished for any other reason, as a timeout          DFU_SEEN_NOTHING
- *     the device left unasked, or somebody else reset it       DFU_SEEN_RESTART, once it is back, before all else
- *     the device left by itself after the close                DFU_SEEN_LEFT in place of that, before all else
- * - A device that leaves because of DFU_RESET, or of a DETACH that it acknowledged, does what it was asked to: that is no
- *   restart. The next action is for the device once it is open again. DFU_SEEN_RESET is the answer to DFU_RESET then too.
+ *     not finished for any other reason, such as a timeout     DFU_SEEN_NOTHING
+ *     the device left unasked, or somebody else reset it       DFU_SEEN_RESTART, first thing once it is back
+ *     the device left by itself after the close                DFU_SEEN_LEFT in place of that, first thing too
+ * - A device that leaves because of DFU_RESET, or because of a DETACH that it acknowledged, does what it was asked to: that
+ *   is no restart. After DFU_RESET the answer is DFU_SEEN_RESET then too. The next action is for the device once it is open
+ *   again.
  * - Each DFU_SEEN_RESTART spends one of the session's restarts, and the host asks for the device's state again.
  * - DFU_SEEN_LEFT is for a device that starts its new image by itself. Report it once, and only if all three hold: the
  *   device acknowledged the DNLOAD of no bytes that closes the download; it answered a later GETSTATUS with
@@ -40,26 +41,27 @@
  *   DFU_UNCONFIRMED, one of dfu_host_verified begins to compare. It may be reported before the device is back. In any other
  *   phase it is as DFU_SEEN_RESTART.
  *
- * What the program owes, always:
+ * What the program has to keep to, always:
  * - No pointer is NULL, even with length 0. Each points to as many bytes as its length says.
- * - Nothing that is handed in overlaps anything else that is.
+ * - Nothing that is handed in overlaps anything else that is handed in.
  * - answer has room for as many bytes as a.setup[6] and a.setup[7] ask for (the low byte first).
- * - Calls of one session come from one thread at a time.
- * What it owes so that the session goes on from where it was:
+ * - Only one thread at a time makes calls for a session.
+ * And so that a session goes on from where it was:
  * - The record is as the last call left it, from the beginning to the end of a session.
  * - The payload is the same for the whole session: the first dfu_file.payload bytes of the file that it began with. For an
  *   upload it is any pointer with length 0.
  * - The buffer is the same for the whole upload, and the program changes nothing in it.
- * - The archive is that of one version from the beginning to the end: a record of another version is refused.
+ * - The library has one version from the beginning to the end: a record of another version is refused.
  *
- * What is proved of programs that do:
+ * What is proved, if the program keeps to that:
  * - A session begins as its file, its descriptor and its limits say.
  * - Each dfu_host_take is a row of Fustrelan's host table. Each action is the one of its phase, with its body cut from the
- *   payload. A session is over after as many calls of dfu_host_take as it had actions.
+ *   payload. A session is over after at most as many calls of dfu_host_take as it had actions.
  * - DFU_INSTALLED, DFU_VERIFIED and DFU_UPLOADED come only as the laws of dfu_host say.
- * - An upload ends as DFU_NO_MEMORY exactly if dfu_host_take says so. No byte of the buffer changes but where a part is stored.
- * Proved also of any other record, payload or buffer: a call answers or refuses, it ends, and it touches nothing but what
- * its pointers say. */
+ * - An upload ends as DFU_NO_MEMORY exactly if dfu_host_take says so. Of the buffer only bytes change in which
+ *   a part is stored.
+ * Proved of any other record, payload or buffer too: a call answers or refuses, it returns, and it touches only the memory
+ * that its pointers and lengths name. */
 #ifndef DFU_HOST_H
 #define DFU_HOST_H
 
@@ -106,8 +108,8 @@ struct dfu_file {
     uint16_t device, product, vendor, dfu; /* bcdDevice, idProduct, idVendor (FFFFh: of any), bcdDFU */
 };
 
-/* The record: a session between two calls. A program reads kept, and writes nothing in it. The calls that begin a session
- * write the version, and a record of another one is no session's. A number that a phase does not have is 0. */
+/* The record: a session between two calls. A program reads kept, and writes no field. The calls that begin a session write
+ * the version, and a record of another version is refused. A field that a phase doesn't use is 0. */
 struct dfu_session {
     uint32_t version, goal;                 /* DFU_VERSION of the archive; goal 1 to 4 */
     DFU_ALIGNED_8 uint64_t number;          /* the block, the part or the report of the phase */
@@ -117,7 +119,7 @@ struct dfu_session {
     uint8_t tolerant, will_detach;          /* bitManifestationTolerant and bitWillDetach: 0 or 1 */
 };
 
-/* What is to be done. A number that an action does not have is 0. */
+/* What is to be done. A field that an action doesn't use is 0. */
 struct dfu_action {
     uint32_t what;                 /* DFU_SEND, DFU_WAIT, DFU_RESET or DFU_DONE */
     uint32_t value;                /* DFU_WAIT: how many milliseconds; DFU_DONE: the report */
@@ -177,7 +179,7 @@ enum {
     DFU_FILE_NO_SIGNATURE = -2, /* the file has no 'UFD' in its suffix */
     DFU_FILE_BAD_LENGTH = -3,   /* the file has a bLength under 16, or over its own length */
     DFU_FILE_DFUSE = -4,        /* the file has bcdDFU 011Ah */
-    DFU_FILE_BAD_CRC = -5,      /* the file has a dwCRC that is not that of its bytes */
+    DFU_FILE_BAD_CRC = -5,      /* the file's dwCRC isn't the CRC of its bytes */
     DFU_FILE_TOO_LARGE = -7,    /* the file has over 16,777,216 bytes */
     DFU_EMPTY_PAYLOAD = -21,    /* the file has nothing to install */
     DFU_WRONG_TARGET = -22,     /* the file is for another device */
@@ -186,9 +188,9 @@ enum {
     DFU_BAD_DESCRIPTOR = -25,   /* the descriptor has wTransferSize 0 */
     DFU_SHORT = -31,            /* the descriptor has fewer bytes than its first says */
     DFU_LONG = -32,             /* the descriptor has more bytes than its first says */
-    DFU_WRONG_LENGTH = -33,     /* the descriptor has neither 7 nor 9 as its first byte */
-    DFU_WRONG_TYPE = -34,       /* the descriptor has not 21h as its second byte */
-    DFU_NO_SESSION = -41,       /* the record is no session's over that payload and buffer, or of another version */
+    DFU_WRONG_LENGTH = -33,     /* the descriptor's first byte is neither 7 nor 9 */
+    DFU_WRONG_TYPE = -34,       /* the descriptor's second byte isn't 21h */
+    DFU_NO_SESSION = -41,       /* the record belongs to no session over that payload and buffer, or another version wrote it */
     DFU_NO_SEEN = -42           /* seen is over 7 */
 };
 
@@ -198,8 +200,8 @@ int32_t dfu_host_file(const uint8_t *file, size_t length, struct dfu_file *out);
 
 /* Begins a session that installs a file: 0; or the file's refusal; or the descriptor's; or the first that holds of
  * DFU_EMPTY_PAYLOAD, DFU_WRONG_TARGET, DFU_CANNOT_DOWNLOAD, DFU_BAD_DESCRIPTOR. The descriptor is the functional one, of
- * 9 bytes, or 7 in DFU 1.0. actions is how many calls of dfu_host_take the session may take (0 counts as 1), restarts how
- * many restarts of the device. The file is read once. */
+ * 9 bytes, or 7 in DFU 1.0. actions is how many calls of dfu_host_take the session may use (0 counts as 1), and restarts how
+ * many restarts of the device it puts up with. The file is read once. */
 int32_t dfu_host_download(struct dfu_session *session, const uint8_t *file, size_t length,
                           const uint8_t *descriptor, size_t size, const struct dfu_ids *device,
                           uint32_t actions, uint16_t restarts);
@@ -221,18 +223,18 @@ int32_t dfu_host_next(const struct dfu_session *session, const uint8_t *payload,
 
 /* Reports to the session what came of its action: 0; or DFU_NO_SESSION; or DFU_NO_SEEN. kept with room is the buffer of an
  * upload, and any pointer with 0 for a download. bytes with count is what came with DFU_SEEN_BYTES. The parts of an
- * upload that have wTransferSize bytes or fewer are stored one after the other, from the buffer's first byte on, but for the
- * 65,535th full one. Exactly if one of these has, with those before it, more bytes than room, it is not stored, and the
- * report is DFU_NO_MEMORY. */
+ * upload that have wTransferSize bytes or fewer are stored one after the other, from the buffer's first byte on, except the
+ * 65,535th full one. The report is DFU_NO_MEMORY exactly if one of these, with those before it, has more bytes than room;
+ * that one isn't stored. */
 int32_t dfu_host_take(struct dfu_session *session, const uint8_t *payload, size_t length, uint8_t *kept, size_t room,
                       uint32_t seen, const uint8_t *bytes, size_t count);
 
-/* Gives the session up: 0; or DFU_NO_SESSION. What it wants next is ABORT, and its report is DFU_ABORTED. One that is over
+/* Gives the session up: 0; or DFU_NO_SESSION. Its next action is ABORT, and its report DFU_ABORTED. A session that is over
  * stays as it is. */
 int32_t dfu_host_abort(struct dfu_session *session, const uint8_t *payload, size_t length);
 
-/* Writes a report's name, as gave-up, with no end mark: how many bytes it has, at most 15. The number is 0 if there is
- * no such report, or out has no room for it. */
+/* Writes a report's name, such as gave-up, without a terminating 0, and returns its length, at most 15; or 0 if there is no
+ * such report, or out has no room for it. */
 int32_t dfu_host_name(uint32_t report, uint8_t *out, size_t room);
 
 /* The version of the archive: DFU_VERSION, if header and archive belong together. */

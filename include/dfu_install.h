@@ -1,10 +1,10 @@
 /* SPDX-License-Identifier: MIT OR Apache-2.0 */
 /**
  * @file dfu_install.h
- * @brief A run area, apart from the slots of dfu_device.h: flash of its own, to which images are linked, so for one address.
+ * @brief A run area, apart from the slots of dfu_device.h: flash of its own, at the one address for which images are linked.
  *
  * Before each start the run area is compared with the image that is to be started, and what differs is copied. It holds the image from
- * its first byte on and nothing else, no header and no seal. It may be part of the slots' flash, or of another, with other sectors.
+ * its first byte on and nothing else, no header and no seal. It may be in the same flash as the slots, or in another with other sectors.
  *
  *     static struct dfu_install install = {.run = run, .size = size, .area = {4096, DFU_NOWHERE}, .driver = &driver};
  *     struct dfu_place place;                        // after dfu_device_power_on, once the device is in appIDLE
@@ -14,22 +14,22 @@
  *     else
  *         stay in the bootloader: the host may install another image
  *
- * - The operations go to install.driver, whose offsets are those of the run area. It feeds the watchdog, if there is one: between two
- *   operations lies one comparison of the image at most.
+ * - The operations go to install.driver, whose offsets are those of the run area. If there is a watchdog, the
+ *   driver feeds it: between two operations the image is compared at most once.
  * - Power may be lost at any moment: the next call goes on. The slots are only read.
  * - A program that can't wait for its flash calls dfu_install_next and dfu_install_took in place of settle, and carries out what is due
  *   between them.
- * - An image that is on trial is marked as tried only once settle has answered 0: a mark before that lets losses of power in the copy
- *   use up the trial. If the mark fails, the image before it is settled, and started.
+ * - Mark an image on trial as tried only once settle has answered 0, or losses of power in the copy use up its starts. If the mark fails,
+ *   settle and start the image before it.
  *
- * What the program owes:
- * - What it owes for dfu_device.h, of the run area too: it reads as it is, and an operation changes no byte outside its range.
- * - dfu_install.area.last is DFU_NOWHERE after each loss of power, and else as the last call left it. Whatever it is, 0 comes only if
- *   the run area holds the whole image. A part with ECC, whose pieces are programmed once, needs it.
+ * What the program has to keep to:
+ * - What dfu_device.h asks, for the run area too: it reads as it is, and an operation changes no byte outside its range.
+ * - area.last is DFU_NOWHERE after each loss of power, and else as the last call left it. Whatever it is, 0 comes only if the run area
+ *   holds the whole image; but flash with ECC, whose pieces may be programmed only once, needs it to be right.
  * - The application writes no sector of its image. What it keeps in the sectors after it stays. Bytes after the image in its last
  *   sector are not compared, and are lost when that sector is erased.
- * - Images have at most `size` bytes: a larger one is refused at each start with DFU_TOO_LARGE. With a run area of at least as many bytes
- *   as a slot's data there is none.
+ * - Images have at most `size` bytes: a larger one is refused at each start with DFU_TOO_LARGE. There is none if the run area has at least
+ *   as many bytes as a slot's data.
  *
  * Memory: sizeof(struct dfu_install), 20 bytes with pointers of 32 bits, and within a call 268 bytes for a struct dfu_ask.
  */
@@ -50,8 +50,8 @@
 extern "C" {
 #endif
 
-/** @brief Operations that an image of `length` bytes costs at most on a medium that works, in sectors of `sector` bytes: of each sector
- *         an erase and its pieces, and once more the pieces of one. */
+/** @brief The most operations for an image of `length` bytes on a medium that works, in sectors of `sector` bytes: for each sector an erase
+ *         and its pieces, and once more the pieces of one. */
 #define DFU_INSTALL_OPERATIONS(length, sector) (((length) + (sector) - 1) / (sector) * (1 + (sector) / 256) + (sector) / 256)
 
 /** @brief A run area. The program fills it in. */
@@ -59,7 +59,7 @@ struct dfu_install {
     const uint8_t *run;              /**< the run area, mapped for reading */
     size_t size;                     /**< bytes of it, a multiple of its sector */
     struct dfu_run_area area;        /**< the size of a sector, and DFU_NOWHERE */
-    const struct dfu_driver *driver; /**< what writes it; NULL for a program that carries out what is asked by itself */
+    const struct dfu_driver *driver; /**< what writes it; NULL if the program carries out the operations itself */
 };
 
 /** @brief As dfu_core_install_next. */
@@ -73,8 +73,8 @@ static inline int32_t dfu_install_took(struct dfu_install *i, const uint8_t *ima
     return dfu_core_install_took(&i->area, image, length, i->run, i->size, ask, failed);
 }
 
-/** @brief Carries out all that is due by the driver, at most DFU_INSTALL_OPERATIONS.
- * @return 0: the run area holds the whole image; DFU_NOT_WRITTEN: it does not come to hold it, its part is worn or its driver broken;
+/** @brief Has the driver carry out all that is due, at most DFU_INSTALL_OPERATIONS.
+ * @return 0: the run area holds the whole image; DFU_NOT_WRITTEN: after so many it still doesn't: the part is worn, or the driver broken;
  *         DFU_ASKS: an operation is due, and there is no driver; the refusals of dfu_core_install_next */
 static inline int32_t dfu_install_settle(struct dfu_install *i, const uint8_t *image, size_t length) {
     struct dfu_ask ask;

@@ -12,8 +12,8 @@
  *     the bus is reset:  if (dfu_runtime_usb_reset(&dfu)) set the bootloader's flag and restart
  *     time, in appDETACH:  if (dfu_runtime_elapse(&dfu, milliseconds)) leave the bus, set the flag and restart (bitWillDetach)
  *
- * A host that asks for bytes with a request that is stalled sends none; one that sends a data stage has it dropped. The answers are
- * those of the device of dfu_device.h in these two states.
+ * If a request is stalled, send no bytes; if the host sends a data stage with it, drop that. The answers are those of the device of
+ * dfu_device.h in these two states.
  */
 #ifndef DFU_RUNTIME_H
 #define DFU_RUNTIME_H
@@ -31,7 +31,7 @@
 extern "C" {
 #endif
 
-/** @brief An application's run-time mode. It fills in the first three fields; the others begin with 0, in appIDLE. */
+/** @brief An application's run-time mode. The application fills in the first three fields; the others begin with 0, in appIDLE. */
 struct dfu_runtime {
     uint16_t detach_ms;       /**< wDetachTimeOut, milliseconds */
     uint8_t interface_number; /**< bInterfaceNumber: a setup whose wIndex is another number is stalled */
@@ -41,7 +41,7 @@ struct dfu_runtime {
 };
 
 /** @brief Answers a setup. @param out room for 6 bytes
- *  @return how many bytes of out are the answer, 0 if it is acknowledged or has none; DFU_STALL */
+ *  @return how many bytes of out are the answer, 0 for an acknowledgement or an empty answer; DFU_STALL */
 static inline int32_t dfu_runtime_handle(struct dfu_runtime *r, const uint8_t setup[8], uint8_t out[6]) {
     const uint32_t timeout = DFU_TO(uint32_t, setup[2]) | DFU_TO(uint32_t, setup[3]) << 8;
     const int32_t length = setup[6] | setup[7] << 8;
@@ -66,7 +66,7 @@ static inline int32_t dfu_runtime_handle(struct dfu_runtime *r, const uint8_t se
     return DFU_STALL;
 }
 
-/** @brief So many milliseconds pass: the time of appDETACH runs out, or a device with bitWillDetach leaves.
+/** @brief `ms` milliseconds pass: the time of appDETACH runs out, or a device with bitWillDetach leaves.
  *  @return 1 if the application is to leave the bus and enter the bootloader; else 0 */
 static inline int dfu_runtime_elapse(struct dfu_runtime *r, uint32_t ms) {
     if (r->state != DFU_STATE_APP_DETACH || ms == 0)

@@ -3,8 +3,8 @@
  * @file dfu_trial.h
  * @brief A new image in the slots of dfu_device.h runs on trial until it confirms itself; else the image before it comes back.
  *
- * Marks in the sector of a header, after the header, say what was confirmed and how often an image was started. The device reads none of
- * them, and erases them with each new header. Nothing is on trial before an image was confirmed once: until then all is as without this.
+ * Marks in a header's sector, after the header, say what was confirmed and how often an image was started. The device doesn't read them,
+ * and erases them with each new header. Nothing is on trial before an image was confirmed once: until then all is as without this.
  *
  *     static struct dfu_trial trial = {.flash = slots, .size = size, .driver = &driver, .tries = {16, 4096, 3}};
  *     struct dfu_place place;
@@ -14,27 +14,27 @@
  *     the application, once it knows that it works:  dfu_trial_accept(&trial, the offset of its first byte in flash)
  *     the bootloader, if the image must not run:     dfu_trial_give_up(&trial)
  *
- * - An image is on trial if both slots have one, it is the newer, it is not confirmed, and the other one is. It is started at most
- *   `tries` times; then its gate is erased, and the confirmed one runs.
- * - A start is marked before it, and read back: if the mark does not read set, the confirmed image runs, and no start is lost.
- * - A download ends a trial first: until then the spare slot is that of the confirmed image, which would be written over.
+ * - An image is on trial if it is the newer of two, is not confirmed, and the other one is. It is started at most `tries` times; then its
+ *   gate is erased, and the confirmed one runs.
+ * - Each start is marked beforehand, and the mark read back: if it doesn't read as set, the confirmed image runs, and no start is lost.
+ * - A download first ends a trial: as long as that lasts the spare slot is the confirmed image's, which would be written over.
  * - An upload ends a trial that has no start left, as the next start would. So a host reads what the next start runs, and if it reports
- *   Verified its last reset starts the payload. But for two things: the mark of that start fails, and the image before runs this once;
- *   or the power goes in that reset, and the host does not see it.
- * - A host that verifies starts the new image twice, and a loss of power that it sees spends one start more, or two if it falls into a
- *   start. So 2 tries are enough if the power stays, and 2 more for each loss; with fewer it may report Different, and the image before
- *   runs. An image that confirms itself is past all this.
+ *   Verified, its last reset starts the payload. There are two exceptions: the mark of that start fails, and then the image before it runs
+ *   this once; or the power goes in that reset, and the host doesn't see it.
+ * - A host that verifies starts the new image twice. A loss of power that it sees spends one start more, or two if it comes within a
+ *   start. So 2 tries are enough if the power stays; add 2 for each loss. With fewer the host may report Different, and the image before
+ *   runs. Once an image has confirmed itself, none of this matters.
  * - With a run area (dfu_install.h) settle the image that dfu_trial_look gives as `active` before dfu_trial_boot, so that losses of power
  *   in the copy use up no start. If dfu_trial_boot gives another place, settle and start that.
- * - An application that has no linker symbol for its place takes the one that the bootloader started.
+ * - An application that has no linker symbol for its place has to learn it from the bootloader, which started it.
  *
- * What the program owes:
- * - What it owes for dfu_device.h. Only one operation at a time: no call while one of the device is due.
- * - It starts no other image than dfu_trial_boot says, and starts it once for each of these calls.
- * - A trial that dfu_trial_boot ends changes the flash: it comes before dfu_device_power_on, or power is given again.
- * - An application confirms by its own place. An old one, which runs since a mark failed, then confirms nothing new.
- * - unit, sector and tries are those of all calls, of the bootloader and of the application.
- * - A part with ECC: a mark that a loss of power tore and that reads FFh all the same is programmed again at the next start.
+ * What the program has to keep to:
+ * - What dfu_device.h asks. Only one operation at a time: no call while one of the device is due.
+ * - It starts only the image that dfu_trial_boot says, once for each of these calls.
+ * - If dfu_trial_boot ends a trial, that changes the flash: call it before dfu_device_power_on, or give power again.
+ * - An application confirms its own place. So an old one, which runs because a mark failed, doesn't confirm the new one.
+ * - unit, sector and tries are the same in all calls, the bootloader's and the application's.
+ * - On flash with ECC: a mark that a loss of power tore, and that reads FFh all the same, is programmed again at the next start.
  *
  * Memory: sizeof(struct dfu_trial), 28 bytes with pointers of 32 bits, and within a call 268 bytes for a struct dfu_ask.
  */
@@ -59,7 +59,7 @@ extern "C" {
 struct dfu_trial {
     const uint8_t *flash;            /**< both slots, mapped for reading */
     size_t size;                     /**< bytes of flash, as in struct dfu_device */
-    const struct dfu_driver *driver; /**< what writes it; NULL for a program that carries out what is asked by itself */
+    const struct dfu_driver *driver; /**< what writes it; NULL if the program carries out the operations itself */
     struct dfu_tries tries;          /**< unit, sector and tries */
     uint32_t unused;                 /**< fills the struct up to a multiple of 8 bytes */
 };
@@ -95,7 +95,7 @@ static inline int32_t dfu_trial_upload(const struct dfu_trial *t, struct dfu_ask
     return dfu_core_trial_upload(&t->tries, t->flash, t->size, ask);
 }
 
-/** @brief What is started now: by the driver the start is marked before, or the trial ended.
+/** @brief Which image to start now. Before that the driver marks the start, or ends the trial.
  * @return 0: place has it; DFU_ASKS: an operation is due, and there is no driver; the refusals of dfu_core_trial_look */
 static inline int32_t dfu_trial_boot(const struct dfu_trial *t, struct dfu_place *place) {
     struct dfu_ask ask;
@@ -109,7 +109,7 @@ static inline int32_t dfu_trial_boot(const struct dfu_trial *t, struct dfu_place
     return dfu_trial_runs(t, &ask, &starting, place);
 }
 
-/** @brief The image whose first byte is flash[at], the caller's own, is confirmed by the driver, and that is read back.
+/** @brief Confirms the caller's own image, whose first byte is flash[at], by the driver, and reads that back.
  * @return 0: it is confirmed; DFU_NOT_WRITTEN: it is not, and the trial goes on; DFU_ELSEWHERE; DFU_ASKS: an operation is due, and there
  *         is no driver; the refusals of dfu_core_trial_look */
 static inline int32_t dfu_trial_accept(const struct dfu_trial *t, uint32_t at) {
@@ -123,7 +123,7 @@ static inline int32_t dfu_trial_accept(const struct dfu_trial *t, uint32_t at) {
     return n;
 }
 
-/** @brief A trial ends by the driver, and that is read back.
+/** @brief Ends a trial by the driver, and reads that back.
  * @return 0: nothing is on trial; DFU_NOT_WRITTEN: the trial goes on; DFU_ASKS: an operation is due, and there is no driver; the refusals
  *         of dfu_core_trial_look */
 static inline int32_t dfu_trial_give_up(const struct dfu_trial *t) {
@@ -137,8 +137,8 @@ static inline int32_t dfu_trial_give_up(const struct dfu_trial *t) {
     return n;
 }
 
-/** @brief Before dfu_device_serve: if the setup begins a download and an image is on trial, or it begins an upload and no start of that is
- *         left, the trial ends by the driver, and the device is given power anew, in dfuIDLE.
+/** @brief Call it before dfu_device_serve. If the setup begins a download, or an upload while no start is left, it ends a trial by the
+ *         driver, and gives the device power anew, in dfuIDLE.
  * @return 0: serve the setup; else stall it: as dfu_trial_give_up, dfu_core_begin and dfu_core_would_stall */
 static inline int32_t dfu_trial_transfer(const struct dfu_trial *t, struct dfu_device *d, const uint8_t setup[8]) {
     struct dfu_ask ask;

@@ -2,9 +2,9 @@
 /* DfuSe files (ST's UM0391), for a program in C: which bytes belong at which addresses of a device, as the elements of a session of
  * dfuse_host.h. They are part of the same archive, which takes no memory and has no state.
  *
- * A file has an alternate setting for each memory of a device, and elements for it, each an address and bytes. Behind these comes a suffix
- * as that of USB DFU 1.1 (appendix B), with bcdDFU 011Ah. The size in the file's prefix may count the suffix, as dfu-util's tools have it,
- * or not, as ST's.
+ * A file has targets, each for an alternate setting, which is one memory of a device. A target has elements, each an address and bytes. A
+ * suffix follows, like that of USB DFU 1.1 (appendix B), with bcdDFU 011Ah. The size in the file's prefix may count the suffix, as in files
+ * of dfu-util's tools, or not, as in ST's.
  *
  *     struct dfuse_file says; struct dfuse_element image[64]; uint64_t elements;
  *     if (dfuse_read_file(bytes, length, &says) != 0) refused
@@ -14,11 +14,11 @@
  *     if (dfuse_begin(&s, map, map_length, image, elements, &plan) != 0) refused
  *
  * What is proved:
- * - dfuse_read_file answers 0 exactly for the files of the grammar, and each other with its first fault.
+ * - dfuse_read_file answers 0 exactly for the files of the grammar, and for any other the first fault.
  * - dfuse_file_image lists the elements of all targets for a setting, each once and no others, in the order of the file. The bytes of each
- *   are those of the file; they are in it, and are not copied.
- * Whether elements overlap, or are on a device's memory map, is not looked at: dfuse_begin refuses that. Nor is whether the file is for the
- * device at hand. */
+ *   stay in the file, and are not copied.
+ * These calls don't look whether elements overlap, or lie outside a device's memory map: dfuse_begin refuses that. Nor do they look whether
+ * the file is for the device at hand. */
 #ifndef DFUSE_FILE_H
 #define DFUSE_FILE_H
 
@@ -39,15 +39,15 @@ struct dfuse_file {
 /* The file's targets are not all for one alternate setting. */
 enum { DFUSE_SEVERAL = 256 };
 
-/* Negative return values: why bytes are no DfuSe file, in the order in which they are looked for; up to DFUSE_FILE_BAD_CRC that is the
- * suffix, from the end, and then the rest, from the front; */
+/* Negative return values. First, why bytes are no DfuSe file, in the order in which faults are looked for: up to DFUSE_FILE_BAD_CRC in the
+ * suffix, from the end of the file, and then in the rest, from the front. */
 enum {
     DFUSE_FILE_TOO_LARGE = -71,     /* the file has over 16,777,216 bytes */
     DFUSE_FILE_TOO_SHORT = -72,     /* the file has under 16 bytes */
     DFUSE_FILE_NO_SIGNATURE = -73,  /* the file has no 'UFD' in its suffix */
     DFUSE_FILE_BAD_LENGTH = -74,    /* the file has a bLength under 16, or over its own length */
-    DFUSE_FILE_NOT_DFUSE = -75,     /* the file has another bcdDFU than 011Ah */
-    DFUSE_FILE_BAD_CRC = -76,       /* the file has a dwCRC that is not that of its bytes */
+    DFUSE_FILE_NOT_DFUSE = -75,     /* the file's bcdDFU isn't 011Ah */
+    DFUSE_FILE_BAD_CRC = -76,       /* the file's dwCRC isn't the CRC of its bytes */
     DFUSE_FILE_NO_PREFIX = -77,     /* the file doesn't begin with the letters DfuSe, or has under 11 bytes before its suffix */
     DFUSE_FILE_BAD_VERSION = -78,   /* the version in the prefix isn't 1 */
     DFUSE_FILE_BAD_SIZE = -79,      /* the size in the prefix is neither that of the file, nor that without its suffix */
@@ -60,7 +60,7 @@ enum {
     DFUSE_FILE_TRAILING = -86       /* there are more bytes after the last target */
 };
 
-/* and why a file has no image for a setting. */
+/* Then, why a file has no image for a setting. */
 enum {
     DFUSE_FILE_NO_SETTING = -87,        /* no target is for that alternate setting */
     DFUSE_FILE_TOO_MANY_ELEMENTS = -88  /* there are more elements than places */
@@ -69,10 +69,10 @@ enum {
 /* Reads a file: 0; or the first that holds of DFUSE_FILE_TOO_LARGE to DFUSE_FILE_TRAILING. A refusal changes nothing. */
 int32_t dfuse_read_file(const uint8_t *file, size_t length, struct dfuse_file *out);
 
-/* Lists the elements of a file for an alternate setting at the front of the places, in the order of the file, and says in count how many
- * they are: 0; or the file's fault; or the first that holds of DFUSE_FILE_NO_SETTING and DFUSE_FILE_TOO_MANY_ELEMENTS. What the places have
- * before is not looked at, but each has to be a list of bytes that is there: of none, a pointer that isn't NULL, and length 0. A
- * refusal leaves count as it was; after the last two the places have any of these elements. */
+/* Lists the elements of a file for an alternate setting in the first places, in the order of the file, and their number in count: 0; or
+ * the file's fault; or the first that holds of DFUSE_FILE_NO_SETTING and DFUSE_FILE_TOO_MANY_ELEMENTS. What the places hold before doesn't
+ * matter, but each has to name bytes that are there: for none, a pointer that isn't NULL, and length 0. A refusal leaves count as it was;
+ * after the last two the places may hold some of these elements. */
 int32_t dfuse_file_image(const uint8_t *file, size_t length, uint8_t setting, struct dfuse_element *places, size_t room,
                          uint64_t *count);
 

@@ -2,13 +2,13 @@
 /* The host of DfuSe, ST's variant of USB DFU (bcdDFUVersion 011Ah), for a program in C: which request or wait comes next until the
  * bytes of an image are at their addresses in a device's memory, and were read back.
  *
- * The library sends nothing, takes no memory and has no state. The program keeps the record of the session, does what
- * dfuse_next says, and reports to dfuse_take what came of it. It is part of the same archive as dfu_host.h.
+ * The library sends nothing, allocates nothing and keeps no state. The program keeps the record of the session, does what
+ * dfuse_next says, and reports to dfuse_take what came of it. The code is in dfu_host.c too.
  *
  * Return values: 0 is an answer; a negative number is a refusal. A refusal changes nothing.
  *
- * The memory of a device is said by the string of an alternate setting, as
- * "@Internal Flash  /0x08000000/04*016Kg,01*064Kg,07*128Kg". A program hands in the string's bytes, with no end mark.
+ * A device describes its memory in the string of an alternate setting, such as
+ * "@Internal Flash  /0x08000000/04*016Kg,01*064Kg,07*128Kg". Pass the bytes of that string, without a terminating 0.
  *
  * The loop of a flashing tool:
  *
@@ -25,22 +25,22 @@
  *         if (dfuse_take(&s, map, map_length, image, 1, seen, answer, count) != 0) a mistake of the program
  *     }
  *
- * What came of an action is reported as dfu_host.h says, by the numbers DFU_SEEN_ACK, DFU_SEEN_BYTES, DFU_SEEN_STALL,
- * DFU_SEEN_NOTHING, DFU_SEEN_WAIT and DFU_SEEN_RESTART. There is no reset. A device that is away and comes back was restarted,
- * also if it left to start its application: report it before any later answer.
+ * What came of an action is reported as in dfu_host.h, by the numbers DFU_SEEN_ACK, DFU_SEEN_BYTES, DFU_SEEN_STALL,
+ * DFU_SEEN_NOTHING, DFU_SEEN_WAIT and DFU_SEEN_RESTART. There is no reset. A device that went away and came back was restarted,
+ * even if it left to start its application: report that before any later answer.
  *
- * What the program owes, always: as in dfu_host.h. In every call of a session the map, the image and its bytes are those that it
+ * What the program has to keep to is in dfu_host.h. In every call of a session the map, the image and its bytes are those that it
  * began with, and the record is as the last call left it.
  *
- * What is proved of programs that do:
- * - A session begins exactly if its plan has none of the faults below; each action is that of its phase, and each dfuse_take a row of
- *   the table of Fustrelan's host for DfuSe. A session is over after as many calls of dfuse_take as it had actions.
+ * What is proved, if the program keeps to that:
+ * - A session begins exactly if its plan has none of the faults below. Each action is that of its phase, and each dfuse_take a row of
+ *   the table of Fustrelan's host for DfuSe. A session is over after at most as many calls of dfuse_take as it had actions.
  * - DFUSE_VERIFIED comes only if each byte of the image was read back since it was last written, and was the image's.
  * - Only pages with a byte of the image are erased, as the map has them, and only bytes of the image are written. The front is
  *   written last, when all else was read back.
- * Proved also of any other record, map or image: a call answers or refuses, it ends, and it touches nothing but what its pointers say.
- * It is not proved that a report is true of a device: that a device answers UPLOAD with its memory, and changes that only by
- * commands, is taken for granted. */
+ * Proved of any other record, map or image too: a call answers or refuses, it returns, and it touches only the memory that its
+ * pointers and lengths name. That a report is true of a device is not proved here: a device might answer UPLOAD with other bytes than
+ * its memory, or change its memory without a command. */
 #ifndef DFUSE_HOST_H
 #define DFUSE_HOST_H
 
@@ -66,8 +66,8 @@ struct dfuse_range {
 /* What may be done with a page: bits of access. */
 enum { DFUSE_READABLE = 1, DFUSE_ERASABLE = 2, DFUSE_WRITABLE = 4 };
 
-/* A part of an image: so many bytes, and the address at which they belong. A pointer takes 8 bytes also with a processor of 32
- * bits, so set the members by their names, and none but these three. */
+/* A part of an image: bytes, and the address where they belong. A pointer takes 8 bytes here even on a processor of 32 bits, so set
+ * the members by their names, and only address, bytes and length. */
 struct dfuse_element {
     uint32_t address;
     DFU_ALIGNED_8 const uint8_t *bytes;
@@ -85,13 +85,13 @@ struct dfuse_plan {
     uint32_t start;    /* the address at which the device is to start its application */
     uint32_t actions;  /* how many calls of dfuse_take the session may take; 0 counts as 1 */
     uint16_t restarts; /* how many restarts of the device are taken */
-    uint16_t transfer; /* the device's wTransferSize, no other number: it is the most bytes of a block, and a device counts by it */
-    uint16_t front;    /* how many bytes of the image are written last, if its first element and its first page have so many */
-    uint16_t leaves;   /* whether the device is asked to leave once all was compared: 0 or else */
+    uint16_t transfer; /* the device's own wTransferSize: it limits a block, and the device computes addresses with it */
+    uint16_t front;    /* how many bytes of the image are written last, if its first element and its first page have that many */
+    uint16_t leaves;   /* 0, or else the device is asked to leave once all was compared */
 };
 
-/* The record: a session between two calls. A program writes nothing in it; work and at say how far it is. A number that a phase
- * does not have is 0. */
+/* The record: a session between two calls. A program writes no field; work and at say how far it is. A field that a phase
+ * doesn't use is 0. */
 struct dfuse_session {
     uint32_t version, work;              /* DFU_VERSION of the archive; what it works at */
     DFU_ALIGNED_8 uint64_t at, end;      /* the address at which the host works; up to which it goes, if it says so itself */
@@ -113,7 +113,7 @@ enum {
     DFUSE_OVER = 7
 };
 
-/* What is to be done. A number that an action does not have is 0. */
+/* What is to be done. A field that an action doesn't use is 0. */
 struct dfuse_action {
     DFU_ALIGNED_8 uint64_t length; /* DFU_SEND: how many bytes the body has, 0 to 65,535, which are at the front of the buffer */
     uint32_t what;                 /* DFU_SEND, DFU_WAIT or DFU_DONE */
@@ -137,12 +137,12 @@ enum {
 /* How a device left, with DFUSE_VERIFIED. */
 enum {
     DFUSE_STAYED = 0, /* it wasn't asked to */
-    DFUSE_LEFT = 1,   /* it said that it does */
+    DFUSE_LEFT = 1,   /* it said that it leaves */
     DFUSE_UNKNOWN = 2 /* it was asked to, and what came of it isn't known */
 };
 
-/* Negative return values, apart from DFU_NO_SESSION (the string is no map, or the record is no session's, or of another version) and
- * DFU_NO_SEEN (seen is none of the six). */
+/* Negative return values, apart from DFU_NO_SESSION (the string is no map, the record belongs to no session, or another version wrote
+ * it) and DFU_NO_SEEN (seen is none of the six). */
 enum {
     DFUSE_NO_ROOM = -43,         /* the buffer has fewer bytes than the body */
     DFUSE_NO_RANGE = -44,        /* the map has no range of that number */
@@ -165,7 +165,7 @@ enum {
     DFUSE_NOT_READABLE = -68     /* a page of the image can't be read back */
 };
 
-/* Reads the string of an alternate setting: 0; or the fault of the first place at which it goes on as no map does, DFUSE_NO_MAP to
+/* Reads the string of an alternate setting: 0; or the fault at the first place where it stops being a map, DFUSE_NO_MAP to
  * DFUSE_TRAILING; or DFUSE_OVERLAPS. */
 int32_t dfuse_read_map(const uint8_t *text, size_t length, struct dfuse_map *out);
 
