@@ -1,15 +1,15 @@
 /* SPDX-License-Identifier: MIT OR Apache-2.0 */
-/* As what each answer of libusb is reported to the host. The proof of what Installed and Verified mean rests on this file:
-   a transfer that is reported as acknowledged or answered was really made, and a restart is reported if the device lost its
-   state, before anything that it answers later.
+/* How each answer of libusb is reported to the host. The proof of what Installed and Verified mean rests on this file: a transfer
+   that is reported as acknowledged or answered was really made, and if the device lost its state, a restart is reported before
+   anything that it answers later.
 
    Of a transfer:
      as many bytes out as the body has  Ack         it was made, and acknowledged
-     bytes in, also fewer or none       Bytes       what came, as it came
+     bytes in, even fewer or none       Bytes       what came, as it came
      LIBUSB_ERROR_PIPE                  Stall       the device refused the request
      LIBUSB_ERROR_NO_DEVICE             Left        the device left after the end of a download, as below
                                         Restarted   else: reported once it is back and open again
-     any other                          Nothing     as TIMEOUT, IO, OVERFLOW: it may have been handled or not, and the host asks
+     any other                          Nothing     such as TIMEOUT, IO, OVERFLOW: it may have been handled or not, and the host asks
 
    Of a reset:
      0                                  WasReset    once its interface is in its setting again, if that is another than 0

@@ -7,9 +7,9 @@
 
 #define BAR_ROOM 160
 
-/* Writes the line: what goes on, a bar with the percentage, how many bytes of `total` are done, the rate and the time that is left,
-   after `passed_ms`. If `total` is 0 nobody knows it, and there are bytes and rate alone. The bar has up to `most` characters, and so
-   few that the line is shorter than `columns`; without room for five there is none, and the line is cut. */
+/* Writes the line: what goes on, a bar with the percentage, how many bytes of `total` are done, the rate and the time that is left, after
+   `passed_ms`. If `total` is 0 nobody knows it, and there are only bytes and rate. The bar has up to `most` characters, but no more than
+   keep the line shorter than `columns`; without room for five there is no bar, and the line is cut. */
 void bar_line(char line[BAR_ROOM], const char *what, uint64_t bytes, uint64_t total, int64_t passed_ms, int most, int columns);
 
 /* The columns and the lines of the terminal that standard error is; 80 and 24 if nobody says. */

@@ -1,11 +1,11 @@
 /* SPDX-License-Identifier: MIT OR Apache-2.0 */
-/* When a device at a path is another one than before. One that was flashed starts its image, and so leaves and comes back by itself: if
-   it were flashed again for that, it would be without end. So:
+/* When the device at a path is another one than before. A device that was flashed starts its image, so it leaves and comes back by itself:
+   if it were flashed again for that, this would never end. So:
 
-   It was there since it was done, and is away for two seconds: it was pulled out, and the next one is another.
-   One comes within ten seconds since it was there, or was done: it is another one if it has another serial number than the one of
-   before had in the same mode.
-   One comes later: it is the same if it has the same serial number as before in that mode. */
+   - If it was seen after it was done, and is away for two seconds, it was pulled out, and the next one is another.
+   - If one comes within ten seconds after it was seen, or was done, it is another if it has another serial number than the one before
+     had in the same mode.
+   - If one comes later, it is the same if it has the same serial number as before in that mode. */
 #include "bays.h"
 
 #include <stddef.h>
@@ -23,7 +23,7 @@ static struct bay *find(struct bays *bays, const char *path)
     return NULL;
 }
 
-/* A new one, in the place of one of which nothing is known; NULL if there is no place. */
+/* A new bay, in place of one about which nothing is known; NULL if there is no room. */
 static struct bay *make(struct bays *bays, const char *path)
 {
     int at = 0;

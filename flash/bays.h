@@ -10,7 +10,7 @@
 
 #define BAYS_ROOM 256
 
-/* With what a process ends that found the device of before: it has done nothing, and reports nothing. */
+/* The exit status of a process that found the device of before: it has done nothing, and reports nothing. */
 #define BAY_SAME 100
 
 enum bay_state {

@@ -26,9 +26,9 @@ const char *goal_name(enum goal goal)
     return names[goal];
 }
 
-/* A clean session takes up to 4 actions a block, one more if it is compared, and some 20 around them. Twice that for losses
-   and for a device that asks to be polled often, the same again for each restart that is taken, and 300 for a device that was
-   left in the midst of something. An upload ends by itself after 65,535 parts. */
+/* A clean session takes up to 4 actions a block, one more if it is compared, and some 20 around them. Twice that for losses and for a
+   device that asks to be polled often, the same again for each restart that is taken, and 300 for a device that was left in the middle of
+   something. An upload ends by itself after 65,535 parts. */
 static void take_limits(struct session *session, const uint8_t descriptor[9])
 {
     uint64_t transfer = two_bytes(descriptor + AT_TRANSFER);
@@ -74,9 +74,9 @@ static bool is_odd(int32_t refusal)
            || refusal == DFU_BAD_DESCRIPTOR;
 }
 
-/* In run-time mode the functional descriptor says no more than how the device is brought to DFU mode, and there it has one that
-   counts (USB DFU 1.1, section 4.2.4, has them alike). So if that of an interface of run-time mode is odd another one is taken
-   in its place; session.c sees to it that no block is sent by that. */
+/* In run-time mode the functional descriptor only says how to bring the device to DFU mode, where it has the one that counts (by USB DFU
+   1.1, section 4.2.4, both are the same). So if the one of run-time mode is odd, another takes its place, and session.c sees to it that no
+   block is sent by that. */
 static int32_t begin_by_another(struct session *session, int32_t refusal)
 {
     static const uint8_t another[FUNCTIONAL_BYTES] = {

@@ -9,7 +9,7 @@
 #include <string.h>
 
 #define LOOK_MS 100
-#define SETTLE_MS 2000 /* in which who may open a device that came is settled */
+#define SETTLE_MS 2000 /* by then udev has settled who may open a device that came */
 
 /* One DFU interface may be there in several alternate settings, each for another part of the memory. */
 static void ask_for_one(const struct found *list, int count)
@@ -28,7 +28,7 @@ static bool is_unread(const struct wanted *wanted, const struct found *list, int
     return wanted->place.name != NULL;
 }
 
-/* If the serial number that is asked for was read of one, those of which none can be read aren't meant. */
+/* If one was read with the serial number that is asked for, those whose number can't be read aren't meant. */
 static int drop_unread(const struct wanted *wanted, struct found *list, int count)
 {
     int read = 0;

@@ -22,7 +22,7 @@ void crew_make(struct crew *crew, const struct words *words);
 /* Begins one for the device in the bay. */
 void crew_begin(struct crew *crew, const struct words *words, struct image *image, struct bay *bay);
 
-/* Waits until something comes of one of them, or for so long; prints what is to say, and the record of each that has ended. */
+/* Waits until one of them says something, at most that long; prints what there is to say, and the record of each that has ended. */
 void crew_step(struct crew *crew, int ms);
 
 /* A signal came: each gives up. */

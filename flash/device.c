@@ -101,7 +101,7 @@ static void say_why(struct device *device, int error)
     found_drop(&one, count);
 }
 
-/* Whether it is waited for still. What takes over 10 seconds is said, once they have passed. */
+/* Whether to go on waiting for it. Once that has taken 10 seconds, this says so. */
 static bool is_awaited(const struct device *device, int64_t began_ms, bool *is_said)
 {
     int64_t most_ms = (int64_t)device->patience.seconds * 1000;

@@ -1,6 +1,6 @@
 /* SPDX-License-Identifier: MIT OR Apache-2.0 */
-/* Why no device is the one that is wanted: what is asked for is looked at word by word, and the first that none of those left has is
-   named. */
+/* Why no device is the wanted one: one by one, what was asked for is compared with the devices that are left, and the first thing that
+   none of them has is named. */
 #include "say.h"
 #include "standard.h"
 #include "status.h"

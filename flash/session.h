@@ -65,18 +65,15 @@ struct session {
     int32_t refusal;        /* why not, if it is END_REFUSED */
 };
 
-/* The program's own refusals, beside the host's: the file is for any device, and would go to all; of DfuSe: the device speaks it, and
-   nobody said at which address; it is in run-time mode; an address was given, and the device has none; or the file has its own; or
-   the device's blocks are larger than Linux carries; on a system that makes no reset, a reset brings the device to DFU mode; or the
-   file has targets of several settings, and none was asked for. */
-#define REFUSED_ANY (-102)
-#define REFUSED_NO_ADDRESS (-103)
-#define REFUSED_RUN_TIME (-104)
-#define REFUSED_NOT_DFUSE (-105)
-#define REFUSED_OWN_ADDRESS (-106)
-#define REFUSED_LARGE_BLOCKS (-107)
-#define REFUSED_MIXED (-108)
-#define REFUSED_NO_RESET (-120)
+/* The program's own refusals, beside the host's. */
+#define REFUSED_ANY (-102)          /* the file is for any device, and would go to all */
+#define REFUSED_NO_ADDRESS (-103)   /* the device speaks DfuSe, and nobody said at which address */
+#define REFUSED_RUN_TIME (-104)     /* it does, and is in run-time mode */
+#define REFUSED_NOT_DFUSE (-105)    /* an address was given, and the device has none */
+#define REFUSED_OWN_ADDRESS (-106)  /* an address was given, and the file has its own */
+#define REFUSED_LARGE_BLOCKS (-107) /* a DfuSe device's blocks are larger than Linux carries */
+#define REFUSED_MIXED (-108)        /* the file has targets of several settings, and none was asked for */
+#define REFUSED_NO_RESET (-120)     /* only a reset would bring the device to DFU mode, and this system makes none */
 
 /* What it is for, in a word. */
 const char *goal_name(enum goal goal);

@@ -3,7 +3,7 @@
 #ifndef DFU_FLASH_STREAMS_H
 #define DFU_FLASH_STREAMS_H
 
-/* Of those that were closed by who started the program, none becomes a file, a pipe or a device that is opened here: it fails. */
+/* If whoever started the program had closed one of them, no file, pipe or device that is opened here takes its place: using it fails. */
 void streams_keep(void);
 
 #endif

@@ -196,8 +196,8 @@ static void take_plain(struct plain *plain, const char *text)
         plain->texts[plain->count++] = text;
 }
 
-/* Takes the words up to the next option, and whether there is one; after "--" there is none. getopt_long isn't asked for words that are no
-   options, since it differs by system in when it moves them, and a second word of an option is looked for in its place. */
+/* Takes the words up to the next option, and whether there is one; after "--" there is none. getopt_long doesn't handle words that are no
+   options: when it moves them differs by system, and an option's second word has to be found in its place. */
 static bool is_option_next(struct plain *plain, int count, char **texts)
 {
     while (optind < count && (texts[optind][0] != '-' || texts[optind][1] == '\0'))

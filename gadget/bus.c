@@ -15,8 +15,8 @@ static void look(struct bus *bus)
     installed_run(&bus->installed, bus->machine.place.at, bus->machine.place.length);
 }
 
-/* In dfuDNBUSY and dfuMANIFEST all of the time that the host waits for passes at once, and so the work is done; appDETACH alone counts
-   the time that passes. */
+/* In dfuDNBUSY and dfuMANIFEST all of the time that the host waits for passes at once, and so the work is done; only in appDETACH does
+   passing time count. */
 void bus_pass(struct bus *bus)
 {
     int32_t before = machine_state(&bus->machine);
@@ -125,7 +125,7 @@ static bool decide(struct bus *bus, const uint8_t setup[8], uint8_t out[MOST_TRA
 }
 
 /* FunctionFS has put this function's own number of the interface into wIndex, which is 0, as in the configuration. Other requests than
-   those of the class are nobody's. */
+   those of the class are stalled. */
 void bus_serve(struct bus *bus, const uint8_t setup[8])
 {
     struct function *function = &bus->functions[bus->mode];

@@ -1,5 +1,5 @@
 /* SPDX-License-Identifier: MIT OR Apache-2.0 */
-/* The file of --config: a line for each option, without its dashes, as `transfer-size 1024`. A line that begins with # says nothing. */
+/* The file of --config: a line for each option, without its dashes, as `transfer-size 1024`. A line that begins with # is a comment. */
 #include "say.h"
 #include "words.h"
 

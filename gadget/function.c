@@ -1,8 +1,8 @@
 /* SPDX-License-Identifier: MIT OR Apache-2.0 */
-/* FunctionFS reports no reset of the bus as such. If a configuration was set, it reports DISABLE once the bus is reset, the cable
-   is pulled or another configuration is set; and after a reset ENABLE, once the host has set one again. Either drops those that were
-   not read yet: a program that is late finds ENABLE alone, as after a SET_INTERFACE, which dfu-util sends each time. Two things show
-   these apart, and a reset needs both: the eventfd counts events that were dropped too, and a reset writes the controller's state. */
+/* FunctionFS reports no reset of the bus as such. If a configuration was set, it reports DISABLE once the bus is reset, the cable is
+   pulled or another configuration is set; and after a reset ENABLE, once the host has set one again. Either drops those that were not read
+   yet: a program that is late finds only ENABLE, as after a SET_INTERFACE, which dfu-util sends each time. Two things show these apart,
+   and a reset needs both: the eventfd counts events that were dropped too, and a reset writes the controller's state. */
 #define _GNU_SOURCE
 #include "function.h"
 #include "descriptors.h"

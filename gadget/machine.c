@@ -8,8 +8,8 @@
 
 #include <string.h>
 
-/* For what is asked of a medium alone: of a configuration, its unit and its sector count there. A file is written over in place, but for
-   images on trial. */
+/* For calls about a medium only, which look at just the unit and the sector of a configuration. A file is written over in place, except
+   with images on trial. */
 static struct dfu_config layout(uint32_t sector)
 {
     return (struct dfu_config){.version = DFU_VERSION,

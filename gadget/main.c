@@ -1,7 +1,7 @@
 /* SPDX-License-Identifier: MIT OR Apache-2.0 */
 /* dfu-gadget: a Linux board as a device of DFU. What is answered, when time matters and what is written, and in which order, is decided
-   by the proved device (dfu_device.h and dfu_trial.h, called in machine.c and trial.c alone); this program carries it out, by
-   FunctionFS and on the medium. The rest is proved by nobody. share/man/dfu-gadget.1 says how it is used.
+   by the proved device (dfu_device.h and dfu_trial.h, called only in machine.c and trial.c); this program carries it out, by
+   FunctionFS and on the medium. The rest is not proved. share/man/dfu-gadget.1 says how it is used.
 
    words, config, help     the command line, and the file of --config
    make, look, run         the work of format and image, of --dry-run, and of run

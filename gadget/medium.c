@@ -39,8 +39,8 @@ size_t medium_head(uint32_t tries)
     return tries == 0 ? MEDIUM_HEAD : MEDIUM_TRIAL_HEAD;
 }
 
-/* A link is followed to a block device alone, as those of /dev/disk are: a link to a file may be someone else's. What would block,
-   as a pipe, is opened all the same, and refused. Of a block device, O_EXCL asks that nothing else has it, as a file system. */
+/* A link is followed only to a block device, as those in /dev/disk are: a link to a file may be someone else's. What would block, such as
+   a pipe, is opened all the same, and refused. For a block device O_EXCL asks that nothing else has it, such as a file system. */
 static int open_there(const char *name, int flags)
 {
     int file = open(name, flags | O_CLOEXEC | O_NOFOLLOW | O_NONBLOCK);
@@ -187,7 +187,7 @@ static bool is_kept(const struct medium *medium, size_t at, size_t length)
     return is;
 }
 
-/* What is mapped isn't dropped, so that nothing stands there meanwhile. */
+/* Linux drops no page that is mapped, so these bytes are not mapped meanwhile. */
 bool medium_forget(const struct medium *medium, size_t at, size_t length)
 {
     void *bytes = (void *)(uintptr_t)medium->bytes;

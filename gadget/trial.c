@@ -1,6 +1,6 @@
 /* SPDX-License-Identifier: MIT OR Apache-2.0 */
-/* Each of start, confirm and end is a call of the library that asks for one write at most, in a turn of its own: `run` may have the medium
-   meanwhile. */
+/* Each of start, confirm and end is one call of the library, which asks for at most one write. It waits for its turn, since `run` may have
+   the medium meanwhile. */
 #include "trial.h"
 #include "dfu_device_memory.h"
 #include "driver.h"

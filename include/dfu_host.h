@@ -148,7 +148,7 @@ enum {
     DFU_SEEN_RESET = 5,   /* DFU_RESET: the bus was reset */
     DFU_SEEN_RESTART = 6, /* the device was restarted unasked */
     DFU_SEEN_LEFT = 7,    /* the device left by itself after the close, to start its new image */
-    /* The same by older names. */
+    /* Other names for the same. */
     DFU_ACK = DFU_SEEN_ACK,
     DFU_BYTES = DFU_SEEN_BYTES,
     DFU_STALLED = DFU_SEEN_STALL,

@@ -1,5 +1,5 @@
 /* SPDX-License-Identifier: MIT OR Apache-2.0 */
-/* The streams have bytes: a line ends in a line feed alone, and an image may come in by standard input. A stream that was closed by who
+/* The streams have bytes: a line ends in only a line feed, and an image may come in by standard input. A stream that was closed by who
    started the program has no number here that a file could get. */
 #include "../streams.h"
 

@@ -34,8 +34,8 @@ static uint16_t open_interface(uint8_t rhport, tusb_desc_interface_t const *inte
     return dfu == NULL ? 0 : open_number(interface, most, dfu->config->interface_number);
 }
 
-/* The host sends a data stage. What is known to be stalled is stalled before it; the rest is handed in when all of it is there. TinyUSB
- * does not say how much came: of a data stage that ends early the rest reads 0, and nothing of an earlier one. */
+/* The host sends a data stage. A request that will be stalled is stalled before it; any other is served once the whole data stage is
+ * there. TinyUSB does not say how much came: if a data stage ends early, the rest reads 0, and not what an earlier one left. */
 static bool await(uint8_t rhport, tusb_control_request_t const *request, const uint8_t setup[8])
 {
     if (noted(dfu_device_work(dfu)) < 0)
@@ -97,7 +97,7 @@ int32_t dfu_tinyusb_start(struct dfu_device *device)
     return 0;
 }
 
-/* A device with bitWillDetach that left comes back by a reset that does not count. */
+/* When a device with bitWillDetach that left comes back, the reset of that does not count. */
 void dfu_tinyusb_task(uint32_t now_ms)
 {
     const uint32_t ms = passed(now_ms, state() == DFU_STATE_APP_DETACH);

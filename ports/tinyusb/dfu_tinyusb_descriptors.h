@@ -13,7 +13,7 @@
  *         static uint8_t const bos[] = {DFU_TINYUSB_BOS(sizeof microsoft)};
  *     one with others, whose DFU interface has the number 2:
  *         static uint8_t const microsoft[] = {DFU_TINYUSB_MICROSOFT_FUNCTION(2)};
- *     the landing page, behind https:
+ *     the landing page, by https:
  *         static uint8_t const page[] = {DFU_TINYUSB_PAGE(22), 'e', 'x', 'a', 'm', 'p', 'l', 'e', '.', 'o', 'r', 'g', ..};
  *
  *     uint8_t const *tud_descriptor_bos_cb(void) { return bos; }
@@ -48,7 +48,7 @@ extern "C" {
     9, TUSB_DESC_INTERFACE, (number), 0, 0, TUSB_CLASS_APPLICATION_SPECIFIC, 1, (protocol), (string), 9, 0x21, (attributes), \
         U16_TO_U8S_LE(detach_ms), U16_TO_U8S_LE(transfer), U16_TO_U8S_LE(0x0110)
 
-/** @brief A BOS descriptor of 57 bytes: WebUSB, with landing page 1, and Microsoft OS 2.0, whose set has so many bytes. */
+/** @brief A BOS descriptor of 57 bytes: WebUSB, with landing page 1, and Microsoft OS 2.0, whose set has `set` bytes. */
 #define DFU_TINYUSB_BOS(set) \
     TUD_BOS_DESCRIPTOR(TUD_BOS_DESC_LEN + TUD_BOS_WEBUSB_DESC_LEN + TUD_BOS_MICROSOFT_OS_DESC_LEN, 2), \
         TUD_BOS_WEBUSB_DESCRIPTOR(DFU_TINYUSB_WEBUSB, 1), TUD_BOS_MS_OS_20_DESCRIPTOR((set), DFU_TINYUSB_MICROSOFT)

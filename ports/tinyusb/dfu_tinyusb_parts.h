@@ -53,8 +53,8 @@ static bool deinit(void)
     return true;
 }
 
-/* TinyUSB calls reset at each reset of the bus, of which an enumeration has two, when the cable is pulled, and at a SET_CONFIGURATION of
- * another value, which is none: the hook tells it apart. What counts is the first after a SET_CONFIGURATION. */
+/* TinyUSB calls reset at each reset of the bus (an enumeration has two), when the cable is pulled, and at a SET_CONFIGURATION of another
+ * value, which is no reset: the hook tells that apart. What counts is the first reset after a SET_CONFIGURATION. */
 static bool counts(void)
 {
     const bool was_configured = is_configured;
