@@ -38,7 +38,7 @@ complete -c dfu -n __dfu_at -a extract -d 'Write the payload of a DFU file, with
 complete -c dfu -n __dfu_at -a set -d 'Change the identifiers of a DFU file in place'
 complete -c dfu -n __dfu_at -a show -d 'Print the fields of bytes that go over the wire'
 complete -c dfu -n __dfu_at -a run -d 'Play a script of events on a simulated link of a host and a device'
-complete -c dfu -n __dfu_at -a judge -d 'Say whether a device of USB DFU 1.1 may have answered as a log or a capture has it'
+complete -c dfu -n __dfu_at -a judge -d 'Check a log or a capture of DFU traffic against USB DFU 1.1'
 complete -c dfu -n __dfu_at -a help -d 'Print help'
 complete -c dfu -n '__dfu_of check judge; or __dfu_at run; or __dfu_at add; or __dfu_at add FILE' -F
 complete -c dfu -n '__dfu_at extract; or __dfu_at extract FILE; or __dfu_at set' -F
@@ -51,8 +51,8 @@ complete -c dfu -n '__fish_seen_subcommand_from run' -l trace -d 'Print a line f
 complete -c dfu -n '__fish_seen_subcommand_from run' -l board -d 'Play each event on a board beside the device too'
 complete -c dfu -r -F -n '__fish_seen_subcommand_from run' -l file -d 'The file that FILE stands for in offer and verify'
 complete -c dfu -x -n '__fish_seen_subcommand_from judge' -l interface -d 'The number of the DFU interface'
-complete -c dfu -x -n '__fish_seen_subcommand_from judge' -l device -d 'Of a capture the device'
-complete -c dfu -n '__fish_seen_subcommand_from judge' -l dfuse -d 'Judge by what DfuSe adds to USB DFU 1.1'
+complete -c dfu -x -n '__fish_seen_subcommand_from judge' -l device -d 'The device in a capture'
+complete -c dfu -n '__fish_seen_subcommand_from judge' -l dfuse -d 'Check against DfuSe, an extension of USB DFU 1.1'
 complete -c dfu -n '__fish_seen_subcommand_from check show judge' -l json -d 'Print each line as a JSON object'
 complete -c dfu -n '__dfu_at show' -a 'functional status state setup configuration'
 complete -c dfu -n '__dfu_at help' -a 'check add extract set show run judge help'

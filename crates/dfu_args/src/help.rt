@@ -1,6 +1,6 @@
 //! The texts of `--help`.
 
-/// What `--version` prints behind the program's name.
+/// What `--version` prints after the program's name.
 pub(crate) const VERSION: &str = "0.3.0";
 
 pub(crate) const DFU: &str = "dfu 0.3.0: firmware files and upgrades over USB (DFU 1.1)";
@@ -93,21 +93,20 @@ pub(crate) const RUN_EXAMPLE: &str = "\
 Example, a file with 4 bytes of payload that is installed after 13 actions of the host:
   printf 'offer ffffffffffffffffffff00015546441071c8510c\\ngo pass 13\\n' | dfu run -";
 
-pub(crate) const JUDGE: &str =
-    "Say whether a device of USB DFU 1.1 may have answered as a log or a capture has it";
+pub(crate) const JUDGE: &str = "Check a log or a capture of DFU traffic against USB DFU 1.1";
 
 pub(crate) const JUDGE_FILE: &str =
-    "A log, a line for each request and its answer, or a capture, pcap or pcapng; - for standard input";
+    "A log with a request and its answer on each line, or a pcap or pcapng capture; - for standard input";
 
 pub(crate) const JUDGE_INTERFACE: &str = "The number of the DFU interface, 0 to 255";
 
 pub(crate) const JUDGE_DEVICE: &str =
-    "Of a capture the device, BUS.DEVICE, or only: the one that speaks DFU";
+    "The device in a capture, as BUS.DEVICE, or only: the one that speaks DFU";
 
-pub(crate) const JUDGE_DFUSE: &str = "Judge by what DfuSe adds to USB DFU 1.1";
+pub(crate) const JUDGE_DFUSE: &str = "Check against DfuSe, an extension of USB DFU 1.1";
 
 pub(crate) const JUDGE_EXAMPLE: &str = "\
 Example:
   dfu judge examples/captures/dfu-util.log
 
-Exit status: 0 where the device is kept, and 1 where it is not, or only by habits that the standard has not";
+Exit status: 0 if the device conforms; 1 if it violates the standard, or conforms only with known deviations";
