@@ -59,7 +59,7 @@ fn fault_why(fault: SuffixFault) -> Option<&'static str> {
             Some("it has no suffix, which has the letters UFD; dfu add gives a raw image one")
         }
         SuffixFault::DfuSe => Some(
-            "it is of another format, DfuSe; use a tool for that, as dfu-util",
+            "it is of another format, DfuSe: dfu-flash takes it, and dfu does not",
         ),
         SuffixFault::AlreadySuffixed => {
             Some("it has a suffix already: use it as it is, or dfu set changes its identifiers")
