@@ -5,8 +5,8 @@ use Rattle.std.specs.Str.{bytes_eq}
 use Rattle.std.specs.String.{string_bytes}
 use Rattle.clap.specs.Words.{App, Row, Rule, Text, all_of, first_of, matches_of, new_app, new_rule, subcommand_of, with_rule, with_subcommand}
 use Rattle.clap.specs.declared.builder.ArgAction.TheVariants.{Append, Set, SetTrue}
-use Rattle.dfu_args.specs.declared.task.Job.{Job}
-use Rattle.dfu_args.specs.declared.task.Job.TheVariants.{Check, Add, Extract, Change, Show, Run, Judge}
+use Rattle.dfu_args.specs.declared.subcommand.Subcommand.{Subcommand}
+use Rattle.dfu_args.specs.declared.subcommand.Subcommand.TheVariants.{Check, Add, Extract, Change, Show, Run, Judge}
 
 -- A positional argument that is needed has to be there, with one value.
 abbrev pub needed : Text → Rule
@@ -98,7 +98,7 @@ is_on None = false
 is_on (Some text) = bytes_eq text (codes "true")
 
 -- The job is what the subcommand and its arguments state, each text in its own place.
-abbrev pub States : Option (Text × List Row) → Job → Type 0
+abbrev pub States : Option (Text × List Row) → Subcommand → Type 0
 States None job = ⊥
 States (Some p) (Check files json) = (p.0 ≡ codes "check") × (all_of (codes "file") p.1 ≡ Some (map string_bytes files.items))
     × (json ≡ is_on (first_of (codes "json") p.1))

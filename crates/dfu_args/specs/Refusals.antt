@@ -1,8 +1,8 @@
 -- What the words of a command line are refused for.
 use Rattle.std.specs.Prelude.{◌≡◌, ⊤, List, [], Result, Ok, Err}
 use Rattle.clap.specs.Words.{IsAmong, Kinds, Text, fault_of, kind_of}
-use Rattle.dfu_args.specs.declared.task.JobFault.{JobFault}
-use Rattle.dfu_args.specs.declared.task.JobFault.TheVariants.{Words, NoMemory}
+use Rattle.dfu_args.specs.declared.subcommand.JobFault.{JobFault}
+use Rattle.dfu_args.specs.declared.subcommand.JobFault.TheVariants.{Words, NoMemory}
 use Rattle.dfu_args.specs.CommandLine.{dfu_app}
 
 -- The words have the faults that clap states for them and this command line: none, or the kinds that its error may have.

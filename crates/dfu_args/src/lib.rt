@@ -5,8 +5,8 @@
 
 mod command_line;
 mod help;
-mod task;
+mod subcommand;
 mod words;
 
-pub use task::{Asked, Job, JobFault};
+pub use subcommand::{JobFault, ParsedArgs, Subcommand};
 pub use words::{asked, job};

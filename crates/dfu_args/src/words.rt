@@ -9,7 +9,7 @@ ghost use Rattle.dfu_args.specs.Complete.{HasTexts, IsComplete, arguments_of};
 ghost use Rattle.dfu_args.specs.Refusals.{EndsBy, TellsFault, word_faults};
 
 use crate::command_line::dfu_command;
-use crate::task::{Asked, Job, JobFault};
+use crate::subcommand::{JobFault, ParsedArgs, Subcommand};
 use clap::ArgMatches;
 use clap::error::ErrorKind;
 use std::alloc::Global;
@@ -105,17 +105,17 @@ fn fault_of(error: clap::Error) -> JobFault
     }
 }
 
-fn check_job(alloc: Global, found: &ArgMatches<'_>) -> Result<Job, JobFault>
+fn check_job(alloc: Global, found: &ArgMatches<'_>) -> Result<Subcommand, JobFault>
     requires texts { HasTexts (arguments_of (codes "check")) (rows_of (found_of found.now)) }
     ensures job { IfOk result (λ j. States (Some (codes "check", rows_of (found_of found.now))) j) }
     ensures memory { IfErr result (λ f. f ≡ JobFault.NoMemory) }
 {
     let files = texts_of(alloc, found, "file")?;
     let json = is_on(found, "json");
-    Ok(Job::Check { files, json })
+    Ok(Subcommand::Check { files, json })
 }
 
-fn add_job(alloc: Global, found: &ArgMatches<'_>) -> Result<Job, JobFault>
+fn add_job(alloc: Global, found: &ArgMatches<'_>) -> Result<Subcommand, JobFault>
     requires texts { HasTexts (arguments_of (codes "add")) (rows_of (found_of found.now)) }
     ensures job { IfOk result (λ j. States (Some (codes "add", rows_of (found_of found.now))) j) }
     ensures memory { IfErr result (λ f. f ≡ JobFault.NoMemory) }
@@ -127,7 +127,7 @@ fn add_job(alloc: Global, found: &ArgMatches<'_>) -> Result<Job, JobFault>
     let did = text_of(alloc, found, "did")?;
     let format = text_if(alloc, found, "format")?;
     let fill = text_if(alloc, found, "fill")?;
-    Ok(Job::Add {
+    Ok(Subcommand::Add {
         file,
         to,
         vid,
@@ -138,17 +138,17 @@ fn add_job(alloc: Global, found: &ArgMatches<'_>) -> Result<Job, JobFault>
     })
 }
 
-fn extract_job(alloc: Global, found: &ArgMatches<'_>) -> Result<Job, JobFault>
+fn extract_job(alloc: Global, found: &ArgMatches<'_>) -> Result<Subcommand, JobFault>
     requires texts { HasTexts (arguments_of (codes "extract")) (rows_of (found_of found.now)) }
     ensures job { IfOk result (λ j. States (Some (codes "extract", rows_of (found_of found.now))) j) }
     ensures memory { IfErr result (λ f. f ≡ JobFault.NoMemory) }
 {
     let file = text_of(alloc, found, "file")?;
     let out = text_of(alloc, found, "to")?;
-    Ok(Job::Extract { file, to: out })
+    Ok(Subcommand::Extract { file, to: out })
 }
 
-fn set_job(alloc: Global, found: &ArgMatches<'_>) -> Result<Job, JobFault>
+fn set_job(alloc: Global, found: &ArgMatches<'_>) -> Result<Subcommand, JobFault>
     requires texts { HasTexts (arguments_of (codes "set")) (rows_of (found_of found.now)) }
     ensures job { IfOk result (λ j. States (Some (codes "set", rows_of (found_of found.now))) j) }
     ensures memory { IfErr result (λ f. f ≡ JobFault.NoMemory) }
@@ -157,7 +157,7 @@ fn set_job(alloc: Global, found: &ArgMatches<'_>) -> Result<Job, JobFault>
     let vid = text_if(alloc, found, "vid")?;
     let pid = text_if(alloc, found, "pid")?;
     let did = text_if(alloc, found, "did")?;
-    Ok(Job::Change {
+    Ok(Subcommand::Change {
         file,
         vid,
         pid,
@@ -165,7 +165,7 @@ fn set_job(alloc: Global, found: &ArgMatches<'_>) -> Result<Job, JobFault>
     })
 }
 
-fn show_job(alloc: Global, found: &ArgMatches<'_>) -> Result<Job, JobFault>
+fn show_job(alloc: Global, found: &ArgMatches<'_>) -> Result<Subcommand, JobFault>
     requires texts { HasTexts (arguments_of (codes "show")) (rows_of (found_of found.now)) }
     ensures job { IfOk result (λ j. States (Some (codes "show", rows_of (found_of found.now))) j) }
     ensures memory { IfErr result (λ f. f ≡ JobFault.NoMemory) }
@@ -173,10 +173,10 @@ fn show_job(alloc: Global, found: &ArgMatches<'_>) -> Result<Job, JobFault>
     let kind = text_of(alloc, found, "kind")?;
     let hex = texts_of(alloc, found, "hex")?;
     let json = is_on(found, "json");
-    Ok(Job::Show { kind, hex, json })
+    Ok(Subcommand::Show { kind, hex, json })
 }
 
-fn run_job(alloc: Global, found: &ArgMatches<'_>) -> Result<Job, JobFault>
+fn run_job(alloc: Global, found: &ArgMatches<'_>) -> Result<Subcommand, JobFault>
     requires texts { HasTexts (arguments_of (codes "run")) (rows_of (found_of found.now)) }
     ensures job { IfOk result (λ j. States (Some (codes "run", rows_of (found_of found.now))) j) }
     ensures memory { IfErr result (λ f. f ≡ JobFault.NoMemory) }
@@ -185,7 +185,7 @@ fn run_job(alloc: Global, found: &ArgMatches<'_>) -> Result<Job, JobFault>
     let trace = is_on(found, "trace");
     let board = is_on(found, "board");
     let file = text_if(alloc, found, "file")?;
-    Ok(Job::Run {
+    Ok(Subcommand::Run {
         script,
         trace,
         board,
@@ -193,7 +193,7 @@ fn run_job(alloc: Global, found: &ArgMatches<'_>) -> Result<Job, JobFault>
     })
 }
 
-fn judge_job(alloc: Global, found: &ArgMatches<'_>) -> Result<Job, JobFault>
+fn judge_job(alloc: Global, found: &ArgMatches<'_>) -> Result<Subcommand, JobFault>
     requires texts { HasTexts (arguments_of (codes "judge")) (rows_of (found_of found.now)) }
     ensures job { IfOk result (λ j. States (Some (codes "judge", rows_of (found_of found.now))) j) }
     ensures memory { IfErr result (λ f. f ≡ JobFault.NoMemory) }
@@ -203,7 +203,7 @@ fn judge_job(alloc: Global, found: &ArgMatches<'_>) -> Result<Job, JobFault>
     let device = text_of(alloc, found, "device")?;
     let dfuse = is_on(found, "dfuse");
     let json = is_on(found, "json");
-    Ok(Job::Judge {
+    Ok(Subcommand::Judge {
         files,
         interface,
         device,
@@ -212,7 +212,7 @@ fn judge_job(alloc: Global, found: &ArgMatches<'_>) -> Result<Job, JobFault>
     })
 }
 
-fn named_job(alloc: Global, name: &str, found: &ArgMatches<'_>) -> Result<Job, JobFault>
+fn named_job(alloc: Global, name: &str, found: &ArgMatches<'_>) -> Result<Subcommand, JobFault>
     requires complete { IsComplete name.now (rows_of (found_of found.now)) }
     ensures job { IfOk result (λ j. States (Some (name.now, rows_of (found_of found.now))) j) }
     ensures memory { IfErr result (λ f. f ≡ JobFault.NoMemory) }
@@ -229,7 +229,7 @@ fn named_job(alloc: Global, name: &str, found: &ArgMatches<'_>) -> Result<Job, J
     }
 }
 
-fn chosen(alloc: Global, matches: &ArgMatches<'_>) -> Result<Job, JobFault>
+fn chosen(alloc: Global, matches: &ArgMatches<'_>) -> Result<Subcommand, JobFault>
     requires named { has_subcommand matches.now ≡ true }
     requires complete { IfSome (subcommand_rows_of matches.now) (λ p. IsComplete p.0 p.1) }
     ensures job { IfOk result (λ j. States (subcommand_rows_of matches.now) j) }
@@ -257,7 +257,7 @@ fn is_on_below(matches: &ArgMatches<'_>, id: &str) -> bool
 ///
 /// Words where the parser refuses the words, as where they have no subcommand, and where they ask
 /// for help or the version; NoMemory where an allocation was refused.
-pub fn asked(alloc: Global, words: &[String]) -> Result<Asked, JobFault>
+pub fn asked(alloc: Global, words: &[String]) -> Result<ParsedArgs, JobFault>
     // The subcommand and its texts are those that clap states for these words and this command.
     ensures job { IfOk result (λ a. States (subcommand_of dfu_app (map string_bytes words.now)) a.job) }
     // The reason is wanted exactly where clap states the flag for these words.
@@ -268,7 +268,7 @@ pub fn asked(alloc: Global, words: &[String]) -> Result<Asked, JobFault>
     let matches = matches_of(alloc, words)?;
     let explain = is_on(&matches, "explain") || is_on_below(&matches, "explain");
     let job = chosen(alloc, &matches)?;
-    Ok(Asked { job, explain })
+    Ok(ParsedArgs { job, explain })
 }
 
 /// The job that the words ask for; the first word is the program's name.
@@ -277,7 +277,7 @@ pub fn asked(alloc: Global, words: &[String]) -> Result<Asked, JobFault>
 ///
 /// Words where the parser refuses the words, as where they have no subcommand, and where they ask
 /// for help or the version; NoMemory where an allocation was refused.
-pub fn job(alloc: Global, words: &[String]) -> Result<Job, JobFault>
+pub fn job(alloc: Global, words: &[String]) -> Result<Subcommand, JobFault>
     // The subcommand and its texts are those that clap states for these words and this command.
     ensures job { IfOk result (λ j. States (subcommand_of dfu_app (map string_bytes words.now)) j) }
     // A job comes only where clap states no fault for them, and Words only with a kind that it states.

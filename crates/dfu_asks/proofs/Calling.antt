@@ -9,15 +9,15 @@ use Rattle.dfu_slots.specs.Store.{IsStore}
 use Rattle.dfu_slots.proofs.Written.{was_written}
 use Rattle.dfu_slots.proofs.Seeing.{shaped}
 use Rattle.dfu_device.specs.declared.answer.Answer.{Answer}
-use Rattle.dfu_device.specs.declared.mode.Mode.{Mode}
-use Rattle.dfu_device.specs.declared.mode.Mode.TheVariants as mode
+use Rattle.dfu_device.specs.declared.device_state.DeviceState.{DeviceState}
+use Rattle.dfu_device.specs.declared.device_state.DeviceState.TheVariants as device_state
 use Rattle.dfu_device.specs.Setting.{Setting}
-use Rattle.dfu_device.specs.Shown.{Shown, profile}
+use Rattle.dfu_device.specs.DeviceView.{DeviceView, profile}
 use Rattle.dfu_device.specs.Table.{Plan}
 use Rattle.dfu_device.specs.Rows.{Done}
 use Rattle.dfu_device.specs.Parts.{shows, stage_of, is_sound, is_filled}
-use Rattle.dfu_asks.specs.declared.job.Job.{Job}
-use Rattle.dfu_asks.specs.declared.work.Work.{Work}
+use Rattle.dfu_asks.specs.declared.slot_write.SlotWrite.{SlotWrite}
+use Rattle.dfu_asks.specs.declared.pending_writes.PendingWrites.{PendingWrites}
 use Rattle.dfu_asks.specs.Lent.{LentAsking}
 use Rattle.dfu_asks.specs.declared.reply.Reply.{Reply}
 use Rattle.dfu_asks.specs.Mapped.{mapped}
@@ -38,12 +38,12 @@ use Rattle.dfu_asks.proofs.Ended.{broken_ended}
 use Rattle.dfu_asks.proofs.Quiet.{due_row}
 
 -- Nothing is due where no work is kept.
-pub no_work : (w : Option Work) → is_some w ≡ false → w ≡ None
+pub no_work : (w : Option PendingWrites) → is_some w ≡ false → w ≡ None
 no_work (Some w) e = cc
 no_work None e = refl
 
 -- The work that is kept is one.
-pub same_work : (x y : Work) → Some x ≡ Some y → x ≡ y
+pub same_work : (x y : PendingWrites) → Some x ≡ Some y → x ≡ y
 same_work x y e = cc
 
 -- A test that is true, and one that is not.
@@ -62,36 +62,36 @@ rest_store a mid flash r = λ i. store_of (mapped (record { unit = r.unit i; sec
 
 -- A call that begins.
 
-due_of : (m : Mode) (xs ys : List ℕ) (asked : Option ℕ) (len : ℕ) (s : SlotsState) (j : Job) (end : ℕ) (held : List ℕ)
+due_of : (m : DeviceState) (xs ys : List ℕ) (asked : Option ℕ) (len : ℕ) (s : SlotsState) (j : SlotWrite) (end : ℕ) (held : List ℕ)
     → IsDueStage (stage_of m xs ys) asked len → IsJobOf m s j end held → IsDue m asked len s j end held
-due_of (mode.DownloadSync n number) xs ys asked len s j end held due is = (due, is)
-due_of (mode.DownloadBusy n number passed) xs ys asked len s j end held due is = (due, is)
-due_of (mode.ManifestSync n) xs ys asked len s j end held due is = (due, is)
-due_of (mode.Manifest n passed) xs ys asked len s j end held due is = (due, is)
+due_of (device_state.DownloadSync n number) xs ys asked len s j end held due is = (due, is)
+due_of (device_state.DownloadBusy n number passed) xs ys asked len s j end held due is = (due, is)
+due_of (device_state.ManifestSync n) xs ys asked len s j end held due is = (due, is)
+due_of (device_state.Manifest n passed) xs ys asked len s j end held due is = (due, is)
 due_of m xs ys asked len s j end held due is = absurd due
 
 -- A device that begins the job of the row that is due works for it.
-pub begins : (a : LentAsking) (m : Mode) (b : List ℕ) (s : SlotsState) (flash xs ys : List ℕ) (j : Job) (asked : Option ℕ) (len : ℕ)
+pub begins : (a : LentAsking) (m : DeviceState) (b : List ℕ) (s : SlotsState) (flash xs ys : List ℕ) (j : SlotWrite) (asked : Option ℕ) (len : ℕ)
     → a.mode ≡ m → a.block ≡ b → s.medium ≡ mapped (grain_in a) flash → IsStore s → IsTrue (is_sound m (length b) s)
     → IsNoted a.noted s.medium → IsDueStage (stage_of m xs ys) asked len → IsJobOf m s j a.put_end a.held
     → IsWorking a (record { job = j; asked = asked; done = 0 }) len s flash
 begins a m b s flash xs ys j asked len mode_is block medium store sound noted due is = record {
   medium = medium;
   store = store;
-  sound = subst (λ (x : Mode). IsTrue (is_sound x (length a.block) s)) (sym mode_is)
+  sound = subst (λ (x : DeviceState). IsTrue (is_sound x (length a.block) s)) (sym mode_is)
       (subst (λ (l : List ℕ). IsTrue (is_sound m (length l) s)) (sym block) sound);
-  due = subst (λ (x : Mode). IsDue x asked len s j a.put_end a.held) (sym mode_is)
+  due = subst (λ (x : DeviceState). IsDue x asked len s j a.put_end a.held) (sym mode_is)
       (due_of m xs ys asked len s j a.put_end a.held due is);
   noted = noted;
 }
 
 -- What comes of it is what the call answers, where the row that is due is the call's.
-pub called_from : (a : LentAsking) (flash out : List ℕ) (Row : Answer → List ℕ → Shown → Type 0) (now : LentAsking) (out' : List ℕ)
+pub called_from : (a : LentAsking) (flash out : List ℕ) (Row : Answer → List ℕ → DeviceView → Type 0) (now : LentAsking) (out' : List ℕ)
     (r : Reply)
-    (d : Shown) (len : ℕ) → d ≡ device_in a flash → DueComes d len d.slots flash flash out now out' r → IsDueRow len (device_in a flash) Row
+    (d : DeviceView) (len : ℕ) → d ≡ device_in a flash → DueComes d len d.slots flash flash out now out' r → IsDueRow len (device_in a flash) Row
     → DeviceCalled a flash out Row now out' r
 called_from a flash out Row now out' r d len is comes due =
-    from r (subst (λ (x : Shown). DueComes x len x.slots flash flash out now out' r) is comes)
+    from r (subst (λ (x : DeviceView). DueComes x len x.slots flash flash out now out' r) is comes)
   where
     from : (r : Reply) → DueComes (device_in a flash) len (store_in a flash) flash flash out now out' r →
         DeviceCalled a flash out Row now out' r
@@ -120,15 +120,15 @@ due_called a flash out p asked len now out' r other (inr (is, stage)) comes =
     (due_row p len (device_in a flash) is)
 
 -- An answer by a setting that is the same.
-pub gives_in : (c d : Setting) (m : Mode) (asked : Option ℕ) (x : Answer) (count : ℕ) (out out' : List ℕ) → d ≡ c
+pub gives_in : (c d : Setting) (m : DeviceState) (asked : Option ℕ) (x : Answer) (count : ℕ) (out out' : List ℕ) → d ≡ c
     → GivesAnswer (λ y sent. IsAnswered d m asked y sent) x count out out' →
     GivesAnswer (λ y sent. IsAnswered c m asked y sent) x count out out'
 gives_in c d m asked x count out out' same gives =
     subst (λ (k : Setting). GivesAnswer (λ y sent. IsAnswered k m asked y sent) x count out out') same gives
 
 -- A call that is answered by a row is answered by each row that follows from it.
-pub called_by : (a : LentAsking) (flash out : List ℕ) (Row Row' : Answer → List ℕ → Shown → Type 0) (now : LentAsking) (out' : List ℕ)
-    (r : Reply) → ((x : Answer) (sent : List ℕ) (d : Shown) → Row x sent d → Row' x sent d) → DeviceCalled a flash out Row now out' r
+pub called_by : (a : LentAsking) (flash out : List ℕ) (Row Row' : Answer → List ℕ → DeviceView → Type 0) (now : LentAsking) (out' : List ℕ)
+    (r : Reply) → ((x : Answer) (sent : List ℕ) (d : DeviceView) → Row x sent d → Row' x sent d) → DeviceCalled a flash out Row now out' r
     → DeviceCalled a flash out Row' now out' r
 called_by a flash out Row Row' now out' _ follows (called_ended x count e) = called_ended x count (record {
   gave = record {
@@ -174,34 +174,36 @@ module _ (a now : LentAsking) (flash : List ℕ) (rest : IsRest a now) (is : IsD
   kept_device = λ i. shows (rest.config i) (store_kept i) now.mode now.block
 
   -- The call has come to its end.
-  pub kept_ended : a.work ≡ None → (x : Answer) (count : ℕ) (out out' sent : List ℕ) (Row : Answer → List ℕ → Shown → Type 0)
+  pub kept_ended : a.work ≡ None → (x : Answer) (count : ℕ) (out out' sent : List ℕ) (Row : Answer → List ℕ → DeviceView → Type 0)
       → count ≡ length sent → out' ≡ sent ++ drop count out → Row x sent (shows a.config (store_in a flash) now.mode now.block)
       → HasEnded flash x count out out' now Row
   kept_ended none x count out out' sent Row count_is out_is row = record {
-    gave = record { sent = sent; count_is = count_is; out_is = out_is; row = subst (λ (y : Shown). Row x sent y) (sym kept_device) row };
+    gave = record { sent = sent; count_is = count_is; out_is = out_is; row = subst (λ (y : DeviceView). Row x sent y) (sym kept_device) row };
     work = rest.work ∙ none;
     is = kept_is;
   }
 
 -- How a piece went.
 
+-- A piece of a work is one of the same work.
+pub piece_of : (a : LentAsking) (x w : PendingWrites) (p : Step) → x ≡ w → IsPiece (steps_in a x) x.done p → IsPiece (steps_in a w) w.done p
+piece_of a x w p same piece = subst (λ (y : PendingWrites). IsPiece (steps_in a y) y.done p) same piece
+
 -- The piece that was asked for is the one that was taken.
-pub one_piece : (a : LentAsking) (w : Work) (x : Work) (ss : List Step) (p q : Step) → x ≡ w → ss ≡ steps_in a w
-    → IsPiece (steps_in a x) x.done p
-    → IsPiece ss w.done q → p ≡ q
-one_piece a w x ss p q same is first second = piece_one (steps_in a w) w.done p q
-    (subst (λ (y : Work). IsPiece (steps_in a y) y.done p) same first) (subst (λ (l : List Step). IsPiece l w.done q) is second)
+pub one_piece : (a : LentAsking) (w x : PendingWrites) (p q : Step) → x ≡ w → IsPiece (steps_in a x) x.done p
+    → IsPiece (steps_in a w) w.done q → p ≡ q
+one_piece a w x p q same first second = piece_one (steps_in a w) w.done p q (piece_of a x w p same first) second
 
 -- The writes of the steps of a work are its writes.
-pub writes_are : (a : LentAsking) (w : Work) → step_writes (steps_in a w) ≡ writes_in a w
+pub writes_are : (a : LentAsking) (w : PendingWrites) → step_writes (steps_in a w) ≡ writes_in a w
 writes_are a w = job_writes_are w.job (grain_in a) a.put_end a.held a.block
 
 -- A piece of a work is some bytes of one of its writes.
-pub bit_in : (a : LentAsking) (w : Work) (p : Step) → IsPiece (steps_in a w) w.done p → IsBitOf (writes_in a w) w.done p.write
+pub bit_in : (a : LentAsking) (w : PendingWrites) (p : Step) → IsPiece (steps_in a w) w.done p → IsBitOf (writes_in a w) w.done p.write
 bit_in a w p piece = subst (λ (ws : List Write). IsBitOf ws w.done p.write) (writes_are a w) (bit_of (steps_in a w) w.done p piece)
 
 -- With a next piece some bytes of the work are left.
-pub piece_left : (a : LentAsking) (w : Work) (p : Step) → IsPiece (steps_in a w) w.done p → w.done < total (writes_in a w)
+pub piece_left : (a : LentAsking) (w : PendingWrites) (p : Step) → IsPiece (steps_in a w) w.done p → w.done < total (writes_in a w)
 piece_left a w p piece = omega (
   arith,
   piece_end (steps_in a w) w.done p piece,
@@ -210,18 +212,14 @@ piece_left a w p piece = omega (
 )
 
 -- Where no step of it is left, none of its bytes is.
-pub none_left : (a : LentAsking) (w : Work) (ss : List Step) → ss ≡ steps_in a w → total (step_writes ss) ≤ w.done
-    → total (writes_in a w) ≤ w.done
-none_left a w ss same le = omega (arith, ap (λ (xs : List Step). total (step_writes xs)) same, ap total (writes_are a w), le)
+pub none_left : (a : LentAsking) (w : PendingWrites) → total (step_writes (steps_in a w)) ≤ w.done → total (writes_in a w) ≤ w.done
+none_left a w le = omega (arith, ap total (writes_are a w), le)
 
 -- A device with a next piece is one that a piece can be taken of.
-pub taken_from : (a : LentAsking) (w : Work) (ss : List Step) (p : Step) (room : ℕ) → 6 ≤ room → a.work ≡ Some w → ss ≡ steps_in a w
-    → IsPiece ss w.done p → IsTaken a room
-taken_from a w ss p room fits is same piece = record {
-  fits = fits;
-  work = w;
-  is_left = record { work_is = is; left = piece_left a w p (subst (λ (l : List Step). IsPiece l w.done p) same piece) };
-}
+pub taken_from : (a : LentAsking) (w : PendingWrites) (p : Step) (room : ℕ) → 6 ≤ room → a.work ≡ Some w → IsPiece (steps_in a w) w.done p
+    → IsTaken a room
+taken_from a w p room fits is piece =
+    record { fits = fits; work = w; is_left = record { work_is = is; left = piece_left a w p piece } }
 
 module _ (a : LentAsking) (len : ℕ) (s : SlotsState) (was before : List ℕ) (asks : AsksWrites a len s was before) (p : Step)
     (piece : IsPiece (steps_in a asks.work) asks.work.done p) (flash : List ℕ) (torn : Torn before p.write.at p.write.bytes flash) where
@@ -252,10 +250,3 @@ module _ (a : LentAsking) (len : ℕ) (s : SlotsState) (was before : List ℕ) (
       (omega (arith, fits, torn_there.size)) (inr lied) stands).bytes
       ∙ sym (step_carried (writes_in a asks.work) was asks.work.done p.write (working_within a asks.work len s was asks.working)
       (bit_in a asks.work p piece))
-
--- A store is sound where nothing is put.
-pub idle_sound : (s : SlotsState) → IsStore s → IsTrue (is_shaped s && true)
-idle_sound s store = both (is_shaped s) (shaped store)
-  where
-    both : (p : Bool) → p ≡ true → IsTrue (p && true)
-    both p e = grind (arith, common_steps)

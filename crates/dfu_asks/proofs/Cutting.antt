@@ -1,5 +1,5 @@
 -- Pieces that are cut of bytes where they lie.
-use Rattle.std.proofs.Common.{◌≡◌, ◌==◌, Bool, true, false, if◌then◌else◌, ℕ, ◌+◌, ◌-◌, ◌≤◌, ◌<◌, min, List, [], ◌∷◌, ◌++◌, length, take, drop, replicate, slice_range, get_or, refl, sym, ◌∙◌, ap, subst, arith, length-append}
+use Rattle.std.proofs.Common.{◌≡◌, ◌==◌, Bool, true, false, if◌then◌else◌, ℕ, ◌+◌, ◌-◌, ◌^◌, ◌≤◌, ◌<◌, min, List, [], ◌∷◌, ◌++◌, length, take, drop, replicate, slice_range, get_or, refl, sym, ◌∙◌, ap, subst, arith, length-append}
 use Rattle.std.proofs.lemmas.Bool.{eq-eqb}
 use Rattle.std.proofs.lemmas.Grind.{same_number_lists}
 use Rattle.std.proofs.lemmas.List.{length-take-le, length-drop, length-replicate, get_or-take}
@@ -7,8 +7,8 @@ use Rattle.dfu_slots.specs.Units.{Grain, gate_size}
 use Rattle.dfu_slots.specs.Layout.{gate_unit}
 use Rattle.dfu_slots.specs.Writes.{erases}
 use Rattle.dfu_slots.proofs.Ranges.{range_size}
-use Rattle.dfu_asks.specs.declared.piece.Stock.{Stock}
-use Rattle.dfu_asks.specs.declared.job.Job.{Job}
+use Rattle.dfu_asks.specs.declared.write_inputs.WriteInputs.{WriteInputs}
+use Rattle.dfu_asks.specs.declared.slot_write.SlotWrite.{SlotWrite}
 use Rattle.dfu_asks.specs.declared.cut.Cut.{Cut}
 use Rattle.dfu_asks.specs.Steps.{Step, step_writes, marked, program, anew_steps, close_step}
 use Rattle.dfu_asks.specs.Jobs.{asked, IsFit, steps_for}
@@ -105,24 +105,38 @@ close_steps w at none =
     (λ i. marked true (if e i then [] else erases w.sector at (length unit)) ++ program at unit ∷ [])
     ∙ ap (λ (s : Step). s ∷ []) (sym (close_is w at none))
 
--- What is found of a search that began so.
-module _ (job : Job) (s : Stock) (done : ℕ) (first : Cut) (stock : first.stock ≡ s) (rest : first.rest ≡ done) where
-  pub found_in : (p : Step) → IsPiece (steps_for job first.stock) first.rest p → IsPiece (steps_for job s) done p
+-- What is found of a search that began so, in these steps.
+module _ (job : SlotWrite) (s : WriteInputs) (ss : List Step) (steps : steps_for job s ≡ ss) (done : ℕ) (first : Cut)
+    (stock : first.stock ≡ s) (rest : first.rest ≡ done) where
+  begun_with : steps_for job first.stock ≡ ss
+  begun_with = ap (λ (x : WriteInputs). steps_for job x) stock ∙ steps
+
+  pub found_in : (p : Step) → IsPiece (steps_for job first.stock) first.rest p → IsPiece ss done p
   found_in p piece =
-      subst (λ (n : ℕ). IsPiece (steps_for job s) n p) rest
-      (subst (λ (x : Stock). IsPiece (steps_for job x) first.rest p) stock piece)
+      subst (λ (n : ℕ). IsPiece ss n p) rest (subst (λ (xs : List Step). IsPiece xs first.rest p) begun_with piece)
 
-  pub none_in : total (step_writes (steps_for job first.stock)) ≤ first.rest → total (step_writes (steps_for job s)) ≤ done
-  none_in le = omega (arith, le, rest, ap (λ (x : Stock). total (step_writes (steps_for job x))) stock)
+  pub none_in : total (step_writes (steps_for job first.stock)) ≤ first.rest → total (step_writes ss) ≤ done
+  none_in le = omega (arith, le, rest, ap (λ (xs : List Step). total (step_writes xs)) begun_with)
 
--- And of a search in a part of a format.
-module _ (f : Formatting) (size done : ℕ) (image : List ℕ) (first : Cut) (block : first.stock.block.now ≡ image)
-    (rest : first.rest ≡ done) where
-  pub part_found : (p : Step) → IsPiece (part_left f size first.stock.block.now) first.rest p → IsPiece (part_left f size image) done p
+-- And of a search in a part of a format, on as many bytes of flash as there were.
+module _ (f : Formatting) (now size : ℕ) (same : now ≡ size) (image : List ℕ) (s : WriteInputs) (block : s.block.now ≡ image) (first : Cut)
+    (stock : first.stock ≡ s) (rest : first.rest ≡ f.done) where
+  found_for : first.stock.block.now ≡ image
+  found_for = ap (λ (x : WriteInputs). x.block.now) stock ∙ block
+
+  pub part_found : (p : Step) → IsPiece (part_left f now first.stock.block.now) first.rest p → IsPiece (part_left f size image) f.done p
   part_found p piece =
-      subst (λ (n : ℕ). IsPiece (part_left f size image) n p) rest
-      (subst (λ (l : List ℕ). IsPiece (part_left f size l) first.rest p) block piece)
+      subst (λ (n : ℕ). IsPiece (part_left f n image) f.done p) same
+      (subst (λ (n : ℕ). IsPiece (part_left f now image) n p) rest
+      (subst (λ (l : List ℕ). IsPiece (part_left f now l) first.rest p) found_for piece))
 
-  pub part_none : total (step_writes (part_left f size first.stock.block.now)) ≤ first.rest
-      → total (step_writes (part_left f size image)) ≤ done
-  part_none le = omega (arith, le, rest, ap (λ (l : List ℕ). total (step_writes (part_left f size l))) block)
+  pub part_none : length image ≤ 2 ^ 24
+      → (length first.stock.block.now ≤ 2 ^ 24 → total (step_writes (part_left f now first.stock.block.now)) ≤ first.rest)
+      → total (step_writes (part_left f size image)) ≤ f.done
+  part_none small none = omega (
+    arith,
+    none (omega (arith, ap length found_for, small)),
+    rest,
+    ap (λ (l : List ℕ). total (step_writes (part_left f now l))) found_for,
+    ap (λ (n : ℕ). total (step_writes (part_left f n image))) same,
+  )

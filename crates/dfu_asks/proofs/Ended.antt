@@ -5,10 +5,10 @@ use Rattle.dfu_slots.specs.Medium.{AllWrites, BrokenWrites}
 use Rattle.dfu_slots.specs.Seen.{SlotsState, store_of, store_on}
 use Rattle.dfu_slots.specs.Store.{IsStore}
 use Rattle.dfu_device.specs.declared.answer.Answer.{Answer}
-use Rattle.dfu_device.specs.declared.mode.Mode.{Mode}
-use Rattle.dfu_device.specs.Shown.{Shown}
+use Rattle.dfu_device.specs.declared.device_state.DeviceState.{DeviceState}
+use Rattle.dfu_device.specs.DeviceView.{DeviceView}
 use Rattle.dfu_device.specs.Parts.{shows, is_sound}
-use Rattle.dfu_asks.specs.declared.work.Work.{Work}
+use Rattle.dfu_asks.specs.declared.pending_writes.PendingWrites.{PendingWrites}
 use Rattle.dfu_asks.specs.Lent.{LentAsking}
 use Rattle.dfu_asks.specs.Mapped.{mapped}
 use Rattle.dfu_asks.specs.Carried.{total, carried}
@@ -21,8 +21,9 @@ use Rattle.dfu_asks.proofs.Working.{Ends, Stays, held_after, end_after, works, f
 use Rattle.dfu_asks.proofs.Renoted.{noted_after}
 
 -- What came of a row that left this store and this mode, in what is kept then.
-ended : (a now : LentAsking) (asked : Option ℕ) (flash : List ℕ) (x : Answer) (count : ℕ) (out out' : List ℕ) (S : SlotsState) (M : Mode)
-    (Stay : Type 0) (Row : Answer → List ℕ → Shown → Type 0)
+ended : (a now : LentAsking) (asked : Option ℕ) (flash : List ℕ) (x : Answer) (count : ℕ) (out out' : List ℕ) (S : SlotsState)
+    (M : DeviceState)
+    (Stay : Type 0) (Row : Answer → List ℕ → DeviceView → Type 0)
     → now.config ≡ a.config → store_in now flash ≡ S → now.mode ≡ M → now.block ≡ a.block → now.work ≡ None
     → GivesAnswer (λ y sent. IsAnswered a.config now.mode asked y sent) x count out out'
     → (IsStore S → Stay → IsNoted now.noted (mapped (grain_in now) flash))
@@ -30,25 +31,25 @@ ended : (a now : LentAsking) (asked : Option ℕ) (flash : List ℕ) (x : Answer
     → Ends a.config S M a.block Stay (Row x sent (shows a.config S M a.block)))
     → HasEnded flash x count out out' now Row
 ended a now asked flash x count out out' S M Stay Row config store mode block work gives noted comes =
-    let e = comes gives.sent (subst (λ (m : Mode). IsAnswered a.config m asked x gives.sent) mode gives.says) in
+    let e = comes gives.sent (subst (λ (m : DeviceState). IsAnswered a.config m asked x gives.sent) mode gives.says) in
     record {
       gave = record {
         sent = gives.sent;
         count_is = gives.count_is;
         out_is = gives.out_is;
-        row = subst (λ (d : Shown). Row x gives.sent d) (λ i. shows (sym config i) (sym store i) (sym mode i) (sym block i)) e.comes;
+        row = subst (λ (d : DeviceView). Row x gives.sent d) (λ i. shows (sym config i) (sym store i) (sym mode i) (sym block i)) e.comes;
       };
       work = work;
       is = record {
         store = subst IsStore (sym store) e.store;
-        sound = subst (λ (m : Mode). IsTrue (is_sound m (length now.block) (store_in now flash))) (sym mode)
+        sound = subst (λ (m : DeviceState). IsTrue (is_sound m (length now.block) (store_in now flash))) (sym mode)
             (subst (λ (l : List ℕ). IsTrue (is_sound M (length l) (store_in now flash))) (sym block)
             (subst (λ (s : SlotsState). IsTrue (is_sound M (length a.block) s)) (sym store) e.sound));
         noted = noted e.store e.stays;
       };
     }
 
-module _ (a now : LentAsking) (w : Work) (len : ℕ) (s : SlotsState) (was flash : List ℕ) (working : IsWorking a w len s was)
+module _ (a now : LentAsking) (w : PendingWrites) (len : ℕ) (s : SlotsState) (was flash : List ℕ) (working : IsWorking a w len s was)
     (notes : NotesAfter a.mode flash a now) (x : Answer) (count : ℕ) (out out' : List ℕ) where
   -- All its writes worked.
   pub all_ended : AllWrites (mapped (grain_in a) was) (writes_in a w) (mapped (grain_in a) flash) → IsFinished a now

@@ -14,8 +14,8 @@ use Rattle.dfu_slots.proofs.Stands.{two_slots}
 use Rattle.dfu_slots.proofs.Written.{was_written}
 use Rattle.dfu_slots.proofs.Sectors.{edge_zero, gate_most}
 use Rattle.dfu_slots.proofs.Edges.{half_edge}
-use Rattle.dfu_asks.specs.declared.phase.Phase.{Phase}
-use Rattle.dfu_asks.specs.declared.phase.Phase.TheVariants as phase
+use Rattle.dfu_asks.specs.declared.format_step.FormatStep.{FormatStep}
+use Rattle.dfu_asks.specs.declared.format_step.FormatStep.TheVariants as format_step
 use Rattle.dfu_asks.specs.declared.formatting.Formatting.{Formatting}
 use Rattle.dfu_asks.specs.Mapped.{mapped}
 use Rattle.dfu_asks.specs.Steps.{Step, step_writes, anew_steps, close_step, open_steps}
@@ -33,14 +33,15 @@ use Rattle.dfu_asks.proofs.FormatParts.{image_next, format_writes_are}
 use Rattle.dfu_asks.proofs.FormatInside.{format_inside, formatted}
 
 -- A part has its own steps in front.
-left_parts : (w : Grain) (size : ℕ) (image : List ℕ) (crc : ℕ) (this : Phase) → (next : List Step)
+left_parts : (w : Grain) (size : ℕ) (image : List ℕ) (crc : ℕ) (this : FormatStep) → (next : List Step)
     × (steps_from w size image crc this ≡ part_steps w size image crc this ++ next)
-left_parts w size image crc phase.CloseSecond = (steps_from w size image crc phase.CloseFirst, refl)
-left_parts w size image crc phase.CloseFirst = (image_steps w image 0 ++ open_steps w 0 0 (length image) crc, refl)
-left_parts w size image crc (phase.Image from) = (steps_from w size image crc (phase.Image (from + 4096)), image_next w size image crc from)
-left_parts w size image crc phase.Header = (steps_from w size image crc phase.Gate, refl)
-left_parts w size image crc phase.Gate = ([], sym (append-nil (part_steps w size image crc phase.Gate)))
-left_parts w size image crc phase.Ended = ([], refl)
+left_parts w size image crc format_step.CloseSecond = (steps_from w size image crc format_step.CloseFirst, refl)
+left_parts w size image crc format_step.CloseFirst = (image_steps w image 0 ++ open_steps w 0 0 (length image) crc, refl)
+left_parts w size image crc (format_step.Image from) =
+    (steps_from w size image crc (format_step.Image (from + 4096)), image_next w size image crc from)
+left_parts w size image crc format_step.Header = (steps_from w size image crc format_step.Gate, refl)
+left_parts w size image crc format_step.Gate = ([], sym (append-nil (part_steps w size image crc format_step.Gate)))
+left_parts w size image crc format_step.Ended = ([], refl)
 
 -- A piece of a part is one of what is left.
 pub in_left : (f : Formatting) (size : ℕ) (image : List ℕ) (n : ℕ) (p : Step) → IsPiece (part_left f size image) n p
@@ -183,7 +184,7 @@ module _ (f : Formatting) (image was flash : List ℕ) (way : FormatUnderWay f i
 
   module _ (ended : f.done ≡ total (step_writes part)) where
     -- A part is carried out, and another one comes behind it.
-    pub way_next : (next : Phase) → left ≡ part ++ steps_from (grain_within f) (length was / 2) image f.register next
+    pub way_next : (next : FormatStep) → left ≡ part ++ steps_from (grain_within f) (length was / 2) image f.register next
         → FormatUnderWay (record f { phase = next; done = 0 }) image was flash
     way_next next follows =
         let rest = steps_from (grain_within f) (length was / 2) image f.register next in

@@ -6,8 +6,8 @@ use Rattle.dfu_slots.specs.Units.{Grain, gate_room, filled}
 use Rattle.dfu_slots.specs.Medium.{MediumState, Write}
 use Rattle.dfu_slots.specs.Writes.{piece_writes, close_writes, image_writes}
 use Rattle.dfu_slots.specs.Seen.{format_series}
-use Rattle.dfu_asks.specs.declared.phase.Phase.{Phase}
-use Rattle.dfu_asks.specs.declared.phase.Phase.TheVariants as phase
+use Rattle.dfu_asks.specs.declared.format_step.FormatStep.{FormatStep}
+use Rattle.dfu_asks.specs.declared.format_step.FormatStep.TheVariants as format_step
 use Rattle.dfu_asks.specs.Steps.{Step, step_writes, anew_steps, some_steps, open_steps, close_step}
 use Rattle.dfu_asks.specs.Phases.{piece_steps, image_steps, steps_from, part_steps, format_steps}
 use Rattle.dfu_asks.proofs.Steps.{writes_append, anew_writes, open_writes_are}
@@ -95,7 +95,7 @@ format_writes_are m image =
     ∙ (λ i. image_writes_are w image i ++ open_writes_are w 0 0 (length image) (register image) i))
 
 -- What a part has in front of the parts behind it.
-abbrev pub IsFollowed : Grain → ℕ → List ℕ → ℕ → Phase → Phase → Type 0
+abbrev pub IsFollowed : Grain → ℕ → List ℕ → ℕ → FormatStep → FormatStep → Type 0
 IsFollowed w size image crc this next =
     steps_from w size image crc this ≡ part_steps w size image crc this ++ steps_from w size image crc next
 
@@ -104,7 +104,8 @@ module _ (w : Grain) (size : ℕ) (image : List ℕ) (crc : ℕ) where
   opening = open_steps w 0 0 (length image) crc
 
   -- Behind the image comes the header.
-  pub image_last : (from : ℕ) → length (filled w.unit image) ≤ from + 4096 → IsFollowed w size image crc (phase.Image from) phase.Header
+  pub image_last : (from : ℕ) → length (filled w.unit image) ≤ from + 4096
+      → IsFollowed w size image crc (format_step.Image from) format_step.Header
   image_last from le =
       let first = some_steps w.sector (2 * gate_room w + from) (take 4096 (drop from (filled w.unit image))) in
       ap (λ (ss : List Step). ss ++ opening)
@@ -112,11 +113,11 @@ module _ (w : Grain) (size : ℕ) (image : List ℕ) (crc : ℕ) where
       ∙ append-nil first)
 
   -- Or more of it.
-  pub image_next : (from : ℕ) → IsFollowed w size image crc (phase.Image from) (phase.Image (from + 4096))
+  pub image_next : (from : ℕ) → IsFollowed w size image crc (format_step.Image from) (format_step.Image (from + 4096))
   image_next from =
       let first = some_steps w.sector (2 * gate_room w + from) (take 4096 (drop from (filled w.unit image))) in
       ap (λ (ss : List Step). ss ++ opening) (image_parts w image from) ∙ append_assoc first (image_steps w image (from + 4096)) opening
 
   -- Behind the gates comes the header, where there is no image.
-  pub no_image : length (filled w.unit image) ≡ 0 → IsFollowed w size image crc phase.CloseFirst phase.Header
+  pub no_image : length (filled w.unit image) ≡ 0 → IsFollowed w size image crc format_step.CloseFirst format_step.Header
   no_image none = ap (λ (ss : List Step). close_step w 0 ∷ ss ++ opening) (image_over w image 0 (omega (arith, none)))

@@ -19,12 +19,12 @@ use Rattle.dfu_slots.proofs.Put.{put_inside}
 use Rattle.dfu_slots.proofs.Parts.{length-gate_unit, length-header_unit}
 use Rattle.dfu_slots.proofs.Multiples.{held_end, held_fits}
 use Rattle.dfu_slots.proofs.Seeing.{room_capacity}
-use Rattle.dfu_device.specs.declared.mode.Mode.{Mode}
-use Rattle.dfu_device.specs.declared.mode.Mode.TheVariants as mode
+use Rattle.dfu_device.specs.declared.device_state.DeviceState.{DeviceState}
+use Rattle.dfu_device.specs.declared.device_state.DeviceState.TheVariants as device_state
 use Rattle.dfu_device.specs.Parts.{is_put, is_sound}
-use Rattle.dfu_asks.specs.declared.job.Job.{Job}
-use Rattle.dfu_asks.specs.declared.job.Job.TheVariants as job
-use Rattle.dfu_asks.specs.declared.work.Work.{Work}
+use Rattle.dfu_asks.specs.declared.slot_write.SlotWrite.{SlotWrite}
+use Rattle.dfu_asks.specs.declared.slot_write.SlotWrite.TheVariants as slot_write
+use Rattle.dfu_asks.specs.declared.pending_writes.PendingWrites.{PendingWrites}
 use Rattle.dfu_asks.specs.Lent.{LentAsking}
 use Rattle.dfu_asks.specs.Carried.{AreWithin}
 use Rattle.dfu_asks.specs.Series.{held_before}
@@ -108,7 +108,7 @@ module _ (s : SlotsState) (store : IsStore s) (w : Grain) (grain : s.medium.grai
       (omega (arith, gate_wide w)) (omega (arith, length-header_unit (gate_size w.unit) gen n crc (unit_wide w.unit), room_there, gate))
 
   block_inside : (n : ℕ) (b : List ℕ) (close : Bool) (held : List ℕ) → length held ≤ n → n + length b ≤ room_of s
-      → AllInside place to (job_writes (job.Block place close) w n held b)
+      → AllInside place to (job_writes (slot_write.Block place close) w n held b)
   block_inside n b close held le room =
       let put = put_writes w (held_place w place n held) held b in
       inside_append place to (if close then record { at = place; bytes = closed_gate w } ∷ [] else []) put
@@ -117,7 +117,7 @@ module _ (s : SlotsState) (store : IsStore s) (w : Grain) (grain : s.medium.grai
       (inside_wider put place to (put_beyond n b held le room))
 
   commit_inside : (n gen crc : ℕ) (b : List ℕ) → s.put_end ≡ n
-      → AllInside place to (job_writes (job.Commit place gen crc) w n s.held b)
+      → AllInside place to (job_writes (slot_write.Commit place gen crc) w n s.held b)
   commit_inside n gen crc b here =
       let part = part_writes w (held_place w place n s.held) s.held in
       let header = write_anew w.sector (place + gate_room w) (header_unit (gate_size w.unit) gen n crc) in
@@ -138,27 +138,28 @@ module _ (s : SlotsState) (store : IsStore s) (w : Grain) (grain : s.medium.grai
     | inr some ↦ subst (λ (c : Bool). length (if c then [] else s.held) ≤ n) (sym (ne_eqb n 0 some)) (few n some before)
   ]
 
-  of_block : (b held : List ℕ) (end : ℕ) (j : Job)
+  of_block : (b held : List ℕ) (end : ℕ) (j : SlotWrite)
       → (n : ℕ) → IsNext s n (length b) → IsBlockJob n s j end held → AllInside place to (job_writes j w end held b)
   of_block b held end j n next is = subst (λ (ws : List Write). AllInside place to ws)
       (λ i. job_writes (sym is.job_is i) w (sym is.end_is i) (sym is.held_is i) b)
       (block_inside n b ((n == 0) && not (is_begun s)) (held_before s n) (held_little n next.before) next.room)
 
-  of_commit : (b held : List ℕ) (end : ℕ) (j : Job)
+  of_commit : (b held : List ℕ) (end : ℕ) (j : SlotWrite)
       → (n : ℕ) → IsAll s n → IsCommitJob n s j end held → AllInside place to (job_writes j w end held b)
   of_commit b held end j n whole is = subst (λ (ws : List Write). AllInside place to ws)
       (λ i. job_writes (sym is.job_is i) w (sym is.end_is i) (sym is.held_is i) b)
       (commit_inside n _ _ b (eqb-true _ _ (and_parts (is_begun s) (s.put_end == n) whole.put).1))
 
   -- The writes of the row that is due lie within the spare slot.
-  pub due_inside : (b held : List ℕ) (end : ℕ) (j : Job)
-      → (m : Mode) (asked : Option ℕ) (len : ℕ) → IsTrue (is_sound m (length b) s) → IsDue m asked len s j end held
+  pub due_inside : (b held : List ℕ) (end : ℕ) (j : SlotWrite)
+      → (m : DeviceState) (asked : Option ℕ) (len : ℕ) → IsTrue (is_sound m (length b) s) → IsDue m asked len s j end held
       → AllInside place to (job_writes j w end held b)
-  due_inside b held end j (mode.DownloadSync n number) asked len sound due = of_block b held end j n (next_in n (length b) s sound) due.1
-  due_inside b held end j (mode.DownloadBusy n number passed) asked len sound due =
+  due_inside b held end j (device_state.DownloadSync n number) asked len sound due =
       of_block b held end j n (next_in n (length b) s sound) due.1
-  due_inside b held end j (mode.ManifestSync n) asked len sound due = of_commit b held end j n (all_in n s sound) due.1
-  due_inside b held end j (mode.Manifest n passed) asked len sound due = of_commit b held end j n (all_in n s sound) due.1
+  due_inside b held end j (device_state.DownloadBusy n number passed) asked len sound due =
+      of_block b held end j n (next_in n (length b) s sound) due.1
+  due_inside b held end j (device_state.ManifestSync n) asked len sound due = of_commit b held end j n (all_in n s sound) due.1
+  due_inside b held end j (device_state.Manifest n passed) asked len sound due = of_commit b held end j n (all_in n s sound) due.1
   due_inside b held end j m asked len sound due = absurd due
 
   -- The spare slot ends within the medium.
@@ -166,7 +167,7 @@ module _ (s : SlotsState) (store : IsStore s) (w : Grain) (grain : s.medium.grai
   end_there = spare_end g s.medium.bytes (standing store.has_image.active).sized
 
 -- So the writes that a device works for lie within its flash.
-pub working_within : (a : LentAsking) (w : Work) (len : ℕ) (s : SlotsState) (flash : List ℕ) → IsWorking a w len s flash
+pub working_within : (a : LentAsking) (w : PendingWrites) (len : ℕ) (s : SlotsState) (flash : List ℕ) → IsWorking a w len s flash
     → AreWithin (writes_in a w) (length flash)
 working_within a w len s flash k =
     let bytes : s.medium.bytes ≡ flash = ap (λ (x : MediumState). x.bytes) k.medium in

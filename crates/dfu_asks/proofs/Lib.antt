@@ -5,7 +5,7 @@ pub mod Room
 mod Carrying
 mod Came
 mod Rows
-mod Pieces
+pub mod Pieces
 mod Locating
 mod JobPieces
 mod OpPieces
@@ -16,7 +16,7 @@ mod Quiet
 mod Sending
 mod Renoted
 mod Ended
-mod Inside
+pub mod Inside
 mod Sound
 mod Calling
 mod Refuses

@@ -7,11 +7,11 @@ use Rattle.dfu_slots.specs.Medium.{Write}
 use Rattle.dfu_slots.specs.Writes.{erase_write, erases}
 use Rattle.dfu_slots.proofs.ErasedTo.{erases_skip, erases_step}
 use Rattle.dfu_slots.proofs.Sectors.{edge_add}
-use Rattle.dfu_asks.specs.declared.located.Located.{Located}
-use Rattle.dfu_asks.specs.declared.located.Located.TheVariants as located
+use Rattle.dfu_asks.specs.declared.position.Position.{Position}
+use Rattle.dfu_asks.specs.declared.position.Position.TheVariants as position
 use Rattle.dfu_asks.specs.Steps.{Step, step_writes, marked, erase_step, program, anew_steps, some_steps}
 use Rattle.dfu_asks.specs.Carried.{total, IsPart, IsPiece}
-use Rattle.dfu_asks.specs.Located.{LeadsToErase, LeadsTo, LeadsInto}
+use Rattle.dfu_asks.specs.Position.{LeadsToErase, LeadsTo, LeadsInto}
 use Rattle.dfu_asks.proofs.Steps.{before, writes_append, writes_marked, marked_append}
 use Rattle.dfu_asks.proofs.Pieces.{total_append, piece_front, piece_behind}
 
@@ -156,9 +156,9 @@ module _ (sector at n done rest : ℕ) (count : total (if sector == 0 then [] el
   )
 
   -- What is left behind the erases leads into the write, or behind it.
-  pub within_leads : (r : Located) → LeadsInto n rest r → LeadsTo sector at n done r
-  within_leads (located.Erase place len) none = absurd none
-  within_leads (located.Program from) (same, lt) = (
+  pub within_leads : (r : Position) → LeadsInto n rest r → LeadsTo sector at n done r
+  within_leads (position.Erase place len) none = absurd none
+  within_leads (position.Program from) (same, lt) = (
     λ bytes p size part.
         let some : length bytes ≢ 0 = λ e. omega (arith, size, lt, e) in
         subst (λ (ss : List Step). IsPiece ss done p) (sym (some_are sector at bytes some))
@@ -167,7 +167,7 @@ module _ (sector at n done rest : ℕ) (count : total (if sector == 0 then [] el
     lt,
     omega (arith, low, same),
   )
-  within_leads (located.Behind left) sum = (
+  within_leads (position.Behind left) sum = (
     λ bytes size. elim (cases_eq (length bytes) 0) [
       | inl none ↦
           let erased_none : total (if sector == 0 then [] else erases sector at n) ≡ 0 =
@@ -196,8 +196,8 @@ module _ (sector at n done rest : ℕ) (count : total (if sector == 0 then [] el
   )
 
 -- An erase that is found is one of the write's.
-pub erase_leads : (sector at n done place len : ℕ) → 0 < sector → LeadsToErase sector at n done (located.Erase place len)
-    → LeadsTo sector at n done (located.Erase place len)
+pub erase_leads : (sector at n done place len : ℕ) → 0 < sector → LeadsToErase sector at n done (position.Erase place len)
+    → LeadsTo sector at n done (position.Erase place len)
 erase_leads sector at n done place len some (piece, least, end, small, most) = (
   λ bytes size. elim (cases_eq n 0) [
     | inl none ↦ absurd (subst (λ (k : ℕ). IsPiece (marked true (erases sector at k)) done (erase_step place len)) none piece)
@@ -216,11 +216,11 @@ erase_leads sector at n done place len some (piece, least, end, small, most) = (
 )
 
 -- So is what is found of the erases, but where they are all behind.
-pub found_leads : (sector at n done : ℕ) (r : Located) → 0 < sector → LeadsToErase sector at n done r
-    → ((rest : ℕ) → r ≡ located.Behind rest → ⊥) → LeadsTo sector at n done r
-found_leads sector at n done (located.Erase place len) some leads other = erase_leads sector at n done place len some leads
-found_leads sector at n done (located.Program from) some leads other = absurd leads
-found_leads sector at n done (located.Behind rest) some leads other = absurd (other rest refl)
+pub found_leads : (sector at n done : ℕ) (r : Position) → 0 < sector → LeadsToErase sector at n done r
+    → ((rest : ℕ) → r ≡ position.Behind rest → ⊥) → LeadsTo sector at n done r
+found_leads sector at n done (position.Erase place len) some leads other = erase_leads sector at n done place len some leads
+found_leads sector at n done (position.Program from) some leads other = absurd leads
+found_leads sector at n done (position.Behind rest) some leads other = absurd (other rest refl)
 
 -- Behind all erases of a sector the write is left.
 pub behind_count : (sector at n done rest : ℕ) → 0 < sector → total (erases sector at n) + rest ≡ done

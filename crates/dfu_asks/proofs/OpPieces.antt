@@ -1,11 +1,11 @@
 -- The pieces of the operations of a sequence.
-use Rattle.std.proofs.Common.{◌≡◌, ℕ, zero, suc, ◌+◌, ◌*◌, ◌^◌, ◌≤◌, List, [], ◌∷◌, ◌++◌, take, drop, Some, refl, sym, ◌∙◌, ap, subst, arith}
+use Rattle.std.proofs.Common.{◌≡◌, ℕ, zero, suc, ◌+◌, ◌*◌, ◌^◌, ◌≤◌, List, [], ◌∷◌, ◌++◌, take, drop, Option, Some, refl, sym, ◌∙◌, ap, subst, arith}
 use Rattle.std.proofs.lemmas.List.{append_assoc, append-nil}
 use Rattle.std.proofs.lemmas.Option.{none-some, same_Some}
 use Rattle.dfu_slots.specs.declared.operation.Op.{Op}
 use Rattle.dfu_slots.specs.declared.sequence.Sequence.{Sequence}
 use Rattle.dfu_slots.specs.Operations.{op_at, operations}
-use Rattle.dfu_asks.specs.declared.piece.Stock.{Stock}
+use Rattle.dfu_asks.specs.declared.write_inputs.WriteInputs.{WriteInputs}
 use Rattle.dfu_asks.specs.declared.cut.Cut.{Cut}
 use Rattle.dfu_asks.specs.Steps.{Step, step_writes}
 use Rattle.dfu_asks.specs.Carried.{total, IsPiece}
@@ -14,12 +14,20 @@ use Rattle.dfu_asks.specs.OpSteps.{op_steps, ops_steps, steps_at}
 use Rattle.dfu_asks.proofs.Pieces.{piece_front, piece_behind}
 use Rattle.dfu_asks.proofs.JobPieces.{steps_total}
 
-module _ (s : Stock) (front : List ℕ) where
+module _ (s : WriteInputs) (front : List ℕ) where
   -- The steps of the operation of a number, where there is one.
   pub steps_some : (os : List Op) (n : ℕ) (o : Op) → op_at os n ≡ Some o → steps_at s front os n ≡ op_steps s front o
   steps_some [] n o is = absurd (none-some o is)
   steps_some (p ∷ os) zero o is = ap (λ (q : Op). op_steps s front q) (same_Some _ _ is)
   steps_some (p ∷ os) (suc n) o is = steps_some os n o is
+
+  -- An operation that was found for sectors of this size is the one of the number.
+  pub steps_found : (q : Sequence) (n size : ℕ) (found : Option Op) (o p : Op) → size ≡ s.sector.size
+      → found ≡ op_at (operations (record { unit = s.unit; sector = size }) q) n → found ≡ Some o → o ≡ p
+      → op_steps s front p ≡ steps_at s front (operations (grain_for s) q) n
+  steps_found q n size found o p size_is found_is is same = sym (steps_some (operations (grain_for s) q) n p
+      (ap (λ (k : ℕ). op_at (operations (record { unit = s.unit; sector = k }) q) n) (sym size_is) ∙ sym found_is ∙ is
+      ∙ ap (λ (x : Op). Some x) same))
 
   -- The steps up to an operation, and its own.
   steps_next : (os : List Op) (n : ℕ) → ops_steps s front (take (suc n) os) ≡ ops_steps s front (take n os) ++ steps_at s front os n
@@ -60,7 +68,7 @@ module _ {q : Sequence} {old now : Cut} {n : ℕ} (so : Looked q old now n) wher
       (piece_behind (ops_steps old.stock old.front (take n ops)) _ old.rest now.rest p so.count
       (piece_front (steps_at old.stock old.front ops n) (ops_steps old.stock old.front (drop (suc n) ops)) now.rest p
       (subst (λ (f : List ℕ). IsPiece (steps_at old.stock f ops n) now.rest p) so.front
-      (subst (λ (s : Stock). IsPiece (steps_at s now.front (operations (grain_for s) q) n) now.rest p) so.stock piece))))
+      (subst (λ (s : WriteInputs). IsPiece (steps_at s now.front (operations (grain_for s) q) n) now.rest p) so.stock piece))))
 
   -- Its pieces come before too.
   pub looked_next : (next : Cut) → (next.stock ≡ now.stock) × (next.front ≡ now.front)
@@ -70,7 +78,7 @@ module _ {q : Sequence} {old now : Cut} {n : ℕ} (so : Looked q old now n) wher
       let mine = steps_at old.stock old.front ops n in
       let count : total (step_writes mine) + next.rest ≡ now.rest =
       subst (λ (f : List ℕ). total (step_writes (steps_at old.stock f ops n)) + next.rest ≡ now.rest) so.front
-      (subst (λ (s : Stock). total (step_writes (steps_at s now.front (operations (grain_for s) q) n)) + next.rest ≡ now.rest)
+      (subst (λ (s : WriteInputs). total (step_writes (steps_at s now.front (operations (grain_for s) q) n)) + next.rest ≡ now.rest)
       so.stock behind) in
       let e : suc n ≡ n + 1 = omega arith in
       let all : total (step_writes (ops_steps old.stock old.front (take (suc n) ops))) + next.rest ≡ old.rest = omega (

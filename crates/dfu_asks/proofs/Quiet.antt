@@ -6,12 +6,12 @@ use Rattle.dfu_slots.specs.declared.fault.WriteFault.{WriteFault}
 use Rattle.dfu_slots.specs.Seen.{image_of, spare_of}
 use Rattle.dfu_device.specs.declared.answer.Answer.{Answer}
 use Rattle.dfu_device.specs.declared.answer.Answer.TheVariants as answer
-use Rattle.dfu_device.specs.declared.mode.Mode.{Mode}
+use Rattle.dfu_device.specs.declared.device_state.DeviceState.{DeviceState}
 use Rattle.dfu_device.specs.declared.profile.Profile.{Profile as ProfileRead}
 use Rattle.dfu_device.specs.declared.decision.Decision.{Decision}
 use Rattle.dfu_device.specs.Stage.{Request, Dnload, Upload, GetStatus, GetState, Profile, Stage, InAppDetach, InDfuIdle, InDownloadSync, InDownloadBusy, InDownloadIdle, InManifestSync, InManifest, InUploadIdle}
 use Rattle.dfu_device.specs.Table.{Plan, Sure, Writes, Commits, has_no_bytes, block_plan, upload_plan, plan, time_plan}
-use Rattle.dfu_device.specs.Shown.{Shown, profile}
+use Rattle.dfu_device.specs.DeviceView.{DeviceView, profile}
 use Rattle.dfu_device.specs.Parts.{stage_of, is_sound}
 use Rattle.dfu_device.specs.Rows.{Done, meant, asked_length}
 use Rattle.dfu_device.specs.Decision.{profile_in, plan_of, HasLength, Decides, DecidesTime}
@@ -78,7 +78,7 @@ time_due c st ms = inl tt
 
 -- Time is answered with an acknowledgement.
 abbrev IsQuiet : Plan → Type 0
-IsQuiet p = (len : ℕ) (w : Shown) (a : Answer) (out : List ℕ) (w' : Shown) → Done p len w a out w' → (a ≡ answer.Ack) × (out ≡ [])
+IsQuiet p = (len : ℕ) (w : DeviceView) (a : Answer) (out : List ℕ) (w' : DeviceView) → Done p len w a out w' → (a ≡ answer.Ack) × (out ≡ [])
 
 pub time_quiet : (c : Profile) (st : Stage) (ms : ℕ) → IsQuiet (time_plan c st ms)
 time_quiet c (InAppDetach timer passed) ms =
@@ -95,20 +95,20 @@ time_quiet c (InManifest taken passed) ms =
 time_quiet c st ms = λ len w a out w' d. d.0
 
 -- What works out or fails is done.
-done_works : (p : Plan) (len : ℕ) (w : Shown) (a : Answer) (out : List ℕ) (w' : Shown) → WorksOut p len w a out w'
+done_works : (p : Plan) (len : ℕ) (w : DeviceView) (a : Answer) (out : List ℕ) (w' : DeviceView) → WorksOut p len w a out w'
     → Done p len w a out w'
 done_works (Sure reply stage) len w a out w' none = absurd none
 done_works (Writes before block reply stage bad) len w a out w' done = inl done
 done_works (Commits taken reply stage bad) len w a out w' done = inl done
 
-done_fails : (fault : WriteFault) (p : Plan) (len : ℕ) (w : Shown) (a : Answer) (out : List ℕ) (w' : Shown)
+done_fails : (fault : WriteFault) (p : Plan) (len : ℕ) (w : DeviceView) (a : Answer) (out : List ℕ) (w' : DeviceView)
     → FailsOut fault p len w a out w' → Done p len w a out w'
 done_fails fault (Sure reply stage) len w a out w' none = absurd none
 done_fails fault (Writes before block reply stage bad) len w a out w' done = inr (fault, done.0, done.1)
 done_fails fault (Commits taken reply stage bad) len w a out w' done = inr (fault, done.0, done.1)
 
 -- A plan that is the row that is due is done by what comes of that row.
-pub due_row : (p : Plan) (len : ℕ) (w : Shown) → p ≡ due_plan (profile w) w.stage
+pub due_row : (p : Plan) (len : ℕ) (w : DeviceView) → p ≡ due_plan (profile w) w.stage
     → IsDueRow len w (λ a out w'. Done p len w a out w')
 due_row p len w is = record {
   works = λ a out w' x. subst (λ (q : Plan). Done q len w a out w') (sym is) (done_works (due_plan (profile w) w.stage) len w a out w' x);
@@ -119,7 +119,8 @@ due_row p len w is = record {
 -- What is decided.
 
 -- What is decided on a request in a device is its row.
-pub decided : (p : ProfileRead) (q : Asked) (m : Mode) (block body : List ℕ) (d : Decision) (w : Shown) → profile_in p ≡ profile w
+pub decided : (p : ProfileRead) (q : Asked) (m : DeviceState) (block body : List ℕ) (d : Decision) (w : DeviceView)
+    → profile_in p ≡ profile w
     → IsTrue (is_sound m (length block) w.slots) → w.stage ≡ stage_of m (spare_of w.slots) block → Decides p m q d → HasLength q body
     → plan_of (profile w) (image_of w.slots) (spare_of w.slots) block body d ≡ plan (profile w) (image_of w.slots) w.stage (meant q body)
 decided p q m block body d w same sound stage decides fits =
@@ -130,7 +131,7 @@ decided p q m block body d w same sound stage decides fits =
     ∙ ap (λ (st : Stage). plan (profile w) image st (meant q body)) (sym stage)
 
 -- So is what is decided on a time.
-pub decided_time : (p : ProfileRead) (ms : ℕ) (m : Mode) (block : List ℕ) (d : Decision) (w : Shown) → profile_in p ≡ profile w
+pub decided_time : (p : ProfileRead) (ms : ℕ) (m : DeviceState) (block : List ℕ) (d : Decision) (w : DeviceView) → profile_in p ≡ profile w
     → w.stage ≡ stage_of m (spare_of w.slots) block → DecidesTime p m ms d
     → plan_of (profile w) (image_of w.slots) (spare_of w.slots) block [] d ≡ time_plan (profile w) w.stage ms
 decided_time p ms m block d w same stage decides =

@@ -2,7 +2,7 @@
 use Rattle.std.specs.Prelude.{◌≡◌, ℕ, Bool, IsTrue, List, length}
 use Rattle.std.proofs.Common.{refl, subst}
 use Rattle.dfu_slots.specs.Seen.{spare_of}
-use Rattle.dfu_device.specs.declared.mode.Mode.{Mode}
+use Rattle.dfu_device.specs.declared.device_state.DeviceState.{DeviceState}
 use Rattle.dfu_device.specs.Decision.{HoldsWritten}
 use Rattle.dfu_device.specs.Parts.{stage_of, is_filled}
 use Rattle.dfu_device.specs.Table.{may_close}
@@ -12,7 +12,8 @@ use Rattle.dfu_asks.specs.Asks.{store_in, device_in, IsDevice}
 use Rattle.dfu_asks.proofs.Calling.{kept_is}
 
 -- It is a device still, if the slot store has put what the mode says.
-pub enters : (l : LentAsking) (m : Mode) (flash : List ℕ) → IsDevice l flash → IsTrue (is_filled m (length l.block) (store_in l flash))
+pub enters : (l : LentAsking) (m : DeviceState) (flash : List ℕ) → IsDevice l flash
+    → IsTrue (is_filled m (length l.block) (store_in l flash))
     → IsDevice (record l { mode = m }) flash
 enters l m flash is filled = kept_is l (record l { mode = m }) flash
     (record { config = refl; unit = refl; sector = refl; held = refl; end = refl; noted = refl; work = refl }) is filled

@@ -13,7 +13,7 @@ use Rattle.dfu_slots.proofs.Parts.{header_outside}
 use Rattle.dfu_slots.proofs.Sectors.{gate_wide}
 use Rattle.dfu_slots.proofs.Series.{Ends, ends_keep}
 use Rattle.dfu_asks.specs.declared.noted.Noted.{Noted}
-use Rattle.dfu_asks.specs.declared.work.Work.{Work}
+use Rattle.dfu_asks.specs.declared.pending_writes.PendingWrites.{PendingWrites}
 use Rattle.dfu_asks.specs.Mapped.{mapped}
 use Rattle.dfu_asks.specs.Noted.{IsNoted}
 use Rattle.dfu_asks.specs.Lent.{LentAsking}
@@ -47,7 +47,7 @@ module _ (s : SlotsState) (store : IsStore s) (now : MediumState) (grain : now.g
     header = noted.header ∙ header_stays;
   }
 
-module _ (a now : LentAsking) (w : Work) (len : ℕ) (s : SlotsState) (was flash : List ℕ) (working : IsWorking a w len s was)
+module _ (a now : LentAsking) (w : PendingWrites) (len : ℕ) (s : SlotsState) (was flash : List ℕ) (working : IsWorking a w len s was)
     (notes : NotesAfter a.mode flash a now) (unit : now.unit ≡ a.unit) (sector : now.sector ≡ a.sector)
     (ends : Ends (mapped (grain_in a) was) (writes_in a w) (mapped (grain_in a) flash)) (left : SlotsState)
     (is_left : left.medium ≡ mapped (grain_in a) flash) (has : HasImage left.medium) (stays : Stays a.mode s left) where

@@ -6,8 +6,8 @@ use Rattle.dfu_slots.specs.Layout.{header_length}
 use Rattle.dfu_slots.specs.Image.{slot_of, active_at, gate_of, capacity_of}
 use Rattle.dfu_slots.specs.Seen.{SlotsState, image_of}
 use Rattle.dfu_device.specs.declared.answer.Answer.TheVariants as answer
-use Rattle.dfu_device.specs.declared.mode.Mode.{Mode}
-use Rattle.dfu_device.specs.declared.mode.Mode.TheVariants as mode
+use Rattle.dfu_device.specs.declared.device_state.DeviceState.{DeviceState}
+use Rattle.dfu_device.specs.declared.device_state.DeviceState.TheVariants as device_state
 use Rattle.dfu_wire.specs.declared.codes.Code.TheVariants.{StalledPkt as ErrStalledPkt, Address as ErrAddress}
 use Rattle.dfu_device.specs.declared.decision.Decision.{Decision}
 use Rattle.dfu_device.specs.declared.decision.Decision.TheVariants as decision
@@ -15,7 +15,7 @@ use Rattle.dfu_device.specs.Cases.{either_way}
 use Rattle.dfu_device.specs.Decision.{plan_of, IsSilent}
 use Rattle.dfu_device.specs.Stage.{Profile, Request, Dnload, Upload, GetStatus, GetState, Stage, Data, InDfuIdle, InDownloadSync, InDownloadIdle, InManifestSync, InUploadIdle}
 use Rattle.dfu_device.specs.Table.{Plan, Sure, has_no_bytes, next_number, error, block_plan, upload_plan, plan}
-use Rattle.dfu_device.specs.Shown.{Shown}
+use Rattle.dfu_device.specs.DeviceView.{DeviceView}
 use Rattle.dfu_device.specs.Parts.{shows, is_filled}
 use Rattle.dfu_device.specs.Rows.{Done}
 use Rattle.dfu_slots.specs.Store.{IsStore}
@@ -57,12 +57,12 @@ pub count_is : (image : List ℕ) (place size count : ℕ) → count ≡ min siz
 count_is image place size count is = omega (arith, is, length-drop place image, length-take size (drop place image))
 
 -- Where a device goes once these bytes are sent.
-pub record IsAfter (count size place number : ℕ) (m : Mode) : Type 0 where
-  pub last : count < size → m ≡ mode.DfuIdle
-  pub more : size ≤ count → m ≡ mode.UploadIdle (place + size) number
+pub record IsAfter (count size place number : ℕ) (m : DeviceState) : Type 0 where
+  pub last : count < size → m ≡ device_state.DfuIdle
+  pub more : size ≤ count → m ≡ device_state.UploadIdle (place + size) number
 
 -- They are the row.
-pub sent_row : (w : Shown) (len : ℕ) (part block : List ℕ) (size place number : ℕ) (m : Mode) (count : ℕ) → count ≡ length part
+pub sent_row : (w : DeviceView) (len : ℕ) (part block : List ℕ) (size place number : ℕ) (m : DeviceState) (count : ℕ) → count ≡ length part
     → IsAfter count size place number m
     → Done (if nat_lt (length part) size then Sure (Data part) InDfuIdle else Sure (Data part) (InUploadIdle (place + size) number)) len w
     answer.Bytes part (shows w.config w.slots m block)
@@ -73,12 +73,12 @@ sent_row w len part block size place number m count is after = by_test (nat_lt (
         answer.Bytes part (shows w.config w.slots m block)
     by_test true less = (
       (refl, refl),
-      ap (λ (k : Mode). shows w.config w.slots k block)
+      ap (λ (k : DeviceState). shows w.config w.slots k block)
           (after.last (omega (arith, is, ltb-true _ _ less))),
     )
     by_test false more = (
       (refl, refl),
-      ap (λ (k : Mode). shows w.config w.slots k block)
+      ap (λ (k : DeviceState). shows w.config w.slots k block)
           (after.more (omega (arith, is, ltb-false _ _ more))),
     )
 
@@ -152,11 +152,11 @@ time_within (decision.Sends place size number) image room silent = absurd silent
 time_within d image room silent = tt
 
 -- Nothing that is put is asked for where a device goes then.
-pub after_filled : (count size place number : ℕ) (m : Mode) (block : ℕ) (s : SlotsState) → IsAfter count size place number m
+pub after_filled : (count size place number : ℕ) (m : DeviceState) (block : ℕ) (s : SlotsState) → IsAfter count size place number m
     → IsTrue (is_filled m block s)
 after_filled count size place number m block s after = elim (cases_lt count size) [
-  | inl less ↦ subst (λ (k : Mode). IsTrue (is_filled k block s)) (sym (after.last less)) refl
-  | inr le ↦ subst (λ (k : Mode). IsTrue (is_filled k block s)) (sym (after.more le)) refl
+  | inl less ↦ subst (λ (k : DeviceState). IsTrue (is_filled k block s)) (sym (after.last less)) refl
+  | inr le ↦ subst (λ (k : DeviceState). IsTrue (is_filled k block s)) (sym (after.more le)) refl
 ]
 
 -- The active slot has room for its image.

@@ -17,10 +17,10 @@ use Rattle.dfu_slots.proofs.Parts.{length-gate_unit, length-header_unit}
 use Rattle.dfu_slots.proofs.Multiples.{length-filled}
 use Rattle.dfu_slots.proofs.Put.{head_le}
 use Rattle.dfu_slots.proofs.Sequences.{closed_range, gate_range, header_range, part_range, head_range, back_range, image_range}
-use Rattle.dfu_asks.specs.declared.piece.Stock.{Stock}
+use Rattle.dfu_asks.specs.declared.write_inputs.WriteInputs.{WriteInputs}
 use Rattle.dfu_asks.specs.Steps.{Step, anew_steps, some_steps, put_steps, open_steps, close_step}
 use Rattle.dfu_asks.specs.Jobs.{grain_for, held_place}
-use Rattle.dfu_asks.specs.declared.phase.Phase.{Phase}
+use Rattle.dfu_asks.specs.declared.format_step.FormatStep.{FormatStep}
 use Rattle.dfu_asks.specs.declared.formatting.Formatting.{Formatting}
 use Rattle.dfu_asks.specs.Mapped.{grain_of}
 use Rattle.dfu_asks.specs.Phases.{part_steps, part_left}
@@ -29,7 +29,7 @@ use Rattle.dfu_asks.specs.OpSteps.{ops_steps, steps_at, MayCutAll}
 use Rattle.dfu_asks.proofs.Locating.{anew_are}
 use Rattle.dfu_asks.proofs.Cutting.{close_steps}
 
-module _ (s : Stock) (front : List ℕ) where
+module _ (s : WriteInputs) (front : List ℕ) where
   abbrev w : Grain
   w = grain_for s
 
@@ -150,6 +150,6 @@ module _ (s : Stock) (front : List ℕ) where
       ((omega arith, omega (arith, most, length-append s.held.now s.block.now)), tt)
 
 -- The steps of a part of a format are those of what is left of it.
-pub part_in : (f : Formatting) (size : ℕ) (s : Stock) → s.unit ≡ f.unit → s.sector ≡ f.sector → (x : Phase) → f.phase ≡ x
+pub part_in : (f : Formatting) (size : ℕ) (s : WriteInputs) → s.unit ≡ f.unit → s.sector ≡ f.sector → (x : FormatStep) → f.phase ≡ x
     → part_steps (grain_for s) (size / 2) s.block.now f.register x ≡ part_left f size s.block.now
 part_in f size s unit sector x is = λ i. part_steps (grain_of (unit i) (sector i)) (size / 2) s.block.now f.register (sym is i)

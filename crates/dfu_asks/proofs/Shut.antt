@@ -17,11 +17,11 @@ use Rattle.dfu_slots.proofs.ErasedTo.{erases_step}
 use Rattle.dfu_slots.proofs.Within.{written_nil}
 use Rattle.dfu_slots.proofs.Parts.{length-gate_unit}
 use Rattle.dfu_slots.proofs.Seeing.{begun_closed}
-use Rattle.dfu_device.specs.declared.mode.Mode.{Mode}
-use Rattle.dfu_device.specs.declared.mode.Mode.TheVariants as mode
+use Rattle.dfu_device.specs.declared.device_state.DeviceState.{DeviceState}
+use Rattle.dfu_device.specs.declared.device_state.DeviceState.TheVariants as device_state
 use Rattle.dfu_device.specs.Parts.{is_sound}
-use Rattle.dfu_asks.specs.declared.job.Job.{Job}
-use Rattle.dfu_asks.specs.declared.job.Job.TheVariants as job
+use Rattle.dfu_asks.specs.declared.slot_write.SlotWrite.{SlotWrite}
+use Rattle.dfu_asks.specs.declared.slot_write.SlotWrite.TheVariants as slot_write
 use Rattle.dfu_asks.specs.Lent.{LentAsking}
 use Rattle.dfu_asks.specs.Mapped.{mapped}
 use Rattle.dfu_asks.specs.Steps.{Step, step_writes, marked, program, anew_steps, some_steps}
@@ -112,7 +112,7 @@ module _ (s : SlotsState) (store : IsStore s) (w : Grain) (grain : s.medium.grai
 
   block_shut : (close : Bool) (n k : ℕ) (held b : List ℕ) → (close ≡ false → is_begun s ≡ true)
       → AllInside (place + 1) to (put_writes w (held_place w place n held) held b)
-      → IsShut (carried m (job_writes (job.Block place close) w n held b) k)
+      → IsShut (carried m (job_writes (slot_write.Block place close) w n held b) k)
   block_shut false n k held b begun inside = inr (stays_off _ k (begun refl) inside)
   block_shut true n k held b begun inside =
       let ws = put_writes w (held_place w place n held) held b in
@@ -157,9 +157,9 @@ module _ (s : SlotsState) (store : IsStore s) (w : Grain) (grain : s.medium.grai
 
   commit_shut : (n gen crc k : ℕ) (held b : List ℕ) → is_begun s ≡ true
       → AllInside (place + 1) to (part_writes w (held_place w place n held) held)
-      → IsReached (job_steps (job.Commit place gen crc) w n held b) k
-      → k < total (job_writes (job.Commit place gen crc) w n held b)
-      → IsShut (carried m (job_writes (job.Commit place gen crc) w n held b) k)
+      → IsReached (job_steps (slot_write.Commit place gen crc) w n held b) k
+      → k < total (job_writes (slot_write.Commit place gen crc) w n held b)
+      → IsShut (carried m (job_writes (slot_write.Commit place gen crc) w n held b) k)
   commit_shut n gen crc k held b begun inside reached left =
       let bytes = gate_unit (gate_size w.unit) OPEN in
       let part = some_steps w.sector (held_place w place n held) (filled w.unit held) in
@@ -167,10 +167,10 @@ module _ (s : SlotsState) (store : IsStore s) (w : Grain) (grain : s.medium.grai
       let erase = marked true (before w.sector place bytes) in
       let gate : Step = program place bytes in
       let front = part ++ head ++ erase in
-      let same : front ++ gate ∷ [] ≡ job_steps (job.Commit place gen crc) w n held b =
+      let same : front ++ gate ∷ [] ≡ job_steps (slot_write.Commit place gen crc) w n held b =
       append_assoc (part ++ head) erase (gate ∷ []) ∙ append_assoc part head (erase ++ gate ∷ []) in
-      let writes : step_writes (front ++ gate ∷ []) ≡ job_writes (job.Commit place gen crc) w n held b =
-      ap step_writes same ∙ job_writes_are (job.Commit place gen crc) w n held b in
+      let writes : step_writes (front ++ gate ∷ []) ≡ job_writes (slot_write.Commit place gen crc) w n held b =
+      ap step_writes same ∙ job_writes_are (slot_write.Commit place gen crc) w n held b in
       let le : k ≤ total (step_writes front) = reached_last front gate k
       (omega (arith, length-gate_unit (gate_size w.unit) OPEN (unit_wide w.unit), gate_most w.unit))
       (subst (λ (ss : List Step). IsReached ss k) (sym same) reached)
@@ -184,7 +184,7 @@ module _ (s : SlotsState) (store : IsStore s) (w : Grain) (grain : s.medium.grai
       ∙ (λ i. some_writes w.sector (held_place w place n held) (filled w.unit held) i
       ++ anew_writes w.sector (place + gate_room w) (header_unit (gate_size w.unit) gen n crc) i ++ writes_marked true es i) in
       let within = inside_append (place + 1) to ps hs inside (header_beyond s store w grain n gen crc) in
-      let is : carried m (job_writes (job.Commit place gen crc) w n held b) k ≡ carried (carried m (ps ++ hs) k) es (k - total (ps ++ hs)) =
+      let is : carried m (job_writes (slot_write.Commit place gen crc) w n held b) k ≡ carried (carried m (ps ++ hs) k) es (k - total (ps ++ hs)) =
       ap (λ (ws : List Write). carried m ws k) (sym writes ∙ writes_append front (gate ∷ []))
       ∙ carried_last (step_writes front) gate.write m k le
       ∙ ap (λ (ws : List Write). carried m ws k) front_is
@@ -199,7 +199,7 @@ module _ (s : SlotsState) (store : IsStore s) (w : Grain) (grain : s.medium.grai
   begun_there true false e t = sym e
   begun_there false false e t = t
 
-  of_block : (b held : List ℕ) (end : ℕ) (j : Job) (k : ℕ)
+  of_block : (b held : List ℕ) (end : ℕ) (j : SlotWrite) (k : ℕ)
       → (n : ℕ) → IsNext s n (length b) → IsBlockJob n s j end held → IsShut (carried m (job_writes j w end held b) k)
   of_block b held end j k n next is = subst (λ (ws : List Write). IsShut (carried m ws k))
       (λ i. job_writes (sym is.job_is i) w (sym is.end_is i) (sym is.held_is i) b)
@@ -208,31 +208,31 @@ module _ (s : SlotsState) (store : IsStore s) (w : Grain) (grain : s.medium.grai
       (λ put. (and_parts (is_begun s) (s.put_end == n) put).0) next.before)
       (put_beyond s store w grain n b (held_before s n) (held_little s store w grain n next.before) next.room))
 
-  of_commit : (b held : List ℕ) (end : ℕ) (j : Job) (k : ℕ)
+  of_commit : (b held : List ℕ) (end : ℕ) (j : SlotWrite) (k : ℕ)
       → (n : ℕ) → IsAll s n → IsCommitJob n s j end held → IsReached (job_steps j w end held b) k
       → k < total (job_writes j w end held b) → IsShut (carried m (job_writes j w end held b) k)
   of_commit b held end j k n whole is reached left =
       let put = and_parts (is_begun s) (s.put_end == n) whole.put in
-      let same : job_writes j w end held b ≡ job_writes (job.Commit place _ _) w n s.held b =
+      let same : job_writes j w end held b ≡ job_writes (slot_write.Commit place _ _) w n s.held b =
       (λ i. job_writes (is.job_is i) w (is.end_is i) (is.held_is i) b) in
-      let steps : job_steps j w end held b ≡ job_steps (job.Commit place _ _) w n s.held b =
+      let steps : job_steps j w end held b ≡ job_steps (slot_write.Commit place _ _) w n s.held b =
       (λ i. job_steps (is.job_is i) w (is.end_is i) (is.held_is i) b) in
       subst (λ (ws : List Write). IsShut (carried m ws k)) (sym same)
       (commit_shut n _ _ k s.held b put.0 (part_beyond s store w grain n (eqb-true _ _ put.1))
       (subst (λ (ss : List Step). IsReached ss k) steps reached) (subst (λ (ws : List Write). k < total ws) same left))
 
   -- While writes of the row that is due are left, the gate of the spare is closed, or none is carried out yet.
-  pub due_shut : (b held : List ℕ) (end : ℕ) (j : Job) (k : ℕ)
-      → (m : Mode) (asked : Option ℕ) (len : ℕ) → IsTrue (is_sound m (length b) s) → IsDue m asked len s j end held
+  pub due_shut : (b held : List ℕ) (end : ℕ) (j : SlotWrite) (k : ℕ)
+      → (m : DeviceState) (asked : Option ℕ) (len : ℕ) → IsTrue (is_sound m (length b) s) → IsDue m asked len s j end held
       → IsReached (job_steps j w end held b) k → k < total (job_writes j w end held b)
       → IsShut (carried s.medium.bytes (job_writes j w end held b) k)
-  due_shut b held end j k (mode.DownloadSync n number) asked len sound due reached left =
+  due_shut b held end j k (device_state.DownloadSync n number) asked len sound due reached left =
       of_block b held end j k n (next_in n (length b) s sound) due.1
-  due_shut b held end j k (mode.DownloadBusy n number passed) asked len sound due reached left =
+  due_shut b held end j k (device_state.DownloadBusy n number passed) asked len sound due reached left =
       of_block b held end j k n (next_in n (length b) s sound) due.1
-  due_shut b held end j k (mode.ManifestSync n) asked len sound due reached left =
+  due_shut b held end j k (device_state.ManifestSync n) asked len sound due reached left =
       of_commit b held end j k n (all_in n s sound) due.1 reached left
-  due_shut b held end j k (mode.Manifest n passed) asked len sound due reached left =
+  due_shut b held end j k (device_state.Manifest n passed) asked len sound due reached left =
       of_commit b held end j k n (all_in n s sound) due.1 reached left
   due_shut b held end j k m asked len sound due reached left = absurd due
 

@@ -9,10 +9,10 @@ use Rattle.dfu_slots.specs.Writes.{erase_write, erases, head_size}
 use Rattle.dfu_slots.specs.Seen.{SlotsState, is_begun}
 use Rattle.dfu_slots.specs.Store.{IsStore}
 use Rattle.dfu_slots.proofs.Sectors.{IsEdge}
-use Rattle.dfu_device.specs.declared.mode.Mode.{Mode}
-use Rattle.dfu_device.specs.declared.mode.Mode.TheVariants as mode
-use Rattle.dfu_asks.specs.declared.job.Job.{Job}
-use Rattle.dfu_asks.specs.declared.job.Job.TheVariants as job
+use Rattle.dfu_device.specs.declared.device_state.DeviceState.{DeviceState}
+use Rattle.dfu_device.specs.declared.device_state.DeviceState.TheVariants as device_state
+use Rattle.dfu_asks.specs.declared.slot_write.SlotWrite.{SlotWrite}
+use Rattle.dfu_asks.specs.declared.slot_write.SlotWrite.TheVariants as slot_write
 use Rattle.dfu_asks.specs.Lent.{LentAsking}
 use Rattle.dfu_slots.specs.Medium.{MediumState}
 use Rattle.dfu_asks.specs.Steps.{Step, marked, program, anew_steps, some_steps, put_steps, open_steps, close_step}
@@ -76,11 +76,12 @@ put_sound w at held block =
     (some_sound w.sector at (take head all)) (some_sound w.sector (at + head) back)
 
 block_sound : (w : Grain) (spare end : ℕ) (close : Bool) (held b : List ℕ) → IsEdge w.sector spare
-    → AreSound w.sector (job_steps (job.Block spare close) w end held b)
+    → AreSound w.sector (job_steps (slot_write.Block spare close) w end held b)
 block_sound w spare end true held b edge = (close_sound w spare edge, put_sound w (held_place w spare end held) held b)
 block_sound w spare end false held b edge = put_sound w (held_place w spare end held) held b
 
-commit_sound : (w : Grain) (spare gen crc end : ℕ) (held b : List ℕ) → AreSound w.sector (job_steps (job.Commit spare gen crc) w end held b)
+commit_sound : (w : Grain) (spare gen crc end : ℕ) (held b : List ℕ)
+    → AreSound w.sector (job_steps (slot_write.Commit spare gen crc) w end held b)
 commit_sound w spare gen crc end held b =
     let header = header_unit (gate_size w.unit) gen end crc in
     let gate = gate_unit (gate_size w.unit) OPEN in
@@ -106,20 +107,20 @@ sound_piece sector (s ∷ ss) n p all (inr (past, reached)) (inl part) = absurd 
 sound_piece sector (s ∷ ss) n p all (inr (past, reached)) (inr (later, piece)) =
     sound_piece sector ss (n - length s.write.bytes) p all.1 reached piece
 
-module _ (s : SlotsState) (store : IsStore s) (w : Grain) (grain : s.medium.grain ≡ w) (b held : List ℕ) (end : ℕ) (j : Job) where
+module _ (s : SlotsState) (store : IsStore s) (w : Grain) (grain : s.medium.grain ≡ w) (b held : List ℕ) (end : ℕ) (j : SlotWrite) where
   of_block : (n : ℕ) → IsBlockJob n s j end held → AreSound w.sector (job_steps j w end held b)
-  of_block n is = subst (λ (x : Job). AreSound w.sector (job_steps x w end held b)) (sym is.job_is)
+  of_block n is = subst (λ (x : SlotWrite). AreSound w.sector (job_steps x w end held b)) (sym is.job_is)
       (block_sound w (spare_at (gate_of s.medium) s.medium.bytes) end ((n == 0) && not (is_begun s)) held b (place_edge s store w grain))
 
   of_commit : (n : ℕ) → IsCommitJob n s j end held → AreSound w.sector (job_steps j w end held b)
-  of_commit n is = subst (λ (x : Job). AreSound w.sector (job_steps x w end held b)) (sym is.job_is) (commit_sound w _ _ _ end held b)
+  of_commit n is = subst (λ (x : SlotWrite). AreSound w.sector (job_steps x w end held b)) (sym is.job_is) (commit_sound w _ _ _ end held b)
 
   -- So are the steps of the row that is due.
-  due_sound : (m : Mode) (asked : Option ℕ) (len : ℕ) → IsDue m asked len s j end held → AreSound w.sector (job_steps j w end held b)
-  due_sound (mode.DownloadSync n number) asked len due = of_block n due.1
-  due_sound (mode.DownloadBusy n number passed) asked len due = of_block n due.1
-  due_sound (mode.ManifestSync n) asked len due = of_commit n due.1
-  due_sound (mode.Manifest n passed) asked len due = of_commit n due.1
+  due_sound : (m : DeviceState) (asked : Option ℕ) (len : ℕ) → IsDue m asked len s j end held → AreSound w.sector (job_steps j w end held b)
+  due_sound (device_state.DownloadSync n number) asked len due = of_block n due.1
+  due_sound (device_state.DownloadBusy n number passed) asked len due = of_block n due.1
+  due_sound (device_state.ManifestSync n) asked len due = of_commit n due.1
+  due_sound (device_state.Manifest n passed) asked len due = of_commit n due.1
   due_sound m asked len due = absurd due
 
 -- So is the piece that a device asks for.

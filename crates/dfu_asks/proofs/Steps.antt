@@ -4,8 +4,8 @@ use Rattle.dfu_slots.specs.Units.{Grain, gate_size, gate_room, whole_part, fille
 use Rattle.dfu_slots.specs.Medium.{Write}
 use Rattle.dfu_slots.specs.Layout.{OPEN, gate_unit, header_unit}
 use Rattle.dfu_slots.specs.Writes.{erases, closed_gate, write_anew, write_some, head_size, put_writes, open_writes}
-use Rattle.dfu_asks.specs.declared.job.Job.{Job}
-use Rattle.dfu_asks.specs.declared.job.Job.TheVariants as job
+use Rattle.dfu_asks.specs.declared.slot_write.SlotWrite.{SlotWrite}
+use Rattle.dfu_asks.specs.declared.slot_write.SlotWrite.TheVariants as slot_write
 use Rattle.dfu_asks.specs.Steps.{Step, step_writes, marked, program, anew_steps, some_steps, put_steps, open_steps}
 use Rattle.dfu_asks.specs.Jobs.{held_place, job_writes, job_steps}
 
@@ -60,11 +60,11 @@ open_writes_are w at gen len crc =
     ∙ (λ i. anew_writes w.sector (at + gate_room w) header i ++ anew_writes w.sector at gate i)
 
 -- The steps of a job are its writes.
-pub job_writes_are : (j : Job) (w : Grain) (end : ℕ) (held block : List ℕ)
+pub job_writes_are : (j : SlotWrite) (w : Grain) (end : ℕ) (held block : List ℕ)
     → step_writes (job_steps j w end held block) ≡ job_writes j w end held block
-job_writes_are (job.Block spare true) w end held block =
+job_writes_are (slot_write.Block spare true) w end held block =
     ap (λ (ws : List Write). record { at = spare; bytes = closed_gate w } ∷ ws) (put_writes_are w (held_place w spare end held) held block)
-job_writes_are (job.Block spare false) w end held block = put_writes_are w (held_place w spare end held) held block
-job_writes_are (job.Commit spare gen crc) w end held block =
+job_writes_are (slot_write.Block spare false) w end held block = put_writes_are w (held_place w spare end held) held block
+job_writes_are (slot_write.Commit spare gen crc) w end held block =
     writes_append (some_steps w.sector (held_place w spare end held) (filled w.unit held)) (open_steps w spare gen end crc)
     ∙ (λ i. some_writes w.sector (held_place w spare end held) (filled w.unit held) i ++ open_writes_are w spare gen end crc i)

@@ -14,16 +14,16 @@ use Rattle.dfu_slots.specs.Store.{IsStore}
 use Rattle.dfu_slots.proofs.Seeing.{shaped, room_capacity}
 use Rattle.dfu_device.specs.declared.answer.Answer.{Answer}
 use Rattle.dfu_device.specs.declared.answer.Answer.TheVariants as answer
-use Rattle.dfu_device.specs.declared.mode.Mode.{Mode}
-use Rattle.dfu_device.specs.declared.mode.Mode.TheVariants as mode
+use Rattle.dfu_device.specs.declared.device_state.DeviceState.{DeviceState}
+use Rattle.dfu_device.specs.declared.device_state.DeviceState.TheVariants as device_state
 use Rattle.dfu_device.specs.Setting.{Setting}
-use Rattle.dfu_device.specs.Stage.{Stage, InDownloadIdle, InDownloadSyncWritten, InManifestSyncComplete, InManifestWaitReset}
-use Rattle.dfu_device.specs.Parts.{shows, is_put, is_sound}
-use Rattle.dfu_device.specs.Rows.{Committed}
+use Rattle.dfu_device.specs.Stage.{Stage, InDownloadIdle, InDownloadSyncWritten, InManifestSyncComplete, InManifestWaitReset, InDfuIdle}
+use Rattle.dfu_device.specs.Parts.{shows, stage_of, is_put, is_sound}
+use Rattle.dfu_device.specs.Rows.{WroteBlock, FailedBlock, Committed, FailedCommit}
 use Rattle.dfu_device.specs.Table.{write_code, commit_code}
 use Rattle.dfu_device.proofs.Commits.{written_sound}
-use Rattle.dfu_asks.specs.declared.job.Job.{Job}
-use Rattle.dfu_asks.specs.declared.job.Job.TheVariants as job
+use Rattle.dfu_asks.specs.declared.slot_write.SlotWrite.{SlotWrite}
+use Rattle.dfu_asks.specs.declared.slot_write.SlotWrite.TheVariants as slot_write
 use Rattle.dfu_asks.specs.Mapped.{mapped}
 use Rattle.dfu_asks.specs.Series.{block_series, block_store, BlockWritten, BlockBroken, CommitDone, CommitBroken}
 use Rattle.dfu_asks.specs.Jobs.{held_place, job_writes}
@@ -33,6 +33,7 @@ use Rattle.dfu_asks.proofs.Rows.{block_written, block_broken, commit_done, commi
 
 -- A block that is due has bytes and finds room, behind what was put.
 pub record IsNext (s : SlotsState) (n b : ℕ) : Type 0 where
+  pub shape : is_shaped s ≡ true
   pub some : 0 < b
   pub room : n + b ≤ room_of s
   pub before : (n ≡ 0) ⊎ (is_put n s ≡ true)
@@ -45,6 +46,7 @@ or_before n false e = inl (eqb-true _ _ (grind (arith, common_steps, e)))
 pub next_in : (n b : ℕ) (s : SlotsState) → IsTrue (is_shaped s && (nat_lt 0 b && (nat_le (n + b) (room_of s) && ((n == 0) || is_put n s))))
     → IsNext s n b
 next_in n b s sound = record {
+  shape = grind (arith, common_steps);
   some = grind (arith, common_steps);
   room = grind (arith, common_steps);
   before = or_before n (is_put n s) (grind (arith, common_steps));
@@ -52,12 +54,14 @@ next_in n b s sound = record {
 
 -- A commit that is due is of what was put.
 pub record IsAll (s : SlotsState) (n : ℕ) : Type 0 where
+  pub shape : is_shaped s ≡ true
   pub room : n ≤ room_of s
   pub put : is_put n s ≡ true
 
 -- Or such a commit.
 pub all_in : (n : ℕ) (s : SlotsState) → IsTrue (is_shaped s && (nat_lt 0 n && (nat_le n (room_of s) && is_put n s))) → IsAll s n
-all_in n s sound = record { room = grind (arith, common_steps); put = grind (arith, common_steps) }
+all_in n s sound =
+    record { shape = grind (arith, common_steps); room = grind (arith, common_steps); put = grind (arith, common_steps) }
 
 -- Whether the gate of a store's spare is open.
 not_begun : (s : SlotsState) → not (is_begun s) ≡ ((spare_slot s).gate == OPEN)
@@ -69,7 +73,7 @@ not_begun s = not_not ((spare_slot s).gate == OPEN)
     not_not false = refl
 
 -- The writes of the job of a block are those of the block.
-series_of_block : (s : SlotsState) (n : ℕ) (j : Job) (u : Grain) (end : ℕ) (held block : List ℕ) → s.medium.grain ≡ u
+pub series_of_block : (s : SlotsState) (n : ℕ) (j : SlotWrite) (u : Grain) (end : ℕ) (held block : List ℕ) → s.medium.grain ≡ u
     → IsBlockJob n s j end held → job_writes j u end held block ≡ block_series s n block
 series_of_block s n j u end held block unit is =
     let g = gate_of s.medium in
@@ -83,7 +87,7 @@ series_of_block s n j u end held block unit is =
     ])
   where
     choose : Bool → Bool → List Write
-    choose first close = job_writes (job.Block (spare_at (gate_of s.medium) s.medium.bytes) (first && close)) s.medium.grain n
+    choose first close = job_writes (slot_write.Block (spare_at (gate_of s.medium) s.medium.bytes) (first && close)) s.medium.grain n
         (if first then [] else s.held) block
 
     chosen : Bool → List Write
@@ -100,7 +104,7 @@ series_of_block s n j u end held block unit is =
     further e = (λ i. choose (e i) (not (is_begun s))) ∙ (λ i. chosen (sym e i))
 
 -- The writes of the job of a commit are those of the commit.
-series_of_commit : (s : SlotsState) (n : ℕ) (j : Job) (u : Grain) (end : ℕ) (held block : List ℕ) → s.medium.grain ≡ u
+pub series_of_commit : (s : SlotsState) (n : ℕ) (j : SlotWrite) (u : Grain) (end : ℕ) (held block : List ℕ) → s.medium.grain ≡ u
     → is_put n s ≡ true → IsCommitJob n s j end held → job_writes j u end held block ≡ writes_of s (Commit n)
 series_of_commit s n j u end held block unit put is =
     let here : s.put_end ≡ n = eqb-true _ _ (and_parts (is_begun s) (s.put_end == n) put).1 in
@@ -110,25 +114,32 @@ series_of_commit s n j u end held block unit put is =
     (register (take n (spare_of s))))
 
 -- What is held back once all is written.
-abbrev pub held_after : Grain → Mode → List ℕ → List ℕ → List ℕ
+abbrev pub held_after : Grain → DeviceState → List ℕ → List ℕ → List ℕ
 held_after w m held b = if is_block m then put_rest w.unit held b else []
 
 -- Where the puts end then.
-abbrev pub end_after : Mode → ℕ → List ℕ → ℕ
+abbrev pub end_after : DeviceState → ℕ → List ℕ → ℕ
 end_after m end b = if is_block m then capped end (length b) else 0
 
 -- A device on these bytes of flash.
-pub record Ends (c : Setting) (s : SlotsState) (m : Mode) (b : List ℕ) (Stays Comes : Type 0) : Type 0 where
+pub record Ends (c : Setting) (s : SlotsState) (m : DeviceState) (b : List ℕ) (Stays Comes : Type 0) : Type 0 where
   pub comes : Comes
   pub store : IsStore s
   pub sound : IsTrue (is_sound m (length b) s)
   pub stays : Stays
 
 -- A row in this mode leaves the active slot where it was, unless it commits.
-abbrev pub Stays : Mode → SlotsState → SlotsState → Type 0
+abbrev pub Stays : DeviceState → SlotsState → SlotsState → Type 0
 Stays m s now = is_block m ≡ true → active_at (gate_of now.medium) now.medium.bytes ≡ active_at (gate_of s.medium) s.medium.bytes
 
-module _ (c : Setting) (w : Grain) (b held : List ℕ) (end : ℕ) (j : Job) (len : ℕ) (s : SlotsState) (m flash : List ℕ)
+-- A store is sound where nothing is put.
+pub idle_sound : (s : SlotsState) → IsStore s → IsTrue (is_shaped s && true)
+idle_sound s store = both (is_shaped s) (shaped store)
+  where
+    both : (p : Bool) → p ≡ true → IsTrue (p && true)
+    both p e = grind (arith, common_steps)
+
+module _ (c : Setting) (w : Grain) (b held : List ℕ) (end : ℕ) (j : SlotWrite) (len : ℕ) (s : SlotsState) (m flash : List ℕ)
     (medium : s.medium ≡ mapped w m) (store : IsStore s) where
   unit_is : s.medium.grain ≡ w
   unit_is = ap (λ (x : MediumState). x.grain) medium
@@ -139,8 +150,12 @@ module _ (c : Setting) (w : Grain) (b held : List ℕ) (end : ℕ) (j : Job) (le
   small : (n : ℕ) → n ≤ room_of s → n ≤ 2 ^ 24
   small n le = omega (arith, le, room_capacity s, store.has_image.active.sized.bound)
 
-  rose : (now : SlotsState) → now.medium.failures ≡ 2 ^ 64 - 1 → Rose s.medium.failures now.medium.failures
-  rose now is = omega (arith, is, ap (λ (x : MediumState). x.failures) medium)
+  -- The store on the flash then, with nothing put.
+  abbrev at_rest : SlotsState
+  at_rest = store_on (mapped w flash)
+
+  risen : Rose s.medium.failures at_rest.medium.failures
+  risen = omega (arith, ap (λ (x : MediumState). x.failures) medium)
 
   abbrev left : SlotsState
   left = store_of (mapped w flash) (put_rest w.unit held b) (capped end (length b))
@@ -163,7 +178,7 @@ module _ (c : Setting) (w : Grain) (b held : List ℕ) (end : ℕ) (j : Job) (le
 
   -- A broken write of a block.
   block_off : (fault : WriteFault) (n : ℕ) → IsNext s n (length b) → IsBlockJob n s j end held
-      → BrokenWrites fault (mapped w m) (job_writes j w end held b) (mapped w flash) → BlockBroken fault s n b (store_on (mapped w flash))
+      → BrokenWrites fault (mapped w m) (job_writes j w end held b) (mapped w flash) → BlockBroken fault s n b at_rest
   block_off fault n next job all =
       block_broken s store shape n b next.before next.room (mapped w flash) fault
       (subst (λ (x : MediumState). BrokenWrites fault x (block_series s n b) (mapped w flash)) (sym medium)
@@ -172,7 +187,7 @@ module _ (c : Setting) (w : Grain) (b held : List ℕ) (end : ℕ) (j : Job) (le
 
   -- All writes of a commit.
   commit_left : (n : ℕ) → IsAll s n → IsCommitJob n s j end held
-      → AllWrites (mapped w m) (job_writes j w end held b) (mapped w flash) → CommitDone s n (store_on (mapped w flash))
+      → AllWrites (mapped w m) (job_writes j w end held b) (mapped w flash) → CommitDone s n at_rest
   commit_left n whole job all =
       commit_done s store shape n whole.put whole.room (mapped w flash)
       (subst (λ (x : MediumState). AllWrites x (writes_of s (Commit n)) (mapped w flash)) (sym medium)
@@ -181,186 +196,141 @@ module _ (c : Setting) (w : Grain) (b held : List ℕ) (end : ℕ) (j : Job) (le
 
   -- A broken write of a commit.
   commit_broke : (fault : WriteFault) (n : ℕ) → IsAll s n → IsCommitJob n s j end held
-      → BrokenWrites fault (mapped w m) (job_writes j w end held b) (mapped w flash) → CommitBroken fault s n (store_on (mapped w flash))
+      → BrokenWrites fault (mapped w m) (job_writes j w end held b) (mapped w flash) → CommitBroken fault s n at_rest
   commit_broke fault n whole job all =
       commit_off s store shape n whole.put whole.room (mapped w flash) fault
       (subst (λ (x : MediumState). BrokenWrites fault x (writes_of s (Commit n)) (mapped w flash)) (sym medium)
       (subst (λ (ws : List Write). BrokenWrites fault (mapped w m) ws (mapped w flash))
       (series_of_commit s n j w end held b unit_is whole.put job) all))
 
-  shaped_left : (x : SlotsState) → IsStore x → IsTrue (is_shaped x && true)
-  shaped_left x st = sound_shape (is_shaped x) (shaped st)
-    where
-      sound_shape : (p : Bool) → p ≡ true → IsTrue (p && true)
-      sound_shape p e = grind (arith, common_steps)
-
-  -- All is written: the row that is due, and the device after it.
-  pub works : (d : Mode) (asked : Option ℕ) → IsTrue (is_sound d (length b) s) → IsDue d asked len s j end held
-      → AllWrites (mapped w m) (job_writes j w end held b) (mapped w flash) → (a : Answer) (out : List ℕ)
-      → IsAnswered c (done_mode c d (length b)) asked a out
-      → Ends c (store_of (mapped w flash) (held_after w d held b) (end_after d end b)) (done_mode c d (length b)) b
-      (Stays d s (store_of (mapped w flash) (held_after w d held b) (end_after d end b)))
-      (Works len (shows c s d b) a out
-      (shows c (store_of (mapped w flash) (held_after w d held b) (end_after d end b)) (done_mode c d (length b)) b))
-  works (mode.DownloadSync n number) asked sound due all a out says =
-      let next = next_in n (length b) s sound in
-      let got = block_left n next due.1 all in
-      let cap : capped n (length b) ≡ n + length b = omega (arith, got.0, due.1.end_is) in
+  -- A block, once all of it is written, leaves the device in a mode behind it.
+  block_ends : (d to : DeviceState) (n number : ℕ) (stage : List ℕ → Stage) (Says : Type 0)
+      → (to ≡ device_state.DownloadSyncWritten (capped n (length b)) number) ⊎ (to ≡ device_state.DownloadIdle (capped n (length b)) number)
+      → ((spare : List ℕ) → stage_of to spare b ≡ stage (take (capped n (length b)) spare)) → IsNext s n (length b)
+      → IsBlockJob n s j end held → AllWrites (mapped w m) (job_writes j w end held b) (mapped w flash) → Says
+      → Ends c left to b (Stays d s left)
+      (Says × WroteBlock (take n (spare_of s)) b c s (stage (take n (spare_of s) ++ b)) (shows c left to b))
+  block_ends d to n number stage Says either stage_is next job all says =
+      let got = block_left n next job all in
+      let cap : capped n (length b) ≡ n + length b = omega (arith, got.0, job.end_is) in
       record {
         comes = (
-          subst (λ (x : Option ℕ). IsAnswered c (mode.DownloadIdle (capped n (length b)) number) x a out) due.0 says 0 [] [],
+          says,
           record {
             config_is = refl;
             room = got.1.room;
-            stage_is = ap (λ (l : List ℕ). InDownloadIdle l number) (ap (λ (k : ℕ). take k (spare_of left)) cap ∙ got.1.spare);
-            calls = got.1.calls;
-            image = got.1.image;
-          },
-        );
-        store = got.1.store;
-        sound = written_sound (mode.DownloadIdle (capped n (length b)) number) (length b) (capped n (length b)) number left (inr refl)
-            (omega (arith, cap, next.some)) (omega (arith, cap, next.room, got.1.room)) (shaped {s = left} got.1.store)
-            (subst (λ (k : ℕ). is_put k left ≡ true) (sym cap) got.1.put);
-        stays = λ e. got.1.place;
-      }
-  works (mode.DownloadBusy n number passed) asked sound due all a out says =
-      let next = next_in n (length b) s sound in
-      let got = block_left n next due.1 all in
-      let cap : capped n (length b) ≡ n + length b = omega (arith, got.0, due.1.end_is) in
-      record {
-        comes = (
-          subst (λ (x : Option ℕ). IsAnswered c (mode.DownloadSyncWritten (capped n (length b)) number) x a out) due.0 says 0 [] [],
-          record {
-            config_is = refl;
-            room = got.1.room;
-            stage_is = ap (λ (l : List ℕ). InDownloadSyncWritten l number) (ap (λ (k : ℕ). take k (spare_of left)) cap ∙ got.1.spare);
+            stage_is = stage_is (spare_of left) ∙ ap stage (ap (λ (k : ℕ). take k (spare_of left)) cap ∙ got.1.spare);
             calls = got.1.calls;
             image = got.1.image;
           },
         );
         store = got.1.store;
         sound =
-            written_sound (mode.DownloadSyncWritten (capped n (length b)) number) (length b) (capped n (length b)) number left (inl refl)
-            (omega (arith, cap, next.some)) (omega (arith, cap, next.room, got.1.room)) (shaped {s = left} got.1.store)
+            written_sound to (length b) (capped n (length b)) number left either (omega (arith, cap, next.some))
+            (omega (arith, cap, next.room, got.1.room)) (shaped {s = left} got.1.store)
             (subst (λ (k : ℕ). is_put k left ≡ true) (sym cap) got.1.put);
         stays = λ e. got.1.place;
       }
-  works (mode.ManifestSync n) asked sound due all a out says =
-      let got = commit_left n (all_in n s sound) due.1 all in
-      record {
-        comes = (
-          subst (λ (x : Option ℕ). IsAnswered c mode.DfuIdle x a out) due.0 says 0 [] [],
-          record { config_is = refl; room = got.room; stage_is = refl; calls = got.calls; image = got.image },
-        );
-        store = got.store;
-        sound = shaped_left (store_on (mapped w flash)) got.store;
-        stays = λ e. absurd (false≢true e);
-      }
-  works (mode.Manifest n passed) asked sound due all a out says =
-      let got = commit_left n (all_in n s sound) due.1 all in
-      tolerant c.functional.tolerant got
-      (subst (λ (x : Option ℕ). IsAnswered c (done_mode c (mode.Manifest n passed) (length b)) x a out) due.0 says 0 [] [])
+
+  -- A commit, once all of it is written, leaves the device in this mode.
+  commit_ends : (d to : DeviceState) (n : ℕ) (stage : Stage) (Says : Type 0) → is_block d ≡ false
+      → stage_of to (spare_of at_rest) b ≡ stage
+      → (IsStore at_rest → IsTrue (is_sound to (length b) at_rest))
+      → CommitDone s n at_rest → Says
+      → Ends c at_rest to b (Stays d s at_rest)
+      (Says × Committed (take n (spare_of s)) c s stage (shows c at_rest to b))
+  commit_ends d to n stage Says commits stage_is sound got says = record {
+    comes = (says, record { config_is = refl; room = got.room; stage_is = stage_is; calls = got.calls; image = got.image });
+    store = got.store;
+    sound = sound got.store;
+    stays = λ e. absurd (false≢true (sym commits ∙ e));
+  }
+
+  -- All is written: the row that is due, and the device after it.
+  pub works : (d : DeviceState) (asked : Option ℕ) → IsTrue (is_sound d (length b) s) → IsDue d asked len s j end held
+      → AllWrites (mapped w m) (job_writes j w end held b) (mapped w flash) → (a : Answer) (out : List ℕ)
+      → IsAnswered c (done_mode c d (length b)) asked a out
+      → Ends c (store_of (mapped w flash) (held_after w d held b) (end_after d end b)) (done_mode c d (length b)) b
+      (Stays d s (store_of (mapped w flash) (held_after w d held b) (end_after d end b)))
+      (Works len (shows c s d b) a out
+      (shows c (store_of (mapped w flash) (held_after w d held b) (end_after d end b)) (done_mode c d (length b)) b))
+  works (device_state.DownloadSync n number) asked sound due all a out says =
+      block_ends (device_state.DownloadSync n number) (device_state.DownloadIdle (capped n (length b)) number) n number
+      (λ taken. InDownloadIdle taken number) _ (inr refl) (λ spare. refl) (next_in n (length b) s sound) due.1 all
+      (subst (λ (x : Option ℕ). IsAnswered c (device_state.DownloadIdle (capped n (length b)) number) x a out) due.0 says 0 [] [])
+  works (device_state.DownloadBusy n number passed) asked sound due all a out says =
+      block_ends (device_state.DownloadBusy n number passed) (device_state.DownloadSyncWritten (capped n (length b)) number) n number
+      (λ taken. InDownloadSyncWritten taken number) _ (inl refl) (λ spare. refl) (next_in n (length b) s sound) due.1 all
+      (subst (λ (x : Option ℕ). IsAnswered c (device_state.DownloadSyncWritten (capped n (length b)) number) x a out) due.0 says 0 [] [])
+  works (device_state.ManifestSync n) asked sound due all a out says =
+      commit_ends (device_state.ManifestSync n) device_state.DfuIdle n InDfuIdle _ refl refl (idle_sound at_rest)
+      (commit_left n (all_in n s sound) due.1 all)
+      (subst (λ (x : Option ℕ). IsAnswered c device_state.DfuIdle x a out) due.0 says 0 [] [])
+  works (device_state.Manifest n passed) asked sound due all a out says =
+      tolerant c.functional.tolerant (commit_left n (all_in n s sound) due.1 all)
+      (subst (λ (x : Option ℕ). IsAnswered c (done_mode c (device_state.Manifest n passed) (length b)) x a out) due.0 says 0 [] [])
     where
-      next_mode : Bool → Mode
-      next_mode t = if t then mode.ManifestSyncComplete else mode.ManifestWaitReset
+      next_mode : Bool → DeviceState
+      next_mode t = if t then device_state.ManifestSyncComplete else device_state.ManifestWaitReset
 
       next_stage : Bool → Stage
       next_stage t = if t then InManifestSyncComplete else InManifestWaitReset
 
-      tolerant : (t : Bool) → CommitDone s n (store_on (mapped w flash)) → (a ≡ answer.Ack) × (out ≡ [])
-          → Ends c (store_on (mapped w flash)) (next_mode t) b (Stays (mode.Manifest n passed) s (store_on (mapped w flash)))
+      tolerant : (t : Bool) → CommitDone s n at_rest → (a ≡ answer.Ack) × (out ≡ [])
+          → Ends c at_rest (next_mode t) b (Stays (device_state.Manifest n passed) s at_rest)
           (((a ≡ answer.Ack) × (out ≡ []))
-          × Committed (take n (spare_of s)) c s (next_stage t) (shows c (store_on (mapped w flash)) (next_mode t) b))
-      tolerant true got says = record {
-        comes = (says, record { config_is = refl; room = got.room; stage_is = refl; calls = got.calls; image = got.image });
-        store = got.store;
-        sound = shaped_left (store_on (mapped w flash)) got.store;
-        stays = λ e. absurd (false≢true e);
-      }
-      tolerant false got says = record {
-        comes = (says, record { config_is = refl; room = got.room; stage_is = refl; calls = got.calls; image = got.image });
-        store = got.store;
-        sound = shaped_left (store_on (mapped w flash)) got.store;
-        stays = λ e. absurd (false≢true e);
-      }
+          × Committed (take n (spare_of s)) c s (next_stage t) (shows c at_rest (next_mode t) b))
+      tolerant true got says =
+          commit_ends (device_state.Manifest n passed) device_state.ManifestSyncComplete n InManifestSyncComplete _ refl refl
+          (idle_sound at_rest) got says
+      tolerant false got says =
+          commit_ends (device_state.Manifest n passed) device_state.ManifestWaitReset n InManifestWaitReset _ refl refl
+          (idle_sound at_rest) got says
   works d asked sound due all a out says = absurd due
 
+  -- After a write of a block that had a fault the device is in dfuERROR.
+  block_fails : (fault : WriteFault) (d : DeviceState) (n : ℕ) (Says : Type 0) → Says → BlockBroken fault s n b at_rest
+      → Ends c at_rest (device_state.Error (write_code fault)) b (Stays d s at_rest)
+      (Says × FailedBlock fault (take n (spare_of s)) b c s (shows c at_rest (device_state.Error (write_code fault)) b))
+  block_fails fault d n Says says got = record {
+    comes = (says, record { config_is = refl; room = got.room; stage_is = refl; calls = got.calls; image = got.image; failed = risen });
+    store = got.store;
+    sound = idle_sound at_rest got.store;
+    stays = λ e. got.place;
+  }
+
+  -- So after a write of a commit.
+  commit_fails : (fault : WriteFault) (d : DeviceState) (n : ℕ) (Says : Type 0) → is_block d ≡ false → Says
+      → CommitBroken fault s n at_rest
+      → Ends c at_rest (device_state.Error (commit_code fault)) b (Stays d s at_rest)
+      (Says × FailedCommit fault (take n (spare_of s)) c s (shows c at_rest (device_state.Error (commit_code fault)) b))
+  commit_fails fault d n Says commits says got = record {
+    comes = (says, record { config_is = refl; room = got.room; stage_is = refl; calls = got.calls; image = got.image; failed = risen });
+    store = got.store;
+    sound = idle_sound at_rest got.store;
+    stays = λ e. absurd (false≢true (sym commits ∙ e));
+  }
+
   -- A write had a fault: the row with that fault, and the device after it.
-  pub fails : (fault : WriteFault) (d : Mode) (asked : Option ℕ) → IsTrue (is_sound d (length b) s) → IsDue d asked len s j end held
+  pub fails : (fault : WriteFault) (d : DeviceState) (asked : Option ℕ) → IsTrue (is_sound d (length b) s) → IsDue d asked len s j end held
       → BrokenWrites fault (mapped w m) (job_writes j w end held b) (mapped w flash) → (a : Answer) (out : List ℕ)
       → IsAnswered c (failed_mode fault d) asked a out
-      → Ends c (store_on (mapped w flash)) (failed_mode fault d) b (Stays d s (store_on (mapped w flash)))
-      (Fails fault len (shows c s d b) a out (shows c (store_on (mapped w flash)) (failed_mode fault d) b))
-  fails fault (mode.DownloadSync n number) asked sound due all a out says =
-      let got = block_off fault n (next_in n (length b) s sound) due.1 all in
-      record {
-        comes = (
-          subst (λ (x : Option ℕ). IsAnswered c (mode.Error (write_code fault)) x a out) due.0 says 0 [] [],
-          record {
-            config_is = refl;
-            room = got.room;
-            stage_is = refl;
-            calls = got.calls;
-            image = got.image;
-            failed = rose (store_on (mapped w flash)) refl;
-          },
-        );
-        store = got.store;
-        sound = shaped_left (store_on (mapped w flash)) got.store;
-        stays = λ e. got.place;
-      }
-  fails fault (mode.DownloadBusy n number passed) asked sound due all a out says =
-      let got = block_off fault n (next_in n (length b) s sound) due.1 all in
-      record {
-        comes = (
-          subst (λ (x : Option ℕ). IsAnswered c (mode.Error (write_code fault)) x a out) due.0 says 0 [] [],
-          record {
-            config_is = refl;
-            room = got.room;
-            stage_is = refl;
-            calls = got.calls;
-            image = got.image;
-            failed = rose (store_on (mapped w flash)) refl;
-          },
-        );
-        store = got.store;
-        sound = shaped_left (store_on (mapped w flash)) got.store;
-        stays = λ e. got.place;
-      }
-  fails fault (mode.ManifestSync n) asked sound due all a out says =
-      let got = commit_broke fault n (all_in n s sound) due.1 all in
-      record {
-        comes = (
-          subst (λ (x : Option ℕ). IsAnswered c (mode.Error (commit_code fault)) x a out) due.0 says 0 [] [],
-          record {
-            config_is = refl;
-            room = got.room;
-            stage_is = refl;
-            calls = got.calls;
-            image = got.image;
-            failed = rose (store_on (mapped w flash)) refl;
-          },
-        );
-        store = got.store;
-        sound = shaped_left (store_on (mapped w flash)) got.store;
-        stays = λ e. absurd (false≢true e);
-      }
-  fails fault (mode.Manifest n passed) asked sound due all a out says =
-      let got = commit_broke fault n (all_in n s sound) due.1 all in
-      record {
-        comes = (
-          subst (λ (x : Option ℕ). IsAnswered c (mode.Error (commit_code fault)) x a out) due.0 says 0 [] [],
-          record {
-            config_is = refl;
-            room = got.room;
-            stage_is = refl;
-            calls = got.calls;
-            image = got.image;
-            failed = rose (store_on (mapped w flash)) refl;
-          },
-        );
-        store = got.store;
-        sound = shaped_left (store_on (mapped w flash)) got.store;
-        stays = λ e. absurd (false≢true e);
-      }
+      → Ends c at_rest (failed_mode fault d) b (Stays d s at_rest)
+      (Fails fault len (shows c s d b) a out (shows c at_rest (failed_mode fault d) b))
+  fails fault (device_state.DownloadSync n number) asked sound due all a out says =
+      block_fails fault (device_state.DownloadSync n number) n _
+      (subst (λ (x : Option ℕ). IsAnswered c (device_state.Error (write_code fault)) x a out) due.0 says 0 [] [])
+      (block_off fault n (next_in n (length b) s sound) due.1 all)
+  fails fault (device_state.DownloadBusy n number passed) asked sound due all a out says =
+      block_fails fault (device_state.DownloadBusy n number passed) n _
+      (subst (λ (x : Option ℕ). IsAnswered c (device_state.Error (write_code fault)) x a out) due.0 says 0 [] [])
+      (block_off fault n (next_in n (length b) s sound) due.1 all)
+  fails fault (device_state.ManifestSync n) asked sound due all a out says =
+      commit_fails fault (device_state.ManifestSync n) n _ refl
+      (subst (λ (x : Option ℕ). IsAnswered c (device_state.Error (commit_code fault)) x a out) due.0 says 0 [] [])
+      (commit_broke fault n (all_in n s sound) due.1 all)
+  fails fault (device_state.Manifest n passed) asked sound due all a out says =
+      commit_fails fault (device_state.Manifest n passed) n _ refl
+      (subst (λ (x : Option ℕ). IsAnswered c (device_state.Error (commit_code fault)) x a out) due.0 says 0 [] [])
+      (commit_broke fault n (all_in n s sound) due.1 all)
   fails fault d asked sound due all a out says = absurd due

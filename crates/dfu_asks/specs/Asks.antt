@@ -9,20 +9,20 @@ use Rattle.dfu_slots.specs.Image.{gate_of, spare_at, HasImage}
 use Rattle.dfu_slots.specs.Writes.{put_rest}
 use Rattle.dfu_slots.specs.Seen.{SlotsState, store_of, active_slot, spare_of, is_begun}
 use Rattle.dfu_slots.specs.Store.{IsStore}
-use Rattle.dfu_device.specs.declared.mode.Mode.{Mode}
-use Rattle.dfu_device.specs.declared.mode.Mode.TheVariants as mode
+use Rattle.dfu_device.specs.declared.device_state.DeviceState.{DeviceState}
+use Rattle.dfu_device.specs.declared.device_state.DeviceState.TheVariants as device_state
 use Rattle.dfu_device.specs.Setting.{Setting}
 use Rattle.dfu_device.specs.declared.answer.Answer.{Answer}
 use Rattle.dfu_device.specs.Rows.{Answers}
 use Rattle.dfu_device.specs.Parts.{shows, stage_of, is_sound}
-use Rattle.dfu_device.specs.Shown.{Shown, profile_of}
+use Rattle.dfu_device.specs.DeviceView.{DeviceView, profile_of}
 use Rattle.dfu_device.specs.declared.reply.Reply.{Reply as ReplyRead}
 use Rattle.dfu_device.specs.declared.reply.Reply.TheVariants as reply
 use Rattle.dfu_device.specs.Decision.{reply_in}
 use Rattle.dfu_device.specs.Table.{write_code, commit_code}
-use Rattle.dfu_asks.specs.declared.job.Job.{Job}
-use Rattle.dfu_asks.specs.declared.job.Job.TheVariants as job
-use Rattle.dfu_asks.specs.declared.work.Work.{Work}
+use Rattle.dfu_asks.specs.declared.slot_write.SlotWrite.{SlotWrite}
+use Rattle.dfu_asks.specs.declared.slot_write.SlotWrite.TheVariants as slot_write
+use Rattle.dfu_asks.specs.declared.pending_writes.PendingWrites.{PendingWrites}
 use Rattle.dfu_asks.specs.Lent.{LentAsking}
 use Rattle.dfu_asks.specs.Mapped.{grain_of, mapped}
 use Rattle.dfu_asks.specs.Noted.{IsNoted}
@@ -39,7 +39,7 @@ abbrev pub store_in : LentAsking → List ℕ → SlotsState
 store_in a flash = store_of (mapped (grain_in a) flash) a.held a.put_end
 
 -- The device on these bytes of flash.
-abbrev pub device_in : LentAsking → List ℕ → Shown
+abbrev pub device_in : LentAsking → List ℕ → DeviceView
 device_in a flash = shows a.config (store_in a flash) a.mode a.block
 
 -- It is a device's, and its active image is noted.
@@ -49,36 +49,36 @@ pub record IsDevice (a : LentAsking) (flash : List ℕ) : Type 0 where
   pub noted : IsNoted a.noted (mapped (grain_in a) flash)
 
 -- The job of a block behind n bytes, where the puts end here and this is held back.
-pub record IsBlockJob (n : ℕ) (s : SlotsState) (j : Job) (end : ℕ) (held : List ℕ) : Type 0 where
-  pub job_is : j ≡ job.Block (spare_at (gate_of s.medium) s.medium.bytes) ((n == 0) && not (is_begun s))
+pub record IsBlockJob (n : ℕ) (s : SlotsState) (j : SlotWrite) (end : ℕ) (held : List ℕ) : Type 0 where
+  pub job_is : j ≡ slot_write.Block (spare_at (gate_of s.medium) s.medium.bytes) ((n == 0) && not (is_begun s))
   pub end_is : end ≡ n
   pub held_is : held ≡ held_before s n
 
 -- The job of a commit of n bytes.
-pub record IsCommitJob (n : ℕ) (s : SlotsState) (j : Job) (end : ℕ) (held : List ℕ) : Type 0 where
-  pub job_is : j ≡ job.Commit (spare_at (gate_of s.medium) s.medium.bytes) (next_generation (generation (active_slot s)))
+pub record IsCommitJob (n : ℕ) (s : SlotsState) (j : SlotWrite) (end : ℕ) (held : List ℕ) : Type 0 where
+  pub job_is : j ≡ slot_write.Commit (spare_at (gate_of s.medium) s.medium.bytes) (next_generation (generation (active_slot s)))
       (register (take n (spare_of s)))
   pub end_is : end ≡ n
   pub held_is : held ≡ s.held
 
 -- The job of the row that is due in a mode, and how many bytes of a status are asked for then.
-abbrev pub IsDue : Mode → Option ℕ → ℕ → SlotsState → Job → ℕ → List ℕ → Type 0
-IsDue (mode.DownloadSync written number) asked len s j end held = (asked ≡ Some len) × IsBlockJob written s j end held
-IsDue (mode.DownloadBusy written number passed) asked len s j end held = (asked ≡ None) × IsBlockJob written s j end held
-IsDue (mode.ManifestSync written) asked len s j end held = (asked ≡ Some len) × IsCommitJob written s j end held
-IsDue (mode.Manifest written passed) asked len s j end held = (asked ≡ None) × IsCommitJob written s j end held
+abbrev pub IsDue : DeviceState → Option ℕ → ℕ → SlotsState → SlotWrite → ℕ → List ℕ → Type 0
+IsDue (device_state.DownloadSync written number) asked len s j end held = (asked ≡ Some len) × IsBlockJob written s j end held
+IsDue (device_state.DownloadBusy written number passed) asked len s j end held = (asked ≡ None) × IsBlockJob written s j end held
+IsDue (device_state.ManifestSync written) asked len s j end held = (asked ≡ Some len) × IsCommitJob written s j end held
+IsDue (device_state.Manifest written passed) asked len s j end held = (asked ≡ None) × IsCommitJob written s j end held
 IsDue m asked len s j end held = ⊥
 
 -- The writes of its work.
-abbrev pub writes_in : LentAsking → Work → List Write
+abbrev pub writes_in : LentAsking → PendingWrites → List Write
 writes_in a w = job_writes w.job (grain_in a) a.put_end a.held a.block
 
 -- The same as steps.
-abbrev pub steps_in : LentAsking → Work → List Step
+abbrev pub steps_in : LentAsking → PendingWrites → List Step
 steps_in a w = job_steps w.job (grain_in a) a.put_end a.held a.block
 
 -- It works for the row that is due in the device that it was, on these bytes of flash, in this slot store.
-pub record IsWorking (a : LentAsking) (w : Work) (len : ℕ) (s : SlotsState) (flash : List ℕ) : Type 0 where
+pub record IsWorking (a : LentAsking) (w : PendingWrites) (len : ℕ) (s : SlotsState) (flash : List ℕ) : Type 0 where
   pub medium : s.medium ≡ mapped (grain_in a) flash
   pub store : IsStore s
   pub sound : IsTrue (is_sound a.mode (length a.block) s)
@@ -86,29 +86,30 @@ pub record IsWorking (a : LentAsking) (w : Work) (len : ℕ) (s : SlotsState) (f
   pub noted : IsNoted a.noted s.medium
 
 -- The device that it works for.
-abbrev pub device_of : LentAsking → SlotsState → Shown
+abbrev pub device_of : LentAsking → SlotsState → DeviceView
 device_of a s = shows a.config s a.mode a.block
 
 -- Where it goes once all is written; a sum of bytes stops at the largest number.
 abbrev pub capped : ℕ → ℕ → ℕ
 capped a b = min (a + b) (2 ^ 32 - 1)
 
-abbrev pub done_mode : Setting → Mode → ℕ → Mode
-done_mode c (mode.DownloadSync written number) n = mode.DownloadIdle (capped written n) number
-done_mode c (mode.DownloadBusy written number passed) n = mode.DownloadSyncWritten (capped written n) number
-done_mode c (mode.ManifestSync written) n = mode.DfuIdle
-done_mode c (mode.Manifest written passed) n = if c.functional.tolerant then mode.ManifestSyncComplete else mode.ManifestWaitReset
+abbrev pub done_mode : Setting → DeviceState → ℕ → DeviceState
+done_mode c (device_state.DownloadSync written number) n = device_state.DownloadIdle (capped written n) number
+done_mode c (device_state.DownloadBusy written number passed) n = device_state.DownloadSyncWritten (capped written n) number
+done_mode c (device_state.ManifestSync written) n = device_state.DfuIdle
+done_mode c (device_state.Manifest written passed) n =
+    if c.functional.tolerant then device_state.ManifestSyncComplete else device_state.ManifestWaitReset
 done_mode c m n = m
 
 -- A block is written in this mode, and no image put in place.
-abbrev pub is_block : Mode → Bool
-is_block (mode.DownloadSync written number) = true
-is_block (mode.DownloadBusy written number passed) = true
+abbrev pub is_block : DeviceState → Bool
+is_block (device_state.DownloadSync written number) = true
+is_block (device_state.DownloadBusy written number passed) = true
 is_block m = false
 
 -- Where it goes where a write had this fault.
-abbrev pub failed_mode : WriteFault → Mode → Mode
-failed_mode fault m = if is_block m then mode.Error (write_code fault) else mode.Error (commit_code fault)
+abbrev pub failed_mode : WriteFault → DeviceState → DeviceState
+failed_mode fault m = if is_block m then device_state.Error (write_code fault) else device_state.Error (commit_code fault)
 
 -- All is written: what is kept then.
 pub record IsFinished (a a' : LentAsking) : Type 0 where
@@ -133,17 +134,17 @@ pub record IsBrokenOff (fault : WriteFault) (a a' : LentAsking) : Type 0 where
   pub work : a'.work ≡ None
 
 -- What is noted after a row in this mode, on this flash: after a commit what stands on it, and after a block what was noted.
-pub record NotesAfter (m : Mode) (flash : List ℕ) (a a' : LentAsking) : Type 0 where
+pub record NotesAfter (m : DeviceState) (flash : List ℕ) (a a' : LentAsking) : Type 0 where
   pub of_block : is_block m ≡ true → a'.noted ≡ a.noted
   pub of_commit : is_block m ≡ false → HasImage (mapped (grain_in a') flash) → IsNoted a'.noted (mapped (grain_in a') flash)
 
 -- What is replied by a device that is set up like this, in this mode, if so many bytes are asked for.
-abbrev pub IsReply : Setting → Mode → ReplyRead → (asked : ℕ) → Answer → List ℕ → Type 0
+abbrev pub IsReply : Setting → DeviceState → ReplyRead → (asked : ℕ) → Answer → List ℕ → Type 0
 IsReply c m r asked a out = (room : ℕ) (spare block : List ℕ)
     → Answers asked (reply_in (profile_of c room) (stage_of m spare block) r) a out
 
 -- What is answered in this mode at the end of a row: the status, if a GETSTATUS asked for so many bytes of it.
-abbrev pub IsAnswered : Setting → Mode → Option ℕ → Answer → List ℕ → Type 0
+abbrev pub IsAnswered : Setting → DeviceState → Option ℕ → Answer → List ℕ → Type 0
 IsAnswered c m None a out = IsReply c m reply.Ack 0 a out
 IsAnswered c m (Some len) a out = IsReply c m reply.Status len a out
 
@@ -166,9 +167,9 @@ pub record IsRest (a a' : LentAsking) : Type 0 where
   pub work : a'.work ≡ a.work
 
 -- The job of the row that is due in a mode.
-abbrev pub IsJobOf : Mode → SlotsState → Job → ℕ → List ℕ → Type 0
-IsJobOf (mode.DownloadSync written number) s j end held = IsBlockJob written s j end held
-IsJobOf (mode.DownloadBusy written number passed) s j end held = IsBlockJob written s j end held
-IsJobOf (mode.ManifestSync written) s j end held = IsCommitJob written s j end held
-IsJobOf (mode.Manifest written passed) s j end held = IsCommitJob written s j end held
+abbrev pub IsJobOf : DeviceState → SlotsState → SlotWrite → ℕ → List ℕ → Type 0
+IsJobOf (device_state.DownloadSync written number) s j end held = IsBlockJob written s j end held
+IsJobOf (device_state.DownloadBusy written number passed) s j end held = IsBlockJob written s j end held
+IsJobOf (device_state.ManifestSync written) s j end held = IsCommitJob written s j end held
+IsJobOf (device_state.Manifest written passed) s j end held = IsCommitJob written s j end held
 IsJobOf m s j end held = ⊥

@@ -4,8 +4,8 @@ use Rattle.dfu_slots.specs.declared.fault.WriteFault.TheVariants.{Failed, NotVer
 use Rattle.dfu_slots.specs.Medium.{Write}
 use Rattle.dfu_slots.specs.Seen.{SlotsState}
 use Rattle.dfu_device.specs.declared.answer.Answer.{Answer}
-use Rattle.dfu_device.specs.Shown.{Shown}
-use Rattle.dfu_asks.specs.declared.work.Work.{Work}
+use Rattle.dfu_device.specs.DeviceView.{DeviceView}
+use Rattle.dfu_asks.specs.declared.pending_writes.PendingWrites.{PendingWrites}
 use Rattle.dfu_asks.specs.Lent.{LentAsking}
 use Rattle.dfu_asks.specs.declared.reply.Reply.{Reply}
 use Rattle.dfu_asks.specs.declared.reply.Reply.TheVariants as reply
@@ -22,7 +22,7 @@ pub record Gave (a : Answer) (count : ℕ) (out out' : List ℕ) (Row : Answer �
 
 -- A call has come to its end: it made this row, and what is kept is a device, with nothing left to be written.
 pub record HasEnded (flash : List ℕ) (a : Answer) (count : ℕ) (out out' : List ℕ) (now : LentAsking)
-    (Row : Answer → List ℕ → Shown → Type 0) : Type 0 where
+    (Row : Answer → List ℕ → DeviceView → Type 0) : Type 0 where
   pub gave : Gave a count out out' (λ x sent. Row x sent (device_in now flash))
   pub work : now.work ≡ None
   pub is : IsDevice now flash
@@ -35,7 +35,7 @@ HasAtMost n (reply.Answered x count) = count ≤ n
 -- A device asks for the writes of the row that is due in it, some of whose pieces are carried out on its flash: `was` was its flash
 -- before the first of them.
 pub record AsksWrites (a : LentAsking) (len : ℕ) (s : SlotsState) (was flash : List ℕ) : Type 0 where
-  pub work : Work
+  pub work : PendingWrites
   pub work_is : a.work ≡ Some work
   pub working : IsWorking a work len s was
   pub left : work.done < total (writes_in a work)
@@ -43,13 +43,14 @@ pub record AsksWrites (a : LentAsking) (len : ℕ) (s : SlotsState) (was flash :
   pub flash_is : flash ≡ carried was (writes_in a work) work.done
 
 -- What comes of a device that works for the row that is due: it asks, further on; or the row came to its end.
-pub data DueComes (d : Shown) (len : ℕ) (s : SlotsState) (was flash out : List ℕ) (now : LentAsking) (out' : List ℕ) : Reply → Type 0 where
+pub data DueComes (d : DeviceView) (len : ℕ) (s : SlotsState) (was flash out : List ℕ) (now : LentAsking) (out' : List ℕ) : Reply
+    → Type 0 where
   comes_asks : AsksWrites now len s was flash → device_of now s ≡ d → out' ≡ out → DueComes d len s was flash out now out' reply.Asks
   comes_ended : (x : Answer) (count : ℕ) → HasEnded flash x count out out' now (λ y sent w'. Works len d y sent w')
       → DueComes d len s was flash out now out' (reply.Answered x count)
 
 -- A call of a device on this flash answered by this row; or the row writes, and its writes are asked for now, from the first on.
-pub data DeviceCalled (a : LentAsking) (flash out : List ℕ) (Row : Answer → List ℕ → Shown → Type 0) (now : LentAsking) (out' : List ℕ)
+pub data DeviceCalled (a : LentAsking) (flash out : List ℕ) (Row : Answer → List ℕ → DeviceView → Type 0) (now : LentAsking) (out' : List ℕ)
     : Reply → Type 0 where
   called_ended : (x : Answer) (count : ℕ) → HasEnded flash x count out out' now Row
       → DeviceCalled a flash out Row now out' (reply.Answered x count)
@@ -57,7 +58,7 @@ pub data DeviceCalled (a : LentAsking) (flash out : List ℕ) (Row : Answer → 
       → IsDueRow len (device_in a flash) Row → out' ≡ out → DeviceCalled a flash out Row now out' reply.Asks
 
 -- The program says how a piece went, which was to be written where these bytes stood.
-pub data DeviceTook (d : Shown) (len : ℕ) (s : SlotsState) (was : List ℕ) (p : Write) (failed : Bool) (flash out : List ℕ)
+pub data DeviceTook (d : DeviceView) (len : ℕ) (s : SlotsState) (was : List ℕ) (p : Write) (failed : Bool) (flash out : List ℕ)
     (now : LentAsking)
     (out' : List ℕ) (r : Reply) : Type 0 where
   -- It stands there: the device asks on, or the row came to its end.
@@ -73,7 +74,7 @@ pub data DeviceTook (d : Shown) (len : ℕ) (s : SlotsState) (was : List ℕ) (p
       → DeviceTook d len s was p failed flash out now out' r
 
 -- A piece of this work stands there, and it was not the last one.
-pub record AsksOn (a : LentAsking) (w : Work) (p : Write) (failed : Bool) (flash : List ℕ) : Type 0 where
+pub record AsksOn (a : LentAsking) (w : PendingWrites) (p : Write) (failed : Bool) (flash : List ℕ) : Type 0 where
   pub well : failed ≡ false
   pub stands : slice_range flash p.at (p.at + length p.bytes) ≡ p.bytes
   pub more : w.done + length p.bytes < total (writes_in a w)

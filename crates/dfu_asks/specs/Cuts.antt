@@ -1,6 +1,6 @@
 -- The piece that is found, and its bytes where they lie.
 use Rattle.std.specs.Prelude.{◌≡◌, ◌↔◌, Bool, IsTrue, ℕ, ◌+◌, ◌^◌, ◌≤◌, ◌<◌, true, false, List, ◌++◌, length, drop, replicate, slice_range}
-use Rattle.dfu_asks.specs.declared.piece.Stock.{Stock}
+use Rattle.dfu_asks.specs.declared.write_inputs.WriteInputs.{WriteInputs}
 use Rattle.dfu_asks.specs.declared.cut.Cut.{Cut}
 use Rattle.dfu_slots.specs.declared.operation.Source.{Source}
 use Rattle.dfu_slots.specs.Operations.{source_of}
@@ -9,15 +9,15 @@ use Rattle.dfu_asks.specs.Carried.{IsPiece}
 use Rattle.dfu_asks.specs.Jobs.{asked}
 
 -- The bytes of a source, if this is the header.
-abbrev pub source_bytes : Source → Stock → List ℕ → List ℕ
+abbrev pub source_bytes : Source → WriteInputs → List ℕ → List ℕ
 source_bytes source s front = source_of source s.held.now s.block.now front
 
 -- The same, with 256 zeros after them.
-abbrev pub zeroed : Source → Stock → List ℕ → List ℕ
+abbrev pub zeroed : Source → WriteInputs → List ℕ → List ℕ
 zeroed source s front = source_bytes source s front ++ replicate 256 0
 
 -- So many bytes of these, without the first ones.
-abbrev pub range_in : Source → Stock → List ℕ → ℕ → ℕ → List ℕ
+abbrev pub range_in : Source → WriteInputs → List ℕ → ℕ → ℕ → List ℕ
 range_in source s front skip n = slice_range (zeroed source s front) skip (skip + n)
 
 -- The step that a piece asks for which is found.

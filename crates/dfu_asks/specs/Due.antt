@@ -4,7 +4,7 @@ use Rattle.dfu_slots.specs.declared.fault.WriteFault.{WriteFault}
 use Rattle.dfu_device.specs.declared.answer.Answer.{Answer}
 use Rattle.dfu_device.specs.Stage.{Request, GetStatus, Ack, Stall, Profile, Stage, InDownloadSync, InDownloadSyncWritten, InDownloadBusy, InDownloadIdle, InManifestSync, InManifestSyncComplete, InManifest, InManifestWaitReset, InDfuIdle}
 use Rattle.dfu_device.specs.Table.{Plan, Sure, Writes, Commits, write_and_report, commit_and_report}
-use Rattle.dfu_device.specs.Shown.{Shown, profile}
+use Rattle.dfu_device.specs.DeviceView.{DeviceView, profile}
 use Rattle.dfu_device.specs.declared.decision.Decision.{Decision}
 use Rattle.dfu_device.specs.declared.decision.Decision.TheVariants as decision
 use Rattle.dfu_device.specs.Rows.{Answers, WroteBlock, FailedBlock, Committed, FailedCommit}
@@ -21,13 +21,13 @@ due_plan c (InManifest taken passed) =
 due_plan c stage = Sure Stall stage
 
 -- A plan that writes was carried out, and all its writes worked.
-abbrev pub WorksOut : Plan → ℕ → Shown → Answer → List ℕ → Shown → Type 0
+abbrev pub WorksOut : Plan → ℕ → DeviceView → Answer → List ℕ → DeviceView → Type 0
 WorksOut (Sure reply stage) len w a out w' = ⊥
 WorksOut (Writes before block reply stage bad) len w a out w' = Answers len reply a out × WroteBlock before block w.config w.slots stage w'
 WorksOut (Commits taken reply stage bad) len w a out w' = Answers len reply a out × Committed taken w.config w.slots stage w'
 
 -- A plan that writes was broken off by a write that had this fault.
-abbrev pub FailsOut : WriteFault → Plan → ℕ → Shown → Answer → List ℕ → Shown → Type 0
+abbrev pub FailsOut : WriteFault → Plan → ℕ → DeviceView → Answer → List ℕ → DeviceView → Type 0
 FailsOut fault (Sure reply stage) len w a out w' = ⊥
 FailsOut fault (Writes before block reply stage bad) len w a out w' =
     Answers len (bad fault) a out × FailedBlock fault before block w.config w.slots w'
@@ -35,17 +35,17 @@ FailsOut fault (Commits taken reply stage bad) len w a out w' =
     Answers len (bad fault) a out × FailedCommit fault taken w.config w.slots w'
 
 -- What comes of the row that is due in a device.
-abbrev pub Works : ℕ → Shown → Answer → List ℕ → Shown → Type 0
+abbrev pub Works : ℕ → DeviceView → Answer → List ℕ → DeviceView → Type 0
 Works len w a out w' = WorksOut (due_plan (profile w) w.stage) len w a out w'
 
 -- And what comes of it where a write has this fault.
-abbrev pub Fails : WriteFault → ℕ → Shown → Answer → List ℕ → Shown → Type 0
+abbrev pub Fails : WriteFault → ℕ → DeviceView → Answer → List ℕ → DeviceView → Type 0
 Fails fault len w a out w' = FailsOut fault (due_plan (profile w) w.stage) len w a out w'
 
 -- What comes of the due row, its writes working or one of them having a fault, is what this row says.
-pub record IsDueRow (len : ℕ) (w : Shown) (Row : Answer → List ℕ → Shown → Type 0) : Type 0 where
-  pub works : (a : Answer) (out : List ℕ) (w' : Shown) → Works len w a out w' → Row a out w'
-  pub fails : (fault : WriteFault) (a : Answer) (out : List ℕ) (w' : Shown) → Fails fault len w a out w' → Row a out w'
+pub record IsDueRow (len : ℕ) (w : DeviceView) (Row : Answer → List ℕ → DeviceView → Type 0) : Type 0 where
+  pub works : (a : Answer) (out : List ℕ) (w' : DeviceView) → Works len w a out w' → Row a out w'
+  pub fails : (fault : WriteFault) (a : Answer) (out : List ℕ) (w' : DeviceView) → Fails fault len w a out w' → Row a out w'
 
 -- A request writes in this stage.
 abbrev pub writes_now : Profile → Stage → Request → Bool

@@ -8,8 +8,8 @@ use Rattle.dfu_slots.specs.Image.{Active}
 use Rattle.dfu_slots.specs.Seen.{format_series}
 use Rattle.dfu_slots.specs.Changes.{CanFormat}
 use Rattle.dfu_asks.specs.declared.formatting.Formatting.{Formatting}
-use Rattle.dfu_asks.specs.declared.progress.Progress.{Progress}
-use Rattle.dfu_asks.specs.declared.progress.Progress.TheVariants.{Asks, Formatted, Broken}
+use Rattle.dfu_asks.specs.declared.format_progress.FormatProgress.{FormatProgress}
+use Rattle.dfu_asks.specs.declared.format_progress.FormatProgress.TheVariants.{Asks, Formatted, Broken}
 use Rattle.dfu_asks.specs.Mapped.{mapped}
 use Rattle.dfu_asks.specs.Steps.{Step, step_writes}
 use Rattle.dfu_asks.specs.Carried.{total, carried, IsReached}
@@ -40,15 +40,15 @@ pub record HasFormatted (m : MediumState) (image : List ℕ) (now : MediumState)
   pub active : Active now image
 
 -- What comes of a format of which the pieces so far are carried out: it asks, further on; or it came to its end.
-abbrev pub FormatComesTo : Grain → Formatting → (image was flash : List ℕ) → Progress → Type 0
+abbrev pub FormatComesTo : Grain → Formatting → (image was flash : List ℕ) → FormatProgress → Type 0
 FormatComesTo grain f image was flash Asks = AsksFormat f image was flash
 FormatComesTo grain f image was flash Formatted = HasFormatted (mapped grain was) image (mapped grain flash)
 FormatComesTo grain f image was flash (Broken fault) = ⊥
 
 -- The program says how a piece of a format went, which was to be written where these bytes stood.
-pub data TookPiece (f f' : Formatting) (image was flash : List ℕ) (p : Write) (failed : Bool) : Progress → Type 0 where
+pub data TookPiece (f f' : Formatting) (image was flash : List ℕ) (p : Write) (failed : Bool) : FormatProgress → Type 0 where
   -- It stands there: the format asks on, or it is done.
-  format_well : (r : Progress) → failed ≡ false → slice_range flash p.at (p.at + length p.bytes) ≡ p.bytes
+  format_well : (r : FormatProgress) → failed ≡ false → slice_range flash p.at (p.at + length p.bytes) ≡ p.bytes
       → FormatComesTo (grain_within f) f' image was flash r
       → TookPiece f f' image was flash p failed r
   -- The write failed: the format was broken off by it.

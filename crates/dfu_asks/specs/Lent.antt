@@ -2,11 +2,11 @@
 use Rattle.std.specs.Prelude.{◌≡◌, ℕ, ◌≤◌, List, length, take, Option}
 use Rattle.dfu_slots.specs.declared.unit.Unit.{Unit as WriteUnit}
 use Rattle.dfu_slots.specs.Units.{unit_size}
-use Rattle.dfu_device.specs.declared.mode.Mode.{Mode}
+use Rattle.dfu_device.specs.declared.device_state.DeviceState.{DeviceState}
 use Rattle.dfu_device.specs.Setting.{Setting}
 use Rattle.dfu_asks.specs.declared.sector.Sector.{Sector}
 use Rattle.dfu_asks.specs.declared.noted.Noted.{Noted}
-use Rattle.dfu_asks.specs.declared.work.Work.{Work}
+use Rattle.dfu_asks.specs.declared.pending_writes.PendingWrites.{PendingWrites}
 use Rattle.dfu_asks.specs.declared.asking.Asking.{Asking}
 
 -- What is kept of a device that asks, the block that is not written, and the bytes held back.
@@ -14,12 +14,12 @@ pub record LentAsking : Type 0 where
   pub config : Setting
   pub unit : WriteUnit
   pub sector : Sector
-  pub mode : Mode
+  pub mode : DeviceState
   pub block : List ℕ
   pub held : List ℕ
   pub put_end : ℕ
   pub noted : Noted
-  pub work : Option Work
+  pub work : Option PendingWrites
 
 -- The device with these bytes in the memory of its block, and these in that of the bytes held back.
 abbrev pub lent : Asking → (block held : List ℕ) → LentAsking

@@ -5,7 +5,7 @@ pub mod Series
 pub mod Jobs
 pub mod Cuts
 pub mod OpSteps
-pub mod Located
+pub mod Position
 pub mod Due
 pub mod Noted
 pub mod Lent

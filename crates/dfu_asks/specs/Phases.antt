@@ -4,8 +4,8 @@ use Rattle.dfu_suffix.specs.Register.{register}
 use Rattle.dfu_slots.specs.Units.{Grain, gate_size, gate_room, filled}
 use Rattle.dfu_slots.specs.Medium.{MediumState}
 use Rattle.dfu_slots.specs.Layout.{OPEN, slot_size, gate_unit, header_unit}
-use Rattle.dfu_asks.specs.declared.phase.Phase.{Phase}
-use Rattle.dfu_asks.specs.declared.phase.Phase.TheVariants.{CloseSecond, CloseFirst, Image, Header, Gate, Ended}
+use Rattle.dfu_asks.specs.declared.format_step.FormatStep.{FormatStep}
+use Rattle.dfu_asks.specs.declared.format_step.FormatStep.TheVariants.{CloseSecond, CloseFirst, Image, Header, Gate, Ended}
 use Rattle.dfu_asks.specs.declared.formatting.Formatting.{Formatting}
 use Rattle.dfu_asks.specs.Mapped.{grain_of}
 use Rattle.dfu_asks.specs.Steps.{Step, anew_steps, some_steps, open_steps, close_step}
@@ -24,7 +24,7 @@ image_steps grain image from =
     piece_steps grain.sector (length rest) (2 * gate_room grain + from) rest
 
 -- The steps of a format from this part on. A slot has so many bytes, and this is the register over the image.
-abbrev pub steps_from : Grain → ℕ → List ℕ → ℕ → Phase → List Step
+abbrev pub steps_from : Grain → ℕ → List ℕ → ℕ → FormatStep → List Step
 steps_from grain size image crc CloseSecond =
     close_step grain size ∷ close_step grain 0 ∷ image_steps grain image 0 ++ open_steps grain 0 0 (length image) crc
 steps_from grain size image crc CloseFirst =
@@ -39,7 +39,7 @@ abbrev pub format_steps : MediumState → List ℕ → List Step
 format_steps m image = steps_from m.grain (slot_size m.bytes) image (register image) CloseSecond
 
 -- The steps of this part alone.
-abbrev pub part_steps : Grain → ℕ → List ℕ → ℕ → Phase → List Step
+abbrev pub part_steps : Grain → ℕ → List ℕ → ℕ → FormatStep → List Step
 part_steps grain size image crc CloseSecond = close_step grain size ∷ []
 part_steps grain size image crc CloseFirst = close_step grain 0 ∷ []
 part_steps grain size image crc (Image from) =

@@ -1,6 +1,6 @@
 -- When a call of a device that asks is refused, and why.
 use Rattle.std.specs.Prelude.{◌≡◌, ℕ, ◌≤◌, ◌<◌, min, List, length, IsSome, Some, None}
-use Rattle.dfu_asks.specs.declared.work.Work.{Work}
+use Rattle.dfu_asks.specs.declared.pending_writes.PendingWrites.{PendingWrites}
 use Rattle.dfu_asks.specs.declared.asking.Asking.{Asking}
 use Rattle.dfu_asks.specs.Lent.{LentAsking, lent}
 use Rattle.dfu_asks.specs.Noted.{NotedStands}
@@ -40,18 +40,18 @@ pub record IsServed (a : Asking) (block flash : List ℕ) (need room : ℕ) : Ty
   pub fits : Fits a (length block)
 
 -- So many bytes of its work's writes are carried out, and some are left.
-pub record IsLeft (a : LentAsking) (w : Work) : Type 0 where
+pub record IsLeft (a : LentAsking) (w : PendingWrites) : Type 0 where
   pub work_is : a.work ≡ Some w
   pub left : w.done < total (writes_in a w)
 
 -- `took` with a buffer of so many bytes is refused for this: it has less than 6, or else nothing is left to be written.
 abbrev pub IsNotTaken : Refusal → LentAsking → (room : ℕ) → Type 0
 IsNotTaken refusal.NoRoom a room = room < 6
-IsNotTaken refusal.NoDevice a room = (6 ≤ room) × ((w : Work) → ¬ IsLeft a w)
+IsNotTaken refusal.NoDevice a room = (6 ≤ room) × ((w : PendingWrites) → ¬ IsLeft a w)
 IsNotTaken e a room = ⊥
 
 -- It has no cause to be refused.
 pub record IsTaken (a : LentAsking) (room : ℕ) : Type 0 where
   pub fits : 6 ≤ room
-  pub work : Work
+  pub work : PendingWrites
   pub is_left : IsLeft a work

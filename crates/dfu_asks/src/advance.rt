@@ -1,7 +1,7 @@
 //! How a device goes on with what is left to be written of a row.
 ghost use Rattle.std.specs.Prelude.{◌≡◌, ◌+◌, ◌^◌, ◌≤◌, ◌<◌, ◌↔◌, ℕ, List, length, take, Some};
 ghost use Rattle.dfu_slots.specs.Seen.{SlotsState};
-ghost use Rattle.dfu_asks.specs.declared.work.Work.{Work};
+ghost use Rattle.dfu_asks.specs.declared.pending_writes.PendingWrites.{PendingWrites};
 ghost use Rattle.dfu_asks.specs.Jobs.{steps_for};
 ghost use Rattle.dfu_asks.specs.Carried.{total, carried, IsReached};
 ghost use Rattle.dfu_asks.specs.Cuts.{IsNextPiece};
@@ -11,8 +11,8 @@ ghost use Rattle.dfu_asks.specs.Calls.{DueComes, HasAtMost};
 
 use crate::cut::{cut_at, stands};
 use crate::next_piece::next_piece;
-use crate::piece::Stock;
-use crate::{Asking, Reply, Work};
+use crate::write_inputs::WriteInputs;
+use crate::{Asking, PendingWrites, Reply};
 use dfu_device::Answer;
 use dfu_slots::WriteFault;
 
@@ -26,13 +26,13 @@ impl Asking {
     }
 
     /// What the writes of a job are made of.
-    pub(crate) fn stock<'a>(&self, block: &'a [u8], held: &'a [u8]) -> Stock<'a>
-        ensures steps { (w : Work) → steps_for w.job result ≡ steps_in (lent self.now block.now held.now) w }
+    pub(crate) fn stock<'a>(&self, block: &'a [u8], held: &'a [u8]) -> WriteInputs<'a>
+        ensures steps { (w : PendingWrites) → steps_for w.job result ≡ steps_in (lent self.now block.now held.now) w }
         ensures sector { result.sector ≡ self.now.sector }
         ensures few { length result.held.now ≤ 256 }
         ensures most { length result.block.now ≤ 4096 }
     {
-        Stock {
+        WriteInputs {
             unit: self.unit,
             sector: self.sector,
             put_end: self.put_end,
@@ -44,7 +44,7 @@ impl Asking {
     /// How many bytes the next piece of this work has, and whether they stand on this flash; or 0, and none is left.
     pub(crate) fn look_at(
         &self,
-        work: &Work,
+        work: &PendingWrites,
         block: &[u8],
         held: &[u8],
         flash: &[u8],
@@ -71,11 +71,11 @@ impl Asking {
     ) -> Reply
         requires room { 6 ≤ length out.old }
         requires memory { HasRoom self.old.unit held.old }
-        ensures outcome { let a = lent self.old block.now held.old in (work : Work) (len : ℕ) (s : SlotsState) (was : List ℕ) →
+        ensures outcome { let a = lent self.old block.now held.old in (work : PendingWrites) (len : ℕ) (s : SlotsState) (was : List ℕ) →
             self.old.work ≡ Some work → IsWorking a work len s was →
             flash.now ≡ carried was (writes_in a work) work.done → IsReached (steps_in a work) work.done →
             DueComes (device_of a s) len s was flash.now out.old (lent self.new block.now held.new) out.new result }
-        ensures more { (work : Work) → self.old.work ≡ Some work →
+        ensures more { (work : PendingWrites) → self.old.work ≡ Some work →
             (result ≡ Reply.Asks) ↔ (work.done < total (writes_in (lent self.old block.now held.old) work)) }
         ensures kept { result ≡ Reply.Asks → self.new.work ≡ self.old.work }
         ensures few { HasAtMost 6 result }

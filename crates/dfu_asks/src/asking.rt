@@ -2,8 +2,8 @@
 
 ghost use Rattle.std.specs.Prelude.{◌≤◌};
 
-use crate::{Noted, Sector, Work};
-use dfu_device::{Config, Mode};
+use crate::{Noted, PendingWrites, Sector};
+use dfu_device::{Config, DeviceState};
 use dfu_slots::Unit;
 
 /// A device that asks for its writes: what is kept of it between two calls. Its flash is mapped, and handed in at each call. So is
@@ -17,7 +17,7 @@ pub struct Asking {
     /// In which sectors it is erased before, if in any.
     pub sector: Sector,
     /// Where it stands.
-    pub mode: Mode,
+    pub mode: DeviceState,
     /// How many bytes at the front of its memory are the block that is not written.
     pub block_len: usize,
     /// How many bytes at the front of their memory are held back.
@@ -27,7 +27,7 @@ pub struct Asking {
     /// What is noted of the active image.
     pub noted: Noted,
     /// What is left to be written of a row, if anything.
-    pub work: Option<Work>,
+    pub work: Option<PendingWrites>,
     ghost short: { block_len ≤ 4096 },
     ghost few: { held_len ≤ 256 },
 }

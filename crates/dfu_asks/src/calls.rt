@@ -5,9 +5,9 @@ ghost use Rattle.dfu_device.specs.Rows.{Handles, Elapses};
 ghost use Rattle.dfu_device.specs.Table.{reset_stage};
 ghost use Rattle.dfu_device.specs.Parts.{stage_of};
 ghost use Rattle.dfu_device.specs.Stage.{state_of, code_of};
-ghost use Rattle.dfu_device.specs.Shown.{powered_on};
-ghost use Rattle.dfu_device.specs.Lent.{answer_room};
-ghost use Rattle.dfu_asks.specs.declared.work.Work.{Work};
+ghost use Rattle.dfu_device.specs.DeviceView.{powered_on};
+ghost use Rattle.dfu_device.specs.Borrowed.{answer_room};
+ghost use Rattle.dfu_asks.specs.declared.pending_writes.PendingWrites.{PendingWrites};
 ghost use Rattle.dfu_asks.specs.Mapped.{grain_of, mapped};
 ghost use Rattle.dfu_asks.specs.Noted.{IsView};
 ghost use Rattle.dfu_asks.specs.Lent.{lent, HasRoom, IsSetUpAs};
@@ -17,7 +17,7 @@ ghost use Rattle.dfu_asks.specs.Refused.{IsKeptOn, IsThere, Fits, IsRefusedCall,
 
 use crate::view::{View, look};
 use crate::{Asking, Mapped, Noted, Refusal, Reply, Sector};
-use dfu_device::{Answer, Config, Mode, asked_length, decide, decide_time, goes_with};
+use dfu_device::{Answer, Config, DeviceState, asked_length, decide, decide_time, goes_with};
 use dfu_slots::Unit;
 use dfu_wire::{Code, Request, Setup, State};
 
@@ -39,7 +39,7 @@ impl Asking {
             config,
             unit,
             sector,
-            mode: Mode::AppIdle,
+            mode: DeviceState::AppIdle,
             block_len: 0,
             held_len: 0,
             put_end: 0,
@@ -110,7 +110,7 @@ impl Asking {
             let flash = medium.now.bytes.now in IsKeptOn self.old block.old held.old flash →
             DeviceCalled a flash out.old (λ x sent d'. Handles setup.now body.now (device_in a flash) x sent d')
             (lent self.new block.new held.new) out.new result }
-        ensures first { result ≡ Reply.Asks → (w : Work) × (self.new.work ≡ Some w) × (w.done ≡ 0) }
+        ensures first { result ≡ Reply.Asks → (w : PendingWrites) × (self.new.work ≡ Some w) × (w.done ≡ 0) }
         ensures few { HasAtMost 65535 result }
         ensures same { IsSetUpAs self.old self.new }
         ensures fits { self.new.block_len ≤ length block.new }
@@ -151,7 +151,7 @@ impl Asking {
         ensures outcome { let a = lent self.old block.old held.old in IfOk result (λ r. IsKeptOn self.old block.old held.old flash.now →
             DeviceCalled a flash.now out.old (λ x sent d'. Handles setup.now body.now (device_in a flash.now) x sent d')
             (lent self.new block.new held.new) out.new r) }
-        ensures first { IfOk result (λ r. r ≡ Reply.Asks → (w : Work) × (self.new.work ≡ Some w) × (w.done ≡ 0)) }
+        ensures first { IfOk result (λ r. r ≡ Reply.Asks → (w : PendingWrites) × (self.new.work ≡ Some w) × (w.done ≡ 0)) }
         ensures served { OnOk result (IsServed self.old block.old flash.now (answer_room self.old.config) (length out.old)) }
         ensures refused { IfErr result (λ e.
             IsRefusedCall e self.old block.old held.old flash.now (answer_room self.old.config) (length out.old)) }
@@ -188,7 +188,7 @@ impl Asking {
             (out : List ℕ) × DeviceCalled a flash.now (replicate 6 0)
             (λ x sent d'. (x ≡ Answer.Ack) × (sent ≡ []) × Elapses ms (device_in a flash.now) d')
             (lent self.new block.new held.new) out r) }
-        ensures first { IfOk result (λ r. r ≡ Reply.Asks → (w : Work) × (self.new.work ≡ Some w) × (w.done ≡ 0)) }
+        ensures first { IfOk result (λ r. r ≡ Reply.Asks → (w : PendingWrites) × (self.new.work ≡ Some w) × (w.done ≡ 0)) }
         ensures served { OnOk result (IsServed self.old block.old flash.now 0 0) }
         ensures refused { IfErr result (λ e. IsRefusedCall e self.old block.old held.old flash.now 0 0) }
         ensures asked { IsSome self.old.work → IsErrOf result Refusal.Asked }

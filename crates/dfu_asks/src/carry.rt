@@ -4,8 +4,8 @@ ghost use Rattle.dfu_slots.specs.Image.{slot_of};
 ghost use Rattle.dfu_slots.specs.Seen.{image_of, spare_of};
 ghost use Rattle.dfu_device.specs.Decision.{plan_of, IsPossible};
 ghost use Rattle.dfu_device.specs.Rows.{Done};
-ghost use Rattle.dfu_device.specs.Shown.{profile};
-ghost use Rattle.dfu_asks.specs.declared.work.Work.{Work};
+ghost use Rattle.dfu_device.specs.DeviceView.{profile};
+ghost use Rattle.dfu_asks.specs.declared.pending_writes.PendingWrites.{PendingWrites};
 ghost use Rattle.dfu_asks.specs.declared.noted.Noted.{Noted};
 ghost use Rattle.dfu_asks.specs.Mapped.{grain_of, mapped};
 ghost use Rattle.dfu_asks.specs.Noted.{IsView, noted_at};
@@ -17,7 +17,7 @@ ghost use Rattle.dfu_asks.specs.Refused.{IsKeptOn};
 
 use crate::view::View;
 use crate::{Asking, Mapped, Reply};
-use dfu_device::{Answer, Decision, Mode, status_in};
+use dfu_device::{Answer, Decision, DeviceState, status_in};
 use dfu_slots::read_data;
 
 // How many bytes of a status are asked for.
@@ -115,7 +115,7 @@ impl Asking {
             IsPossible self.old.config.functional.transfer (length a.block) (length body.now) s decision →
             IsSureOrDue p (profile w) w.stage asked len → SendsWithin decision (image_of s) (length out.old) →
             DeviceCalled a flash out.old (λ x sent d'. Done p len w x sent d') (lent self.new block.new held.new) out.new result }
-        ensures first { result ≡ Reply.Asks → (w : Work) × (self.new.work ≡ Some w) × (w.done ≡ 0) }
+        ensures first { result ≡ Reply.Asks → (w : PendingWrites) × (self.new.work ≡ Some w) × (w.done ≡ 0) }
         ensures few { HasAtMost 65535 result }
         ensures same { IsSetUpAs self.old self.new }
         ensures fits { self.new.block_len ≤ length block.new }
@@ -141,9 +141,9 @@ impl Asking {
             } => {
                 let count = put_image(medium, view, place, size, out);
                 self.mode = if count < usize::from(size) {
-                    Mode::DfuIdle
+                    DeviceState::DfuIdle
                 } else {
-                    Mode::UploadIdle {
+                    DeviceState::UploadIdle {
                         place: place + u32::from(size),
                         number,
                     }

@@ -3,21 +3,21 @@ ghost use Rattle.std.specs.Prelude.{◌≡◌, ◌+◌, ◌^◌, ◌<◌, ◌≤
 ghost use Rattle.dfu_asks.specs.Jobs.{asked, IsFit};
 ghost use Rattle.dfu_asks.specs.Cuts.{step_of, IsCut};
 
-use crate::Piece;
-use crate::piece::Stock;
+use crate::FlashOp;
+use crate::write_inputs::WriteInputs;
 use dfu_slots::Source;
 
 /// A search for the next piece of a series of writes, and the piece once it is found.
 #[derive(Clone, Copy, Drop)]
 pub(crate) struct Cut<'a> {
     /// What the writes are made of.
-    pub(crate) stock: Stock<'a>,
+    pub(crate) stock: WriteInputs<'a>,
     /// How many bytes are carried out of the writes that were not looked at yet.
     pub(crate) rest: usize,
     /// The header, if one is written.
     pub(crate) front: [u8; 16],
     /// The piece that is found.
-    pub(crate) piece: Piece,
+    pub(crate) piece: FlashOp,
     /// What its bytes are, if it programs.
     pub(crate) source: Source,
     /// How many bytes of that come before it.
@@ -25,7 +25,7 @@ pub(crate) struct Cut<'a> {
 }
 
 /// The search behind so many bytes of writes that are made of this.
-pub(crate) fn cut_at<'a>(stock: Stock<'a>, done: u32) -> Cut<'a>
+pub(crate) fn cut_at<'a>(stock: WriteInputs<'a>, done: u32) -> Cut<'a>
     ensures stock { result.stock ≡ stock.entry }
     ensures rest { result.rest ≡ done }
 {
@@ -33,7 +33,7 @@ pub(crate) fn cut_at<'a>(stock: Stock<'a>, done: u32) -> Cut<'a>
         stock,
         rest: done as usize,
         front: [0; 16],
-        piece: Piece {
+        piece: FlashOp {
             erases: false,
             at: 0,
             len: 0,

@@ -8,43 +8,43 @@ ghost use Rattle.dfu_asks.specs.Lent.{lent, HasRoom, IsSetUpAs};
 ghost use Rattle.dfu_asks.specs.Asks.{is_block, capped, done_mode, failed_mode, IsFinished, IsBrokenOff, NotesAfter, IsAnswered, GivesAnswer};
 
 use crate::{Asking, Noted, Sector};
-use dfu_device::{Answer, Config, Mode, Reply};
+use dfu_device::{Answer, Config, DeviceState, Reply};
 use dfu_slots::{Unit, WriteFault};
 use dfu_wire::Code;
 
 // Whether a block is written in a mode.
-fn is_block(mode: Mode) -> bool
+fn is_block(mode: DeviceState) -> bool
     ensures { result ≡ is_block mode }
 {
     match mode {
-        Mode::DownloadSync { .. } | Mode::DownloadBusy { .. } => true,
+        DeviceState::DownloadSync { .. } | DeviceState::DownloadBusy { .. } => true,
         _ => false,
     }
 }
 
 // Where a device goes from a mode once all is written, with a block of so many bytes.
-fn done_mode(config: Config, mode: Mode, len: u32) -> Mode
+fn done_mode(config: Config, mode: DeviceState, len: u32) -> DeviceState
     ensures { result ≡ done_mode config mode len }
 {
     match mode {
-        Mode::DownloadSync { written, number } => Mode::DownloadIdle {
+        DeviceState::DownloadSync { written, number } => DeviceState::DownloadIdle {
             written: written.saturating_add(len),
             number,
         },
-        Mode::DownloadBusy {
+        DeviceState::DownloadBusy {
             written,
             number,
             ..
-        } => Mode::DownloadSyncWritten {
+        } => DeviceState::DownloadSyncWritten {
             written: written.saturating_add(len),
             number,
         },
-        Mode::ManifestSync { .. } => Mode::DfuIdle,
-        Mode::Manifest { .. } => {
+        DeviceState::ManifestSync { .. } => DeviceState::DfuIdle,
+        DeviceState::Manifest { .. } => {
             if config.functional().tolerant {
-                Mode::ManifestSyncComplete
+                DeviceState::ManifestSyncComplete
             } else {
-                Mode::ManifestWaitReset
+                DeviceState::ManifestWaitReset
             }
         }
         mode => mode,
@@ -52,7 +52,7 @@ fn done_mode(config: Config, mode: Mode, len: u32) -> Mode
 }
 
 // Where a device goes from a mode in which a write had this fault.
-fn failed_mode(mode: Mode, fault: WriteFault) -> Mode
+fn failed_mode(mode: DeviceState, fault: WriteFault) -> DeviceState
     ensures { result ≡ failed_mode fault mode }
 {
     let block = is_block(mode);
@@ -60,7 +60,7 @@ fn failed_mode(mode: Mode, fault: WriteFault) -> Mode
         WriteFault::NotVerified => Code::Verify,
         WriteFault::Failed => { if block { Code::Write } else { Code::Prog } }
     };
-    Mode::Error { code }
+    DeviceState::Error { code }
 }
 
 // Keeps what makes no whole unit of the bytes held and a block after them, and answers how many bytes that are.
@@ -88,7 +88,7 @@ fn keep_rest(unit: Unit, held: &mut [u8], held_len: usize, block: &[u8]) -> usiz
 }
 
 // Notes the active image after a row in this mode: after a commit the images are read, and after a block it stays the one that was noted.
-fn note(noted: &mut Noted, mode: Mode, flash: &[u8], unit: Unit, sector: Sector)
+fn note(noted: &mut Noted, mode: DeviceState, flash: &[u8], unit: Unit, sector: Sector)
     ensures of_block { is_block mode ≡ true → noted.new ≡ noted.old }
     ensures of_commit { let m = mapped (grain_of unit sector) flash.now in is_block mode ≡ false → HasImage m → IsNoted noted.new m }
 {

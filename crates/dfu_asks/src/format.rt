@@ -12,10 +12,10 @@ ghost use Rattle.dfu_asks.specs.Cuts.{step_of, IsCut};
 ghost use Rattle.dfu_asks.specs.Phases.{grain_within, part_left, steps_left, part_steps, steps_from};
 ghost use Rattle.dfu_asks.specs.Formats.{FormatUnderWay, AsksFormat, FormatComesTo, TookPiece, IsSameFormat};
 
-use crate::asks::is_sound;
 use crate::cut::{Cut, cut_at, fill, stands};
 use crate::format_piece::{filled_len, part_piece, stock_for};
-use crate::{Formatting, Mapped, Phase, Piece, Progress, Sector};
+use crate::next_and_took::is_sound;
+use crate::{FlashOp, FormatProgress, FormatStep, Formatting, Mapped, Sector};
 use dfu_slots::{FormatFault, Unit, WriteFault, capacity_of, is_sized};
 use dfu_suffix::Crc;
 
@@ -52,33 +52,33 @@ fn fault_of(flash: &[u8], unit: Unit, sector: Sector, image: &[u8]) -> Option<Fo
 }
 
 // The part behind this one of a format of an image of so many bytes.
-fn part_behind(phase: Phase, unit: Unit, len: usize) -> Phase
+fn part_behind(phase: FormatStep, unit: Unit, len: usize) -> FormatStep
     requires { len ≤ 2 ^ 24 }
     ensures parts { (w : Grain) (size crc : ℕ) (image : List ℕ) → w.unit ≡ unit → length image ≡ len →
         steps_from w size image crc phase ≡ part_steps w size image crc phase ++ steps_from w size image crc result }
-    ensures some { (w : Grain) (size crc : ℕ) (image : List ℕ) → w.unit ≡ unit → length image ≡ len → result ≢ Phase.Ended →
+    ensures some { (w : Grain) (size crc : ℕ) (image : List ℕ) → w.unit ≡ unit → length image ≡ len → result ≢ FormatStep.Ended →
         0 < total (step_writes (part_steps w size image crc result)) }
 {
     match phase {
-        Phase::CloseSecond => Phase::CloseFirst,
-        Phase::CloseFirst => {
+        FormatStep::CloseSecond => FormatStep::CloseFirst,
+        FormatStep::CloseFirst => {
             if len == 0 {
-                Phase::Header
+                FormatStep::Header
             } else {
-                Phase::Image { from: 0 }
+                FormatStep::Image { from: 0 }
             }
         }
-        Phase::Image { from } => {
+        FormatStep::Image { from } => {
             let next = from as usize + PART;
             if next < filled_len(unit, len) {
-                Phase::Image { from: next as u32 }
+                FormatStep::Image { from: next as u32 }
             } else {
-                Phase::Header
+                FormatStep::Header
             }
         }
-        Phase::Header => Phase::Gate,
-        Phase::Gate => Phase::Ended,
-        Phase::Ended => Phase::Ended,
+        FormatStep::Header => FormatStep::Gate,
+        FormatStep::Gate => FormatStep::Ended,
+        FormatStep::Ended => FormatStep::Ended,
     }
 }
 
@@ -106,7 +106,7 @@ impl Formatting {
             unit,
             sector,
             register: register_of(image),
-            phase: Phase::CloseSecond,
+            phase: FormatStep::CloseSecond,
             done: 0,
         })
     }
@@ -136,7 +136,7 @@ impl Formatting {
     ///
     /// None if no write is due, or its range does not lie so, or what is kept would erase less than a sector. Then `out` is as it was.
     /// It is Some if `start` or `took` asked, and the pieces before this one stand on the flash.
-    pub fn next(&self, flash: &[u8], image: &[u8], out: &mut [u8; 256]) -> Option<Piece>
+    pub fn next(&self, flash: &[u8], image: &[u8], out: &mut [u8; 256]) -> Option<FlashOp>
         ensures piece { IfSome result (λ p. IsPiece (steps_left self.now (length flash.now) image.now) self.now.done (asked p out.new)) }
         ensures most { IfSome result (λ p. IsFit self.now.sector.size p out.new) }
         ensures sector { IfSome result (λ p. ErasesWhole self.now.sector.size (asked p out.new)) }
@@ -162,12 +162,12 @@ impl Formatting {
     /// The piece that `next` gave was carried out, or it failed. It is read back on the flash: of an erase the whole sector, as FFh.
     ///
     /// None if no write is due. Nothing changed then.
-    pub fn took(&mut self, flash: &[u8], image: &[u8], failed: bool) -> Option<Progress>
+    pub fn took(&mut self, flash: &[u8], image: &[u8], failed: bool) -> Option<FormatProgress>
         ensures outcome { IfSome result (λ r. (was before : List ℕ) → AsksFormat self.old image.now was before → (p : Step) →
             IsPiece (steps_left self.old (length was) image.now) self.old.done p → Torn before p.write.at p.write.bytes flash.now →
             TookPiece self.old self.new image.now was flash.now p.write failed r) }
         ensures same { IfSome result (λ r. IsSameFormat self.old self.new) }
-        ensures ended { IfSome result (λ r. r ≢ Progress.Asks → self.new.phase ≡ Phase.Ended) }
+        ensures ended { IfSome result (λ r. r ≢ FormatProgress.Asks → self.new.phase ≡ FormatStep.Ended) }
         ensures taken { IfNone result ((was before : List ℕ) → length before ≡ length flash.now
             → ¬ AsksFormat self.old image.now was before) }
         ensures unchanged { IfNone result (self.new ≡ self.old) }
@@ -177,49 +177,49 @@ impl Formatting {
             return None;
         }
         if failed {
-            self.phase = Phase::Ended;
-            return Some(Progress::Broken(WriteFault::Failed));
+            self.phase = FormatStep::Ended;
+            return Some(FormatProgress::Broken(WriteFault::Failed));
         }
         if !stands(flash, &cut) {
-            self.phase = Phase::Ended;
-            return Some(Progress::Broken(WriteFault::NotVerified));
+            self.phase = FormatStep::Ended;
+            return Some(FormatProgress::Broken(WriteFault::NotVerified));
         }
         self.done += cut.piece.len as u32;
         Some(self.advance(flash.len(), image))
     }
 
     // Asks for the next piece, or comes to the end. The flash has so many bytes.
-    fn advance(&mut self, size: usize, image: &[u8]) -> Progress
+    fn advance(&mut self, size: usize, image: &[u8]) -> FormatProgress
         requires flash { size < 2 ^ 32 }
         requires image { length image.now ≤ 2 ^ 24 }
         ensures outcome { (was flash : List ℕ) → length was ≡ size → FormatUnderWay self.old image.now was flash →
             self.old.done ≤ total (step_writes (part_left self.old (length was) image.now)) →
             FormatComesTo (grain_within self.old) self.new image.now was flash result }
         ensures same { IsSameFormat self.old self.new }
-        ensures ended { result ≢ Progress.Asks → self.new.phase ≡ Phase.Ended }
+        ensures ended { result ≢ FormatProgress.Asks → self.new.phase ≡ FormatStep.Ended }
     {
         let mut cut = cut_at(stock_for(self, image), self.done);
         if part_piece(self, size, &mut cut) {
-            return Progress::Asks;
+            return FormatProgress::Asks;
         }
         self.go_on(image)
     }
 
     // A part is carried out: goes on with the one behind it, if there is one.
-    fn go_on(&mut self, image: &[u8]) -> Progress
+    fn go_on(&mut self, image: &[u8]) -> FormatProgress
         requires { length image.now ≤ 2 ^ 24 }
         ensures outcome { (was flash : List ℕ) → FormatUnderWay self.old image.now was flash →
             self.old.done ≡ total (step_writes (part_left self.old (length was) image.now)) →
             FormatComesTo (grain_within self.old) self.new image.now was flash result }
         ensures same { IsSameFormat self.old self.new }
-        ensures ended { result ≢ Progress.Asks → self.new.phase ≡ Phase.Ended }
+        ensures ended { result ≢ FormatProgress.Asks → self.new.phase ≡ FormatStep.Ended }
     {
         let behind = part_behind(self.phase, self.unit, image.len());
         self.phase = behind;
         self.done = 0;
         match behind {
-            Phase::Ended => Progress::Formatted,
-            _ => Progress::Asks,
+            FormatStep::Ended => FormatProgress::Formatted,
+            _ => FormatProgress::Asks,
         }
     }
 }

@@ -13,8 +13,8 @@ ghost use Rattle.dfu_asks.specs.Phases.{part_left};
 
 use crate::cut::Cut;
 use crate::next_piece::{numbered_piece, sequence_piece};
-use crate::piece::Stock;
-use crate::{Formatting, Phase};
+use crate::write_inputs::WriteInputs;
+use crate::{FormatStep, Formatting};
 use dfu_slots::{Sequence, Unit, VERSION, make_header};
 
 /// How many bytes an image of so many has, filled up to whole units.
@@ -28,13 +28,13 @@ pub(crate) fn filled_len(unit: Unit, len: usize) -> usize
 }
 
 /// What the writes of a format are made of: the image stands in place of the block.
-pub(crate) fn stock_for<'a>(formatting: &Formatting, image: &'a [u8]) -> Stock<'a>
+pub(crate) fn stock_for<'a>(formatting: &Formatting, image: &'a [u8]) -> WriteInputs<'a>
     ensures unit { result.unit ≡ formatting.now.unit }
     ensures sector { result.sector ≡ formatting.now.sector }
     ensures held { result.held.now ≡ [] }
     ensures block { result.block.now ≡ image.now }
 {
-    Stock {
+    WriteInputs {
         unit: formatting.unit,
         sector: formatting.sector,
         put_end: 0,
@@ -80,19 +80,19 @@ pub(crate) fn part_piece(formatting: &Formatting, size: usize, cut: &mut Cut<'_>
     ensures none { IsTrue (not result) → total (step_writes (part_left formatting.now size cut.old.stock.block.now)) ≤ cut.old.rest }
 {
     match formatting.phase {
-        Phase::CloseSecond => sequence_piece(
+        FormatStep::CloseSecond => sequence_piece(
             Sequence::Close {
                 slot: (size / 2) as u32,
             },
             cut,
         ),
-        Phase::CloseFirst => sequence_piece(Sequence::Close { slot: 0 }, cut),
-        Phase::Image { from } => {
+        FormatStep::CloseFirst => sequence_piece(Sequence::Close { slot: 0 }, cut),
+        FormatStep::Image { from } => {
             let image = cut.stock.block.len() as u32;
             sequence_piece(Sequence::Image { from, image }, cut)
         }
-        Phase::Header => open_piece(1, formatting.register, cut),
-        Phase::Gate => open_piece(2, formatting.register, cut),
-        Phase::Ended => false,
+        FormatStep::Header => open_piece(1, formatting.register, cut),
+        FormatStep::Gate => open_piece(2, formatting.register, cut),
+        FormatStep::Ended => false,
     }
 }

@@ -1,6 +1,6 @@
 //! A format that asks for its writes.
 
-use crate::{Phase, Sector};
+use crate::{FormatStep, Sector};
 use dfu_slots::Unit;
 
 /// A format that asks for its writes: what is kept of it between two calls. Its flash is mapped, and handed in at each call with
@@ -14,7 +14,7 @@ pub struct Formatting {
     /// The register over the image.
     pub register: u32,
     /// How far it has come.
-    pub phase: Phase,
+    pub phase: FormatStep,
     /// How many bytes of that part's writes are carried out.
     pub done: u32,
 }

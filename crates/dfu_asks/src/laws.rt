@@ -8,7 +8,7 @@ ghost use Rattle.dfu_slots.specs.Seen.{SlotsState, Commit, writes_of, store_on, 
 ghost use Rattle.dfu_slots.specs.Store.{IsStore};
 ghost use Rattle.dfu_device.specs.Parts.{is_put};
 ghost use Rattle.dfu_asks.specs.Mapped.{mapped};
-ghost use Rattle.dfu_asks.specs.declared.job.Job.{Job};
+ghost use Rattle.dfu_asks.specs.declared.slot_write.SlotWrite.{SlotWrite};
 ghost use Rattle.dfu_asks.specs.Steps.{Step, step_writes};
 ghost use Rattle.dfu_asks.specs.Jobs.{job_writes, job_steps};
 ghost use Rattle.dfu_asks.specs.Carried.{total, carried, AreWithin, IsPiece};
@@ -31,7 +31,7 @@ pub fn pieces_are_the_writes()
 
 /// The steps of a job, each the erase of a sector or a program, are its writes.
 pub fn steps_are_the_writes()
-    ensures { (job : Job) (grain : Grain) (end : ℕ) (held block : List ℕ) →
+    ensures { (job : SlotWrite) (grain : Grain) (end : ℕ) (held block : List ℕ) →
         step_writes (job_steps job grain end held block) ≡ job_writes job grain end held block }
 {}
 

@@ -8,8 +8,8 @@ ghost use Rattle.dfu_asks.specs.Cuts.{source_bytes, range_in, step_of, IsCut};
 ghost use Rattle.dfu_asks.specs.OpSteps.{ops_steps, steps_at, MayCutAll};
 
 use crate::cut::Cut;
-use crate::located::{Located, locate};
-use crate::{Job, Piece};
+use crate::position::{Position, locate};
+use crate::{FlashOp, SlotWrite};
 use dfu_slots::{Op, Sequence, Source, VERSION, make_header};
 
 // How many bytes are programmed at a time at most.
@@ -23,7 +23,7 @@ fn find_erase(at: u64, len: usize, cut: &mut Cut<'_>)
     ensures piece { (cut.new.piece.erases ≡ true) × (cut.new.piece.at ≡ at) × (cut.new.piece.len ≡ len) }
     ensures rest { (cut.new.stock ≡ cut.old.stock) × (cut.new.rest ≡ cut.old.rest) × (cut.new.front ≡ cut.old.front) }
 {
-    cut.piece = Piece {
+    cut.piece = FlashOp {
         erases: true,
         at,
         len,
@@ -68,12 +68,12 @@ fn write_piece(at: u64, source: Source, skip: usize, len: usize, cut: &mut Cut<'
     ensures past { IsTrue (not result) → cut.old.rest ≤ cut.new.rest + 2 ^ 18 }
 {
     match locate(cut.stock.sector, at, len, cut.rest) {
-        Located::Erase { place, len } => {
+        Position::Erase { place, len } => {
             find_erase(place, len, cut);
             true
         }
-        Located::Program { from } => {
-            cut.piece = Piece {
+        Position::Program { from } => {
+            cut.piece = FlashOp {
                 erases: false,
                 at: at + from as u64,
                 len: (len - from).min(MOST),
@@ -82,7 +82,7 @@ fn write_piece(at: u64, source: Source, skip: usize, len: usize, cut: &mut Cut<'
             cut.from = skip + from;
             true
         }
-        Located::Behind { rest } => {
+        Position::Behind { rest } => {
             cut.rest = rest;
             false
         }
@@ -154,11 +154,11 @@ fn block_piece(spare: u32, close: bool, cut: &mut Cut<'_>) -> bool
     requires held { length cut.old.stock.held.now ≤ 256 }
     requires block { length cut.old.stock.block.now ≤ 4096 }
     ensures found { IsTrue result →
-        IsPiece (steps_for (Job.Block spare close) cut.old.stock) cut.old.rest (step_of cut.new) }
+        IsPiece (steps_for (SlotWrite.Block spare close) cut.old.stock) cut.old.rest (step_of cut.new) }
     ensures same { cut.new.stock ≡ cut.old.stock }
     ensures is { IsTrue result → IsCut cut.old.stock.sector.size cut.new }
     ensures end { IsTrue result → cut.old.rest + cut.new.piece.len ≤ 2 ^ 21 }
-    ensures none { IsTrue (not result) → total (step_writes (steps_for (Job.Block spare close) cut.old.stock)) ≤ cut.old.rest }
+    ensures none { IsTrue (not result) → total (step_writes (steps_for (SlotWrite.Block spare close) cut.old.stock)) ≤ cut.old.rest }
 {
     if shut_piece(spare, close, cut) {
         return true;
@@ -176,12 +176,12 @@ fn block_piece(spare: u32, close: bool, cut: &mut Cut<'_>) -> bool
 fn commit_piece(spare: u32, generation: u8, register: u32, cut: &mut Cut<'_>) -> bool
     requires held { length cut.old.stock.held.now ≤ 256 }
     ensures found { IsTrue result →
-        IsPiece (steps_for (Job.Commit spare generation register) cut.old.stock) cut.old.rest (step_of cut.new) }
+        IsPiece (steps_for (SlotWrite.Commit spare generation register) cut.old.stock) cut.old.rest (step_of cut.new) }
     ensures same { cut.new.stock ≡ cut.old.stock }
     ensures is { IsTrue result → IsCut cut.old.stock.sector.size cut.new }
     ensures end { IsTrue result → cut.old.rest + cut.new.piece.len ≤ 2 ^ 21 }
     ensures none { IsTrue (not result) →
-        total (step_writes (steps_for (Job.Commit spare generation register) cut.old.stock)) ≤ cut.old.rest }
+        total (step_writes (steps_for (SlotWrite.Commit spare generation register) cut.old.stock)) ≤ cut.old.rest }
 {
     let end = cut.stock.put_end;
     cut.front = make_header(VERSION, generation, end, register);
@@ -194,7 +194,7 @@ fn commit_piece(spare: u32, generation: u8, register: u32, cut: &mut Cut<'_>) ->
 }
 
 /// Whether a piece of the writes of a job is left. Then the next one is found.
-pub(crate) fn next_piece(job: Job, cut: &mut Cut<'_>) -> bool
+pub(crate) fn next_piece(job: SlotWrite, cut: &mut Cut<'_>) -> bool
     requires held { length cut.old.stock.held.now ≤ 256 }
     requires block { length cut.old.stock.block.now ≤ 4096 }
     ensures found { IsTrue result → IsPiece (steps_for job cut.old.stock) cut.old.rest (step_of cut.new) }
@@ -204,8 +204,8 @@ pub(crate) fn next_piece(job: Job, cut: &mut Cut<'_>) -> bool
     ensures none { IsTrue (not result) → total (step_writes (steps_for job cut.old.stock)) ≤ cut.old.rest }
 {
     match job {
-        Job::Block { spare, close } => block_piece(spare, close, cut),
-        Job::Commit {
+        SlotWrite::Block { spare, close } => block_piece(spare, close, cut),
+        SlotWrite::Commit {
             spare,
             generation,
             register,

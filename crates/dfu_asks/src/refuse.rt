@@ -8,7 +8,7 @@ ghost use Rattle.dfu_asks.specs.Asks.{device_in, IsDevice};
 ghost use Rattle.dfu_asks.specs.Refused.{Fits};
 
 use crate::{Asking, Refusal};
-use dfu_device::{Mode, Objection, is_close};
+use dfu_device::{DeviceState, Objection, is_close};
 
 impl Asking {
     /// The program refuses the image that this setup closes, as `Device::refuse_close`: true if it closes one, and then the caller stalls
@@ -37,7 +37,7 @@ impl Asking {
         if !self.mode.may_close(self.config.least()) || !is_close(setup) {
             return Ok(false);
         }
-        self.mode = Mode::after_refused_close(objection);
+        self.mode = DeviceState::after_refused_close(objection);
         Ok(true)
     }
 

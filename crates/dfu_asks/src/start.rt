@@ -2,7 +2,7 @@
 ghost use Rattle.std.specs.Prelude.{◌≡◌, ◌⊎◌, ◌+◌, ◌≤◌, ◌++◌, true, ℕ, List, Option, length, take, slice_range, Some};
 ghost use Rattle.dfu_suffix.specs.Register.{register};
 ghost use Rattle.dfu_device.specs.Parts.{stage_of, is_put};
-ghost use Rattle.dfu_asks.specs.declared.work.Work.{Work};
+ghost use Rattle.dfu_asks.specs.declared.pending_writes.PendingWrites.{PendingWrites};
 ghost use Rattle.dfu_asks.specs.Mapped.{grain_of, mapped};
 ghost use Rattle.dfu_asks.specs.Noted.{IsView};
 ghost use Rattle.dfu_asks.specs.Lent.{lent, HasRoom, IsSetUpAs};
@@ -11,8 +11,8 @@ ghost use Rattle.dfu_asks.specs.Asks.{device_in, store_in, IsDevice, IsBlockJob,
 ghost use Rattle.dfu_asks.specs.Calls.{DueComes, HasAtMost};
 
 use crate::view::View;
-use crate::{Asking, Job, Mapped, Reply, Work};
-use dfu_device::Mode;
+use crate::{Asking, Mapped, PendingWrites, Reply, SlotWrite};
+use dfu_device::DeviceState;
 use dfu_slots::{data_at, is_open};
 use dfu_suffix::Crc;
 
@@ -29,7 +29,7 @@ fn register_of(flash: &[u8], from: usize, size: usize, held: &[u8]) -> u32
 
 impl Asking {
     // The job of a commit of all that was put.
-    fn commit_job(&self, held: &[u8], medium: &Mapped<'_>, view: &View) -> Job
+    fn commit_job(&self, held: &[u8], medium: &Mapped<'_>, view: &View) -> SlotWrite
         requires unit { medium.now.unit ≡ self.now.unit }
         requires sector { medium.now.sector ≡ self.now.sector }
         requires view { IsView view.now self.now.noted (mapped (grain_of self.now.unit self.now.sector) medium.now.bytes.now) }
@@ -41,7 +41,7 @@ impl Asking {
     {
         let from = data_at(medium, view.spare) as usize;
         let size = self.put_end as usize - self.held_len;
-        Job::Commit {
+        SlotWrite::Commit {
             spare: view.spare,
             generation: self.noted.header[0].wrapping_add(1),
             register: register_of(medium.bytes, from, size, self.held_in(held)),
@@ -50,7 +50,7 @@ impl Asking {
 
     // The job of a block behind so many bytes, and how many bytes are held back and where the puts end then: before a first block what was
     // put is forgotten.
-    fn block_job(&self, written: u32, medium: &Mapped<'_>, view: &View) -> (Job, usize, u32)
+    fn block_job(&self, written: u32, medium: &Mapped<'_>, view: &View) -> (SlotWrite, usize, u32)
         requires unit { medium.now.unit ≡ self.now.unit }
         requires sector { medium.now.sector ≡ self.now.sector }
         requires view { IsView view.now self.now.noted (mapped (grain_of self.now.unit self.now.sector) medium.now.bytes.now) }
@@ -60,13 +60,13 @@ impl Asking {
         ensures few { result.1 ≤ 256 }
     {
         if written == 0 {
-            let job = Job::Block {
+            let job = SlotWrite::Block {
                 spare: view.spare,
                 close: is_open(medium, view.spare),
             };
             return (job, 0, 0);
         }
-        let job = Job::Block {
+        let job = SlotWrite::Block {
             spare: view.spare,
             close: false,
         };
@@ -74,7 +74,7 @@ impl Asking {
     }
 
     // The job of the row that is due, and what is held back and put then.
-    fn begin_job(&self, held: &[u8], medium: &Mapped<'_>, view: &View) -> (Job, usize, u32)
+    fn begin_job(&self, held: &[u8], medium: &Mapped<'_>, view: &View) -> (SlotWrite, usize, u32)
         requires unit { medium.now.unit ≡ self.now.unit }
         requires sector { medium.now.sector ≡ self.now.sector }
         requires view { IsView view.now self.now.noted (mapped (grain_of self.now.unit self.now.sector) medium.now.bytes.now) }
@@ -87,8 +87,8 @@ impl Asking {
         ensures few { result.1 ≤ 256 }
     {
         match self.mode {
-            Mode::DownloadSync { written, .. } => self.block_job(written, medium, view),
-            Mode::DownloadBusy { written, .. } => self.block_job(written, medium, view),
+            DeviceState::DownloadSync { written, .. } => self.block_job(written, medium, view),
+            DeviceState::DownloadBusy { written, .. } => self.block_job(written, medium, view),
             _ => (
                 self.commit_job(held, medium, view),
                 self.held_len,
@@ -119,7 +119,7 @@ impl Asking {
             let d = device_in a flash in
             (len : ℕ) → IsDevice a flash → IsDueStage d.stage asked len →
             DueComes d len (store_in a flash) flash flash out.old (lent self.new block.now held.new) out.new result }
-        ensures first { result ≡ Reply.Asks → (w : Work) × (self.new.work ≡ Some w) × (w.done ≡ 0) }
+        ensures first { result ≡ Reply.Asks → (w : PendingWrites) × (self.new.work ≡ Some w) × (w.done ≡ 0) }
         ensures few { HasAtMost 6 result }
         ensures same { IsSetUpAs self.old self.new }
         ensures block { self.new.block_len ≡ self.old.block_len }
@@ -127,7 +127,7 @@ impl Asking {
         let (job, held_len, put_end) = self.begin_job(held, medium, view);
         self.held_len = held_len;
         self.put_end = put_end;
-        let work = Work {
+        let work = PendingWrites {
             job,
             asked,
             done: 0,

@@ -4,7 +4,7 @@ use Rattle.std.proofs.Common.{inl, inr, ap, ◌∙◌}
 use Rattle.dfu_board.specs.Board.{BoardStep}
 use Rattle.dfu_board.specs.Keeps.{IsClosed, RunKeeps}
 use Rattle.dfu_slots.specs.Seen.{image_of}
-use Rattle.dfu_device.specs.Shown.{Shown}
+use Rattle.dfu_device.specs.DeviceView.{DeviceView}
 use Rattle.dfu_device.specs.History.{IsRow}
 use Rattle.dfu_device.specs.History.{HistoryStep as TableRow}
 use Rattle.dfu_board.specs.Accepts.{Heeds, RunAccepts, HeedsRow, HistoryAccepts}
@@ -49,11 +49,11 @@ row_accepts check s row heeds =
 
 -- So it is with a history.
 pub history_accepts : HistoryAccepts
-history_accepts check [] w w' same heeds = inl (ap (λ (x : Shown). image_of x.slots) same)
+history_accepts check [] w w' same heeds = inl (ap (λ (x : DeviceView). image_of x.slots) same)
 history_accepts check (s ∷ rest) w w' (begins, row, more) heeds = elim (history_accepts check rest s.after w' more heeds.1) [
   | inr accepted ↦ inr accepted
   | inl same ↦ elim (row_accepts check s row heeds.0) [
-    | inl before ↦ inl (same ∙ before ∙ ap (λ (x : Shown). image_of x.slots) begins)
+    | inl before ↦ inl (same ∙ before ∙ ap (λ (x : DeviceView). image_of x.slots) begins)
     | inr accepted ↦ inr (ap check same ∙ accepted)
   ]
 ]

@@ -6,7 +6,7 @@ use Rattle.dfu_slots.specs.declared.fault.WriteFault.TheVariants.{Failed}
 use Rattle.dfu_slots.specs.Image.{Active, HasImage}
 use Rattle.dfu_slots.specs.Seen.{SlotsState, store_on, image_of}
 use Rattle.dfu_device.specs.Stage.{Stage, InManifestSync, InManifest, state_of}
-use Rattle.dfu_device.specs.Shown.{Shown, situation}
+use Rattle.dfu_device.specs.DeviceView.{DeviceView, situation}
 use Rattle.dfu_device.specs.Rows.{Cause}
 use Rattle.dfu_device.specs.Taken.{taken_of}
 use Rattle.dfu_device.specs.TakenHistory.{RowTakes}
@@ -31,7 +31,7 @@ abbrev pub OneImage : Type 0
 OneImage = (s : SlotsState) (image : List ℕ) → Active s.medium image → image ≡ image_of s
 
 -- The flash of a board has an active image: its device's, or while writes are due the bytes that wait.
-record HasImageOf (b : Board) (due : Option Cause) (d : Shown) : Type 0 where
+record HasImageOf (b : Board) (due : Option Cause) (d : DeviceView) : Type 0 where
   has : HasImage (medium_on b)
   is : (image : List ℕ) → Active (medium_on b) image → (image ≡ image_of d.slots) ⊎ ((due ≡ None → ⊥) × IsPending d.stage image)
 
@@ -39,10 +39,10 @@ some_due : (cause : Cause) → ◌≡◌ {A = Option Cause} (Some cause) None �
 some_due cause e = absurd (cc)
 
 module _ (laws : WriteLaws) (only : OneImage) where
-  imaged : (b : Board) (due : Option Cause) (d : Shown) → StandsFor b due d → HasImageOf b due d
+  imaged : (b : Board) (due : Option Cause) (d : DeviceView) → StandsFor b due d → HasImageOf b due d
   imaged b None d k = record {
     has = k.is.store.has_image;
-    is = λ image active. inl (only (store_in (lent_on b) b.flash) image active ∙ ap (λ (x : Shown). image_of x.slots) k.device);
+    is = λ image active. inl (only (store_in (lent_on b) b.flash) image active ∙ ap (λ (x : DeviceView). image_of x.slots) k.device);
   }
   imaged b (Some cause) d k =
       let c = cut_off laws b cause d k in
@@ -80,7 +80,7 @@ none_manifests st t off m = m
 module _ (laws : WriteLaws) (takes : RowTakes) (only : OneImage) where
   begun : (b : Board) → IsPoweredOn b → KeptAt (image_of (device_on b).slots) [] [] (device_on b)
   begun b on = record {
-    taken = subst (λ (x : Shown). [] ≡ taken_of (situation x)) (sym on.device)
+    taken = subst (λ (x : DeviceView). [] ≡ taken_of (situation x)) (sym on.device)
         (sym (start_takes on.begins (image_of (store_on (medium_on b)))));
     waits = λ t m. absurd (none_waits b t on m);
     whence = inl refl;
@@ -121,7 +121,7 @@ module _ (laws : WriteLaws) (takes : RowTakes) (only : OneImage) where
   run_refines b b' steps on run = idle_refines b b' (device_on b) steps (on_idle b on) run
 
   -- What is kept of a device is kept on the flash of the board.
-  kept_on : (image : List ℕ) (old steps : List BoardStep) (b : Board) (due : Option Cause) (d : Shown) → StandsFor b due d
+  kept_on : (image : List ℕ) (old steps : List BoardStep) (b : Board) (due : Option Cause) (d : DeviceView) → StandsFor b due d
       → KeptAt image old steps d → HasKept image old steps b
   kept_on image old steps b due d k kept =
       let i = imaged laws only b due d k in
@@ -162,7 +162,7 @@ module _ (laws : WriteLaws) (takes : RowTakes) (only : OneImage) where
       run_stays b b b' [] steps image on refl (ap is_manifesting (state b on) ∙ start_plain on.begins) active run
     where
       state : (b : Board) → (on : IsPoweredOn b) → state_on b ≡ state_of (start_stage on.begins)
-      state b on = state_stands b None (device_on b) (on_idle b on) ∙ ap (λ (x : Shown). state_of x.stage) on.device
+      state b on = state_stands b None (device_on b) (on_idle b on) ∙ ap (λ (x : DeviceView). state_of x.stage) on.device
 
   -- A step that leads out of manifestation without a fault has put in place all that was taken.
   pub run_installs : RunInstalls

@@ -8,7 +8,7 @@ use Rattle.dfu_device.specs.declared.answer.Answer.{Answer}
 use Rattle.dfu_device.specs.declared.objection.Objection.{Objection}
 use Rattle.dfu_device.specs.declared.answer.Answer.TheVariants as answer
 use Rattle.dfu_device.specs.Stage.{state_of}
-use Rattle.dfu_device.specs.Shown.{Shown, situation}
+use Rattle.dfu_device.specs.DeviceView.{DeviceView, situation}
 use Rattle.dfu_device.specs.Rows.{Cause, Transfer, Passing, BusReset, RefusingClose, Refusing, Row}
 use Rattle.dfu_device.specs.History.{IsHistory}
 use Rattle.dfu_device.specs.History.{HistoryStep as TableRow}
@@ -33,10 +33,10 @@ block_by cause (Answers a out) = acknowledged cause a
 block_by cause says = []
 
 -- The same as `Turned` of a call for this cause.
-pub record CallTurned (b' : Board) (due : Option Cause) (d : Shown) (cause : Cause) (says : Says) : Type 0 where
+pub record CallTurned (b' : Board) (due : Option Cause) (d : DeviceView) (cause : Cause) (says : Says) : Type 0 where
   pub rows : List TableRow
   pub due' : Option Cause
-  pub device : Shown
+  pub device : DeviceView
   pub history : IsHistory d rows device
   pub tells : TellsCall cause due says rows due'
   pub stands : StandsFor b' due' device
@@ -48,7 +48,7 @@ pub record CallTurned (b' : Board) (due : Option Cause) (d : Shown) (cause : Cau
 
 module _ (takes : RowTakes) where
   -- A call that was answered.
-  row_turn : (b' : Board) (d : Shown) (cause : Cause) (says : Says) (x : Answer) (sent : List ℕ) → Row d cause x sent (device_on b')
+  row_turn : (b' : Board) (d : DeviceView) (cause : Cause) (says : Says) (x : Answer) (sent : List ℕ) → Row d cause x sent (device_on b')
       → IsIdle b' (device_on b') → says ≡ Answers x sent → CallTurned b' None d cause says
   row_turn b' d cause says x sent row idle is =
       let leads = row_leads d cause x sent (device_on b') row in
@@ -72,7 +72,7 @@ module _ (takes : RowTakes) where
       }
 
   -- `handle` and `elapse`.
-  pub served : (b b' : Board) (d : Shown) (cause : Cause) (says : Says) → IsIdle b d → IsServedBy b cause says b'
+  pub served : (b b' : Board) (d : DeviceView) (cause : Cause) (says : Says) → IsIdle b d → IsServedBy b cause says b'
       → CallTurned b' None d cause says
   served b b' d cause says k h =
       let o = h.outcome (record { fits = h.fits; is = k.is }) in
@@ -82,7 +82,7 @@ module _ (takes : RowTakes) where
           (lent_on b') out' r
           → says ≡ reply_said r out' → CallTurned b' None d cause says
       from out out' _ (called_ended x count e) is = row_turn b' d cause says x e.gave.sent
-          (subst (λ (z : Shown). Row z cause x e.gave.sent (device_on b')) k.device
+          (subst (λ (z : DeviceView). Row z cause x e.gave.sent (device_on b')) k.device
           (row_there b' b.flash x count out out' (λ x sent d'. Row (device_on b) cause x sent d') h.flash e))
           (idle_there b' b.flash x count out out' (λ x sent d'. Row (device_on b) cause x sent d') h.flash e)
           (said_there says b.flash x count out out' (lent_on b') (λ x sent d'. Row (device_on b) cause x sent d') e is)
@@ -99,7 +99,7 @@ module _ (takes : RowTakes) where
           stood = b.flash;
           asks = asks;
           device = same ∙ k.device;
-          row = subst (λ (z : Shown). IsDueRow len z (λ x sent d'. Row z cause x sent d')) k.device due;
+          row = subst (λ (z : DeviceView). IsDueRow len z (λ x sent d'. Row z cause x sent d')) k.device due;
           torn = λ p piece. keeps_same p.write.at (p.write.at + length p.write.bytes) b.flash b'.flash h.flash;
         };
         taken = sym (ap (λ (y : Says). held_in (state_of d.stage) (taken_of (situation d) ++ block_by cause y)) is
@@ -111,21 +111,21 @@ module _ (takes : RowTakes) where
       }
 
   -- `usb_reset`.
-  pub was_reset : (b b' : Board) (d : Shown) (says : Says) → IsIdle b d → IsReset b says b' → CallTurned b' None d BusReset says
+  pub was_reset : (b b' : Board) (d : DeviceView) (says : Says) → IsIdle b d → IsReset b says b' → CallTurned b' None d BusReset says
   was_reset b b' d says k h = row_turn b' d BusReset says answer.Ack []
-      (subst (λ (z : Shown). Row z BusReset answer.Ack [] (device_on b')) k.device (refl, refl, h.row))
+      (subst (λ (z : DeviceView). Row z BusReset answer.Ack [] (device_on b')) k.device (refl, refl, h.row))
       (record { work = h.work; is = (h.is (record { fits = h.fits; is = k.is })).is; device = refl }) h.says_is
 
   -- `refuse_close` and `refuse`.
-  pub objected : (b b' : Board) (d : Shown) (cause : Cause) (a : Answer) (says : Says) → IsIdle b d → IsObjected b cause a says b'
+  pub objected : (b b' : Board) (d : DeviceView) (cause : Cause) (a : Answer) (says : Says) → IsIdle b d → IsObjected b cause a says b'
       → CallTurned b' None d cause says
   objected b b' d cause a says k h =
       let both = h.row k.is in
-      row_turn b' d cause says a [] (subst (λ (z : Shown). Row z cause a [] (device_on b')) k.device both.1)
+      row_turn b' d cause says a [] (subst (λ (z : DeviceView). Row z cause a [] (device_on b')) k.device both.1)
       (record { work = h.work; is = both.0; device = refl }) h.says_is
 
 -- A call as the event that it is: it takes the same block, and closes a download as that event does.
-pub of_call : (b' : Board) (due : Option Cause) (d : Shown) (e : Event) (cause : Cause) (says : Says)
+pub of_call : (b' : Board) (due : Option Cause) (d : DeviceView) (e : Event) (cause : Cause) (says : Says)
     → ((rows : List TableRow) (due' : Option Cause) → TellsCall cause due says rows due' → TellsRows due e says rows due')
     → block_by cause says ≡ acknowledged_body e says → ((setup : List ℕ) → cause ≡ Transfer setup [] → e ≡ Handle setup [])
     → CallTurned b' due d cause says → Turned b' due d e says
@@ -148,7 +148,7 @@ of_call b' due d e cause says tells block closes c = record {
 }
 
 -- Each of them as an event.
-pub of_handle : (b' : Board) (d : Shown) (setup body : List ℕ) (says : Says) → CallTurned b' None d (Transfer setup body) says
+pub of_handle : (b' : Board) (d : DeviceView) (setup body : List ℕ) (says : Says) → CallTurned b' None d (Transfer setup body) says
     → Turned b' None d (Handle setup body) says
 of_handle b' d setup body says c =
     of_call b' None d (Handle setup body) (Transfer setup body) says (λ rows due' t. t) (same_block says) same_event c
@@ -160,45 +160,38 @@ of_handle b' d setup body says c =
     same_event : (other : List ℕ) → Transfer setup body ≡ Transfer other [] → Handle setup body ≡ Handle other []
     same_event other e = cc
 
-pub of_elapse : (b' : Board) (d : Shown) (ms : ℕ) (says : Says) → CallTurned b' None d (Passing ms) says → Turned b' None d (Elapse ms) says
-of_elapse b' d ms says c = of_call b' None d (Elapse ms) (Passing ms) says (λ rows due' t. t) (no_block says) other c
-  where
-    no_block : (says : Says) → block_by (Passing ms) says ≡ []
-    no_block (Answers a out) = refl
-    no_block says = refl
+-- A call that has no body takes no block.
+no_block : (cause : Cause) → ((a : Answer) → acknowledged cause a ≡ []) → (says : Says) → block_by cause says ≡ []
+no_block cause none (Answers a out) = none a
+no_block cause none says = refl
 
+pub of_elapse : (b' : Board) (d : DeviceView) (ms : ℕ) (says : Says) → CallTurned b' None d (Passing ms) says
+    → Turned b' None d (Elapse ms) says
+of_elapse b' d ms says c =
+    of_call b' None d (Elapse ms) (Passing ms) says (λ rows due' t. t) (no_block (Passing ms) (λ a. refl) says) other c
+  where
     other : (setup : List ℕ) → Passing ms ≡ Transfer setup [] → Elapse ms ≡ Handle setup []
     other setup e = absurd (cc)
 
-pub of_reset : (b' : Board) (d : Shown) (says : Says) → CallTurned b' None d BusReset says → Turned b' None d UsbReset says
-of_reset b' d says c = of_call b' None d UsbReset BusReset says (λ rows due' t. t) (no_block says) other c
+pub of_reset : (b' : Board) (d : DeviceView) (says : Says) → CallTurned b' None d BusReset says → Turned b' None d UsbReset says
+of_reset b' d says c = of_call b' None d UsbReset BusReset says (λ rows due' t. t) (no_block BusReset (λ a. refl) says) other c
   where
-    no_block : (says : Says) → block_by BusReset says ≡ []
-    no_block (Answers a out) = refl
-    no_block says = refl
-
     other : (setup : List ℕ) → BusReset ≡ Transfer setup [] → UsbReset ≡ Handle setup []
     other setup e = absurd (cc)
 
-pub of_refuse_close : (b' : Board) (d : Shown) (setup : List ℕ) (why : Objection) (says : Says)
+pub of_refuse_close : (b' : Board) (d : DeviceView) (setup : List ℕ) (why : Objection) (says : Says)
     → CallTurned b' None d (RefusingClose setup why) says → Turned b' None d (RefuseClose setup why) says
 of_refuse_close b' d setup why says c =
-    of_call b' None d (RefuseClose setup why) (RefusingClose setup why) says (λ rows due' t. t) (no_block says) other c
+    of_call b' None d (RefuseClose setup why) (RefusingClose setup why) says (λ rows due' t. t)
+    (no_block (RefusingClose setup why) (λ a. refl) says) other c
   where
-    no_block : (says : Says) → block_by (RefusingClose setup why) says ≡ []
-    no_block (Answers a out) = refl
-    no_block says = refl
-
     other : (own : List ℕ) → RefusingClose setup why ≡ Transfer own [] → RefuseClose setup why ≡ Handle own []
     other own e = absurd (cc)
 
-pub of_refuse : (b' : Board) (d : Shown) (why : Objection) (says : Says) → CallTurned b' None d (Refusing why) says
+pub of_refuse : (b' : Board) (d : DeviceView) (why : Objection) (says : Says) → CallTurned b' None d (Refusing why) says
     → Turned b' None d (Refuse why) says
-of_refuse b' d why says c = of_call b' None d (Refuse why) (Refusing why) says (λ rows due' t. t) (no_block says) other c
+of_refuse b' d why says c =
+    of_call b' None d (Refuse why) (Refusing why) says (λ rows due' t. t) (no_block (Refusing why) (λ a. refl) says) other c
   where
-    no_block : (says : Says) → block_by (Refusing why) says ≡ []
-    no_block (Answers a out) = refl
-    no_block says = refl
-
     other : (own : List ℕ) → Refusing why ≡ Transfer own [] → Refuse why ≡ Handle own []
     other own e = absurd (cc)

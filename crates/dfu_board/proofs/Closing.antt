@@ -12,7 +12,7 @@ use Rattle.dfu_device.specs.declared.objection.Objection.{Objection}
 use Rattle.dfu_device.specs.declared.answer.Answer.TheVariants as answer
 use Rattle.dfu_device.specs.Stage.{Request, Dnload, Upload, GetStatus, GetState, OtherRequest, Reply, Ack, Profile, Stage, InAppDetach, InDfuIdle, InDownloadSync, InDownloadBusy, InDownloadIdle, InManifestSync, InManifestSyncComplete, InManifest, InManifestWaitReset, InUploadIdle, InError}
 use Rattle.dfu_device.specs.Table.{Plan, Sure, Writes, Commits, has_no_bytes, block_plan, further_plan, upload_plan, plan, time_plan, reset_stage, refuse_stage, commit_code}
-use Rattle.dfu_device.specs.Shown.{Shown, profile, situation}
+use Rattle.dfu_device.specs.DeviceView.{DeviceView, profile, situation}
 use Rattle.dfu_device.specs.Rows.{meant, asked_length, Answers, Done, is_served, setup_plan, handled_as, Cause, Transfer, Passing, BusReset, RefusingClose, Refusing, PowerOn, Row}
 use Rattle.dfu_device.specs.Taken.{taken_in, taken_of, is_dnload}
 use Rattle.dfu_device.specs.Cases.{either_way}
@@ -118,7 +118,7 @@ IsClosing cause a out =
     (setup : List ℕ) × (cause ≡ Transfer setup []) × (is_dnload setup ≡ true) × (a ≡ answer.Ack) × (out ≡ [])
 
 -- What waits after a row waited before, or was closed by it; and the image is the one before, or what waited.
-pub record Leads (w : Shown) (cause : Cause) (a : Answer) (out : List ℕ) (w' : Shown) : Type 0 where
+pub record Leads (w : DeviceView) (cause : Cause) (a : Answer) (out : List ℕ) (w' : DeviceView) : Type 0 where
   pub waits : (t : List ℕ) → IsPending w'.stage t → IsPending w.stage t ⊎ (IsClosing cause a out × (t ≡ taken_of (situation w)))
   pub image : (image_of w'.slots ≡ image_of w.slots) ⊎ IsPending w.stage (image_of w'.slots)
   pub placed : (image_of w'.slots ≡ image_of w.slots) ⊎ IsPlaced w'.stage
@@ -146,16 +146,16 @@ reply_acks : (len : ℕ) (reply : Reply) (a : Answer) (out : List ℕ) → reply
 reply_acks len reply a out is says = subst (λ (x : Reply). Answers len x a out) is says
 
 -- A plan that was carried out, by what it is if it closes a download.
-done_leads : (p : Plan) (r : Request) (cause : Cause) (len : ℕ) (w : Shown) (a : Answer) (out : List ℕ) (w' : Shown)
+done_leads : (p : Plan) (r : Request) (cause : Cause) (len : ℕ) (w : DeviceView) (a : Answer) (out : List ℕ) (w' : DeviceView)
     → Closes (image_of w.slots) w.stage r p → Done p len w a out w'
     → ((number : ℕ) → r ≡ Dnload number [] → (a ≡ answer.Ack) × (out ≡ []) → IsClosing cause a out) → Leads w cause a out w'
 done_leads (Sure reply stage) r cause len w a out w' closes (says, is) by = record {
-  waits = λ t m. elim (closes t (subst (λ (x : Shown). IsPending x.stage t) is m)) [
+  waits = λ t m. elim (closes t (subst (λ (x : DeviceView). IsPending x.stage t) is m)) [
     | inl before ↦ inl before
     | inr closed ↦ inr (by closed.0.1 closed.0.2 (reply_acks len reply a out closed.0.0 says), closed.1)
   ];
-  image = inl (ap (λ (x : Shown). image_of x.slots) is);
-  placed = inl (ap (λ (x : Shown). image_of x.slots) is);
+  image = inl (ap (λ (x : DeviceView). image_of x.slots) is);
+  placed = inl (ap (λ (x : DeviceView). image_of x.slots) is);
 }
 done_leads (Writes before block reply stage bad) r cause len w a out w' closes (inl (says, h)) by = record {
   waits = λ t m. absurd (closes t (subst (λ (x : Stage). IsPending x t) h.stage_is m));
@@ -181,7 +181,7 @@ done_leads (Commits taken reply stage bad) r cause len w a out w' closes (inr (f
   placed = inr (subst IsPlaced (sym h.stage_is) (commit_placed fault));
 }
 
-setup_closes : (w : Shown) (p : Setup) (q : Asked) (body : List ℕ)
+setup_closes : (w : DeviceView) (p : Setup) (q : Asked) (body : List ℕ)
     → Closes (image_of w.slots) w.stage (meant q body) (setup_plan w p q body)
 setup_closes w p q body = either_way (Closes (image_of w.slots) w.stage (meant q body)) (is_served p q body) _ _
     (row_closes (profile w) (image_of w.slots) w.stage (meant q body)) (λ t m. inl m)
@@ -201,7 +201,8 @@ unfolding image_of
 same_image s = refl
 
 -- Each row leads so.
-pub row_leads : (w : Shown) (cause : Cause) (a : Answer) (out : List ℕ) (w' : Shown) → Row w cause a out w' → Leads w cause a out w'
+pub row_leads : (w : DeviceView) (cause : Cause) (a : Answer) (out : List ℕ) (w' : DeviceView) → Row w cause a out w'
+    → Leads w cause a out w'
 row_leads w (Transfer setup body) a out w' (handled_as p q reads asks done) =
     done_leads (setup_plan w p q body) (meant q body) (Transfer setup body) (asked_length q) w a out w' (setup_closes w p q body) done
     (λ number e acks.
@@ -218,22 +219,22 @@ row_leads w (Passing ms) a out w' (is, none, row) =
     (done_leads (time_plan (profile w) w.stage ms) OtherRequest (Passing ms) 0 w answer.Ack [] w'
     (time_closes (profile w) (image_of w.slots) w.stage ms) row (λ number e acks. absurd (cc))))
 row_leads w BusReset a out w' (is, none, same) = record {
-  waits = λ t m. absurd (no_reset_waits w.stage t (subst (λ (x : Shown). IsPending x.stage t) same m));
-  image = inl (ap (λ (x : Shown). image_of x.slots) same);
-  placed = inl (ap (λ (x : Shown). image_of x.slots) same);
+  waits = λ t m. absurd (no_reset_waits w.stage t (subst (λ (x : DeviceView). IsPending x.stage t) same m));
+  image = inl (ap (λ (x : DeviceView). image_of x.slots) same);
+  placed = inl (ap (λ (x : DeviceView). image_of x.slots) same);
 }
 row_leads w (RefusingClose setup why) a out w' (is, none, closes, same) = record {
-  waits = λ t m. absurd (subst (λ (x : Shown). IsPending x.stage t) same m);
-  image = inl (ap (λ (x : Shown). image_of x.slots) same);
-  placed = inl (ap (λ (x : Shown). image_of x.slots) same);
+  waits = λ t m. absurd (subst (λ (x : DeviceView). IsPending x.stage t) same m);
+  image = inl (ap (λ (x : DeviceView). image_of x.slots) same);
+  placed = inl (ap (λ (x : DeviceView). image_of x.slots) same);
 }
 row_leads w (Refusing why) a out w' (is, none, same) = record {
-  waits = λ t m. inl (refusal_waits why w.stage t (subst (λ (x : Shown). IsPending x.stage t) same m));
-  image = inl (ap (λ (x : Shown). image_of x.slots) same);
-  placed = inl (ap (λ (x : Shown). image_of x.slots) same);
+  waits = λ t m. inl (refusal_waits why w.stage t (subst (λ (x : DeviceView). IsPending x.stage t) same m));
+  image = inl (ap (λ (x : DeviceView). image_of x.slots) same);
+  placed = inl (ap (λ (x : DeviceView). image_of x.slots) same);
 }
 row_leads w PowerOn a out w' (is, none, same) = record {
-  waits = λ t m. absurd (subst (λ (x : Shown). IsPending x.stage t) same m);
-  image = inl (ap (λ (x : Shown). image_of x.slots) same ∙ same_image w.slots);
-  placed = inl (ap (λ (x : Shown). image_of x.slots) same ∙ same_image w.slots);
+  waits = λ t m. absurd (subst (λ (x : DeviceView). IsPending x.stage t) same m);
+  image = inl (ap (λ (x : DeviceView). image_of x.slots) same ∙ same_image w.slots);
+  placed = inl (ap (λ (x : DeviceView). image_of x.slots) same ∙ same_image w.slots);
 }

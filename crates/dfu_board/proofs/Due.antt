@@ -7,7 +7,7 @@ use Rattle.dfu_slots.specs.Seen.{image_of}
 use Rattle.dfu_device.specs.declared.answer.Answer.{Answer}
 use Rattle.dfu_device.specs.Stage.{Stage, InDownloadSync, InDownloadSyncWritten, InDownloadBusy, InDownloadIdle, InManifestSync, InManifestSyncComplete, InManifest, InManifestWaitReset, InDfuIdle, InError, state_of}
 use Rattle.dfu_device.specs.Table.{write_code, commit_code}
-use Rattle.dfu_device.specs.Shown.{Shown, profile, situation}
+use Rattle.dfu_device.specs.DeviceView.{DeviceView, profile, situation}
 use Rattle.dfu_device.specs.Rows.{Committed}
 use Rattle.dfu_device.specs.Taken.{taken_in, taken_of, held_in}
 use Rattle.dfu_asks.specs.Due.{due_plan, WorksOut, FailsOut, Works, Fails}
@@ -16,17 +16,17 @@ use Rattle.dfu_board.proofs.Installs.{IsOver}
 
 -- After it the bytes taken are those before, or none if no download is under way; nothing waits; the image is the one before, or what
 -- waited; and if manifestation is over it is what was taken.
-pub record DueLeads (d d' : Shown) : Type 0 where
+pub record DueLeads (d d' : DeviceView) : Type 0 where
   pub taken : taken_of (situation d') ≡ held_in (state_of d'.stage) (taken_of (situation d))
   pub waits : (t : List ℕ) → IsPending d'.stage t → ⊥
   pub image : (image_of d'.slots ≡ image_of d.slots) ⊎ IsPending d.stage (image_of d'.slots)
   pub puts : IsOver d'.stage → image_of d'.slots ≡ taken_of (situation d)
 
 -- The device entered this stage, of which that is true.
-abbrev EndsIn : Shown → Shown → Stage → Type 0
+abbrev EndsIn : DeviceView → DeviceView → Stage → Type 0
 EndsIn d d' st = (taken_in (image_of d'.slots) st ≡ held_in (state_of st) (taken_of (situation d))) × ((t : List ℕ) → IsPending st t → ⊥)
 
-ends_in : (d d' : Shown) (st : Stage) → d'.stage ≡ st → EndsIn d d' st
+ends_in : (d d' : DeviceView) (st : Stage) → d'.stage ≡ st → EndsIn d d' st
     → (image_of d'.slots ≡ image_of d.slots) ⊎ IsPending d.stage (image_of d'.slots)
     → (IsOver st → image_of d'.slots ≡ taken_of (situation d)) → DueLeads d d'
 ends_in d d' st is ends image puts = record {
@@ -36,7 +36,7 @@ ends_in d d' st is ends image puts = record {
   puts = λ over. puts (subst IsOver is over);
 }
 
-module _ (d d' : Shown) (len : ℕ) (a : Answer) (out : List ℕ) where
+module _ (d d' : DeviceView) (len : ℕ) (a : Answer) (out : List ℕ) where
   works_at : (st : Stage) → d.stage ≡ st → WorksOut (due_plan (profile d) st) len d a out d' → DueLeads d d'
   works_at (InDownloadSync before block number) is (says, h) =
       ends_in d d' (InDownloadIdle (before ++ block) number) h.stage_is

@@ -10,7 +10,7 @@ use Rattle.dfu_device.specs.declared.objection.Objection.{Objection}
 use Rattle.dfu_device.specs.declared.answer.Answer.TheVariants as answer
 use Rattle.dfu_device.specs.Stage.{Request, GetStatus, GetState, Ack, Profile, Stage, InAppDetach, InManifestSync, InManifestSyncComplete, InManifest, InManifestWaitReset, state_of}
 use Rattle.dfu_device.specs.Table.{Plan, Sure, Writes, Commits, plan, time_plan, reset_stage, refuse_stage}
-use Rattle.dfu_device.specs.Shown.{Shown, profile, situation}
+use Rattle.dfu_device.specs.DeviceView.{DeviceView, profile, situation}
 use Rattle.dfu_device.specs.Rows.{meant, asked_length, Done, is_served, setup_plan, handled_as, Cause, Transfer, Passing, BusReset, RefusingClose, Refusing, PowerOn, Row}
 use Rattle.dfu_device.specs.Taken.{taken_in, taken_of}
 use Rattle.dfu_device.specs.Cases.{either_way}
@@ -66,10 +66,10 @@ time_installs c image (InManifestSync taken) ms on = λ over. absurd (false≢tr
 time_installs c image InManifestSyncComplete ms on = λ over. absurd (false≢true over)
 time_installs c image st ms on = absurd (false≢true on)
 
-done_installs : (p : Plan) (len : ℕ) (w : Shown) (a : Answer) (out : List ℕ) (w' : Shown) → Installs (image_of w.slots) w.stage p
+done_installs : (p : Plan) (len : ℕ) (w : DeviceView) (a : Answer) (out : List ℕ) (w' : DeviceView) → Installs (image_of w.slots) w.stage p
     → Done p len w a out w' → IsOver w'.stage → image_of w'.slots ≡ taken_of (situation w)
 done_installs (Sure reply stage) len w a out w' installs (says, is) over =
-    ap (λ (x : Shown). image_of x.slots) is ∙ installs (subst (λ (x : Shown). IsOver x.stage) is over)
+    ap (λ (x : DeviceView). image_of x.slots) is ∙ installs (subst (λ (x : DeviceView). IsOver x.stage) is over)
 done_installs (Writes before block reply stage bad) len w a out w' installs (inl (says, h)) over =
     absurd (installs (subst IsOver h.stage_is over))
 done_installs (Writes before block reply stage bad) len w a out w' installs (inr (fault, says, h)) over =
@@ -78,7 +78,7 @@ done_installs (Commits taken reply stage bad) len w a out w' installs (inl (says
 done_installs (Commits taken reply stage bad) len w a out w' installs (inr (fault, says, h)) over =
     absurd (false≢true (subst IsOver h.stage_is over))
 
-setup_installs : (w : Shown) (p : Setup) (q : Asked) (body : List ℕ) → Manifests w.stage
+setup_installs : (w : DeviceView) (p : Setup) (q : Asked) (body : List ℕ) → Manifests w.stage
     → Installs (image_of w.slots) w.stage (setup_plan w p q body)
 setup_installs w p q body on = either_way (Installs (image_of w.slots) w.stage) (is_served p q body) _ _
     (row_installs (profile w) (image_of w.slots) w.stage (meant q body) on) (λ over. absurd (never_both w.stage on over))
@@ -94,7 +94,7 @@ no_refusal_over why (InManifest taken passed) on over = false≢true over
 no_refusal_over why st on over = false≢true on
 
 -- A row that leads out of manifestation without a fault has put in place what was taken.
-pub row_puts : (w : Shown) (cause : Cause) (a : Answer) (out : List ℕ) (w' : Shown) → Row w cause a out w' → Manifests w.stage
+pub row_puts : (w : DeviceView) (cause : Cause) (a : Answer) (out : List ℕ) (w' : DeviceView) → Row w cause a out w' → Manifests w.stage
     → IsOver w'.stage → image_of w'.slots ≡ taken_of (situation w)
 row_puts w (Transfer setup body) a out w' (handled_as p q reads asks done) on over =
     done_installs (setup_plan w p q body) (asked_length q) w a out w' (setup_installs w p q body on) done over
@@ -102,9 +102,9 @@ row_puts w (Passing ms) a out w' (is, none, row) on over =
     done_installs (time_plan (profile w) w.stage ms) 0 w answer.Ack [] w'
     (time_installs (profile w) (image_of w.slots) w.stage ms on) row over
 row_puts w BusReset a out w' (is, none, same) on over =
-    absurd (no_reset_over w.stage on (subst (λ (x : Shown). IsOver x.stage) same over))
+    absurd (no_reset_over w.stage on (subst (λ (x : DeviceView). IsOver x.stage) same over))
 row_puts w (RefusingClose setup why) a out w' (is, none, closes, same) on over =
-    absurd (false≢true (subst (λ (x : Shown). IsOver x.stage) same over))
+    absurd (false≢true (subst (λ (x : DeviceView). IsOver x.stage) same over))
 row_puts w (Refusing why) a out w' (is, none, same) on over =
-    absurd (no_refusal_over why w.stage on (subst (λ (x : Shown). IsOver x.stage) same over))
-row_puts w PowerOn a out w' (is, none, same) on over = absurd (false≢true (subst (λ (x : Shown). IsOver x.stage) same over))
+    absurd (no_refusal_over why w.stage on (subst (λ (x : DeviceView). IsOver x.stage) same over))
+row_puts w PowerOn a out w' (is, none, same) on over = absurd (false≢true (subst (λ (x : DeviceView). IsOver x.stage) same over))

@@ -1,6 +1,5 @@
 mod Pieces
 mod Broken
-mod Within
 mod Cut
 mod Closing
 mod Installs
@@ -14,4 +13,4 @@ mod Each
 mod Runs
 mod Boards
 mod Accepts
-mod Served
+pub mod Served

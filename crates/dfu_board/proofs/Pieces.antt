@@ -1,5 +1,5 @@
--- The next piece of a series: there is one while bytes are left, and no other.
-use Rattle.std.proofs.Common.{◌≡◌, ◌⊎◌, inl, inr, Bool, true, false, if◌then◌else◌, ℕ, zero, suc, ◌+◌, ◌-◌, ◌≤◌, ◌<◌, min, List, [], ◌∷◌, length, drop, slice_range, refl, sym, ◌∙◌, arith, length-drop}
+-- A series has a next piece while bytes are left.
+use Rattle.std.proofs.Common.{◌≡◌, ◌⊎◌, inl, inr, Bool, true, false, if◌then◌else◌, ℕ, zero, suc, ◌+◌, ◌-◌, ◌≤◌, ◌<◌, min, List, [], ◌∷◌, length, drop, slice_range, refl, sym, arith, length-drop}
 use Rattle.std.proofs.lemmas.List.{length-take}
 use Rattle.dfu_asks.specs.Steps.{Step, step_writes}
 use Rattle.dfu_asks.specs.Carried.{total, IsPart, IsPiece}
@@ -57,22 +57,3 @@ piece_there (s ∷ ss) n left = elim (below_or_not n (length s.write.bytes)) [
       let later = piece_there ss (n - length s.write.bytes) (omega (arith, left, past)) in
       (later.0, inr (past, later.1))
 ]
-
-part_one : (s : Step) (n : ℕ) (p q : Step) → IsPart s n p → IsPart s n q → p ≡ q
-part_one s n p q a b =
-    let size : length p.write.bytes ≡ length q.write.bytes = a.size ∙ sym b.size in
-    λ i. record {
-      erases = (a.kind ∙ sym b.kind) i;
-      write = record {
-        at = (a.place ∙ sym b.place) i;
-        bytes = (a.bytes_are ∙ (λ j. slice_range s.write.bytes n (n + size j)) ∙ sym b.bytes_are) i;
-      };
-    }
-
--- It is the only one.
-pub piece_alone : (ss : List Step) (n : ℕ) (p q : Step) → IsPiece ss n p → IsPiece ss n q → p ≡ q
-piece_alone [] n p q a b = absurd a
-piece_alone (s ∷ ss) n p q (inl a) (inl b) = part_one s n p q a b
-piece_alone (s ∷ ss) n p q (inl a) (inr (past, b)) = absurd (omega (arith, a.some, a.within, past))
-piece_alone (s ∷ ss) n p q (inr (past, a)) (inl b) = absurd (omega (arith, b.some, b.within, past))
-piece_alone (s ∷ ss) n p q (inr (past, a)) (inr (more, b)) = piece_alone ss (n - length s.write.bytes) p q a b

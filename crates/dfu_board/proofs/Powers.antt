@@ -10,7 +10,7 @@ use Rattle.dfu_slots.specs.declared.fault.WriteFault.TheVariants.{Failed}
 use Rattle.dfu_slots.specs.Seen.{SlotsState, store_on, image_of}
 use Rattle.dfu_device.specs.declared.answer.Answer.TheVariants as answer
 use Rattle.dfu_device.specs.Stage.{InAppIdle, InAppDetach, state_of}
-use Rattle.dfu_device.specs.Shown.{Shown, profile, situation}
+use Rattle.dfu_device.specs.DeviceView.{DeviceView, profile, situation}
 use Rattle.dfu_device.specs.Rows.{Cause, Transfer, BusReset, PowerOn, handled_as}
 use Rattle.dfu_device.specs.History.{IsHistory}
 use Rattle.dfu_device.specs.History.{HistoryStep as TableRow}
@@ -30,14 +30,14 @@ use Rattle.dfu_board.proofs.Turns.{Turned, one_row}
 -- The device as which it comes back.
 
 -- Power that comes back makes this of a device.
-abbrev powered : Shown → Shown
+abbrev powered : DeviceView → DeviceView
 powered w = record { config = w.config; slots = store_on w.slots.medium; stage = InAppIdle }
 
 -- And this, if it begins or not.
-abbrev started : Shown → Bool → Shown
+abbrev started : DeviceView → Bool → DeviceView
 started w begins = record (powered w) { stage = start_stage begins }
 
-start_there : (b b' : Board) (w : Shown) → w.config ≡ b.asking.config → w.slots.medium ≡ medium_on b → IsSetUpAs b.asking b'.asking
+start_there : (b b' : Board) (w : DeviceView) → w.config ≡ b.asking.config → w.slots.medium ≡ medium_on b → IsSetUpAs b.asking b'.asking
     → b'.flash ≡ b.flash → (begins : Bool) → BoardStarts begins b' → device_on b' ≡ started w begins
 start_there b b' w config medium same flash begins (on, is) =
     let again : medium_on b' ≡ w.slots.medium = (λ i. mapped (grain_of (same.unit i) (same.sector i)) (flash i)) ∙ sym medium in
@@ -60,12 +60,12 @@ detach_asks : AsksFor detach_read (request.Detach 0)
 detach_asks = (record { kind = refl; request = refl; index = refl }, refl, refl)
 
 -- The rows of power that comes back to a device.
-record PowerRows (w : Shown) (begins : Bool) (w' : Shown) : Type 0 where
+record PowerRows (w : DeviceView) (begins : Bool) (w' : DeviceView) : Type 0 where
   rows : List TableRow
   history : IsHistory w rows w'
   start : IsStart begins rows
 
-power_rows : (w w' : Shown) (begins : Bool) → w' ≡ started w begins → PowerRows w begins w'
+power_rows : (w w' : DeviceView) (begins : Bool) → w' ≡ started w begins → PowerRows w begins w'
 power_rows w w' false e = record {
   rows = one_row w PowerOn answer.Ack [] w';
   history = (refl, (refl, refl, e), refl);
@@ -78,8 +78,8 @@ power_rows w w' false e = record {
   };
 }
 power_rows w w' true e =
-    let up : Shown = powered w in
-    let left : Shown = record up { stage = InAppDetach (min (profile up).detach_ms 0) 0 } in
+    let up : DeviceView = powered w in
+    let left : DeviceView = record up { stage = InAppDetach (min (profile up).detach_ms 0) 0 } in
     let first : TableRow = record { before = w; cause = PowerOn; answer = answer.Ack; out = []; after = up } in
     let second : TableRow = record { before = up; cause = Transfer detach []; answer = answer.Ack; out = []; after = left } in
     let third : TableRow = record { before = left; cause = BusReset; answer = answer.Ack; out = []; after = w' } in
@@ -137,17 +137,18 @@ start_over false other over = false≢true over
 
 -- Nothing waits in a board that just got power.
 pub none_waits : (b : Board) (t : List ℕ) → IsPoweredOn b → IsPending (device_on b).stage t → ⊥
-none_waits b t on m = start_waits on.begins t (subst (λ (x : Shown). IsPending x.stage t) on.device m)
+none_waits b t on m = start_waits on.begins t (subst (λ (x : DeviceView). IsPending x.stage t) on.device m)
 
 -- Power leaves the image.
-image_left : (w w' : Shown) (begins : Bool) → w' ≡ started w begins → image_of w'.slots ≡ image_of w.slots
-image_left w w' begins e = ap (λ (x : Shown). image_of x.slots) e ∙ same_image w.slots
+image_left : (w w' : DeviceView) (begins : Bool) → w' ≡ started w begins → image_of w'.slots ≡ image_of w.slots
+image_left w w' begins e = ap (λ (x : DeviceView). image_of x.slots) e ∙ same_image w.slots
 
 -- Of a board with nothing due.
-pub restarts : (b b' : Board) (d : Shown) (begins : Bool) (says : Says) → IsIdle b d → IsSetUpAs b.asking b'.asking
+pub restarts : (b b' : Board) (d : DeviceView) (begins : Bool) (says : Says) → IsIdle b d → IsSetUpAs b.asking b'.asking
     → b'.flash ≡ b.flash → BoardStarts begins b' → Turned b' None d (Restart begins) says
 restarts b b' d begins says k same flash on =
-    let there = start_there b b' d (ap (λ (x : Shown). x.config) (sym k.device)) (ap (λ (x : Shown). x.slots.medium) (sym k.device))
+    let there = start_there b b' d (ap (λ (x : DeviceView). x.config) (sym k.device))
+    (ap (λ (x : DeviceView). x.slots.medium) (sym k.device))
     same flash begins on in
     let r = power_rows d (device_on b') begins there in
     record {
@@ -157,15 +158,15 @@ restarts b b' d begins says k same flash on =
       history = r.history;
       tells = (r.start, refl);
       stands = on_idle b' on.0;
-      taken = subst (λ (x : Shown). taken_of (situation x) ≡ held_in (state_of x.stage) (taken_of (situation d) ++ [])) (sym there)
+      taken = subst (λ (x : DeviceView). taken_of (situation x) ≡ held_in (state_of x.stage) (taken_of (situation d) ++ [])) (sym there)
           (start_drops begins (image_of (powered d).slots) (taken_of (situation d) ++ []));
       waits = λ t m. absurd (none_waits b' t on.0 m);
       image = inl (image_left d (device_on b') begins there);
-      puts = λ other manifests over. absurd (start_over begins other (subst (λ (x : Shown). IsOver x.stage) there over));
+      puts = λ other manifests over. absurd (start_over begins other (subst (λ (x : DeviceView). IsOver x.stage) there over));
     }
 
 -- Of one at work.
-pub cuts : (laws : WriteLaws) (b b' : Board) (cause : Cause) (d : Shown) (begins : Bool) (says : Says) → IsAtWork b cause d
+pub cuts : (laws : WriteLaws) (b b' : Board) (cause : Cause) (d : DeviceView) (begins : Bool) (says : Says) → IsAtWork b cause d
     → IsSetUpAs b.asking b'.asking → b'.flash ≡ b.flash → BoardStarts begins b' → Turned b' (Some cause) d (Restart begins) says
 cuts laws b b' cause d begins says k same flash on =
     let c = cut_off laws b cause d k in
@@ -180,7 +181,7 @@ cuts laws b b' cause d begins says k same flash on =
       history = (refl, k.row.fails Failed c.answer c.out c.after c.row, r.history);
       tells = (record { row = first; rest = r.rows; rows_are = refl; cause_is = refl; start = r.start }, refl);
       stands = on_idle b' on.0;
-      taken = subst (λ (x : Shown). taken_of (situation x) ≡ held_in (state_of x.stage) (taken_of (situation d) ++ [])) (sym there)
+      taken = subst (λ (x : DeviceView). taken_of (situation x) ≡ held_in (state_of x.stage) (taken_of (situation d) ++ [])) (sym there)
           (start_drops begins (image_of (powered c.after).slots) (taken_of (situation d) ++ []));
       waits = λ t m. absurd (none_waits b' t on.0 m);
       image =
@@ -189,5 +190,5 @@ cuts laws b b' cause d begins says k same flash on =
             | inl old ↦ inl (left ∙ old)
             | inr new ↦ inr (subst (λ (t : List ℕ). IsPending d.stage t) (sym left) new)
           ];
-      puts = λ other manifests over. absurd (start_over begins other (subst (λ (x : Shown). IsOver x.stage) there over));
+      puts = λ other manifests over. absurd (start_over begins other (subst (λ (x : DeviceView). IsOver x.stage) there over));
     }

@@ -4,10 +4,10 @@ use Rattle.std.proofs.Common.{inl, inr, refl, sym, ap, ◌∙◌, subst}
 use Rattle.std.proofs.lemmas.List.{append_assoc, append-nil}
 use Rattle.dfu_slots.specs.Seen.{image_of}
 use Rattle.dfu_device.specs.Stage.{state_of}
-use Rattle.dfu_device.specs.Shown.{Shown, situation}
+use Rattle.dfu_device.specs.DeviceView.{DeviceView, situation}
 use Rattle.dfu_device.specs.Parts.{stage_of}
-use Rattle.dfu_device.specs.declared.mode.Mode.{Mode}
-use Rattle.dfu_device.specs.declared.mode.Mode.TheVariants as mode
+use Rattle.dfu_device.specs.declared.device_state.DeviceState.{DeviceState}
+use Rattle.dfu_device.specs.declared.device_state.DeviceState.TheVariants as device_state
 use Rattle.dfu_device.specs.Rows.{Cause}
 use Rattle.dfu_device.specs.History.{IsHistory}
 use Rattle.dfu_device.specs.History.{HistoryStep as TableRow}
@@ -24,23 +24,23 @@ use Rattle.dfu_board.proofs.Each.{turn}
 
 -- The state.
 
-mode_state : (m : Mode) (xs ys xs' ys' : List ℕ) → state_of (stage_of m xs ys) ≡ state_of (stage_of m xs' ys')
+mode_state : (m : DeviceState) (xs ys xs' ys' : List ℕ) → state_of (stage_of m xs ys) ≡ state_of (stage_of m xs' ys')
 mode_state m xs ys xs' ys' = by_mode m
   where
-    by_mode : (m : Mode) → state_of (stage_of m xs ys) ≡ state_of (stage_of m xs' ys')
-    by_mode mode.AppIdle = refl
+    by_mode : (m : DeviceState) → state_of (stage_of m xs ys) ≡ state_of (stage_of m xs' ys')
+    by_mode device_state.AppIdle = refl
     by_mode m = refl
 
 -- A board is in the state of the device that it stands for.
-pub state_stands : (b : Board) (due : Option Cause) (d : Shown) → StandsFor b due d → state_on b ≡ state_of d.stage
-state_stands b None d k = mode_state b.asking.mode [] [] _ _ ∙ ap (λ (x : Shown). state_of x.stage) k.device
-state_stands b (Some cause) d k = mode_state b.asking.mode [] [] _ _ ∙ ap (λ (x : Shown). state_of x.stage) k.device
+pub state_stands : (b : Board) (due : Option Cause) (d : DeviceView) → StandsFor b due d → state_on b ≡ state_of d.stage
+state_stands b None d k = mode_state b.asking.mode [] [] _ _ ∙ ap (λ (x : DeviceView). state_of x.stage) k.device
+state_stands b (Some cause) d k = mode_state b.asking.mode [] [] _ _ ∙ ap (λ (x : DeviceView). state_of x.stage) k.device
 
 -- What is kept.
 
 -- Behind these old steps, the bytes that a device has taken are those of the steps, those that wait were closed by one, and so were those
 -- of the image, or it is this one.
-pub record KeptAt (image : List ℕ) (old steps : List BoardStep) (d : Shown) : Type 0 where
+pub record KeptAt (image : List ℕ) (old steps : List BoardStep) (d : DeviceView) : Type 0 where
   pub taken : taken_by [] (old ++ steps) ≡ taken_of (situation d)
   pub waits : (t : List ℕ) → IsPending d.stage t → IsClosed old steps t
   pub whence : (image_of d.slots ≡ image) ⊎ IsClosed old steps (image_of d.slots)
@@ -60,7 +60,8 @@ longer old steps s t c = record {
 }
 
 -- Each step keeps them.
-pub kept_step : (image : List ℕ) (old steps : List BoardStep) (s : BoardStep) (due : Option Cause) (d : Shown) → KeptAt image old steps d
+pub kept_step : (image : List ℕ) (old steps : List BoardStep) (s : BoardStep) (due : Option Cause) (d : DeviceView)
+    → KeptAt image old steps d
     → (x : Turned s.after due d s.event s.says) → KeptAt image old (steps ++ s ∷ []) x.device
 kept_step image old steps s due d k x =
     record {
@@ -93,29 +94,30 @@ kept_step image old steps s due d k x =
 
 -- Runs.
 
-history_append : (w mid w' : Shown) (xs ys : List TableRow) → IsHistory w xs mid → IsHistory mid ys w' → IsHistory w (xs ++ ys) w'
-history_append w mid w' [] ys h more = subst (λ (x : Shown). IsHistory x ys w') h more
+history_append : (w mid w' : DeviceView) (xs ys : List TableRow) → IsHistory w xs mid → IsHistory mid ys w' → IsHistory w (xs ++ ys) w'
+history_append w mid w' [] ys h more = subst (λ (x : DeviceView). IsHistory x ys w') h more
 history_append w mid w' (x ∷ xs) ys h more = (h.0, h.1, history_append x.after mid w' xs ys h.2 more)
 
 -- What comes of a run, behind these steps, if this is kept of the steps and the device.
-pub record RanOn (Kept : List BoardStep → Shown → Type 0) (steps rest : List BoardStep) (b' : Board) (due : Option Cause) (d : Shown)
+pub record RanOn (Kept : List BoardStep → DeviceView → Type 0) (steps rest : List BoardStep) (b' : Board) (due : Option Cause)
+    (d : DeviceView)
     : Type 0 where
   pub rows : List TableRow
   pub due' : Option Cause
-  pub device : Shown
+  pub device : DeviceView
   pub history : IsHistory d rows device
   pub tells : TellsAll due rest rows due'
   pub stands : StandsFor b' due' device
   pub kept : Kept (steps ++ rest) device
 
 -- Each step keeps this.
-abbrev pub KeptOn : (List BoardStep → Shown → Type 0) → Type 0
-KeptOn Kept = (steps : List BoardStep) (s : BoardStep) (due : Option Cause) (d : Shown) → Kept steps d
+abbrev pub KeptOn : (List BoardStep → DeviceView → Type 0) → Type 0
+KeptOn Kept = (steps : List BoardStep) (s : BoardStep) (due : Option Cause) (d : DeviceView) → Kept steps d
     → (x : Turned s.after due d s.event s.says) → Kept (steps ++ s ∷ []) x.device
 
-module _ (laws : WriteLaws) (takes : RowTakes) (Kept : List BoardStep → Shown → Type 0) (keeps : KeptOn Kept) where
+module _ (laws : WriteLaws) (takes : RowTakes) (Kept : List BoardStep → DeviceView → Type 0) (keeps : KeptOn Kept) where
   -- A run makes rows of the device that the board stands for, and what each step keeps is kept.
-  pub run_on : (steps rest : List BoardStep) (b b' : Board) (due : Option Cause) (d : Shown) → StandsFor b due d
+  pub run_on : (steps rest : List BoardStep) (b b' : Board) (due : Option Cause) (d : DeviceView) → StandsFor b due d
       → Kept steps d → IsRun b rest b' → RanOn Kept steps rest b' due d
   run_on steps [] b b' due d k kept run = record {
     rows = [];

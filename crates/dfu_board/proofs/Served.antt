@@ -3,11 +3,13 @@ use Rattle.std.specs.Prelude.{◌≡◌, ℕ, Bool, false, List, [], length, tak
 use Rattle.std.proofs.Common.{refl, sym, ap, ◌∙◌}
 use Rattle.dfu_slots.specs.Medium.{Torn}
 use Rattle.dfu_slots.specs.Seen.{SlotsState}
+use Rattle.dfu_device.specs.declared.answer.Answer.{Answer}
 use Rattle.dfu_device.specs.Setting.{Setting}
-use Rattle.dfu_device.specs.Shown.{powered_on}
+use Rattle.dfu_device.specs.DeviceView.{powered_on}
 use Rattle.dfu_device.specs.Rows.{Cause, Passing, Row}
 use Rattle.dfu_slots.specs.declared.unit.Unit.{Unit as WriteUnit}
 use Rattle.dfu_asks.specs.declared.asking.Asking.{Asking}
+use Rattle.dfu_asks.specs.declared.pending_writes.PendingWrites.{PendingWrites}
 use Rattle.dfu_asks.specs.declared.refusal.Refusal.{Refusal}
 use Rattle.dfu_asks.specs.declared.reply.Reply.{Reply}
 use Rattle.dfu_asks.specs.declared.reply.Reply.TheVariants as reply
@@ -17,16 +19,35 @@ use Rattle.dfu_asks.specs.Steps.{Step}
 use Rattle.dfu_asks.specs.Carried.{IsPiece}
 use Rattle.dfu_asks.specs.Asks.{device_in, device_of, IsDevice, steps_in}
 use Rattle.dfu_asks.specs.Calls.{AsksWrites, DeviceCalled, called_ended, called_asks, DeviceTook}
-use Rattle.dfu_asks.specs.Refused.{IsKeptOn, IsServed, IsTaken}
+use Rattle.dfu_asks.specs.Refused.{IsKeptOn, Fits, IsLeft, IsServed, IsTaken}
 use Rattle.dfu_asks.specs.Lent.{lent}
 use Rattle.dfu_board.specs.Board.{Board, lent_on, device_on, Answers}
-use Rattle.dfu_board.specs.Happens.{IsServedBy, IsTold, BoardStarts, IsRefusedOr}
+use Rattle.dfu_board.specs.Happens.{IsServedBy, IsTold, BoardStarts, IsRefusedOr, reply_said}
 use Rattle.dfu_board.specs.Steps.{board, result_said}
 
 -- What follows in one case of a refusal follows in each.
 pub on_err : {T E P Q : Type 0} (r : Result T E) → (P → Q) → OnErr r P → OnErr r Q
 on_err (Ok x) follows p = tt
 on_err (Err e) follows p = follows p
+
+-- What a reply says is not nothing: so much is of a board what is of it where a call is not refused.
+by_reply : (b b' : Board) (out : List ℕ) (P : Type 0) (r : Reply) → P → IsRefusedOr (reply_said r out) b b' P
+by_reply b b' out P reply.Asks is = is
+by_reply b b' out P (reply.Answered x count) is = is
+
+-- A reply to a setup is what a board does that serves it.
+pub served_step : (b b' : Board) (cause : Cause) (out out' : List ℕ) (r : Reply) → b.asking.work ≡ None → Fits b.asking (length b.block)
+    → b'.flash ≡ b.flash
+    → (IsKeptOn b.asking b.block b.held b.flash
+    → DeviceCalled (lent_on b) b.flash out (λ x sent d'. Row (device_on b) cause x sent d') (lent_on b') out' r)
+    → IsRefusedOr (reply_said r out') b b' (IsServedBy b cause (reply_said r out') b')
+served_step b b' cause out out' r idle fits flash outcome = by_reply b b' out' (IsServedBy b cause (reply_said r out') b') r (record {
+  idle = idle;
+  fits = fits;
+  flash = flash;
+  reply = r;
+  outcome = λ kept. (out, out', outcome kept, refl);
+})
 
 -- `handle`.
 pub call_step : (b b' : Board) (cause : Cause) (need room : ℕ) (out out' : List ℕ) (r : Result Reply Refusal) → b'.flash ≡ b.flash
@@ -35,89 +56,77 @@ pub call_step : (b b' : Board) (cause : Cause) (need room : ℕ) (out out' : Lis
     → DeviceCalled (lent_on b) b.flash out (λ x sent d'. Row (device_on b) cause x sent d') (lent_on b') out' y)
     → OnErr r (b' ≡ b)
     → IsRefusedOr (result_said r out') b b' (IsServedBy b cause (result_said r out') b')
-call_step b b' cause need room out out' (Ok reply.Asks) flash served outcome same = record {
-  idle = served.work;
-  fits = served.fits;
-  flash = flash;
-  reply = reply.Asks;
-  outcome = λ kept. (out, out', outcome kept, refl);
-}
-call_step b b' cause need room out out' (Ok (reply.Answered x count)) flash served outcome same = record {
-  idle = served.work;
-  fits = served.fits;
-  flash = flash;
-  reply = reply.Answered x count;
-  outcome = λ kept. (out, out', outcome kept, refl);
-}
+call_step b b' cause need room out out' (Ok r) flash served outcome same =
+    served_step b b' cause out out' r served.work served.fits flash outcome
 call_step b b' cause need room out out' (Err e) flash served outcome same = same
 
--- `elapse`, which gives no bytes.
-pub elapse_step : (b b' : Board) (ms : ℕ) (zeros : List ℕ) (r : Result Reply Refusal) → b'.flash ≡ b.flash
-    → OnOk r (IsServed b.asking b.block b.flash 0 0)
-    → IfOk r (λ y. IsKeptOn b.asking b.block b.held b.flash
-    → (out : List ℕ) × DeviceCalled (lent_on b) b.flash zeros (λ x sent d'. Row (device_on b) (Passing ms) x sent d') (lent_on b') out y)
-    → OnErr r (b' ≡ b)
-    → IsRefusedOr (result_said r []) b b' (IsServedBy b (Passing ms) (result_said r []) b')
-elapse_step b b' ms zeros (Ok reply.Asks) flash served outcome same = record {
-  idle = served.work;
-  fits = served.fits;
-  flash = flash;
-  reply = reply.Asks;
-  outcome = λ kept. let o = outcome kept in (zeros, o.0, o.1, refl);
-}
-elapse_step b b' ms zeros (Ok (reply.Answered x count)) flash served outcome same = record {
-  idle = served.work;
-  fits = served.fits;
-  flash = flash;
-  reply = reply.Answered x count;
-  outcome = λ kept. let o = outcome kept in (zeros, o.0, o.1, no_bytes o.0 o.1);
-}
-  where
-    of_none : (out : List ℕ) (r : Reply) → r ≡ reply.Answered x count
-        → DeviceCalled (lent_on b) b.flash zeros (λ y sent d'. Row (device_on b) (Passing ms) y sent d') (lent_on b') out r → count ≡ 0
-    of_none out _ is (called_ended y n e) =
-        let one : n ≡ count = cc in
-        sym one ∙ e.gave.count_is ∙ ap (λ (l : List ℕ). length l) e.gave.row.1
-    of_none out _ is (called_asks len asks device due out_is) = absurd (cc)
+module _ (b b' : Board) (ms : ℕ) (zeros : List ℕ) where
+  of_none : (out : List ℕ) (x : Answer) (count : ℕ) (r : Reply) → r ≡ reply.Answered x count
+      → DeviceCalled (lent_on b) b.flash zeros (λ y sent d'. Row (device_on b) (Passing ms) y sent d') (lent_on b') out r → count ≡ 0
+  of_none out x count _ is (called_ended y n e) =
+      let one : n ≡ count = cc in
+      sym one ∙ e.gave.count_is ∙ ap (λ (l : List ℕ). length l) e.gave.row.1
+  of_none out x count _ is (called_asks len asks device due out_is) = absurd (cc)
 
-    no_bytes : (out : List ℕ)
-        → DeviceCalled (lent_on b) b.flash zeros (λ y sent d'. Row (device_on b) (Passing ms) y sent d') (lent_on b') out
-        (reply.Answered x count)
-        → Answers x (take count []) ≡ Answers x (take count out)
-    no_bytes out called =
-        let none = of_none out (reply.Answered x count) refl called in
-        ap (λ (n : ℕ). Answers x (take n [])) none ∙ sym (ap (λ (n : ℕ). Answers x (take n out)) none)
-elapse_step b b' ms zeros (Err e) flash served outcome same = same
+  -- A reply to time that passed, of which no bytes are given, is what a board does of which time passes.
+  pub passed_step : (r : Reply) → b.asking.work ≡ None → Fits b.asking (length b.block) → b'.flash ≡ b.flash
+      → (IsKeptOn b.asking b.block b.held b.flash → (out : List ℕ)
+      × DeviceCalled (lent_on b) b.flash zeros (λ x sent d'. Row (device_on b) (Passing ms) x sent d') (lent_on b') out r)
+      → IsRefusedOr (reply_said r []) b b' (IsServedBy b (Passing ms) (reply_said r []) b')
+  passed_step r idle fits flash outcome = by_reply b b' [] (IsServedBy b (Passing ms) (reply_said r []) b') r (record {
+    idle = idle;
+    fits = fits;
+    flash = flash;
+    reply = r;
+    outcome = λ kept. let o = outcome kept in (zeros, o.0, o.1, no_bytes r o.0 o.1);
+  })
+    where
+      no_bytes : (r : Reply) (out : List ℕ)
+          → DeviceCalled (lent_on b) b.flash zeros (λ y sent d'. Row (device_on b) (Passing ms) y sent d') (lent_on b') out r
+          → reply_said r [] ≡ reply_said r out
+      no_bytes reply.Asks out called = refl
+      no_bytes (reply.Answered x count) out called =
+          let none : count ≡ 0 = of_none out x count (reply.Answered x count) refl called in
+          ap (λ (n : ℕ). Answers x (take n [])) none ∙ sym (ap (λ (n : ℕ). Answers x (take n out)) none)
+
+  -- `elapse`.
+  pub elapse_step : (r : Result Reply Refusal) → b'.flash ≡ b.flash → OnOk r (IsServed b.asking b.block b.flash 0 0)
+      → IfOk r (λ y. IsKeptOn b.asking b.block b.held b.flash
+      → (out : List ℕ) × DeviceCalled (lent_on b) b.flash zeros (λ x sent d'. Row (device_on b) (Passing ms) x sent d') (lent_on b') out y)
+      → OnErr r (b' ≡ b)
+      → IsRefusedOr (result_said r []) b b' (IsServedBy b (Passing ms) (result_said r []) b')
+  elapse_step (Ok r) flash served outcome same = passed_step r served.work served.fits flash outcome
+  elapse_step (Err e) flash served outcome same = same
+
+-- A reply to how a piece went is what a board does that is told so.
+pub told_step : (b b' : Board) (failed : Bool) (out out' : List ℕ) (r : Reply) (w : PendingWrites) → IsLeft (lent_on b) w
+    → b'.flash ≡ b.flash
+    → ((len : ℕ) (s : SlotsState) (was before : List ℕ) (asks : AsksWrites (lent_on b) len s was before) (p : Step)
+    → IsPiece (steps_in (lent_on b) asks.work) asks.work.done p → Torn before p.write.at p.write.bytes b.flash
+    → DeviceTook (device_of (lent_on b) s) len s was p.write failed b.flash out (lent_on b') out' r)
+    → IsRefusedOr (reply_said r out') b b' (IsTold b failed (reply_said r out') b')
+told_step b b' failed out out' r w left flash outcome = by_reply b b' out' (IsTold b failed (reply_said r out') b') r (record {
+  work = w;
+  left = left;
+  flash = flash;
+  reply = r;
+  out = out;
+  out' = out';
+  outcome = outcome;
+  says_is = refl;
+})
 
 -- `took`.
-pub told_step : (b b' : Board) (failed : Bool) (room : ℕ) (out out' : List ℕ) (r : Result Reply Refusal) → b'.flash ≡ b.flash
+pub took_step : (b b' : Board) (failed : Bool) (room : ℕ) (out out' : List ℕ) (r : Result Reply Refusal) → b'.flash ≡ b.flash
     → OnOk r (IsTaken (lent_on b) room)
     → IfOk r (λ y. (len : ℕ) (s : SlotsState) (was before : List ℕ) (asks : AsksWrites (lent_on b) len s was before) (p : Step)
     → IsPiece (steps_in (lent_on b) asks.work) asks.work.done p → Torn before p.write.at p.write.bytes b.flash
     → DeviceTook (device_of (lent_on b) s) len s was p.write failed b.flash out (lent_on b') out' y)
     → OnErr r (b' ≡ b)
     → IsRefusedOr (result_said r out') b b' (IsTold b failed (result_said r out') b')
-told_step b b' failed room out out' (Ok reply.Asks) flash taken outcome same = record {
-  work = taken.work;
-  left = taken.is_left;
-  flash = flash;
-  reply = reply.Asks;
-  out = out;
-  out' = out';
-  outcome = outcome;
-  says_is = refl;
-}
-told_step b b' failed room out out' (Ok (reply.Answered x count)) flash taken outcome same = record {
-  work = taken.work;
-  left = taken.is_left;
-  flash = flash;
-  reply = reply.Answered x count;
-  out = out;
-  out' = out';
-  outcome = outcome;
-  says_is = refl;
-}
-told_step b b' failed room out out' (Err e) flash taken outcome same = same
+took_step b b' failed room out out' (Ok r) flash taken outcome same =
+    told_step b b' failed out out' r taken.work taken.is_left flash outcome
+took_step b b' failed room out out' (Err e) flash taken outcome same = same
 
 -- What is None only against a fact is Some by it.
 pub some_of : {A P : Type 0} (r : Option A) → IfNone r (¬ P) → P → IsSome r

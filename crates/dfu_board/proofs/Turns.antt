@@ -6,12 +6,12 @@ use Rattle.dfu_slots.specs.Seen.{image_of}
 use Rattle.dfu_device.specs.declared.answer.Answer.{Answer}
 use Rattle.dfu_device.specs.declared.answer.Answer.TheVariants as answer
 use Rattle.dfu_device.specs.Stage.{Stage, InDownloadSync, InDownloadSyncWritten, InDownloadBusy, InDownloadIdle, InManifestSync, InManifestSyncComplete, InManifest, state_of}
-use Rattle.dfu_device.specs.Shown.{Shown, situation}
+use Rattle.dfu_device.specs.DeviceView.{DeviceView, situation}
 use Rattle.dfu_device.specs.Rows.{Cause}
 use Rattle.dfu_device.specs.History.{IsHistory}
 use Rattle.dfu_device.specs.History.{HistoryStep as TableRow}
 use Rattle.dfu_device.specs.Taken.{taken_in, taken_of, held_in, is_dnload}
-use Rattle.dfu_asks.specs.declared.work.Work.{Work}
+use Rattle.dfu_asks.specs.declared.pending_writes.PendingWrites.{PendingWrites}
 use Rattle.dfu_asks.specs.Lent.{LentAsking}
 use Rattle.dfu_asks.specs.Asks.{device_in, IsDevice}
 use Rattle.dfu_asks.specs.Calls.{HasEnded}
@@ -27,11 +27,11 @@ front_is sent out out' count count_is out_is =
     ap (λ (l : List ℕ). take count l) out_is ∙ take_at sent (drop count out) count (sym count_is)
 
 -- No work is kept, or some is.
-pub none_or_some : (w : Work) (x : Option Work) → x ≡ None → x ≡ Some w → ⊥
+pub none_or_some : (w : PendingWrites) (x : Option PendingWrites) → x ≡ None → x ≡ Some w → ⊥
 none_or_some w x none some = absurd (cc)
 
 -- The work that is kept is one.
-pub one_work : (x y : Work) (z : Option Work) → z ≡ Some x → z ≡ Some y → x ≡ y
+pub one_work : (x y : PendingWrites) (z : Option PendingWrites) → z ≡ Some x → z ≡ Some y → x ≡ y
 one_work x y z a b = cc
 
 -- What is taken stays in a stage where a download is under way, and in the others nothing is taken.
@@ -51,10 +51,10 @@ IsClosingCall e says =
     (setup : List ℕ) × (e ≡ Handle setup []) × (is_dnload setup ≡ true) × (says ≡ Answers answer.Ack [])
 
 -- A step of a board as rows of the device that it stood for, and what they do to the bytes taken and to the image.
-pub record Turned (b' : Board) (due : Option Cause) (d : Shown) (e : Event) (says : Says) : Type 0 where
+pub record Turned (b' : Board) (due : Option Cause) (d : DeviceView) (e : Event) (says : Says) : Type 0 where
   pub rows : List TableRow
   pub due' : Option Cause
-  pub device : Shown
+  pub device : DeviceView
   pub history : IsHistory d rows device
   pub tells : TellsRows due e says rows due'
   pub stands : StandsFor b' due' device
@@ -64,7 +64,7 @@ pub record Turned (b' : Board) (due : Option Cause) (d : Shown) (e : Event) (say
   pub puts : e ≢ Restart true → Manifests d.stage → IsOver device.stage → image_of device.slots ≡ taken_of (situation d)
 
 -- A step with no row.
-pub stays : (b' : Board) (due due' : Option Cause) (d : Shown) (e : Event) (says : Says) → TellsRows due e says [] due' →
+pub stays : (b' : Board) (due due' : Option Cause) (d : DeviceView) (e : Event) (says : Says) → TellsRows due e says [] due' →
     StandsFor b' due' d
     → acknowledged_body e says ≡ [] → Turned b' due d e says
 stays b' due due' d e says tells stands none = record {
@@ -85,7 +85,7 @@ stays b' due due' d e says tells stands none = record {
 -- A row that came to its end, after which a board is idle.
 
 -- What is kept is a device then, on the flash of the board.
-pub idle_there : (b' : Board) (flash : List ℕ) (x : Answer) (count : ℕ) (out out' : List ℕ) (R : Answer → List ℕ → Shown → Type 0)
+pub idle_there : (b' : Board) (flash : List ℕ) (x : Answer) (count : ℕ) (out out' : List ℕ) (R : Answer → List ℕ → DeviceView → Type 0)
     → b'.flash ≡ flash → HasEnded flash x count out out' (lent_on b') R → IsIdle b' (device_on b')
 idle_there b' flash x count out out' R same e = record {
   work = e.work;
@@ -94,23 +94,23 @@ idle_there b' flash x count out out' R same e = record {
 }
 
 -- The row leads to the device that the board is then.
-pub row_there : (b' : Board) (flash : List ℕ) (x : Answer) (count : ℕ) (out out' : List ℕ) (R : Answer → List ℕ → Shown → Type 0)
+pub row_there : (b' : Board) (flash : List ℕ) (x : Answer) (count : ℕ) (out out' : List ℕ) (R : Answer → List ℕ → DeviceView → Type 0)
     → b'.flash ≡ flash → (e : HasEnded flash x count out out' (lent_on b') R) → R x e.gave.sent (device_on b')
 row_there b' flash x count out out' R same e = subst (λ (f : List ℕ). R x e.gave.sent (device_in (lent_on b') f)) (sym same) e.gave.row
 
 -- What is said are the bytes of the row.
 pub said_there : (says : Says) (flash : List ℕ) (x : Answer) (count : ℕ) (out out' : List ℕ) (now : LentAsking)
-    (R : Answer → List ℕ → Shown → Type 0) (e : HasEnded flash x count out out' now R) → says ≡ Answers x (take count out')
+    (R : Answer → List ℕ → DeviceView → Type 0) (e : HasEnded flash x count out out' now R) → says ≡ Answers x (take count out')
     → says ≡ Answers x e.gave.sent
 said_there says flash x count out out' now R e is =
     is ∙ ap (λ (l : List ℕ). Answers x l) (front_is e.gave.sent out out' count e.gave.count_is e.gave.out_is)
 
 -- The one row of an answer.
-abbrev pub one_row : Shown → Cause → Answer → List ℕ → Shown → List TableRow
+abbrev pub one_row : DeviceView → Cause → Answer → List ℕ → DeviceView → List TableRow
 one_row d cause x sent d' = record { before = d; cause = cause; answer = x; out = sent; after = d' } ∷ []
 
 -- An answer tells that row.
-pub tells_answer : (due : Option Cause) (d : Shown) (cause : Cause) (x : Answer) (sent : List ℕ) (d' : Shown) (says : Says)
+pub tells_answer : (due : Option Cause) (d : DeviceView) (cause : Cause) (x : Answer) (sent : List ℕ) (d' : DeviceView) (says : Says)
     → says ≡ Answers x sent → TellsCall cause due says (one_row d cause x sent d') None
 tells_answer due d cause x sent d' says is = subst (λ (y : Says). TellsCall cause due y (one_row d cause x sent d') None) (sym is) (
   record {

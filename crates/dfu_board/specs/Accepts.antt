@@ -3,7 +3,7 @@ use Rattle.std.specs.Prelude.{◌≡◌, ◌⊎◌, ℕ, Bool, true, List, [], �
 use Rattle.dfu_wire.specs.declared.codes.Code.TheVariants.{Target as ErrTarget, File as ErrFile, StalledPkt as ErrStalledPkt}
 use Rattle.dfu_slots.specs.Seen.{image_of}
 use Rattle.dfu_device.specs.Stage.{Stage, InAppIdle, InManifestSync, InManifest, InError}
-use Rattle.dfu_device.specs.Shown.{Shown}
+use Rattle.dfu_device.specs.DeviceView.{DeviceView}
 use Rattle.dfu_device.specs.History.{IsHistory}
 use Rattle.dfu_device.specs.History.{HistoryStep as TableRow}
 use Rattle.dfu_slots.specs.Image.{Active}
@@ -57,5 +57,5 @@ HeedsRows check (s ∷ rest) = HeedsRow check s × HeedsRows check rest
 
 -- Whatever history a device has in which its program heeds a check: the image is the one that it was, or one that the check accepts.
 abbrev pub HistoryAccepts : Type 0
-HistoryAccepts = (check : List ℕ → Bool) (h : List TableRow) (w w' : Shown) → IsHistory w h w' → HeedsRows check h
+HistoryAccepts = (check : List ℕ → Bool) (h : List TableRow) (w w' : DeviceView) → IsHistory w h w' → HeedsRows check h
     → (image_of w'.slots ≡ image_of w.slots) ⊎ (check (image_of w'.slots) ≡ true)

@@ -4,7 +4,7 @@ use Rattle.dfu_wire.specs.declared.states.State.{State}
 use Rattle.dfu_slots.specs.Medium.{MediumState}
 use Rattle.dfu_device.specs.declared.answer.Answer.{Answer}
 use Rattle.dfu_device.specs.declared.objection.Objection.{Objection}
-use Rattle.dfu_device.specs.Shown.{Shown}
+use Rattle.dfu_device.specs.DeviceView.{DeviceView}
 use Rattle.dfu_device.specs.Stage.{state_of}
 use Rattle.dfu_device.specs.Parts.{stage_of}
 use Rattle.dfu_asks.specs.declared.asking.Asking.{Asking}
@@ -28,7 +28,7 @@ abbrev pub medium_on : Board → MediumState
 medium_on b = mapped (grain_in (lent_on b)) b.flash
 
 -- The device of the device table that it is, if no writes are due.
-abbrev pub device_on : Board → Shown
+abbrev pub device_on : Board → DeviceView
 device_on b = device_in (lent_on b) b.flash
 
 -- Its state of the standard, as `Asking::state` tells it.
@@ -47,7 +47,7 @@ pub data Event : Type 0 where
   -- The flash changes in the range of the piece that `next` hands out.
   Write : Event
   -- The call `took`.
-  Report : (failed : Bool) → Event
+  Took : (failed : Bool) → Event
   -- The power goes, and comes back: `power_on`. If the device begins for a host, it is put into dfuIDLE then.
   Restart : (begins : Bool) → Event
 

@@ -6,18 +6,18 @@ use Rattle.dfu_device.specs.declared.answer.Answer.{Answer}
 use Rattle.dfu_device.specs.declared.answer.Answer.TheVariants as answer
 use Rattle.dfu_device.specs.Stage.{Stage, InAppIdle, InDfuIdle}
 use Rattle.dfu_device.specs.Table.{reset_stage}
-use Rattle.dfu_device.specs.Shown.{powered_on}
+use Rattle.dfu_device.specs.DeviceView.{powered_on}
 use Rattle.dfu_device.specs.Rows.{Cause, Transfer, Passing, RefusingClose, Refusing, Row}
 use Rattle.dfu_asks.specs.declared.reply.Reply.{Reply}
 use Rattle.dfu_asks.specs.declared.reply.Reply.TheVariants as reply
-use Rattle.dfu_asks.specs.declared.work.Work.{Work}
+use Rattle.dfu_asks.specs.declared.pending_writes.PendingWrites.{PendingWrites}
 use Rattle.dfu_asks.specs.Lent.{IsSetUpAs}
 use Rattle.dfu_asks.specs.Steps.{Step}
 use Rattle.dfu_asks.specs.Carried.{IsPiece}
 use Rattle.dfu_asks.specs.Asks.{device_of, IsDevice, steps_in}
 use Rattle.dfu_asks.specs.Calls.{AsksWrites, DeviceCalled, DeviceTook}
 use Rattle.dfu_asks.specs.Refused.{Fits, IsKeptOn, IsLeft}
-use Rattle.dfu_board.specs.Board.{Board, lent_on, medium_on, device_on, Event, Handle, Elapse, UsbReset, RefuseClose, Refuse, Write, Report, Restart, Says, Nothing, WritesDue, Answers, BoardStep}
+use Rattle.dfu_board.specs.Board.{Board, lent_on, medium_on, device_on, Event, Handle, Elapse, UsbReset, RefuseClose, Refuse, Write, Took, Restart, Says, Nothing, WritesDue, Answers, BoardStep}
 
 -- What a reply says, with these bytes in the buffer of the call.
 abbrev pub reply_said : Reply → List ℕ → Says
@@ -55,7 +55,7 @@ pub record IsObjected (b : Board) (cause : Cause) (a : Answer) (says : Says) (b'
 
 -- `next` hands out this piece, by its clauses `due` and `piece`.
 abbrev pub IsHanded : Board → Step → Type 0
-IsHanded b p = (w : Work) × (b.asking.work ≡ Some w) × IsPiece (steps_in (lent_on b) w) w.done p
+IsHanded b p = (w : PendingWrites) × (b.asking.work ≡ Some w) × IsPiece (steps_in (lent_on b) w) w.done p
 
 -- The flash changes in the range of that piece, and nowhere else. Any bytes may stand there then: the piece may be carried out, whole
 -- or in part, or fail, or lie.
@@ -69,7 +69,7 @@ pub record FlashIsWritten (b : Board) (b' : Board) : Type 0 where
 
 -- A call of `took` that is not refused, by its clauses `taken` and `outcome`.
 pub record IsTold (b : Board) (failed : Bool) (says : Says) (b' : Board) : Type 0 where
-  pub work : Work
+  pub work : PendingWrites
   pub left : IsLeft (lent_on b) work
   pub flash : b'.flash ≡ b.flash
   pub reply : Reply
@@ -109,7 +109,7 @@ Happens b UsbReset says b' = IsRefusedOr says b b' (IsReset b says b')
 Happens b (RefuseClose setup why) says b' = IsRefusedOr says b b' (IsObjected b (RefusingClose setup why) answer.Stall says b')
 Happens b (Refuse why) says b' = IsRefusedOr says b b' (IsObjected b (Refusing why) answer.Ack says b')
 Happens b Write says b' = (says ≡ Nothing) × FlashIsWritten b b'
-Happens b (Report failed) says b' = IsRefusedOr says b b' (IsTold b failed says b')
+Happens b (Took failed) says b' = IsRefusedOr says b b' (IsTold b failed says b')
 Happens b (Restart begins) says b' = (says ≡ Nothing) × (b'.flash ≡ b.flash) × BoardStarts begins b'
 
 -- These steps come to a board, each beginning where the one before ended, and each leaves it set up as it was.

@@ -10,7 +10,7 @@ use Rattle.dfu_slots.specs.Seen.{SlotsState, image_of}
 use Rattle.dfu_device.specs.declared.answer.Answer.{Answer}
 use Rattle.dfu_device.specs.declared.answer.Answer.TheVariants as answer
 use Rattle.dfu_device.specs.Stage.{state_of}
-use Rattle.dfu_device.specs.Shown.{Shown, situation}
+use Rattle.dfu_device.specs.DeviceView.{DeviceView, situation}
 use Rattle.dfu_device.specs.Rows.{Cause, Transfer, Passing, BusReset, RefusingClose, Refusing, PowerOn, Row}
 use Rattle.dfu_device.specs.History.{IsHistory}
 use Rattle.dfu_device.specs.History.{HistoryStep as TableRow}
@@ -20,7 +20,7 @@ use Rattle.dfu_asks.specs.Carried.{IsPiece}
 use Rattle.dfu_asks.specs.Due.{IsDueRow}
 use Rattle.dfu_asks.specs.Asks.{device_of, IsDevice, steps_in}
 use Rattle.dfu_asks.specs.Calls.{AsksWrites}
-use Rattle.dfu_board.specs.Board.{Board, lent_on, medium_on, device_on, state_on, Event, Handle, Elapse, UsbReset, RefuseClose, Refuse, Write, Report, Restart, Says, Nothing, WritesDue, Answers, BoardStep}
+use Rattle.dfu_board.specs.Board.{Board, lent_on, medium_on, device_on, state_on, Event, Handle, Elapse, UsbReset, RefuseClose, Refuse, Write, Took, Restart, Says, Nothing, WritesDue, Answers, BoardStep}
 use Rattle.dfu_board.specs.Happens.{IsPoweredOn, IsRun}
 use Rattle.dfu_board.specs.Keeps.{is_manifesting}
 
@@ -79,8 +79,8 @@ TellsRows due UsbReset says rows due' = TellsCall BusReset due says rows due'
 TellsRows due (RefuseClose setup why) says rows due' = TellsCall (RefusingClose setup why) due says rows due'
 TellsRows due (Refuse why) says rows due' = TellsCall (Refusing why) due says rows due'
 TellsRows due Write says rows due' = (rows ≡ []) × (due' ≡ due)
-TellsRows (Some cause) (Report failed) says rows due' = TellsCall cause (Some cause) says rows due'
-TellsRows None (Report failed) says rows due' = (rows ≡ []) × (due' ≡ None)
+TellsRows (Some cause) (Took failed) says rows due' = TellsCall cause (Some cause) says rows due'
+TellsRows None (Took failed) says rows due' = (rows ≡ []) × (due' ≡ None)
 TellsRows (Some cause) (Restart begins) says rows due' = AreCutRows cause begins rows × (due' ≡ None)
 TellsRows None (Restart begins) says rows due' = IsStart begins rows × (due' ≡ None)
 
@@ -92,7 +92,7 @@ TellsAll due (s ∷ rest) rows due' = (first later : List TableRow) × (mid : Op
 
 -- A board carries out the writes of this device's row for this cause: some pieces stand on its flash, and in the range of the next one
 -- anything may stand.
-pub record IsAtWork (b : Board) (cause : Cause) (d : Shown) : Type 0 where
+pub record IsAtWork (b : Board) (cause : Cause) (d : DeviceView) : Type 0 where
   pub len : ℕ
   pub s : SlotsState
   pub was : List ℕ
@@ -103,22 +103,22 @@ pub record IsAtWork (b : Board) (cause : Cause) (d : Shown) : Type 0 where
   pub torn : (p : Step) → IsPiece (steps_in (lent_on b) asks.work) asks.work.done p → Torn stood p.write.at p.write.bytes b.flash
 
 -- No writes are due on a board, and it is this device.
-pub record IsIdle (b : Board) (d : Shown) : Type 0 where
+pub record IsIdle (b : Board) (d : DeviceView) : Type 0 where
   pub work : b.asking.work ≡ None
   pub is : IsDevice (lent_on b) b.flash
   pub device : device_on b ≡ d
 
 -- A board stands for a device: it is the device, or carries out its row that is due.
-abbrev pub StandsFor : Board → Option Cause → Shown → Type 0
+abbrev pub StandsFor : Board → Option Cause → DeviceView → Type 0
 StandsFor b None d = IsIdle b d
 StandsFor b (Some cause) d = IsAtWork b cause d
 
 -- The steps of a board are rows from this device to another, which it stands for now and whose state it is in. Its flash has an active
 -- image, which is that device's, or if writes are due in dfuMANIFEST-SYNC or dfuMANIFEST it may be the bytes that the device has taken.
-pub record HasRefined (w : Shown) (steps : List BoardStep) (b : Board) : Type 0 where
+pub record HasRefined (w : DeviceView) (steps : List BoardStep) (b : Board) : Type 0 where
   pub rows : List TableRow
   pub due : Option Cause
-  pub device : Shown
+  pub device : DeviceView
   pub history : IsHistory w rows device
   pub tells : TellsAll None steps rows due
   pub stands : StandsFor b due device
@@ -130,7 +130,7 @@ pub record HasRefined (w : Shown) (steps : List BoardStep) (b : Board) : Type 0 
 
 -- Whatever steps come to a board on which no writes are due, they are rows of the device that it is.
 abbrev pub IdleRefines : Type 0
-IdleRefines = (b b' : Board) (d : Shown) (steps : List BoardStep) → IsIdle b d → IsRun b steps b' → HasRefined d steps b'
+IdleRefines = (b b' : Board) (d : DeviceView) (steps : List BoardStep) → IsIdle b d → IsRun b steps b' → HasRefined d steps b'
 
 -- Whatever steps come to a board that just got power, they are rows of the device table.
 abbrev pub RunRefines : Type 0

@@ -4,18 +4,18 @@ ghost use Rattle.std.specs.Prelude.{◌≡◌, ℕ, false, List, [], length, IfE
 ghost use Rattle.dfu_slots.specs.Medium.{Torn};
 ghost use Rattle.dfu_slots.specs.Image.{HasImage};
 ghost use Rattle.dfu_slots.specs.Seen.{SlotsState};
-ghost use Rattle.dfu_device.specs.Lent.{answer_room};
+ghost use Rattle.dfu_device.specs.Borrowed.{answer_room};
 ghost use Rattle.dfu_asks.specs.Lent.{lent, IsSetUpAs};
 ghost use Rattle.dfu_asks.specs.Calls.{AsksWrites};
 ghost use Rattle.dfu_asks.specs.Refused.{IsRefusedCall, IsNotTaken};
 ghost use Rattle.dfu_asks.specs.Mapped.{grain_of, mapped};
 ghost use Rattle.dfu_asks.specs.Jobs.{asked};
-ghost use Rattle.dfu_board.specs.Board.{Board, BoardStep, Handle, Elapse, UsbReset, RefuseClose, Refuse, Write, Report, Restart, Nothing, medium_on};
+ghost use Rattle.dfu_board.specs.Board.{Board, BoardStep, Handle, Elapse, UsbReset, RefuseClose, Refuse, Write, Took, Restart, Nothing, medium_on};
 ghost use Rattle.dfu_board.specs.Happens.{IsHanded, IsPoweredOn, BoardStarts, Happens, IsRun};
 ghost use Rattle.dfu_board.specs.Steps.{board, result_said, said_of_reset, said_of_close};
 
 use crate::laws::boards_keep_an_image;
-use dfu_asks::{Asking, Piece, Refusal, Reply, Sector};
+use dfu_asks::{Asking, FlashOp, Refusal, Reply, Sector};
 use dfu_device::{Config, Objection};
 use dfu_slots::Unit;
 
@@ -100,7 +100,7 @@ pub fn next(
     held: &[u8; 256],
     flash: &[u8],
     out: &mut [u8; 256],
-) -> Option<Piece>
+) -> Option<FlashOp>
     ensures piece { IfSome result (λ p. IsHanded (board asking.now block.now held.now flash.now) (asked p out.new)) }
     ensures written { IfSome result (λ p. (now : List ℕ) → Torn flash.now (asked p out.new).write.at (asked p out.new).write.bytes now →
         Happens (board asking.now block.now held.now flash.now) Write Nothing (board asking.now block.now held.now now)) }
@@ -119,7 +119,7 @@ pub fn took(
     failed: bool,
     out: &mut [u8],
 ) -> Result<Reply, Refusal>
-    ensures step { Happens (board asking.old block.now held.old flash.now) (Report failed) (result_said result out.new)
+    ensures step { Happens (board asking.old block.now held.old flash.now) (Took failed) (result_said result out.new)
         (board asking.new block.now held.new flash.now) }
     ensures refused { IfErr result (λ e. IsNotTaken e (lent asking.old block.now held.old) (length out.old)) }
     ensures same { IsSetUpAs asking.old asking.new }

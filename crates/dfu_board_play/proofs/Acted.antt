@@ -1,22 +1,22 @@
 -- What a host's action, or a restart that it hears of, leaves of what holds of its session.
-use Rattle.std.specs.Prelude.{◌≡◌, ◌⊎◌, ℕ, ◌<◌, Bool, true, false, IsTrue, List, [], ◌∷◌, ◌++◌, Option, Some}
+use Rattle.std.specs.Prelude.{◌≡◌, ◌⊎◌, ℕ, ◌<◌, Bool, IsTrue, List, [], ◌∷◌, ◌++◌, Option, Some}
 use Rattle.std.proofs.Common.{inl, inr, refl, sym, ap, ◌∙◌, subst}
 use Rattle.dfu_device.specs.declared.answer.Answer.TheVariants as answer
 use Rattle.dfu_device.specs.Stage.{Profile, Stage, InAppIdle, InAppDetach, InDownloadBusy, InManifest}
 use Rattle.dfu_device.specs.Table.{time_plan}
 use Rattle.dfu_device.specs.Outcome.{Situation}
-use Rattle.dfu_device.specs.Shown.{Shown, profile, situation}
+use Rattle.dfu_device.specs.DeviceView.{DeviceView, profile, situation}
 use Rattle.dfu_device.specs.Rows.{Done, Elapses}
 use Rattle.dfu_host.specs.declared.report.Report.{Report}
 use Rattle.dfu_host.specs.declared.report.Report.TheVariants.{Uploaded}
-use Rattle.dfu_host.specs.Phases.{Phase, Fetch, Over, OverUploaded, Heard, Part, NoRoom, Restarted}
+use Rattle.dfu_host.specs.Phases.{Phase, Over, OverUploaded, Heard, NoRoom, Restarted}
 use Rattle.dfu_host.specs.Table.{deed}
 use Rattle.dfu_host.specs.Host.{HostState, after, wants_memory}
 use Rattle.dfu_sim.specs.Session.{Machine, NoOne, Loading, IsOneOf, SaysInPlace, SaysNoPromise, SaysReport, says_not, said, AGo, MachineStep, goes, stops, and_then}
 use Rattle.dfu_sim.specs.Happening.{Fate, Pass, Goes, unharmed}
-use Rattle.dfu_sim.specs.Course.{course_of}
-use Rattle.dfu_sim.specs.Play.{given, Took, settled, took, told, remembered, has_room, over, acted, Play}
-use Rattle.dfu_sim.specs.Bench.{Session, Nobody, Hosted}
+use Rattle.dfu_sim.specs.Delivery.{delivery_of}
+use Rattle.dfu_sim.specs.Play.{given, Took, settled, took, notify_restart, over, acted, Play}
+use Rattle.dfu_sim.specs.LinkView.{Session, Nobody, Hosted}
 use Rattle.dfu_sim.specs.Bytes.{Acts}
 use Rattle.dfu_sim.specs.Agreement.{live_of, IsLiveOffer}
 use Rattle.dfu_sim.specs.LinkAgreement.{pending_of, IsSound, Agrees}
@@ -26,6 +26,7 @@ use Rattle.dfu_sim.proofs.Replies.{hosts_deed}
 use Rattle.dfu_sim.proofs.Actions.{Went, acts_go}
 use Rattle.dfu_sim.proofs.Saying.{begins_live, ends_live, not_in_place, step_up}
 use Rattle.dfu_sim.proofs.Taking.{restart_taken, restart_plain}
+use Rattle.dfu_sim.proofs.Projected.{heard_in}
 use Rattle.dfu_board_play.proofs.Timed.{DeviceWell}
 
 -- What is live after an action.
@@ -72,14 +73,6 @@ GivesUploaded t = (bytes : List ℕ) → t.answer.gave ≡ Some bytes → t.answ
 took_gives : (h : HostState) (heard : Heard) → GivesUploaded (took h heard)
 took_gives h heard bytes e = settled_gives (after h heard) (after h heard).phase bytes e
 
--- A host whose phase wants no memory hears what it would hear with memory.
-heard_in : (phase : Phase) (heard x : Heard) (room : Bool) → heard ≡ remembered x room → (heard ≡ NoRoom → IsTrue (wants_memory phase))
-    → heard ≡ remembered x (has_room phase room)
-heard_in (Fetch k kept) heard x room e h = e
-heard_in phase heard x true e h = e
-heard_in phase heard (Part bytes) false e h = let none : false ≡ true = h e in absurd cc
-heard_in phase heard x false e h = e
-
 module _ (simulation : Simulation) (only : OnlyOffered) (c : Profile) (sized : 0 < c.transfer) (past : List (List ℕ)) where
   -- The session machine of a link to which these were offered.
   abbrev pub machine : Situation → Session → Machine
@@ -119,16 +112,16 @@ module _ (simulation : Simulation) (only : OnlyOffered) (c : Profile) (sized : 0
       }
 
   -- An action in which no write is harmed on purpose, whatever the medium does.
-  pub acted_well : (w w' : Shown) (h : HostState) (heard : Heard) (fate : Fate) → profile w ≡ c → IsSound past w.stage
+  pub acted_well : (w w' : DeviceView) (h : HostState) (heard : Heard) (fate : Fate) → profile w ≡ c → IsSound past w.stage
       → IsLiveOffer past (live_of (Hosted h)) → SessionFact c (situation w) (Hosted h)
-      → (course_of fate).harming ≡ (course_of Pass).harming → Acts (deed h.task h.phase) (course_of fate) w w' heard
+      → (delivery_of fate).harming ≡ (delivery_of Pass).harming → Acts (deed h.task h.phase) (delivery_of fate) w w' heard
       → (heard ≡ NoRoom → IsTrue (wants_memory h.phase)) → ActedWell c past (Hosted h) (situation w) (situation w') (took h heard)
   acted_well w w' h heard fate e sound offered f whole acts room =
       let d = deed h.task h.phase in
-      let x = subst (λ (p : Profile). Went w.slots.medium.fuse p (situation w) d (course_of fate) w' heard) e
-      (acts_go d (course_of fate) w w' heard (hosts_deed h.task h.phase) acts) in
+      let x = subst (λ (p : Profile). Went w.slots.medium.fuse p (situation w) d (delivery_of fate) w' heard) e
+      (acts_go d (delivery_of fate) w w' heard (hosts_deed h.task h.phase) acts) in
       let hears = heard_in h.phase heard _ x.room x.hears room in
-      let there : (acted c (situation w) d (course_of fate) x.first x.second).device ≡ situation w' =
+      let there : (acted c (situation w) d (delivery_of fate) x.first x.second).device ≡ situation w' =
       x.device ∙ ap (λ harming. over harming (situation w')) whole in
       gone_well (situation w) (situation w') h (took h heard) fate (took_gives h heard) sound offered f (record {
         allowed = tt;
@@ -156,19 +149,19 @@ module _ (simulation : Simulation) (only : OnlyOffered) (c : Profile) (sized : 0
 
   -- A restart of which a live host hears, whatever the device is then.
   pub told_well : (s s' : Situation) (session : Session) → IsLiveOffer past (live_of session) → SessionFact c s session
-      → DeviceWell past s s' → ActedWell c past session s s' (told session)
+      → DeviceWell past s s' → ActedWell c past session s s' (notify_restart session)
   told_well s s' Nobody offered f device =
       record { device = device; fact = tt; live = inl refl; offered = tt; done = λ e. elim e [ ]; gives = λ bytes e. absurd (cc) }
   told_well s s' (Hosted h) offered f device = restart_well s s' h offered f device
 
 -- No time passes.
 
-no_time_at : (c : Profile) (w : Shown) (stage : Stage) → w.stage ≡ stage → Done (time_plan c stage 0) 0 w answer.Ack [] w
+no_time_at : (c : Profile) (w : DeviceView) (stage : Stage) → w.stage ≡ stage → Done (time_plan c stage 0) 0 w answer.Ack [] w
 no_time_at c w (InAppDetach timer passed) e = ((refl, refl), λ i. record w { stage = e i })
 no_time_at c w (InDownloadBusy before block number passed) e = ((refl, refl), λ i. record w { stage = e i })
 no_time_at c w (InManifest taken passed) e = ((refl, refl), λ i. record w { stage = e i })
 no_time_at c w stage e = ((refl, refl), λ i. record w { stage = e i })
 
 -- Of no milliseconds nothing comes.
-pub no_time : (w : Shown) → Elapses 0 w w
+pub no_time : (w : DeviceView) → Elapses 0 w w
 no_time w = no_time_at (profile w) w w.stage refl

@@ -6,7 +6,7 @@ use Rattle.dfu_device.specs.declared.answer.Answer.{Answer}
 use Rattle.dfu_device.specs.Stage.{Profile, Stage, InAppDetach}
 use Rattle.dfu_device.specs.Table.{reset_stage}
 use Rattle.dfu_device.specs.Outcome.{Situation, Outcome, elapsed}
-use Rattle.dfu_device.specs.Shown.{Shown, profile, situation}
+use Rattle.dfu_device.specs.DeviceView.{DeviceView, profile, situation}
 use Rattle.dfu_device.specs.Rows.{Passing, BusReset, Elapses}
 use Rattle.dfu_device.specs.Came.{time_came}
 use Rattle.dfu_sim.specs.LinkAgreement.{IsSound}
@@ -19,7 +19,7 @@ use Rattle.dfu_board_play.proofs.Timed.{DeviceWell, well_on, time_device}
 
 -- A board that became this device, whose image and closed bytes are well.
 pub record Became (c : Profile) (past : List (List ℕ)) (s : Situation) (b' : Board) : Type 0 where
-  pub device : Shown
+  pub device : DeviceView
   pub idle : IsIdle b' device
   pub profile_is : profile device ≡ c
   pub well : DeviceWell past s (situation device)
@@ -30,11 +30,11 @@ reset_sound past (InAppDetach timer passed) = tt
 reset_sound past stage = tt
 
 -- It leaves the image.
-pub reset_well : (past : List (List ℕ)) (d d' : Shown) → d' ≡ record d { stage = reset_stage d.stage }
+pub reset_well : (past : List (List ℕ)) (d d' : DeviceView) → d' ≡ record d { stage = reset_stage d.stage }
     → DeviceWell past (situation d) (situation d')
 reset_well past d d' e = record {
-  image = inl (ap (λ (x : Shown). image_of x.slots) e);
-  sound = subst (λ (x : Shown). IsSound past x.stage) (sym e) (reset_sound past d.stage);
+  image = inl (ap (λ (x : DeviceView). image_of x.slots) e);
+  sound = subst (λ (x : DeviceView). IsSound past x.stage) (sym e) (reset_sound past d.stage);
 }
 
 module _ (refines : IdleRefines) (c : Profile) (past : List (List ℕ)) where
@@ -48,7 +48,7 @@ module _ (refines : IdleRefines) (c : Profile) (past : List (List ℕ)) where
   }
 
   -- Time that passes.
-  pub elapses_well : (ms : ℕ) (d d' : Shown) → profile d ≡ c → IsSound past d.stage → Elapses ms d d'
+  pub elapses_well : (ms : ℕ) (d d' : DeviceView) → profile d ≡ c → IsSound past d.stage → Elapses ms d d'
       → DeviceWell past (situation d) (situation d')
   elapses_well ms d d' e sound row =
       let y = time_came ms d d' row in
@@ -57,7 +57,7 @@ module _ (refines : IdleRefines) (c : Profile) (past : List (List ℕ)) where
       (time_device c past (image_of d.slots) ms d.stage sound y.luck)
 
   -- A call that tells of it.
-  passes_well : (ms : ℕ) (b b' : Board) (d : Shown) (steps : List BoardStep) (a : Answer) (out : List ℕ) → IsIdle b d → profile d ≡ c
+  passes_well : (ms : ℕ) (b b' : Board) (d : DeviceView) (steps : List BoardStep) (a : Answer) (out : List ℕ) → IsIdle b d → profile d ≡ c
       → IsSound past d.stage → Serves b (Elapse ms) steps a out b' → Became c past (situation d) b'
   passes_well ms b b' d steps a out k e sound serves =
       let x = served refines b b' d (Elapse ms) (Passing ms) steps a out refl k serves in
@@ -69,7 +69,7 @@ module _ (refines : IdleRefines) (c : Profile) (past : List (List ℕ)) where
       }
 
   -- One that is lost, or comes once or twice.
-  pub reaches_well : (ms : ℕ) (b b' : Board) (d : Shown) (steps : List BoardStep) (says : Says) → IsIdle b d → profile d ≡ c
+  pub reaches_well : (ms : ℕ) (b b' : Board) (d : DeviceView) (steps : List BoardStep) (says : Says) → IsIdle b d → profile d ≡ c
       → IsSound past d.stage → Reaches (Elapse ms) b steps says b' → Became c past (situation d) b'
   reaches_well ms b _ d _ _ k e sound lost =
       record { device = d; idle = k; profile_is = e; well = record { image = inl refl; sound = sound } }
@@ -80,7 +80,7 @@ module _ (refines : IdleRefines) (c : Profile) (past : List (List ℕ)) where
       then_well (situation d) mid b' x (passes_well ms mid b' x.device second a out x.idle x.profile_is x.well.sound more)
 
   -- A call of a reset of the bus.
-  pub resets_well : (b b' : Board) (d : Shown) (steps : List BoardStep) (a : Answer) (out : List ℕ) → IsIdle b d → profile d ≡ c
+  pub resets_well : (b b' : Board) (d : DeviceView) (steps : List BoardStep) (a : Answer) (out : List ℕ) → IsIdle b d → profile d ≡ c
       → Serves b UsbReset steps a out b' → Became c past (situation d) b'
   resets_well b b' d steps a out k e serves =
       let x = served refines b b' d UsbReset BusReset steps a out refl k serves in

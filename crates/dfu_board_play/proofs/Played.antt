@@ -4,15 +4,15 @@ use Rattle.std.proofs.Common.{inl, inr, refl, sym, ap, ◌∙◌, subst}
 use Rattle.dfu_slots.specs.Seen.{image_of}
 use Rattle.dfu_device.specs.Stage.{Profile, InAppIdle}
 use Rattle.dfu_device.specs.Outcome.{Situation, Outcome, elapsed}
-use Rattle.dfu_device.specs.Shown.{Shown, profile, situation}
+use Rattle.dfu_device.specs.DeviceView.{DeviceView, profile, situation}
 use Rattle.dfu_device.specs.Rows.{Cause, Transfer, Passing, BusReset, Refusing}
 use Rattle.dfu_device.specs.Came.{time_came}
 use Rattle.dfu_host.specs.Phases.{Send, Deed, Nothing as NothingHeard, Waited, WasReset}
 use Rattle.dfu_sim.specs.Session.{Loading, IsOneOf, SaysInPlace}
 use Rattle.dfu_sim.specs.Happening.{Pass, Slip}
-use Rattle.dfu_sim.specs.Course.{course_of}
-use Rattle.dfu_sim.specs.Play.{Answered, Took, took, told}
-use Rattle.dfu_sim.specs.Bench.{Session, Hosted}
+use Rattle.dfu_sim.specs.Delivery.{delivery_of}
+use Rattle.dfu_sim.specs.Play.{Answered, Took, took, notify_restart}
+use Rattle.dfu_sim.specs.LinkView.{Session, Hosted}
 use Rattle.dfu_sim.specs.Bytes.{Acts}
 use Rattle.dfu_sim.specs.Agreement.{live_of, IsLiveOffer}
 use Rattle.dfu_sim.specs.LinkAgreement.{IsSound}
@@ -33,7 +33,7 @@ use Rattle.dfu_board_play.proofs.Sent.{hears_nothing, sent_well, objected_well}
 
 -- No writes are due on a board, it is this device, and what has to hold of it and of the live session holds: its image is the first one or
 -- one of those offered, bytes that were closed are one of these, and so is the payload of the live session, which is the last one.
-pub record Stands (c : Profile) (first : List ℕ) (past : List (List ℕ)) (last : Option (List ℕ)) (l : BoardLink) (d : Shown)
+pub record Stands (c : Profile) (first : List ℕ) (past : List (List ℕ)) (last : Option (List ℕ)) (l : BoardLink) (d : DeviceView)
     : Type 0 where
   pub idle : IsIdle l.board d
   pub profile_is : profile d ≡ c
@@ -46,7 +46,7 @@ pub record Stands (c : Profile) (first : List ℕ) (past : List (List ℕ)) (las
 -- What came of the next thing.
 pub record WentOn (c : Profile) (first : List ℕ) (past : List (List ℕ)) (last : Option (List ℕ)) (answer : Answered) (l' : BoardLink)
     : Type 0 where
-  pub device : Shown
+  pub device : DeviceView
   pub stands : Stands c first past last l' device
   pub done : SaysInPlace answer.report → (device.stage ≡ InAppIdle) × (last ≡ Some (image_of device.slots))
   pub gives : (bytes : List ℕ) → answer.gave ≡ Some bytes → bytes ≡ image_of device.slots
@@ -62,7 +62,7 @@ known_on first past s s' known w = elim (w.image) [
 ]
 
 -- What an action of a host, or a restart of which it hears, comes to.
-took_on : (c : Profile) (first : List ℕ) (past : List (List ℕ)) (last : Option (List ℕ)) (l : BoardLink) (d d' : Shown) (b' : Board)
+took_on : (c : Profile) (first : List ℕ) (past : List (List ℕ)) (last : Option (List ℕ)) (l : BoardLink) (d d' : DeviceView) (b' : Board)
     (t : Took) → Stands c first past last l d → IsIdle b' d' → profile d' ≡ c
     → ActedWell c past l.session (situation d) (situation d') t → WentOn c first past last t.answer (left b' t)
 took_on c first past last l d d' b' t s idle fixed w = record {
@@ -92,7 +92,7 @@ way_cause session call way = elim way [ ]
 module _ (refines : IdleRefines) (simulation : Simulation) (only : OnlyOffered) (c : Profile) (sized : 0 < c.transfer)
     (past : List (List ℕ)) where
   -- A call that was under way came to its end.
-  pub way_well : (session : Session) (call : Event) (b b' : Board) (d : Shown) (steps : List BoardStep) (says : Says) → IsIdle b d
+  pub way_well : (session : Session) (call : Event) (b b' : Board) (d : DeviceView) (steps : List BoardStep) (says : Says) → IsIdle b d
       → profile d ≡ c → IsSound past d.stage → IsLiveOffer past (live_of session) → SessionFact c (situation d) session
       → IsUnderWay session call → Reaches call b steps says b' → Became c past (situation d) b'
   way_well session (Elapse ms) b b' d steps says k e sound offered f way reaches = reaches_well refines c past ms b b' d steps says k e sound reaches
@@ -103,7 +103,7 @@ module _ (refines : IdleRefines) (simulation : Simulation) (only : OnlyOffered) 
   way_well session call b b' d steps says k e sound offered f way reaches = elim way [ ]
 
   -- What holds holds again, whatever comes.
-  pub went_on : (first : List ℕ) (last : Option (List ℕ)) (l l' : BoardLink) (d : Shown) (steps : List BoardStep) (answer : Answered)
+  pub went_on : (first : List ℕ) (last : Option (List ℕ)) (l l' : BoardLink) (d : DeviceView) (steps : List BoardStep) (answer : Answered)
       → Stands c first past last l d → BoardComes l steps answer l' → WentOn c first past last answer l'
   went_on first last l _ d steps _ s (passes {ms = ms} {a = a} {out = out} {b' = b'} serves) =
       let x = served refines l.board b' d (Elapse ms) (Passing ms) steps a out refl s.idle serves in
@@ -148,11 +148,12 @@ module _ (refines : IdleRefines) (simulation : Simulation) (only : OnlyOffered) 
         stands = record {
           idle = x.idle;
           profile_is = row_profile d x.device (Refusing why) a out x.row ∙ s.profile_is;
-          fact = subst (λ (z : Shown). SessionFact c (situation z) l.session) (sym same) (refusal_fact c why (situation d) l.session s.fact);
+          fact = subst (λ (z : DeviceView). SessionFact c (situation z) l.session) (sym same)
+              (refusal_fact c why (situation d) l.session s.fact);
           live = s.live;
           offered = s.offered;
-          sound = subst (λ (z : Shown). IsSound past z.stage) (sym same) (refusal_sound why past d.stage s.sound);
-          known = subst (λ (z : Shown). (image_of z.slots ≡ first) ⊎ IsOneOf (image_of z.slots) past) (sym same) s.known;
+          sound = subst (λ (z : DeviceView). IsSound past z.stage) (sym same) (refusal_sound why past d.stage s.sound);
+          known = subst (λ (z : DeviceView). (image_of z.slots ≡ first) ⊎ IsOneOf (image_of z.slots) past) (sym same) s.known;
         };
         done = λ e. elim e [ ];
         gives = λ bytes e. absurd (cc);
@@ -161,7 +162,7 @@ module _ (refines : IdleRefines) (simulation : Simulation) (only : OnlyOffered) 
       let f = subst (λ (x : Session). SessionFact c (situation d) x) live s.fact in
       let o = subst (λ (x : Session). IsLiveOffer past (live_of x)) live s.offered in
       let w = acted_well simulation only c sized past d d h Waited (Slip 0) s.profile_is s.sound o f refl
-      (subst (λ (x : Deed). Acts x (course_of (Slip 0)) d d Waited) (sym is) (no_time d, refl)) (λ e. absurd (cc)) in
+      (subst (λ (x : Deed). Acts x (delivery_of (Slip 0)) d d Waited) (sym is) (no_time d, refl)) (λ e. absurd (cc)) in
       took_on c first past last l d d l.board (took h Waited) s s.idle s.profile_is
       (subst (λ (y : Session). ActedWell c past y (situation d) (situation d) (took h Waited)) (sym live) w)
   went_on first last l _ d steps _ s (resets {h = h} {a = a} {out = out} {b' = b'} live is serves) =
@@ -169,7 +170,7 @@ module _ (refines : IdleRefines) (simulation : Simulation) (only : OnlyOffered) 
       let o = subst (λ (x : Session). IsLiveOffer past (live_of x)) live s.offered in
       let x = served refines l.board b' d UsbReset BusReset steps a out refl s.idle serves in
       let w = acted_well simulation only c sized past d x.device h WasReset Pass s.profile_is s.sound o f refl
-      (subst (λ (y : Deed). Acts y (course_of Pass) d x.device WasReset) (sym is) (x.row.2, refl)) (λ e. absurd (cc)) in
+      (subst (λ (y : Deed). Acts y (delivery_of Pass) d x.device WasReset) (sym is) (x.row.2, refl)) (λ e. absurd (cc)) in
       took_on c first past last l d x.device b' (took h WasReset) s x.idle
       (row_profile d x.device BusReset a out x.row ∙ s.profile_is)
       (subst (λ (y : Session). ActedWell c past y (situation d) (situation x.device) (took h WasReset)) (sym live) w)
@@ -177,12 +178,12 @@ module _ (refines : IdleRefines) (simulation : Simulation) (only : OnlyOffered) 
       reaches serves) =
       let x = way_well l.session call l.board mid d steps says s.idle s.profile_is s.sound s.offered s.fact way reaches in
       let y = then_well refines c past (situation d) mid b' x (resets_well refines c past mid b' x.device more a out x.idle x.profile_is serves) in
-      took_on c first past last l d y.device b' (told l.session) s y.idle y.profile_is
+      took_on c first past last l d y.device b' (notify_restart l.session) s y.idle y.profile_is
       (told_well simulation only c sized past (situation d) (situation y.device) l.session s.offered s.fact y.well)
   went_on first last l _ d steps _ s (restarts {call = call} {b' = b'} way stops) =
       let cause = way_cause l.session call way in
       let x = stops_by refines past c l.board b' d call cause.0 steps s.idle s.profile_is s.sound cause.1
       (λ mid more says reaches. way_well l.session call l.board mid d more says s.idle s.profile_is s.sound s.offered s.fact way reaches)
       stops in
-      took_on c first past last l d x.device b' (told l.session) s x.idle x.profile_is
+      took_on c first past last l d x.device b' (notify_restart l.session) s x.idle x.profile_is
       (told_well simulation only c sized past (situation d) (situation x.device) l.session s.offered s.fact x.well)

@@ -69,7 +69,7 @@ comes_run l _ steps _ (restarts {call = call} {b' = b'} way stops) = stops_run c
 -- Each list of plays is a run of the board.
 pub plays_run : PlaysRun
 plays_run b _ _ _ _ starts = refl
-plays_run b steps _ _ _ (offers {past = past} {last = last} {l = l} aim payload limits p none some) = plays_run b steps past last l p
+plays_run b steps _ _ _ (offers {past = past} {last = last} {l = l} purpose payload limits p none some) = plays_run b steps past last l p
 plays_run b steps past _ _ (uploads {last = last} {l = l} limits p none) = plays_run b steps past last l p
 plays_run b steps past last _ (gives_up {l = l} p live) = plays_run b steps past last l p
 plays_run b _ past last _ (goes_on {steps = steps} {more = more} {l = l} {l' = l'} {answer = answer} p comes) =

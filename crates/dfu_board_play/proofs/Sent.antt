@@ -5,17 +5,17 @@ use Rattle.dfu_wire.specs.declared.requests.Request.{Request}
 use Rattle.dfu_device.specs.declared.answer.Answer.{Answer}
 use Rattle.dfu_device.specs.declared.objection.Objection.{Objection}
 use Rattle.dfu_device.specs.Stage.{Profile}
-use Rattle.dfu_device.specs.Shown.{Shown, profile, situation}
+use Rattle.dfu_device.specs.DeviceView.{DeviceView, profile, situation}
 use Rattle.dfu_device.specs.Rows.{Transfer, RefusingClose, Handles, Row}
 use Rattle.dfu_host.specs.Phases.{Send, Deed, Heard, NoRoom, Nothing as NothingHeard}
 use Rattle.dfu_host.specs.Table.{deed}
 use Rattle.dfu_host.specs.Host.{HostState, wants_memory}
 use Rattle.dfu_host.specs.Wire.{IsAsked}
-use Rattle.dfu_sim.specs.declared.back.Back.TheVariants as back
+use Rattle.dfu_sim.specs.declared.response.Response.TheVariants as response
 use Rattle.dfu_sim.specs.Happening.{Pass, LostOut, LostBack, Twice, TwiceLostBack, Refusing}
-use Rattle.dfu_sim.specs.Course.{course_of}
+use Rattle.dfu_sim.specs.Delivery.{delivery_of}
 use Rattle.dfu_sim.specs.Play.{took}
-use Rattle.dfu_sim.specs.Bench.{Hosted}
+use Rattle.dfu_sim.specs.LinkView.{Hosted}
 use Rattle.dfu_sim.specs.Bytes.{Acts, unseen, once as once_there, again}
 use Rattle.dfu_sim.specs.Agreement.{live_of, IsLiveOffer}
 use Rattle.dfu_sim.specs.LinkAgreement.{IsSound}
@@ -36,72 +36,73 @@ hears_nothing d says = refl
 
 module _ (refines : IdleRefines) (simulation : Simulation) (only : OnlyOffered) (c : Profile) (sized : 0 < c.transfer)
     (past : List (List ℕ)) (h : HostState) (q : Request) (setup body : List ℕ) (is : deed h.task h.phase ≡ Send q body)
-    (asked : IsAsked q setup) (d : Shown) (e : profile d ≡ c) (sound : IsSound past d.stage) (offered : IsLiveOffer past (live_of (Hosted h)))
+    (asked : IsAsked q setup) (d : DeviceView) (e : profile d ≡ c) (sound : IsSound past d.stage)
+    (offered : IsLiveOffer past (live_of (Hosted h)))
     (f : SessionFact c (situation d) (Hosted h)) where
   -- The device went from the one to the other, and this was heard.
-  abbrev pub Acted : Shown → Heard → Type 0
+  abbrev pub Acted : DeviceView → Heard → Type 0
   Acted d' heard = ActedWell c past (Hosted h) (situation d) (situation d') (took h heard)
 
   -- The request got lost.
   lost_well : (heard : Heard) → heard ≡ NothingHeard → (heard ≡ NoRoom → IsTrue (wants_memory h.phase)) → Acted d heard
   lost_well heard none room = acted_well simulation only c sized past d d h heard LostOut e sound offered f refl
-      (subst (λ (x : Deed). Acts x (course_of LostOut) d d heard) (sym is)
-      (setup, asked, record { came = back.Lost; out = []; reaches = unseen; hears = none })) room
+      (subst (λ (x : Deed). Acts x (delivery_of LostOut) d d heard) (sym is)
+      (setup, asked, record { came = response.Lost; out = []; reaches = unseen; hears = none })) room
 
   -- It came once.
-  once_well : (d' : Shown) (a : Answer) (out : List ℕ) (heard : Heard) → Handles setup body d a out d'
+  once_well : (d' : DeviceView) (a : Answer) (out : List ℕ) (heard : Heard) → Handles setup body d a out d'
       → HearsSentBack (Send q body) (Answers a out) heard → (heard ≡ NoRoom → IsTrue (wants_memory h.phase)) → Acted d' heard
   once_well d' a out heard row hears room = elim hears [
     | inl none ↦ acted_well simulation only c sized past d d' h heard LostBack e sound offered f refl
-        (subst (λ (y : Deed). Acts y (course_of LostBack) d d' heard) (sym is)
-        (setup, asked, record { came = back.Answered a; out = out; reaches = once_there row; hears = none })) room
+        (subst (λ (y : Deed). Acts y (delivery_of LostBack) d d' heard) (sym is)
+        (setup, asked, record { came = response.Answered a; out = out; reaches = once_there row; hears = none })) room
     | inr some ↦ acted_well simulation only c sized past d d' h heard Pass e sound offered f refl
-        (subst (λ (y : Deed). Acts y (course_of Pass) d d' heard) (sym is)
-        (setup, asked, record { came = back.Answered a; out = out; reaches = once_there row; hears = some })) room
+        (subst (λ (y : Deed). Acts y (delivery_of Pass) d d' heard) (sym is)
+        (setup, asked, record { came = response.Answered a; out = out; reaches = once_there row; hears = some })) room
   ]
 
   -- It came twice.
-  twice_well : (mid d' : Shown) (a x : Answer) (out said : List ℕ) (heard : Heard) → Handles setup body d x said mid
+  twice_well : (mid d' : DeviceView) (a x : Answer) (out said : List ℕ) (heard : Heard) → Handles setup body d x said mid
       → Handles setup body mid a out d' → HearsSentBack (Send q body) (Answers a out) heard
       → (heard ≡ NoRoom → IsTrue (wants_memory h.phase)) → Acted d' heard
   twice_well mid d' a x out said heard row more hears room = elim hears [
     | inl none ↦ acted_well simulation only c sized past d d' h heard TwiceLostBack e sound offered f refl
-        (subst (λ (y : Deed). Acts y (course_of TwiceLostBack) d d' heard) (sym is)
-        (setup, asked, record { came = back.Answered a; out = out; reaches = again mid x said row more; hears = none })) room
+        (subst (λ (y : Deed). Acts y (delivery_of TwiceLostBack) d d' heard) (sym is)
+        (setup, asked, record { came = response.Answered a; out = out; reaches = again mid x said row more; hears = none })) room
     | inr some ↦ acted_well simulation only c sized past d d' h heard Twice e sound offered f refl
-        (subst (λ (y : Deed). Acts y (course_of Twice) d d' heard) (sym is)
-        (setup, asked, record { came = back.Answered a; out = out; reaches = again mid x said row more; hears = some })) room
+        (subst (λ (y : Deed). Acts y (delivery_of Twice) d d' heard) (sym is)
+        (setup, asked, record { came = response.Answered a; out = out; reaches = again mid x said row more; hears = some })) room
   ]
 
   -- It came once, and the program refused the image that it closes.
-  refused_well : (why : Objection) (d' : Shown) (a : Answer) (out : List ℕ) (heard : Heard) → Row d (RefusingClose setup why) a out d'
+  refused_well : (why : Objection) (d' : DeviceView) (a : Answer) (out : List ℕ) (heard : Heard) → Row d (RefusingClose setup why) a out d'
       → HearsSentBack (Send q body) (Answers a out) heard → (heard ≡ NoRoom → IsTrue (wants_memory h.phase)) → Acted d' heard
   refused_well why d' a out heard row hears room = elim hears [
     | inl none ↦ acted_well simulation only c sized past d d' h heard (Refusing why LostBack) e sound offered f refl
-        (subst (λ (y : Deed). Acts y (course_of (Refusing why LostBack)) d d' heard) (sym is)
-        (setup, asked, record { came = back.Answered a; out = out; reaches = once_there (inl row); hears = none })) room
+        (subst (λ (y : Deed). Acts y (delivery_of (Refusing why LostBack)) d d' heard) (sym is)
+        (setup, asked, record { came = response.Answered a; out = out; reaches = once_there (inl row); hears = none })) room
     | inr some ↦ acted_well simulation only c sized past d d' h heard (Refusing why Pass) e sound offered f refl
-        (subst (λ (y : Deed). Acts y (course_of (Refusing why Pass)) d d' heard) (sym is)
-        (setup, asked, record { came = back.Answered a; out = out; reaches = once_there (inl row); hears = some })) room
+        (subst (λ (y : Deed). Acts y (delivery_of (Refusing why Pass)) d d' heard) (sym is)
+        (setup, asked, record { came = response.Answered a; out = out; reaches = once_there (inl row); hears = some })) room
   ]
 
   -- It came a second time then.
-  refused_again : (why : Objection) (mid d' : Shown) (a x : Answer) (out said : List ℕ) (heard : Heard)
+  refused_again : (why : Objection) (mid d' : DeviceView) (a x : Answer) (out said : List ℕ) (heard : Heard)
       → Row d (RefusingClose setup why) x said mid
       → Handles setup body mid a out d' → HearsSentBack (Send q body) (Answers a out) heard
       → (heard ≡ NoRoom → IsTrue (wants_memory h.phase)) → Acted d' heard
   refused_again why mid d' a x out said heard row more hears room = elim hears [
     | inl none ↦ acted_well simulation only c sized past d d' h heard (Refusing why TwiceLostBack) e sound offered f refl
-        (subst (λ (y : Deed). Acts y (course_of (Refusing why TwiceLostBack)) d d' heard) (sym is)
-        (setup, asked, record { came = back.Answered a; out = out; reaches = again mid x said (inl row) more; hears = none })) room
+        (subst (λ (y : Deed). Acts y (delivery_of (Refusing why TwiceLostBack)) d d' heard) (sym is)
+        (setup, asked, record { came = response.Answered a; out = out; reaches = again mid x said (inl row) more; hears = none })) room
     | inr some ↦ acted_well simulation only c sized past d d' h heard (Refusing why Twice) e sound offered f refl
-        (subst (λ (y : Deed). Acts y (course_of (Refusing why Twice)) d d' heard) (sym is)
-        (setup, asked, record { came = back.Answered a; out = out; reaches = again mid x said (inl row) more; hears = some })) room
+        (subst (λ (y : Deed). Acts y (delivery_of (Refusing why Twice)) d d' heard) (sym is)
+        (setup, asked, record { came = response.Answered a; out = out; reaches = again mid x said (inl row) more; hears = some })) room
   ]
 
   -- What was heard of it, and what the board became.
   pub record Sent (b' : Board) (heard : Heard) : Type 0 where
-    pub device : Shown
+    pub device : DeviceView
     pub idle : IsIdle b' device
     pub profile_is : profile device ≡ c
     pub acted : Acted device heard

@@ -2,11 +2,11 @@
 use Rattle.std.specs.Prelude.{◌≡◌, ℕ, List, [], ◌∷◌, ◌++◌, Option, Some, None}
 use Rattle.std.proofs.Common.{sym, ◌∙◌, subst}
 use Rattle.dfu_device.specs.declared.answer.Answer.{Answer}
-use Rattle.dfu_device.specs.Shown.{Shown}
+use Rattle.dfu_device.specs.DeviceView.{DeviceView}
 use Rattle.dfu_device.specs.Rows.{Cause, Transfer, Passing, BusReset, RefusingClose, Refusing, Row}
 use Rattle.dfu_device.specs.History.{IsHistory}
 use Rattle.dfu_device.specs.History.{HistoryStep as TableRow}
-use Rattle.dfu_board.specs.Board.{Board, Event, Handle, Elapse, UsbReset, RefuseClose, Refuse, Write, Report, Restart, Says, Nothing, WritesDue, Answers, BoardStep}
+use Rattle.dfu_board.specs.Board.{Board, Event, Handle, Elapse, UsbReset, RefuseClose, Refuse, Write, Took, Restart, Says, Nothing, WritesDue, Answers, BoardStep}
 use Rattle.dfu_board.specs.Refines.{IsOne, TellsCall, TellsRows, TellsAll, IsIdle, StandsFor, IdleRefines}
 use Rattle.dfu_board_play.specs.Calls.{CarriesOn, WorksOff, ends, carries_on, IsCall, at_once, with_writes, Serves}
 
@@ -38,9 +38,9 @@ refused cause due due' says rows e t = subst (λ (x : Says). TellsCall cause (So
 pub carried : (e : Event) (says : Says) (due : Cause) (due' : Option Cause) (rows : List TableRow) → CarriesOn e says
     → TellsRows (Some due) e says rows due' → (rows ≡ []) × (due' ≡ Some due)
 carried Write says due due' rows c t = t
-carried (Report failed) (Answers a out) due due' rows c t = elim c [ ]
-carried (Report failed) Nothing due due' rows c t = t
-carried (Report failed) WritesDue due due' rows c t = t
+carried (Took failed) (Answers a out) due due' rows c t = elim c [ ]
+carried (Took failed) Nothing due due' rows c t = t
+carried (Took failed) WritesDue due due' rows c t = t
 carried (Handle setup body) says due due' rows c t = refused (Transfer setup body) due due' says rows c t
 carried (Elapse ms) says due due' rows c t = refused (Passing ms) due due' says rows c t
 carried UsbReset says due due' rows c t = refused BusReset due due' says rows c t
@@ -89,26 +89,26 @@ call_tells call cause a out _ rows due is (with_writes s rest event says w) (fir
     (subst (λ (r : List TableRow). IsOne cause a out r) (sym same) y.0, y.1)
 
 -- A history of one row is that row.
-one_row : (d d' : Shown) (cause : Cause) (a : Answer) (out : List ℕ) (rows : List TableRow) → IsOne cause a out rows
+one_row : (d d' : DeviceView) (cause : Cause) (a : Answer) (out : List ℕ) (rows : List TableRow) → IsOne cause a out rows
     → IsHistory d rows d' → Row d cause a out d'
 one_row d d' cause a out rows one h =
     let x : IsHistory d (one.row ∷ []) d' = subst (λ (r : List TableRow). IsHistory d r d') one.rows_are h in
     let row : Row d one.row.cause one.row.answer one.row.out d' =
-    subst (λ (z : Shown). Row d one.row.cause one.row.answer one.row.out z) (sym x.2)
-    (subst (λ (z : Shown). Row z one.row.cause one.row.answer one.row.out one.row.after) x.0 x.1) in
+    subst (λ (z : DeviceView). Row d one.row.cause one.row.answer one.row.out z) (sym x.2)
+    (subst (λ (z : DeviceView). Row z one.row.cause one.row.answer one.row.out one.row.after) x.0 x.1) in
     subst (λ (z : Cause). Row d z a out d') one.cause_is
     (subst (λ (z : Answer). Row d one.row.cause z out d') one.answer_is
     (subst (λ (z : List ℕ). Row d one.row.cause one.row.answer z d') one.out_is row))
 
 -- What a call leaves: the row of its cause, and no writes are due.
-pub record Served (d : Shown) (cause : Cause) (a : Answer) (out : List ℕ) (b' : Board) : Type 0 where
-  pub device : Shown
+pub record Served (d : DeviceView) (cause : Cause) (a : Answer) (out : List ℕ) (b' : Board) : Type 0 where
+  pub device : DeviceView
   pub row : Row d cause a out device
   pub idle : IsIdle b' device
 
 module _ (refines : IdleRefines) where
   -- A call of a board on which no writes are due is the row of its cause.
-  pub served : (b b' : Board) (d : Shown) (call : Event) (cause : Cause) (steps : List BoardStep) (a : Answer) (out : List ℕ)
+  pub served : (b b' : Board) (d : DeviceView) (call : Event) (cause : Cause) (steps : List BoardStep) (a : Answer) (out : List ℕ)
       → IsOf call cause → IsIdle b d → Serves b call steps a out b' → Served d cause a out b'
   served b b' d call cause steps a out is k s =
       let r = refines b b' d steps k s.run in

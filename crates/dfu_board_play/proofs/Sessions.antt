@@ -5,7 +5,7 @@ use Rattle.dfu_slots.specs.Image.{Active, HasImage}
 use Rattle.dfu_slots.specs.Seen.{SlotsState, image_of}
 use Rattle.dfu_device.specs.Stage.{Profile, Stage, InManifestSync, InManifest, state_of}
 use Rattle.dfu_device.specs.Outcome.{Situation, Works}
-use Rattle.dfu_device.specs.Shown.{Shown, profile, situation}
+use Rattle.dfu_device.specs.DeviceView.{DeviceView, profile, situation}
 use Rattle.dfu_device.specs.History.{IsHistory}
 use Rattle.dfu_device.specs.History.{HistoryStep as TableRow}
 use Rattle.dfu_asks.specs.Asks.{store_in}
@@ -13,13 +13,13 @@ use Rattle.dfu_host.specs.declared.limits.Limits.{Limits}
 use Rattle.dfu_host.specs.declared.report.Report.{Report}
 use Rattle.dfu_host.specs.Phases.{Goal, ToFetch}
 use Rattle.dfu_host.specs.Host.{HostState, aborted}
-use Rattle.dfu_sim.specs.declared.aim.Aim.{Aim}
-use Rattle.dfu_sim.specs.declared.aim.Aim.TheVariants.{Install, Verify}
+use Rattle.dfu_sim.specs.declared.purpose.Purpose.{Purpose}
+use Rattle.dfu_sim.specs.declared.purpose.Purpose.TheVariants.{Install, Verify}
 use Rattle.dfu_sim.specs.Session.{Machine, Live, Loading, IsOneOf, AnAbort, MachineStep, aborts}
 use Rattle.dfu_sim.specs.Happening.{Offers, Uploads, Aborts}
-use Rattle.dfu_sim.specs.Opening.{goal_of_aim, opened}
+use Rattle.dfu_sim.specs.Opening.{goal_of_purpose, opened}
 use Rattle.dfu_sim.specs.Play.{silent}
-use Rattle.dfu_sim.specs.Bench.{Session, Nobody, Hosted}
+use Rattle.dfu_sim.specs.LinkView.{Session, Nobody, Hosted}
 use Rattle.dfu_sim.specs.Agreement.{live_goal, live_of, IsLiveOffer}
 use Rattle.dfu_sim.specs.LinkAgreement.{IsSound}
 use Rattle.dfu_sim.specs.Fact.{SessionFact}
@@ -37,7 +37,7 @@ use Rattle.dfu_board_play.proofs.Throughout.{comes_known}
 
 -- Sessions that begin.
 
-goal_live : (aim : Aim) (payload : List ℕ) → live_goal (goal_of_aim aim payload) ≡ Loading payload
+goal_live : (purpose : Purpose) (payload : List ℕ) → live_goal (goal_of_purpose purpose payload) ≡ Loading payload
 goal_live Install payload = refl
 goal_live Verify payload = refl
 
@@ -65,12 +65,12 @@ module _ (refines : IdleRefines) (simulation : Simulation) (only : OnlyOffered) 
       subst (λ (x : Profile). SessionFact c s (opened x goal limits.actions limits.restarts)) (sym e) f
 
   -- What holds of a session that begins.
-  offer_fact : (past : List (List ℕ)) (s : Situation) (aim : Aim) (payload : List ℕ) (limits : Limits) → IsSound past s.stage
-      → 0 < length payload → SessionFact c s (opened c (goal_of_aim aim payload) limits.actions limits.restarts)
-  offer_fact past s aim payload limits sound some =
+  offer_fact : (past : List (List ℕ)) (s : Situation) (purpose : Purpose) (payload : List ℕ) (limits : Limits) → IsSound past s.stage
+      → 0 < length payload → SessionFact c s (opened c (goal_of_purpose purpose payload) limits.actions limits.restarts)
+  offer_fact past s purpose payload limits sound some =
       (simulation c (record { device = s; session = Nobody })
-      (record { device = s; session = opened c (goal_of_aim aim payload) limits.actions limits.restarts }) []
-      (machine simulation only c sized past s Nobody) (Offers aim payload limits) silent sized tt
+      (record { device = s; session = opened c (goal_of_purpose purpose payload) limits.actions limits.restarts }) []
+      (machine simulation only c sized past s Nobody) (Offers purpose payload limits) silent sized tt
       (agrees simulation only c sized past s Nobody sound tt)
       (record { allowed = some; first = Works; second = Works; room = true; same = refl })).fact
 
@@ -97,7 +97,7 @@ module _ (refines : IdleRefines) (simulation : Simulation) (only : OnlyOffered) 
       record { fact = x.fact; live = sym x.agrees.live ∙ abort_lives x.step }
 
   record StandsSo (first : List ℕ) (past : List (List ℕ)) (last : Option (List ℕ)) (l : BoardLink) : Type 0 where
-    device : Shown
+    device : DeviceView
     stands : Stands c first past last l device
 
   -- A session begins on a board on which this holds.
@@ -131,16 +131,16 @@ module _ (refines : IdleRefines) (simulation : Simulation) (only : OnlyOffered) 
       fact = tt;
       live = λ payload x. absurd (cc);
       offered = tt;
-      sound = subst (λ (x : Shown). IsSound [] x.stage) (sym on.device) (start_sound [] on.begins);
+      sound = subst (λ (x : DeviceView). IsSound [] x.stage) (sym on.device) (start_sound [] on.begins);
       known = inl i;
     };
   }
-  stands first b steps _ _ _ on e i (offers {past = past} {last = last} {l = l} aim payload limits p none some) =
+  stands first b steps _ _ _ on e i (offers {past = past} {last = last} {l = l} purpose payload limits p none some) =
       let x = stands first b steps past last l on e i p in
-      begins first past (payload ∷ past) last (Some payload) l (goal_of_aim aim payload) limits x
-      (offer_fact past (situation x.device) aim payload limits x.stands.sound some)
-      (λ y same. some_is payload y (sym (goal_live aim payload) ∙ same))
-      (subst (λ (y : Live). IsLiveOffer (payload ∷ past) y) (sym (goal_live aim payload)) (inl refl))
+      begins first past (payload ∷ past) last (Some payload) l (goal_of_purpose purpose payload) limits x
+      (offer_fact past (situation x.device) purpose payload limits x.stands.sound some)
+      (λ y same. some_is payload y (sym (goal_live purpose payload) ∙ same))
+      (subst (λ (y : Live). IsLiveOffer (payload ∷ past) y) (sym (goal_live purpose payload)) (inl refl))
       (more_sound payload past x.device.stage x.stands.sound)
       (more_known (image_of x.device.slots) payload first past x.stands.known)
   stands first b steps past _ _ on e i (uploads {last = last} {l = l} limits p none) =
@@ -170,11 +170,11 @@ module _ (refines : IdleRefines) (simulation : Simulation) (only : OnlyOffered) 
       record { device = y.device; stands = y.stands }
 
 -- A board is in the state of the device that it is.
-state_idle : (refines : IdleRefines) (b : Board) (d : Shown) → IsIdle b d → state_on b ≡ state_of d.stage
+state_idle : (refines : IdleRefines) (b : Board) (d : DeviceView) → IsIdle b d → state_on b ≡ state_of d.stage
 state_idle refines b d k =
     let r = refines b b d [] k refl in
     let same : r.device ≡ d = subst (λ (rows : List TableRow). IsHistory d rows r.device) r.tells.0 r.history in
-    r.state ∙ ap (λ (x : Shown). state_of x.stage) same
+    r.state ∙ ap (λ (x : DeviceView). state_of x.stage) same
 
 -- The clauses `shown` and `only` of the law `active_image_is_one`.
 abbrev pub ImageIsShown : Type 0
@@ -184,8 +184,8 @@ abbrev pub OneImage : Type 0
 OneImage = (s : SlotsState) (image : List ℕ) → Active s.medium image → image ≡ image_of s
 
 module _ (refines : IdleRefines) (simulation : Simulation) (only : OnlyOffered) (shown : ImageIsShown) where
-  active_idle : (b : Board) (d : Shown) → IsIdle b d → Active (medium_on b) (image_of d.slots)
-  active_idle b d k = subst (λ (z : Shown). Active (medium_on b) (image_of z.slots)) k.device
+  active_idle : (b : Board) (d : DeviceView) → IsIdle b d → Active (medium_on b) (image_of d.slots)
+  active_idle b d k = subst (λ (z : DeviceView). Active (medium_on b) (image_of z.slots)) k.device
       (shown (store_in (lent_on b) b.flash) k.is.store.has_image)
 
   -- If Installed or Verified is reported, the payload is in place.

@@ -6,7 +6,7 @@ use Rattle.dfu_slots.specs.Image.{Active}
 use Rattle.dfu_slots.specs.Medium.{MediumState}
 use Rattle.dfu_slots.specs.Seen.{image_of}
 use Rattle.dfu_device.specs.Stage.{Profile, Stage, InManifestSync, InManifestSyncComplete, InManifest, state_of}
-use Rattle.dfu_device.specs.Shown.{Shown, profile, situation}
+use Rattle.dfu_device.specs.DeviceView.{DeviceView, profile, situation}
 use Rattle.dfu_device.specs.Rows.{Cause}
 use Rattle.dfu_device.specs.History.{IsHistory}
 use Rattle.dfu_device.specs.History.{HistoryStep as TableRow}
@@ -34,7 +34,7 @@ waits_one past image i (InManifest taken passed) on sound e = inr (subst (λ (l 
 waits_one past image i st on sound e = absurd (false≢true on)
 
 -- If no writes are due on a board, it is the device that it stands for.
-idle_by : (b : Board) (due : Option Cause) (d : Shown) → StandsFor b due d → b.asking.work ≡ None → IsIdle b d
+idle_by : (b : Board) (due : Option Cause) (d : DeviceView) → StandsFor b due d → b.asking.work ≡ None → IsIdle b d
 idle_by b None d k none = k
 idle_by b (Some cause) d k none = let some = k.asks.work_is in absurd (cc)
 
@@ -52,7 +52,7 @@ power_happens b b' s begins run event =
 
 module _ (refines : IdleRefines) (past : List (List ℕ)) where
   -- Within a call the active image is that of the device, or one of the offers.
-  pub part_image : (b mid : Board) (d : Shown) (call : Event) (cause : Cause) (front : List BoardStep) (image : List ℕ) → IsIdle b d
+  pub part_image : (b mid : Board) (d : DeviceView) (call : Event) (cause : Cause) (front : List BoardStep) (image : List ℕ) → IsIdle b d
       → IsSound past d.stage → IsOf call cause → IsPartOf call front → IsRun b front mid → Active (medium_on mid) image
       → (image ≡ image_of d.slots) ⊎ IsOneOf image past
   part_image b mid d call cause front image k sound is part run active =
@@ -60,15 +60,16 @@ module _ (refines : IdleRefines) (past : List (List ℕ)) where
       let none = part_tells call cause front r.rows r.due is part r.tells in
       let same : r.device ≡ d = subst (λ (rows : List TableRow). IsHistory d rows r.device) none r.history in
       elim (r.image image active) [
-        | inl old ↦ inl (old ∙ ap (λ (x : Shown). image_of x.slots) same)
+        | inl old ↦ inl (old ∙ ap (λ (x : DeviceView). image_of x.slots) same)
         | inr waits ↦ waits_one past (image_of d.slots) image d.stage
-            (subst (λ (x : Shown). is_manifesting (state_of x.stage) ≡ true) same waits.1) sound
-            (waits.2 ∙ ap (λ (x : Shown). taken_of (situation x)) same)
+            (subst (λ (x : DeviceView). is_manifesting (state_of x.stage) ≡ true) same waits.1) sound
+            (waits.2 ∙ ap (λ (x : DeviceView). taken_of (situation x)) same)
       ]
 
   module _ (c : Profile) where
     -- The power goes after these steps of a call.
-    pub stopped : (b b' : Board) (d : Shown) (call : Event) (cause : Cause) (front : List BoardStep) (power : BoardStep) (begins : Bool)
+    pub stopped : (b b' : Board) (d : DeviceView) (call : Event) (cause : Cause) (front : List BoardStep) (power : BoardStep)
+        (begins : Bool)
         → IsIdle b d → profile d ≡ c → IsSound past d.stage → IsOf call cause → IsPartOf call front → power.event ≡ Restart begins
         → IsRun b (front ++ power ∷ []) b' → Became c past (situation d) b'
     stopped b b' d call cause front power begins k e sound is part event run =
@@ -90,24 +91,24 @@ module _ (refines : IdleRefines) (past : List (List ℕ)) where
             image = subst (λ (i : List ℕ). (i ≡ image_of d.slots) ⊎ IsOneOf i past) now
                 (part_image b parts.mid d call cause front there.has_image.image k sound is part parts.first
                 (subst (λ (m : MediumState). Active m there.has_image.image) again there.has_image.active));
-            sound = subst (λ (x : Shown). IsSound past x.stage) idle.device
-                (subst (λ (x : Shown). IsSound past x.stage) (sym on.device) (start_sound past on.begins));
+            sound = subst (λ (x : DeviceView). IsSound past x.stage) idle.device
+                (subst (λ (x : DeviceView). IsSound past x.stage) (sym on.device) (start_sound past on.begins));
           };
         }
       where
         after_flash : (mid b' : Board) (s : BoardStep) → IsRun mid (s ∷ []) b' → b'.flash ≡ mid.flash → s.after.flash ≡ mid.flash
         after_flash mid b' s run same = ap (λ (x : Board). x.flash) (sym run.3) ∙ same
 
-        rest_image : (b : Board) (d : Shown) (i : List ℕ) → IsIdle b d → Active (medium_on b) i → i ≡ image_of d.slots
+        rest_image : (b : Board) (d : DeviceView) (i : List ℕ) → IsIdle b d → Active (medium_on b) i → i ≡ image_of d.slots
         rest_image b d i k active =
             let r = refines b b d [] k refl in
             let same : r.device ≡ d = subst (λ (rows : List TableRow). IsHistory d rows r.device) r.tells.0 r.history in
             elim (r.image i active) [
-              | inl old ↦ old ∙ ap (λ (x : Shown). image_of x.slots) same
+              | inl old ↦ old ∙ ap (λ (x : DeviceView). image_of x.slots) same
               | inr waits ↦ absurd (waits.0 r.tells.1)
             ]
 
-    stops_within : (b b' : Board) (d : Shown) (call : Event) (cause : Cause) (steps : List BoardStep) → IsIdle b d → profile d ≡ c
+    stops_within : (b b' : Board) (d : DeviceView) (call : Event) (cause : Cause) (steps : List BoardStep) → IsIdle b d → profile d ≡ c
         → IsSound past d.stage → IsOf call cause → IsBrokenCall call steps → IsRun b steps b' → Became c past (situation d) b'
     stops_within b b' d call cause steps k e sound is br run =
         let x = broken_after call steps br in
@@ -115,7 +116,7 @@ module _ (refines : IdleRefines) (past : List (List ℕ)) where
         (subst (λ (l : List BoardStep). IsRun b l b') x.steps_are run)
 
     -- The power goes with this call under way, which leads so if it comes to its end.
-    pub stops_by : (b b' : Board) (d : Shown) (call : Event) (cause : Cause) (steps : List BoardStep) → IsIdle b d → profile d ≡ c
+    pub stops_by : (b b' : Board) (d : DeviceView) (call : Event) (cause : Cause) (steps : List BoardStep) → IsIdle b d → profile d ≡ c
         → IsSound past d.stage → IsOf call cause
         → ((mid : Board) (more : List BoardStep) (says : Says) → Reaches call b more says mid → Became c past (situation d) mid)
         → Stops call b steps b' → Became c past (situation d) b'

@@ -4,18 +4,18 @@ use Rattle.std.proofs.Common.{refl, sym, subst}
 use Rattle.dfu_slots.specs.Seen.{image_of}
 use Rattle.dfu_device.specs.declared.objection.Objection.{Objection}
 use Rattle.dfu_device.specs.Stage.{Profile}
-use Rattle.dfu_device.specs.Shown.{Shown, situation}
+use Rattle.dfu_device.specs.DeviceView.{DeviceView, situation}
 use Rattle.dfu_device.specs.Rows.{Transfer, Passing, BusReset, RefusingClose, Refusing}
 use Rattle.dfu_sim.specs.Session.{IsOneOf}
 use Rattle.dfu_sim.specs.LinkAgreement.{IsSound}
 use Rattle.dfu_sim.specs.Play.{Answered}
-use Rattle.dfu_sim.specs.Bench.{Session}
+use Rattle.dfu_sim.specs.LinkView.{Session}
 use Rattle.dfu_sim.specs.Simulation.{Simulation, OnlyOffered}
 use Rattle.dfu_board.specs.Board.{Board, Handle, Elapse, UsbReset, RefuseClose, Refuse, Event, Says, BoardStep}
 use Rattle.dfu_board.specs.Refines.{IsIdle, IdleRefines}
 use Rattle.dfu_board_play.specs.Calls.{Reaches, Objects, refused_once, refused_twice}
 use Rattle.dfu_board_play.specs.Comes.{BoardLink, IsUnderWay, BoardComes, passes, sends, objects, refuses, waits, resets, is_reset, restarts}
-use Rattle.dfu_board_play.specs.Plays.{HasKnown}
+use Rattle.dfu_board_play.specs.Plays.{KnownIsActive}
 use Rattle.dfu_board_play.proofs.Served.{served}
 use Rattle.dfu_board_play.proofs.Became.{Became}
 use Rattle.dfu_board_play.proofs.Played.{Stands, way_cause, way_well}
@@ -25,15 +25,16 @@ use Rattle.dfu_board_play.proofs.Within.{KnownOf, Through, became_known, rest_kn
 module _ (refines : IdleRefines) (simulation : Simulation) (only : OnlyOffered) (c : Profile) (sized : 0 < c.transfer)
     (first : List ℕ) (past : List (List ℕ)) (last : Option (List ℕ)) where
   -- A call under way on a board of which all this holds leads to one whose image and closed bytes are well.
-  leads_on : (l : BoardLink) (d : Shown) (call : Event) → Stands c first past last l d → IsUnderWay l.session call
+  leads_on : (l : BoardLink) (d : DeviceView) (call : Event) → Stands c first past last l d → IsUnderWay l.session call
       → (mid : Board) (more : List BoardStep) (says : Says) → Reaches call l.board more says mid → Became c past (situation d) mid
   leads_on l d call s way mid more says reaches =
       way_well refines simulation only c sized past l.session call l.board mid d more says s.idle s.profile_is s.sound s.offered s.fact way
       reaches
 
   -- Through a request whose image the program refuses.
-  objects_known : (b b' : Board) (d : Shown) (setup body : List ℕ) (why : Objection) (steps : List BoardStep) (says : Says) → IsIdle b d
-      → KnownOf first past d → HasKnown first past b' → Objects setup body why b steps says b' → Through refines c first past b steps
+  objects_known : (b b' : Board) (d : DeviceView) (setup body : List ℕ) (why : Objection) (steps : List BoardStep) (says : Says)
+      → IsIdle b d
+      → KnownOf first past d → KnownIsActive first past b' → Objects setup body why b steps says b' → Through refines c first past b steps
   objects_known b b' d setup body why steps _ k known at (refused_once {a = a} {out = out} serves) =
       call_known refines c first past b b' d (RefuseClose setup why) (RefusingClose setup why) steps a out k known refl serves at
   objects_known b b' d setup body why _ _ k known at (refused_twice {first = xs} {second = ys} {a = a} {x = a0} {out = out} {said = out0}
@@ -41,8 +42,8 @@ module _ (refines : IdleRefines) (simulation : Simulation) (only : OnlyOffered) 
       let x = served refines b mid d (RefuseClose setup why) (RefusingClose setup why) xs a0 out0 refl k serves in
       let same = x.row.3 in
       let there : KnownOf first past x.device = record {
-        sound = subst (λ (z : Shown). IsSound past z.stage) (sym same) tt;
-        known = subst (λ (z : Shown). (image_of z.slots ≡ first) ⊎ IsOneOf (image_of z.slots) past) (sym same) known.known;
+        sound = subst (λ (z : DeviceView). IsSound past z.stage) (sym same) tt;
+        known = subst (λ (z : DeviceView). (image_of z.slots ≡ first) ⊎ IsOneOf (image_of z.slots) past) (sym same) known.known;
       } in
       through_append refines c first past b mid xs ys
       (call_known refines c first past b mid d (RefuseClose setup why) (RefusingClose setup why) xs a0 out0 k known refl serves
@@ -51,8 +52,8 @@ module _ (refines : IdleRefines) (simulation : Simulation) (only : OnlyOffered) 
       (call_known refines c first past mid b' x.device (Handle setup body) (Transfer setup body) ys a out x.idle there refl more at)
 
   -- The image is known after each of the steps that come next, if it is at their end.
-  pub comes_known : (l l' : BoardLink) (d : Shown) (steps : List BoardStep) (answer : Answered) → Stands c first past last l d
-      → HasKnown first past l'.board → BoardComes l steps answer l' → Through refines c first past l.board steps
+  pub comes_known : (l l' : BoardLink) (d : DeviceView) (steps : List BoardStep) (answer : Answered) → Stands c first past last l d
+      → KnownIsActive first past l'.board → BoardComes l steps answer l' → Through refines c first past l.board steps
   comes_known l _ d steps _ s at (passes {ms = ms} {a = a} {out = out} {b' = b'} serves) =
       call_known refines c first past l.board b' d (Elapse ms) (Passing ms) steps a out s.idle
       (record { sound = s.sound; known = s.known }) refl serves at

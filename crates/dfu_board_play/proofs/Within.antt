@@ -5,7 +5,7 @@ use Rattle.std.proofs.lemmas.List.{append-nil}
 use Rattle.dfu_slots.specs.Seen.{image_of}
 use Rattle.dfu_device.specs.declared.answer.Answer.{Answer}
 use Rattle.dfu_device.specs.Stage.{Profile}
-use Rattle.dfu_device.specs.Shown.{Shown, situation}
+use Rattle.dfu_device.specs.DeviceView.{DeviceView, situation}
 use Rattle.dfu_device.specs.Rows.{Cause, BusReset}
 use Rattle.dfu_sim.specs.Session.{IsOneOf}
 use Rattle.dfu_sim.specs.LinkAgreement.{IsSound}
@@ -13,7 +13,7 @@ use Rattle.dfu_board.specs.Board.{Board, UsbReset, Event, Says, Answers, BoardSt
 use Rattle.dfu_board.specs.Happens.{IsRun}
 use Rattle.dfu_board.specs.Refines.{IsIdle, IdleRefines}
 use Rattle.dfu_board_play.specs.Calls.{Serves, IsBrokenCall, Reaches, lost, once, twice, Stops, behind, within, within_second}
-use Rattle.dfu_board_play.specs.Plays.{HasKnown}
+use Rattle.dfu_board_play.specs.Plays.{KnownIsActive}
 use Rattle.dfu_board_play.proofs.Served.{IsOf}
 use Rattle.dfu_board_play.proofs.Parts.{front_of, tail_of, IsPartOf, no_rest, call_front, broken_front}
 use Rattle.dfu_board_play.proofs.Became.{Became}
@@ -21,14 +21,14 @@ use Rattle.dfu_board_play.proofs.Stopped.{part_image}
 use Rattle.dfu_board_play.proofs.Ran.{one_run, reaches_run}
 
 -- The image of a device is the first one, or one of the offers; and bytes that were closed are one of these.
-pub record KnownOf (first : List ℕ) (past : List (List ℕ)) (d : Shown) : Type 0 where
+pub record KnownOf (first : List ℕ) (past : List (List ℕ)) (d : DeviceView) : Type 0 where
   pub sound : IsSound past d.stage
   pub known : (image_of d.slots ≡ first) ⊎ IsOneOf (image_of d.slots) past
 
 module _ (refines : IdleRefines) (c : Profile) (first : List ℕ) (past : List (List ℕ)) where
   -- After each of the steps from this board on, its image is one of them.
   abbrev pub Through : Board → List BoardStep → Type 0
-  Through b steps = (front rest : List BoardStep) (mid : Board) → front ++ rest ≡ steps → IsRun b front mid → HasKnown first past mid
+  Through b steps = (front rest : List BoardStep) (mid : Board) → front ++ rest ≡ steps → IsRun b front mid → KnownIsActive first past mid
 
   known_by : (image i : List ℕ) → (image ≡ first) ⊎ IsOneOf image past → (i ≡ image) ⊎ IsOneOf i past → (i ≡ first) ⊎ IsOneOf i past
   known_by image i known (inl same) = elim known [
@@ -38,14 +38,16 @@ module _ (refines : IdleRefines) (c : Profile) (first : List ℕ) (past : List (
   known_by image i known (inr one) = inr one
 
   -- What a device becomes is known if the device was.
-  pub became_known : (d : Shown) (b' : Board) → KnownOf first past d → (x : Became c past (situation d) b') → KnownOf first past x.device
+  pub became_known : (d : DeviceView) (b' : Board) → KnownOf first past d → (x : Became c past (situation d) b')
+      → KnownOf first past x.device
   became_known d b' k x = record {
     sound = x.well.sound;
     known = known_by (image_of d.slots) (image_of x.device.slots) k.known x.well.image;
   }
 
-  part_known : (b mid : Board) (d : Shown) (call : Event) (cause : Cause) (front : List BoardStep) → IsIdle b d → KnownOf first past d → IsOf call cause
-      → IsPartOf call front → IsRun b front mid → HasKnown first past mid
+  part_known : (b mid : Board) (d : DeviceView) (call : Event) (cause : Cause) (front : List BoardStep) → IsIdle b d
+      → KnownOf first past d → IsOf call cause
+      → IsPartOf call front → IsRun b front mid → KnownIsActive first past mid
   part_known b mid d call cause front k known is part run =
       let i = (refines b mid d front k run).has_image in
       record {
@@ -56,7 +58,7 @@ module _ (refines : IdleRefines) (c : Profile) (first : List ℕ) (past : List (
       }
 
   -- So it is on a board at rest.
-  pub rest_known : (b : Board) (d : Shown) → IsIdle b d → KnownOf first past d → HasKnown first past b
+  pub rest_known : (b : Board) (d : DeviceView) → IsIdle b d → KnownOf first past d → KnownIsActive first past b
   rest_known b d k known = part_known b b d UsbReset BusReset [] k known refl tt refl
 
   -- Through a run in two parts.
@@ -71,39 +73,42 @@ module _ (refines : IdleRefines) (c : Profile) (first : List ℕ) (past : List (
       run.3 more front rest x (ap tail_of e) after
 
   -- At the end of it, all of the steps have come.
-  all_known : (b b' mid : Board) (steps front rest : List BoardStep) → IsRun b steps b' → HasKnown first past b' → front ++ rest ≡ steps
-      → rest ≡ [] → IsRun b front mid → HasKnown first past mid
+  all_known : (b b' mid : Board) (steps front rest : List BoardStep) → IsRun b steps b' → KnownIsActive first past b'
+      → front ++ rest ≡ steps
+      → rest ≡ [] → IsRun b front mid → KnownIsActive first past mid
   all_known b b' mid steps front rest run at e none way =
       let same : front ≡ steps = sym (append-nil front) ∙ ap (λ (l : List BoardStep). front ++ l) (sym none) ∙ e in
-      subst (λ (x : Board). HasKnown first past x)
+      subst (λ (x : Board). KnownIsActive first past x)
       (one_run b steps b' mid run (subst (λ (l : List BoardStep). IsRun b l mid) same way)) at
 
   -- Through a call.
-  pub call_known : (b b' : Board) (d : Shown) (call : Event) (cause : Cause) (steps : List BoardStep) (a : Answer) (out : List ℕ)
-      → IsIdle b d → KnownOf first past d → IsOf call cause → Serves b call steps a out b' → HasKnown first past b' → Through b steps
+  pub call_known : (b b' : Board) (d : DeviceView) (call : Event) (cause : Cause) (steps : List BoardStep) (a : Answer) (out : List ℕ)
+      → IsIdle b d → KnownOf first past d → IsOf call cause → Serves b call steps a out b' → KnownIsActive first past b' → Through b steps
   call_known b b' d call cause steps a out k known is serves at front rest mid e run = elim (call_front call a out front rest steps serves.is e) [
     | inl part ↦ part_known b mid d call cause front k known is part run
     | inr none ↦ all_known b b' mid steps front rest serves.run at e none run
   ]
 
-  broken_known : (b b' : Board) (d : Shown) (call : Event) (cause : Cause) (steps : List BoardStep) → IsIdle b d → KnownOf first past d
-      → IsOf call cause → IsRun b steps b' → IsBrokenCall call steps → HasKnown first past b' → Through b steps
+  broken_known : (b b' : Board) (d : DeviceView) (call : Event) (cause : Cause) (steps : List BoardStep) → IsIdle b d → KnownOf first past d
+      → IsOf call cause → IsRun b steps b' → IsBrokenCall call steps → KnownIsActive first past b' → Through b steps
   broken_known b b' d call cause steps k known is all br at front rest mid e run = elim (broken_front call front rest steps br e) [
     | inl part ↦ part_known b mid d call cause front k known is part run
     | inr none ↦ all_known b b' mid steps front rest all at e none run
   ]
 
-  pub none_known : (b : Board) → HasKnown first past b → Through b []
+  pub none_known : (b : Board) → KnownIsActive first past b → Through b []
   none_known b at front rest mid e run =
-      subst (λ (x : Board). HasKnown first past x) (sym (subst (λ (l : List BoardStep). IsRun b l mid) (no_rest front rest e).0 run)) at
+      subst (λ (x : Board). KnownIsActive first past x)
+      (sym (subst (λ (l : List BoardStep). IsRun b l mid) (no_rest front rest e).0 run)) at
 
-  power_known : (b b' : Board) (s : BoardStep) → HasKnown first past b → HasKnown first past b' → IsRun b (s ∷ []) b' → Through b (s ∷ [])
-  power_known b b' s at at' all [] rest mid e run = subst (λ (x : Board). HasKnown first past x) (sym run) at
+  power_known : (b b' : Board) (s : BoardStep) → KnownIsActive first past b → KnownIsActive first past b' → IsRun b (s ∷ []) b'
+      → Through b (s ∷ [])
+  power_known b b' s at at' all [] rest mid e run = subst (λ (x : Board). KnownIsActive first past x) (sym run) at
   power_known b b' s at at' all (x ∷ xs) rest mid e run =
       all_known b b' mid (s ∷ []) (x ∷ xs) rest all at' e (no_rest xs rest (ap tail_of e)).1 run
 
   -- Through a call over the link, which leads so each time that it comes to its end.
-  pub reaches_known : (b b' : Board) (d : Shown) (call : Event) (cause : Cause) (steps : List BoardStep) (says : Says) → IsIdle b d
+  pub reaches_known : (b b' : Board) (d : DeviceView) (call : Event) (cause : Cause) (steps : List BoardStep) (says : Says) → IsIdle b d
       → KnownOf first past d → IsOf call cause
       → ((mid : Board) (more : List BoardStep) (says : Says) → Reaches call b more says mid → Became c past (situation d) mid)
       → Reaches call b steps says b' → Through b steps
@@ -121,10 +126,11 @@ module _ (refines : IdleRefines) (c : Profile) (first : List ℕ) (past : List (
       (call_known mid b' x.device call cause ys a out x.idle there is more (rest_known b' y.device y.idle (became_known d b' known y)))
 
   -- Through one within which the power goes.
-  pub stops_known : (b b' : Board) (d : Shown) (call : Event) (cause : Cause) (steps : List BoardStep) → IsIdle b d → KnownOf first past d
+  pub stops_known : (b b' : Board) (d : DeviceView) (call : Event) (cause : Cause) (steps : List BoardStep) → IsIdle b d
+      → KnownOf first past d
       → IsOf call cause
       → ((mid : Board) (more : List BoardStep) (says : Says) → Reaches call b more says mid → Became c past (situation d) mid)
-      → Stops call b steps b' → HasKnown first past b' → Through b steps
+      → Stops call b steps b' → KnownIsActive first past b' → Through b steps
   stops_known b b' d call cause _ k known is leads (behind {steps = steps} {says = says} {mid = mid} power begins reaches run event) at =
       let x = leads mid steps says reaches in
       through_append b mid steps (power ∷ []) (reaches_known b mid d call cause steps says k known is leads reaches)

@@ -2,21 +2,21 @@
 use Rattle.std.specs.Prelude.{◌≡◌, ℕ, Bool, List, [], ◌∷◌, ◌++◌}
 use Rattle.dfu_device.specs.declared.answer.Answer.{Answer}
 use Rattle.dfu_device.specs.declared.objection.Objection.{Objection}
-use Rattle.dfu_board.specs.Board.{Board, Event, Handle, RefuseClose, Write, Report, Restart, Says, Nothing, WritesDue, Answers, BoardStep}
+use Rattle.dfu_board.specs.Board.{Board, Event, Handle, RefuseClose, Write, Took, Restart, Says, Nothing, WritesDue, Answers, BoardStep}
 use Rattle.dfu_board.specs.Happens.{IsRun}
 
 -- What may come to a board while writes are due: the flash is written, or the program says how that went and is not answered yet, or any
 -- other call is refused.
 abbrev pub CarriesOn : Event → Says → Type 0
 CarriesOn Write says = Unit {0}
-CarriesOn (Report failed) (Answers a out) = ⊥
-CarriesOn (Report failed) says = Unit {0}
+CarriesOn (Took failed) (Answers a out) = ⊥
+CarriesOn (Took failed) says = Unit {0}
 CarriesOn (Restart begins) says = ⊥
 CarriesOn event says = says ≡ Nothing
 
 -- Writes are due, and these steps come until the last of them answers like this.
 pub data WorksOff (a : Answer) (out : List ℕ) : List BoardStep → Type 0 where
-  ends : (s : BoardStep) (failed : Bool) → s.event ≡ Report failed → s.says ≡ Answers a out → WorksOff a out (s ∷ [])
+  ends : (s : BoardStep) (failed : Bool) → s.event ≡ Took failed → s.says ≡ Answers a out → WorksOff a out (s ∷ [])
   carries_on : (s : BoardStep) (rest : List BoardStep) → CarriesOn s.event s.says → WorksOff a out rest → WorksOff a out (s ∷ rest)
 
 -- These steps are a call that is answered like this, at once or after the writes that it asks for.

@@ -7,9 +7,9 @@ use Rattle.dfu_host.specs.Phases.{Deed, Send, Wait, Reset, Heard, NoRoom, Nothin
 use Rattle.dfu_host.specs.Table.{deed}
 use Rattle.dfu_host.specs.Host.{HostState, wants_memory}
 use Rattle.dfu_host.specs.Wire.{IsAsked}
-use Rattle.dfu_sim.specs.Bench.{Session, Hosted}
+use Rattle.dfu_sim.specs.LinkView.{Session, Hosted}
 use Rattle.dfu_sim.specs.Bytes.{HearsAnswer}
-use Rattle.dfu_sim.specs.Play.{Answered, silent, Took, took, told}
+use Rattle.dfu_sim.specs.Play.{Answered, silent, Took, took, notify_restart}
 use Rattle.dfu_board.specs.Board.{Board, Event, Handle, Elapse, UsbReset, Refuse, Says, Answers, BoardStep}
 use Rattle.dfu_board_play.specs.Calls.{Serves, Reaches, Objects, Stops}
 
@@ -65,7 +65,7 @@ pub data BoardComes (l : BoardLink) : List BoardStep → Answered → BoardLink 
   -- and of no answer.
   is_reset : {call : Event} {steps more : List BoardStep} {says : Says} {a : Answer} {out : List ℕ} {mid b' : Board}
       → IsUnderWay l.session call → Reaches call l.board steps says mid → Serves mid UsbReset more a out b'
-      → BoardComes l (steps ++ more) (told l.session).answer (left b' (told l.session))
+      → BoardComes l (steps ++ more) (notify_restart l.session).answer (left b' (notify_restart l.session))
   -- The power goes and comes back, with this call under way. A live host hears of that and of no answer.
   restarts : {call : Event} {steps : List BoardStep} {b' : Board} → IsUnderWay l.session call → Stops call l.board steps b'
-      → BoardComes l steps (told l.session).answer (left b' (told l.session))
+      → BoardComes l steps (notify_restart l.session).answer (left b' (notify_restart l.session))

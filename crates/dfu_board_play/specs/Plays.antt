@@ -5,9 +5,9 @@ use Rattle.dfu_slots.specs.Image.{Active}
 use Rattle.dfu_host.specs.declared.limits.Limits.{Limits}
 use Rattle.dfu_host.specs.Phases.{Goal, ToFetch}
 use Rattle.dfu_host.specs.Host.{HostState, started, aborted}
-use Rattle.dfu_sim.specs.declared.aim.Aim.{Aim}
-use Rattle.dfu_sim.specs.Bench.{Nobody, Hosted}
-use Rattle.dfu_sim.specs.Opening.{goal_of_aim}
+use Rattle.dfu_sim.specs.declared.purpose.Purpose.{Purpose}
+use Rattle.dfu_sim.specs.LinkView.{Nobody, Hosted}
+use Rattle.dfu_sim.specs.Opening.{goal_of_purpose}
 use Rattle.dfu_sim.specs.Play.{Answered}
 use Rattle.dfu_sim.specs.Session.{IsOneOf, SaysInPlace}
 use Rattle.dfu_board.specs.Board.{Board, medium_on, state_on, BoardStep}
@@ -24,9 +24,9 @@ pub data Plays (b : Board) : List BoardStep → List (List ℕ) → Option (List
   -- No session has begun.
   starts : Plays b [] [] None (record { board = b; session = Nobody })
   -- A payload is offered, to be installed, or to be installed and verified.
-  offers : {steps : List BoardStep} {past : List (List ℕ)} {last : Option (List ℕ)} {l : BoardLink} (aim : Aim) (payload : List ℕ)
+  offers : {steps : List BoardStep} {past : List (List ℕ)} {last : Option (List ℕ)} {l : BoardLink} (purpose : Purpose) (payload : List ℕ)
       (limits : Limits) → Plays b steps past last l → l.session ≡ Nobody → 0 < length payload
-      → Plays b steps (payload ∷ past) (Some payload) (opened_on l.board (goal_of_aim aim payload) limits)
+      → Plays b steps (payload ∷ past) (Some payload) (opened_on l.board (goal_of_purpose purpose payload) limits)
   -- An upload begins.
   uploads : {steps : List BoardStep} {past : List (List ℕ)} {last : Option (List ℕ)} {l : BoardLink} (limits : Limits)
       → Plays b steps past last l → l.session ≡ Nobody → Plays b steps past None (opened_on l.board ToFetch limits)
@@ -58,7 +58,7 @@ PlaysGive = (b : Board) (steps more : List BoardStep) (past : List (List ℕ)) (
     → BoardComes l more answer l' → answer.gave ≡ Some bytes → Active (medium_on l'.board) bytes
 
 -- The active image of a board's flash is this one, or one of these.
-pub record HasKnown (image : List ℕ) (past : List (List ℕ)) (b : Board) : Type 0 where
+pub record KnownIsActive (image : List ℕ) (past : List (List ℕ)) (b : Board) : Type 0 where
   pub now : List ℕ
   pub active : Active (medium_on b) now
   pub known : (now ≡ image) ⊎ IsOneOf now past
@@ -67,13 +67,13 @@ pub record HasKnown (image : List ℕ) (past : List (List ℕ)) (b : Board) : Ty
 abbrev pub PlaysKnow : Type 0
 PlaysKnow = (b : Board) (steps : List BoardStep) (past : List (List ℕ)) (last : Option (List ℕ)) (l : BoardLink) (image : List ℕ)
     → IsPoweredOn b → 0 < b.asking.config.functional.transfer → Active (medium_on b) image → Plays b steps past last l
-    → HasKnown image past l.board
+    → KnownIsActive image past l.board
 
 -- So it is at each step of what comes next, also between two writes of a call that is under way: after the first of its steps.
 abbrev pub PlaysKnowWithin : Type 0
 PlaysKnowWithin = (b mid : Board) (steps front rest : List BoardStep) (past : List (List ℕ)) (last : Option (List ℕ)) (l l' : BoardLink)
     (answer : Answered) (image : List ℕ) → IsPoweredOn b → 0 < b.asking.config.functional.transfer → Active (medium_on b) image
-    → Plays b steps past last l → BoardComes l (front ++ rest) answer l' → IsRun l.board front mid → HasKnown image past mid
+    → Plays b steps past last l → BoardComes l (front ++ rest) answer l' → IsRun l.board front mid → KnownIsActive image past mid
 
 -- All that comes to the board is a run of it, so what holds of runs holds.
 abbrev pub PlaysRun : Type 0

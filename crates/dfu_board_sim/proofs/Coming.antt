@@ -6,12 +6,12 @@ use Rattle.dfu_host.specs.declared.limits.Limits.{Limits}
 use Rattle.dfu_host.specs.declared.report.Report.{Report}
 use Rattle.dfu_host.specs.Phases.{Phase, Over, OverUploaded, ToFetch, Restarted}
 use Rattle.dfu_host.specs.Host.{HostState, IsOn, after, aborted, started}
-use Rattle.dfu_sim.specs.declared.aim.Aim.{Aim}
+use Rattle.dfu_sim.specs.declared.purpose.Purpose.{Purpose}
 use Rattle.dfu_sim.specs.declared.fault.LinkFault.{LinkFault}
 use Rattle.dfu_sim.specs.declared.fault.LinkFault.TheVariants as fault
-use Rattle.dfu_sim.specs.Bench.{Session, Nobody, Hosted}
+use Rattle.dfu_sim.specs.LinkView.{Session, Nobody, Hosted}
 use Rattle.dfu_sim.specs.Happening.{Fate, Harm, Happening, Offers, Uploads, Aborts, Goes, Passes, Resets, Cuts, Refuses}
-use Rattle.dfu_sim.specs.Play.{silent, settled, told, given}
+use Rattle.dfu_sim.specs.Play.{silent, settled, notify_restart, given}
 use Rattle.dfu_sim.specs.Refusing.{IsRefused, CanGive}
 use Rattle.dfu_sim.specs.Standing.{session_of, given_by, IsOnIn}
 use Rattle.dfu_sim.specs.inside.Acting.{HasBegun}
@@ -31,7 +31,7 @@ settled_on h p e = subst (λ (x : Phase). IsOn x) (sym e) tt
 pub ended_on : (h : HostState) → IsOnIn (settled h h.phase).session
 ended_on h = settled_on h h.phase refl
 
-pub told_on : (s : Session) → IsOnIn (told s).session
+pub told_on : (s : Session) → IsOnIn (notify_restart s).session
 told_on Nobody = tt
 told_on (Hosted h) = ended_on (after h Restarted)
 
@@ -50,13 +50,13 @@ module _ (b : Board) (gave : Option HostState) where
   idle_refused h why (Some k) e is = absurd cc
 
   -- A session begins.
-  pub offer_comes : (aim : Aim) (file : List ℕ) (limits : Limits) (live : Option HostState) (h : HostState) → is_some live ≡ false
-      → HasBegun b.asking.config aim file limits h
-      → LinkComes (link_on b live gave) (Offers aim file limits) (link_on b (Some h) gave) (Ok None)
-  offer_comes aim file limits None h e begun =
-      has_happened (Offers aim begun.content.payload limits) silent (begun.content.payload, begun.offered, refl)
+  pub offer_comes : (purpose : Purpose) (file : List ℕ) (limits : Limits) (live : Option HostState) (h : HostState) → is_some live ≡ false
+      → HasBegun b.asking.config purpose file limits h
+      → LinkComes (link_on b live gave) (Offers purpose file limits) (link_on b (Some h) gave) (Ok None)
+  offer_comes purpose file limits None h e begun =
+      has_happened (Offers purpose begun.content.payload limits) silent (begun.content.payload, begun.offered, refl)
       (refl, bytes_of begun.offered, (λ i. record { board = b; session = Hosted (begun.host i) }), refl) refl
-  offer_comes aim file limits (Some k) h e begun = absurd cc
+  offer_comes purpose file limits (Some k) h e begun = absurd cc
 
   pub upload_comes : (limits : Limits) (live : Option HostState) (h : HostState) → is_some live ≡ false → CanGive b.asking.config
       → h ≡ started b.asking.config.functional ToFetch limits
@@ -81,20 +81,20 @@ module _ (b : Board) (gave : Option HostState) where
   refusal_comes b' live why says served = has_happened (Refuses why) silent refl (says, served, refl, refl) refl
 
   module _ (b' : Board) (live live' gave' : Option HostState) (r : Option Report)
-      (session : session_of live' ≡ (told (session_of live)).session)
-      (up : given_by gave' ≡ given (told (session_of live)).answer.gave (given_by gave))
-      (report : r ≡ (told (session_of live)).answer.report) where
+      (session : session_of live' ≡ (notify_restart (session_of live)).session)
+      (up : given_by gave' ≡ given (notify_restart (session_of live)).answer.gave (given_by gave))
+      (report : r ≡ (notify_restart (session_of live)).answer.report) where
     -- The bus is reset.
     pub reset_comes : (says : Says) → HasServed b UsbReset says b' → LinkComes (link_on b live gave) Resets (link_on b' live' gave') (Ok r)
     reset_comes says served =
         subst (λ (x : Option Report). LinkComes (link_on b live gave) Resets (link_on b' live' gave') (Ok x)) (sym report)
-        (has_happened Resets (told (session_of live)).answer refl (says, served, session, refl) up)
+        (has_happened Resets (notify_restart (session_of live)).answer refl (says, served, session, refl) up)
 
     -- The power goes and comes back.
     pub cut_comes : IsRestarted b b' → LinkComes (link_on b live gave) Cuts (link_on b' live' gave') (Ok r)
     cut_comes power =
         subst (λ (x : Option Report). LinkComes (link_on b live gave) Cuts (link_on b' live' gave') (Ok x)) (sym report)
-        (has_happened Cuts (told (session_of live)).answer refl (power, session, refl) up)
+        (has_happened Cuts (notify_restart (session_of live)).answer refl (power, session, refl) up)
 
   -- The host acts.
   pub go_comes : (fate : Fate) (harm : Harm) (b' : Board) (h h' : HostState) (live' gave' : Option HostState) (r : Option Report)

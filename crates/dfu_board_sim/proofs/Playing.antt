@@ -5,8 +5,8 @@ use Rattle.dfu_device.specs.declared.answer.Answer.TheVariants as answer
 use Rattle.dfu_device.specs.declared.objection.Objection.{Objection}
 use Rattle.dfu_wire.specs.declared.states.State.TheVariants.{AppIdle}
 use Rattle.dfu_slots.specs.Image.{Active}
-use Rattle.dfu_device.specs.declared.mode.Mode.{Mode}
-use Rattle.dfu_device.specs.declared.mode.Mode.TheVariants as mode
+use Rattle.dfu_device.specs.declared.device_state.DeviceState.{DeviceState}
+use Rattle.dfu_device.specs.declared.device_state.DeviceState.TheVariants as device_state
 use Rattle.dfu_device.specs.Parts.{stage_of}
 use Rattle.dfu_device.specs.Stage.{InAppIdle, state_of}
 use Rattle.dfu_host.specs.declared.report.Report.{Report}
@@ -14,21 +14,21 @@ use Rattle.dfu_host.specs.declared.report.Report.TheVariants.{Installed, Verifie
 use Rattle.dfu_host.specs.Phases.{Deed, Send, Wait, Reset, Done, Heard, Waited, WasReset, Restarted}
 use Rattle.dfu_host.specs.Table.{deed}
 use Rattle.dfu_host.specs.Host.{HostState, after, aborted}
-use Rattle.dfu_sim.specs.Bench.{Session, Nobody, Hosted}
-use Rattle.dfu_sim.specs.declared.aim.Aim.{Aim}
-use Rattle.dfu_sim.specs.declared.aim.Aim.TheVariants.{Install, Verify}
+use Rattle.dfu_sim.specs.LinkView.{Session, Nobody, Hosted}
+use Rattle.dfu_sim.specs.declared.purpose.Purpose.{Purpose}
+use Rattle.dfu_sim.specs.declared.purpose.Purpose.TheVariants.{Install, Verify}
 use Rattle.dfu_sim.specs.declared.event.Event.{Event}
 use Rattle.dfu_sim.specs.declared.event.Event.TheVariants as event
 use Rattle.dfu_sim.specs.declared.fault.LinkFault.{LinkFault}
 use Rattle.dfu_host.specs.declared.limits.Limits.{Limits}
 use Rattle.dfu_host.specs.Phases.{ToFetch}
-use Rattle.dfu_sim.specs.Opening.{goal_of_aim}
+use Rattle.dfu_sim.specs.Opening.{goal_of_purpose}
 use Rattle.dfu_sim.specs.Refusing.{IsOffered}
 use Rattle.dfu_sim.specs.Comes.{Means}
 use Rattle.dfu_sim.specs.Happening.{Fate, Refusing, Happening, happening, fate_of}
 use Rattle.dfu_device.specs.Setting.{Setting}
 use Rattle.dfu_sim.specs.Headline.{Begun, begun_now, WithOffer, AsUpload, IsPayload, WasOffered, IsLastPayload, HeadlineSays}
-use Rattle.dfu_sim.specs.Play.{Answered as LinkAnswered, silent, settled, told}
+use Rattle.dfu_sim.specs.Play.{Answered as LinkAnswered, silent, settled, notify_restart}
 use Rattle.dfu_sim.specs.Session.{IsOneOf, SaysInPlace}
 use Rattle.dfu_board.specs.Board.{Event as CallEvent}
 use Rattle.dfu_board.specs.Board.{Board, medium_on, state_on, Handle, Elapse, RefuseClose, Says, Nothing, WritesDue, Answers, BoardStep}
@@ -36,8 +36,8 @@ use Rattle.dfu_board.specs.Happens.{IsPoweredOn}
 use Rattle.dfu_board_play.specs.Calls.{Reaches, lost, once, twice, Objects, refused_once, refused_twice, behind}
 use Rattle.dfu_board_play.specs.Comes.{BoardLink, left, IsUnderWay, BoardComes, passes, sends, objects, refuses, waits, resets, is_reset, restarts, HearsSentBack}
 use Rattle.dfu_board_play.specs.Plays.{Plays, starts, offers, uploads, aborts as gives_up, goes_on, opened_on, IsInPlace, PlaysInstall, PlaysKnow}
-use Rattle.dfu_board_sim.specs.declared.fates.Handling.{Handling}
-use Rattle.dfu_board_sim.specs.declared.fates.Handling.TheVariants.{Unseen, Once, Again, Late}
+use Rattle.dfu_board_sim.specs.declared.fates.Handled.{Handled}
+use Rattle.dfu_board_sim.specs.declared.fates.Handled.TheVariants.{Unseen, Once, Again, Late}
 use Rattle.dfu_board_sim.specs.Fates.{handling_of, comes_back, is_cut}
 use Rattle.dfu_board_sim.specs.Served.{HasServed, IsHandled, SlipsOnBoard, PowerIsCut}
 use Rattle.dfu_board_sim.specs.Acts.{HearsOf, BoardActs, ComesAgain, HasActed, HasObjected, HasGone}
@@ -51,12 +51,12 @@ was_last (WithOffer file ∷ past) x is = inl is
 was_last (AsUpload ∷ past) x is = elim is [ ]
 
 -- A board is in appIDLE exactly if its device is.
-stage_idle : (m : Mode) (spare block : List ℕ) → state_of (stage_of m [] []) ≡ AppIdle → stage_of m spare block ≡ InAppIdle
-stage_idle mode.AppIdle spare block e = refl
+stage_idle : (m : DeviceState) (spare block : List ℕ) → state_of (stage_of m [] []) ≡ AppIdle → stage_of m spare block ≡ InAppIdle
+stage_idle device_state.AppIdle spare block e = refl
 stage_idle m spare block e = absurd (cc)
 
-state_idle : (m : Mode) (spare block : List ℕ) → stage_of m spare block ≡ InAppIdle → state_of (stage_of m [] []) ≡ AppIdle
-state_idle mode.AppIdle spare block e = refl
+state_idle : (m : DeviceState) (spare block : List ℕ) → stage_of m spare block ≡ InAppIdle → state_of (stage_of m [] []) ≡ AppIdle
+state_idle device_state.AppIdle spare block e = refl
 state_idle m spare block e = absurd (cc)
 
 became : {factory : List ℕ} {past' : List Begun} {l' next : BoardLink} {answer : LinkAnswered} → l' ≡ next → answer ≡ silent
@@ -65,8 +65,8 @@ became {factory = factory} {past' = past'} {l' = l'} e same k =
     subst (λ (a : LinkAnswered). HoldsSince factory past' a.report l') (sym same)
     (subst (λ (x : BoardLink). HoldsSince factory past' None x) (sym e) k)
 
-payload_is : (x payload file : List ℕ) (s : Setting) (aim : Aim) → IsOffered s aim file payload → x ≡ payload → IsPayload x file
-payload_is x payload file s aim o e =
+payload_is : (x payload file : List ℕ) (s : Setting) (purpose : Purpose) → IsOffered s purpose file payload → x ≡ payload → IsPayload x file
+payload_is x payload file s purpose o e =
     subst (λ (y : List ℕ). IsPayload y file) (sym e) (o.ids, o.dfu, o.extra, o.reads)
 
 last_is : (x payload : List ℕ) → Some payload ≡ Some x → x ≡ payload
@@ -143,7 +143,7 @@ module _ (installs : PlaysInstall) (knows : PlaysKnow) where
     same_board r l b' k e =
         subst (λ (b : Board). HoldsSince factory past r (record { board = b; session = l.session })) (sym e) k
 
-    slips_keep : (r : Option Report) (l : BoardLink) (handling : Handling) (b' : Board) → HoldsSince factory past r l
+    slips_keep : (r : Option Report) (l : BoardLink) (handling : Handled) (b' : Board) → HoldsSince factory past r l
         → SlipsOnBoard handling l.board b' → HoldsSince factory past r (record { board = b'; session = l.session })
     slips_keep r l Unseen b' k e = same_board r l b' k e
     slips_keep r l Once b' k e = same_board r l b' k e
@@ -170,7 +170,7 @@ module _ (installs : PlaysInstall) (knows : PlaysKnow) where
           (comes_keep (at b' (after h Restarted)) cut.steps (settled (after h Restarted) (after h Restarted).phase).answer k
           (restarts way cut.stops))
 
-      reached : (handling : Handling) (call : CallEvent) (says : Says) (mid : Board) → IsHandled handling call b says mid
+      reached : (handling : Handled) (call : CallEvent) (says : Says) (mid : Board) → IsHandled handling call b says mid
           → (steps : List BoardStep) × Reaches call b steps says mid
       reached Unseen call says mid e =
           ([], subst (λ (x : Board). Reaches call b [] says x) (sym e.1) (subst (λ (x : Says). Reaches call b [] x b) (sym e.0) lost))
@@ -231,7 +231,7 @@ module _ (installs : PlaysInstall) (knows : PlaysKnow) where
             (subst (λ (x : Says). Objects setup body why b served.steps x at) (sym (e ∙ served.says_is)) (refused_once served.serves)),
       )
 
-      objected : (handling : Handling) (setup body : List ℕ) (why : Objection) (at : Board) (says : Says) (mid : Board)
+      objected : (handling : Handled) (setup body : List ℕ) (why : Objection) (at : Board) (says : Says) (mid : Board)
           → HasServed b (RefuseClose setup why) (Answers answer.Stall []) at → ComesAgain handling setup body at says mid
           → (steps : List BoardStep) × Objects setup body why b steps says mid
       objected Unseen setup body why at says mid served again = elim again [ ]
@@ -272,17 +272,17 @@ module _ (installs : PlaysInstall) (knows : PlaysKnow) where
 
     -- The begin of a session.
 
-    offer_keeps : {before : Option Report} (aim : Aim) (file payload : List ℕ) (limits : Limits) (l : BoardLink) (s : Setting)
-        → IsOffered s aim file payload → HoldsSince factory past before l → l.session ≡ Nobody → 0 < length payload
-        → HoldsSince factory (WithOffer file ∷ past) None (opened_on l.board (goal_of_aim aim payload) limits)
-    offer_keeps aim file payload limits l s o k none bytes =
-        holds_of factory (WithOffer file ∷ past) (opened_on l.board (goal_of_aim aim payload) limits) k.first k.steps (payload ∷ k.payloads)
-        (Some payload) k.on k.some k.active (offers aim payload limits k.plays none bytes)
+    offer_keeps : {before : Option Report} (purpose : Purpose) (file payload : List ℕ) (limits : Limits) (l : BoardLink) (s : Setting)
+        → IsOffered s purpose file payload → HoldsSince factory past before l → l.session ≡ Nobody → 0 < length payload
+        → HoldsSince factory (WithOffer file ∷ past) None (opened_on l.board (goal_of_purpose purpose payload) limits)
+    offer_keeps purpose file payload limits l s o k none bytes =
+        holds_of factory (WithOffer file ∷ past) (opened_on l.board (goal_of_purpose purpose payload) limits) k.first k.steps (payload ∷ k.payloads)
+        (Some payload) k.on k.some k.active (offers purpose payload limits k.plays none bytes)
         (λ x one. elim (one) [
-          | inl same ↦ inl (payload_is x payload file s aim o same)
+          | inl same ↦ inl (payload_is x payload file s purpose o same)
           | inr more ↦ inr (k.offered x more)
         ])
-        (λ x e. payload_is x payload file s aim o (last_is x payload e)) None (λ says. elim says [ ])
+        (λ x e. payload_is x payload file s purpose o (last_is x payload e)) None (λ says. elim says [ ])
 
     upload_keeps : {before : Option Report} (limits : Limits) (l : BoardLink) → HoldsSince factory past before l → l.session ≡ Nobody
         → HoldsSince factory (AsUpload ∷ past) None (opened_on l.board ToFetch limits)
@@ -332,11 +332,11 @@ module _ (installs : PlaysInstall) (knows : PlaysKnow) where
         left_keeps h.2 h.3 (comes_keep (record { board = w'.link.board; session = w.link.session }) h.1.steps silent k (passes h.1.serves))
     event_keeps w w' event.Reset e answer means happens k =
         let h = subst (λ (x : Happening). HappensOnLink x w.link w'.link answer) means happens in
-        left_keeps h.2 h.3 (comes_keep (left w'.link.board (told w.link.session)) ([] ++ h.1.steps) (told w.link.session).answer k
+        left_keeps h.2 h.3 (comes_keep (left w'.link.board (notify_restart w.link.session)) ([] ++ h.1.steps) (notify_restart w.link.session).answer k
         (is_reset {call = Elapse 0} tt lost h.1.serves))
     event_keeps w w' event.Cut e answer means happens k =
         let h = subst (λ (x : Happening). HappensOnLink x w.link w'.link answer) means happens in
-        left_keeps h.1 h.2 (comes_keep (left w'.link.board (told w.link.session)) ([] ++ h.0.power ∷ []) (told w.link.session).answer k
+        left_keeps h.1 h.2 (comes_keep (left w'.link.board (notify_restart w.link.session)) ([] ++ h.0.power ∷ []) (notify_restart w.link.session).answer k
         (restarts {call = Elapse 0} tt (behind h.0.power false lost h.0.run h.0.is)))
 
   pub step_keeps : (w w' : LinkOn) (given : Event) (result : Result (Option Report) LinkFault) → LinkComes w (happening given) w' result

@@ -5,11 +5,11 @@ use Rattle.dfu_slots.specs.Medium.{Torn}
 use Rattle.dfu_slots.specs.Seen.{SlotsState}
 use Rattle.dfu_device.specs.declared.answer.Answer.{Answer}
 use Rattle.dfu_device.specs.Setting.{Setting}
-use Rattle.dfu_device.specs.Shown.{Shown}
+use Rattle.dfu_device.specs.DeviceView.{DeviceView}
 use Rattle.dfu_device.specs.Rows.{Cause, Row}
 use Rattle.dfu_asks.specs.declared.reply.Reply.{Reply}
 use Rattle.dfu_asks.specs.declared.reply.Reply.TheVariants as reply
-use Rattle.dfu_asks.specs.declared.work.Work.{Work}
+use Rattle.dfu_asks.specs.declared.pending_writes.PendingWrites.{PendingWrites}
 use Rattle.dfu_asks.specs.Lent.{IsSetUpAs}
 use Rattle.dfu_asks.specs.Steps.{Step}
 use Rattle.dfu_asks.specs.Carried.{IsPiece}
@@ -36,7 +36,7 @@ room_on b b' room same size =
     }
 
 -- A row that has ended leaves a board at rest.
-ended_rests : (b' : Board) (flash out out' : List ℕ) (x : Answer) (count : ℕ) (R : Answer → List ℕ → Shown → Type 0)
+ended_rests : (b' : Board) (flash out out' : List ℕ) (x : Answer) (count : ℕ) (R : Answer → List ℕ → DeviceView → Type 0)
     → HasEnded flash x count out out' (lent_on b') R → b'.flash ≡ flash → BlockHasRoom b' → IsAtRest b'
 ended_rests b' flash out out' x count R e same room = record {
   kept = record { fits = room.fits; is = subst (λ (f : List ℕ). IsDevice (lent_on b') f) (sym same) e.is };
@@ -79,11 +79,11 @@ module _ (b b' : Board) (cause : Cause) (same : b'.flash ≡ b.flash) (room : Bl
 
 -- What `took` leaves, by its clauses.
 module _ (b b' : Board) (failed : Bool) (p : Step) (same : b'.flash ≡ b.flash) (room : BlockHasRoom b') where
-  further_on : (w : Work) (n : ℕ) → b.asking.work ≡ Some w → b'.asking.work ≡ Some (record w { done = w.done + n })
+  further_on : (w : PendingWrites) (n : ℕ) → b.asking.work ≡ Some w → b'.asking.work ≡ Some (record w { done = w.done + n })
       → done_in b'.asking.work ≡ done_in b.asking.work + n
-  further_on w n was is = ap done_in is ∙ sym (ap (λ (x : Option Work). done_in x + n) was)
+  further_on w n was is = ap done_in is ∙ sym (ap (λ (x : Option PendingWrites). done_in x + n) was)
 
-  took_next : (len : ℕ) (s : SlotsState) (was out out' : List ℕ) (d : Shown) (r : Reply)
+  took_next : (len : ℕ) (s : SlotsState) (was out out' : List ℕ) (d : DeviceView) (r : Reply)
       → (r ≡ reply.Asks → done_in b'.asking.work ≡ done_in b.asking.work + length p.write.bytes)
       → DeviceTook d len s was p.write failed b.flash out (lent_on b') out' r → IsAfterPiece b p r b'
   took_next len s was out out' d _ done (took_well f stands (comes_asks asks device out_is)) =
@@ -103,7 +103,7 @@ module _ (b b' : Board) (failed : Bool) (p : Step) (same : b'.flash ≡ b.flash)
       → ((len : ℕ) (s : SlotsState) (was before : List ℕ) (asks : AsksWrites (lent_on b) len s was before) (q : Step)
       → IsPiece (steps_in (lent_on b) asks.work) asks.work.done q → Torn before q.write.at q.write.bytes b.flash
       → DeviceTook (device_of (lent_on b) s) len s was q.write failed b.flash out (lent_on b') out' r)
-      → (r ≡ reply.Asks → (w : Work) (q : Step) → b.asking.work ≡ Some w → IsPiece (steps_in (lent_on b) w) w.done q
+      → (r ≡ reply.Asks → (w : PendingWrites) (q : Step) → b.asking.work ≡ Some w → IsPiece (steps_in (lent_on b) w) w.done q
       → b'.asking.work ≡ Some (record w { done = w.done + length q.write.bytes }))
       → IsSetUpAs b.asking b'.asking → IsTried p b → IsTakenAs b failed p out' r b'
   took_as space out out' r taken outcome further set_up tried = record {

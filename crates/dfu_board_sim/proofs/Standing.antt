@@ -10,7 +10,7 @@ use Rattle.dfu_slots.proofs.Stands.{two_slots, standing}
 use Rattle.dfu_slots.proofs.Newest.{places_are, active_end}
 use Rattle.dfu_slots.proofs.Parts.{data_length}
 use Rattle.dfu_asks.specs.declared.noted.Noted.{Noted}
-use Rattle.dfu_asks.specs.declared.work.Work.{Work}
+use Rattle.dfu_asks.specs.declared.pending_writes.PendingWrites.{PendingWrites}
 use Rattle.dfu_asks.specs.declared.refusal.Refusal.{Refusal}
 use Rattle.dfu_asks.specs.declared.refusal.Refusal.TheVariants as refusal
 use Rattle.dfu_asks.specs.Noted.{noted_at, IsNoted, NotedStands}
@@ -45,7 +45,7 @@ noted_stands n m noted has =
       fits = omega (arith, len, head.fits, room);
     }
 
-pub no_work : (x : Option Work) → x ≡ None → IsSome x → ⊥
+pub no_work : (x : Option PendingWrites) → x ≡ None → IsSome x → ⊥
 no_work (Some w) none some = absurd (cc)
 no_work None none some = absurd (cc)
 

@@ -5,13 +5,13 @@ use Rattle.dfu_slots.specs.Medium.{Torn}
 use Rattle.dfu_device.specs.declared.answer.Answer.{Answer}
 use Rattle.dfu_device.specs.declared.answer.Answer.TheVariants as answer
 use Rattle.dfu_asks.specs.declared.reply.Reply.TheVariants as reply
-use Rattle.dfu_asks.specs.declared.work.Work.{Work}
+use Rattle.dfu_asks.specs.declared.pending_writes.PendingWrites.{PendingWrites}
 use Rattle.dfu_asks.specs.Lent.{LentAsking, lent, IsSetUpAs}
 use Rattle.dfu_asks.specs.Calls.{AsksWrites}
 use Rattle.dfu_asks.specs.Steps.{Step}
 use Rattle.dfu_asks.specs.Carried.{IsPiece}
 use Rattle.dfu_asks.specs.Asks.{steps_in}
-use Rattle.dfu_board.specs.Board.{Board, lent_on, Event, UsbReset, RefuseClose, Write, Report, Restart, Says, Nothing, WritesDue, Answers, BoardStep}
+use Rattle.dfu_board.specs.Board.{Board, lent_on, Event, UsbReset, RefuseClose, Write, Took, Restart, Says, Nothing, WritesDue, Answers, BoardStep}
 use Rattle.dfu_device.specs.declared.objection.Objection.{Objection}
 use Rattle.dfu_device.specs.Rows.{Cause, RefusingClose}
 use Rattle.dfu_board.specs.Happens.{Happens, IsObjected, IsHanded, BoardStarts, IsRun}
@@ -77,7 +77,7 @@ one_write b b' p handed torn asking block held = (
   refl,
 )
 
-some_same : (w w' : Work) (x : Option Work) → x ≡ Some w → x ≡ Some w' → w ≡ w'
+some_same : (w w' : PendingWrites) (x : Option PendingWrites) → x ≡ Some w → x ≡ Some w' → w ≡ w'
 some_same w w' x is is' = one (sym is ∙ is')
   where
     one : Some w ≡ Some w' → w ≡ w'
@@ -89,7 +89,7 @@ tries : (b b' : Board) (p : Step) → WritesAreDue b → IsHanded b p → Torn b
 tries b b' p due handed torn same =
     let one : handed.0 ≡ due.asks.work = some_same handed.0 due.asks.work b.asking.work handed.1 due.asks.work_is in
     let piece : IsPiece (steps_in (lent_on b) due.asks.work) due.asks.work.done p =
-    subst (λ (w : Work). IsPiece (steps_in (lent_on b) w) w.done p) one handed.2 in
+    subst (λ (w : PendingWrites). IsPiece (steps_in (lent_on b) w) w.done p) one handed.2 in
     subst (λ (l : LentAsking). (asks : AsksWrites l due.len due.s due.was b.flash) → IsPiece (steps_in l asks.work) asks.work.done p →
     IsTried p b') same
     (λ asks piece. record {
@@ -123,7 +123,7 @@ gone b mid mid' w t = (
 )
 
 abbrev told_step : Board → Bool → Says → Board → BoardStep
-told_step b failed says b' = record { before = b; event = Report failed; says = says; after = b' }
+told_step b failed says b' = record { before = b; event = Took failed; says = says; after = b' }
 
 -- The program told of it, and the writes are due still.
 pub goes_on : (b mid mid' b' : Board) (failed : Bool) (out : List ℕ) → IsWorking b mid → (t : HasTried mid mid')

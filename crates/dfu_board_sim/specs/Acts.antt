@@ -10,8 +10,8 @@ use Rattle.dfu_host.specs.Wire.{IsAsked}
 use Rattle.dfu_sim.specs.Bytes.{HearsAnswer}
 use Rattle.dfu_sim.specs.Happening.{Fate, Refusing}
 use Rattle.dfu_board.specs.Board.{Board, Handle, Elapse, UsbReset, RefuseClose, Says, Answers}
-use Rattle.dfu_board_sim.specs.declared.fates.Handling.{Handling}
-use Rattle.dfu_board_sim.specs.declared.fates.Handling.TheVariants.{Unseen, Once, Again, Late}
+use Rattle.dfu_board_sim.specs.declared.fates.Handled.{Handled}
+use Rattle.dfu_board_sim.specs.declared.fates.Handled.TheVariants.{Unseen, Once, Again, Late}
 use Rattle.dfu_board_sim.specs.Fates.{handling_of, comes_back, is_cut, waits_for}
 use Rattle.dfu_board_sim.specs.Served.{HasServed, IsHandled, SlipsOnBoard, PowerIsCut}
 
@@ -66,7 +66,7 @@ abbrev pub HasActed : Fate → HostState → Board → Board → HostState → T
 HasActed fate h b b' h' = BoardActs (is_cut fate) fate h (deed h.task h.phase) b b' h'
 
 -- The same request comes a second time once the program has refused its image, or it does not. What the board says at last.
-abbrev pub ComesAgain : Handling → (setup body : List ℕ) → Board → Says → Board → Type 0
+abbrev pub ComesAgain : Handled → (setup body : List ℕ) → Board → Says → Board → Type 0
 ComesAgain Unseen setup body b says b' = ⊥
 ComesAgain Once setup body b says b' = (says ≡ Answers answer.Stall []) × (b' ≡ b)
 ComesAgain Again setup body b says b' = HasServed b (Handle setup body) says b'

@@ -1,11 +1,11 @@
 -- What each fate comes to.
 use Rattle.std.specs.Prelude.{ℕ, Bool, true, false}
 use Rattle.dfu_sim.specs.Happening.{Fate, Pass, LostOut, LostBack, Twice, TwiceLostBack, Slip, CutIn, Fail, Lie, Refusing}
-use Rattle.dfu_board_sim.specs.declared.fates.Handling.{Handling}
-use Rattle.dfu_board_sim.specs.declared.fates.Handling.TheVariants.{Unseen, Once, Again, Late}
+use Rattle.dfu_board_sim.specs.declared.fates.Handled.{Handled}
+use Rattle.dfu_board_sim.specs.declared.fates.Handled.TheVariants.{Unseen, Once, Again, Late}
 
 -- What the board makes of a request of this fate.
-abbrev pub handling_of : Fate → Handling
+abbrev pub handling_of : Fate → Handled
 handling_of Pass = Once
 handling_of LostOut = Unseen
 handling_of LostBack = Once
@@ -32,7 +32,7 @@ is_cut (Refusing why fate) = is_cut fate
 is_cut fate = false
 
 -- The time that passes in a wait: another if one slips in.
-abbrev pub waits_for : Handling → ℕ → ℕ
+abbrev pub waits_for : Handled → ℕ → ℕ
 waits_for Unseen ms = ms
 waits_for Once ms = ms
 waits_for Again ms = ms

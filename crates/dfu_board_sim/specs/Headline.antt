@@ -4,7 +4,7 @@ use Rattle.dfu_host.specs.declared.report.Report.{Report}
 use Rattle.dfu_slots.specs.Image.{Active}
 use Rattle.dfu_sim.specs.declared.event.Event.{Event}
 use Rattle.dfu_sim.specs.declared.fault.LinkFault.{LinkFault}
-use Rattle.dfu_sim.specs.Bench.{Nobody}
+use Rattle.dfu_sim.specs.LinkView.{Nobody}
 use Rattle.dfu_sim.specs.Session.{IsOneOf}
 use Rattle.dfu_sim.specs.Headline.{Begun, begun_now, WasOffered, IsLastPayload, HeadlineSays}
 use Rattle.dfu_board.specs.Board.{Board, medium_on, BoardStep}

@@ -4,10 +4,10 @@ use Rattle.dfu_host.specs.declared.report.Report.{Report}
 use Rattle.dfu_host.specs.Phases.{ToFetch}
 use Rattle.dfu_host.specs.Host.{HostState, aborted}
 use Rattle.dfu_sim.specs.declared.fault.LinkFault.{LinkFault}
-use Rattle.dfu_sim.specs.Bench.{Bench, Nobody, Hosted}
-use Rattle.dfu_sim.specs.Opening.{goal_of_aim}
+use Rattle.dfu_sim.specs.LinkView.{LinkView, Nobody, Hosted}
+use Rattle.dfu_sim.specs.Opening.{goal_of_purpose}
 use Rattle.dfu_sim.specs.Happening.{Fate, Happening, Offers, Uploads, Aborts, Goes, Passes, Resets, Cuts, Refuses}
-use Rattle.dfu_sim.specs.Play.{Answered, silent, settled, told, given}
+use Rattle.dfu_sim.specs.Play.{Answered, silent, settled, notify_restart, given}
 use Rattle.dfu_sim.specs.Comes.{Means}
 use Rattle.dfu_sim.specs.Refusing.{IsRefused}
 use Rattle.dfu_sim.specs.Standing.{session_of, given_by, IsOnIn}
@@ -29,7 +29,7 @@ abbrev pub link_on : Board → (live gave : Option HostState) → LinkOn
 link_on b live gave = record { link = record { board = b; session = session_of live }; up = given_by gave }
 
 -- A link to a board as one to the device of the device table that it is.
-abbrev pub bench_on : BoardLink → Bench
+abbrev pub bench_on : BoardLink → LinkView
 bench_on l = record { device = device_on l.board; session = l.session }
 
 -- The host's next action on a link, and the end of its session if the host is done then.
@@ -43,17 +43,19 @@ pub record HostGoesOn (fate : Fate) (l l' : BoardLink) (answer : Answered) : Typ
 
 -- Each event on a link.
 abbrev pub HappensOnLink : Happening → BoardLink → BoardLink → Answered → Type 0
-HappensOnLink (Offers aim payload limits) l l' answer = (l.session ≡ Nobody) × (0 < length payload)
-    × (l' ≡ opened_on l.board (goal_of_aim aim payload) limits) × (answer ≡ silent)
+HappensOnLink (Offers purpose payload limits) l l' answer = (l.session ≡ Nobody) × (0 < length payload)
+    × (l' ≡ opened_on l.board (goal_of_purpose purpose payload) limits) × (answer ≡ silent)
 HappensOnLink (Uploads limits) l l' answer = (l.session ≡ Nobody) × (l' ≡ opened_on l.board ToFetch limits) × (answer ≡ silent)
 HappensOnLink Aborts l l' answer = (host : HostState) × (l.session ≡ Hosted host)
     × (l' ≡ record { board = l.board; session = Hosted (aborted host) }) × (answer ≡ silent)
 HappensOnLink (Goes fate harm) l l' answer = HostGoesOn fate l l' answer
 HappensOnLink (Passes ms) l l' answer = (says : Says) × HasServed l.board (Elapse ms) says l'.board × (l'.session ≡ l.session)
     × (answer ≡ silent)
-HappensOnLink Resets l l' answer = (says : Says) × HasServed l.board UsbReset says l'.board × (l'.session ≡ (told l.session).session)
-    × (answer ≡ (told l.session).answer)
-HappensOnLink Cuts l l' answer = IsRestarted l.board l'.board × (l'.session ≡ (told l.session).session) × (answer ≡ (told l.session).answer)
+HappensOnLink Resets l l' answer = (says : Says) × HasServed l.board UsbReset says l'.board
+    × (l'.session ≡ (notify_restart l.session).session)
+    × (answer ≡ (notify_restart l.session).answer)
+HappensOnLink Cuts l l' answer = IsRestarted l.board l'.board × (l'.session ≡ (notify_restart l.session).session)
+    × (answer ≡ (notify_restart l.session).answer)
 HappensOnLink (Refuses why) l l' answer = (says : Says) × HasServed l.board (Refuse why) says l'.board × (l'.session ≡ l.session)
     × (answer ≡ silent)
 

@@ -4,20 +4,20 @@ use Rattle.dfu_wire.specs.declared.states.State.TheVariants.{AppIdle}
 use Rattle.dfu_device.specs.declared.answer.Answer.{Answer}
 use Rattle.dfu_asks.specs.declared.reply.Reply.{Reply}
 use Rattle.dfu_asks.specs.declared.reply.Reply.TheVariants as reply
-use Rattle.dfu_asks.specs.declared.work.Work.{Work}
+use Rattle.dfu_asks.specs.declared.pending_writes.PendingWrites.{PendingWrites}
 use Rattle.dfu_asks.specs.Lent.{IsSetUpAs}
 use Rattle.dfu_asks.specs.Steps.{Step}
-use Rattle.dfu_board.specs.Board.{Board, state_on, Event, Elapse, Report, Says, Nothing, WritesDue, Answers, BoardStep}
+use Rattle.dfu_board.specs.Board.{Board, state_on, Event, Elapse, Took, Says, Nothing, WritesDue, Answers, BoardStep}
 use Rattle.dfu_board.specs.Happens.{Happens, IsRun, reply_said}
 use Rattle.dfu_board_play.specs.Calls.{CarriesOn, WorksOff, Serves, Stops}
 use Rattle.dfu_board_sim.specs.declared.came.Came.{Came}
 use Rattle.dfu_board_sim.specs.declared.came.Came.TheVariants.{Answered, NoAnswer}
-use Rattle.dfu_board_sim.specs.declared.fates.Handling.{Handling}
-use Rattle.dfu_board_sim.specs.declared.fates.Handling.TheVariants.{Unseen, Once, Again, Late}
+use Rattle.dfu_board_sim.specs.declared.fates.Handled.{Handled}
+use Rattle.dfu_board_sim.specs.declared.fates.Handled.TheVariants.{Unseen, Once, Again, Late}
 use Rattle.dfu_board_sim.specs.Standing.{IsAtRest, WritesAreDue, IsTried}
 
 -- How many bytes of the writes that are due are carried out.
-abbrev pub done_in : Option Work → ℕ
+abbrev pub done_in : Option PendingWrites → ℕ
 done_in None = 0
 done_in (Some w) = w.done
 
@@ -43,7 +43,7 @@ IsAfterPiece b p (reply.Answered x count) b' = IsAtRest b'
 
 -- The program tells how this piece went, as a step of a board.
 pub record IsTakenAs (b : Board) (failed : Bool) (p : Step) (out : List ℕ) (r : Reply) (b' : Board) : Type 0 where
-  pub step : Happens b (Report failed) (reply_said r out) b'
+  pub step : Happens b (Took failed) (reply_said r out) b'
   pub same : IsSetUpAs b.asking b'.asking
   pub next : IsAfterPiece b p r b'
 
@@ -78,7 +78,7 @@ says_of (Answered a count) out = Answers a (take count out)
 says_of NoAnswer out = Nothing
 
 -- A request is handled so at a board, which says this at last.
-abbrev pub IsHandled : Handling → Event → Board → Says → Board → Type 0
+abbrev pub IsHandled : Handled → Event → Board → Says → Board → Type 0
 IsHandled Unseen call b says b' = (says ≡ Nothing) × (b' ≡ b)
 IsHandled Once call b says b' = HasServed b call says b'
 IsHandled Again call b says b' = (x : Says) × (mid : Board) × HasServed b call x mid × HasServed mid call says b'
@@ -89,7 +89,7 @@ abbrev pub TimeSlips : ℕ → Board → Board → Type 0
 TimeSlips ms b b' = ((state_on b ≡ AppIdle) × (b' ≡ b)) ⊎ ((state_on b ≢ AppIdle) × (says : Says) × HasServed b (Elapse ms) says b')
 
 -- The time that slips in behind it passes, or none.
-abbrev pub SlipsOnBoard : Handling → Board → Board → Type 0
+abbrev pub SlipsOnBoard : Handled → Board → Board → Type 0
 SlipsOnBoard Unseen b b' = b' ≡ b
 SlipsOnBoard Once b b' = b' ≡ b
 SlipsOnBoard Again b b' = b' ≡ b

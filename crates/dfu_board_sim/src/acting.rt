@@ -13,7 +13,7 @@ ghost use Rattle.dfu_board_sim.specs.Acts.{HasSent, HasWaited, HasReset, HasActe
 use crate::calls::usb_reset;
 use crate::chip::Chip;
 use crate::cuts::{cut_idle, cut_request, cut_wait, pass, reach, slip};
-use crate::fates::{Handling, comes_back, handling_of, is_cut};
+use crate::fates::{Handled, comes_back, handling_of, is_cut};
 use crate::harm::Harm;
 use crate::hosting::{tell, tell_reset, tell_restart, tell_wait};
 use dfu_host::{Action, Host};
@@ -34,12 +34,12 @@ fn send(chip: &mut Chip, host: &mut Host<'_>, fate: Fate<'_>, setup: &[u8; 8], b
 }
 
 /// The time that passes in a wait: another if one slips in.
-fn time_of(handling: Handling, ms: u32) -> u32
+fn time_of(handling: Handled, ms: u32) -> u32
     ensures { result ≡ waits_for handling ms }
 {
     match handling {
-        Handling::Unseen | Handling::Once | Handling::Again => ms,
-        Handling::Late(other) => other,
+        Handled::Unseen | Handled::Once | Handled::Again => ms,
+        Handled::Late(other) => other,
     }
 }
 

@@ -13,12 +13,12 @@ use crate::came::Came;
 use crate::chip::Chip;
 use crate::harm::{Harm, Kind};
 use crate::pieces::{Turn, carry_out};
-use dfu_asks::{Piece, Reply};
+use dfu_asks::{FlashOp, Reply};
 use dfu_board::steps;
 use dfu_device::Objection;
 
 /// The next piece of the writes that are due, with its bytes.
-fn next(chip: &Chip, bytes: &mut [u8; 256]) -> Piece
+fn next(chip: &Chip, bytes: &mut [u8; 256]) -> FlashOp
     requires { WritesAreDue (board_of chip.now) }
     ensures handed { IsHanded (board_of chip.now) (asked result bytes.new) }
     ensures inside { result.at + result.len ≤ length chip.now.flash.items }

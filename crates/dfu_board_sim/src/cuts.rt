@@ -8,7 +8,7 @@ ghost use Rattle.dfu_board_sim.specs.Served.{IsHandled, HasServed, TimeSlips, Sl
 use crate::calls::{elapse, handle};
 use crate::came::Came;
 use crate::chip::Chip;
-use crate::fates::Handling;
+use crate::fates::Handled;
 use crate::harm::{Harm, Kind};
 use crate::power::power_cycle;
 use dfu_wire::State;
@@ -17,7 +17,7 @@ use dfu_wire::State;
 pub(crate) fn reach(
     chip: &mut Chip,
     harm: &mut Harm<'_>,
-    handling: Handling,
+    handling: Handled,
     setup: &[u8; 8],
     body: &[u8],
     out: &mut [u8; 4096],
@@ -29,10 +29,10 @@ pub(crate) fn reach(
     ensures stands { ChipStands chip.new }
 {
     match handling {
-        Handling::Unseen => Came::NoAnswer,
-        Handling::Once => handle(chip, harm, setup, body, out),
-        Handling::Late(_) => handle(chip, harm, setup, body, out),
-        Handling::Again => {
+        Handled::Unseen => Came::NoAnswer,
+        Handled::Once => handle(chip, harm, setup, body, out),
+        Handled::Late(_) => handle(chip, harm, setup, body, out),
+        Handled::Again => {
             let _ = handle(chip, harm, setup, body, out);
             handle(chip, harm, setup, body, out)
         }
@@ -73,14 +73,14 @@ fn slip_time(chip: &mut Chip, ms: u32)
 }
 
 /// The time passes that slips in behind a request or a reset.
-pub(crate) fn slip(chip: &mut Chip, handling: Handling)
+pub(crate) fn slip(chip: &mut Chip, handling: Handled)
     requires { ChipStands chip.old }
     ensures slips { SlipsOnBoard handling (board_of chip.old) (board_of chip.new) }
     ensures stands { ChipStands chip.new }
 {
     match handling {
-        Handling::Unseen | Handling::Once | Handling::Again => {}
-        Handling::Late(ms) => slip_time(chip, ms),
+        Handled::Unseen | Handled::Once | Handled::Again => {}
+        Handled::Late(ms) => slip_time(chip, ms),
     }
 }
 

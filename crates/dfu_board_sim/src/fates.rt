@@ -8,7 +8,7 @@ use dfu_sim::Fate;
 
 /// What the board makes of a request.
 #[derive(Clone, Copy)]
-pub(crate) enum Handling {
+pub(crate) enum Handled {
     /// It doesn't see it.
     Unseen,
     /// It handles it once.
@@ -20,15 +20,15 @@ pub(crate) enum Handling {
 }
 
 /// What the board makes of a request of this fate.
-pub(crate) fn handling_of(fate: Fate<'_>) -> Handling
+pub(crate) fn handling_of(fate: Fate<'_>) -> Handled
     ensures { result ≡ handling_of (fate_of fate.entry) }
 {
     match fate {
-        Fate::LostOut => Handling::Unseen,
-        Fate::Pass | Fate::LostBack => Handling::Once,
-        Fate::Cut { .. } | Fate::Fail { .. } | Fate::Lie { .. } => Handling::Once,
-        Fate::Twice | Fate::TwiceLostBack => Handling::Again,
-        Fate::Slip(ms) => Handling::Late(ms),
+        Fate::LostOut => Handled::Unseen,
+        Fate::Pass | Fate::LostBack => Handled::Once,
+        Fate::Cut { .. } | Fate::Fail { .. } | Fate::Lie { .. } => Handled::Once,
+        Fate::Twice | Fate::TwiceLostBack => Handled::Again,
+        Fate::Slip(ms) => Handled::Late(ms),
     }
 }
 

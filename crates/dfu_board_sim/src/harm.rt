@@ -4,7 +4,7 @@ ghost use Rattle.std.specs.Prelude.{◌≡◌, ◌≢◌, false};
 ghost use Rattle.dfu_sim.specs.Happening.{fate_of};
 ghost use Rattle.dfu_board_sim.specs.Fates.{is_cut};
 
-use dfu_asks::Piece;
+use dfu_asks::FlashOp;
 use dfu_sim::Fate;
 
 /// What is harmed: the power goes in a write, or the write fails or lies.
@@ -89,7 +89,7 @@ impl<'t> Harm<'t> {
     }
 
     /// A piece comes: how it is harmed.
-    pub(crate) fn meet(&mut self, piece: Piece) -> Kind
+    pub(crate) fn meet(&mut self, piece: FlashOp) -> Kind
         ensures same { self.new.kind ≡ self.old.kind }
         ensures kind { result ≡ Kind.CutsPower → self.old.kind ≡ Kind.CutsPower }
     {

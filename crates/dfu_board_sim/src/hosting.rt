@@ -3,7 +3,7 @@
 ghost use Rattle.std.specs.Prelude.{◌≡◌, true, take};
 ghost use Rattle.dfu_host.specs.Phases.{Restarted, Waited, WasReset};
 ghost use Rattle.dfu_host.specs.Host.{after};
-ghost use Rattle.dfu_sim.specs.Play.{given, told};
+ghost use Rattle.dfu_sim.specs.Play.{given, notify_restart};
 ghost use Rattle.dfu_sim.specs.Standing.{session_of, given_by};
 ghost use Rattle.dfu_sim.specs.inside.Acting.{ended};
 ghost use Rattle.dfu_board_sim.specs.Served.{says_of};
@@ -62,9 +62,9 @@ pub(crate) fn restart<'f>(
     host: &mut Option<Host<'f>>,
     gave: &mut Option<Host<'f>>,
 ) -> Option<Report>
-    ensures session { session_of host.new ≡ (told (session_of host.old)).session }
-    ensures given { given_by gave.new ≡ given (told (session_of host.old)).answer.gave (given_by gave.old) }
-    ensures report { result ≡ (told (session_of host.old)).answer.report }
+    ensures session { session_of host.new ≡ (notify_restart (session_of host.old)).session }
+    ensures given { given_by gave.new ≡ given (notify_restart (session_of host.old)).answer.gave (given_by gave.old) }
+    ensures report { result ≡ (notify_restart (session_of host.old)).answer.report }
 {
     match host {
         None => return None,

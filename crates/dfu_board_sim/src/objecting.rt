@@ -13,7 +13,7 @@ use crate::calls::{handle, refuse_close};
 use crate::came::Came;
 use crate::chip::Chip;
 use crate::cuts::slip;
-use crate::fates::{Handling, comes_back, handling_of, is_cut};
+use crate::fates::{Handled, comes_back, handling_of, is_cut};
 use crate::harm::Harm;
 use crate::hosting::tell;
 use dfu_device::{Answer, Objection};
@@ -21,40 +21,40 @@ use dfu_host::{Action, Host};
 use dfu_sim::Fate;
 
 /// Whether the board sees a request that is handled so.
-fn is_seen(handling: Handling) -> bool
-    ensures { result ≡ true → handling ≢ Handling.Unseen }
+fn is_seen(handling: Handled) -> bool
+    ensures { result ≡ true → handling ≢ Handled.Unseen }
 {
     match handling {
-        Handling::Unseen => false,
-        Handling::Once | Handling::Again | Handling::Late(_) => true,
+        Handled::Unseen => false,
+        Handled::Once | Handled::Again | Handled::Late(_) => true,
     }
 }
 
 /// The request comes a second time once the program has refused its image, or it doesn't: what the board says at last.
 fn again(
     chip: &mut Chip,
-    handling: Handling,
+    handling: Handled,
     setup: &[u8; 8],
     body: &[u8],
     out: &mut [u8; 4096],
 ) -> Came
     requires stands { ChipStands chip.old }
-    requires seen { handling ≢ Handling.Unseen }
+    requires seen { handling ≢ Handled.Unseen }
     ensures again { ComesAgain handling setup.now body.now (board_of chip.old) (says_of result out.new) (board_of chip.new) }
     ensures stands { ChipStands chip.new }
 {
     match handling {
-        Handling::Unseen => unreachable!(),
-        Handling::Once => Came::Answered(Answer::Stall, 0),
-        Handling::Late(_) => Came::Answered(Answer::Stall, 0),
-        Handling::Again => handle(chip, &mut Harm::none(), setup, body, out),
+        Handled::Unseen => unreachable!(),
+        Handled::Once => Came::Answered(Answer::Stall, 0),
+        Handled::Late(_) => Came::Answered(Answer::Stall, 0),
+        Handled::Again => handle(chip, &mut Harm::none(), setup, body, out),
     }
 }
 
 /// What is left of a request once the program has refused its image.
 fn end_refused(chip: &mut Chip, host: &mut Host<'_>, fate: Fate<'_>, setup: &[u8; 8], body: &[u8])
     requires stands { ChipStands chip.old }
-    requires seen { handling_of (fate_of fate) ≢ Handling.Unseen }
+    requires seen { handling_of (fate_of fate) ≢ Handled.Unseen }
     ensures ended { EndsRefused (fate_of fate.entry) host.old setup.now body.now (board_of chip.old) (board_of chip.new) host.new }
     ensures stands { ChipStands chip.new }
 {
@@ -69,7 +69,7 @@ fn end_refused(chip: &mut Chip, host: &mut Host<'_>, fate: Fate<'_>, setup: &[u8
 fn act_seen(chip: &mut Chip, host: &mut Host<'_>, fate: Fate<'_>, objection: Objection)
     requires stands { ChipStands chip.old }
     requires on { IsOn host.old.phase }
-    requires seen { handling_of (fate_of fate) ≢ Handling.Unseen }
+    requires seen { handling_of (fate_of fate) ≢ Handled.Unseen }
     ensures gone { HasActed (fate_of fate.entry) host.old (board_of chip.old) (board_of chip.new) host.new
         ⊎ HasObjected objection (fate_of fate.entry) host.old (board_of chip.old) (board_of chip.new) host.new }
     ensures stands { ChipStands chip.new }

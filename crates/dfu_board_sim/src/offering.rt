@@ -3,13 +3,13 @@
 ghost use Rattle.std.specs.Prelude.{◌≡◌, ◌↔◌, Some, Err, IfOk, IfErr};
 ghost use Rattle.dfu_host.specs.Host.{started};
 ghost use Rattle.dfu_host.specs.Phases.{ToFetch};
-ghost use Rattle.dfu_sim.specs.Opening.{goal_of_aim};
+ghost use Rattle.dfu_sim.specs.Opening.{goal_of_purpose};
 ghost use Rattle.dfu_sim.specs.inside.Acting.{HasBegun};
 ghost use Rattle.dfu_sim.specs.Refusing.{first_offer_fault, IsBadOffer, CanGive, IsBadUpload};
 
 use crate::chip::Chip;
 use dfu_host::{Host, HostFault, Limits};
-use dfu_sim::{Aim, OfferFault};
+use dfu_sim::{OfferFault, Purpose};
 use dfu_suffix::{File, read};
 use dfu_wire::{Functional, Ids};
 use std::alloc::Global;
@@ -19,28 +19,29 @@ fn open<'f>(
     file: &File<'f>,
     functional: &Functional,
     device_ids: Ids,
-    aim: Aim,
+    purpose: Purpose,
     limits: Limits,
 ) -> Result<Host<'f>, HostFault>
-    ensures refused { (fault : HostFault) → (result ≡ Err fault) ↔ (first_offer_fault aim file.now functional.now device_ids ≡ Some fault) }
-    ensures started { IfOk result (λ host. host ≡ started functional.now (goal_of_aim aim file.now.payload) limits) }
+    ensures refused { (fault : HostFault) → (result ≡ Err fault) ↔
+        (first_offer_fault purpose file.now functional.now device_ids ≡ Some fault) }
+    ensures started { IfOk result (λ host. host ≡ started functional.now (goal_of_purpose purpose file.now.payload) limits) }
 {
-    match aim {
-        Aim::Install => Host::download(file, functional, device_ids, limits),
-        Aim::Verify => Host::download_verified(file, functional, device_ids, limits),
+    match purpose {
+        Purpose::Install => Host::download(file, functional, device_ids, limits),
+        Purpose::Verify => Host::download_verified(file, functional, device_ids, limits),
     }
 }
 
 /// A host for a file that is offered to a board.
 pub(crate) fn begin<'f>(
     chip: &Chip,
-    aim: Aim,
+    purpose: Purpose,
     file: &'f [u8],
     limits: Limits,
 ) -> Result<Host<'f>, OfferFault>
     requires { chip.now.ids ≡ chip.now.asking.config.ids }
-    ensures ok { IfOk result (λ host. HasBegun chip.now.asking.config aim file.now limits host) }
-    ensures err { IfErr result (λ fault. IsBadOffer chip.now.asking.config aim file.now fault) }
+    ensures ok { IfOk result (λ host. HasBegun chip.now.asking.config purpose file.now limits host) }
+    ensures err { IfErr result (λ fault. IsBadOffer chip.now.asking.config purpose file.now fault) }
 {
     let file = match read(file) {
         Ok(file) => file,
@@ -50,7 +51,7 @@ pub(crate) fn begin<'f>(
         &file,
         &chip.asking.config.functional(),
         chip.ids,
-        aim,
+        purpose,
         limits,
     ) {
         Ok(host) => Ok(host),

@@ -4,7 +4,7 @@ ghost use Rattle.std.specs.Prelude.{◌≡◌, ◌≤◌, ◌+◌, length, take,
 ghost use Rattle.dfu_slots.specs.Medium.{KeepsOutside, written};
 
 use crate::harm::{Harm, Kind};
-use dfu_asks::Piece;
+use dfu_asks::FlashOp;
 
 /// What became of a piece.
 #[derive(Clone, Copy)]
@@ -71,7 +71,7 @@ fn erase(flash: &mut Vec<u8>, at: usize, len: usize)
 }
 
 /// A piece is carried out as it should.
-fn carry_whole(flash: &mut Vec<u8>, piece: Piece, bytes: &[u8; 256])
+fn carry_whole(flash: &mut Vec<u8>, piece: FlashOp, bytes: &[u8; 256])
     requires { piece.at + piece.len ≤ length flash.old.items }
     ensures kept { KeepsOutside piece.at (piece.at + piece.len) flash.old.items flash.new.items }
 {
@@ -85,7 +85,7 @@ fn carry_whole(flash: &mut Vec<u8>, piece: Piece, bytes: &[u8; 256])
 /// A piece is carried out, or harmed.
 pub(crate) fn carry_out(
     flash: &mut Vec<u8>,
-    piece: Piece,
+    piece: FlashOp,
     bytes: &[u8; 256],
     harm: &mut Harm<'_>,
 ) -> Turn

@@ -16,7 +16,7 @@ use crate::offering::{begin, fetch};
 use crate::power::power_cycle;
 use dfu_device::Objection;
 use dfu_host::{Host, Limits, Report};
-use dfu_sim::{Aim, Event, Fate, LinkFault};
+use dfu_sim::{Event, Fate, LinkFault, Purpose};
 use std::alloc::Global;
 
 /// A file is offered.
@@ -24,19 +24,19 @@ fn offer<'f>(
     chip: &Chip,
     host: &mut Option<Host<'f>>,
     gave: &Option<Host<'f>>,
-    aim: Aim,
+    purpose: Purpose,
     file: &'f [u8],
     limits: Limits,
 ) -> Result<Option<Report>, LinkFault>
     requires { HoldsOn chip.now host.old }
-    ensures come { LinkComes (link_on (board_of chip.now) host.old gave.now) (Offers aim file.now limits)
+    ensures come { LinkComes (link_on (board_of chip.now) host.old gave.now) (Offers purpose file.now limits)
         (link_on (board_of chip.now) host.new gave.now) result }
     ensures on { IsOnIn (session_of host.new) }
 {
     if host.is_some() {
         return Err(LinkFault::HostBusy);
     }
-    match begin(chip, aim, file, limits) {
+    match begin(chip, purpose, file, limits) {
         Ok(begun) => {
             *host = Some(begun);
             Ok(None)
@@ -90,7 +90,7 @@ fn abort<'f>(
 }
 
 /// The host takes its next action. The program refuses the image that it closes, or refuses none.
-fn go<'f>(
+fn take_action<'f>(
     chip: &mut Chip,
     host: &mut Option<Host<'f>>,
     gave: &mut Option<Host<'f>>,
@@ -110,7 +110,7 @@ fn go<'f>(
 }
 
 /// An event comes. A refused one changes nothing.
-pub(crate) fn come<'f>(
+pub(crate) fn apply_event<'f>(
     alloc: Global,
     chip: &mut Chip,
     host: &mut Option<Host<'f>>,
@@ -123,14 +123,20 @@ pub(crate) fn come<'f>(
     ensures holds { HoldsOn chip.new host.new }
 {
     match event {
-        Event::Offer { file, limits } => offer(chip, host, gave, Aim::Install, file, limits),
+        Event::Offer { file, limits } => offer(chip, host, gave, Purpose::Install, file, limits),
         Event::OfferVerified { file, limits } => {
-            offer(chip, host, gave, Aim::Verify, file, limits)
+            offer(chip, host, gave, Purpose::Verify, file, limits)
         }
         Event::Upload { limits } => upload(alloc, chip, host, gave, limits),
         Event::Abort => abort(chip, host, gave),
-        Event::Go(fate) => go(chip, host, gave, fate, None),
-        Event::GoRefused { fate, objection } => go(chip, host, gave, fate, Some(objection)),
+        Event::Go(fate) => take_action(chip, host, gave, fate, None),
+        Event::GoRefused { fate, objection } => take_action(
+            chip,
+            host,
+            gave,
+            fate,
+            Some(objection),
+        ),
         Event::Time(ms) => {
             pass(chip, &mut Harm::none(), ms);
             Ok(None)

@@ -1,7 +1,7 @@
 //! A board and a host on a link.
 
 ghost use Rattle.std.specs.Prelude.{◌≡◌, [], true, false};
-ghost use Rattle.dfu_sim.specs.Bench.{Nobody};
+ghost use Rattle.dfu_sim.specs.LinkView.{Nobody};
 ghost use Rattle.dfu_sim.specs.Happening.{happening};
 ghost use Rattle.dfu_sim.specs.Refusing.{IsLive};
 ghost use Rattle.dfu_board_sim.specs.Link.{LinkComes};
@@ -9,7 +9,7 @@ ghost use Rattle.dfu_board_sim.specs.Headline.{StepKeeps};
 
 use crate::board::MemoryBoard;
 use crate::chip::Chip;
-use crate::play::come;
+use crate::play::apply_event;
 use dfu_asks::Asking;
 use dfu_board_play::laws::boards_install;
 use dfu_host::{Host, Report};
@@ -69,7 +69,7 @@ impl<'f> BoardWorld<'f> {
     {
         // Called for its laws, which `headline` needs.
         boards_install();
-        come(
+        apply_event(
             self.alloc,
             &mut self.chip,
             &mut self.host,

@@ -15,7 +15,7 @@ use std::io::{Read, Write};
 
 /// Where a script stopped that a board plays too.
 #[derive(Clone, Copy)]
-pub(crate) enum Stop {
+pub(crate) enum BoardStop {
     /// At a fault of the script.
     Fault(ScriptFault),
     /// At an event of this line, after which the board differs from the device.
@@ -28,7 +28,7 @@ fn beside_text<W: Write>(
     answer: Result<(), ScriptFault>,
     line: Option<u32>,
     writer: &mut W,
-) -> (Exit, Option<Stop>)
+) -> (Exit, Option<BoardStop>)
     ensures run { (file given old : Option (List ℕ)) → IfSome given (λ text. Ended file text old (W.contents writer.old) answer) →
         WritesBeside file given old (W.contents writer.new) result.0 }
     ensures printed { (file given old : Option (List ℕ)) → IfSome given (λ text. HasPrinted file text old (W.contents writer.old) answer) →
@@ -37,11 +37,11 @@ fn beside_text<W: Write>(
 {
     if let Some(number) = line {
         let exit = number_text(alloc, "refused BoardDiffers ", number, writer);
-        return (exit, Some(Stop::Differs(number)));
+        return (exit, Some(BoardStop::Differs(number)));
     }
     match end_text(alloc, answer, writer) {
         (exit, None) => (exit, None),
-        (exit, Some(fault)) => (exit, Some(Stop::Fault(fault))),
+        (exit, Some(fault)) => (exit, Some(BoardStop::Fault(fault))),
     }
 }
 
@@ -54,7 +54,7 @@ pub(crate) fn run_beside_with_stop<R: Read + Drop, W: Write + Drop>(
     reader: R,
     writer: W,
     stopped: &Stopped,
-) -> (Exit, Option<Stop>, W)
+) -> (Exit, Option<BoardStop>, W)
     ensures run { WritesBeside (given_bytes file.entry) (R.remaining reader) (W.contents writer) (W.contents result.2) result.0 }
     ensures printed { PrintsBeside (given_bytes file.entry) (R.remaining reader) (W.contents writer) (W.contents result.2) result.0 }
     // If it stopped nowhere the script ran to its end.
@@ -74,7 +74,7 @@ pub(crate) fn run_beside_traced_with_stop<R: Read + Drop, W: Write + Drop, N: Wr
     writer: W,
     trace: &mut N,
     stopped: &Stopped,
-) -> (Exit, Option<Stop>, W, bool)
+) -> (Exit, Option<BoardStop>, W, bool)
     ensures run { WritesBeside (given_bytes file.entry) (R.remaining reader) (W.contents writer) (W.contents result.2) result.0 }
     ensures printed { PrintsBeside (given_bytes file.entry) (R.remaining reader) (W.contents writer) (W.contents result.2) result.0 }
     // If it stopped nowhere the script ran to its end.

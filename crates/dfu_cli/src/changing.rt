@@ -4,9 +4,9 @@ use crate::identifiers::{IdTexts, change_said, ids_said};
 use crate::words::{
     bad_fill, bad_format, bad_identifier, bad_place, lone_fill, no_change, refused,
 };
-use dfu_fs::{How, Owned, add_file, extract_file, set_file};
-use dfu_image_output::{Taken, fill_in, format_in};
-use dfu_output::Answer;
+use dfu_fs::{AddOptions, Owned, add_file, extract_file, set_file};
+use dfu_image_output::{FormatChoice, fill_in, format_in};
+use dfu_output::Outcome;
 use std::alloc::Global;
 use std::rt::Files;
 
@@ -15,23 +15,23 @@ fn how_said(
     alloc: Global,
     format: &Option<String>,
     fill: &Option<String>,
-) -> Result<How, Option<String>> {
+) -> Result<AddOptions, Option<String>> {
     let taken = match format {
         Some(word) => match format_in(word) {
             Some(taken) => taken,
             None => return Err(bad_format(alloc, word)),
         },
-        None => Taken::Unsaid,
+        None => FormatChoice::Unsaid,
     };
     let Some(word) = fill else {
-        return Ok(How { taken, fill: None });
+        return Ok(AddOptions { taken, fill: None });
     };
     let Some(byte) = fill_in(word) else {
         return Err(bad_fill(alloc, word));
     };
     match taken {
-        Taken::Raw | Taken::Unsaid => Err(lone_fill(alloc, word)),
-        _ => Ok(How {
+        FormatChoice::Raw | FormatChoice::Unsaid => Err(lone_fill(alloc, word)),
+        _ => Ok(AddOptions {
             taken,
             fill: Some(byte),
         }),
@@ -46,7 +46,7 @@ pub(crate) fn perform_add<R: Files + Input + Print + AllocGlobal>(
     texts: &IdTexts<'_>,
     format: &Option<String>,
     fill: &Option<String>,
-) -> Answer
+) -> Outcome
 where
     R::File: Owned,
 {
@@ -69,7 +69,7 @@ pub(crate) fn perform_extract<R: Files + Input + Print + AllocGlobal>(
     file: &str,
     to: &str,
     explain: bool,
-) -> Answer
+) -> Outcome
 where
     R::File: Owned,
 {
@@ -95,7 +95,7 @@ pub(crate) fn perform_set<R: Files + Input + Print + AllocGlobal>(
     pid: &Option<String>,
     did: &Option<String>,
     explain: bool,
-) -> Answer
+) -> Outcome
 where
     R::File: Owned,
 {

@@ -1,6 +1,6 @@
 //! `dfu judge --dfuse`: what is written of a log, if the device is to speak DfuSe.
 
-use dfu_conformance::{Departure, Event, Line, Verdict};
+use dfu_conformance::{Departure, Line, LogEvent, Verdict};
 use dfu_output::{
     Exit, LogFault, LogLines, dfuse_departure_text, fault_text, is_single, stop_text, verdict_text,
     write_out,
@@ -15,7 +15,7 @@ const PIECE: usize = 65_536;
 
 /// A device that is followed through a log.
 #[derive(Drop)]
-struct Followed {
+struct FollowedDevice {
     judge: DfuseJudge,
     lines: LogLines,
     has_departed: bool,
@@ -24,10 +24,10 @@ struct Followed {
     single: u64,
 }
 
-impl Followed {
+impl FollowedDevice {
     /// A device of which no byte of a log came; `None` if an allocation was refused.
-    fn new(alloc: Global) -> Option<Followed> {
-        Some(Followed {
+    fn new(alloc: Global) -> Option<FollowedDevice> {
+        Some(FollowedDevice {
             judge: DfuseJudge::new(),
             lines: LogLines::new(alloc)?,
             has_departed: false,
@@ -37,7 +37,7 @@ impl Followed {
     }
 
     /// An event comes. If the device departs, the departure is handed out.
-    fn come(&mut self, event: &Event) -> Option<Departure> {
+    fn come(&mut self, event: &LogEvent) -> Option<Departure> {
         self.events = self.events.saturating_add(1);
         match self.judge.take(event) {
             Some(departure) => {
@@ -91,7 +91,7 @@ fn tell<W: Write>(
 fn step<W: Write>(
     alloc: Global,
     interface: u8,
-    followed: &mut Followed,
+    followed: &mut FollowedDevice,
     byte: u8,
     writer: &mut W,
 ) -> Result<(), LogFault> {
@@ -106,7 +106,7 @@ fn judge_all<R: Read + Drop, W: Write>(
     alloc: Global,
     interface: u8,
     mut reader: R,
-    followed: &mut Followed,
+    followed: &mut FollowedDevice,
     writer: &mut W,
 ) -> Result<(), LogFault> {
     let mut piece = [0u8; PIECE];
@@ -126,7 +126,7 @@ fn judge_all<R: Read + Drop, W: Write>(
 }
 
 /// Writes the verdict on all events that came.
-fn verdict_out<W: Write>(alloc: Global, followed: &Followed, writer: &mut W) -> Exit {
+fn verdict_out<W: Write>(alloc: Global, followed: &FollowedDevice, writer: &mut W) -> Exit {
     let verdict = followed.verdict();
     let exit = match verdict {
         Verdict::Kept => Exit::Done,
@@ -147,7 +147,7 @@ pub(crate) fn judge_dfuse<R: Read + Drop, W: Write>(
     reader: R,
     writer: &mut W,
 ) -> (Exit, Option<LogFault>) {
-    let Some(mut followed) = Followed::new(alloc) else {
+    let Some(mut followed) = FollowedDevice::new(alloc) else {
         let fault = LogFault::NoMemory;
         return (stop_text(alloc, fault, writer), Some(fault));
     };

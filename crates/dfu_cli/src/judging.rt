@@ -10,7 +10,7 @@ use crate::watching::Watched;
 use dfu_conformance::LineFault;
 use dfu_fs::{error_reason, file_reason, gather_fault, open};
 use dfu_json::JsonLines;
-use dfu_output::{Answer, Exit, LogFault, fault_text, judge_with_fault, name_before, write_out};
+use dfu_output::{Exit, LogFault, Outcome, fault_text, judge_with_fault, name_before, write_out};
 use dfu_pcap::{Address, is_capture, log_of};
 use dfu_suffix::{SuffixFault, gather};
 use std::alloc::Global;
@@ -70,7 +70,7 @@ fn stop_reason<S>(
 
 /// How files are to be judged.
 #[derive(Clone, Copy)]
-pub(crate) struct How {
+pub(crate) struct JudgeOptions {
     /// The number of the interface.
     pub interface: u8,
     /// Of a capture the address, if one is named.
@@ -89,7 +89,7 @@ struct Judged<'w> {
     /// What stands before each line.
     pub before: &'w str,
     /// How it is to be judged.
-    pub how: How,
+    pub how: JudgeOptions,
 }
 
 /// The output for the lines of what is judged.
@@ -113,7 +113,7 @@ fn judge_text_of<R: Print + AllocGlobal, S: Read + Drop>(
     rt: &R,
     judged: Judged<'_>,
     log: S,
-) -> Answer {
+) -> Outcome {
     let alloc = rt.alloc();
     let mut watched = Watched::new(log);
     let mut out = Eventful::new(output(rt, judged));
@@ -125,7 +125,7 @@ fn judge_text_of<R: Print + AllocGlobal, S: Read + Drop>(
     if out.is_without() {
         let why =
             "no request of DFU at the interface is in it; record a session, or see --interface";
-        return Answer {
+        return Outcome {
             exit: write_out(out.behind(), b"refused NoEvents\n", Exit::Refused),
             reason: file_reason(alloc, judged.name, why),
         };
@@ -134,17 +134,17 @@ fn judge_text_of<R: Print + AllocGlobal, S: Read + Drop>(
         Some(fault) => stop_reason(alloc, judged.name, fault, &watched),
         None => None,
     };
-    Answer { exit, reason }
+    Outcome { exit, reason }
 }
 
 /// Judges the log of a device that is in a capture.
-fn judge_bytes<R: Print + AllocGlobal>(rt: &R, judged: Judged<'_>, capture: &[u8]) -> Answer {
+fn judge_bytes<R: Print + AllocGlobal>(rt: &R, judged: Judged<'_>, capture: &[u8]) -> Outcome {
     let alloc = rt.alloc();
     match log_of(alloc, capture, judged.how.interface, judged.how.only) {
         Ok(log) => judge_text_of(rt, judged, log.as_slice()),
         Err(fault) => {
             let line = capture_line(fault).as_bytes();
-            Answer {
+            Outcome {
                 exit: write_out(&mut output(rt, judged), line, Exit::Refused),
                 reason: match capture_why(fault) {
                     Some(why) => file_reason(alloc, judged.name, why),
@@ -160,12 +160,12 @@ fn judge_capture<R: Print + AllocGlobal, S: Read + Drop>(
     rt: &R,
     judged: Judged<'_>,
     capture: S,
-) -> Answer {
+) -> Outcome {
     let alloc = rt.alloc();
     let mut watched = Watched::new(capture);
     match gather(alloc, &mut watched, MAX_CAPTURE) {
         Ok(bytes) => judge_bytes(rt, judged, &bytes),
-        Err(fault) => Answer {
+        Err(fault) => Outcome {
             exit: fault_text(gather_fault(fault), &mut output(rt, judged)),
             reason: match &watched.error {
                 Some(error) => error_reason(alloc, judged.name, error),
@@ -176,15 +176,15 @@ fn judge_capture<R: Print + AllocGlobal, S: Read + Drop>(
 }
 
 /// A file or standard input that can't be read.
-fn unread<R: Print + AllocGlobal>(rt: &R, judged: Judged<'_>, error: &io::Error) -> Answer {
-    Answer {
+fn unread<R: Print + AllocGlobal>(rt: &R, judged: Judged<'_>, error: &io::Error) -> Outcome {
+    Outcome {
         exit: fault_text(SuffixFault::Read, &mut output(rt, judged)),
         reason: error_reason(rt.alloc(), judged.name, error),
     }
 }
 
 /// Judges a log or a capture, or that of standard input where the name is `-`, with the reason where it is judged no further.
-fn judge_file<R: Files + Input + Print + AllocGlobal>(rt: &R, judged: Judged<'_>) -> Answer {
+fn judge_file<R: Files + Input + Print + AllocGlobal>(rt: &R, judged: Judged<'_>) -> Outcome {
     let given = match open(rt, judged.name) {
         Ok(given) => given,
         Err(error) => return unread(rt, judged, &error),
@@ -202,7 +202,11 @@ fn judge_file<R: Files + Input + Print + AllocGlobal>(rt: &R, judged: Judged<'_>
 }
 
 /// Judges a file, with no name before its lines.
-fn judge_bare<R: Files + Input + Print + AllocGlobal>(rt: &R, name: &str, how: How) -> Answer {
+fn judge_bare<R: Files + Input + Print + AllocGlobal>(
+    rt: &R,
+    name: &str,
+    how: JudgeOptions,
+) -> Outcome {
     judge_file(
         rt,
         Judged {
@@ -214,7 +218,11 @@ fn judge_bare<R: Files + Input + Print + AllocGlobal>(rt: &R, name: &str, how: H
 }
 
 /// Judges one of several files, with its name before each line.
-fn judge_named<R: Files + Input + Print + AllocGlobal>(rt: &R, name: &str, how: How) -> Answer {
+fn judge_named<R: Files + Input + Print + AllocGlobal>(
+    rt: &R,
+    name: &str,
+    how: JudgeOptions,
+) -> Outcome {
     match name_before(rt.alloc(), name) {
         Ok(before) => judge_file(
             rt,
@@ -224,7 +232,7 @@ fn judge_named<R: Files + Input + Print + AllocGlobal>(rt: &R, name: &str, how: 
                 how,
             },
         ),
-        Err(_) => Answer {
+        Err(_) => Outcome {
             exit: fault_text(SuffixFault::NoMemory, &mut io::writer(rt)),
             reason: None,
         },
@@ -237,12 +245,12 @@ fn judge_named<R: Files + Input + Print + AllocGlobal>(rt: &R, name: &str, how: 
 pub(crate) fn judge_files<R: Files + Input + Print + AllocGlobal>(
     rt: &R,
     names: &[String],
-    how: How,
-) -> Answer {
+    how: JudgeOptions,
+) -> Outcome {
     if let [name] = names {
         return judge_bare(rt, name, how);
     }
-    let mut all = Answer {
+    let mut all = Outcome {
         exit: Exit::Done,
         reason: None,
     };

@@ -2,7 +2,7 @@
 
 use crate::watching::Watched;
 use dfu_fs::{error_reason, gather_fault, open};
-use dfu_output::{Answer, fault_text};
+use dfu_output::{Outcome, fault_text};
 use dfu_suffix::{SuffixFault, gather};
 use std::io;
 use std::rt::Files;
@@ -15,12 +15,12 @@ const MAX_FILE: usize = 16_777_216;
 pub(crate) fn read_file<R: Files + Input + Print + AllocGlobal>(
     rt: &R,
     name: &str,
-) -> Result<Vec<u8>, Answer> {
+) -> Result<Vec<u8>, Outcome> {
     let alloc = rt.alloc();
     let given = match open(rt, name) {
         Ok(given) => given,
         Err(error) => {
-            return Err(Answer {
+            return Err(Outcome {
                 exit: fault_text(SuffixFault::Read, &mut io::writer(rt)),
                 reason: error_reason(alloc, name, &error),
             });
@@ -29,7 +29,7 @@ pub(crate) fn read_file<R: Files + Input + Print + AllocGlobal>(
     let mut watched = Watched::new(given);
     match gather(alloc, &mut watched, MAX_FILE) {
         Ok(bytes) => Ok(bytes),
-        Err(fault) => Err(Answer {
+        Err(fault) => Err(Outcome {
             exit: fault_text(gather_fault(fault), &mut io::writer(rt)),
             reason: match &watched.error {
                 Some(error) => error_reason(alloc, name, error),

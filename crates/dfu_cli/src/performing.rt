@@ -4,17 +4,17 @@ use crate::captures::device_in;
 use crate::changing::{perform_add, perform_extract, perform_set};
 use crate::hexing::bare;
 use crate::identifiers::IdTexts;
-use crate::judging::{How, interface_in, judge_files};
+use crate::judging::{JudgeOptions, interface_in, judge_files};
 use crate::offered::read_file;
 use crate::remembering::Remembering;
 use crate::scripts::{Ways, run_script};
 use crate::shown::show_reason;
 use crate::tips::advised;
 use crate::words::{bad_device, bad_file, bad_interface, bad_kind, refused};
-use dfu_args::{Asked, Job, JobFault, asked};
+use dfu_args::{JobFault, ParsedArgs, Subcommand, asked};
 use dfu_fs::{Owned, check_files};
 use dfu_json::JsonLines;
-use dfu_output::{Answer, Exit, fault_text, show_text};
+use dfu_output::{Exit, Outcome, fault_text, show_text};
 use dfu_suffix::SuffixFault;
 use std::io::{self, IsTerminal};
 use std::rt::Files;
@@ -32,13 +32,13 @@ fn perform_show<R: Print + AllocGlobal>(
     kind: &str,
     words: &[String],
     json: bool,
-) -> Answer {
+) -> Outcome {
     let alloc = rt.alloc();
     // Words that aren't understood have no object.
     let lines = JsonLines::new(alloc, json && is_kind(kind), None, io::writer(rt));
     let mut out = Remembering::new(lines);
     let Ok(digits) = bare(alloc, words) else {
-        return Answer {
+        return Outcome {
             exit: fault_text(SuffixFault::NoMemory, &mut out),
             reason: None,
         };
@@ -51,7 +51,7 @@ fn perform_show<R: Print + AllocGlobal>(
         Exit::Refused => show_reason(alloc, kind, out.front()),
         _ => None,
     };
-    Answer { exit, reason }
+    Outcome { exit, reason }
 }
 
 /// Judges a log or a capture, where the words can be used.
@@ -62,14 +62,14 @@ fn perform_judge<R: Files + Input + Print + AllocGlobal>(
     device: &str,
     dfuse: bool,
     json: bool,
-) -> Answer {
+) -> Outcome {
     let Some(interface) = interface_in(interface) else {
         return refused(rt, bad_interface(rt.alloc(), interface));
     };
     let Some(only) = device_in(device) else {
         return refused(rt, bad_device(rt.alloc(), device));
     };
-    let how = How {
+    let how = JudgeOptions {
         interface,
         only,
         dfuse,
@@ -84,7 +84,7 @@ fn perform_run<R: Files + Input + Print + AllocGlobal>(
     script: &str,
     file: &Option<String>,
     ways: Ways<'_>,
-) -> Answer
+) -> Outcome
 where
     R::File: IsTerminal,
     R::Reader: IsTerminal,
@@ -109,14 +109,18 @@ where
 }
 
 /// Does a job.
-fn perform<R: Files + Input + Print + AllocGlobal>(rt: &R, job: &Job, explain: bool) -> Answer
+fn perform<R: Files + Input + Print + AllocGlobal>(
+    rt: &R,
+    job: &Subcommand,
+    explain: bool,
+) -> Outcome
 where
     R::File: Owned + IsTerminal,
     R::Reader: IsTerminal,
 {
     match job {
-        Job::Check { files, json } => check_files(rt, files, explain, *json),
-        Job::Add {
+        Subcommand::Check { files, json } => check_files(rt, files, explain, *json),
+        Subcommand::Add {
             file,
             to,
             vid,
@@ -125,15 +129,15 @@ where
             format,
             fill,
         } => perform_add(rt, file, to, &IdTexts::new(vid, pid, did), format, fill),
-        Job::Extract { file, to } => perform_extract(rt, file, to, explain),
-        Job::Change {
+        Subcommand::Extract { file, to } => perform_extract(rt, file, to, explain),
+        Subcommand::Change {
             file,
             vid,
             pid,
             did,
         } => perform_set(rt, file, vid, pid, did, explain),
-        Job::Show { kind, hex, json } => perform_show(rt, kind, hex, *json),
-        Job::Run {
+        Subcommand::Show { kind, hex, json } => perform_show(rt, kind, hex, *json),
+        Subcommand::Run {
             script,
             trace,
             board,
@@ -144,7 +148,7 @@ where
             file,
             Ways::without_file(*trace, *board, explain),
         ),
-        Job::Judge {
+        Subcommand::Judge {
             files,
             interface,
             device,
@@ -186,9 +190,9 @@ where
     R::Reader: IsTerminal,
 {
     match asked(rt.alloc(), words) {
-        Ok(Asked { job, explain }) => {
+        Ok(ParsedArgs { job, explain }) => {
             let is_wanted = is_wanted || explain;
-            let Answer { exit, reason } = perform(rt, &job, is_wanted);
+            let Outcome { exit, reason } = perform(rt, &job, is_wanted);
             let reason = if is_wanted { reason } else { None };
             (exit.status(), reason)
         }

@@ -2,7 +2,7 @@
 
 ghost use Rattle.std.specs.Prelude.{◌≡◌, None};
 
-use crate::beside::{Stop, run_beside_traced_with_stop, run_beside_with_stop};
+use crate::beside::{BoardStop, run_beside_traced_with_stop, run_beside_with_stop};
 use crate::buffering::run_buffered_with_fault;
 use crate::line::{line_why, setup_why};
 use crate::running::run_traced_with_fault;
@@ -10,7 +10,7 @@ use crate::sharing::Shared;
 use crate::watching::Watched;
 use dfu_fs::{error_reason, file_reason, open};
 use dfu_link::{Reason, ScriptFault, Stopped};
-use dfu_output::{Answer, Exit, fault_text};
+use dfu_output::{Exit, Outcome, fault_text};
 use dfu_suffix::SuffixFault;
 use std::alloc::Global;
 use std::io::{self, BufWriter, IsTerminal, Printer, Read, Write};
@@ -66,13 +66,13 @@ impl Ways<'_> {
 fn stop_reason<S>(
     alloc: Global,
     name: &str,
-    stop: Stop,
+    stop: BoardStop,
     stopped: &Stopped,
     watched: &Watched<S>,
 ) -> Option<String> {
     match stop {
-        Stop::Fault(fault) => fault_reason(alloc, name, fault, stopped, watched),
-        Stop::Differs(number) => line_reason(
+        BoardStop::Fault(fault) => fault_reason(alloc, name, fault, stopped, watched),
+        BoardStop::Differs(number) => line_reason(
             alloc,
             name,
             number,
@@ -147,7 +147,7 @@ fn run_beside<R: Read + Drop, W: Write + Drop>(
     reader: R,
     buffer: BufWriter<W>,
     stopped: &Stopped,
-) -> (Exit, Option<Stop>) {
+) -> (Exit, Option<BoardStop>) {
     let shared = Shared::new(buffer);
     let (exit, stop, _, is_traced) = if ways.trace {
         run_beside_traced_with_stop(
@@ -222,7 +222,7 @@ fn run_from<R: Print + AllocGlobal, S: Read + IsTerminal + Drop>(
     name: &str,
     script: S,
     ways: Ways<'_>,
-) -> Answer {
+) -> Outcome {
     let alloc = rt.alloc();
     let room = if script.is_terminal() { 0 } else { BUFFER };
     let mut watched = Watched::new(script);
@@ -231,13 +231,13 @@ fn run_from<R: Print + AllocGlobal, S: Read + IsTerminal + Drop>(
         run_beside(alloc, ways, &mut watched, buffer_of(rt, room), &stopped)
     } else {
         let (exit, fault) = run_alone(alloc, ways, &mut watched, buffer_of(rt, room), &stopped);
-        (exit, fault.map(Stop::Fault))
+        (exit, fault.map(BoardStop::Fault))
     };
     let reason = match stop {
         Some(stop) if ways.explain => stop_reason(alloc, name, stop, &stopped, &watched),
         _ => None,
     };
-    Answer { exit, reason }
+    Outcome { exit, reason }
 }
 
 /// Runs a script, or that of standard input where the name is `-`, in these ways.
@@ -245,14 +245,14 @@ pub(crate) fn run_script<R: Files + Input + Print + AllocGlobal>(
     rt: &R,
     script: &str,
     ways: Ways<'_>,
-) -> Answer
+) -> Outcome
 where
     R::File: IsTerminal,
     R::Reader: IsTerminal,
 {
     match open(rt, script) {
         Ok(reader) => run_from(rt, script, reader, ways),
-        Err(error) => Answer {
+        Err(error) => Outcome {
             exit: fault_text(SuffixFault::Read, &mut io::writer(rt)),
             reason: error_reason(rt.alloc(), script, &error),
         },

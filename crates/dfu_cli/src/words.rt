@@ -7,13 +7,13 @@ ghost use Rattle.dfu_cli.specs.Identifiers.{ids_said};
 ghost use Rattle.dfu_cli.specs.WordReasons.{device_why, file_why, fill_why, format_why, interface_why, kind_why, lone_fill_why, no_change_why, out_why};
 
 use crate::identifiers::{IdTexts, wrong_option};
-use dfu_output::{Answer, bad_words, reason_line};
+use dfu_output::{Outcome, bad_words, reason_line};
 use std::alloc::{AllocError, Global};
 use std::io;
 
 /// Refuses words, for this reason.
-pub(crate) fn refused<R: Print>(rt: &R, reason: Option<String>) -> Answer {
-    Answer {
+pub(crate) fn refused<R: Print>(rt: &R, reason: Option<String>) -> Outcome {
+    Outcome {
         exit: bad_words(&mut io::writer(rt)),
         reason,
     }

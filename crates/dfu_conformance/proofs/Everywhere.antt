@@ -3,8 +3,8 @@ use Rattle.std.specs.Prelude.{◌≡◌, ℕ, ◌<◌, ◌==◌, true, [], slice
 use Rattle.std.specs.Int.{bit_at}
 use Rattle.std.proofs.Common.{refl, ap, ◌∙◌, inl, arith}
 use Rattle.std.proofs.lemmas.Bool.{agree_below_at, eqb-true}
-use Rattle.dfu_conformance.specs.declared.place.Place.{Place}
-use Rattle.dfu_conformance.specs.declared.place.Place.TheVariants.{AppIdle, AppDetach, DfuIdle, DownloadSync, DownloadBusy, DownloadIdle, ManifestSync, Manifest, ManifestWaitReset, UploadIdle, Error, Fresh}
+use Rattle.dfu_conformance.specs.declared.standard_state.StandardState.{StandardState}
+use Rattle.dfu_conformance.specs.declared.standard_state.StandardState.TheVariants.{AppIdle, AppDetach, DfuIdle, DownloadSync, DownloadBusy, DownloadIdle, ManifestSync, Manifest, ManifestWaitReset, UploadIdle, Error, Fresh}
 use Rattle.dfu_conformance.specs.declared.judge.TheConstants.{EVERY}
 use Rattle.dfu_conformance.specs.Held.{word_has_bit, stands}
 use Rattle.dfu_conformance.specs.MayAnswer.{IsHeld, IsHeldPlain}
@@ -19,7 +19,7 @@ at_one a r below within =
     ∙ all r within
 
 -- Every device is held at each place.
-everywhere : (p : Place) (a r : ℕ) → a < 16 → r < 64 → stands EVERY p a r ≡ true
+everywhere : (p : StandardState) (a r : ℕ) → a < 16 → r < 64 → stands EVERY p a r ≡ true
 everywhere AppIdle a r below within = at_one a r below within
 everywhere AppDetach a r below within = at_one a r below within
 everywhere DfuIdle a r below within = at_one a r below within

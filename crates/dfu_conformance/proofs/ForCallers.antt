@@ -4,8 +4,8 @@ use Rattle.std.specs.List.{list_any, list_all}
 use Rattle.std.proofs.Common.{refl, sym, ap, subst, ◌∙◌, inl, inr}
 use Rattle.std.proofs.lemmas.Bool.{not-true, and_parts, and_from, or_cases, eqb-true, eq-eqb, true_from_ne_false, both_ways}
 use Rattle.std.proofs.lemmas.List.Folds.{Any-from_list_any, list_all_at}
-use Rattle.dfu_conformance.specs.declared.place.Place.{Place}
-use Rattle.dfu_conformance.specs.declared.asked.Asked.{Asked}
+use Rattle.dfu_conformance.specs.declared.standard_state.StandardState.{StandardState}
+use Rattle.dfu_conformance.specs.declared.event_kind.EventKind.{EventKind}
 use Rattle.dfu_conformance.specs.declared.reading.Reading.TheVariants.{Bootloader, RuntimeMute, SelfReset, DetachAtOnce, DetachLeaves, ErrorWithoutCode}
 use Rattle.dfu_conformance.specs.declared.row.Row.{Row}
 use Rattle.dfu_conformance.specs.declared.row.Drift.{Drift}
@@ -13,7 +13,7 @@ use Rattle.dfu_conformance.specs.declared.row.When.{When}
 use Rattle.dfu_conformance.specs.declared.row.When.TheVariants.{Always, CanDownload, CanUpload, Tolerant, NotTolerant, WillDetach, By}
 use Rattle.dfu_conformance.specs.declared.row.Gives.{Gives}
 use Rattle.dfu_conformance.specs.declared.row.Gives.TheVariants as gives
-use Rattle.dfu_conformance.specs.declared.event.Event.{Event}
+use Rattle.dfu_conformance.specs.declared.event.LogEvent.{LogEvent}
 use Rattle.dfu_conformance.specs.declared.drifts.TheConstants.{DRIFTS}
 use Rattle.dfu_conformance.specs.Fits.{place_number, asked_number, asks, row_shows}
 use Rattle.dfu_conformance.specs.Held.{meets, reading_bit}
@@ -79,14 +79,15 @@ when_back (By DetachLeaves) = refl
 when_back (By ErrorWithoutCode) = refl
 
 -- The row has these fields.
-abbrev pub is_row : Place → Asked → When → Gives → Place → Row → Bool
+abbrev pub is_row : StandardState → EventKind → When → Gives → StandardState → Row → Bool
 is_row from asked when g next row =
     (place_number row.from == place_number from) && ((asked_number row.asked == asked_number asked)
     && ((when_number row.when == when_number when) && ((gives_number row.gives == gives_number g)
     && (place_number row.next == place_number next))))
 
 -- A device goes by a row with these fields, which some row of the list has.
-pub by_row : (rows : List Row) (from : Place) (asked : Asked) (when : When) (g : Gives) (next : Place) (a r : ℕ) (e : Event)
+pub by_row : (rows : List Row) (from : StandardState) (asked : EventKind) (when : When) (g : Gives) (next : StandardState) (a r : ℕ)
+    (e : LogEvent)
     → list_any (is_row from asked when g next) rows ≡ true → meets when a r ≡ true → asks asked e ≡ true
     → row_shows g from next e.length e.answer ≡ true → GoesBy rows a r from e next
 by_row rows from asked when g next a r e some of_it is_asked is_shown =
@@ -111,12 +112,13 @@ by_row rows from asked when g next a r e some of_it is_asked is_shown =
     }
 
 -- The move has these fields.
-abbrev pub is_move : Place → When → Place → Drift → Bool
+abbrev pub is_move : StandardState → When → StandardState → Drift → Bool
 is_move from when next d =
     (place_number d.from == place_number from) && ((when_number d.when == when_number when) && (place_number d.next == place_number next))
 
 -- A device makes a move with these fields, which some move of the list has.
-pub by_move : (moves : List Drift) (from : Place) (when : When) (next : Place) (a r : ℕ) → list_any (is_move from when next) moves ≡ true
+pub by_move : (moves : List Drift) (from : StandardState) (when : When) (next : StandardState) (a r : ℕ)
+    → list_any (is_move from when next) moves ≡ true
     → meets when a r ≡ true → MovesBy moves a r from next
 by_move moves from when next a r some of_it =
     let (k, row, in', is, fields) = Any-from_list_any (is_move from when next) moves some in
@@ -150,7 +152,7 @@ passes p xs x (k, in', is) all = true_from_ne_false (p x) (λ fails.
     both_ways (list_all p xs) (list_all_at p xs k x in' (ap p is ∙ fails)) all)
 
 -- Two moves that a device makes are one.
-one_move : (a r : ℕ) (p q s : Place) → MovesBy DRIFTS a r p q → MovesBy DRIFTS a r q s → MovesBy DRIFTS a r p s
+one_move : (a r : ℕ) (p q s : StandardState) → MovesBy DRIFTS a r p q → MovesBy DRIFTS a r q s → MovesBy DRIFTS a r p s
 unfolding follow closes
 one_move a r p q s m n =
     let both : follow m.row n.row ≡ true =
@@ -187,13 +189,13 @@ one_move a r p q s m n =
     ]
 
 -- A device that may move twice may move once to the same place.
-pub moves_twice : (a r : ℕ) (p q s : Place) → MayMove a r p q → MayMove a r q s → MayMove a r p s
-moves_twice a r p q s (inl same) n = subst (λ (x : Place). MayMove a r x s) same n
-moves_twice a r p q s (inr m) (inl same) = inr (subst (λ (x : Place). MovesBy DRIFTS a r p x) (sym same) m)
+pub moves_twice : (a r : ℕ) (p q s : StandardState) → MayMove a r p q → MayMove a r q s → MayMove a r p s
+moves_twice a r p q s (inl same) n = subst (λ (x : StandardState). MayMove a r x s) same n
+moves_twice a r p q s (inr m) (inl same) = inr (subst (λ (x : StandardState). MovesBy DRIFTS a r p x) (sym same) m)
 moves_twice a r p q s (inr m) (inr n) = inr (one_move a r p q s m n)
 
 -- A run from where a device moved is one from where it was.
-pub moves_first : (a r : ℕ) (p q : Place) (events : List Event) (last : Place) → MayMove a r p q → Run a r q events last
+pub moves_first : (a r : ℕ) (p q : StandardState) (events : List LogEvent) (last : StandardState) → MayMove a r p q → Run a r q events last
     → Run a r p events last
 moves_first a r p q [] last m run = moves_twice a r p q last m run
 moves_first a r p q (e ∷ events) last m (here, next, moved, may, rest) = (here, next, moves_twice a r p q here m moved, may, rest)

@@ -4,22 +4,23 @@ use Rattle.std.specs.List.{list_any}
 use Rattle.std.proofs.Common.{refl, ap, ◌∙◌, inl, inr}
 use Rattle.std.proofs.lemmas.Bool.{or_cases, or_left, or_right, and_parts, and_from, eq-eqb, eqb-true}
 use Rattle.std.proofs.lemmas.List.Folds.{Any-from_list_any, list_any-from_Any}
-use Rattle.dfu_conformance.specs.declared.place.Place.{Place}
+use Rattle.dfu_conformance.specs.declared.standard_state.StandardState.{StandardState}
 use Rattle.dfu_conformance.specs.declared.row.Row.{Row}
 use Rattle.dfu_conformance.specs.declared.row.Drift.{Drift}
-use Rattle.dfu_conformance.specs.declared.event.Event.{Event}
+use Rattle.dfu_conformance.specs.declared.event.LogEvent.{LogEvent}
 use Rattle.dfu_conformance.specs.Fits.{place_number, fits}
 use Rattle.dfu_conformance.specs.Held.{meets}
 use Rattle.dfu_conformance.specs.MayAnswer.{GoesBy, MovesBy}
 use Rattle.dfu_conformance.proofs.Places.{same_place}
 
 -- The row leads a device to this place, from where it may stand.
-abbrev pub leads_from : (Place → Bool) → Event → Place → (attributes readings : ℕ) → Row → Bool
+abbrev pub leads_from : (StandardState → Bool) → LogEvent → StandardState → (attributes readings : ℕ) → Row → Bool
 leads_from held e n a r row = (place_number row.next == place_number n) && (fits row e && (held row.from && meets row.when a r))
 
 -- A row that leads there is one by which a device goes.
-pub goes_by : (rows : List Row) (held : Place → Bool) (e : Event) (n : Place) (a r : ℕ) → list_any (leads_from held e n a r) rows ≡ true
-    → (p : Place) × (held p ≡ true) × GoesBy rows a r p e n
+pub goes_by : (rows : List Row) (held : StandardState → Bool) (e : LogEvent) (n : StandardState) (a r : ℕ)
+    → list_any (leads_from held e n a r) rows ≡ true
+    → (p : StandardState) × (held p ≡ true) × GoesBy rows a r p e n
 goes_by rows held e n a r some =
     let (k, row, in', is, led) = Any-from_list_any (leads_from held e n a r) rows some in
     let there = and_parts _ _ led in
@@ -38,7 +39,8 @@ goes_by rows held e n a r some =
     )
 
 -- Where a device goes by a row, the row leads there.
-pub led_by : (rows : List Row) (held : Place → Bool) (e : Event) (p n : Place) (a r : ℕ) → held p ≡ true → GoesBy rows a r p e n
+pub led_by : (rows : List Row) (held : StandardState → Bool) (e : LogEvent) (p n : StandardState) (a r : ℕ) → held p ≡ true
+    → GoesBy rows a r p e n
     → list_any (leads_from held e n a r) rows ≡ true
 led_by rows held e p n a r is g =
     list_any-from_Any (leads_from held e n a r) rows (
@@ -50,9 +52,9 @@ led_by rows held e p n a r is g =
     )
 
 -- A move that leads there is one that a device makes.
-pub moves_by : (moves : List Drift) (held : Place → Bool) (n : Place) (a r : ℕ)
+pub moves_by : (moves : List Drift) (held : StandardState → Bool) (n : StandardState) (a r : ℕ)
     → (held n || list_any (λ (d : Drift). (place_number d.next == place_number n) && (held d.from && meets d.when a r)) moves) ≡ true
-    → (p : Place) × (held p ≡ true) × ((n ≡ p) ⊎ MovesBy moves a r p n)
+    → (p : StandardState) × (held p ≡ true) × ((n ≡ p) ⊎ MovesBy moves a r p n)
 moves_by moves held n a r some = elim (or_cases _ _ some) [
   | inl stayed ↦ (n, stayed, inl refl)
   | inr moved ↦
@@ -72,7 +74,8 @@ moves_by moves held n a r some = elim (or_cases _ _ some) [
       )
 ]
 
-pub moved_by : (moves : List Drift) (held : Place → Bool) (p n : Place) (a r : ℕ) → held p ≡ true → (n ≡ p) ⊎ MovesBy moves a r p n
+pub moved_by : (moves : List Drift) (held : StandardState → Bool) (p n : StandardState) (a r : ℕ) → held p ≡ true
+    → (n ≡ p) ⊎ MovesBy moves a r p n
     → (held n || list_any (λ (d : Drift). (place_number d.next == place_number n) && (held d.from && meets d.when a r)) moves) ≡ true
 moved_by moves held p n a r is (inl same) = or_left _ _ (ap held same ∙ is)
 moved_by moves held p n a r is (inr m) =

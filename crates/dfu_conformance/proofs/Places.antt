@@ -2,12 +2,12 @@
 use Rattle.std.specs.Prelude.{◌≡◌, ℕ, ◌<◌, ◌==◌, true, if◌then◌else◌}
 use Rattle.std.proofs.Common.{refl, sym, ap, ◌∙◌, lit<}
 use Rattle.std.proofs.lemmas.Bool.{agree_below_at, eqb-true}
-use Rattle.dfu_conformance.specs.declared.place.Place.{Place}
-use Rattle.dfu_conformance.specs.declared.place.Place.TheVariants.{AppIdle, AppDetach, DfuIdle, DownloadSync, DownloadBusy, DownloadIdle, ManifestSync, Manifest, ManifestWaitReset, UploadIdle, Error, Fresh}
+use Rattle.dfu_conformance.specs.declared.standard_state.StandardState.{StandardState}
+use Rattle.dfu_conformance.specs.declared.standard_state.StandardState.TheVariants.{AppIdle, AppDetach, DfuIdle, DownloadSync, DownloadBusy, DownloadIdle, ManifestSync, Manifest, ManifestWaitReset, UploadIdle, Error, Fresh}
 use Rattle.dfu_conformance.specs.Fits.{place_number}
 
 -- The place of a number, of the list of all twelve.
-abbrev pub place_of : ℕ → Place
+abbrev pub place_of : ℕ → StandardState
 place_of n =
     if n == 0 then AppIdle else
     if n == 1 then AppDetach else
@@ -22,7 +22,7 @@ place_of n =
     if n == 10 then Error else
     Fresh
 
-place_back : (p : Place) → place_of (place_number p) ≡ p
+place_back : (p : StandardState) → place_of (place_number p) ≡ p
 place_back AppIdle = refl
 place_back AppDetach = refl
 place_back DfuIdle = refl
@@ -37,7 +37,7 @@ place_back Error = refl
 place_back Fresh = refl
 
 -- No two places have one number.
-pub same_place : (p q : Place) → place_number p ≡ place_number q → p ≡ q
+pub same_place : (p q : StandardState) → place_number p ≡ place_number q → p ≡ q
 same_place p q same = sym (place_back p) ∙ ap place_of same ∙ place_back q
 
 -- A number below twelve is that of its place.
@@ -45,7 +45,7 @@ pub number_back : (n : ℕ) → n < 12 → place_number (place_of n) ≡ n
 number_back n below = eqb-true _ _ (agree_below_at (λ (k : ℕ). place_number (place_of k) == k) (λ (k : ℕ). true) 12 n refl below)
 
 -- The number of a place is below twelve.
-pub number_below : (p : Place) → place_number p < 12
+pub number_below : (p : StandardState) → place_number p < 12
 number_below AppIdle = lit< tt
 number_below AppDetach = lit< tt
 number_below DfuIdle = lit< tt

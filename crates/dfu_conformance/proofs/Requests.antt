@@ -4,9 +4,9 @@ use Rattle.std.specs.List.{list_any, list_all}
 use Rattle.std.proofs.Common.{refl, arith, inl, inr}
 use Rattle.std.proofs.lemmas.Bool.{false_from_ne_true, or_cases, and_parts, eqb-true, leb-true}
 use Rattle.std.proofs.lemmas.List.Folds.{Any-from_list_any}
-use Rattle.dfu_conformance.specs.declared.place.Place.{Place}
+use Rattle.dfu_conformance.specs.declared.standard_state.StandardState.{StandardState}
 use Rattle.dfu_conformance.specs.declared.row.Row.{Row}
-use Rattle.dfu_conformance.specs.declared.event.Event.{Event}
+use Rattle.dfu_conformance.specs.declared.event.LogEvent.{LogEvent}
 use Rattle.dfu_conformance.specs.declared.marks.TheConstants.{MARKS}
 use Rattle.dfu_conformance.specs.Fits.{asked_number}
 use Rattle.dfu_conformance.specs.inside.Stepped.{leads}
@@ -27,7 +27,7 @@ not_eight : (x : ℕ) → 9 ≤ x → x ≡ 8 → ⊥
 not_eight x above same = omega arith
 
 -- A request is led nowhere by them.
-pub none_lead : (held : List (List ℕ)) (e : Event) (n : Place) (a r : ℕ) → asked_number e.asked ≤ 8
+pub none_lead : (held : List (List ℕ)) (e : LogEvent) (n : StandardState) (a r : ℕ) → asked_number e.asked ≤ 8
     → list_any (leads held e n a r) MARKS ≡ false
 unfolding is_mark
 none_lead held e n a r request = false_from_ne_true _ (λ some.

@@ -2,8 +2,8 @@
 use Rattle.std.specs.Prelude.{◌≡◌, ◌↔◌, ℕ, ◌<◌, zero, suc, Bool, true, List, [], slice_index_or}
 use Rattle.std.proofs.Common.{sym, ap, ◌∙◌, inl, inr, arith}
 use Rattle.std.proofs.lemmas.Bool.{or_cases, or_left, or_right, cases_eq}
-use Rattle.dfu_conformance.specs.declared.place.Place.{Place}
-use Rattle.dfu_conformance.specs.declared.event.Event.{Event}
+use Rattle.dfu_conformance.specs.declared.standard_state.StandardState.{StandardState}
+use Rattle.dfu_conformance.specs.declared.event.LogEvent.{LogEvent}
 use Rattle.dfu_conformance.specs.Fits.{place_number}
 use Rattle.dfu_conformance.specs.Held.{word_has_bit, stands}
 use Rattle.dfu_conformance.specs.MayAnswer.{ComesTo, CanAnswer}
@@ -32,13 +32,13 @@ unfolding some_held
 held_some words r = (some_from (λ (a : ℕ). word_has_bit words a r) 16, λ x. some_there (λ (a : ℕ). word_has_bit words a r) 16 x.0 x.1 x.2)
 
 -- At a place that is held exactly where some device may stand.
-pub held_at : (held : List (List ℕ)) (r : ℕ) (p : Place)
+pub held_at : (held : List (List ℕ)) (r : ℕ) (p : StandardState)
     → (some_held (slice_index_or held (place_number p) []) r ≡ true) ↔ ((a : ℕ) × (a < 16) × (stands held p a r ≡ true))
 held_at held r p = held_some (slice_index_or held (place_number p) []) r
 
 -- A device is held somewhere exactly where it is at some place.
 pub held_anywhere : (held : List (List ℕ)) (r : ℕ)
-    → (anywhere held r ≡ true) ↔ ((p : Place) × (a : ℕ) × (a < 16) × (stands held p a r ≡ true))
+    → (anywhere held r ≡ true) ↔ ((p : StandardState) × (a : ℕ) × (a < 16) × (stands held p a r ≡ true))
 unfolding anywhere
 held_anywhere held r = (
   λ is_so.
@@ -51,11 +51,11 @@ held_anywhere held r = (
 )
 
 -- The devices with this set of readings are held at exactly the places where they may be.
-abbrev pub HeldWith : List (List ℕ) → List Event → ℕ → Type 0
-HeldWith held events r = (a : ℕ) (p : Place) → a < 16 → (stands held p a r ≡ true) ↔ ComesTo a r events p
+abbrev pub HeldWith : List (List ℕ) → List LogEvent → ℕ → Type 0
+HeldWith held events r = (a : ℕ) (p : StandardState) → a < 16 → (stands held p a r ≡ true) ↔ ComesTo a r events p
 
 -- A device with this set of readings is held somewhere exactly where it may have answered so.
-pub held_can : (held : List (List ℕ)) (events : List Event) (r : ℕ) → HeldWith held events r
+pub held_can : (held : List (List ℕ)) (events : List LogEvent) (r : ℕ) → HeldWith held events r
     → (anywhere held r ≡ true) ↔ CanAnswer r events
 held_can held events r so = (
   λ is_so. let (p, a, within, is) = (held_anywhere held r).0 is_so in (a, within, p, (so a p within).0 is),
@@ -63,7 +63,7 @@ held_can held events r so = (
 )
 
 -- It is held at a place exactly where it may be there.
-pub held_place : (held : List (List ℕ)) (events : List Event) (r : ℕ) (p : Place) → HeldWith held events r
+pub held_place : (held : List (List ℕ)) (events : List LogEvent) (r : ℕ) (p : StandardState) → HeldWith held events r
     → (some_held (slice_index_or held (place_number p) []) r ≡ true) ↔ ((a : ℕ) × (a < 16) × ComesTo a r events p)
 held_place held events r p so = (
   λ is_so. let (a, within, is) = (held_at held r p).0 is_so in (a, within, (so a p within).0 is),

@@ -2,8 +2,8 @@
 use Rattle.std.specs.Prelude.{◌≡◌, ◌↔◌, ℕ, ◌<◌, Bool, true, false, List, [], ◌∷◌, ◌++◌, slice_index_or, Some, None}
 use Rattle.std.proofs.Common.{sym, ◌∙◌, subst, arith}
 use Rattle.std.proofs.lemmas.Bool.{both_ways}
-use Rattle.dfu_conformance.specs.declared.place.Place.{Place}
-use Rattle.dfu_conformance.specs.declared.event.Event.{Event}
+use Rattle.dfu_conformance.specs.declared.standard_state.StandardState.{StandardState}
+use Rattle.dfu_conformance.specs.declared.event.LogEvent.{LogEvent}
 use Rattle.dfu_conformance.specs.declared.verdict.Verdict.TheVariants.{Kept, KeptBy, NotKept}
 use Rattle.dfu_conformance.specs.declared.verdict.Departure.{Departure}
 use Rattle.dfu_conformance.specs.Fits.{place_number}
@@ -17,15 +17,15 @@ use Rattle.dfu_conformance.proofs.Places.{number_below}
 use Rattle.dfu_conformance.proofs.Somewhere.{HeldWith, held_can, held_place}
 
 -- What is held of every set of readings is held of one.
-pub held_with : (held : List (List ℕ)) (events : List Event) (r : ℕ) → r < 64 → IsHeld held events → HeldWith held events r
+pub held_with : (held : List (List ℕ)) (events : List LogEvent) (r : ℕ) → r < 64 → IsHeld held events → HeldWith held events r
 held_with held events r within so = λ a p below. so a r p below within
 
 -- Where the devices without habits are held somewhere, the device is kept.
-pub is_kept : (held : List (List ℕ)) (events : List Event) → IsHeld held events → anywhere held 0 ≡ true → IsVerdict Kept events
+pub is_kept : (held : List (List ℕ)) (events : List LogEvent) → IsHeld held events → anywhere held 0 ≡ true → IsVerdict Kept events
 is_kept held events so is_so = (held_can held events 0 (held_with held events 0 (omega arith) so)).0 is_so
 
 -- Where they are not, and some set of readings is the least with which a device is held, it is kept by that set.
-pub is_kept_by : (held : List (List ℕ)) (events : List Event) (s : ℕ) → IsHeld held events → anywhere held 0 ≡ false
+pub is_kept_by : (held : List (List ℕ)) (events : List LogEvent) (s : ℕ) → IsHeld held events → anywhere held 0 ≡ false
     → Some s ≡ least_below (anywhere held) 64 → IsVerdict (KeptBy s) events
 is_kept_by held events s so not_plain is =
     let least : LeastTo (anywhere held) 64 (Some s) = subst (LeastTo (anywhere held) 64) (sym is) (least_to (anywhere held) 64) in
@@ -47,36 +47,37 @@ has_bits held s is =
     least.0
 
 -- Where no set of readings is held, no device may have answered so.
-pub is_not_kept : (held : List (List ℕ)) (events : List Event) → IsHeld held events → None ≡ least_below (anywhere held) 64
+pub is_not_kept : (held : List (List ℕ)) (events : List LogEvent) → IsHeld held events → None ≡ least_below (anywhere held) 64
     → IsVerdict NotKept events
 is_not_kept held events so is = λ r within may.
     let none_held : LeastTo (anywhere held) 64 None = subst (LeastTo (anywhere held) 64) (sym is) (least_to (anywhere held) 64) in
     both_ways (anywhere held r) (none_held r within) ((held_can held events r (held_with held events r within so)).1 may)
 
 -- A step of all devices.
-abbrev pub IsStep : List (List ℕ) → Event → List (List ℕ) → Type 0
-IsStep before e after = (n : Place) (a r : ℕ) → a < 16 → r < 64 → stands after n a r ≡ stepped before e n a r
+abbrev pub IsStep : List (List ℕ) → LogEvent → List (List ℕ) → Type 0
+IsStep before e after = (n : StandardState) (a r : ℕ) → a < 16 → r < 64 → stands after n a r ≡ stepped before e n a r
 
 -- After a step those are held that may have answered one event more.
-pub held_next : (before after : List (List ℕ)) (events : List Event) (e : Event) → IsStep before e after → IsHeld before events
+pub held_next : (before after : List (List ℕ)) (events : List LogEvent) (e : LogEvent) → IsStep before e after → IsHeld before events
     → IsHeld after (events ++ e ∷ [])
 held_next before after events e says so a r p below within =
     held_more before after events e a r (λ q. so a r q below within) (λ n. says n a r below within) p
 
 -- The same of the devices without habits.
-pub held_next_plain : (before after : List (List ℕ)) (events : List Event) (e : Event) → IsStep before e after → IsHeldPlain before events
+pub held_next_plain : (before after : List (List ℕ)) (events : List LogEvent) (e : LogEvent) → IsStep before e after
+    → IsHeldPlain before events
     → IsHeldPlain after (events ++ e ∷ [])
 held_next_plain before after events e says so a p below =
     held_more before after events e a 0 (λ q. so a q below) (λ n. says n a 0 below (omega arith)) p
 
 -- Where a device without habits is left, it may have answered so.
-pub goes_on : (before after : List (List ℕ)) (events : List Event) (e : Event) → IsStep before e after → IsHeldPlain before events
+pub goes_on : (before after : List (List ℕ)) (events : List LogEvent) (e : LogEvent) → IsStep before e after → IsHeldPlain before events
     → anywhere after 0 ≡ true → CanAnswer 0 (events ++ e ∷ []) × IsHeldPlain after (events ++ e ∷ [])
 goes_on before after events e says so left =
     let next = held_next_plain before after events e says so in ((held_can after (events ++ e ∷ []) 0 next).0 left, next)
 
 -- The places where a device without habits is held are those where it may be.
-pub are_places : (before : List (List ℕ)) (at : List Bool) (events : List Event) → IsHeldPlain before events
+pub are_places : (before : List (List ℕ)) (at : List Bool) (events : List LogEvent) → IsHeldPlain before events
     → ((n : ℕ) → n < 12 → slice_index_or at n false ≡ some_held (slice_index_or before n []) 0) → ArePlacesAfter 0 events at
 are_places before at events so places = λ p.
     let is = held_place before events 0 p so in
@@ -85,16 +86,16 @@ are_places before at events so places = λ p.
     (λ here. is.0 (sym same ∙ here), λ x. same ∙ is.1 x)
 
 -- What a departure says that is handed out: what came, that no device without habits is left, and where one might be before it.
-abbrev pub Told : (before after : List (List ℕ)) → Event → Departure → Type 0
+abbrev pub Told : (before after : List (List ℕ)) → LogEvent → Departure → Type 0
 Told before after e d = (d.event ≡ e) × (anywhere after 0 ≡ false)
     × ((n : ℕ) → n < 12 → slice_index_or d.before n false ≡ some_held (slice_index_or before n []) 0)
 
 -- Where none is left, the event is a departure.
-pub departs : (before after anew : List (List ℕ)) (events : List Event) (e : Event) (d : Departure) → IsStep before e after
+pub departs : (before after anew : List (List ℕ)) (events : List LogEvent) (e : LogEvent) (d : Departure) → IsStep before e after
     → IsHeldPlain before events → IsHeldPlain anew [] → Told before after e d → Departs events d anew
 departs before after anew events e d says so first (is, none_left, places) = record {
   before = are_places before d.before events so places;
   none = λ may. both_ways (anywhere after 0) none_left ((held_can after (events ++ e ∷ []) 0
-      (held_next_plain before after events e says so)).1 (subst (λ (x : Event). CanAnswer 0 (events ++ x ∷ [])) is may));
+      (held_next_plain before after events e says so)).1 (subst (λ (x : LogEvent). CanAnswer 0 (events ++ x ∷ [])) is may));
   anew = first;
 }

@@ -1,18 +1,18 @@
 -- Whether a row of the table speaks of an event.
 use Rattle.std.specs.Prelude.{ℕ, ◌==◌, ◌&&◌, ◌||◌, nat_lt, min, Bool, true, false, not}
-use Rattle.dfu_conformance.specs.declared.place.Place.{Place}
-use Rattle.dfu_conformance.specs.declared.place.Place.TheVariants.{AppIdle, AppDetach, DfuIdle, DownloadSync, DownloadBusy, DownloadIdle, ManifestSync, Manifest, ManifestWaitReset, UploadIdle, Error, Fresh}
-use Rattle.dfu_conformance.specs.declared.asked.Asked.{Asked}
-use Rattle.dfu_conformance.specs.declared.asked.Asked.TheVariants.{Detach, Block, Close, Upload, GetStatus, ClrStatus, GetState, Abort, Other, Reset, Power}
+use Rattle.dfu_conformance.specs.declared.standard_state.StandardState.{StandardState}
+use Rattle.dfu_conformance.specs.declared.standard_state.StandardState.TheVariants.{AppIdle, AppDetach, DfuIdle, DownloadSync, DownloadBusy, DownloadIdle, ManifestSync, Manifest, ManifestWaitReset, UploadIdle, Error, Fresh}
+use Rattle.dfu_conformance.specs.declared.event_kind.EventKind.{EventKind}
+use Rattle.dfu_conformance.specs.declared.event_kind.EventKind.TheVariants.{Detach, Block, Close, Upload, GetStatus, ClrStatus, GetState, Abort, Other, Reset, Power}
 use Rattle.dfu_conformance.specs.declared.row.Gives.{Gives}
 use Rattle.dfu_conformance.specs.declared.row.Gives.TheVariants as gives
 use Rattle.dfu_conformance.specs.declared.row.Row.{Row}
-use Rattle.dfu_conformance.specs.declared.event.Answer.{Answer}
-use Rattle.dfu_conformance.specs.declared.event.Answer.TheVariants as answer
-use Rattle.dfu_conformance.specs.declared.event.Event.{Event}
+use Rattle.dfu_conformance.specs.declared.event.Response.{Response}
+use Rattle.dfu_conformance.specs.declared.event.Response.TheVariants as answer
+use Rattle.dfu_conformance.specs.declared.event.LogEvent.{LogEvent}
 
 -- The place of a place in the list of all twelve.
-abbrev pub place_number : Place → ℕ
+abbrev pub place_number : StandardState → ℕ
 place_number AppIdle = 0
 place_number AppDetach = 1
 place_number DfuIdle = 2
@@ -27,12 +27,12 @@ place_number Error = 10
 place_number Fresh = 11
 
 -- The number of the state of the standard that a place is.
-abbrev pub number_of_state : Place → ℕ
+abbrev pub number_of_state : StandardState → ℕ
 number_of_state Fresh = 2
 number_of_state p = place_number p
 
 -- The place of what came in the list of all eleven.
-abbrev pub asked_number : Asked → ℕ
+abbrev pub asked_number : EventKind → ℕ
 asked_number Detach = 0
 asked_number Block = 1
 asked_number Close = 2
@@ -46,17 +46,17 @@ asked_number Reset = 9
 asked_number Power = 10
 
 -- A row about this is about what was asked. A request that is not as section 3 has it may be taken as any other, too.
-abbrev pub asks : Asked → Event → Bool
+abbrev pub asks : EventKind → LogEvent → Bool
 asks asked e = (asked_number asked == asked_number e.asked) || (not e.is_plain && (asked_number asked == asked_number Other))
 
 -- A code that a status may have where it enters this place: OK outside dfuERROR, and one of the others in it.
-abbrev pub has_code : Place → ℕ → Bool
+abbrev pub has_code : StandardState → ℕ → Bool
 has_code Error code = nat_lt 0 code && nat_lt code 16
 has_code p code = code == 0
 
 -- So many bytes, of which these are the first and the fifth, are what a row gives that leads from one place to another, where len were
 -- asked for.
-abbrev pub gives_bytes : Gives → (from next : Place) → (len count first fifth : ℕ) → Bool
+abbrev pub gives_bytes : Gives → (from next : StandardState) → (len count first fifth : ℕ) → Bool
 gives_bytes gives.Silent from next len count first fifth = true
 gives_bytes gives.Stall from next len count first fifth = false
 gives_bytes gives.Ack from next len count first fifth = count == 0
@@ -75,22 +75,22 @@ gives_stall gives.Silent = true
 gives_stall g = false
 
 -- What was seen of the answer is what a row gives; where nothing was seen it may have been anything.
-abbrev pub row_shows : Gives → (from next : Place) → ℕ → Answer → Bool
+abbrev pub row_shows : Gives → (from next : StandardState) → ℕ → Response → Bool
 row_shows g from next len answer.Nothing = true
 row_shows g from next len answer.Stall = gives_stall g
 row_shows g from next len (answer.Bytes count first fifth) = gives_bytes g from next len count first fifth
 
 -- A row speaks of an event: of what was asked, and of what was seen.
-abbrev pub fits : Row → Event → Bool
+abbrev pub fits : Row → LogEvent → Bool
 fits row e = asks row.asked e && row_shows row.gives row.from row.next e.length e.answer
 
 -- A device may be where it was, by whether the request is as section 3 has it and by what was seen.
-abbrev pub stays_at : Bool → Answer → Bool
+abbrev pub stays_at : Bool → Response → Bool
 stays_at plain answer.Nothing = true
 stays_at plain answer.Stall = not plain
 stays_at plain (answer.Bytes count first fifth) = false
 
 -- A device may be where it was: nothing was seen, so that the request may not have come; or a request was stalled that is not as
 -- section 3 has it.
-abbrev pub stays : Event → Bool
+abbrev pub stays : LogEvent → Bool
 stays e = stays_at e.is_plain e.answer

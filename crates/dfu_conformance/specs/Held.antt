@@ -1,7 +1,7 @@
 -- Which devices are held.
 use Rattle.std.specs.Prelude.{ℕ, ◌==◌, Bool, true, false, List, [], slice_index, slice_index_or}
 use Rattle.std.specs.Int.{bit_at}
-use Rattle.dfu_conformance.specs.declared.place.Place.{Place}
+use Rattle.dfu_conformance.specs.declared.standard_state.StandardState.{StandardState}
 use Rattle.dfu_conformance.specs.Fits.{place_number}
 use Rattle.dfu_conformance.specs.declared.row.When.{When}
 use Rattle.dfu_conformance.specs.declared.row.When.TheVariants.{Always, CanDownload, CanUpload, Tolerant, NotTolerant, WillDetach, By}
@@ -32,7 +32,7 @@ abbrev pub word_has_bit : List ℕ → (attributes readings : ℕ) → Bool
 word_has_bit words a r = bit_at (slice_index words a) r == 1
 
 -- A device of these bmAttributes with this set of readings may stand at this place.
-abbrev pub stands : List (List ℕ) → Place → (attributes readings : ℕ) → Bool
+abbrev pub stands : List (List ℕ) → StandardState → (attributes readings : ℕ) → Bool
 stands held p a r = word_has_bit (slice_index_or held (place_number p) []) a r
 
 -- The devices that a judge holds: since the last departure, and since the start.

@@ -1,14 +1,15 @@
 -- Laws of the tables.
 use Rattle.std.specs.Prelude.{ℕ, List}
-use Rattle.dfu_conformance.specs.declared.place.Place.{Place}
-use Rattle.dfu_conformance.specs.declared.event.Event.{Event}
+use Rattle.dfu_conformance.specs.declared.standard_state.StandardState.{StandardState}
+use Rattle.dfu_conformance.specs.declared.event.LogEvent.{LogEvent}
 use Rattle.dfu_conformance.specs.MayAnswer.{MayMove, Run}
 
 -- A device that may move twice may move once to the same place.
 abbrev pub TwoMovesAreOne : Type 0
-TwoMovesAreOne = (a r : ℕ) (p q s : Place) → MayMove a r p q → MayMove a r q s → MayMove a r p s
+TwoMovesAreOne = (a r : ℕ) (p q s : StandardState) → MayMove a r p q → MayMove a r q s → MayMove a r p s
 
 -- A run from where a device moved is one from where it was.
 abbrev pub MovesFirst : Type 0
 MovesFirst =
-    (a r : ℕ) (p q : Place) (events : List Event) (last : Place) → MayMove a r p q → Run a r q events last → Run a r p events last
+    (a r : ℕ) (p q : StandardState) (events : List LogEvent) (last : StandardState) → MayMove a r p q → Run a r q events last
+    → Run a r p events last

@@ -6,8 +6,8 @@ use Rattle.dfu_wire.specs.declared.setups.Setup.{Setup}
 use Rattle.dfu_wire.specs.declared.requests.Request.{Request}
 use Rattle.dfu_wire.specs.declared.requests.Request.TheVariants as request
 use Rattle.dfu_wire.specs.Request.{Asks}
-use Rattle.dfu_conformance.specs.declared.event.Answer.{Answer}
-use Rattle.dfu_conformance.specs.declared.event.Answer.TheVariants as answer
+use Rattle.dfu_conformance.specs.declared.event.Response.{Response}
+use Rattle.dfu_conformance.specs.declared.event.Response.TheVariants as answer
 use Rattle.dfu_conformance.specs.declared.log.Line.{Line}
 use Rattle.dfu_conformance.specs.declared.log.Line.TheVariants.{Blank, Elsewhere, Came}
 use Rattle.dfu_conformance.specs.declared.log.LineFault.{LineFault}
@@ -68,7 +68,7 @@ body_in text =
     else None
 
 -- An answer: a word, or the bytes that came.
-unfoldable pub answer_in : List ℕ → Option Answer
+unfoldable pub answer_in : List ℕ → Option Response
 answer_in text =
     if bytes_eq text (codes "ack") then Some (answer.Bytes 0 0 0)
     else if bytes_eq text (codes "stall") then Some answer.Stall
@@ -89,12 +89,12 @@ why_unread text =
     else fault.Answer
 
 -- What a request is read as that a setup asks for: one that is not of the class, or for another interface, is passed over.
-abbrev pub IsRead : Request → Setup → (body : ℕ) → Answer → Option Line → Type 0
+abbrev pub IsRead : Request → Setup → (body : ℕ) → Response → Option Line → Type 0
 IsRead request.NotDfu s body a read = read ≡ Some Elsewhere
 IsRead q s body a read = read ≡ Some (Came (event_of s q body a))
 
 -- A request by its fields: nothing is read where one of them is none; the interface is wIndex.
-abbrev pub SaysRequest : (interface : ℕ) → Option Setup → Option ℕ → Option Answer → Option Line → Type 0
+abbrev pub SaysRequest : (interface : ℕ) → Option Setup → Option ℕ → Option Response → Option Line → Type 0
 SaysRequest interface (Some s) (Some body) (Some a) read =
     MatchBool (s.index == interface)
     ((q : Request) → Asks (record s { index = 0 }) q → IsRead q (record s { index = 0 }) body a read)

@@ -1,10 +1,10 @@
 -- What a device that keeps the standard may answer, with every freedom that the standard leaves: the rows are in the tables of
 -- `src/standard.rt`, `src/marks.rt`, `src/habits.rt` and `src/drifts.rt`, a line each.
 use Rattle.std.specs.Prelude.{◌≡◌, ◌⊎◌, ◌↔◌, ℕ, ◌<◌, true, List, [], ◌∷◌, Contains}
-use Rattle.dfu_conformance.specs.declared.place.Place.{Place}
+use Rattle.dfu_conformance.specs.declared.standard_state.StandardState.{StandardState}
 use Rattle.dfu_conformance.specs.declared.row.Row.{Row}
 use Rattle.dfu_conformance.specs.declared.row.Drift.{Drift}
-use Rattle.dfu_conformance.specs.declared.event.Event.{Event}
+use Rattle.dfu_conformance.specs.declared.event.LogEvent.{LogEvent}
 use Rattle.dfu_conformance.specs.declared.standard.TheConstants.{STANDARD}
 use Rattle.dfu_conformance.specs.declared.marks.TheConstants.{MARKS}
 use Rattle.dfu_conformance.specs.declared.habits.TheConstants.{HABITS}
@@ -13,7 +13,7 @@ use Rattle.dfu_conformance.specs.Fits.{fits, stays}
 use Rattle.dfu_conformance.specs.Held.{meets, stands}
 
 -- A device of these bmAttributes with this set of readings goes by one of these rows: an event leads it from one place to another.
-pub record GoesBy (rows : List Row) (attributes readings : ℕ) (from : Place) (e : Event) (next : Place) : Type 0 where
+pub record GoesBy (rows : List Row) (attributes readings : ℕ) (from : StandardState) (e : LogEvent) (next : StandardState) : Type 0 where
   pub row : Row
   pub listed : Contains rows row
   pub begins : row.from ≡ from
@@ -23,12 +23,12 @@ pub record GoesBy (rows : List Row) (attributes readings : ℕ) (from : Place) (
 
 -- An event may lead a device from one place to another: by a row, or it stays, where the request may not have come or is not as section
 -- 3 has it and was stalled.
-abbrev pub MayAnswer : (attributes readings : ℕ) → Place → Event → Place → Type 0
+abbrev pub MayAnswer : (attributes readings : ℕ) → StandardState → LogEvent → StandardState → Type 0
 MayAnswer a r from e next =
     GoesBy STANDARD a r from e next ⊎ GoesBy MARKS a r from e next ⊎ GoesBy HABITS a r from e next ⊎ ((next ≡ from) × (stays e ≡ true))
 
 -- A device moves by itself, by one of these rows.
-pub record MovesBy (moves : List Drift) (attributes readings : ℕ) (from next : Place) : Type 0 where
+pub record MovesBy (moves : List Drift) (attributes readings : ℕ) (from next : StandardState) : Type 0 where
   pub row : Drift
   pub listed : Contains moves row
   pub begins : row.from ≡ from
@@ -36,27 +36,27 @@ pub record MovesBy (moves : List Drift) (attributes readings : ℕ) (from next :
   pub of_it : meets row.when attributes readings ≡ true
 
 -- Between two events a device stays or moves by itself.
-abbrev pub MayMove : (attributes readings : ℕ) → Place → Place → Type 0
+abbrev pub MayMove : (attributes readings : ℕ) → StandardState → StandardState → Type 0
 MayMove a r from next = (next ≡ from) ⊎ MovesBy DRIFTS a r from next
 
 -- A run: a device begins at one place, these events come to it, and it ends at another.
-abbrev pub Run : (attributes readings : ℕ) → Place → List Event → Place → Type 0
+abbrev pub Run : (attributes readings : ℕ) → StandardState → List LogEvent → StandardState → Type 0
 Run a r from [] last = MayMove a r from last
 Run a r from (e ∷ events) last =
-    (here : Place) × (next : Place) × MayMove a r from here × MayAnswer a r here e next × Run a r next events last
+    (here : StandardState) × (next : StandardState) × MayMove a r from here × MayAnswer a r here e next × Run a r next events last
 
 -- A device that began anywhere may be at this place after these events.
-abbrev pub ComesTo : (attributes readings : ℕ) → List Event → Place → Type 0
-ComesTo a r events last = (from : Place) × Run a r from events last
+abbrev pub ComesTo : (attributes readings : ℕ) → List LogEvent → StandardState → Type 0
+ComesTo a r events last = (from : StandardState) × Run a r from events last
 
 -- Some device with this set of readings, whatever its bmAttributes, may have answered so.
-abbrev pub CanAnswer : (readings : ℕ) → List Event → Type 0
-CanAnswer r events = (a : ℕ) × (a < 16) × (last : Place) × ComesTo a r events last
+abbrev pub CanAnswer : (readings : ℕ) → List LogEvent → Type 0
+CanAnswer r events = (a : ℕ) × (a < 16) × (last : StandardState) × ComesTo a r events last
 
 -- Exactly the devices are held that may have answered so, each at the places where it may be.
-abbrev pub IsHeld : List (List ℕ) → List Event → Type 0
-IsHeld held events = (a r : ℕ) (p : Place) → a < 16 → r < 64 → (stands held p a r ≡ true) ↔ ComesTo a r events p
+abbrev pub IsHeld : List (List ℕ) → List LogEvent → Type 0
+IsHeld held events = (a r : ℕ) (p : StandardState) → a < 16 → r < 64 → (stands held p a r ≡ true) ↔ ComesTo a r events p
 
 -- The same, of the devices that have no habit.
-abbrev pub IsHeldPlain : List (List ℕ) → List Event → Type 0
-IsHeldPlain held events = (a : ℕ) (p : Place) → a < 16 → (stands held p a 0 ≡ true) ↔ ComesTo a 0 events p
+abbrev pub IsHeldPlain : List (List ℕ) → List LogEvent → Type 0
+IsHeldPlain held events = (a : ℕ) (p : StandardState) → a < 16 → (stands held p a 0 ≡ true) ↔ ComesTo a 0 events p

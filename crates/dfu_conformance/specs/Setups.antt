@@ -3,14 +3,14 @@ use Rattle.std.specs.Prelude.{ℕ, ◌==◌, ◌&&◌, Bool, true, not, if◌the
 use Rattle.dfu_wire.specs.declared.setups.Setup.{Setup}
 use Rattle.dfu_wire.specs.declared.requests.Request.{Request}
 use Rattle.dfu_wire.specs.declared.requests.Request.TheVariants as request
-use Rattle.dfu_conformance.specs.declared.asked.Asked.{Asked}
-use Rattle.dfu_conformance.specs.declared.asked.Asked.TheVariants.{Detach, Block, Close, Upload, GetStatus, ClrStatus, GetState, Abort, Other, Reset, Power}
-use Rattle.dfu_conformance.specs.declared.event.Event.{Event}
-use Rattle.dfu_conformance.specs.declared.event.Answer.{Answer}
-use Rattle.dfu_conformance.specs.declared.event.Answer.TheVariants as answer
+use Rattle.dfu_conformance.specs.declared.event_kind.EventKind.{EventKind}
+use Rattle.dfu_conformance.specs.declared.event_kind.EventKind.TheVariants.{Detach, Block, Close, Upload, GetStatus, ClrStatus, GetState, Abort, Other, Reset, Power}
+use Rattle.dfu_conformance.specs.declared.event.LogEvent.{LogEvent}
+use Rattle.dfu_conformance.specs.declared.event.Response.{Response}
+use Rattle.dfu_conformance.specs.declared.event.Response.TheVariants as answer
 
 -- A request as the table has it: a DNLOAD of no bytes is another one.
-abbrev pub asked_by : Request → Asked
+abbrev pub asked_by : Request → EventKind
 asked_by (request.Detach timeout) = Detach
 asked_by (request.Dnload block len) = if len == 0 then Close else Block
 asked_by (request.Upload block len) = Upload
@@ -35,13 +35,13 @@ abbrev pub is_plain : Setup → Request → (body : ℕ) → Bool
 is_plain s q body = (body == (if s.kind == 0x21 then s.length else 0)) && has_its_numbers q s.value
 
 -- What came to a device by a setup that asks for this, with so many bytes of a body, and what was seen of the answer.
-abbrev pub event_of : Setup → Request → (body : ℕ) → Answer → Event
+abbrev pub event_of : Setup → Request → (body : ℕ) → Response → LogEvent
 event_of s q body a = record { asked = asked_by q; is_plain = is_plain s q body; length = s.length; answer = a }
 
 -- A reset of the bus came.
-abbrev pub reset : Event
+abbrev pub reset : LogEvent
 reset = record { asked = Reset; is_plain = true; length = 0; answer = answer.Bytes 0 0 0 }
 
 -- Power came back.
-abbrev pub power : Event
+abbrev pub power : LogEvent
 power = record { asked = Power; is_plain = true; length = 0; answer = answer.Bytes 0 0 0 }

@@ -1,7 +1,7 @@
 -- What a judge says.
 use Rattle.std.specs.Prelude.{◌≡◌, ◌↔◌, ℕ, ◌<◌, ◌≤◌, Bool, true, false, List, [], ◌∷◌, ◌++◌, slice_index_or, count_ones, ⊤}
-use Rattle.dfu_conformance.specs.declared.place.Place.{Place}
-use Rattle.dfu_conformance.specs.declared.event.Event.{Event}
+use Rattle.dfu_conformance.specs.declared.standard_state.StandardState.{StandardState}
+use Rattle.dfu_conformance.specs.declared.event.LogEvent.{LogEvent}
 use Rattle.dfu_conformance.specs.declared.verdict.Verdict.{Verdict}
 use Rattle.dfu_conformance.specs.declared.verdict.Verdict.TheVariants.{Kept, KeptBy, NotKept}
 use Rattle.dfu_conformance.specs.declared.verdict.Departure.{Departure}
@@ -11,14 +11,14 @@ use Rattle.dfu_conformance.specs.MayAnswer.{ComesTo, CanAnswer, IsHeldPlain}
 -- With this set of readings a device may have answered so; no other set has fewer readings, and of those with as many this one has the
 -- least
 -- number.
-pub record IsLeastSet (readings : ℕ) (events : List Event) : Type 0 where
+pub record IsLeastSet (readings : ℕ) (events : List LogEvent) : Type 0 where
   pub below : readings < 64
   pub can : CanAnswer readings events
   pub fewest : (r : ℕ) → r < 64 → CanAnswer r events → count_ones readings ≤ count_ones r
   pub first : (r : ℕ) → r < readings → CanAnswer r events → count_ones readings < count_ones r
 
 -- A verdict on these events.
-abbrev pub IsVerdict : Verdict → List Event → Type 0
+abbrev pub IsVerdict : Verdict → List LogEvent → Type 0
 IsVerdict Kept events = CanAnswer 0 events
 IsVerdict (KeptBy readings) events = (CanAnswer 0 events → ⊥) × IsLeastSet readings events
 IsVerdict NotKept events = (r : ℕ) → r < 64 → CanAnswer r events → ⊥
@@ -29,13 +29,13 @@ HasBits (KeptBy readings) = readings < 64
 HasBits verdict = ⊤
 
 -- These are the places where a device with this set of readings may be after these events, whatever its bmAttributes.
-abbrev pub ArePlacesAfter : (readings : ℕ) → List Event → List Bool → Type 0
+abbrev pub ArePlacesAfter : (readings : ℕ) → List LogEvent → List Bool → Type 0
 ArePlacesAfter r events at =
-    (p : Place) → (slice_index_or at (place_number p) false ≡ true) ↔ ((a : ℕ) × (a < 16) × ComesTo a r events p)
+    (p : StandardState) → (slice_index_or at (place_number p) false ≡ true) ↔ ((a : ℕ) × (a < 16) × ComesTo a r events p)
 
 -- After these events another one is a departure: a device without habits might be at these places, and after it none may be anywhere; from
 -- then on it may be anywhere again.
-pub record Departs (events : List Event) (d : Departure) (since : List (List ℕ)) : Type 0 where
+pub record Departs (events : List LogEvent) (d : Departure) (since : List (List ℕ)) : Type 0 where
   pub before : ArePlacesAfter 0 events d.before
   pub none : CanAnswer 0 (events ++ d.event ∷ []) → ⊥
   pub anew : IsHeldPlain since []

@@ -1,11 +1,11 @@
 //! What a device does by itself, between two events (USB DFU 1.1, appendix A).
 
 use crate::Drift;
-use crate::Place::{
+use crate::Reading::SelfReset;
+use crate::StandardState::{
     AppDetach, AppIdle, DfuIdle, DownloadBusy, DownloadSync, Error, Fresh, Manifest, ManifestSync,
     ManifestWaitReset,
 };
-use crate::Reading::SelfReset;
 use crate::row::Source::{A, Habit};
 use crate::row::When::{Always, By, NotTolerant, Tolerant, WillDetach};
 

@@ -4,12 +4,12 @@ ghost use Rattle.std.specs.Prelude.{◌≡◌, ◌↔◌, IfSome, IsNone};
 ghost use Rattle.dfu_conformance.specs.Fits.{fits, stays, asks, row_shows, has_code, number_of_state};
 ghost use Rattle.dfu_conformance.specs.Setups.{asked_by, has_its_numbers, is_plain};
 
-use crate::{Asked, Gives, Place, Row};
+use crate::{EventKind, Gives, Row, StandardState};
 use dfu_wire::{Request, Setup};
 
 /// What was seen of an answer.
 #[derive(Clone, Copy, Debug, PartialEq, Eq)]
-pub enum Answer {
+pub enum Response {
     /// A stall.
     Stall,
     /// Nothing: it isn't known whether the request came.
@@ -27,32 +27,32 @@ pub enum Answer {
 
 /// What came to a device, and what was seen of its answer. Of a reset and of power nothing is seen.
 #[derive(Clone, Copy, Debug, PartialEq, Eq)]
-pub struct Event {
+pub struct LogEvent {
     /// What came.
-    pub asked: Asked,
+    pub asked: EventKind,
     /// Whether the request is as section 3 has it: wValue and wLength, and a body of wLength bytes.
     pub is_plain: bool,
     /// wLength.
     pub length: u16,
     /// What was seen of the answer.
-    pub answer: Answer,
+    pub answer: Response,
 }
 
-impl Event {
+impl LogEvent {
     ghost use Rattle.dfu_wire.specs.Request.{Asks};
     ghost use Rattle.dfu_wire.specs.declared.requests.Request.{Request};
     ghost use Rattle.dfu_conformance.specs.Setups.{event_of};
 
     /// A request by its setup, how many bytes of a body went with it, and its answer. `None` where it is no request of the class for
     /// interface 0.
-    pub fn exchange(setup: &Setup, body: usize, answer: Answer) -> Option<Event>
+    pub fn exchange(setup: &Setup, body: usize, answer: Response) -> Option<LogEvent>
         ensures some { IfSome result (λ e. (q : Request) → Asks setup.now q → e ≡ event_of setup.now q body answer) }
         ensures none { IsNone result ↔ Asks setup.now Request.NotDfu }
     {
         let request = setup.request();
         match request {
             Request::NotDfu => None,
-            request => Some(Event {
+            request => Some(LogEvent {
                 asked: asked_for(&request),
                 is_plain: is_told(setup, &request, body),
                 length: setup.length,
@@ -63,19 +63,19 @@ impl Event {
 }
 
 /// A request as the table has it.
-fn asked_for(request: &Request) -> Asked
+fn asked_for(request: &Request) -> EventKind
     ensures { result ≡ asked_by request.now }
 {
     match *request {
-        Request::Detach { .. } => Asked::Detach,
-        Request::Dnload { length: 0, .. } => Asked::Close,
-        Request::Dnload { .. } => Asked::Block,
-        Request::Upload { .. } => Asked::Upload,
-        Request::GetStatus { .. } => Asked::GetStatus,
-        Request::ClrStatus => Asked::ClrStatus,
-        Request::GetState { .. } => Asked::GetState,
-        Request::Abort => Asked::Abort,
-        Request::OtherClass | Request::NotDfu => Asked::Other,
+        Request::Detach { .. } => EventKind::Detach,
+        Request::Dnload { length: 0, .. } => EventKind::Close,
+        Request::Dnload { .. } => EventKind::Block,
+        Request::Upload { .. } => EventKind::Upload,
+        Request::GetStatus { .. } => EventKind::GetStatus,
+        Request::ClrStatus => EventKind::ClrStatus,
+        Request::GetState { .. } => EventKind::GetState,
+        Request::Abort => EventKind::Abort,
+        Request::OtherClass | Request::NotDfu => EventKind::Other,
     }
 }
 
@@ -107,32 +107,32 @@ fn has_numbers(request: &Request, value: u16) -> bool
 }
 
 /// Whether a row speaks of an event: of what was asked, and of what was seen.
-pub fn speaks_of(row: &Row, event: &Event) -> bool
+pub fn speaks_of(row: &Row, event: &LogEvent) -> bool
     ensures { result ≡ fits row.now event.now }
 {
     is_asked(row.asked, event) && is_shown(row, event)
 }
 
 /// Whether a row is about what was asked. A request that is not as section 3 has it may be taken as any other, too.
-pub(crate) fn is_asked(asked: Asked, event: &Event) -> bool
+pub(crate) fn is_asked(asked: EventKind, event: &LogEvent) -> bool
     ensures { result ≡ asks asked event.now }
 {
     asked.number() == event.asked.number()
-        || !event.is_plain && asked.number() == Asked::Other.number()
+        || !event.is_plain && asked.number() == EventKind::Other.number()
 }
 
 /// Whether what was seen is what a row gives.
-fn is_shown(row: &Row, event: &Event) -> bool
+fn is_shown(row: &Row, event: &LogEvent) -> bool
     ensures { result ≡ row_shows row.now.gives row.now.from row.now.next event.now.length event.now.answer }
 {
     let length = event.length as u32;
     match event.answer {
-        Answer::Nothing => true,
-        Answer::Stall => match row.gives {
+        Response::Nothing => true,
+        Response::Stall => match row.gives {
             Gives::Stall | Gives::Silent => true,
             _ => false,
         },
-        Answer::Bytes {
+        Response::Bytes {
             count,
             first,
             fifth,
@@ -157,32 +157,32 @@ fn is_shown(row: &Row, event: &Event) -> bool
 }
 
 /// The number of the state of the standard that a place is.
-fn state_of(place: Place) -> usize
+fn state_of(place: StandardState) -> usize
     ensures { result ≡ number_of_state place }
 {
     match place {
-        Place::Fresh => 2,
+        StandardState::Fresh => 2,
         place => place.number(),
     }
 }
 
 /// Whether a status may have this code where it enters this place.
-fn is_code_of(place: Place, code: u8) -> bool
+fn is_code_of(place: StandardState, code: u8) -> bool
     ensures { result ≡ has_code place code }
 {
     match place {
-        Place::Error => 0 < code && code < 16,
+        StandardState::Error => 0 < code && code < 16,
         _ => code == 0,
     }
 }
 
 /// Whether a device may be where it was.
-pub(crate) fn may_stay(event: &Event) -> bool
+pub(crate) fn may_stay(event: &LogEvent) -> bool
     ensures { result ≡ stays event.now }
 {
     match event.answer {
-        Answer::Nothing => true,
-        Answer::Stall => !event.is_plain,
-        Answer::Bytes { .. } => false,
+        Response::Nothing => true,
+        Response::Stall => !event.is_plain,
+        Response::Bytes { .. } => false,
     }
 }

@@ -1,12 +1,12 @@
 //! What devices are known to do that the standard has not.
 
-use crate::Asked::{Detach, GetState, GetStatus, Power, Reset};
-use crate::Place::{
+use crate::EventKind::{Detach, GetState, GetStatus, Power, Reset};
+use crate::Reading::{Bootloader, DetachAtOnce, DetachLeaves, ErrorWithoutCode, RuntimeMute};
+use crate::Row;
+use crate::StandardState::{
     AppDetach, AppIdle, DfuIdle, DownloadBusy, DownloadIdle, DownloadSync, Error, Fresh, Manifest,
     ManifestSync, ManifestWaitReset, UploadIdle,
 };
-use crate::Reading::{Bootloader, DetachAtOnce, DetachLeaves, ErrorWithoutCode, RuntimeMute};
-use crate::Row;
 use crate::row::Gives::{Ack, NoCode, Silent, Stall};
 use crate::row::Source::Habit;
 use crate::row::When::By;

@@ -13,7 +13,7 @@ use crate::event::{may_stay, speaks_of};
 use crate::habits::HABITS;
 use crate::marks::MARKS;
 use crate::standard::STANDARD;
-use crate::{Drift, Event, Place, Reading, Row, When};
+use crate::{Drift, LogEvent, Reading, Row, StandardState, When};
 
 /// For each bmAttributes the sets of readings: bit r of word a is the device of bmAttributes a and of the readings that are the bits of r.
 pub(crate) type Devices = [u64; 16];
@@ -83,8 +83,8 @@ fn is_empty(devices: &Devices) -> bool
 pub(crate) type Places = [Devices; 12];
 
 /// The devices of which a row speaks are led from one place to another.
-fn lead(before: &Places, from: Place, when: When, after: &mut Places, to: Place)
-    ensures { (n : Place) (a r : ℕ) → a < 16 → r < 64
+fn lead(before: &Places, from: StandardState, when: When, after: &mut Places, to: StandardState)
+    ensures { (n : StandardState) (a r : ℕ) → a < 16 → r < 64
         → stands after.new n a r
         ≡ (stands after.old n a r || ((place_number to == place_number n) && (stands before.now from a r && meets when a r))) }
 {
@@ -96,8 +96,8 @@ fn lead(before: &Places, from: Place, when: When, after: &mut Places, to: Place)
 }
 
 /// The devices are added that go by one of these rows.
-fn pass(rows: &[Row], before: &Places, event: &Event, after: &mut Places)
-    ensures { (n : Place) (a r : ℕ) → a < 16 → r < 64
+fn pass(rows: &[Row], before: &Places, event: &LogEvent, after: &mut Places)
+    ensures { (n : StandardState) (a r : ℕ) → a < 16 → r < 64
         → stands after.new n a r ≡ (stands after.old n a r || list_any (leads before.now event.now n a r) rows.now) }
 {
     for row in rows {
@@ -109,8 +109,8 @@ fn pass(rows: &[Row], before: &Places, event: &Event, after: &mut Places)
 
 /// The devices are added that go by a row of a reset or of power: no such row speaks of a request.
 #[tactic(auto, using(crate::proofs::Requests::none_lead))]
-fn pass_marks(before: &Places, event: &Event, after: &mut Places)
-    ensures { (n : Place) (a r : ℕ) → a < 16 → r < 64
+fn pass_marks(before: &Places, event: &LogEvent, after: &mut Places)
+    ensures { (n : StandardState) (a r : ℕ) → a < 16 → r < 64
         → stands after.new n a r ≡ (stands after.old n a r || list_any (leads before.now event.now n a r) MARKS) }
 {
     if event.asked.number() > 8 {
@@ -120,7 +120,7 @@ fn pass_marks(before: &Places, event: &Event, after: &mut Places)
 
 /// The devices are added that make one of these moves by themselves.
 fn drift(moves: &[Drift], before: &Places) -> Places
-    ensures { (n : Place) (a r : ℕ) → a < 16 → r < 64
+    ensures { (n : StandardState) (a r : ℕ) → a < 16 → r < 64
         → stands result n a r ≡ (stands before.now n a r || list_any (drifts before.now n a r) moves.now) }
 {
     let mut after = *before;
@@ -131,8 +131,8 @@ fn drift(moves: &[Drift], before: &Places) -> Places
 }
 
 /// The devices that may be where they were, by an event.
-fn rest(before: &Places, event: &Event) -> Places
-    ensures { (n : Place) (a r : ℕ) → a < 16 → r < 64 → stands result n a r ≡ (stays event.now && stands before.now n a r) }
+fn rest(before: &Places, event: &LogEvent) -> Places
+    ensures { (n : StandardState) (a r : ℕ) → a < 16 → r < 64 → stands result n a r ≡ (stays event.now && stands before.now n a r) }
 {
     if may_stay(event) {
         *before
@@ -142,8 +142,8 @@ fn rest(before: &Places, event: &Event) -> Places
 }
 
 /// The devices that may stand at each place after an event, where these might before it.
-pub(crate) fn step(before: &Places, event: &Event) -> Places
-    ensures { (n : Place) (a r : ℕ) → a < 16 → r < 64 → stands result n a r ≡ stepped before.now event.now n a r }
+pub(crate) fn step(before: &Places, event: &LogEvent) -> Places
+    ensures { (n : StandardState) (a r : ℕ) → a < 16 → r < 64 → stands result n a r ≡ stepped before.now event.now n a r }
 {
     let mut after = rest(before, event);
     pass(&STANDARD, before, event, &mut after);

@@ -4,7 +4,7 @@ ghost use Rattle.std.specs.Prelude.{◌≡◌, ◌<◌, ℕ, List, IsNone, IfSom
 ghost use Rattle.dfu_conformance.specs.inside.Stepped.{anywhere, some_held};
 
 use crate::held::{Places, is_any_held, least_held, places_of, step};
-use crate::{Departure, Event, Verdict};
+use crate::{Departure, LogEvent, Verdict};
 use std::marker::Model;
 
 /// Every device, at every place.
@@ -30,7 +30,7 @@ impl Model for Judge {
 }
 
 /// The departure at an event, where no device without habits is left after it.
-fn departure(before: &Places, after: &Places, event: &Event) -> Option<Departure>
+fn departure(before: &Places, after: &Places, event: &LogEvent) -> Option<Departure>
     ensures none { IsNone result → anywhere after.now 0 ≡ true }
     ensures some { IfSome result (λ d. (d.event ≡ event.now) × (anywhere after.now 0 ≡ false)
         × ((n : ℕ) → n < 12 → slice_index_or d.before n false ≡ some_held (slice_index_or before.now n []) 0)) }
@@ -47,7 +47,7 @@ fn departure(before: &Places, after: &Places, event: &Event) -> Option<Departure
 impl Judge {
     ghost use Rattle.dfu_conformance.specs.MayAnswer.{CanAnswer, IsHeld, IsHeldPlain};
     ghost use Rattle.dfu_conformance.specs.Verdict.{IsVerdict, HasBits, ArePlacesAfter, Departs};
-    ghost use Rattle.dfu_conformance.specs.declared.event.Event.{Event};
+    ghost use Rattle.dfu_conformance.specs.declared.event.LogEvent.{LogEvent};
 
     /// A judge of a device of which nothing is known: it may be anywhere.
     pub fn new() -> Judge
@@ -63,11 +63,11 @@ impl Judge {
 
     /// An event comes. Where no device of the standard is left, the departure is handed out, and from then on the device may be
     /// anywhere again, for departures; for the verdict it stays as it is.
-    pub fn take(&mut self, event: &Event) -> Option<Departure>
-        ensures whole { (es : List Event) → IsHeld self.old.whole es → IsHeld self.new.whole (es ++ event.now ∷ []) }
-        ensures kept { IsNone result → (es : List Event) → IsHeldPlain self.old.since es
+    pub fn take(&mut self, event: &LogEvent) -> Option<Departure>
+        ensures whole { (es : List LogEvent) → IsHeld self.old.whole es → IsHeld self.new.whole (es ++ event.now ∷ []) }
+        ensures kept { IsNone result → (es : List LogEvent) → IsHeldPlain self.old.since es
             → CanAnswer 0 (es ++ event.now ∷ []) × IsHeldPlain self.new.since (es ++ event.now ∷ []) }
-        ensures departs { IfSome result (λ d. (d.event ≡ event.now) × ((es : List Event) → IsHeldPlain self.old.since es
+        ensures departs { IfSome result (λ d. (d.event ≡ event.now) × ((es : List LogEvent) → IsHeldPlain self.old.since es
             → Departs es d self.new.since)) }
     {
         let whole = step(&self.whole, event);
@@ -103,7 +103,7 @@ impl Judge {
 
     /// The verdict on all events that came.
     pub fn verdict(&self) -> Verdict
-        ensures is { (es : List Event) → IsHeld self.now.whole es → IsVerdict result es }
+        ensures is { (es : List LogEvent) → IsHeld self.now.whole es → IsVerdict result es }
         ensures bits { HasBits result }
     {
         if is_any_held(&self.whole, 0) {
@@ -115,17 +115,18 @@ impl Judge {
         }
     }
 
-    /// Where the device may stand now, if it has this set of readings, 0 to 63: by place, in the order of [`crate::Place`].
+    /// Where the device may stand now, if it has this set of readings, 0 to 63: by place, in the order of [`crate::StandardState`].
     pub fn places(&self, readings: u8) -> [bool; 12]
         requires { readings < 64 }
-        ensures { (es : List Event) → IsHeld self.now.whole es → ArePlacesAfter readings es result }
+        ensures { (es : List LogEvent) → IsHeld self.now.whole es → ArePlacesAfter readings es result }
     {
         places_of(&self.whole, readings)
     }
 
-    /// Where a device without habits may stand now, by the events since the last departure: by place, in the order of [`crate::Place`].
+    /// Where a device without habits may stand now, by the events since the last departure: by place, in the order of
+    /// [`crate::StandardState`].
     pub fn standing(&self) -> [bool; 12]
-        ensures { (es : List Event) → IsHeldPlain self.now.since es → ArePlacesAfter 0 es result }
+        ensures { (es : List LogEvent) → IsHeldPlain self.now.since es → ArePlacesAfter 0 es result }
     {
         if self.has_departed {
             places_of(&self.since, 0)

@@ -26,9 +26,9 @@ macro_rules! drift {
     };
 }
 
-mod asked;
 mod drifts;
 mod event;
+mod event_kind;
 mod habits;
 mod held;
 mod judge;
@@ -36,23 +36,23 @@ pub mod laws;
 mod line;
 mod log;
 mod marks;
-mod place;
 mod reading;
 mod row;
 mod standard;
+mod standard_state;
 mod verdict;
 mod whole;
 
-pub use asked::Asked;
 pub use drifts::DRIFTS;
-pub use event::{Answer, Event, speaks_of};
+pub use event::{LogEvent, Response, speaks_of};
+pub use event_kind::EventKind;
 pub use habits::HABITS;
 pub use judge::Judge;
 pub use log::{Line, LineFault, read_line, why_unread};
 pub use marks::MARKS;
-pub use place::Place;
 pub use reading::Reading;
 pub use row::{Drift, Gives, Row, Source, When};
 pub use standard::STANDARD;
+pub use standard_state::StandardState;
 pub use verdict::{Departure, Verdict};
 pub use whole::verdict_on;

@@ -4,7 +4,7 @@ ghost use Rattle.std.specs.Prelude.{◌≡◌, ◌≤◌, ◌<◌, ◌+◌, ◌*
 ghost use Rattle.std.specs.List.{list_all, position, position_or_len};
 ghost use Rattle.dfu_conformance.specs.Line.{is_space, is_digit, digit_value, pair_byte, is_hex, setup_in, body_in, answer_in};
 
-use crate::Answer;
+use crate::Response;
 use dfu_wire::Setup;
 
 /// The first space of a line.
@@ -113,26 +113,26 @@ pub(crate) fn body_of(text: &[u8]) -> Option<usize>
 
 /// An answer: a word, or the bytes that came.
 #[tactic(auto, unfolding(crate::specs::Line::answer_in, crate::specs::Line::is_hex))]
-pub(crate) fn answer_of(text: &[u8]) -> Option<Answer>
+pub(crate) fn answer_of(text: &[u8]) -> Option<Response>
     ensures { result ≡ answer_in text.now }
 {
     if text == b"ack".as_slice() {
-        return Some(Answer::Bytes {
+        return Some(Response::Bytes {
             count: 0,
             first: 0,
             fifth: 0,
         });
     }
     if text == b"stall".as_slice() {
-        return Some(Answer::Stall);
+        return Some(Response::Stall);
     }
     if text == b"nothing".as_slice() {
-        return Some(Answer::Nothing);
+        return Some(Response::Nothing);
     }
     if !is_bytes(text) || text.is_empty() || text.len() > 131_070 {
         return None;
     }
-    Some(Answer::Bytes {
+    Some(Response::Bytes {
         count: (text.len() / 2) as u32,
         first: byte_at(text, 0),
         fifth: byte_at(text, 4),

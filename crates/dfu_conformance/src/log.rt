@@ -7,7 +7,7 @@ ghost use Rattle.dfu_conformance.specs.Line.{LineSays, SaysRequest, IsRead, fiel
 ghost use Rattle.dfu_conformance.specs.Setups.{reset, power};
 
 use crate::line::{answer_of, body_of, field_end, setup_of};
-use crate::{Answer, Asked, Event};
+use crate::{EventKind, LogEvent, Response};
 use dfu_wire::Setup;
 
 /// What a line of a log says.
@@ -18,7 +18,7 @@ pub enum Line {
     /// A request that is no request of the class, or one for another interface.
     Elsewhere,
     /// What came to the device.
-    Came(Event),
+    Came(LogEvent),
 }
 
 /// What is wrong with a line that is none of a log.
@@ -35,7 +35,7 @@ pub enum LineFault {
 }
 
 /// Nothing is answered to a reset, nor to power.
-const SILENT: Answer = Answer::Bytes {
+const SILENT: Response = Response::Bytes {
     count: 0,
     first: 0,
     fifth: 0,
@@ -70,10 +70,10 @@ pub fn read_line(interface: u8, line: &[u8]) -> Option<Line>
         return Some(Line::Blank);
     }
     if line == b"reset".as_slice() {
-        return Some(Line::Came(mark(Asked::Reset)));
+        return Some(Line::Came(mark(EventKind::Reset)));
     }
     if line == b"power".as_slice() {
-        return Some(Line::Came(mark(Asked::Power)));
+        return Some(Line::Came(mark(EventKind::Power)));
     }
     let (setup, rest) = parts(line);
     let (body, answer) = parts(rest);
@@ -106,10 +106,10 @@ fn begins_blank(line: &[u8]) -> bool
 }
 
 /// A reset or power.
-fn mark(asked: Asked) -> Event
+fn mark(asked: EventKind) -> LogEvent
     ensures { result ≡ record reset { asked = asked } }
 {
-    Event {
+    LogEvent {
         asked,
         is_plain: true,
         length: 0,
@@ -122,7 +122,7 @@ fn request_of(
     interface: u8,
     setup: Option<Setup>,
     body: Option<usize>,
-    answer: Option<Answer>,
+    answer: Option<Response>,
 ) -> Option<Line>
     ensures { SaysRequest interface setup body answer result }
 {
@@ -139,10 +139,10 @@ fn request_of(
 }
 
 /// A request for interface 0.
-fn line_of(setup: &Setup, body: usize, answer: Answer) -> Line
+fn line_of(setup: &Setup, body: usize, answer: Response) -> Line
     ensures { (q : Request) → Asks setup.now q → IsRead q setup.now body answer (Some result) }
 {
-    match Event::exchange(setup, body, answer) {
+    match LogEvent::exchange(setup, body, answer) {
         Some(event) => Line::Came(event),
         None => Line::Elsewhere,
     }

@@ -1,11 +1,11 @@
 //! What a reset of the bus and power lead to (USB DFU 1.1, appendix A).
 
-use crate::Asked::{Power, Reset};
-use crate::Place::{
+use crate::EventKind::{Power, Reset};
+use crate::Row;
+use crate::StandardState::{
     AppDetach, AppIdle, DfuIdle, DownloadBusy, DownloadIdle, DownloadSync, Error, Fresh, Manifest,
     ManifestSync, ManifestWaitReset, UploadIdle,
 };
-use crate::Row;
 use crate::row::Gives::Silent;
 use crate::row::Source::{A, Open};
 use crate::row::When::Always;

@@ -1,6 +1,6 @@
 //! A row of the table.
 
-use crate::{Asked, Place, Reading};
+use crate::{EventKind, Reading, StandardState};
 
 /// Of which devices a row speaks: the bits are those of bmAttributes (USB DFU 1.1, section 4.1.3).
 #[derive(Clone, Copy, Debug, PartialEq, Eq)]
@@ -58,15 +58,15 @@ pub enum Source {
 #[derive(Clone, Copy, Debug, PartialEq, Eq)]
 pub struct Row {
     /// Where the device stands.
-    pub from: Place,
+    pub from: StandardState,
     /// What comes to it.
-    pub asked: Asked,
+    pub asked: EventKind,
     /// Of which devices the row speaks.
     pub when: When,
     /// What it answers.
     pub gives: Gives,
     /// Where it stands then.
-    pub next: Place,
+    pub next: StandardState,
     /// Where the row stands in the standard.
     pub source: Source,
 }
@@ -75,11 +75,11 @@ pub struct Row {
 #[derive(Clone, Copy, Debug, PartialEq, Eq)]
 pub struct Drift {
     /// Where the device stands.
-    pub from: Place,
+    pub from: StandardState,
     /// Which devices make the move.
     pub when: When,
     /// Where it stands then.
-    pub next: Place,
+    pub next: StandardState,
     /// Where the move stands in the standard.
     pub source: Source,
 }

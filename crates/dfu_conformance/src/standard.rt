@@ -1,11 +1,13 @@
 //! The table of the standard: what a device may answer at each place to each request (USB DFU 1.1, appendix A and section 6).
 
-use crate::Asked::{Abort, Block, Close, ClrStatus, Detach, GetState, GetStatus, Other, Upload};
-use crate::Place::{
+use crate::EventKind::{
+    Abort, Block, Close, ClrStatus, Detach, GetState, GetStatus, Other, Upload,
+};
+use crate::Row;
+use crate::StandardState::{
     AppDetach, AppIdle, DfuIdle, DownloadBusy, DownloadIdle, DownloadSync, Error, Manifest,
     ManifestSync, ManifestWaitReset, UploadIdle,
 };
-use crate::Row;
 use crate::row::Gives::{Ack, Full, Short, Stall, State, Status};
 use crate::row::Source::{A, Open};
 use crate::row::When::{Always, CanDownload, CanUpload, Tolerant};

@@ -4,7 +4,7 @@ ghost use Rattle.std.specs.Prelude.{◌≡◌, ◌&&◌, slice_index_or, false};
 ghost use Rattle.dfu_conformance.specs.Fits.{place_number, asks};
 
 use crate::event::is_asked;
-use crate::{Event, Row};
+use crate::{LogEvent, Row};
 
 /// What a judge says of all that came.
 #[derive(Clone, Copy, Debug, PartialEq, Eq)]
@@ -23,10 +23,10 @@ pub enum Verdict {
 /// An event after which no device of the standard is left.
 #[derive(Clone, Copy, Debug, PartialEq, Eq)]
 pub struct Departure {
-    /// Where the device might stand before it: by place, in the order of [`crate::Place`].
+    /// Where the device might stand before it: by place, in the order of [`crate::StandardState`].
     pub before: [bool; 12],
     /// What came.
-    pub event: Event,
+    pub event: LogEvent,
 }
 
 impl Departure {

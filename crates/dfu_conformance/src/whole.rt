@@ -2,10 +2,10 @@
 
 ghost use Rattle.dfu_conformance.specs.Verdict.{IsVerdict};
 
-use crate::{Event, Judge, Verdict};
+use crate::{Judge, LogEvent, Verdict};
 
 /// The verdict on these events, of a device of which nothing is known.
-pub fn verdict_on(events: &[Event]) -> Verdict
+pub fn verdict_on(events: &[LogEvent]) -> Verdict
     ensures { IsVerdict result events.now }
 {
     let mut judge = Judge::new();

@@ -7,10 +7,10 @@ use Rattle.dfu_slots.specs.Seen.{image_of}
 use Rattle.dfu_device.specs.declared.answer.Answer.{Answer}
 use Rattle.dfu_device.specs.Stage.{Reply, Ack, Data, StateOf, StatusOf, Stall, Request, Upload}
 use Rattle.dfu_device.specs.Table.{Plan, Sure, Writes, Commits, plan}
-use Rattle.dfu_device.specs.Shown.{Shown, profile}
+use Rattle.dfu_device.specs.DeviceView.{DeviceView, profile}
 use Rattle.dfu_device.specs.Rows.{Answers, Done, Handles, handled_as, is_served, meant, setup_plan, asked_length}
 use Rattle.dfu_device.specs.RowForms.{EachReply, ReplyFits, row_form, row_fits}
-use Rattle.dfu_device.specs.Lent.{answer_room}
+use Rattle.dfu_device.specs.Borrowed.{answer_room}
 use Rattle.dfu_device.specs.Cases.{either_way}
 
 answer_fits : (t len : ℕ) (r : Request) (reply : Reply) (a : Answer) (out : List ℕ) → ReplyFits t reply r → Answers len reply a out
@@ -23,7 +23,7 @@ answer_fits t len r (StateOf state) a out fits (is, same) = omega (arith, ap len
 answer_fits t len r (StatusOf code poll state) a out fits (is, bytes, status, last, same) =
     omega (arith, ap length same, length-take len bytes, status.length)
 
-done_fits : (t len : ℕ) (r : Request) (p : Plan) (d : Shown) (a : Answer) (out : List ℕ) (d' : Shown)
+done_fits : (t len : ℕ) (r : Request) (p : Plan) (d : DeviceView) (a : Answer) (out : List ℕ) (d' : DeviceView)
     → EachReply (λ reply. ReplyFits t reply r) p → Done p len d a out d' → length out ≤ max 6 t
 done_fits t len r (Sure reply stage) d a out d' fits (answers, same) = answer_fits t len r reply a out fits answers
 done_fits t len r (Writes before block reply stage bad) d a out d' fits (inl (answers, wrote)) =
@@ -35,7 +35,7 @@ done_fits t len r (Commits taken reply stage bad) d a out d' fits (inr (fault, a
     answer_fits t len r (bad fault) a out (fits.1 fault) answers
 
 -- A setup is answered with at most six bytes, or as many as a block may have where these are more.
-pub handled_fits : (setup body : List ℕ) (d : Shown) (a : Answer) (out : List ℕ) (d' : Shown) → Handles setup body d a out d'
+pub handled_fits : (setup body : List ℕ) (d : DeviceView) (a : Answer) (out : List ℕ) (d' : DeviceView) → Handles setup body d a out d'
     → length out ≤ answer_room d.config
 handled_fits setup body d a out d' (handled_as p q is asks done) =
     let t = d.config.functional.transfer in

@@ -13,10 +13,10 @@ use Rattle.dfu_slots.proofs.Parts.{data_length}
 use Rattle.dfu_slots.proofs.Multiples.{held_end}
 use Rattle.dfu_slots.proofs.Seeing.{spare_is}
 use Rattle.dfu_device.specs.declared.candidate.Candidate.{Candidate}
-use Rattle.dfu_device.specs.declared.mode.Mode.{Mode}
-use Rattle.dfu_device.specs.declared.mode.Mode.TheVariants as mode
+use Rattle.dfu_device.specs.declared.device_state.DeviceState.{DeviceState}
+use Rattle.dfu_device.specs.declared.device_state.DeviceState.TheVariants as device_state
 use Rattle.dfu_device.specs.Parts.{stage_of, is_sound}
-use Rattle.dfu_device.specs.Shown.{Shown}
+use Rattle.dfu_device.specs.DeviceView.{DeviceView}
 use Rattle.dfu_device.specs.Candidate.{candidate_in, candidate_length, IsCandidate}
 
 module _ (s : SlotsState) (store : IsStore s) where
@@ -60,39 +60,40 @@ IsEnd (Some n) s = (n ≡ s.put_end) × (n ≤ room_of s)
 IsEnd None s = Unit {0}
 
 -- The mode of a device tells how many bytes an image has that was taken.
-pub candidate_stage : (m : Mode) (spare block : List ℕ) → candidate_in (stage_of m spare block) ≡ front_of (candidate_length m) spare
-candidate_stage (mode.DownloadIdle written number) spare block = refl
-candidate_stage (mode.ManifestSync written) spare block = refl
-candidate_stage (mode.Manifest written passed) spare block = refl
-candidate_stage mode.AppIdle spare block = refl
-candidate_stage (mode.AppDetach timer passed) spare block = refl
-candidate_stage mode.DfuIdle spare block = refl
-candidate_stage (mode.DownloadSync written number) spare block = refl
-candidate_stage (mode.DownloadSyncWritten written number) spare block = refl
-candidate_stage (mode.DownloadBusy written number passed) spare block = refl
-candidate_stage mode.ManifestSyncComplete spare block = refl
-candidate_stage mode.ManifestWaitReset spare block = refl
-candidate_stage (mode.UploadIdle at number) spare block = refl
-candidate_stage (mode.Error code) spare block = refl
+pub candidate_stage : (m : DeviceState) (spare block : List ℕ) → candidate_in (stage_of m spare block) ≡ front_of (candidate_length m) spare
+candidate_stage (device_state.DownloadIdle written number) spare block = refl
+candidate_stage (device_state.ManifestSync written) spare block = refl
+candidate_stage (device_state.Manifest written passed) spare block = refl
+candidate_stage device_state.AppIdle spare block = refl
+candidate_stage (device_state.AppDetach timer passed) spare block = refl
+candidate_stage device_state.DfuIdle spare block = refl
+candidate_stage (device_state.DownloadSync written number) spare block = refl
+candidate_stage (device_state.DownloadSyncWritten written number) spare block = refl
+candidate_stage (device_state.DownloadBusy written number passed) spare block = refl
+candidate_stage device_state.ManifestSyncComplete spare block = refl
+candidate_stage device_state.ManifestWaitReset spare block = refl
+candidate_stage (device_state.UploadIdle at number) spare block = refl
+candidate_stage (device_state.Error code) spare block = refl
 
 -- So many were put in its slot store.
-pub candidate_put : (m : Mode) (b : ℕ) (s : SlotsState) → IsTrue (is_sound m b s) → IsEnd (candidate_length m) s
-candidate_put (mode.DownloadIdle written number) b s sound = (sym (grind (arith, common_steps)), grind (arith, common_steps))
-candidate_put (mode.ManifestSync written) b s sound = (sym (grind (arith, common_steps)), grind (arith, common_steps))
-candidate_put (mode.Manifest written passed) b s sound = (sym (grind (arith, common_steps)), grind (arith, common_steps))
-candidate_put mode.AppIdle b s sound = tt
-candidate_put (mode.AppDetach timer passed) b s sound = tt
-candidate_put mode.DfuIdle b s sound = tt
-candidate_put (mode.DownloadSync written number) b s sound = tt
-candidate_put (mode.DownloadSyncWritten written number) b s sound = tt
-candidate_put (mode.DownloadBusy written number passed) b s sound = tt
-candidate_put mode.ManifestSyncComplete b s sound = tt
-candidate_put mode.ManifestWaitReset b s sound = tt
-candidate_put (mode.UploadIdle at number) b s sound = tt
-candidate_put (mode.Error code) b s sound = tt
+pub candidate_put : (m : DeviceState) (b : ℕ) (s : SlotsState) → IsTrue (is_sound m b s) → IsEnd (candidate_length m) s
+candidate_put (device_state.DownloadIdle written number) b s sound = (sym (grind (arith, common_steps)), grind (arith, common_steps))
+candidate_put (device_state.ManifestSync written) b s sound = (sym (grind (arith, common_steps)), grind (arith, common_steps))
+candidate_put (device_state.Manifest written passed) b s sound = (sym (grind (arith, common_steps)), grind (arith, common_steps))
+candidate_put device_state.AppIdle b s sound = tt
+candidate_put (device_state.AppDetach timer passed) b s sound = tt
+candidate_put device_state.DfuIdle b s sound = tt
+candidate_put (device_state.DownloadSync written number) b s sound = tt
+candidate_put (device_state.DownloadSyncWritten written number) b s sound = tt
+candidate_put (device_state.DownloadBusy written number passed) b s sound = tt
+candidate_put device_state.ManifestSyncComplete b s sound = tt
+candidate_put device_state.ManifestWaitReset b s sound = tt
+candidate_put (device_state.UploadIdle at number) b s sound = tt
+candidate_put (device_state.Error code) b s sound = tt
 
 -- An image of so many bytes, of which those of whole units are at the front of the spare slot's data, is the one that was taken.
-pub candidate_is : (w : Shown) (m : Mode) (block : List ℕ) (c : Candidate) (n : ℕ) → w.stage ≡ stage_of m (spare_of w.slots) block
+pub candidate_is : (w : DeviceView) (m : DeviceState) (block : List ℕ) (c : Candidate) (n : ℕ)
+    → w.stage ≡ stage_of m (spare_of w.slots) block
     → IsTrue (is_sound m (length block) w.slots) → IsStore w.slots → candidate_length m ≡ Some n
     → c.at ≡ spare_at (gate_of w.slots.medium) w.slots.medium.bytes + 2 * gate_of w.slots.medium
     → c.stored ≡ n - n % unit_size w.slots.medium.grain.unit → IsCandidate w c

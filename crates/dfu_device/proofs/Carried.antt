@@ -12,20 +12,21 @@ use Rattle.dfu_device.specs.declared.reply.Reply.{Reply as ReplyRead}
 use Rattle.dfu_device.specs.declared.reply.Reply.TheVariants as reply
 use Rattle.dfu_device.specs.declared.profile.Profile.{Profile as ProfileRead}
 use Rattle.dfu_device.specs.declared.decision.Decision.{Decision}
-use Rattle.dfu_device.specs.declared.draft.Draft.{Draft}
-use Rattle.dfu_device.specs.declared.draft.Draft.TheVariants as draft
-use Rattle.dfu_device.specs.declared.mode.Mode.{Mode}
-use Rattle.dfu_device.specs.declared.mode.Mode.TheVariants as mode
+use Rattle.dfu_device.specs.declared.pending_answer.PendingAnswer.{PendingAnswer}
+use Rattle.dfu_device.specs.declared.pending_answer.PendingAnswer.TheVariants as pending_answer
+use Rattle.dfu_device.specs.declared.device_state.DeviceState.{DeviceState}
+use Rattle.dfu_device.specs.declared.device_state.DeviceState.TheVariants as device_state
 use Rattle.dfu_device.specs.Stage.{Reply, Profile, Stage, InError}
 use Rattle.dfu_device.specs.Table.{Plan, Writes, Commits, write_code, commit_code, plan, time_plan}
-use Rattle.dfu_device.specs.Shown.{Shown, profile, profile_of}
+use Rattle.dfu_device.specs.DeviceView.{DeviceView, profile, profile_of}
 use Rattle.dfu_device.specs.Parts.{stage_of, is_put, is_filled, is_sound}
 use Rattle.dfu_device.specs.Rows.{Answers, Done, Elapses, meant, asked_length, Committed, FailedCommit, WroteBlock, FailedBlock}
 use Rattle.dfu_device.specs.Decision.{profile_in, reply_in, plan_of, HoldsWritten, HasLength, Decides, DecidesTime, Allows, AllowsAsked}
-use Rattle.dfu_device.specs.inside.Draft.{draft_of, Drafted, DraftDone, DraftServed}
+use Rattle.dfu_device.specs.inside.PendingAnswer.{pending_answer_of, AnswersPending, DonePending, ServedPending}
 
--- A reply is answered as its draft is.
-pub as_drafted : (r : ReplyRead) (asked : ℕ) (w : Shown) (a : Answer) (out : List ℕ) → Drafted (draft_of asked r) w a out
+-- A reply is answered as its pending answer is.
+pub as_drafted : (r : ReplyRead) (asked : ℕ) (w : DeviceView) (a : Answer) (out : List ℕ)
+    → AnswersPending (pending_answer_of asked r) w a out
     → Answers asked (reply_in (profile w) w.stage r) a out
 as_drafted reply.Ack asked w a out says = says
 as_drafted reply.Status asked w a out says = says
@@ -33,8 +34,8 @@ as_drafted reply.State asked w a out says = says
 as_drafted reply.Stall asked w a out says = says
 
 -- What was answered in the stage that was entered is the reply by the name of that stage.
-as_entered : (r : ReplyRead) (asked : ℕ) (w w' : Shown) (stage : Stage) (a : Answer) (out : List ℕ) → w'.config ≡ w.config
-    → room_of w'.slots ≡ room_of w.slots → w'.stage ≡ stage → Drafted (draft_of asked r) w' a out
+as_entered : (r : ReplyRead) (asked : ℕ) (w w' : DeviceView) (stage : Stage) (a : Answer) (out : List ℕ) → w'.config ≡ w.config
+    → room_of w'.slots ≡ room_of w.slots → w'.stage ≡ stage → AnswersPending (pending_answer_of asked r) w' a out
     → Answers asked (reply_in (profile w) stage r) a out
 as_entered r asked w w' stage a out config room is says =
     subst (λ (x : Reply). Answers asked x a out) (λ k. reply_in (profile_of (config k) (room k)) (is k) r) (as_drafted r asked w' a out says)
@@ -46,46 +47,49 @@ either_way_ended (Ok x) a b f g = f a
 either_way_ended (Err fault) a b f g = g fault b
 
 -- A block that was written, or whose write had a fault, is what a plan says that writes it.
-pub block_done : {T : Type 0} (w w' : Shown) (before block : List ℕ) (next : Stage) (r : ReplyRead) (asked : ℕ) (result : Result T WriteFault)
+pub block_done : {T : Type 0} (w w' : DeviceView) (before block : List ℕ) (next : Stage) (r : ReplyRead) (asked : ℕ)
+    (result : Result T WriteFault)
     → OnOk result (WroteBlock before block w.config w.slots next w')
     → IfErr result (λ fault. FailedBlock fault before block w.config w.slots w')
-    → DraftDone (Writes before block (reply_in (profile w) next r) next (λ fault. reply_in (profile w) (InError (write_code fault)) r))
-    asked w (draft_of asked r) w'
+    → DonePending (Writes before block (reply_in (profile w) next r) next (λ fault. reply_in (profile w) (InError (write_code fault)) r))
+    asked w (pending_answer_of asked r) w'
 block_done w w' before block next r asked result good bad = λ a out says. either_way_ended result good bad
     (λ g. inl (as_entered r asked w w' next a out g.config_is g.room g.stage_is says, g))
     (λ fault b. inr (fault, as_entered r asked w w' (InError (write_code fault)) a out b.config_is b.room b.stage_is says, b))
 
 -- A commit that worked, or of which a write had a fault, is what a plan says that commits.
-pub commit_done : {T : Type 0} (w w' : Shown) (taken : List ℕ) (next : Stage) (r : ReplyRead) (asked : ℕ) (result : Result T WriteFault)
+pub commit_done : {T : Type 0} (w w' : DeviceView) (taken : List ℕ) (next : Stage) (r : ReplyRead) (asked : ℕ)
+    (result : Result T WriteFault)
     → OnOk result (Committed taken w.config w.slots next w')
     → IfErr result (λ fault. FailedCommit fault taken w.config w.slots w')
-    → DraftDone (Commits taken (reply_in (profile w) next r) next (λ fault. reply_in (profile w) (InError (commit_code fault)) r))
-    asked w (draft_of asked r) w'
+    → DonePending (Commits taken (reply_in (profile w) next r) next (λ fault. reply_in (profile w) (InError (commit_code fault)) r))
+    asked w (pending_answer_of asked r) w'
 commit_done w w' taken next r asked result good bad = λ a out says. either_way_ended result good bad
     (λ g. inl (as_entered r asked w w' next a out g.config_is g.room g.stage_is says, g))
     (λ fault b. inr (fault, as_entered r asked w w' (InError (commit_code fault)) a out b.config_is b.room b.stage_is says, b))
 
 -- In a device what is said to be written stands in the spare slot.
-pub holds_written : (m : Mode) (b : ℕ) (s : SlotsState) → IsTrue (is_sound m b s) → HoldsWritten m (spare_of s)
-holds_written (mode.DownloadIdle written number) b s sound = length-take-le written (spare_of s) (grind (arith, common_steps))
+pub holds_written : (m : DeviceState) (b : ℕ) (s : SlotsState) → IsTrue (is_sound m b s) → HoldsWritten m (spare_of s)
+holds_written (device_state.DownloadIdle written number) b s sound = length-take-le written (spare_of s) (grind (arith, common_steps))
 holds_written m b s sound = tt
 
 -- The parts of a device are filled as its mode says.
-pub filled : (m : Mode) (b : ℕ) (s : SlotsState) → IsTrue (is_sound m b s) → IsTrue (is_filled m b s)
+pub filled : (m : DeviceState) (b : ℕ) (s : SlotsState) → IsTrue (is_sound m b s) → IsTrue (is_filled m b s)
 filled m b s sound = grind (arith, common_steps)
 
 -- A mode that is filled in the store of a device makes one with it.
-pub still_sound : (m n : Mode) (b : ℕ) (s : SlotsState) → IsTrue (is_sound m b s) → is_filled n b s ≡ true → IsTrue (is_sound n b s)
+pub still_sound : (m n : DeviceState) (b : ℕ) (s : SlotsState) → IsTrue (is_sound m b s) → is_filled n b s ≡ true → IsTrue (is_sound n b s)
 still_sound m n b s sound fills = sound_of (is_shaped s) (is_filled m b s) (is_filled n b s) sound fills
   where
     sound_of : (p q r : Bool) → IsTrue (p && q) → r ≡ true → IsTrue (p && r)
     sound_of p q r t e = grind (arith, common_steps)
 
 -- What is decided on a request and carried out is its row.
-pub served : (p : ProfileRead) (q : Asked) (m : Mode) (block body : List ℕ) (d : Decision) (asked : ℕ) (w w' : Shown) (x : Draft)
+pub served : (p : ProfileRead) (q : Asked) (m : DeviceState) (block body : List ℕ) (d : Decision) (asked : ℕ) (w w' : DeviceView)
+    (x : PendingAnswer)
     → profile_in p ≡ profile w → IsTrue (is_sound m (length block) w.slots) → w.stage ≡ stage_of m (spare_of w.slots) block
     → Decides p m q d → HasLength q body → asked ≡ asked_length q
-    → DraftDone (plan_of (profile w) (image_of w.slots) (spare_of w.slots) block body d) asked w x w' → DraftServed q body w x w'
+    → DonePending (plan_of (profile w) (image_of w.slots) (spare_of w.slots) block body d) asked w x w' → ServedPending q body w x w'
 served p q m block body d asked w w' x same sound stage decides fits len done = λ a out says.
     let image = image_of w.slots in
     let spare = spare_of w.slots in
@@ -98,9 +102,10 @@ served p q m block body d asked w w' x same sound stage decides fits len done = 
     (subst (λ (n : ℕ). Done (plan_of (profile w) image spare block body d) n w a out w') len (done a out says))
 
 -- What is decided on a time and carried out is its row.
-pub passed : (p : ProfileRead) (ms : ℕ) (m : Mode) (block body : List ℕ) (d : Decision) (w w' : Shown) (x : Draft)
+pub passed : (p : ProfileRead) (ms : ℕ) (m : DeviceState) (block body : List ℕ) (d : Decision) (w w' : DeviceView) (x : PendingAnswer)
     → profile_in p ≡ profile w → w.stage ≡ stage_of m (spare_of w.slots) block → DecidesTime p m ms d → body ≡ []
-    → DraftDone (plan_of (profile w) (image_of w.slots) (spare_of w.slots) block body d) 0 w x w' → x ≡ draft.Ack → Elapses ms w w'
+    → DonePending (plan_of (profile w) (image_of w.slots) (spare_of w.slots) block body d) 0 w x w' → x ≡ pending_answer.Ack
+    → Elapses ms w w'
 passed p ms m block body d w w' x same stage decides none done silent =
     let image = image_of w.slots in
     let spare = spare_of w.slots in
@@ -109,24 +114,26 @@ passed p ms m block body d w w' x same stage decides none done silent =
     let here : plan_of (profile w) image spare block [] d ≡ time_plan (profile w) w.stage ms =
     subst (λ (c : Profile). plan_of c image spare block [] d ≡ time_plan c (stage_of m spare block) ms) same there
     ∙ ap (λ (st : Stage). time_plan (profile w) st ms) (sym stage) in
-    let says : Drafted x w' answer.Ack [] = subst (λ (y : Draft). Drafted y w' answer.Ack []) (sym silent) (refl, refl) in
+    let says : AnswersPending x w' answer.Ack [] =
+    subst (λ (y : PendingAnswer). AnswersPending y w' answer.Ack []) (sym silent) (refl, refl) in
     subst (λ (z : Plan). Done z 0 w answer.Ack [] w') here
     (subst (λ (l : List ℕ). Done (plan_of (profile w) image spare block l d) 0 w answer.Ack [] w') none (done answer.Ack [] says))
 
 -- What can be carried out in a mode can be in one that is the same.
-pub allowed : (p : ProfileRead) (q : Asked) (d : Decision) {m n : Mode} → m ≡ n → AllowsAsked p n q d → AllowsAsked p m q d
-allowed p q d is can = subst (λ (k : Mode). AllowsAsked p k q d) (sym is) can
+pub allowed : (p : ProfileRead) (q : Asked) (d : Decision) {m n : DeviceState} → m ≡ n → AllowsAsked p n q d → AllowsAsked p m q d
+allowed p q d is can = subst (λ (k : DeviceState). AllowsAsked p k q d) (sym is) can
 
 -- So can what a time comes to.
-pub allowed_time : (p : ProfileRead) (d : Decision) {m n : Mode} → m ≡ n → Allows p n 0 d → Allows p m 0 d
-allowed_time p d is can = subst (λ (k : Mode). Allows p k 0 d) (sym is) can
+pub allowed_time : (p : ProfileRead) (d : Decision) {m n : DeviceState} → m ≡ n → Allows p n 0 d → Allows p m 0 d
+allowed_time p d is can = subst (λ (k : DeviceState). Allows p k 0 d) (sym is) can
 
 -- What can be carried out with so many bytes can be with the body of a DNLOAD of that length.
-pub allowed_block : (p : ProfileRead) (m : Mode) (d : Decision) {q : Asked} {block len : ℕ} → q ≡ asked.Dnload block len → Allows p m len d
+pub allowed_block : (p : ProfileRead) (m : DeviceState) (d : Decision) {q : Asked} {block len : ℕ} → q ≡ asked.Dnload block len
+    → Allows p m len d
     → AllowsAsked p m q d
 allowed_block p m d is can = λ body fits.
     subst (λ (n : ℕ). Allows p m n d) (sym (subst (λ (x : Asked). HasLength x body) is fits)) can
 
 -- A download that goes on has put what is written.
-pub further_put : (n : ℕ) (s : SlotsState) → IsTrue (is_filled (mode.DownloadIdle n 0) 0 s) → is_put n s ≡ true
+pub further_put : (n : ℕ) (s : SlotsState) → IsTrue (is_filled (device_state.DownloadIdle n 0) 0 s) → is_put n s ≡ true
 further_put n s filled = grind (arith, common_steps)

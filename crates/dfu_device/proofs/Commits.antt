@@ -5,8 +5,8 @@ use Rattle.std.proofs.lemmas.List.{length-take-le}
 use Rattle.dfu_slots.specs.declared.fault.WriteFault.{WriteFault}
 use Rattle.dfu_slots.specs.Seen.{SlotsState, image_of, spare_of, is_begun, room_of, is_shaped, Commit, Ending, AllWorked, BrokenBy, DidCall, Called}
 use Rattle.dfu_device.specs.Setting.{Setting}
-use Rattle.dfu_device.specs.declared.mode.Mode.{Mode}
-use Rattle.dfu_device.specs.declared.mode.Mode.TheVariants as mode
+use Rattle.dfu_device.specs.declared.device_state.DeviceState.{DeviceState}
+use Rattle.dfu_device.specs.declared.device_state.DeviceState.TheVariants as device_state
 use Rattle.dfu_device.specs.Parts.{shows, stage_of, is_put, is_filled, is_sound}
 use Rattle.dfu_device.specs.Decision.{TakesNothing}
 use Rattle.dfu_device.specs.Table.{commit_code}
@@ -21,11 +21,11 @@ pub record IsReady (s : SlotsState) (n : ℕ) : Type 0 where
   pub spare : n ≤ length (spare_of s)
 
 -- The store of a device is shaped.
-pub shaped : (m : Mode) (b : ℕ) (s : SlotsState) → IsTrue (is_sound m b s) → is_shaped s ≡ true
+pub shaped : (m : DeviceState) (b : ℕ) (s : SlotsState) → IsTrue (is_sound m b s) → is_shaped s ≡ true
 shaped m b s sound = grind (arith, common_steps)
 
 -- A store that is shaped and has what was taken is ready for a commit.
-pub commit_ready : (b n : ℕ) (s : SlotsState) → is_shaped s ≡ true → IsTrue (is_filled (mode.ManifestSync n) b s) → IsReady s n
+pub commit_ready : (b n : ℕ) (s : SlotsState) → is_shaped s ≡ true → IsTrue (is_filled (device_state.ManifestSync n) b s) → IsReady s n
 commit_ready b n s shape filled = record {
   begun = grind (arith, common_steps);
   end = grind (arith, common_steps);
@@ -39,25 +39,25 @@ commit_calls : (s now : SlotsState) (n : ℕ) (ending : Ending) → n ≤ length
 commit_calls s now n ending fits d =
     subst (λ (k : ℕ). Called s (Commit k ∷ []) ending now) (sym (length-take-le n (spare_of s) fits)) (called_one s now (Commit n) ending d)
 
-rested : (m : Mode) → TakesNothing m → (xs ys : List ℕ)
+rested : (m : DeviceState) → TakesNothing m → (xs ys : List ℕ)
     → stage_of m xs ys ≡ stage_of m [] []
 rested m three xs ys = elim three [ inl e ↦ rw e refl | inr other ↦ elim other [ inl e ↦ rw e refl | inr e ↦ rw e refl ] ]
 
 shaped_sound : (s : SlotsState) → is_shaped s ≡ true → IsTrue (is_shaped s && true)
 shaped_sound s shape = grind (arith, common_steps)
 
--- A machine that goes on to dfuIDLE, to dfuMANIFEST-SYNC when complete, or to dfuMANIFEST-WAIT-RESET is sound.
-pub rested_sound : (m : Mode) (b : ℕ) (s : SlotsState) → TakesNothing m
+-- A core that goes on to dfuIDLE, to dfuMANIFEST-SYNC when complete, or to dfuMANIFEST-WAIT-RESET is sound.
+pub rested_sound : (m : DeviceState) (b : ℕ) (s : SlotsState) → TakesNothing m
     → is_shaped s ≡ true → IsTrue (is_sound m b s)
 rested_sound m b s three shape =
     let sound : IsTrue (is_shaped s && true) = shaped_sound s shape in
     elim three [
-      | inl e ↦ subst (λ (k : Mode). IsTrue (is_sound k b s))
+      | inl e ↦ subst (λ (k : DeviceState). IsTrue (is_sound k b s))
           (sym e) sound
       | inr other ↦ elim other [
-        | inl e ↦ subst (λ (k : Mode). IsTrue (is_sound k b s)) (sym e) sound
+        | inl e ↦ subst (λ (k : DeviceState). IsTrue (is_sound k b s)) (sym e) sound
         | inr e ↦ subst
-            (λ (k : Mode). IsTrue (is_sound k b s)) (sym e) sound
+            (λ (k : DeviceState). IsTrue (is_sound k b s)) (sym e) sound
       ]
     ]
 
@@ -65,15 +65,15 @@ all_put : (n : ℕ) (s : SlotsState) → 0 < n → n ≤ room_of s → is_shaped
     → IsTrue (is_shaped s && (nat_lt 0 n && (nat_le n (room_of s) && is_put n s)))
 all_put n s some room shape put = grind (arith, common_steps)
 
--- A machine is sound once its block was put behind the bytes written.
-pub written_sound : (m : Mode) (b n number : ℕ) (s : SlotsState) → (m ≡ mode.DownloadSyncWritten n number)
-    ⊎ (m ≡ mode.DownloadIdle n number) → 0 < n → n ≤ room_of s → is_shaped s ≡ true → is_put n s ≡ true → IsTrue (is_sound m b s)
+-- A core is sound once its block was put behind the bytes written.
+pub written_sound : (m : DeviceState) (b n number : ℕ) (s : SlotsState) → (m ≡ device_state.DownloadSyncWritten n number)
+    ⊎ (m ≡ device_state.DownloadIdle n number) → 0 < n → n ≤ room_of s → is_shaped s ≡ true → is_put n s ≡ true → IsTrue (is_sound m b s)
 written_sound m b n number s either some room shape put =
     let sound : IsTrue (is_shaped s && (nat_lt 0 n && (nat_le n (room_of s) && is_put n s))) = all_put n s some room shape put in
     elim either [
-      | inl e ↦ subst (λ (k : Mode). IsTrue (is_sound k b s)) (sym e) sound
+      | inl e ↦ subst (λ (k : DeviceState). IsTrue (is_sound k b s)) (sym e) sound
       | inr e ↦ subst
-          (λ (k : Mode). IsTrue (is_sound k b s)) (sym e) sound
+          (λ (k : DeviceState). IsTrue (is_sound k b s)) (sym e) sound
     ]
 
 -- A block that is not written has bytes, and finds room behind those written.
@@ -82,11 +82,11 @@ pub record FindsRoom (s : SlotsState) (n b : ℕ) : Type 0 where
   pub room : n + b ≤ room_of s
 
 -- A block that is to be written finds room.
-pub block_room : (n b number : ℕ) (s : SlotsState) → IsTrue (is_filled (mode.DownloadSync n number) b s) → FindsRoom s n b
+pub block_room : (n b number : ℕ) (s : SlotsState) → IsTrue (is_filled (device_state.DownloadSync n number) b s) → FindsRoom s n b
 block_room n b number s filled = record { some = grind (arith, common_steps); room = grind (arith, common_steps) }
 
 -- A commit that worked is what the table says of it.
-pub committed : (config : Setting) (s now : SlotsState) (next : Mode) (block : List ℕ) (n : ℕ) → IsReady s n
+pub committed : (config : Setting) (s now : SlotsState) (next : DeviceState) (block : List ℕ) (n : ℕ) → IsReady s n
     → DidCall s (Commit n) AllWorked now → image_of now ≡ take n (spare_of s) → room_of now ≡ room_of s
     → TakesNothing next
     → Committed (take n (spare_of s)) config s (stage_of next [] []) (shows config now next block)
@@ -102,7 +102,7 @@ committed config s now next block n ready d image room three = record {
 pub not_committed : (fault : WriteFault) (config : Setting) (s now : SlotsState) (block : List ℕ) (n : ℕ) → IsReady s n
     → DidCall s (Commit n) (BrokenBy fault) now
     → (image_of now ≡ image_of s) ⊎ (image_of now ≡ take n (spare_of s)) → room_of now ≡ room_of s
-    → FailedCommit fault (take n (spare_of s)) config s (shows config now (mode.Error (commit_code fault)) block)
+    → FailedCommit fault (take n (spare_of s)) config s (shows config now (device_state.Error (commit_code fault)) block)
 not_committed fault config s now block n ready d image room = record {
   config_is = refl;
   room = room;

@@ -3,7 +3,7 @@ use Rattle.std.specs.Prelude.{◌≡◌, ℕ, Bool, true, false, List, [], ◌�
 use Rattle.std.proofs.Common.{refl, sym, ap, ◌∙◌, subst}
 use Rattle.std.proofs.lemmas.List.{append_assoc, append-nil}
 use Rattle.std.proofs.lemmas.Bool.{false≢true}
-use Rattle.dfu_device.specs.Shown.{Shown}
+use Rattle.dfu_device.specs.DeviceView.{DeviceView}
 use Rattle.dfu_device.specs.History.{HistoryStep, IsRow, IsHistory, joined_parts, AllInside, Gathered, from_start, since}
 use Rattle.dfu_device.proofs.Cases.{by_cases}
 
@@ -38,15 +38,16 @@ module _ (inside : HistoryStep → Bool) (part : HistoryStep → List ℕ) where
       (λ no. since h s [] refl no tt (off no))
 
   -- So a history that goes on gathers what its steps do, where each row does so of what a device shows.
-  pub history_gathers : (of : Shown → List ℕ)
+  pub history_gathers : (of : DeviceView → List ℕ)
       → ((h : List HistoryStep) (s : HistoryStep) → Gathered inside part h (of s.before) → IsRow s →
       Gathered inside part (h ++ s ∷ []) (of s.after))
-      → (g h : List HistoryStep) (w w' : Shown) → Gathered inside part g (of w) → IsHistory w h w' → Gathered inside part (g ++ h) (of w')
+      → (g h : List HistoryStep) (w w' : DeviceView) → Gathered inside part g (of w) → IsHistory w h w'
+      → Gathered inside part (g ++ h) (of w')
   history_gathers of step g [] w w' gathered same =
       subst (λ (l : List HistoryStep). Gathered inside part l (of w')) (sym (append-nil g))
-      (subst (λ (z : Shown). Gathered inside part g (of z)) (sym same) gathered)
+      (subst (λ (z : DeviceView). Gathered inside part g (of z)) (sym same) gathered)
   history_gathers of step g (s ∷ rest) w w' gathered (starts, row, more) =
-      let before : Gathered inside part g (of s.before) = subst (λ (z : Shown). Gathered inside part g (of z)) (sym starts) gathered in
+      let before : Gathered inside part g (of s.before) = subst (λ (z : DeviceView). Gathered inside part g (of z)) (sym starts) gathered in
       subst (λ (l : List HistoryStep). Gathered inside part l (of w')) (append_assoc g (s ∷ []) rest)
       (history_gathers of step (g ++ s ∷ []) rest s.after w' (step g s before row) more)
 

@@ -10,7 +10,7 @@ use Rattle.dfu_device.specs.declared.answer.Answer.{Answer}
 use Rattle.dfu_device.specs.declared.answer.Answer.TheVariants as answer
 use Rattle.dfu_device.specs.Stage.{Request, GetStatus, ClrStatus, GetState, Profile, Stage, InError}
 use Rattle.dfu_device.specs.Table.{Plan, Sure, Writes, Commits, plan, time_plan}
-use Rattle.dfu_device.specs.Shown.{Shown, profile, situation, written_in}
+use Rattle.dfu_device.specs.DeviceView.{DeviceView, profile, situation, written_in}
 use Rattle.dfu_device.specs.Rows.{meant, asked_length, Done, is_served, setup_plan, handled_as, Transfer, Passing, BusReset, RefusingClose, Refusing, PowerOn}
 use Rattle.dfu_device.specs.Taken.{taken_of}
 use Rattle.dfu_device.specs.Cases.{either_way}
@@ -24,9 +24,9 @@ ended_one q = cc
 
 -- The image.
 
-done_keeps : (p : Plan) (len : ℕ) (w : Shown) (a : Answer) (out : List ℕ) (w' : Shown)
+done_keeps : (p : Plan) (len : ℕ) (w : DeviceView) (a : Answer) (out : List ℕ) (w' : DeviceView)
     → CallsFor (written_in w.stage) (taken_of (situation w)) p → Done p len w a out w' → KeepsImage w w'
-done_keeps (Sure reply stage) len w a out w' only (says, is) = inl (inl (ap (λ (z : Shown). z.slots) is))
+done_keeps (Sure reply stage) len w a out w' only (says, is) = inl (inl (ap (λ (z : DeviceView). z.slots) is))
 done_keeps (Writes before block reply stage bad) len w a out w' only (inl (says, h)) = inr (inl (record {
   before = before;
   block = block;
@@ -63,7 +63,7 @@ done_keeps (Commits taken reply stage bad) len w a out w' only (inr (fault, says
   );
 }))
 
-setup_calls : (w : Shown) (p : Setup) (q : Asked) (body : List ℕ)
+setup_calls : (w : DeviceView) (p : Setup) (q : Asked) (body : List ℕ)
     → CallsFor (written_in w.stage) (taken_of (situation w)) (setup_plan w p q body)
 setup_calls w p q body = either_way (CallsFor (written_in w.stage) (taken_of (situation w))) (is_served p q body) _ _
     (row_leads (profile w) (image_of w.slots) w.stage (meant q body)).0 tt
@@ -74,10 +74,10 @@ image_kept w (Transfer setup body) a out w' (handled_as p q reads asks done) =
     done_keeps (setup_plan w p q body) (asked_length q) w a out w' (setup_calls w p q body) done
 image_kept w (Passing ms) a out w' (is, none, row) =
     done_keeps (time_plan (profile w) w.stage ms) 0 w answer.Ack [] w' (time_leads (profile w) (image_of w.slots) w.stage ms).0 row
-image_kept w BusReset a out w' (is, none, same) = inl (inl (ap (λ (z : Shown). z.slots) same))
-image_kept w (RefusingClose setup why) a out w' (is, none, closes, same) = inl (inl (ap (λ (z : Shown). z.slots) same))
-image_kept w (Refusing why) a out w' (is, none, same) = inl (inl (ap (λ (z : Shown). z.slots) same))
-image_kept w PowerOn a out w' (is, none, same) = inl (inr (ap (λ (z : Shown). z.slots) same))
+image_kept w BusReset a out w' (is, none, same) = inl (inl (ap (λ (z : DeviceView). z.slots) same))
+image_kept w (RefusingClose setup why) a out w' (is, none, closes, same) = inl (inl (ap (λ (z : DeviceView). z.slots) same))
+image_kept w (Refusing why) a out w' (is, none, same) = inl (inl (ap (λ (z : DeviceView). z.slots) same))
+image_kept w PowerOn a out w' (is, none, same) = inl (inr (ap (λ (z : DeviceView). z.slots) same))
 
 -- Plans that call nothing.
 
@@ -86,9 +86,9 @@ abbrev pub IsSure : Plan → Type 0
 IsSure (Sure reply stage) = Unit {0}
 IsSure p = ⊥
 
-sure_keeps : (p : Plan) (len : ℕ) (w : Shown) (a : Answer) (out : List ℕ) (w' : Shown) → IsSure p → Done p len w a out w'
+sure_keeps : (p : Plan) (len : ℕ) (w : DeviceView) (a : Answer) (out : List ℕ) (w' : DeviceView) → IsSure p → Done p len w a out w'
     → w'.slots ≡ w.slots
-sure_keeps (Sure reply stage) len w a out w' sure (says, is) = ap (λ (z : Shown). z.slots) is
+sure_keeps (Sure reply stage) len w a out w' sure (says, is) = ap (λ (z : DeviceView). z.slots) is
 sure_keeps (Writes before block reply stage bad) len w a out w' sure done = absurd sure
 sure_keeps (Commits taken reply stage bad) len w a out w' sure done = absurd sure
 
@@ -107,7 +107,7 @@ error_keeps code w (Transfer setup body) a out w' at (handled_as p q reads asks 
 error_keeps code w (Passing ms) a out w' at (is, none, row) =
     inl (sure_keeps (time_plan (profile w) w.stage ms) 0 w answer.Ack [] w'
     (subst (λ (st : Stage). IsSure (time_plan (profile w) st ms)) (sym at) tt) row)
-error_keeps code w BusReset a out w' at (is, none, same) = inl (ap (λ (z : Shown). z.slots) same)
-error_keeps code w (RefusingClose setup why) a out w' at (is, none, closes, same) = inl (ap (λ (z : Shown). z.slots) same)
-error_keeps code w (Refusing why) a out w' at (is, none, same) = inl (ap (λ (z : Shown). z.slots) same)
-error_keeps code w PowerOn a out w' at (is, none, same) = inr (ap (λ (z : Shown). z.slots) same)
+error_keeps code w BusReset a out w' at (is, none, same) = inl (ap (λ (z : DeviceView). z.slots) same)
+error_keeps code w (RefusingClose setup why) a out w' at (is, none, closes, same) = inl (ap (λ (z : DeviceView). z.slots) same)
+error_keeps code w (Refusing why) a out w' at (is, none, same) = inl (ap (λ (z : DeviceView). z.slots) same)
+error_keeps code w PowerOn a out w' at (is, none, same) = inr (ap (λ (z : DeviceView). z.slots) same)

@@ -2,7 +2,7 @@
 use Rattle.std.specs.Prelude.{ℕ, List}
 use Rattle.dfu_device.specs.Stage.{Request, OtherRequest, Profile, Stage}
 use Rattle.dfu_device.specs.Table.{Plan, plan, time_plan}
-use Rattle.dfu_device.specs.Shown.{written_in}
+use Rattle.dfu_device.specs.DeviceView.{written_in}
 use Rattle.dfu_device.specs.Taken.{taken_in}
 use Rattle.dfu_device.specs.RowForms.{CallsFor, WorksWell, RowForm, quiet, takes, closes, sends, ends, row_form, time_form}
 

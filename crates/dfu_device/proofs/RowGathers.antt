@@ -13,7 +13,7 @@ use Rattle.dfu_device.specs.declared.objection.Objection.{Objection}
 use Rattle.dfu_device.specs.Stage.{Request, OtherRequest, Reply, Profile, Stage, InAppIdle, InError, state_of}
 use Rattle.dfu_device.specs.Table.{Plan, plan, time_plan, reset_stage, objection_code, refuse_stage}
 use Rattle.dfu_device.specs.Outcome.{Luck, Outcome, outcome}
-use Rattle.dfu_device.specs.Shown.{Shown, profile}
+use Rattle.dfu_device.specs.DeviceView.{DeviceView, profile}
 use Rattle.dfu_device.specs.Rows.{meant, asked_length, Answers, is_served, Handles, handled_as, Elapses, Cause, Transfer, Passing, BusReset, RefusingClose, Refusing, PowerOn, Row}
 use Rattle.dfu_device.specs.Came.{Came, asked_came, not_served, time_came}
 use Rattle.dfu_device.specs.RowForms.{ReplyFits, reply_given, RowForm, row_form, time_form, row_fits}
@@ -22,7 +22,7 @@ use Rattle.dfu_device.proofs.History.{step_gathers, history_gathers}
 use Rattle.dfu_device.proofs.Cases.{by_cases}
 
 -- The reply to a setup that goes by the table is of the kind that its request has.
-pub reply_fits : (q : Asked) (body : List ℕ) (len : ℕ) (w : Shown) (a : Answer) (out : List ℕ) (w' : Shown)
+pub reply_fits : (q : Asked) (body : List ℕ) (len : ℕ) (w : DeviceView) (a : Answer) (out : List ℕ) (w' : DeviceView)
     (x : Came (plan (profile w) (image_of w.slots) w.stage (meant q body)) len w a out w')
     → ReplyFits (profile w).transfer x.reply (meant q body)
 reply_fits q body len w a out w' x =
@@ -38,7 +38,7 @@ module _ (inside : State → Bool) (held : List ℕ → Stage → List ℕ) (joi
   abbrev left : State → List ℕ → List ℕ
   left state bytes = if inside state then bytes else []
 
-  abbrev held_by : Shown → List ℕ
+  abbrev held_by : DeviceView → List ℕ
   held_by w = held (image_of w.slots) w.stage
 
   -- The bytes held after an outcome are those before as its reply leaves them.
@@ -68,7 +68,7 @@ module _ (inside : State → Bool) (held : List ℕ → Stage → List ℕ) (joi
         → held i (refuse_stage why st) ≡ left (state_of (refuse_stage why st)) (held i st ++ own (Refusing why) a out)
 
   module _ (known : Gathers) where
-    served : (p : Setup) (q : Asked) (setup body : List ℕ) (w : Shown) (a : Answer) (out : List ℕ) (w' : Shown) → IsSetup p setup
+    served : (p : Setup) (q : Asked) (setup body : List ℕ) (w : DeviceView) (a : Answer) (out : List ℕ) (w' : DeviceView) → IsSetup p setup
         → Asks p q → is_served p q body ≡ true → Handles setup body w a out w'
         → held_by w' ≡ left (state_of w'.stage) (held_by w ++ own (Transfer setup body) a out)
     served p q setup body w a out w' reads asks on h =
@@ -80,14 +80,14 @@ module _ (inside : State → Bool) (held : List ℕ → Stage → List ℕ) (joi
         ∙ ap (left (state_of w'.stage)) (known.answered p q setup body (held_by w) (profile w).transfer (asked_length q) x.reply a out
         reads asks on (reply_fits q body (asked_length q) w a out w' x) x.answers)
 
-    unserved : (setup body : List ℕ) (w : Shown) (a : Answer) (out : List ℕ) (w' : Shown) → (a ≡ answer.Stall) × (w' ≡ w)
+    unserved : (setup body : List ℕ) (w : DeviceView) (a : Answer) (out : List ℕ) (w' : DeviceView) → (a ≡ answer.Stall) × (w' ≡ w)
         → held_by w' ≡ left (state_of w'.stage) (held_by w ++ own (Transfer setup body) a out)
     unserved setup body w a out w' (stall, same) =
-        subst (λ (z : Shown). held_by z ≡ left (state_of z.stage) (held_by w ++ own (Transfer setup body) a out)) (sym same)
+        subst (λ (z : DeviceView). held_by z ≡ left (state_of z.stage) (held_by w ++ own (Transfer setup body) a out)) (sym same)
         (known.stays (image_of w.slots) w.stage ∙ ap (λ (l : List ℕ). left (state_of w.stage) (held_by w ++ l))
         (sym (ap (λ (x : Answer). own (Transfer setup body) x out) stall ∙ known.stalled setup body out)))
 
-    waited : (ms : ℕ) (w : Shown) (a : Answer) (out : List ℕ) (w' : Shown) → Elapses ms w w'
+    waited : (ms : ℕ) (w : DeviceView) (a : Answer) (out : List ℕ) (w' : DeviceView) → Elapses ms w w'
         → held_by w' ≡ left (state_of w'.stage) (held_by w ++ own (Passing ms) a out)
     waited ms w a out w' row =
         let x : Came (time_plan (profile w) w.stage ms) 0 w answer.Ack [] w' = time_came ms w w' row in
@@ -97,7 +97,7 @@ module _ (inside : State → Bool) (held : List ℕ → Stage → List ℕ) (joi
         ∙ ap (left (state_of w'.stage)) (known.waits ms (held_by w) x.reply a out)
 
     -- A row of any cause adds what the cause with its answer does.
-    pub row_adds : (w : Shown) (cause : Cause) (a : Answer) (out : List ℕ) (w' : Shown) → Row w cause a out w'
+    pub row_adds : (w : DeviceView) (cause : Cause) (a : Answer) (out : List ℕ) (w' : DeviceView) → Row w cause a out w'
         → held_by w' ≡ left (state_of w'.stage) (held_by w ++ own cause a out)
     row_adds w (Transfer setup body) a out w' (handled_as p q reads asks done) =
         by_cases (is_served p q body)
@@ -105,16 +105,16 @@ module _ (inside : State → Bool) (held : List ℕ → Stage → List ℕ) (joi
         (λ off. unserved setup body w a out w' (not_served p q setup body w a out w' reads asks off (handled_as p q reads asks done)))
     row_adds w (Passing ms) a out w' (is, none, row) = waited ms w a out w' row
     row_adds w BusReset a out w' (is, none, same) =
-        subst (λ (z : Shown). held_by z ≡ left (state_of z.stage) (held_by w ++ own BusReset a out)) (sym same)
+        subst (λ (z : DeviceView). held_by z ≡ left (state_of z.stage) (held_by w ++ own BusReset a out)) (sym same)
         (known.resets (image_of w.slots) (held_by w ++ own BusReset a out) w.stage)
     row_adds w (RefusingClose setup why) a out w' (is, none, closes, same) =
-        subst (λ (z : Shown). held_by z ≡ left (state_of z.stage) (held_by w ++ own (RefusingClose setup why) a out)) (sym same)
+        subst (λ (z : DeviceView). held_by z ≡ left (state_of z.stage) (held_by w ++ own (RefusingClose setup why) a out)) (sym same)
         (known.errs why (image_of w.slots) (held_by w ++ own (RefusingClose setup why) a out))
     row_adds w (Refusing why) a out w' (is, none, same) =
-        subst (λ (z : Shown). held_by z ≡ left (state_of z.stage) (held_by w ++ own (Refusing why) a out)) (sym same)
+        subst (λ (z : DeviceView). held_by z ≡ left (state_of z.stage) (held_by w ++ own (Refusing why) a out)) (sym same)
         (known.refuses why (image_of w.slots) w.stage a out)
     row_adds w PowerOn a out w' (is, none, same) =
-        subst (λ (z : Shown). held_by z ≡ left (state_of z.stage) (held_by w ++ own PowerOn a out)) (sym same)
+        subst (λ (z : DeviceView). held_by z ≡ left (state_of z.stage) (held_by w ++ own PowerOn a out)) (sym same)
         (known.resets (image_of (store_on w.slots.medium)) (held_by w ++ own PowerOn a out) InAppIdle)
 
     -- A step ends where bytes are held.
@@ -135,10 +135,11 @@ module _ (inside : State → Bool) (held : List ℕ → Stage → List ℕ) (joi
         (λ on. now ∙ ap (λ (b : Bool). if b then both else []) on) (λ off. now ∙ ap (λ (b : Bool). if b then both else []) off)
 
     -- A history that goes on gathers what its steps add.
-    pub history_adds : (g h : List HistoryStep) (w w' : Shown) → Gathered ends_inside own_of g (held_by w) → IsHistory w h w'
+    pub history_adds : (g h : List HistoryStep) (w w' : DeviceView) → Gathered ends_inside own_of g (held_by w) → IsHistory w h w'
         → Gathered ends_inside own_of (g ++ h) (held_by w')
     history_adds g h w w' gathered run = history_gathers ends_inside own_of held_by step_adds g h w w' gathered run
 
     -- A device that holds no bytes at first holds at last what its history gathers.
-    pub start_adds : (h : List HistoryStep) (w w' : Shown) → held_by w ≡ [] → IsHistory w h w' → Gathered ends_inside own_of h (held_by w')
+    pub start_adds : (h : List HistoryStep) (w w' : DeviceView) → held_by w ≡ [] → IsHistory w h w'
+        → Gathered ends_inside own_of h (held_by w')
     start_adds h w w' none run = history_adds [] h w w' (from_start tt none) run

@@ -14,7 +14,7 @@ use Rattle.dfu_device.specs.declared.objection.Objection.{Objection}
 use Rattle.dfu_device.specs.Stage.{Request, OtherRequest, Reply, Ack, Stall, Stage, InAppDetach, InDownloadSync, InDownloadSyncWritten, InDownloadBusy, InDownloadIdle, InManifestSync, InManifestSyncComplete, InManifest, state_of}
 use Rattle.dfu_device.specs.Table.{Plan, plan, time_plan, reset_stage, refuse_stage}
 use Rattle.dfu_device.specs.Outcome.{Outcome}
-use Rattle.dfu_device.specs.Shown.{Shown, profile, situation}
+use Rattle.dfu_device.specs.DeviceView.{DeviceView, profile, situation}
 use Rattle.dfu_device.specs.Rows.{meant, asked_length, Answers, is_served, Cause, Refusing, Transfer}
 use Rattle.dfu_device.specs.Came.{Came, asked_came, time_came}
 use Rattle.dfu_device.specs.RowForms.{ReplyFits, RowForm, row_form, time_form}
@@ -27,7 +27,7 @@ use Rattle.dfu_device.specs.TakenHistory.{TookOn, AskedTook, TimeTook, RowTakes,
 
 -- One row.
 
-took_on : (p : Plan) (r : Request) (len : ℕ) (w : Shown) (a : Answer) (out : List ℕ) (w' : Shown)
+took_on : (p : Plan) (r : Request) (len : ℕ) (w : DeviceView) (a : Answer) (out : List ℕ) (w' : DeviceView)
     → RowForm (profile w) (image_of w.slots) w.stage r p → Came p len w a out w' → TookOn r len w a out w'
 took_on p r len w a out w' form x = record {
   reply = x.reply;

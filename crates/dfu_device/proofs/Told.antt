@@ -9,7 +9,7 @@ use Rattle.dfu_device.specs.declared.answer.Answer.TheVariants as answer
 use Rattle.dfu_device.specs.Stage.{GetStatus, GetState, Reply, StateOf, Stall, Profile, Stage, InAppIdle, InAppDetach, InDfuIdle, InDownloadSync, InDownloadSyncWritten, InDownloadBusy, InDownloadIdle, InManifestSync, InManifestSyncComplete, InManifest, InManifestWaitReset, InUploadIdle, InError, state_of, status_of}
 use Rattle.dfu_device.specs.Table.{write_and_report, Plan, plan, commit_and_report}
 use Rattle.dfu_device.specs.Outcome.{Luck, Works, FailsOld, FailsNew, Outcome, outcome}
-use Rattle.dfu_device.specs.Shown.{profile, situation}
+use Rattle.dfu_device.specs.DeviceView.{profile, situation}
 use Rattle.dfu_device.specs.Rows.{Answers}
 use Rattle.dfu_device.specs.Came.{Came, asked_came}
 use Rattle.dfu_device.specs.Cases.{either_way}

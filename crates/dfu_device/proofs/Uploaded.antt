@@ -9,7 +9,7 @@ use Rattle.dfu_device.specs.declared.answer.Answer.{Answer}
 use Rattle.dfu_device.specs.declared.answer.Answer.TheVariants as answer
 use Rattle.dfu_device.specs.Stage.{Reply, Data, Stall, InDfuIdle}
 use Rattle.dfu_device.specs.Table.{plan}
-use Rattle.dfu_device.specs.Shown.{Shown, profile, situation}
+use Rattle.dfu_device.specs.DeviceView.{DeviceView, profile, situation}
 use Rattle.dfu_device.specs.Rows.{meant, asked_length, Answers, is_served, Handles, handled_as, Cause, Row}
 use Rattle.dfu_device.specs.Came.{Came, asked_came, not_served}
 use Rattle.dfu_device.specs.RowForms.{ReplyFits, row_form}
@@ -30,7 +30,7 @@ piece_answered (asked.Upload number size) body most len Stall a out on is fits s
 piece_answered (asked.Upload number size) body most len reply a out on is fits says = absurd fits
 piece_answered q body most len reply a out on is fits says = absurd (false≢true on)
 
-served_ends : (q : Asked) (body : List ℕ) (w : Shown) (a : Answer) (out : List ℕ) (w' : Shown) → is_numbered 0xa1 2 q ≡ true
+served_ends : (q : Asked) (body : List ℕ) (w : DeviceView) (a : Answer) (out : List ℕ) (w' : DeviceView) → is_numbered 0xa1 2 q ≡ true
     → a ≡ answer.Bytes → w'.stage ≡ InDfuIdle
     → Came (plan (profile w) (image_of w.slots) w.stage (meant q body)) (asked_length q) w a out w'
     → sent_of (situation w) ++ out ≡ image_of w'.slots
@@ -41,7 +41,7 @@ served_ends q body w a out w' on is idle x =
     out (piece_answered q body (profile w).transfer (asked_length q) x.reply a out on is
     (reply_fits q body (asked_length q) w a out w' x) x.answers) idle
 
-row_ends : (setup body : List ℕ) (w : Shown) (a : Answer) (out : List ℕ) (w' : Shown) → Handles setup body w a out w'
+row_ends : (setup body : List ℕ) (w : DeviceView) (a : Answer) (out : List ℕ) (w' : DeviceView) → Handles setup body w a out w'
     → is_upload setup ≡ true → a ≡ answer.Bytes → w'.stage ≡ InDfuIdle
     → sent_of (situation w) ++ out ≡ image_of w'.slots
 row_ends setup body w a out w' (handled_as p q reads asks done) on bytes idle =

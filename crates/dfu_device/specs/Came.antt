@@ -20,16 +20,16 @@ use Rattle.dfu_device.specs.declared.answer.Answer.TheVariants as answer
 use Rattle.dfu_device.specs.Stage.{Reply, StatusOf, Stall, Stage}
 use Rattle.dfu_device.specs.Table.{Plan, Sure, Writes, Commits, plan, time_plan}
 use Rattle.dfu_device.specs.Outcome.{Luck, Works, FailsOld, FailsNew, Outcome, outcome}
-use Rattle.dfu_device.specs.Shown.{Shown, profile_of, profile, situation}
+use Rattle.dfu_device.specs.DeviceView.{DeviceView, profile_of, profile, situation}
 use Rattle.dfu_device.specs.Rows.{meant, asked_length, Answers, block_calls, Done, Elapses, is_served, setup_plan, Handles, handled_as}
 
 -- The medium failed only where its count of failures rose.
-abbrev pub IsLuck : Luck → Shown → Shown → Type 0
+abbrev pub IsLuck : Luck → DeviceView → DeviceView → Type 0
 IsLuck Works w w' = Unit {0}
 IsLuck luck w w' = Rose w.slots.medium.failures w'.slots.medium.failures
 
 -- What a plan led to is its outcome at some luck; a medium whose fuse is whole always works, and stays whole.
-pub record Came (p : Plan) (len : ℕ) (w : Shown) (a : Answer) (out : List ℕ) (w' : Shown) : Type 0 where
+pub record Came (p : Plan) (len : ℕ) (w : DeviceView) (a : Answer) (out : List ℕ) (w' : DeviceView) : Type 0 where
   pub luck : Luck
   pub reply : Reply
   pub same : outcome (image_of w.slots) p luck ≡ record { reply = reply; after = situation w' }
@@ -38,28 +38,29 @@ pub record Came (p : Plan) (len : ℕ) (w : Shown) (a : Answer) (out : List ℕ)
   pub is_luck : IsLuck luck w w'
   pub unarmed : w.slots.medium.fuse ≡ Whole → (luck ≡ Works) × (w'.slots.medium.fuse ≡ Whole)
 
-fixed_by : (w w' : Shown) → w'.config ≡ w.config → room_of w'.slots ≡ room_of w.slots → profile w' ≡ profile w
+fixed_by : (w w' : DeviceView) → w'.config ≡ w.config → room_of w'.slots ≡ room_of w.slots → profile w' ≡ profile w
 fixed_by w w' config room = λ k. profile_of (config k) (room k)
 
-after_is : (reply : Reply) (w' : Shown) (image : List ℕ) (stage : Stage) → image_of w'.slots ≡ image → w'.stage ≡ stage
+after_is : (reply : Reply) (w' : DeviceView) (image : List ℕ) (stage : Stage) → image_of w'.slots ≡ image → w'.stage ≡ stage
     → ◌≡◌ {A = Outcome} (record { reply = reply; after = record { image = image; stage = stage } })
     (record { reply = reply; after = situation w' })
 after_is reply w' image stage i s = λ k. record { reply = reply; after = record { image = sym i k; stage = sym s k } }
 
 -- Each plan that was carried out.
 abbrev pub PlanCame : Type 0
-PlanCame = (p : Plan) (len : ℕ) (w : Shown) (a : Answer) (out : List ℕ) (w' : Shown) → Done p len w a out w' → Came p len w a out w'
+PlanCame = (p : Plan) (len : ℕ) (w : DeviceView) (a : Answer) (out : List ℕ) (w' : DeviceView) → Done p len w a out w'
+    → Came p len w a out w'
 
 -- Each plan that was carried out came to an outcome.
 pub came : PlanCame
 came (Sure reply stage) len w a out w' (says, is) = record {
   luck = Works;
   reply = reply;
-  same = ap (λ (z : Shown). record { reply = reply; after = situation z }) (sym is);
+  same = ap (λ (z : DeviceView). record { reply = reply; after = situation z }) (sym is);
   answers = says;
   fixed = ap profile is;
   is_luck = tt;
-  unarmed = λ e. (refl, ap (λ (z : Shown). z.slots.medium.fuse) is ∙ e);
+  unarmed = λ e. (refl, ap (λ (z : DeviceView). z.slots.medium.fuse) is ∙ e);
 }
 came (Writes before block reply stage bad) len w a out w' (inl (says, h)) = record {
   luck = Works;
@@ -111,7 +112,8 @@ came (Commits taken reply stage bad) len w a out w' (inr (fault, says, h)) = eli
 
 -- The row of a setup whose reading is known goes by that reading.
 abbrev pub RowOf : Type 0
-RowOf = (p : Setup) (q : Asked) (setup body : List ℕ) (w : Shown) (a : Answer) (out : List ℕ) (w' : Shown) → IsSetup p setup → Asks p q
+RowOf = (p : Setup) (q : Asked) (setup body : List ℕ) (w : DeviceView) (a : Answer) (out : List ℕ) (w' : DeviceView) → IsSetup p setup
+    → Asks p q
     → Handles setup body w a out w'
     → Done (setup_plan w p q body) (asked_length q) w a out w'
 
@@ -125,7 +127,8 @@ row_of p q setup body w a out w' reads asks (handled_as p2 q2 reads2 asks2 done)
 
 -- What comes of a setup that goes by the table.
 abbrev pub AskedCame : Type 0
-AskedCame = (p : Setup) (q : Asked) (setup body : List ℕ) (w : Shown) (a : Answer) (out : List ℕ) (w' : Shown) → IsSetup p setup → Asks p q
+AskedCame = (p : Setup) (q : Asked) (setup body : List ℕ) (w : DeviceView) (a : Answer) (out : List ℕ) (w' : DeviceView) → IsSetup p setup
+    → Asks p q
     → is_served p q body ≡ true
     → Handles setup body w a out w' → Came (plan (profile w) (image_of w.slots) w.stage (meant q body)) (asked_length q) w a out w'
 
@@ -137,7 +140,8 @@ asked_came p q setup body w a out w' reads asks on h =
 
 -- A setup that does not go by the table is stalled and changes nothing.
 abbrev pub NotServed : Type 0
-NotServed = (p : Setup) (q : Asked) (setup body : List ℕ) (w : Shown) (a : Answer) (out : List ℕ) (w' : Shown) → IsSetup p setup → Asks p q
+NotServed = (p : Setup) (q : Asked) (setup body : List ℕ) (w : DeviceView) (a : Answer) (out : List ℕ) (w' : DeviceView) → IsSetup p setup
+    → Asks p q
     → is_served p q body ≡ false
     → Handles setup body w a out w' → (a ≡ answer.Stall) × (w' ≡ w)
 
@@ -152,7 +156,7 @@ not_served p q setup body w a out w' reads asks off h =
 
 -- What comes of a time that passes.
 abbrev pub TimeCame : Type 0
-TimeCame = (ms : ℕ) (w w' : Shown) → Elapses ms w w' → Came (time_plan (profile w) w.stage ms) 0 w answer.Ack [] w'
+TimeCame = (ms : ℕ) (w w' : DeviceView) → Elapses ms w w' → Came (time_plan (profile w) w.stage ms) 0 w answer.Ack [] w'
 
 -- Each time that passed came to its outcome.
 pub time_came : TimeCame

@@ -2,10 +2,10 @@
 use Rattle.std.specs.Prelude.{◌≡◌, ℕ, ◌+◌, ◌≤◌, List, ◌++◌, length, slice_range, Option, Some, None}
 use Rattle.dfu_slots.specs.Seen.{data_place}
 use Rattle.dfu_device.specs.declared.candidate.Candidate.{Candidate}
-use Rattle.dfu_device.specs.declared.mode.Mode.{Mode}
-use Rattle.dfu_device.specs.declared.mode.Mode.TheVariants as mode
+use Rattle.dfu_device.specs.declared.device_state.DeviceState.{DeviceState}
+use Rattle.dfu_device.specs.declared.device_state.DeviceState.TheVariants as device_state
 use Rattle.dfu_device.specs.Stage.{Stage, InDownloadIdle, InManifestSync, InManifest}
-use Rattle.dfu_device.specs.Shown.{Shown}
+use Rattle.dfu_device.specs.DeviceView.{DeviceView}
 
 -- Its bytes: all those taken, in dfuDNLOAD-IDLE, in dfuMANIFEST-SYNC before it is complete, and in dfuMANIFEST.
 abbrev pub candidate_in : Stage → Option (List ℕ)
@@ -15,14 +15,14 @@ candidate_in (InManifest taken passed) = Some taken
 candidate_in stage = None
 
 -- How many they are, by the mode.
-abbrev pub candidate_length : Mode → Option ℕ
-candidate_length (mode.DownloadIdle written number) = Some written
-candidate_length (mode.ManifestSync written) = Some written
-candidate_length (mode.Manifest written passed) = Some written
+abbrev pub candidate_length : DeviceState → Option ℕ
+candidate_length (device_state.DownloadIdle written number) = Some written
+candidate_length (device_state.ManifestSync written) = Some written
+candidate_length (device_state.Manifest written passed) = Some written
 candidate_length m = None
 
 -- They are the bytes of the medium at this place, after the gate and the header of the spare slot, and then the bytes held back.
-pub record IsCandidate (w : Shown) (c : Candidate) : Type 0 where
+pub record IsCandidate (w : DeviceView) (c : Candidate) : Type 0 where
   pub taken : List ℕ
   pub is : candidate_in w.stage ≡ Some taken
   pub place : c.at ≡ data_place w.slots 0

@@ -8,8 +8,8 @@ use Rattle.dfu_device.specs.declared.reply.Reply.TheVariants as reply
 use Rattle.dfu_device.specs.declared.profile.Profile.{Profile as ProfileRead}
 use Rattle.dfu_device.specs.declared.decision.Decision.{Decision}
 use Rattle.dfu_device.specs.declared.decision.Decision.TheVariants as decision
-use Rattle.dfu_device.specs.declared.mode.Mode.{Mode}
-use Rattle.dfu_device.specs.declared.mode.Mode.TheVariants as mode
+use Rattle.dfu_device.specs.declared.device_state.DeviceState.{DeviceState}
+use Rattle.dfu_device.specs.declared.device_state.DeviceState.TheVariants as device_state
 use Rattle.dfu_device.specs.Stage.{Reply, Ack, StateOf, Data, Stall, Profile, Stage, InDfuIdle, InDownloadSyncWritten, InDownloadIdle, InUploadIdle, InError, state_of, status_of}
 use Rattle.dfu_device.specs.Table.{Plan, Sure, Writes, Commits, write_code, commit_code, plan, time_plan}
 use Rattle.dfu_device.specs.Parts.{stage_of, is_filled}
@@ -41,7 +41,8 @@ reply_in c stage reply.Stall = Stall
 abbrev pub written_stage : (late : Bool) → (taken : List ℕ) → (number : ℕ) → Stage
 written_stage late taken number = if late then InDownloadSyncWritten taken number else InDownloadIdle taken number
 
--- The plan that a decision is, of a device with this image, with these bytes in the spare slot and this block not written, that got this body.
+-- The plan that a decision is, for a device with this image, these bytes in the spare slot and this block not written, that got this
+-- body.
 abbrev pub plan_of : Profile → (image spare block body : List ℕ) → Decision → Plan
 plan_of c image spare block body (decision.Sure r m) =
     let stage = stage_of m spare block in Sure (reply_in c stage r) stage
@@ -66,8 +67,8 @@ IsSilent (decision.Writes r written number late) = r ≡ reply.Ack
 IsSilent (decision.Commits r written m) = r ≡ reply.Ack
 
 -- The bytes that are said to be written stand in the spare slot.
-abbrev pub HoldsWritten : Mode → (spare : List ℕ) → Type 0
-HoldsWritten (mode.DownloadIdle written number) spare = length (take written spare) ≡ written
+abbrev pub HoldsWritten : DeviceState → (spare : List ℕ) → Type 0
+HoldsWritten (device_state.DownloadIdle written number) spare = length (take written spare) ≡ written
 HoldsWritten m spare = Unit {0}
 
 -- A body has the length that its request says.
@@ -76,32 +77,34 @@ HasLength (asked.Dnload block len) body = length body ≡ len
 HasLength q body = Unit {0}
 
 -- What is decided on a request in this mode is its row.
-abbrev pub Decides : ProfileRead → Mode → Asked → Decision → Type 0
+abbrev pub Decides : ProfileRead → DeviceState → Asked → Decision → Type 0
 Decides p m q d = (image spare block body : List ℕ) → HoldsWritten m spare → HasLength q body
     → plan_of (profile_in p) image spare block body d ≡ plan (profile_in p) image (stage_of m spare block) (meant q body)
 
 -- What is decided on so many milliseconds in this mode is their row.
-abbrev pub DecidesTime : ProfileRead → Mode → ℕ → Decision → Type 0
+abbrev pub DecidesTime : ProfileRead → DeviceState → ℕ → Decision → Type 0
 DecidesTime p m ms d = (image spare block : List ℕ)
     → plan_of (profile_in p) image spare block [] d ≡ time_plan (profile_in p) (stage_of m spare block) ms
 
 -- A mode in which nothing is taken.
-abbrev pub TakesNothing : Mode → Type 0
-TakesNothing m = (m ≡ mode.DfuIdle) ⊎ (m ≡ mode.ManifestSyncComplete) ⊎ (m ≡ mode.ManifestWaitReset)
+abbrev pub TakesNothing : DeviceState → Type 0
+TakesNothing m = (m ≡ device_state.DfuIdle) ⊎ (m ≡ device_state.ManifestSyncComplete) ⊎ (m ≡ device_state.ManifestWaitReset)
 
 -- A decision can be carried out, with blocks of at most `transfer` bytes, where the block that is not written and the body have so many.
 abbrev pub IsPossible : (transfer block body : ℕ) → SlotsState → Decision → Type 0
 IsPossible transfer block body s (decision.Sure r m) = IsTrue (is_filled m block s)
 IsPossible transfer block body s (decision.Holds m) = (body ≤ transfer) × IsTrue (is_filled m body s)
 IsPossible transfer block body s (decision.Sends place size number) = Unit {0}
-IsPossible transfer block body s (decision.Writes r written number late) = IsTrue (is_filled (mode.DownloadSync written number) block s)
-IsPossible transfer block body s (decision.Commits r written m) = IsTrue (is_filled (mode.ManifestSync written) block s) × TakesNothing m
+IsPossible transfer block body s (decision.Writes r written number late) =
+    IsTrue (is_filled (device_state.DownloadSync written number) block s)
+IsPossible transfer block body s (decision.Commits r written m) =
+    IsTrue (is_filled (device_state.ManifestSync written) block s) × TakesNothing m
 
 -- What is decided in this mode, on a body of so many bytes, can be carried out.
-abbrev pub Allows : ProfileRead → Mode → (body : ℕ) → Decision → Type 0
+abbrev pub Allows : ProfileRead → DeviceState → (body : ℕ) → Decision → Type 0
 Allows p m body d = (block : ℕ) (s : SlotsState) → room_of s ≡ p.capacity → IsTrue (is_filled m block s)
     → IsPossible p.functional.transfer block body s d
 
 -- What is decided on a request in this mode can be carried out with each body of the right length.
-abbrev pub AllowsAsked : ProfileRead → Mode → Asked → Decision → Type 0
+abbrev pub AllowsAsked : ProfileRead → DeviceState → Asked → Decision → Type 0
 AllowsAsked p m q d = (body : List ℕ) → HasLength q body → Allows p m (length body) d

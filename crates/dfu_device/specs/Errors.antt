@@ -4,7 +4,7 @@ use Rattle.dfu_wire.specs.declared.codes.Code.TheVariants.{Write as ErrWrite, Pr
 use Rattle.dfu_device.specs.declared.answer.Answer.{Answer}
 use Rattle.dfu_slots.specs.Medium.{Rose}
 use Rattle.dfu_device.specs.Stage.{Stage, InError}
-use Rattle.dfu_device.specs.Shown.{Shown}
+use Rattle.dfu_device.specs.DeviceView.{DeviceView}
 use Rattle.dfu_device.specs.Rows.{Cause, Row}
 
 -- dfuERROR with errWRITE, errPROG or errVERIFY.
@@ -15,10 +15,11 @@ IsMediumError (InError ErrVerify) = Unit {0}
 IsMediumError stage = ⊥
 
 -- The count of the medium's failures rose.
-abbrev pub MediumFailed : Shown → Shown → Type 0
+abbrev pub MediumFailed : DeviceView → DeviceView → Type 0
 MediumFailed w w' = Rose w.slots.medium.failures w'.slots.medium.failures
 
 -- errWRITE, errPROG and errVERIFY come only where the medium failed, and then stay.
 abbrev pub ErrorsHaveCause : Type 0
-ErrorsHaveCause = (w : Shown) (cause : Cause) (a : Answer) (out : List ℕ) (w' : Shown) → Row w cause a out w' → IsMediumError w'.stage
+ErrorsHaveCause = (w : DeviceView) (cause : Cause) (a : Answer) (out : List ℕ) (w' : DeviceView) → Row w cause a out w'
+    → IsMediumError w'.stage
     → IsMediumError w.stage ⊎ MediumFailed w w'

@@ -1,23 +1,23 @@
 -- Histories of a device, and what they gathered since they were last outside some states.
 use Rattle.std.specs.Prelude.{◌≡◌, ℕ, Bool, true, false, List, [], ◌∷◌, ◌++◌}
 use Rattle.dfu_device.specs.declared.answer.Answer.{Answer}
-use Rattle.dfu_device.specs.Shown.{Shown}
+use Rattle.dfu_device.specs.DeviceView.{DeviceView}
 use Rattle.dfu_device.specs.Rows.{Cause, Row}
 
 -- A step of a history: a row, from a device by a cause to an answer and a device.
 pub record HistoryStep : Type 0 where
-  pub before : Shown
+  pub before : DeviceView
   pub cause : Cause
   pub answer : Answer
   pub out : List ℕ
-  pub after : Shown
+  pub after : DeviceView
 
 -- The step is a row of the device table.
 abbrev pub IsRow : HistoryStep → Type 0
 IsRow s = Row s.before s.cause s.answer s.out s.after
 
 -- A history: steps, each beginning where the one before ended.
-abbrev pub IsHistory : Shown → List HistoryStep → Shown → Type 0
+abbrev pub IsHistory : DeviceView → List HistoryStep → DeviceView → Type 0
 IsHistory w [] w' = w' ≡ w
 IsHistory w (s ∷ rest) w' = (s.before ≡ w) × IsRow s × IsHistory s.after rest w'
 

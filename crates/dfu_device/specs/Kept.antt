@@ -6,13 +6,13 @@ use Rattle.dfu_slots.specs.Seen.{store_on, image_of, Commit, Ending, AllWorked, 
 use Rattle.dfu_device.specs.declared.answer.Answer.{Answer}
 use Rattle.dfu_device.specs.Stage.{InError}
 use Rattle.dfu_device.specs.Table.{write_code, commit_code}
-use Rattle.dfu_device.specs.Shown.{Shown, situation, written_in}
+use Rattle.dfu_device.specs.DeviceView.{DeviceView, situation, written_in}
 use Rattle.dfu_device.specs.Rows.{block_calls, Cause, Row}
 use Rattle.dfu_device.specs.Taken.{taken_of}
 
 -- The last block taken was written behind those before it, all the bytes written: the image stays, and where a write had a
 -- fault the code tells it.
-pub record WroteOn (w w' : Shown) : Type 0 where
+pub record WroteOn (w w' : DeviceView) : Type 0 where
   pub before : List ℕ
   pub block : List ℕ
   pub behind : before ≡ written_in w.stage
@@ -24,7 +24,7 @@ pub record WroteOn (w w' : Shown) : Type 0 where
 
 -- The bytes taken were committed and are the image; where a write had a fault the code tells it, and the image is the old
 -- one or the bytes taken.
-pub record PutInPlace (w w' : Shown) : Type 0 where
+pub record PutInPlace (w w' : DeviceView) : Type 0 where
   pub ending : Ending
   pub calls : Called w.slots (Commit (length (taken_of (situation w))) ∷ []) ending w'.slots
   pub image : ending ≡ AllWorked → image_of w'.slots ≡ taken_of (situation w)
@@ -32,18 +32,18 @@ pub record PutInPlace (w w' : Shown) : Type 0 where
       × ((image_of w'.slots ≡ image_of w.slots) ⊎ (image_of w'.slots ≡ taken_of (situation w)))
 
 -- The slot store stays as it is, or it was opened again on its medium.
-abbrev pub StaysStored : Shown → Shown → Type 0
+abbrev pub StaysStored : DeviceView → DeviceView → Type 0
 StaysStored w w' = (w'.slots ≡ w.slots) ⊎ (w'.slots ≡ store_on w.slots.medium)
 
 -- Nothing of the slot store was called, so that the image stays; or the last block taken was written; or the bytes taken were committed.
-abbrev pub KeepsImage : Shown → Shown → Type 0
+abbrev pub KeepsImage : DeviceView → DeviceView → Type 0
 KeepsImage w w' = StaysStored w w' ⊎ WroteOn w w' ⊎ PutInPlace w w'
 
 -- Each row calls the slot store for the bytes taken or not at all, and changes the image only by a commit of them.
 abbrev pub RowKeeps : Type 0
-RowKeeps = (w : Shown) (cause : Cause) (a : Answer) (out : List ℕ) (w' : Shown) → Row w cause a out w' → KeepsImage w w'
+RowKeeps = (w : DeviceView) (cause : Cause) (a : Answer) (out : List ℕ) (w' : DeviceView) → Row w cause a out w' → KeepsImage w w'
 
 -- In dfuERROR no row calls anything of the slot store, so that the image stays.
 abbrev pub ErrorKeeps : Type 0
-ErrorKeeps = (code : Code) (w : Shown) (cause : Cause) (a : Answer) (out : List ℕ) (w' : Shown) → w.stage ≡ InError code
+ErrorKeeps = (code : Code) (w : DeviceView) (cause : Cause) (a : Answer) (out : List ℕ) (w' : DeviceView) → w.stage ≡ InError code
     → Row w cause a out w' → StaysStored w w'

@@ -3,11 +3,11 @@ pub mod Stage
 pub mod Table
 pub mod Outcome
 pub mod Setting
-pub mod Shown
+pub mod DeviceView
 pub mod Parts
 pub mod Rows
 pub mod Decision
-pub mod Lent
+pub mod Borrowed
 pub mod Cases
 pub mod Came
 pub mod History

@@ -1,30 +1,30 @@
--- The parts of a device beside its configuration: its slot store, where it stands (`Mode`), and a block that is not written.
+-- The parts of a device beside its configuration: its slot store, where it stands (`DeviceState`), and a block that is not written.
 use Rattle.std.specs.Prelude.{ℕ, ◌+◌, Bool, true, nat_le, nat_lt, ◌&&◌, ◌||◌, ◌==◌, List, take}
 use Rattle.dfu_slots.specs.Seen.{SlotsState, spare_of, is_begun, room_of, is_shaped}
-use Rattle.dfu_device.specs.declared.mode.Mode.{Mode}
-use Rattle.dfu_device.specs.declared.mode.Mode.TheVariants as mode
+use Rattle.dfu_device.specs.declared.device_state.DeviceState.{DeviceState}
+use Rattle.dfu_device.specs.declared.device_state.DeviceState.TheVariants as device_state
 use Rattle.dfu_device.specs.Stage.{Stage, InAppIdle, InAppDetach, InDfuIdle, InDownloadSync, InDownloadSyncWritten, InDownloadBusy, InDownloadIdle, InManifestSync, InManifestSyncComplete, InManifest, InManifestWaitReset, InUploadIdle, InError}
 use Rattle.dfu_device.specs.Setting.{Setting}
-use Rattle.dfu_device.specs.Shown.{Shown}
+use Rattle.dfu_device.specs.DeviceView.{DeviceView}
 
 -- The stage of a mode: its numbers say how many bytes stand in the spare slot, and the block that is not written stands beside them.
-abbrev pub stage_of : Mode → List ℕ → List ℕ → Stage
-stage_of mode.AppIdle spare block = InAppIdle
-stage_of (mode.AppDetach timer passed) spare block = InAppDetach timer passed
-stage_of mode.DfuIdle spare block = InDfuIdle
-stage_of (mode.DownloadSync written number) spare block = InDownloadSync (take written spare) block number
-stage_of (mode.DownloadSyncWritten written number) spare block = InDownloadSyncWritten (take written spare) number
-stage_of (mode.DownloadBusy written number passed) spare block = InDownloadBusy (take written spare) block number passed
-stage_of (mode.DownloadIdle written number) spare block = InDownloadIdle (take written spare) number
-stage_of (mode.ManifestSync written) spare block = InManifestSync (take written spare)
-stage_of mode.ManifestSyncComplete spare block = InManifestSyncComplete
-stage_of (mode.Manifest written passed) spare block = InManifest (take written spare) passed
-stage_of mode.ManifestWaitReset spare block = InManifestWaitReset
-stage_of (mode.UploadIdle place number) spare block = InUploadIdle place number
-stage_of (mode.Error code) spare block = InError code
+abbrev pub stage_of : DeviceState → List ℕ → List ℕ → Stage
+stage_of device_state.AppIdle spare block = InAppIdle
+stage_of (device_state.AppDetach timer passed) spare block = InAppDetach timer passed
+stage_of device_state.DfuIdle spare block = InDfuIdle
+stage_of (device_state.DownloadSync written number) spare block = InDownloadSync (take written spare) block number
+stage_of (device_state.DownloadSyncWritten written number) spare block = InDownloadSyncWritten (take written spare) number
+stage_of (device_state.DownloadBusy written number passed) spare block = InDownloadBusy (take written spare) block number passed
+stage_of (device_state.DownloadIdle written number) spare block = InDownloadIdle (take written spare) number
+stage_of (device_state.ManifestSync written) spare block = InManifestSync (take written spare)
+stage_of device_state.ManifestSyncComplete spare block = InManifestSyncComplete
+stage_of (device_state.Manifest written passed) spare block = InManifest (take written spare) passed
+stage_of device_state.ManifestWaitReset spare block = InManifestWaitReset
+stage_of (device_state.UploadIdle place number) spare block = InUploadIdle place number
+stage_of (device_state.Error code) spare block = InError code
 
 -- The device of these parts, as a contract sees it.
-abbrev pub shows : Setting → SlotsState → Mode → List ℕ → Shown
+abbrev pub shows : Setting → SlotsState → DeviceState → List ℕ → DeviceView
 shows config slots m block = record { config = config; slots = slots; stage = stage_of m (spare_of slots) block }
 
 -- So many bytes were put in the closed spare, and no more.
@@ -33,17 +33,17 @@ is_put written s = is_begun s && (s.put_end == written)
 
 -- A block that is not written has bytes and finds room behind those written, and these were put in the spare, if there are any;
 -- where all is written, there is some of it, within the room, and it was put in the spare.
-abbrev pub is_filled : Mode → ℕ → SlotsState → Bool
-is_filled (mode.DownloadSync written number) block s =
+abbrev pub is_filled : DeviceState → ℕ → SlotsState → Bool
+is_filled (device_state.DownloadSync written number) block s =
     nat_lt 0 block && (nat_le (written + block) (room_of s) && ((written == 0) || is_put written s))
-is_filled (mode.DownloadBusy written number passed) block s =
+is_filled (device_state.DownloadBusy written number passed) block s =
     nat_lt 0 block && (nat_le (written + block) (room_of s) && ((written == 0) || is_put written s))
-is_filled (mode.DownloadSyncWritten written number) block s = nat_lt 0 written && (nat_le written (room_of s) && is_put written s)
-is_filled (mode.DownloadIdle written number) block s = nat_lt 0 written && (nat_le written (room_of s) && is_put written s)
-is_filled (mode.ManifestSync written) block s = nat_lt 0 written && (nat_le written (room_of s) && is_put written s)
-is_filled (mode.Manifest written passed) block s = nat_lt 0 written && (nat_le written (room_of s) && is_put written s)
+is_filled (device_state.DownloadSyncWritten written number) block s = nat_lt 0 written && (nat_le written (room_of s) && is_put written s)
+is_filled (device_state.DownloadIdle written number) block s = nat_lt 0 written && (nat_le written (room_of s) && is_put written s)
+is_filled (device_state.ManifestSync written) block s = nat_lt 0 written && (nat_le written (room_of s) && is_put written s)
+is_filled (device_state.Manifest written passed) block s = nat_lt 0 written && (nat_le written (room_of s) && is_put written s)
 is_filled m block s = true
 
 -- The parts are a device's, the block having so many bytes.
-abbrev pub is_sound : Mode → ℕ → SlotsState → Bool
+abbrev pub is_sound : DeviceState → ℕ → SlotsState → Bool
 is_sound m block s = is_shaped s && is_filled m block s

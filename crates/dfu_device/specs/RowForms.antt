@@ -9,7 +9,7 @@ use Rattle.dfu_slots.specs.declared.fault.WriteFault.{WriteFault}
 use Rattle.dfu_device.specs.Stage.{Request, Dnload, Upload, GetStatus, ClrStatus, GetState, OtherRequest, Reply, Ack, StatusOf, StateOf, Data, Stall, Profile, Stage, InAppDetach, InDfuIdle, InDownloadSync, InDownloadBusy, InDownloadIdle, InManifestSync, InManifestSyncComplete, InManifest, InManifestWaitReset, InUploadIdle, InError, state_of}
 use Rattle.dfu_device.specs.Table.{Plan, Sure, Writes, Commits, ack, error, has_no_bytes, block_plan, further_plan, upload_plan, plan, time_plan}
 use Rattle.dfu_device.specs.Outcome.{Situation, Luck, Works, FailsOld, FailsNew, outcome}
-use Rattle.dfu_device.specs.Shown.{written_in}
+use Rattle.dfu_device.specs.DeviceView.{written_in}
 use Rattle.dfu_device.specs.Taken.{taken_in, taken_of, held_in}
 use Rattle.dfu_device.specs.Sent.{sent_in, sent_of, still_sent}
 use Rattle.dfu_device.specs.Errors.{IsMediumError}

@@ -16,7 +16,7 @@ use Rattle.dfu_device.specs.declared.answer.Answer.TheVariants as answer
 use Rattle.dfu_device.specs.Stage.{Request, Detach, Dnload, Upload, GetStatus, ClrStatus, GetState, Abort, OtherRequest, Reply, Ack, StatusOf, StateOf, Data, Stall, Stage, InAppIdle, InError}
 use Rattle.dfu_device.specs.Table.{Plan, Sure, Writes, Commits, write_code, commit_code, plan, time_plan, reset_stage, objection_code, may_close, refuse_stage}
 use Rattle.dfu_device.specs.Setting.{Setting}
-use Rattle.dfu_device.specs.Shown.{Shown, profile}
+use Rattle.dfu_device.specs.DeviceView.{DeviceView, profile}
 
 -- The answer to its bytes.
 
@@ -37,7 +37,7 @@ abbrev pub block_calls : List ℕ → List ℕ → List Call
 block_calls before block = if length before == 0 then Begin ∷ Put 0 block ∷ [] else Put (length before) block ∷ []
 
 -- The block was written: the image stays, and a stage is entered.
-pub record WroteBlock (before block : List ℕ) (config : Setting) (s : SlotsState) (stage : Stage) (w' : Shown) : Type 0 where
+pub record WroteBlock (before block : List ℕ) (config : Setting) (s : SlotsState) (stage : Stage) (w' : DeviceView) : Type 0 where
   pub config_is : w'.config ≡ config
   pub room : room_of w'.slots ≡ room_of s
   pub stage_is : w'.stage ≡ stage
@@ -45,7 +45,7 @@ pub record WroteBlock (before block : List ℕ) (config : Setting) (s : SlotsSta
   pub image : image_of w'.slots ≡ image_of s
 
 -- A write of the block had this fault: the image stays, and the code tells it.
-pub record FailedBlock (fault : WriteFault) (before block : List ℕ) (config : Setting) (s : SlotsState) (w' : Shown) : Type 0 where
+pub record FailedBlock (fault : WriteFault) (before block : List ℕ) (config : Setting) (s : SlotsState) (w' : DeviceView) : Type 0 where
   pub config_is : w'.config ≡ config
   pub room : room_of w'.slots ≡ room_of s
   pub stage_is : w'.stage ≡ InError (write_code fault)
@@ -54,7 +54,7 @@ pub record FailedBlock (fault : WriteFault) (before block : List ℕ) (config : 
   pub failed : Rose s.medium.failures w'.slots.medium.failures
 
 -- The bytes taken were put in place: they are the image, and a stage is entered.
-pub record Committed (taken : List ℕ) (config : Setting) (s : SlotsState) (stage : Stage) (w' : Shown) : Type 0 where
+pub record Committed (taken : List ℕ) (config : Setting) (s : SlotsState) (stage : Stage) (w' : DeviceView) : Type 0 where
   pub config_is : w'.config ≡ config
   pub room : room_of w'.slots ≡ room_of s
   pub stage_is : w'.stage ≡ stage
@@ -62,7 +62,7 @@ pub record Committed (taken : List ℕ) (config : Setting) (s : SlotsState) (sta
   pub image : image_of w'.slots ≡ taken
 
 -- A write of the commit had this fault: the image is the old one or the bytes taken, and the code tells it.
-pub record FailedCommit (fault : WriteFault) (taken : List ℕ) (config : Setting) (s : SlotsState) (w' : Shown) : Type 0 where
+pub record FailedCommit (fault : WriteFault) (taken : List ℕ) (config : Setting) (s : SlotsState) (w' : DeviceView) : Type 0 where
   pub config_is : w'.config ≡ config
   pub room : room_of w'.slots ≡ room_of s
   pub stage_is : w'.stage ≡ InError (commit_code fault)
@@ -71,7 +71,7 @@ pub record FailedCommit (fault : WriteFault) (taken : List ℕ) (config : Settin
   pub failed : Rose s.medium.failures w'.slots.medium.failures
 
 -- A plan was carried out: with no call of the slot store at all, or with the calls of a block or of a commit.
-abbrev pub Done : Plan → ℕ → Shown → Answer → List ℕ → Shown → Type 0
+abbrev pub Done : Plan → ℕ → DeviceView → Answer → List ℕ → DeviceView → Type 0
 Done (Sure reply stage) len w a out w' = Answers len reply a out × (w' ≡ record w { stage = stage })
 Done (Writes before block reply stage bad) len w a out w' =
     (Answers len reply a out × WroteBlock before block w.config w.slots stage w')
@@ -110,22 +110,22 @@ is_served p asked.NotDfu body = false
 is_served p q body = length body == body_length p
 
 -- Any other setup is stalled and changes nothing.
-abbrev pub setup_plan : Shown → Setup → Asked → List ℕ → Plan
+abbrev pub setup_plan : DeviceView → Setup → Asked → List ℕ → Plan
 setup_plan w p q body = if is_served p q body then plan (profile w) (image_of w.slots) w.stage (meant q body) else Sure Stall w.stage
 
 -- The rows.
 
 -- The row of a request that goes by the table.
-abbrev pub ServesRequest : Asked → List ℕ → Shown → Answer → List ℕ → Shown → Type 0
+abbrev pub ServesRequest : Asked → List ℕ → DeviceView → Answer → List ℕ → DeviceView → Type 0
 ServesRequest q body w a out w' = Done (plan (profile w) (image_of w.slots) w.stage (meant q body)) (asked_length q) w a out w'
 
 -- The row of a setup with its body: as these eight bytes are read.
-pub data Handles (setup body : List ℕ) (w : Shown) (a : Answer) (out : List ℕ) (w' : Shown) : Type 0 where
+pub data Handles (setup body : List ℕ) (w : DeviceView) (a : Answer) (out : List ℕ) (w' : DeviceView) : Type 0 where
   handled_as : (p : Setup) (q : Asked) → IsSetup p setup → Asks p q → Done (setup_plan w p q body) (asked_length q) w a out w'
       → Handles setup body w a out w'
 
 -- The row of so many milliseconds.
-abbrev pub Elapses : ℕ → Shown → Shown → Type 0
+abbrev pub Elapses : ℕ → DeviceView → DeviceView → Type 0
 Elapses ms w w' = Done (time_plan (profile w) w.stage ms) 0 w answer.Ack [] w'
 
 -- The request is a DNLOAD with wLength 0.
@@ -138,7 +138,7 @@ abbrev pub IsCloseSetup : List ℕ → Type 0
 IsCloseSetup setup = (p : Setup) × (q : Asked) × IsSetup p setup × Asks p q × (is_close q ≡ true)
 
 -- The setup closes the download of this device.
-abbrev pub ClosesDownload : List ℕ → Shown → Type 0
+abbrev pub ClosesDownload : List ℕ → DeviceView → Type 0
 ClosesDownload setup w = IsCloseSetup setup × (may_close w.config.least w.stage ≡ true)
 
 -- What happens to a device: a setup with its body, milliseconds, a reset of the bus, its program refuses the image that this setup closes,
@@ -153,7 +153,7 @@ pub data Cause : Type 0 where
 
 -- A row of the device table: from a device by a cause to an answer and a device. Only a setup is answered, which is written as Ack
 -- elsewhere; a program that refuses an image writes nothing; power that goes leaves the medium alone.
-abbrev pub Row : Shown → Cause → Answer → List ℕ → Shown → Type 0
+abbrev pub Row : DeviceView → Cause → Answer → List ℕ → DeviceView → Type 0
 Row w (Transfer setup body) a out w' = Handles setup body w a out w'
 Row w (Passing ms) a out w' = (a ≡ answer.Ack) × (out ≡ []) × Elapses ms w w'
 Row w BusReset a out w' = (a ≡ answer.Ack) × (out ≡ []) × (w' ≡ record w { stage = reset_stage w.stage })

@@ -2,14 +2,14 @@
 use Rattle.std.specs.Prelude.{◌≡◌, ℕ, List, [], ◌∷◌, ◌++◌}
 use Rattle.dfu_device.specs.declared.answer.Answer.{Answer}
 use Rattle.dfu_device.specs.Stage.{state_of}
-use Rattle.dfu_device.specs.Shown.{Shown, situation}
+use Rattle.dfu_device.specs.DeviceView.{DeviceView, situation}
 use Rattle.dfu_device.specs.Rows.{Cause, Row}
 use Rattle.dfu_device.specs.History.{HistoryStep, IsRow, IsHistory}
 use Rattle.dfu_device.specs.Sent.{sent_of, still_sent, piece, Sent}
 
 -- After a row of any cause the bytes sent are those before with its piece, or none where it ends in another state.
 abbrev pub RowSends : Type 0
-RowSends = (w : Shown) (cause : Cause) (a : Answer) (out : List ℕ) (w' : Shown) → Row w cause a out w'
+RowSends = (w : DeviceView) (cause : Cause) (a : Answer) (out : List ℕ) (w' : DeviceView) → Row w cause a out w'
     → sent_of (situation w') ≡ still_sent (state_of w'.stage) (sent_of (situation w) ++ piece cause a out)
 
 -- Where the bytes sent are those of a history, they are so after one step more.
@@ -19,7 +19,7 @@ StepSends = (h : List HistoryStep) (s : HistoryStep) → Sent h (sent_of (situat
 
 -- A device that has sent nothing at first has at last sent what its history says.
 abbrev pub HistorySends : Type 0
-HistorySends = (h : List HistoryStep) (w w' : Shown) → sent_of (situation w) ≡ [] → IsHistory w h w' → Sent h (sent_of (situation w'))
+HistorySends = (h : List HistoryStep) (w w' : DeviceView) → sent_of (situation w) ≡ [] → IsHistory w h w' → Sent h (sent_of (situation w'))
 
 -- A history sends these bytes and no others.
 abbrev pub OneSent : Type 0

@@ -6,17 +6,17 @@ use Rattle.dfu_wire.specs.Setup.{IsSetup}
 use Rattle.dfu_wire.specs.Request.{Asks}
 use Rattle.dfu_device.specs.declared.answer.Answer.TheVariants as answer
 use Rattle.dfu_device.specs.Stage.{StateOf, state_of, status_of}
-use Rattle.dfu_device.specs.Shown.{Shown, profile}
+use Rattle.dfu_device.specs.DeviceView.{DeviceView, profile}
 use Rattle.dfu_device.specs.Rows.{Answers, is_served, Handles}
 
 -- A status that was answered is that of the state entered.
 abbrev pub StatusTold : Type 0
-StatusTold = (p : Setup) (len : ℕ) (setup body : List ℕ) (w : Shown) (out : List ℕ) (w' : Shown) → IsSetup p setup
+StatusTold = (p : Setup) (len : ℕ) (setup body : List ℕ) (w : DeviceView) (out : List ℕ) (w' : DeviceView) → IsSetup p setup
     → Asks p (asked.GetStatus len) → is_served p (asked.GetStatus len) body ≡ true
     → Handles setup body w answer.Bytes out w' → Answers len (status_of (profile w') w'.stage) answer.Bytes out
 
 -- A state that was answered is that of the state entered, which is the state before.
 abbrev pub StateTold : Type 0
-StateTold = (p : Setup) (len : ℕ) (setup body : List ℕ) (w : Shown) (out : List ℕ) (w' : Shown) → IsSetup p setup
+StateTold = (p : Setup) (len : ℕ) (setup body : List ℕ) (w : DeviceView) (out : List ℕ) (w' : DeviceView) → IsSetup p setup
     → Asks p (asked.GetState len) → is_served p (asked.GetState len) body ≡ true
     → Handles setup body w answer.Bytes out w' → Answers len (StateOf (state_of w'.stage)) answer.Bytes out × (w'.stage ≡ w.stage)

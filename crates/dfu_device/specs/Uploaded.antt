@@ -1,7 +1,7 @@
 -- At the end of an upload its pieces are the active image.
 use Rattle.std.specs.Prelude.{◌≡◌, ℕ, List, [], ◌++◌}
 use Rattle.dfu_slots.specs.Seen.{image_of}
-use Rattle.dfu_device.specs.Shown.{Shown, situation}
+use Rattle.dfu_device.specs.DeviceView.{DeviceView, situation}
 use Rattle.dfu_device.specs.History.{HistoryStep, IsRow, IsHistory}
 use Rattle.dfu_device.specs.Sent.{sent_of, Sent, EndsUpload}
 
@@ -12,6 +12,6 @@ UploadEnds = (s : HistoryStep) → IsRow s → EndsUpload s → sent_of (situati
 -- Where a device that has sent nothing at first comes to the end of an upload, what its history says was sent is the active image, with the
 -- bytes of the last step.
 abbrev pub UploadGives : Type 0
-UploadGives = (h : List HistoryStep) (s : HistoryStep) (w : Shown) → sent_of (situation w) ≡ [] → IsHistory w h s.before → IsRow s →
+UploadGives = (h : List HistoryStep) (s : HistoryStep) (w : DeviceView) → sent_of (situation w) ≡ [] → IsHistory w h s.before → IsRow s →
     EndsUpload s
     → (sent : List ℕ) × Sent h sent × (sent ++ s.out ≡ image_of s.after.slots)

@@ -5,7 +5,7 @@ ghost use Rattle.dfu_device.specs.Block.{BlockMemory};
 
 use arrayvec::ArrayVec;
 
-/// Memory for one block of a download, which a device fills and reads: an `ArrayVec` of its own, or a `LentBlock`.
+/// Memory for one block of a download, which a device fills and reads: an `ArrayVec` of its own, or a `BorrowedBlock`.
 pub trait Block: Drop {
     /// The bytes of the block.
     ghost items: { Self → List ℕ };
@@ -52,7 +52,7 @@ impl Block for ArrayVec<u8, 4096> {
 
 /// A block in memory that the caller lends.
 #[derive(Drop)]
-pub struct LentBlock<'b> {
+pub struct BorrowedBlock<'b> {
     /// The memory.
     pub memory: &'b mut [u8],
     /// How many bytes at its front are the block.
@@ -61,7 +61,7 @@ pub struct LentBlock<'b> {
     ghost most: { len ≤ 4096 },
 }
 
-impl Block for LentBlock<'_> {
+impl Block for BorrowedBlock<'_> {
     ghost items = { λ b. take b.len b.memory.now };
 
     ghost memory = { λ b. record { name = b.memory.ghost_name; room = min 4096 (length b.memory.now) } };

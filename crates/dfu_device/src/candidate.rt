@@ -6,7 +6,7 @@ ghost use Rattle.dfu_device.specs.inside.View.{shown};
 
 use crate::Device;
 use crate::block::Block;
-use crate::machine::Machine;
+use crate::device_core::DeviceCore;
 use dfu_slots::{Medium, data_at};
 
 /// Where an image is that was taken and is not in place yet: its first bytes are on the medium, in the spare slot. The others, fewer than
@@ -27,11 +27,11 @@ impl<M: Medium> Device<M> {
         ensures some { IfSome result (λ c. IsCandidate self.now c) }
         ensures none { IfNone result (candidate_in self.now.stage ≡ None) }
     {
-        self.machine.candidate()
+        self.core.candidate()
     }
 }
 
-impl<M: Medium, B: Block> Machine<M, B> {
+impl<M: Medium, B: Block> DeviceCore<M, B> {
     // Where the image is that was taken.
     fn candidate(&self) -> Option<Candidate>
         ensures some { IfSome result (λ c. IsCandidate (shown self.now) c) }

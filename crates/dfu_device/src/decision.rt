@@ -1,6 +1,6 @@
 //! What a row of the device table says is to be done.
 
-use crate::mode::Mode;
+use crate::device_state::DeviceState;
 use crate::reply::Reply;
 
 /// What a row of the device table says is to be done. Only the medium is left open: if a write has a fault, the device
@@ -12,12 +12,12 @@ pub enum Decision {
         /// What is answered.
         reply: Reply,
         /// The mode.
-        mode: Mode,
+        mode: DeviceState,
     },
     /// The body of the request becomes the block that is not written; this mode is entered, and it is acknowledged.
     Holds {
         /// The mode.
-        mode: Mode,
+        mode: DeviceState,
     },
     /// The next bytes of the active image are sent. Fewer than `size` are the last ones: dfuIDLE is entered then, and
     /// dfuUPLOAD-IDLE else.
@@ -47,6 +47,6 @@ pub enum Decision {
         /// How many they are.
         written: u32,
         /// The mode.
-        mode: Mode,
+        mode: DeviceState,
     },
 }

@@ -7,11 +7,11 @@ ghost use Rattle.dfu_slots.specs.Image.{HasImage};
 ghost use Rattle.dfu_slots.specs.Changes.{IsOpenFault};
 ghost use Rattle.dfu_device.specs.Stage.{InAppIdle, state_of, code_of};
 ghost use Rattle.dfu_device.specs.Table.{reset_stage};
-ghost use Rattle.dfu_device.specs.Shown.{IsInSpareSlot, powered_on};
+ghost use Rattle.dfu_device.specs.DeviceView.{IsInSpareSlot, powered_on};
 ghost use Rattle.dfu_device.specs.Rows.{Handles, Elapses};
-ghost use Rattle.dfu_device.specs.Lent.{HandlesInto, answer_room};
+ghost use Rattle.dfu_device.specs.Borrowed.{HandlesInto, answer_room};
 
-use crate::machine::Machine;
+use crate::device_core::DeviceCore;
 use crate::{Answer, Config};
 use arrayvec::ArrayVec;
 use dfu_slots::{Faulty, Medium, OpenFault, Slots};
@@ -58,17 +58,17 @@ use std::marker::Model;
 #[derive(Drop)]
 pub struct Device<M: Medium> {
     // A layer of its own: its functions read its fields, which keep an invariant, and a caller of
-    // `Device` sees one plain value, `Shown`, whatever those fields are.
-    pub(crate) machine: Machine<M, ArrayVec<u8, 4096>>,
+    // `Device` sees one plain value, `DeviceView`, whatever those fields are.
+    pub(crate) core: DeviceCore<M, ArrayVec<u8, 4096>>,
 }
 
 impl<M: Medium> Model for Device<M> {
-    ghost use Rattle.dfu_device.specs.Shown.{Shown};
+    ghost use Rattle.dfu_device.specs.DeviceView.{DeviceView};
     ghost use Rattle.dfu_device.specs.inside.View.{shown};
 
-    ghost Value = { Shown };
+    ghost Value = { DeviceView };
 
-    ghost view = { λ d. shown d.machine };
+    ghost view = { λ d. shown d.core };
 }
 
 impl<M: Medium> Device<M> {
@@ -79,7 +79,7 @@ impl<M: Medium> Device<M> {
         // Called for its clause `fits`: a block of this device finds room.
         let _ = config.transfer();
         Device {
-            machine: Machine::start(config, slots, ArrayVec::new()),
+            core: DeviceCore::start(config, slots, ArrayVec::new()),
         }
     }
 
@@ -110,7 +110,7 @@ impl<M: Medium> Device<M> {
     pub fn restart(&mut self)
         ensures { self.new ≡ powered_on self.old.config self.old.slots.medium }
     {
-        self.machine.restart();
+        self.core.restart();
     }
 
     /// Answers a setup with its body (USB DFU 1.1, appendix A). `out` is emptied first; where the
@@ -118,7 +118,7 @@ impl<M: Medium> Device<M> {
     pub fn handle(&mut self, setup: &[u8; 8], body: &[u8], out: &mut ArrayVec<u8, 4096>) -> Answer
         ensures row { Handles setup.now body.now self.old result out.new.items self.new }
     {
-        self.machine.handle(setup, body, out)
+        self.core.handle(setup, body, out)
     }
 
     /// Answers a setup with its body, as `handle`, with the bytes of the answer at the front of a buffer of the caller's
@@ -137,7 +137,7 @@ impl<M: Medium> Device<M> {
         ensures short { IfNone result (length out.old < answer_room self.old.config) }
         ensures unchanged { IfNone result ((self.new ≡ self.old) × (out.new ≡ out.old)) }
     {
-        self.machine.handle_into(setup, body, out)
+        self.core.handle_into(setup, body, out)
     }
 
     /// So many milliseconds pass; 0 change nothing. They count in appDETACH, dfuDNBUSY and dfuMANIFEST,
@@ -147,49 +147,49 @@ impl<M: Medium> Device<M> {
     pub fn elapse(&mut self, ms: u32)
         ensures row { Elapses ms self.old self.new }
     {
-        self.machine.elapse(ms);
+        self.core.elapse(ms);
     }
 
     /// The bus is reset: appDETACH goes to dfuIDLE, every other state to appIDLE (USB DFU 1.1, appendix A).
     pub fn usb_reset(&mut self)
         ensures { self.new ≡ record self.old { stage = reset_stage self.old.stage } }
     {
-        self.machine.usb_reset();
+        self.core.usb_reset();
     }
 
     /// The state of the standard (USB DFU 1.1, section 6.1.2, bState).
     pub fn state(&self) -> State
         ensures { result ≡ state_of self.now.stage }
     {
-        self.machine.state()
+        self.core.state()
     }
 
     /// The status code: that of dfuERROR, and OK in every other state (USB DFU 1.1, section 6.1.2, bStatus).
     pub fn code(&self) -> Code
         ensures { result ≡ code_of self.now.stage }
     {
-        self.machine.code()
+        self.core.code()
     }
 
     /// The functional descriptor (USB DFU 1.1, section 4.1.3), with version 0110h.
     pub fn functional(&self) -> Functional
         ensures { result ≡ self.now.config.functional }
     {
-        self.machine.config.functional()
+        self.core.config.functional()
     }
 
     /// Who the device is.
     pub fn ids(&self) -> Ids
         ensures { result ≡ self.now.config.ids }
     {
-        self.machine.config.ids()
+        self.core.config.ids()
     }
 
     /// What the device was set up with.
     pub fn config(&self) -> Config
         ensures { result ≡ self.now.config }
     {
-        self.machine.config
+        self.core.config
     }
 
     /// The slot store. Until they are put in place the bytes taken stand at the front of the data of
@@ -199,7 +199,7 @@ impl<M: Medium> Device<M> {
         ensures slots { result.now ≡ self.now.slots }
         ensures stored { IsInSpareSlot self.now }
     {
-        &self.machine.slots
+        &self.core.slots
     }
 
     /// Power off: the medium as it stands. It has an active image, so that `power_on` is never
@@ -208,7 +208,7 @@ impl<M: Medium> Device<M> {
         ensures medium { M.state result ≡ self.slots.medium }
         ensures has_image { HasImage (M.state result) }
     {
-        self.machine.slots.into_medium()
+        self.core.slots.into_medium()
     }
 }
 
@@ -217,20 +217,20 @@ impl<M: Faulty> Device<M> {
     pub fn arm(&mut self, writes: u32, tear: &[u8], stop: bool)
         ensures { self.new ≡ record self.old { slots = fused self.old.slots (Armed writes (take 4096 tear.now) stop) } }
     {
-        self.machine.slots.arm(writes, tear, stop);
+        self.core.slots.arm(writes, tear, stop);
     }
 
     /// Arms the medium to lie, as `Slots::arm_lie`.
     pub fn arm_lie(&mut self, writes: u32, tear: &[u8])
         ensures { self.new ≡ record self.old { slots = fused self.old.slots (Lying writes (take 4096 tear.now)) } }
     {
-        self.machine.slots.arm_lie(writes, tear);
+        self.core.slots.arm_lie(writes, tear);
     }
 
     /// Disarms the medium, as `Slots::disarm`.
     pub fn disarm(&mut self)
         ensures { self.new ≡ record self.old { slots = fused self.old.slots Whole } }
     {
-        self.machine.slots.disarm();
+        self.core.slots.disarm();
     }
 }

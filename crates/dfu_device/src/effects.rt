@@ -6,24 +6,24 @@ ghost use Rattle.dfu_slots.specs.Seen.{image_of, spare_of, room_of, is_shaped, C
 ghost use Rattle.dfu_slots.specs.Changes.{fault_of, ending_of};
 ghost use Rattle.dfu_device.specs.Stage.{status_of};
 ghost use Rattle.dfu_device.specs.Table.{write_code, commit_code};
-ghost use Rattle.dfu_device.specs.Shown.{profile};
+ghost use Rattle.dfu_device.specs.DeviceView.{profile};
 ghost use Rattle.dfu_device.specs.Parts.{is_put, is_filled, stage_of};
 ghost use Rattle.dfu_device.specs.Rows.{Answers, WroteBlock, FailedBlock, Committed, FailedCommit, block_calls};
 ghost use Rattle.dfu_device.specs.Decision.{plan_of, written_stage, TakesNothing, IsPossible, IsSilent};
-ghost use Rattle.dfu_device.specs.inside.Draft.{DraftDone};
+ghost use Rattle.dfu_device.specs.inside.PendingAnswer.{DonePending};
 ghost use Rattle.dfu_device.specs.inside.View.{shown};
 
 use crate::Answer;
 use crate::block::Block;
 use crate::decision::Decision;
-use crate::draft::{Draft, draft_of};
-use crate::machine::Machine;
-use crate::mode::Mode;
+use crate::device_core::DeviceCore;
+use crate::device_state::DeviceState;
+use crate::pending_answer::{PendingAnswer, pending_answer_of};
 use crate::status::status_in;
 use dfu_slots::{Medium, PutFault, Slots, WriteFault};
 use dfu_wire::Code;
 
-impl<M: Medium, B: Block> Machine<M, B> {
+impl<M: Medium, B: Block> DeviceCore<M, B> {
     /// The six bytes of the status.
     pub(crate) fn status(&self) -> [u8; 6]
         ensures answers { (len : ℕ) →
@@ -34,22 +34,23 @@ impl<M: Medium, B: Block> Machine<M, B> {
     }
 
     /// Carries a decision out, with the body of its request, which asks for so many bytes of a status or of a state.
-    pub(crate) fn carry_out(&mut self, decision: Decision, asked: u16, body: &[u8]) -> Draft
+    pub(crate) fn carry_out(&mut self, decision: Decision, asked: u16, body: &[u8]) -> PendingAnswer
         requires { IsPossible self.old.config.functional.transfer (length (B.items self.old.block)) (length body.now) self.old.slots decision }
         ensures row { let w = shown self.old in let spare = spare_of w.slots in
-            DraftDone (plan_of (profile w) (image_of w.slots) spare (B.items self.old.block) body.now decision) asked w result (shown self.new) }
-        ensures silent { IsSilent decision → result ≡ Draft.Ack }
+            DonePending (plan_of (profile w) (image_of w.slots) spare (B.items self.old.block) body.now decision) asked w result
+            (shown self.new) }
+        ensures silent { IsSilent decision → result ≡ PendingAnswer.Ack }
         ensures memory { B.memory self.new.block ≡ B.memory self.old.block }
     {
         match decision {
             Decision::Sure { reply, mode } => {
                 self.mode = mode;
-                draft_of(reply, asked)
+                pending_answer_of(reply, asked)
             }
             Decision::Holds { mode } => {
                 self.block.hold(body);
                 self.mode = mode;
-                Draft::Ack
+                PendingAnswer::Ack
             }
             Decision::Sends {
                 place,
@@ -57,7 +58,7 @@ impl<M: Medium, B: Block> Machine<M, B> {
                 number,
             } => {
                 self.mode = self.after_piece(place, size, number);
-                Draft::Piece { place, asked: size }
+                PendingAnswer::Piece { place, asked: size }
             }
             Decision::Writes {
                 reply,
@@ -66,7 +67,7 @@ impl<M: Medium, B: Block> Machine<M, B> {
                 late,
             } => {
                 let _ = self.write_block(written, number, late);
-                draft_of(reply, asked)
+                pending_answer_of(reply, asked)
             }
             Decision::Commits {
                 reply,
@@ -74,20 +75,20 @@ impl<M: Medium, B: Block> Machine<M, B> {
                 mode,
             } => {
                 let _ = self.commit_taken(written, mode);
-                draft_of(reply, asked)
+                pending_answer_of(reply, asked)
             }
         }
     }
 
     /// Where the device goes once these bytes of its image are sent: fewer than `size` are the last ones.
-    fn after_piece(&self, place: u32, size: u16, number: u16) -> Mode
+    fn after_piece(&self, place: u32, size: u16, number: u16) -> DeviceState
         ensures mode { let part = take size (drop place (image_of self.now.slots)) in
-            result ≡ (if nat_lt (length part) size then Mode.DfuIdle else Mode.UploadIdle (place + size) number) }
+            result ≡ (if nat_lt (length part) size then DeviceState.DfuIdle else DeviceState.UploadIdle (place + size) number) }
     {
         if self.piece_len(place, size) < size {
-            return Mode::DfuIdle;
+            return DeviceState::DfuIdle;
         }
-        Mode::UploadIdle {
+        DeviceState::UploadIdle {
             place: place + u32::from(size),
             number,
         }
@@ -101,7 +102,7 @@ impl<M: Medium, B: Block> Machine<M, B> {
         number: u16,
         late: bool,
     ) -> Result<(), WriteFault>
-        requires { IsTrue (is_filled (Mode.DownloadSync written number) (length (B.items self.old.block)) self.old.slots) }
+        requires { IsTrue (is_filled (DeviceState.DownloadSync written number) (length (B.items self.old.block)) self.old.slots) }
         ensures done { let before = take written (spare_of self.old.slots) in
             let block = B.items self.old.block in
             OnOk result (WroteBlock before block self.old.config self.old.slots (written_stage late (before ++ block) number)
@@ -114,15 +115,15 @@ impl<M: Medium, B: Block> Machine<M, B> {
             Ok(()) => {
                 let written = written + self.block.bytes().len() as u32;
                 self.mode = if late {
-                    Mode::DownloadSyncWritten { written, number }
+                    DeviceState::DownloadSyncWritten { written, number }
                 } else {
-                    Mode::DownloadIdle { written, number }
+                    DeviceState::DownloadIdle { written, number }
                 };
                 Ok(())
             }
             Err(fault) => {
                 let fault = write_fault(fault);
-                self.mode = Mode::Error {
+                self.mode = DeviceState::Error {
                     code: write_code(fault),
                 };
                 Err(fault)
@@ -132,8 +133,8 @@ impl<M: Medium, B: Block> Machine<M, B> {
 
     /// Makes the bytes taken the active image, and goes on to the next state. It answers the fault of a
     /// write that had one.
-    pub(crate) fn commit_taken(&mut self, written: u32, next: Mode) -> Result<(), WriteFault>
-        requires taken { IsTrue (is_filled (Mode.ManifestSync written) (length (B.items self.old.block)) self.old.slots) }
+    pub(crate) fn commit_taken(&mut self, written: u32, next: DeviceState) -> Result<(), WriteFault>
+        requires taken { IsTrue (is_filled (DeviceState.ManifestSync written) (length (B.items self.old.block)) self.old.slots) }
         requires next { TakesNothing next }
         ensures done { OnOk result (Committed (take written (spare_of self.old.slots)) self.old.config self.old.slots
             (stage_of next [] []) (shown self.new)) }
@@ -148,7 +149,7 @@ impl<M: Medium, B: Block> Machine<M, B> {
             }
             Err(fault) => {
                 let fault = write_fault(fault);
-                self.mode = Mode::Error {
+                self.mode = DeviceState::Error {
                     code: commit_code(fault),
                 };
                 Err(fault)

@@ -4,7 +4,7 @@ ghost use Rattle.std.specs.Prelude.{◌≡◌, ◌^◌, ◌<◌, ◌+◌, ◌==�
 ghost use Rattle.dfu_slots.specs.Seen.{SlotsState, room_of, is_begun};
 ghost use Rattle.dfu_device.specs.Parts.{is_filled};
 
-use crate::mode::Mode;
+use crate::device_state::DeviceState;
 
 /// What tells of a slot store whether a mode goes with it.
 #[derive(Clone, Copy, Debug, PartialEq, Eq)]
@@ -42,19 +42,19 @@ fn is_next(seen: PutSoFar, written: u32, block: usize) -> bool
 }
 
 /// Whether a mode, with a block of so many bytes that is not written, goes with what was put in each slot store of which this was seen.
-pub fn is_filled(seen: PutSoFar, mode: Mode, block: usize) -> bool
+pub fn is_filled(seen: PutSoFar, mode: DeviceState, block: usize) -> bool
     requires { block < 2 ^ 32 }
     ensures { (s : SlotsState) → seen.room ≡ room_of s → seen.begun ≡ is_begun s → seen.end ≡ s.put_end →
         result ≡ is_filled mode block s }
 {
     match mode {
-        Mode::DownloadSync { written, .. } | Mode::DownloadBusy { written, .. } => {
+        DeviceState::DownloadSync { written, .. } | DeviceState::DownloadBusy { written, .. } => {
             is_next(seen, written, block)
         }
-        Mode::DownloadSyncWritten { written, .. }
-        | Mode::DownloadIdle { written, .. }
-        | Mode::ManifestSync { written }
-        | Mode::Manifest { written, .. } => is_written(seen, written),
+        DeviceState::DownloadSyncWritten { written, .. }
+        | DeviceState::DownloadIdle { written, .. }
+        | DeviceState::ManifestSync { written }
+        | DeviceState::Manifest { written, .. } => is_written(seen, written),
         _ => true,
     }
 }

@@ -5,9 +5,9 @@ ghost use Rattle.dfu_device.specs.Parts.{shows, is_sound};
 ghost use Rattle.dfu_device.specs.inside.View.{shown};
 
 use crate::block::Block;
+use crate::device_core::DeviceCore;
+use crate::device_state::DeviceState;
 use crate::filled::{PutSoFar, is_filled};
-use crate::machine::Machine;
-use crate::mode::Mode;
 use crate::{Config, Device};
 use arrayvec::ArrayVec;
 use dfu_slots::{Medium, Slots};
@@ -15,16 +15,16 @@ use dfu_slots::{Medium, Slots};
 impl<M: Medium> Device<M> {
     /// Takes the device apart: its slot store, where it stands, and the block that is not written, which counts in
     /// dfuDNLOAD-SYNC and dfuDNBUSY alone. `from_parts` makes the same device of them and of `config`.
-    pub fn into_parts(self) -> (Slots<M>, Mode, ArrayVec<u8, 4096>)
+    pub fn into_parts(self) -> (Slots<M>, DeviceState, ArrayVec<u8, 4096>)
         ensures parts { shows self.config result.0 result.1 result.2.items ≡ self }
         ensures sound { IsTrue (is_sound result.1 (length result.2.items) result.0) }
     {
-        let Machine {
+        let DeviceCore {
             config: _,
             slots,
             mode,
             block,
-        } = self.machine;
+        } = self.core;
         (slots, mode, block)
     }
 
@@ -43,7 +43,7 @@ impl<M: Medium> Device<M> {
     pub fn from_parts(
         config: Config,
         slots: Slots<M>,
-        mode: Mode,
+        mode: DeviceState,
         block: ArrayVec<u8, 4096>,
     ) -> Result<Device<M>, Slots<M>>
         ensures parts { IsOk result ↔ IsTrue (is_sound mode (length block.items) slots) }
@@ -56,7 +56,7 @@ impl<M: Medium> Device<M> {
         // Called for its clause `fits`: a block of this device finds room.
         let _ = config.transfer();
         Ok(Device {
-            machine: Machine {
+            core: DeviceCore {
                 config,
                 slots,
                 mode,
@@ -66,28 +66,28 @@ impl<M: Medium> Device<M> {
     }
 
     /// Where the device stands, and the block that is not written, as `into_parts` gives them.
-    pub fn parts(&self) -> (Mode, &[u8])
+    pub fn parts(&self) -> (DeviceState, &[u8])
         ensures parts { shows self.now.config self.now.slots result.0 result.1.now ≡ self.now }
         ensures sound { IsTrue (is_sound result.0 (length result.1.now) self.now.slots) }
         ensures fits { length result.1.now ≤ 4096 }
     {
-        (self.machine.mode, self.machine.block.bytes())
+        (self.core.mode, self.core.block.bytes())
     }
 
     /// Puts the device where these parts say, on its slot store as it is; false, with nothing changed, where the block has
     /// over 4,096 bytes or the parts are none of a device, as `from_parts` has it.
-    pub fn set_parts(&mut self, mode: Mode, block: &[u8]) -> bool
+    pub fn set_parts(&mut self, mode: DeviceState, block: &[u8]) -> bool
         ensures parts { IsTrue result ↔ ((length block.now ≤ 4096) × IsTrue (is_sound mode (length block.now) self.old.slots)) }
         ensures device { IsTrue result → self.new ≡ shows self.old.config self.old.slots mode block.now }
         ensures unchanged { IsTrue (not result) → self.new ≡ self.old }
     {
-        self.machine.set_parts(mode, block)
+        self.core.set_parts(mode, block)
     }
 }
 
-impl<M: Medium, B: Block> Machine<M, B> {
-    // Puts the machine where these parts say, if they are a device's.
-    fn set_parts(&mut self, mode: Mode, block: &[u8]) -> bool
+impl<M: Medium, B: Block> DeviceCore<M, B> {
+    // Puts the core where these parts say, if they are a device's.
+    fn set_parts(&mut self, mode: DeviceState, block: &[u8]) -> bool
         ensures parts { let room = (B.memory self.old.block).room in
             IsTrue result ↔ ((length block.now ≤ room) × IsTrue (is_sound mode (length block.now) self.old.slots)) }
         ensures device { IsTrue result → shown self.new ≡ shows self.old.config self.old.slots mode block.now }
@@ -103,7 +103,7 @@ impl<M: Medium, B: Block> Machine<M, B> {
 }
 
 /// Whether these are a device's.
-pub(crate) fn is_sound<M: Medium>(slots: &Slots<M>, mode: Mode, block: usize) -> bool
+pub(crate) fn is_sound<M: Medium>(slots: &Slots<M>, mode: DeviceState, block: usize) -> bool
     requires { block < 2 ^ 32 }
     ensures { result ≡ is_sound mode block slots.now }
 {

@@ -5,18 +5,18 @@ ghost use Rattle.dfu_wire.specs.State.{state_byte};
 ghost use Rattle.dfu_slots.specs.Seen.{image_of};
 ghost use Rattle.dfu_device.specs.Stage.{state_of};
 ghost use Rattle.dfu_device.specs.Rows.{Handles};
-ghost use Rattle.dfu_device.specs.Lent.{answer_room, HandlesInto};
-ghost use Rattle.dfu_device.specs.inside.Draft.{Drafted, GaveDraft};
+ghost use Rattle.dfu_device.specs.Borrowed.{answer_room, HandlesInto};
+ghost use Rattle.dfu_device.specs.inside.PendingAnswer.{AnswersPending, GavePending};
 ghost use Rattle.dfu_device.specs.inside.View.{shown};
 
 use crate::Answer;
 use crate::block::Block;
-use crate::draft::Draft;
-use crate::machine::Machine;
+use crate::device_core::DeviceCore;
+use crate::pending_answer::PendingAnswer;
 use arrayvec::ArrayVec;
 use dfu_slots::{Medium, Slots};
 
-impl<M: Medium, B: Block> Machine<M, B> {
+impl<M: Medium, B: Block> DeviceCore<M, B> {
     /// Answers a setup with its body.
     pub(crate) fn handle(
         &mut self,
@@ -28,9 +28,9 @@ impl<M: Medium, B: Block> Machine<M, B> {
     {
         // Called for its clause `fits`, which `give` needs; what it answers isn't used.
         let _ = self.config.transfer();
-        let draft = self.draft(setup, body);
+        let pending_answer = self.pending_answer(setup, body);
         out.clear();
-        self.give(draft, out)
+        self.give(pending_answer, out)
     }
 
     /// Answers a setup with its body into a buffer, where that has room for any answer.
@@ -49,57 +49,61 @@ impl<M: Medium, B: Block> Machine<M, B> {
         if out.len() < usize::from(self.config.transfer()).max(6) {
             return None;
         }
-        let draft = self.draft(setup, body);
-        Some(self.give_into(draft, out))
+        let pending_answer = self.pending_answer(setup, body);
+        Some(self.give_into(pending_answer, out))
     }
 
     /// Puts the bytes of an answer into an empty buffer.
-    fn give(&self, draft: Draft, out: &mut ArrayVec<u8, 4096>) -> Answer
+    fn give(&self, pending_answer: PendingAnswer, out: &mut ArrayVec<u8, 4096>) -> Answer
         requires out { out.old.items ≡ [] }
-        requires fits { (a : Answer) (sent : List ℕ) → Drafted draft (shown self.now) a sent → length sent ≤ 4096 }
-        ensures { Drafted draft (shown self.now) result out.new.items }
+        requires fits { (a : Answer) (sent : List ℕ) → AnswersPending pending_answer (shown self.now) a sent → length sent ≤ 4096 }
+        ensures { AnswersPending pending_answer (shown self.now) result out.new.items }
     {
-        match draft {
-            Draft::Ack => Answer::Ack,
-            Draft::Status { asked } => {
+        match pending_answer {
+            PendingAnswer::Ack => Answer::Ack,
+            PendingAnswer::Status { asked } => {
                 let bytes = self.status();
                 let _ = out.try_extend_from_slice(&bytes[..usize::from(asked).min(6)]);
                 Answer::Bytes
             }
-            Draft::State { asked } => {
+            PendingAnswer::State { asked } => {
                 if asked > 0 {
                     out.push(self.state().byte());
                 }
                 Answer::Bytes
             }
-            Draft::Piece { place, asked } => {
+            PendingAnswer::Piece { place, asked } => {
                 let count = self.piece_len(place, asked);
                 if count > 0 {
                     copy_image(&self.slots, place, count, out);
                 }
                 Answer::Bytes
             }
-            Draft::Stall => Answer::Stall,
+            PendingAnswer::Stall => Answer::Stall,
         }
     }
 
     /// Puts the bytes of an answer at the front of a buffer, and answers how many they are.
-    fn give_into(&self, draft: Draft, out: &mut [u8]) -> (Answer, usize)
-        requires fits { (a : Answer) (sent : List ℕ) → Drafted draft (shown self.now) a sent → length sent ≤ length out.old }
-        ensures { GaveDraft draft (shown self.now) result.0 result.1 out.old out.new }
+    fn give_into(&self, pending_answer: PendingAnswer, out: &mut [u8]) -> (Answer, usize)
+        requires fits { (a : Answer) (sent : List ℕ) → AnswersPending pending_answer (shown self.now) a sent
+            → length sent ≤ length out.old }
+        ensures { GavePending pending_answer (shown self.now) result.0 result.1 out.old out.new }
     {
-        match draft {
-            Draft::Ack => (Answer::Ack, 0),
-            Draft::Status { asked } => {
+        match pending_answer {
+            PendingAnswer::Ack => (Answer::Ack, 0),
+            PendingAnswer::Status { asked } => {
                 let bytes = self.status();
                 (Answer::Bytes, put_front(&bytes, asked, out))
             }
-            Draft::State { asked } => {
+            PendingAnswer::State { asked } => {
                 let bytes = [self.state().byte()];
                 (Answer::Bytes, put_front(&bytes, asked, out))
             }
-            Draft::Piece { place, asked } => (Answer::Bytes, self.put_piece(place, asked, out)),
-            Draft::Stall => (Answer::Stall, 0),
+            PendingAnswer::Piece { place, asked } => (
+                Answer::Bytes,
+                self.put_piece(place, asked, out),
+            ),
+            PendingAnswer::Stall => (Answer::Stall, 0),
         }
     }
 

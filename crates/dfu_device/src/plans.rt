@@ -7,13 +7,13 @@ ghost use Rattle.dfu_device.specs.Parts.{is_put};
 ghost use Rattle.dfu_device.specs.Decision.{profile_in, plan_of, Allows, IsPossible};
 
 use crate::decision::Decision;
-use crate::mode::Mode;
+use crate::device_state::DeviceState;
 use crate::profile::Profile;
 use crate::reply::Reply;
 use dfu_wire::{Code, Request};
 
 /// The request is acknowledged, and this mode entered.
-pub(crate) fn ack(mode: Mode) -> Decision
+pub(crate) fn ack(mode: DeviceState) -> Decision
     ensures { result ≡ Decision.Sure Reply.Ack mode }
 {
     Decision::Sure {
@@ -23,7 +23,7 @@ pub(crate) fn ack(mode: Mode) -> Decision
 }
 
 /// The request is stalled, and this mode entered.
-pub(crate) fn stall(mode: Mode) -> Decision
+pub(crate) fn stall(mode: DeviceState) -> Decision
     ensures { result ≡ Decision.Sure Reply.Stall mode }
 {
     Decision::Sure {
@@ -34,13 +34,13 @@ pub(crate) fn stall(mode: Mode) -> Decision
 
 /// The request is stalled, and dfuERROR entered with this code.
 pub(crate) fn error(code: Code) -> Decision
-    ensures { result ≡ Decision.Sure Reply.Stall (Mode.Error code) }
+    ensures { result ≡ Decision.Sure Reply.Stall (DeviceState.Error code) }
 {
-    stall(Mode::Error { code })
+    stall(DeviceState::Error { code })
 }
 
 /// GETSTATUS is answered with the status of the mode that is entered.
-pub(crate) fn report(mode: Mode) -> Decision
+pub(crate) fn report(mode: DeviceState) -> Decision
     ensures { result ≡ Decision.Sure Reply.Status mode }
 {
     Decision::Sure {
@@ -50,7 +50,7 @@ pub(crate) fn report(mode: Mode) -> Decision
 }
 
 /// GETSTATE is answered with the state as it stands.
-pub(crate) fn tell(mode: Mode) -> Decision
+pub(crate) fn tell(mode: DeviceState) -> Decision
     ensures { result ≡ Decision.Sure Reply.State mode }
 {
     Decision::Sure {
@@ -78,7 +78,7 @@ fn block(profile: &Profile, written: u32, expected: u16, number: u16, size: u16)
         return error(Code::Address);
     }
     Decision::Holds {
-        mode: Mode::DownloadSync {
+        mode: DeviceState::DownloadSync {
             written,
             number: expected.wrapping_add(1),
         },
@@ -89,7 +89,7 @@ fn block(profile: &Profile, written: u32, expected: u16, number: u16, size: u16)
 pub(crate) fn first(profile: &Profile, number: u16, size: u16) -> Decision
     ensures row { (image spare block body : List ℕ) → length body ≡ size
         → plan_of (profile_in profile.now) image spare block body result ≡ first_plan (profile_in profile.now) number body }
-    ensures possible { Allows profile.now Mode.DfuIdle size result }
+    ensures possible { Allows profile.now DeviceState.DfuIdle size result }
 {
     if !profile.functional.can_download || size == 0 {
         return error(Code::StalledPkt);
@@ -108,7 +108,7 @@ pub(crate) fn further(
     ensures row { (image spare block body : List ℕ) → length (take written spare) ≡ written → length body ≡ size
         → plan_of (profile_in profile.now) image spare block body result
         ≡ further_plan (profile_in profile.now) (take written spare) expected number body }
-    ensures possible { Allows profile.now (Mode.DownloadIdle written expected) size result }
+    ensures possible { Allows profile.now (DeviceState.DownloadIdle written expected) size result }
 {
     if size > 0 {
         return block(profile, written, expected, number, size);
@@ -116,7 +116,7 @@ pub(crate) fn further(
     if written < profile.least {
         return error(Code::NotDone);
     }
-    ack(Mode::ManifestSync { written })
+    ack(DeviceState::ManifestSync { written })
 }
 
 /// UPLOAD, if so many bytes were sent and this number is due: the errors in their order, else the next bytes of the image.

@@ -1,7 +1,7 @@
 //! What the table reads of a device.
 
 ghost use Rattle.std.specs.Prelude.{◌≡◌};
-ghost use Rattle.dfu_device.specs.Shown.{profile_of};
+ghost use Rattle.dfu_device.specs.DeviceView.{profile_of};
 ghost use Rattle.dfu_device.specs.Decision.{profile_in};
 
 use crate::Config;

@@ -18,7 +18,7 @@ impl<M: Medium> Device<M> {
         ensures row { IsTrue result → Row self.old (RefusingClose setup.now objection) Answer.Stall [] self.new }
         ensures unchanged { IsTrue (not result) → self.new ≡ self.old }
     {
-        self.machine.refuse_close(setup, objection)
+        self.core.refuse_close(setup, objection)
     }
 
     /// The program refuses the image that was closed, for a check that takes longer than a transfer may. In dfuMANIFEST-SYNC, before it is
@@ -27,6 +27,6 @@ impl<M: Medium> Device<M> {
     pub fn refuse(&mut self, objection: Objection)
         ensures { self.new ≡ record self.old { stage = refuse_stage objection self.old.stage } }
     {
-        self.machine.refuse(objection);
+        self.core.refuse(objection);
     }
 }

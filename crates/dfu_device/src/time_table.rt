@@ -4,26 +4,26 @@
 ghost use Rattle.dfu_device.specs.Decision.{IsSilent, DecidesTime, Allows};
 
 use crate::decision::Decision;
-use crate::mode::Mode;
+use crate::device_state::DeviceState;
 use crate::plans::ack;
 use crate::profile::Profile;
 use crate::reply::Reply;
 
 // appDETACH: the timer runs out, or the device detaches by itself. A timer of 0 counts as 1.
 fn in_app_detach(profile: &Profile, timer: u32, passed: u32, ms: u32) -> Decision
-    ensures row { DecidesTime profile.now (Mode.AppDetach timer passed) ms result }
-    ensures possible { Allows profile.now (Mode.AppDetach timer passed) 0 result }
+    ensures row { DecidesTime profile.now (DeviceState.AppDetach timer passed) ms result }
+    ensures possible { Allows profile.now (DeviceState.AppDetach timer passed) 0 result }
     ensures silent { IsSilent result }
 {
     let now = u64::from(passed) + u64::from(ms);
     if ms == 0 {
-        ack(Mode::AppDetach { timer, passed })
+        ack(DeviceState::AppDetach { timer, passed })
     } else if profile.functional.will_detach {
-        ack(Mode::DfuIdle)
+        ack(DeviceState::DfuIdle)
     } else if now >= u64::from(timer.max(1)) {
-        ack(Mode::AppIdle)
+        ack(DeviceState::AppIdle)
     } else {
-        ack(Mode::AppDetach {
+        ack(DeviceState::AppDetach {
             timer,
             passed: now as u32,
         })
@@ -32,8 +32,8 @@ fn in_app_detach(profile: &Profile, timer: u32, passed: u32, ms: u32) -> Decisio
 
 // dfuDNBUSY: the block is written once the busy time has passed.
 fn in_download_busy(profile: &Profile, written: u32, number: u16, passed: u32, ms: u32) -> Decision
-    ensures row { DecidesTime profile.now (Mode.DownloadBusy written number passed) ms result }
-    ensures possible { Allows profile.now (Mode.DownloadBusy written number passed) 0 result }
+    ensures row { DecidesTime profile.now (DeviceState.DownloadBusy written number passed) ms result }
+    ensures possible { Allows profile.now (DeviceState.DownloadBusy written number passed) 0 result }
     ensures silent { IsSilent result }
 {
     let now = u64::from(passed) + u64::from(ms);
@@ -45,7 +45,7 @@ fn in_download_busy(profile: &Profile, written: u32, number: u16, passed: u32, m
             late: true,
         };
     }
-    ack(Mode::DownloadBusy {
+    ack(DeviceState::DownloadBusy {
         written,
         number,
         passed: now as u32,
@@ -55,16 +55,16 @@ fn in_download_busy(profile: &Profile, written: u32, number: u16, passed: u32, m
 // dfuMANIFEST: the image is put in place once the manifestation time has passed. A device that is not tolerant of manifestation
 // waits for a reset.
 fn in_manifest(profile: &Profile, written: u32, passed: u32, ms: u32) -> Decision
-    ensures row { DecidesTime profile.now (Mode.Manifest written passed) ms result }
-    ensures possible { Allows profile.now (Mode.Manifest written passed) 0 result }
+    ensures row { DecidesTime profile.now (DeviceState.Manifest written passed) ms result }
+    ensures possible { Allows profile.now (DeviceState.Manifest written passed) 0 result }
     ensures silent { IsSilent result }
 {
     let now = u64::from(passed) + u64::from(ms);
     if ms > 0 && now >= u64::from(profile.manifest_ms) {
         let mode = if profile.functional.tolerant {
-            Mode::ManifestSyncComplete
+            DeviceState::ManifestSyncComplete
         } else {
-            Mode::ManifestWaitReset
+            DeviceState::ManifestWaitReset
         };
         return Decision::Commits {
             reply: Reply::Ack,
@@ -72,26 +72,26 @@ fn in_manifest(profile: &Profile, written: u32, passed: u32, ms: u32) -> Decisio
             mode,
         };
     }
-    ack(Mode::Manifest {
+    ack(DeviceState::Manifest {
         written,
         passed: now as u32,
     })
 }
 
 /// What so many milliseconds come to in a mode: their row of the table. In the other modes nothing comes of them.
-pub fn decide_time(profile: &Profile, mode: Mode, ms: u32) -> Decision
+pub fn decide_time(profile: &Profile, mode: DeviceState, ms: u32) -> Decision
     ensures row { DecidesTime profile.now mode ms result }
     ensures possible { Allows profile.now mode 0 result }
     ensures silent { IsSilent result }
 {
     match mode {
-        Mode::AppDetach { timer, passed } => in_app_detach(profile, timer, passed, ms),
-        Mode::DownloadBusy {
+        DeviceState::AppDetach { timer, passed } => in_app_detach(profile, timer, passed, ms),
+        DeviceState::DownloadBusy {
             written,
             number,
             passed,
         } => in_download_busy(profile, written, number, passed, ms),
-        Mode::Manifest { written, passed } => in_manifest(profile, written, passed, ms),
+        DeviceState::Manifest { written, passed } => in_manifest(profile, written, passed, ms),
         mode => ack(mode),
     }
 }

@@ -1,23 +1,18 @@
 -- What is said of a setup before its body is there is so for the device that the record is, and what becomes of one that is too long.
-use Rattle.std.proofs.Common.{◌≡◌, ◌≢◌, ◌<◌, ◌-◌, ◌*◌, ◌/◌, ◌&&◌, Bool, true, false, IsTrue, Option, Some, None, ℕ, ℤ, pos, List, [], length, refl, sym, ap, ◌∙◌, subst, arith}
+use Rattle.std.proofs.Common.{◌≡◌, ◌≢◌, ◌<◌, ◌-◌, ◌*◌, ◌/◌, Bool, true, false, IsTrue, Some, ℕ, ℤ, pos, List, length, refl, sym, ap, ◌∙◌, subst, arith}
 use Rattle.std.proofs.lemmas.Bool.{eq-eqb}
-use Rattle.std.proofs.lemmas.Grind.{common_steps}
 use Rattle.dfu_wire.specs.declared.setups.Setup.{Setup}
 use Rattle.dfu_wire.specs.declared.requests.Request.{Request as Asked}
 use Rattle.dfu_wire.specs.Setup.{IsSetup}
 use Rattle.dfu_wire.specs.Request.{Asks}
-use Rattle.dfu_slots.specs.Seen.{SlotsState, image_of, spare_of, room_of, is_shaped}
-use Rattle.dfu_device.specs.declared.answer.Answer.TheVariants as answer
-use Rattle.dfu_device.specs.declared.mode.Mode.{Mode}
+use Rattle.dfu_slots.specs.Seen.{image_of, spare_of, room_of}
+use Rattle.dfu_device.specs.declared.device_state.DeviceState.{DeviceState}
 use Rattle.dfu_device.specs.Stage.{Profile}
 use Rattle.dfu_device.specs.Table.{plan}
-use Rattle.dfu_device.specs.Shown.{profile, profile_of}
-use Rattle.dfu_device.specs.Parts.{stage_of, is_sound, is_filled}
-use Rattle.dfu_device.specs.Rows.{Handles, meant, body_length, setup_plan}
+use Rattle.dfu_device.specs.DeviceView.{profile, profile_of}
+use Rattle.dfu_device.specs.Parts.{stage_of, is_sound}
+use Rattle.dfu_device.specs.Rows.{meant, body_length, setup_plan}
 use Rattle.dfu_asks.specs.declared.asking.Asking.{Asking}
-use Rattle.dfu_asks.specs.declared.work.Work.{Work}
-use Rattle.dfu_asks.specs.declared.job.Job.{Job}
-use Rattle.dfu_asks.specs.declared.job.Job.TheVariants as job
 use Rattle.dfu_slots.specs.Units.{gate_room}
 use Rattle.dfu_asks.specs.Lent.{LentAsking}
 use Rattle.dfu_asks.specs.Asks.{grain_in, store_in, device_in, IsDevice}
@@ -31,8 +26,9 @@ use Rattle.dfu_device_c.specs.Verdict.{verdict}
 use Rattle.dfu_device_c.specs.AfterLong.{after_long}
 use Rattle.dfu_device_c.proofs.Verdicts.{served_stalls, told_row}
 use Rattle.dfu_device_c.proofs.LongSetups.{after_free, long_elsewhere, long_here}
+use Rattle.dfu_device_c.proofs.Moved.{none_kept, moved_device, moved_kept}
 use Rattle.dfu_device_c.specs.declared.record.DfuRecord.{DfuRecord}
-use Rattle.dfu_device_c.specs.Kept.{IsFlag, HasJob, HasWork, IsKept, with_memory}
+use Rattle.dfu_device_c.specs.Kept.{IsKept, with_memory}
 use Rattle.dfu_device_c.specs.Stalls.{ToldStall}
 use Rattle.dfu_device_c.specs.Long.{TakesLong}
 
@@ -41,9 +37,9 @@ pub room_in : (a : LentAsking) (flash : List ℕ) → room_of (store_in a flash)
 unfolding room_of
 room_in a flash = refl
 
-module _ (c : DfuConfig) (r : DfuRecord) (size : ℕ) (setup : List ℕ) (p : Setup) (q : Asked) (m : Mode) (b : Bool)
+module _ (c : DfuConfig) (r : DfuRecord) (size : ℕ) (setup : List ℕ) (p : Setup) (q : Asked) (m : DeviceState) (b : Bool)
     (the_setup : (x : Setup) → IsSetup x setup → p ≡ x) (the_request : (x : Asked) → Asks p x → q ≡ x)
-    (the_mode : (x : Mode) → HasMode r x → m ≡ x)
+    (the_mode : (x : DeviceState) → HasMode r x → m ≡ x)
     (said : (image spare unwritten body : List ℕ) → HoldsWritten m spare → HasLength q body
     → Some b ≡ verdict (plan (profile_of (setting_of c) (size / 2 - 2 * gate_room (config_grain c))) image
     (stage_of m spare unwritten) (meant q body))) where
@@ -74,24 +70,8 @@ module _ (c : DfuConfig) (r : DfuRecord) (size : ℕ) (setup : List ℕ) (p : Se
       told_row setup p q b the_setup the_request result is_one is_zero (device_in (with_memory block k) flash) body body_is
       (stalls_device block flash k kept device size_is body)
 
--- No work is due if the record has the number of none.
-pub none_kept : (r : DfuRecord) (w : Option Work) → r.work ≡ 0 → HasWork r w → w ≡ None
-none_kept r None is has = refl
-none_kept r (Some w) is has = absurd (some_job r w.job is has.0)
-  where
-    some_job : (r : DfuRecord) (j : Job) → r.work ≡ 0 → HasJob r j → ⊥
-    some_job r (job.Block spare close) is has = omega (arith, is, has.0)
-    some_job r (job.Commit spare generation register) is has = omega (arith, is, has.0)
-
--- A device is one in a mode in which nothing is put.
-pub moved_sound : (s : SlotsState) (m m' : Mode) (n : ℕ) → IsTrue (is_sound m n s) → is_filled m' n s ≡ true → IsTrue (is_sound m' n s)
-moved_sound s m m' n sound free = both (is_shaped s) (is_filled m n s) (is_filled m' n s) sound free
-  where
-    both : (x y z : Bool) → IsTrue (x && y) → z ≡ true → IsTrue (x && z)
-    both x y z t e = grind (arith, common_steps, t, e)
-
-module _ (c : DfuConfig) (r r' : DfuRecord) (setup : List ℕ) (p : Setup) (m : Mode) (is : IsSetup p setup)
-    (long : transfer_of c < body_length p) (the_mode : (x : Mode) → HasMode r x → m ≡ x) (idle : r.work ≡ 0) where
+module _ (c : DfuConfig) (r r' : DfuRecord) (setup : List ℕ) (p : Setup) (m : DeviceState) (is : IsSetup p setup)
+    (long : transfer_of c < body_length p) (the_mode : (x : DeviceState) → HasMode r x → m ≡ x) (idle : r.work ≡ 0) where
   -- A request for another interface.
   pub takes_elsewhere : p.index ≢ 0 → r' ≡ r → TakesLong c r setup r'
   takes_elsewhere other same a kept = (
@@ -103,52 +83,6 @@ module _ (c : DfuConfig) (r r' : DfuRecord) (setup : List ℕ) (p : Setup) (m : 
   )
 
   -- Another one.
-  module _ (index : p.index ≡ 0) (moved : HasMode r' (after_long m)) (rest : r' ≡ record r {
-    version = r'.version;
-    mode = r'.mode;
-    first = r'.first;
-    second = r'.second;
-    number = r'.number;
-  }) (a : Asking) (kept : IsKept c r a) where
-    abbrev after : Asking
-    after = record a { mode = after_long m }
-
-    -- What is left to be written is in neither record.
-    after_work : HasWork r' a.work
-    after_work = subst (λ (w : Option Work). HasWork r' w) (sym (none_kept r a.work idle kept.work))
-        (ap (λ (x : DfuRecord). x.work) rest ∙ idle)
-
-    after_kept : IsKept c r' after
-    after_kept = record {
-      set_up = kept.set_up;
-      mode = moved;
-      block = kept.block ∙ sym (ap (λ (x : DfuRecord). x.length) rest);
-      held = kept.held ∙ sym (ap (λ (x : DfuRecord). x.held_length) rest);
-      end = kept.end ∙ sym (ap (λ (x : DfuRecord). x.put_end) rest);
-      noted = record {
-        second = subst (λ (n : ℕ). IsFlag a.noted.second n) (sym (ap (λ (x : DfuRecord). x.slot) rest)) kept.noted.second;
-        header = kept.noted.header ∙ sym (ap (λ (x : DfuRecord). x.header) rest);
-      };
-      work = after_work;
-    }
-
-    -- The device and the row of a body that long.
-    after_row : (block flash : List ℕ) → IsDevice (with_memory block a) flash → (body : List ℕ) → length body ≡ body_length p
-        → IsDevice (with_memory block after) flash
-        × Handles setup body (device_in (with_memory block a) flash) answer.Stall [] (device_in (with_memory block after) flash)
-    after_row block flash device body fits =
-        let l : LentAsking = with_memory block a in
-        let s = store_in l flash in (
-          record {
-            store = device.store;
-            sound = moved_sound s a.mode (after_long m) (length l.block) device.sound (after_free m (length l.block) s);
-            noted = device.noted;
-          },
-          long_here setup p is (device_in l flash) m (spare_of s) l.block
-              (λ i. stage_of (sym (the_mode a.mode kept.mode) i) (spare_of s) l.block)
-              (omega (arith, long, ap (λ s. s.functional.transfer) kept.set_up.config_is)) index body fits,
-        )
-
   pub takes_here : p.index ≡ 0 → HasMode r' (after_long m) → r' ≡ record r {
     version = r'.version;
     mode = r'.mode;
@@ -158,8 +92,15 @@ module _ (c : DfuConfig) (r r' : DfuRecord) (setup : List ℕ) (p : Setup) (m : 
   } → TakesLong c r setup r'
   takes_here index moved rest a kept = (
     record a { mode = after_long m },
-    after_kept index moved rest a kept,
+    moved_kept c r r' m (after_long m) the_mode idle moved rest a kept,
     none_kept r a.work idle kept.work,
     refl,
-    λ block flash device body body_is. after_row index moved rest a kept block flash device body (body_is p is),
+    λ block flash device body body_is.
+        let l : LentAsking = with_memory block a in
+        let s = store_in l flash in (
+          moved_device l (after_long m) flash device (after_free m (length l.block) s),
+          long_here setup p is (device_in l flash) m (spare_of s) l.block
+              (λ i. stage_of (sym (the_mode a.mode kept.mode) i) (spare_of s) l.block)
+              (omega (arith, long, ap (λ s. s.functional.transfer) kept.set_up.config_is)) index body (body_is p is),
+        ),
   )

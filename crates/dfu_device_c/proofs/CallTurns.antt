@@ -1,9 +1,9 @@
 -- A call of dfu_core_handle, dfu_core_elapse, dfu_core_usb_reset, dfu_core_took or dfu_core_too_long is a step of a board.
 use Rattle.std.specs.Prelude.{◌≡◌, ◌≤◌, ◌==◌, not, ℕ, ℤ, List, [], length, replicate, Some}
-use Rattle.std.proofs.Common.{inl, inr, refl, sym, ap, subst, arith}
+use Rattle.std.proofs.Common.{inl, inr, refl, sym, subst, arith}
 use Rattle.dfu_device.specs.declared.answer.Answer.TheVariants as answer
 use Rattle.dfu_device.specs.Table.{reset_stage}
-use Rattle.dfu_device.specs.Shown.{Shown}
+use Rattle.dfu_device.specs.DeviceView.{DeviceView}
 use Rattle.dfu_device.specs.Rows.{Transfer}
 use Rattle.dfu_asks.specs.declared.asking.Asking.{Asking}
 use Rattle.dfu_asks.specs.Carried.{IsPiece}
@@ -11,10 +11,9 @@ use Rattle.dfu_asks.specs.Asks.{device_in, steps_in}
 use Rattle.dfu_board.specs.Board.{Answers}
 use Rattle.dfu_board.specs.Happens.{reply_said}
 use Rattle.dfu_device_c.specs.declared.ask.DfuAsk.{DfuAsk}
-use Rattle.dfu_device_c.specs.declared.config.DfuConfig.{DfuConfig}
-use Rattle.dfu_device_c.specs.Config.{transfer_of, IsConfig}
+use Rattle.dfu_device_c.specs.Config.{transfer_of}
 use Rattle.dfu_device_c.specs.Addressed.{addressed}
-use Rattle.dfu_device_c.specs.Kept.{IsKept, with_memory}
+use Rattle.dfu_device_c.specs.Kept.{with_memory}
 use Rattle.dfu_device_c.specs.Calls.{IsIntact}
 use Rattle.dfu_device_c.specs.Writes.{ask_step, HandsOut, RefusesPiece, refuses_unfound, refuses_piece}
 use Rattle.dfu_device_c.specs.declared.refusal.Refusal.TheVariants as refusal
@@ -24,27 +23,22 @@ use Rattle.dfu_asks.specs.declared.reply.Reply.TheVariants as reply
 use Rattle.dfu_asks.specs.Calls.{DeviceCalled, called_ended}
 use Rattle.dfu_device.specs.Rows.{Handles}
 use Rattle.dfu_device_c.specs.Board.{CoreBoard, CoreHandle, CoreElapse, CoreReset, CoreTooLong, CoreTook}
-use Rattle.dfu_device_c.specs.Happens.{IsCalled, Handled, Elapsed, Reset, TookLong, Told}
-use Rattle.dfu_device_c.specs.Steps.{core_board_of, IsRefusal}
+use Rattle.dfu_device_c.specs.Happens.{IsCalled, Handled, Elapsed, Reset, TooLongCalled, Told}
+use Rattle.dfu_device_c.specs.Steps.{board_of_core, IsRefusal}
 use Rattle.dfu_device_c.proofs.Same.{no_work, one_device}
-use Rattle.dfu_device_c.proofs.Parts.{reply_says, passed_says, served_step, passed_step, told_step}
-use Rattle.dfu_device_c.proofs.Turned.{IsSound, IsTurn, fits_of, unchanged, goes_on, sound_on}
+use Rattle.dfu_device_c.proofs.Parts.{reply_says, passed_says}
+use Rattle.dfu_board.proofs.Served.{served_step, passed_step, told_step}
+use Rattle.dfu_device_c.proofs.Turned.{IsSound, IsTurn, fits_of, unchanged, goes_on, turns, sound_as}
 
 -- dfu_core_handle.
 pub handle_turn : (b : CoreBoard) (a : Asking) (setup body out : List ℕ) (n : ℤ) (out' : List ℕ) (b' : CoreBoard) → IsSound b a
     → IsCalled b b' → Handled b setup body out n out' b' → IsTurn b a (CoreHandle setup body out) n out' b'
 handle_turn b a setup body out n out' b' sound called (inl g) =
     let does = goes_on b a b'.kept b'.block _ sound g in
-    record {
-      config = called.config;
-      after = g.after;
-      sound = sound_on b a b' _ sound called.config g;
-      says = reply_said does.reply out';
-      happens = served_step (core_board_of b a) (core_board_of b' g.after) (Transfer (addressed b.config.interface setup) body) out out'
-          does.reply
-          does.idle (fits_of b a sound (omega (arith, g.room))) called.flash does.called;
-      told = reply_says n out' does.reply does.number_is;
-    }
+    turns b a _ n out' b' (reply_said does.reply out') sound called.config g
+    (served_step (board_of_core b a) (board_of_core b' g.after) (Transfer (addressed b.config.interface setup) body) out out' does.reply
+    does.idle (fits_of b a sound (omega (arith, g.room))) called.flash does.called)
+    (reply_says n out' does.reply does.number_is)
 handle_turn b a setup body out n out' b' sound called (inr (inl (denied, out_is))) =
     unchanged b a _ n out' b' sound called.config called.flash denied.unchanged denied.block_is (λ same. same)
     (inr (inr (denied.why, denied.number_is)))
@@ -57,15 +51,10 @@ pub elapse_turn : (b : CoreBoard) (a : Asking) (ms : ℕ) (n : ℤ) (out' : List
     → IsCalled b b' → Elapsed b ms n b' → IsTurn b a (CoreElapse ms) n out' b'
 elapse_turn b a ms n out' b' sound called (inl g) =
     let does = goes_on b a b'.kept b'.block _ sound g in
-    record {
-      config = called.config;
-      after = g.after;
-      sound = sound_on b a b' _ sound called.config g;
-      says = reply_said does.reply [];
-      happens = passed_step (core_board_of b a) (core_board_of b' g.after) ms (replicate 6 0) does.reply
-          does.idle (fits_of b a sound (omega (arith, g.room))) called.flash does.called;
-      told = passed_says n does.reply does.number_is;
-    }
+    turns b a _ n out' b' (reply_said does.reply []) sound called.config g
+    (passed_step (board_of_core b a) (board_of_core b' g.after) ms (replicate 6 0) does.reply
+    does.idle (fits_of b a sound (omega (arith, g.room))) called.flash does.called)
+    (passed_says n does.reply does.number_is)
 elapse_turn b a ms n out' b' sound called (inr denied) =
     unchanged b a _ n out' b' sound called.config called.flash denied.unchanged denied.block_is (λ same. same)
     (inr (inr (denied.why, denied.number_is)))
@@ -75,24 +64,19 @@ pub reset_turn : (b : CoreBoard) (a : Asking) (n : ℤ) (out' : List ℕ) (b' : 
     → IsCalled b b' → Reset b n b' → IsTurn b a CoreReset n out' b'
 reset_turn b a n out' b' sound called (inl g) =
     let does = goes_on b a b'.kept b'.block _ sound g in
-    let was : Shown = device_in (with_memory b.block a) b.flash in
-    record {
-      config = called.config;
-      after = g.after;
-      sound = sound_on b a b' _ sound called.config g;
-      says = Answers answer.Ack [];
-      happens = record {
-        idle = does.0;
-        fits = fits_of b a sound (omega (arith, g.room));
-        flash = called.flash;
-        row = subst (λ (f : List ℕ). device_in (with_memory b'.block g.after) f ≡ record was { stage = reset_stage was.stage })
-            (sym called.flash) does.3;
-        is = λ whole. subst (λ (f : List ℕ). IsIntact b'.block f g.after) (sym called.flash) (does.4 whole);
-        work = does.2;
-        says_is = refl;
-      };
-      told = does.1;
-    }
+    let was : DeviceView = device_in (with_memory b.block a) b.flash in
+    turns b a _ n out' b' (Answers answer.Ack []) sound called.config g
+    (record {
+      idle = does.0;
+      fits = fits_of b a sound (omega (arith, g.room));
+      flash = called.flash;
+      row = subst (λ (f : List ℕ). device_in (with_memory b'.block g.after) f ≡ record was { stage = reset_stage was.stage })
+          (sym called.flash) does.3;
+      is = λ whole. subst (λ (f : List ℕ). IsIntact b'.block f g.after) (sym called.flash) (does.4 whole);
+      work = does.2;
+      says_is = refl;
+    })
+    does.1
 reset_turn b a n out' b' sound called (inr denied) =
     unchanged b a _ n out' b' sound called.config called.flash denied.unchanged denied.block_is (λ same. same)
     (inr (inr (denied.why, denied.number_is)))
@@ -116,16 +100,10 @@ pub took_turn : (b : CoreBoard) (a : Asking) (failed : ℕ) (out : List ℕ) (n 
     → IsTurn b a (CoreTook failed out) n out' b'
 took_turn b a failed out n out' b' sound called (inl g) =
     let does = goes_on b a b'.kept b'.block _ sound g in
-    record {
-      config = called.config;
-      after = g.after;
-      sound = sound_on b a b' _ sound called.config g;
-      says = reply_said does.reply out';
-      happens = told_step (core_board_of b a) (core_board_of b' g.after) (not (failed == 0)) out out' does.reply does.work
-          does.left
-          called.flash does.took;
-      told = reply_says n out' does.reply does.number_is;
-    }
+    turns b a _ n out' b' (reply_said does.reply out') sound called.config g
+    (told_step (board_of_core b a) (board_of_core b' g.after)
+    (not (failed == 0)) out out' does.reply does.work does.left called.flash does.took)
+    (reply_says n out' does.reply does.number_is)
 took_turn b a failed out n out' b' sound called (inr (inl (denied, kept, block, out_is))) =
     unchanged b a _ n out' b' sound called.config called.flash kept block (λ same. same)
     (piece_refused b _ n denied)
@@ -142,7 +120,7 @@ setup_refused b n (inr cause) = inr (inr (refusal.Asked, cause.0))
 -- dfu_core_too_long.
 pub long_turn : (b : CoreBoard) (a : Asking) (setup body : List ℕ) (n : ℤ) (out' : List ℕ) (b' : CoreBoard) → IsSound b a → IsCalled b b'
     → b'.block ≡ b.block → transfer_of b.config ≤ length b.block → IsBodyOf (addressed b.config.interface setup) body
-    → TookLong b setup n b' → IsTurn b a (CoreTooLong setup body) n out' b'
+    → TooLongCalled b setup n b' → IsTurn b a (CoreTooLong setup body) n out' b'
 long_turn b a setup body n out' b' sound called block room is_body (inl (is, idle, long, takes)) =
     let t = takes a sound.kept in
     let own = addressed b.config.interface setup in
@@ -150,11 +128,7 @@ long_turn b a setup body n out' b' sound called block room is_body (inl (is, idl
     record {
       config = called.config;
       after = t.0;
-      sound = record {
-        config = subst (λ (c : DfuConfig). IsConfig c) (sym called.config) sound.config;
-        kept = subst (λ (c : DfuConfig). IsKept c b'.kept t.0) (sym called.config) t.1;
-        short = omega (arith, sound.short, t.3, ap transfer_of called.config);
-      };
+      sound = sound_as b b' t.0 sound.config called.config t.1 (omega (arith, sound.short, t.3));
       says = Answers answer.Stall [];
       happens = record {
         idle = no_work b.kept a.work sound.kept.work idle.idle;

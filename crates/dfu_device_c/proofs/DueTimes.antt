@@ -3,11 +3,11 @@ use Rattle.std.proofs.Common.{◌≡◌, ◌≢◌, ◌+◌, ◌-◌, ◌<◌, �
 use Rattle.std.proofs.lemmas.Bool.{eqb-true, eqb-false, leb-true, leb-false}
 use Rattle.dfu_slots.specs.Seen.{spare_of}
 use Rattle.dfu_device.specs.declared.answer.Answer.TheVariants as answer
-use Rattle.dfu_device.specs.declared.mode.Mode.{Mode}
-use Rattle.dfu_device.specs.declared.mode.Mode.TheVariants as mode
+use Rattle.dfu_device.specs.declared.device_state.DeviceState.{DeviceState}
+use Rattle.dfu_device.specs.declared.device_state.DeviceState.TheVariants as device_state
 use Rattle.dfu_device.specs.Stage.{Stage, Ack, InAppIdle, InAppDetach, InDfuIdle, InDownloadSyncWritten, InDownloadBusy, InManifestSyncComplete, InManifest, InManifestWaitReset, state_of}
 use Rattle.dfu_device.specs.Table.{Plan, Writes, Commits, ack, time_plan}
-use Rattle.dfu_device.specs.Shown.{Shown, profile}
+use Rattle.dfu_device.specs.DeviceView.{DeviceView, profile}
 use Rattle.dfu_device.specs.Parts.{stage_of}
 use Rattle.dfu_device.specs.Rows.{Done}
 use Rattle.dfu_asks.specs.Lent.{LentAsking}
@@ -23,7 +23,7 @@ use Rattle.dfu_device_c.specs.Due.{LATEST, due_of, ChangesOnceDue, ToldDue}
 some_time : (ms : ℕ) → (ms == 0) ≡ false → 1 ≤ ms
 some_time ms some = grind (arith, eqb-false ms 0 some)
 
-module _ (ms : ℕ) (d d' : Shown) where
+module _ (ms : ℕ) (d d' : DeviceView) where
   -- The rest of the device is as it was.
   abbrev pub Went : Plan → Type 0
   Went p = Done p 0 d answer.Ack [] d'
@@ -32,7 +32,7 @@ module _ (ms : ℕ) (d d' : Shown) where
   same : (due : ℕ) → d' ≡ d → (0 < due → due ≤ ms → ⊥) → ChangesOnceDue due ms d d'
   same due is never = record {
     none = λ _. is;
-    before = λ _. ap (λ (w : Shown). state_of w.stage) is;
+    before = λ _. ap (λ (w : DeviceView). state_of w.stage) is;
     from = λ some short past. absurd (never some past);
   }
 
@@ -72,13 +72,13 @@ module _ (ms : ℕ) (d d' : Shown) where
       same (max 1 (timer - passed)) (stayed (InAppDetach timer passed) is done) (λ some past. omega (arith, eqb-true ms 0 zero, past))
   detach timer passed is false true o zero over done =
       changed 1 (omega arith) (omega (arith, some_time ms zero))
-      (other (InAppDetach timer passed) InDfuIdle is (ap (λ (w : Shown). w.stage) done.1) (λ e. cc))
+      (other (InAppDetach timer passed) InDfuIdle is (ap (λ (w : DeviceView). w.stage) done.1) (λ e. cc))
   detach timer passed is false false true zero over done =
       changed (max 1 (timer - passed)) (omega arith) (omega (arith, some_time ms zero, leb-true (max 1 timer) (passed + ms) over))
-      (other (InAppDetach timer passed) InAppIdle is (ap (λ (w : Shown). w.stage) done.1) (λ e. cc))
+      (other (InAppDetach timer passed) InAppIdle is (ap (λ (w : DeviceView). w.stage) done.1) (λ e. cc))
   detach timer passed is false false false zero over done =
       early (max 1 (timer - passed)) (omega (arith, some_time ms zero, leb-false (max 1 timer) (passed + ms) over))
-      (ap (λ (w : Shown). state_of w.stage) done.1 ∙ sym (ap state_of is))
+      (ap (λ (w : DeviceView). state_of w.stage) done.1 ∙ sym (ap state_of is))
 
   -- dfuDNBUSY.
   busy : (limit : ℕ) (before block : List ℕ) (number passed : ℕ) → d.stage ≡ InDownloadBusy before block number passed
@@ -98,7 +98,7 @@ module _ (ms : ℕ) (d d' : Shown) where
       (other (InDownloadBusy before block number passed) _ is done.stage_is (λ e. cc))
   busy limit before block number passed is false false zero over done =
       early (max 1 (limit - passed)) (omega (arith, some_time ms zero, leb-false limit (passed + ms) over))
-      (ap (λ (w : Shown). state_of w.stage) done.1 ∙ sym (ap state_of is))
+      (ap (λ (w : DeviceView). state_of w.stage) done.1 ∙ sym (ap state_of is))
 
   -- dfuMANIFEST.
   manifest : (limit : ℕ) (taken : List ℕ) (passed : ℕ) → d.stage ≡ InManifest taken passed
@@ -120,31 +120,32 @@ module _ (ms : ℕ) (d d' : Shown) where
       (other (InManifest taken passed) _ is done.stage_is (λ e. cc))
   manifest limit taken passed is false false t zero over done =
       early (max 1 (limit - passed)) (omega (arith, some_time ms zero, leb-false limit (passed + ms) over))
-      (ap (λ (w : Shown). state_of w.stage) done.1 ∙ sym (ap state_of is))
+      (ap (λ (w : DeviceView). state_of w.stage) done.1 ∙ sym (ap state_of is))
 
   -- Each mode.
-  pub time_due : (m : Mode) (spare block : List ℕ) → d.stage ≡ stage_of m spare block
+  pub time_due : (m : DeviceState) (spare block : List ℕ) → d.stage ≡ stage_of m spare block
       → Went (time_plan (profile d) (stage_of m spare block) ms) → ChangesOnceDue (due_of d.config m) ms d d'
-  time_due (mode.AppDetach timer passed) spare block is done =
+  time_due (device_state.AppDetach timer passed) spare block is done =
       detach timer passed is (ms == 0) d.config.functional.will_detach (nat_le (max 1 timer) (passed + ms)) refl refl done
-  time_due (mode.DownloadBusy written number passed) spare block is done =
+  time_due (device_state.DownloadBusy written number passed) spare block is done =
       busy d.config.busy_ms _ block number passed is (ms == 0) (nat_le d.config.busy_ms (passed + ms)) refl refl done
-  time_due (mode.Manifest written passed) spare block is done =
+  time_due (device_state.Manifest written passed) spare block is done =
       manifest d.config.manifest_ms _ passed is (ms == 0) (nat_le d.config.manifest_ms (passed + ms)) d.config.functional.tolerant refl refl
       done
-  time_due mode.AppIdle spare block is done = same 0 (stayed _ is done) (λ some past. omega (arith, some))
-  time_due mode.DfuIdle spare block is done = same 0 (stayed _ is done) (λ some past. omega (arith, some))
-  time_due (mode.DownloadSync written number) spare block is done = same 0 (stayed _ is done) (λ some past. omega (arith, some))
-  time_due (mode.DownloadSyncWritten written number) spare block is done = same 0 (stayed _ is done) (λ some past. omega (arith, some))
-  time_due (mode.DownloadIdle written number) spare block is done = same 0 (stayed _ is done) (λ some past. omega (arith, some))
-  time_due (mode.ManifestSync written) spare block is done = same 0 (stayed _ is done) (λ some past. omega (arith, some))
-  time_due mode.ManifestSyncComplete spare block is done = same 0 (stayed _ is done) (λ some past. omega (arith, some))
-  time_due mode.ManifestWaitReset spare block is done = same 0 (stayed _ is done) (λ some past. omega (arith, some))
-  time_due (mode.UploadIdle place number) spare block is done = same 0 (stayed _ is done) (λ some past. omega (arith, some))
-  time_due (mode.Error code) spare block is done = same 0 (stayed _ is done) (λ some past. omega (arith, some))
+  time_due device_state.AppIdle spare block is done = same 0 (stayed _ is done) (λ some past. omega (arith, some))
+  time_due device_state.DfuIdle spare block is done = same 0 (stayed _ is done) (λ some past. omega (arith, some))
+  time_due (device_state.DownloadSync written number) spare block is done = same 0 (stayed _ is done) (λ some past. omega (arith, some))
+  time_due (device_state.DownloadSyncWritten written number) spare block is done =
+      same 0 (stayed _ is done) (λ some past. omega (arith, some))
+  time_due (device_state.DownloadIdle written number) spare block is done = same 0 (stayed _ is done) (λ some past. omega (arith, some))
+  time_due (device_state.ManifestSync written) spare block is done = same 0 (stayed _ is done) (λ some past. omega (arith, some))
+  time_due device_state.ManifestSyncComplete spare block is done = same 0 (stayed _ is done) (λ some past. omega (arith, some))
+  time_due device_state.ManifestWaitReset spare block is done = same 0 (stayed _ is done) (λ some past. omega (arith, some))
+  time_due (device_state.UploadIdle place number) spare block is done = same 0 (stayed _ is done) (λ some past. omega (arith, some))
+  time_due (device_state.Error code) spare block is done = same 0 (stayed _ is done) (λ some past. omega (arith, some))
 
 -- So it is of the number that is said, which is LATEST if the change is due later than that.
-said_due : (due ms : ℕ) (d d' : Shown) → ChangesOnceDue due ms d d' → ChangesOnceDue (min LATEST due) ms d d'
+said_due : (due ms : ℕ) (d d' : DeviceView) → ChangesOnceDue due ms d d' → ChangesOnceDue (min LATEST due) ms d d'
 said_due due ms d d' is = record {
   none = λ none. is.none (omega (arith, none));
   before = λ soon. is.before (omega (arith, soon));
@@ -152,7 +153,7 @@ said_due due ms d d' is = record {
 }
 
 -- So what is said of a record is so for each device that it is.
-pub told_due : (c : DfuConfig) (r : DfuRecord) (m : Mode) (result : ℤ) → ((x : Mode) → HasMode r x → m ≡ x)
+pub told_due : (c : DfuConfig) (r : DfuRecord) (m : DeviceState) (result : ℤ) → ((x : DeviceState) → HasMode r x → m ≡ x)
     → result ≡ pos (min LATEST (due_of (setting_of c) m))
     → ToldDue c r result
 told_due c r m result the_mode says = record {
@@ -160,7 +161,7 @@ told_due c r m result the_mode says = record {
   number_is = says;
   told = λ block flash a kept device ms d' went.
       let l : LentAsking = with_memory block a in
-      let d : Shown = device_in l flash in
+      let d : DeviceView = device_in l flash in
       let store = store_in l flash in
       let due_is : min LATEST (due_of d.config l.mode) ≡ min LATEST (due_of (setting_of c) m) =
       λ i. min LATEST (due_of (kept.set_up.config_is i) (sym (the_mode l.mode kept.mode) i)) in

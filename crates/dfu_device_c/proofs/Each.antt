@@ -3,50 +3,45 @@ use Rattle.std.specs.Prelude.{◌≡◌, ℕ, ℤ, Bool, true, false, List, []}
 use Rattle.std.proofs.Common.{inl, inr, refl, sym, ap, ◌∙◌, subst, arith}
 use Rattle.dfu_device.specs.declared.answer.Answer.TheVariants as answer
 use Rattle.dfu_device.specs.Parts.{stage_of}
-use Rattle.dfu_device.specs.Shown.{powered_on}
+use Rattle.dfu_device.specs.DeviceView.{powered_on}
 use Rattle.dfu_asks.specs.declared.asking.Asking.{Asking}
 use Rattle.dfu_asks.specs.Mapped.{mapped}
 use Rattle.dfu_asks.specs.Asks.{device_in, IsDevice}
 use Rattle.dfu_board.specs.Board.{Nothing, Answers}
-use Rattle.dfu_board.specs.Happens.{start_stage, BoardStarts, IsObjected}
+use Rattle.dfu_board.specs.Happens.{start_stage, BoardStarts, IsObjected, Happens}
 use Rattle.dfu_device_c.specs.declared.config.DfuConfig.{DfuConfig}
 use Rattle.dfu_device_c.specs.declared.record.DfuRecord.{DfuRecord}
-use Rattle.dfu_device_c.specs.Config.{transfer_of, IsConfig}
 use Rattle.dfu_device_c.specs.Addressed.{addressed}
 use Rattle.dfu_device_c.specs.Kept.{IsKept, block_in, held_back_in, with_memory}
 use Rattle.dfu_device_c.specs.Writes.{ask_step}
 use Rattle.dfu_device_c.specs.Power.{Powers}
 use Rattle.dfu_device_c.specs.Idle.{IsIdleRecord}
-use Rattle.dfu_device_c.specs.Refuse.{objection_in, TakesCause, WasClosed, WasRefused}
+use Rattle.dfu_device_c.specs.Refuse.{objection_in, TakesCause, CloseRefused, WasRefused}
 use Rattle.dfu_device.specs.declared.answer.Answer.{Answer}
 use Rattle.dfu_device.specs.Rows.{Cause, RefusingClose, Refusing, Row}
 use Rattle.dfu_device_c.specs.Board.{CoreBoard, CoreEvent, CoreHandle, CoreElapse, CoreReset, CoreTooLong}
 use Rattle.dfu_device_c.specs.Board.{CoreRefuseClose, CoreRefuse, CoreWrite, CoreTook, CoreRestart}
 use Rattle.dfu_device_c.specs.Happens.{IsCalled, CoreIsWritten, start_mode, CoreHappens}
-use Rattle.dfu_device_c.specs.Steps.{core_board_of}
+use Rattle.dfu_device_c.specs.Steps.{board_of_core, event_of_core, EventSays}
 use Rattle.dfu_device_c.proofs.Same.{no_work}
-use Rattle.dfu_device_c.proofs.Turned.{IsSound, IsTurn, unchanged}
+use Rattle.dfu_device_c.proofs.Turned.{IsSound, IsTurn, sound_as, unchanged}
 use Rattle.dfu_device_c.proofs.CallTurns.{handed_work, handle_turn, elapse_turn, reset_turn, took_turn, long_turn, setup_refused}
 
 -- A record that takes the row of a refusal is a board that does.
-record IsObjectedTo (b : CoreBoard) (a : Asking) (cause : Cause) (x : Answer) (b' : CoreBoard) : Type 0 where
-  after : Asking
-  sound : IsSound b' after
-  is : IsObjected (core_board_of b a) cause x (Answers x []) (core_board_of b' after)
-
-objected : (b : CoreBoard) (a : Asking) (cause : Cause) (x : Answer) (b' : CoreBoard) → IsSound b a → IsCalled b b' → b'.block ≡ b.block
-    → IsIdleRecord b.config b.kept → TakesCause b.config b.kept cause x b'.kept → IsObjectedTo b a cause x b'
-objected b a cause x b' sound called block idle takes =
+objected : (b : CoreBoard) (a : Asking) (e : CoreEvent) (cause : Cause) (x : Answer) (n : ℤ) (out' : List ℕ) (b' : CoreBoard)
+    → IsSound b a → IsCalled b b' → b'.block ≡ b.block → IsIdleRecord b.config b.kept → TakesCause b.config b.kept cause x b'.kept
+    → ((after : Asking) → IsObjected (board_of_core b a) cause x (Answers x []) (board_of_core b' after)
+    → Happens (board_of_core b a) (event_of_core b.config e) (Answers x []) (board_of_core b' after))
+    → EventSays e n out' (Answers x []) → IsTurn b a e n out' b'
+objected b a e cause x n out' b' sound called block idle takes happens told =
     let t = takes a sound.kept in
     let before = with_memory b.block a in
     record {
+      config = called.config;
       after = t.0;
-      sound = record {
-        config = subst (λ (c : DfuConfig). IsConfig c) (sym called.config) sound.config;
-        kept = subst (λ (c : DfuConfig). IsKept c b'.kept t.0) (sym called.config) t.1;
-        short = omega (arith, sound.short, t.3, ap transfer_of called.config);
-      };
-      is = record {
+      sound = sound_as b b' t.0 sound.config called.config t.1 (omega (arith, sound.short, t.3));
+      says = Answers x [];
+      happens = happens t.0 (record {
         idle = no_work b.kept a.work sound.kept.work idle.idle;
         flash = called.flash;
         row = λ device. subst (λ (l : List ℕ). IsDevice (with_memory l t.0) b'.flash
@@ -56,24 +51,18 @@ objected b a cause x b' sound called block idle takes =
             (t.4 b.block b.flash device));
         work = t.2;
         says_is = refl;
-      };
+      });
+      told = told;
     }
 
 -- dfu_core_refuse_close.
 close_turn : (b : CoreBoard) (a : Asking) (setup : List ℕ) (status : ℕ) (n : ℤ) (out' : List ℕ) (b' : CoreBoard) → IsSound b a
-    → IsCalled b b' → b'.block ≡ b.block → WasClosed b.config b.kept (addressed b.config.interface setup) status n b'.kept
+    → IsCalled b b' → b'.block ≡ b.block → CloseRefused b.config b.kept (addressed b.config.interface setup) status n b'.kept
     → IsTurn b a (CoreRefuseClose setup status) n out' b'
 close_turn b a setup status n out' b' sound called block (inl (is, idle, objects, takes)) =
-    let o = objected b a (RefusingClose (addressed b.config.interface setup) (objection_in status)) answer.Stall b' sound called block idle
-    takes in
-    record {
-      config = called.config;
-      after = o.after;
-      sound = o.sound;
-      says = Answers answer.Stall [];
-      happens = o.is;
-      told = (is, refl);
-    }
+    objected b a (CoreRefuseClose setup status)
+    (RefusingClose (addressed b.config.interface setup) (objection_in status)) answer.Stall n out'
+    b' sound called block idle takes (λ after o. o) (is, refl)
 close_turn b a setup status n out' b' sound called block (inr (kept, denied)) =
     unchanged b a _ n out' b' sound called.config called.flash kept block (λ same. same)
     (elim denied [
@@ -88,15 +77,8 @@ close_turn b a setup status n out' b' sound called block (inr (kept, denied)) =
 refuse_turn : (b : CoreBoard) (a : Asking) (status : ℕ) (n : ℤ) (out' : List ℕ) (b' : CoreBoard) → IsSound b a → IsCalled b b'
     → b'.block ≡ b.block → WasRefused b.config b.kept status n b'.kept → IsTurn b a (CoreRefuse status) n out' b'
 refuse_turn b a status n out' b' sound called block (inl (is, idle, objects, takes)) =
-    let o = objected b a (Refusing (objection_in status)) answer.Ack b' sound called block idle takes in
-    record {
-      config = called.config;
-      after = o.after;
-      sound = o.sound;
-      says = Answers answer.Ack [];
-      happens = o.is;
-      told = (is, refl);
-    }
+    objected b a (CoreRefuse status) (Refusing (objection_in status)) answer.Ack n out' b' sound called block idle takes (λ after o. o)
+    (is, refl)
 refuse_turn b a status n out' b' sound called block (inr (kept, denied)) =
     unchanged b a _ n out' b' sound called.config called.flash kept block (λ same. same)
     (elim denied [
@@ -112,12 +94,7 @@ write_turn b a n out' b' sound w =
     record {
       config = w.config;
       after = a;
-      sound = record {
-        config = subst (λ (c : DfuConfig). IsConfig c) (sym w.config) sound.config;
-        kept = subst (λ (c : DfuConfig). IsKept c b'.kept a) (sym w.config)
-            (subst (λ (r : DfuRecord). IsKept b.config r a) (sym w.kept) sound.kept);
-        short = omega (arith, sound.short, ap transfer_of w.config);
-      };
+      sound = sound_as b b' a sound.config w.config (subst (λ (r : DfuRecord). IsKept b.config r a) (sym w.kept) sound.kept) sound.short;
       says = Nothing;
       happens = (
         refl,
@@ -139,7 +116,7 @@ same_start false = refl
 
 -- A board in C that got power is a board that did.
 pub powers_on : (b : CoreBoard) (n : ℤ) (begins : Bool) → (p : Powers b.config (start_mode begins) b.flash n b.kept)
-    → IsSound b p.after × BoardStarts begins (core_board_of b p.after)
+    → IsSound b p.after × BoardStarts begins (board_of_core b p.after)
 powers_on b n begins p =
     let none : b.kept.length ≡ 0 = ap (λ (r : DfuRecord). r.length) p.rest in (
       record { config = p.config; kept = p.is; short = omega (arith, none, p.is.block) },

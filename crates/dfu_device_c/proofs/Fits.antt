@@ -9,7 +9,7 @@ use Rattle.dfu_device.specs.declared.answer.Answer.TheVariants as answer
 use Rattle.dfu_device.specs.Stage.{Reply, Ack, StatusOf, StateOf, Data, Stall}
 use Rattle.dfu_device.specs.Table.{plan}
 use Rattle.dfu_device.specs.Outcome.{Outcome}
-use Rattle.dfu_device.specs.Shown.{Shown, profile}
+use Rattle.dfu_device.specs.DeviceView.{DeviceView, profile}
 use Rattle.dfu_device.specs.Rows.{meant, asked_length, Answers, is_served, setup_plan, Handles, Cause, Row}
 use Rattle.dfu_device.specs.Came.{row_of, came}
 use Rattle.dfu_device.specs.Cases.{either_way}
@@ -46,7 +46,7 @@ fits_reply most (request.Upload block len) body (Data bytes) a out f says =
     subst (λ (x : Answer). FitsRequest (request.Upload block len) (SaysAnswer x out)) (sym says.0) tt
 fits_reply most q body reply a out f says = absurd f
 
-row_fit : (w w' : Shown) (setup body : List ℕ) (a : Answer) (out : List ℕ) → Handles setup body w a out w' →
+row_fit : (w w' : DeviceView) (setup body : List ℕ) (a : Answer) (out : List ℕ) → Handles setup body w a out w' →
     FitsSetup (Handle setup body) (SaysAnswer a out)
 row_fit w w' setup body a out h p q reads asks =
     let c = profile w in
@@ -73,7 +73,7 @@ writes_fit q = tt
 
 -- Each of a run.
 
-step_fit : (e : Event) (says : Says) (due due' : Option Cause) (rows : List TableRow) (d d' : Shown) → TellsRows due e says rows due'
+step_fit : (e : Event) (says : Says) (due due' : Option Cause) (rows : List TableRow) (d d' : DeviceView) → TellsRows due e says rows due'
     → IsHistory d rows d' → FitsSetup e says
 step_fit (Handle setup body) (SaysAnswer a out) due due' rows d d' tells h =
     let one = tells.0 in
@@ -87,19 +87,19 @@ step_fit (Handle setup body) Nothing due due' rows d d' tells h = λ p q reads a
 step_fit (Handle setup body) WritesDue due due' rows d d' tells h = λ p q reads asks. writes_fit q
 step_fit e says due due' rows d d' tells h = tt
 
-record HistoryParts (d : Shown) (xs ys : List TableRow) (d' : Shown) : Type 0 where
-  mid : Shown
+record HistoryParts (d : DeviceView) (xs ys : List TableRow) (d' : DeviceView) : Type 0 where
+  mid : DeviceView
   first : IsHistory d xs mid
   second : IsHistory mid ys d'
 
-history_parts : (d : Shown) (xs ys : List TableRow) (d' : Shown) → IsHistory d (xs ++ ys) d' → HistoryParts d xs ys d'
+history_parts : (d : DeviceView) (xs ys : List TableRow) (d' : DeviceView) → IsHistory d (xs ++ ys) d' → HistoryParts d xs ys d'
 history_parts d [] ys d' h = record { mid = d; first = refl; second = h }
 history_parts d (x ∷ xs) ys d' h =
     let more = history_parts x.after xs ys d' h.2 in
     record { mid = more.mid; first = (h.0, h.1, more.first); second = more.second }
 
 -- Each answer of a run to a setup is of its kind.
-pub all_fit : (steps : List BoardStep) (due due' : Option Cause) (rows : List TableRow) (d d' : Shown) → TellsAll due steps rows due'
+pub all_fit : (steps : List BoardStep) (due due' : Option Cause) (rows : List TableRow) (d d' : DeviceView) → TellsAll due steps rows due'
     → IsHistory d rows d' → AreFit steps
 all_fit [] due due' rows d d' tells h = tt
 all_fit (s ∷ rest) due due' rows d d' (first, later, mid, are, t, more) h =

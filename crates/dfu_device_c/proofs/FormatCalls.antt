@@ -8,11 +8,11 @@ use Rattle.dfu_slots.specs.Units.{Grain, gate_room, IsWhole}
 use Rattle.dfu_slots.specs.Medium.{Write}
 use Rattle.dfu_slots.specs.Image.{Active, IsSized, capacity_of}
 use Rattle.dfu_slots.specs.Changes.{CanFormat}
-use Rattle.dfu_asks.specs.declared.phase.Phase.{Phase}
-use Rattle.dfu_asks.specs.declared.phase.Phase.TheVariants as phase
+use Rattle.dfu_asks.specs.declared.format_step.FormatStep.{FormatStep}
+use Rattle.dfu_asks.specs.declared.format_step.FormatStep.TheVariants as format_step
 use Rattle.dfu_asks.specs.declared.formatting.Formatting.{Formatting}
-use Rattle.dfu_asks.specs.declared.progress.Progress.{Progress}
-use Rattle.dfu_asks.specs.declared.progress.Progress.TheVariants as progress
+use Rattle.dfu_asks.specs.declared.format_progress.FormatProgress.{FormatProgress}
+use Rattle.dfu_asks.specs.declared.format_progress.FormatProgress.TheVariants as format_progress
 use Rattle.dfu_asks.specs.Mapped.{mapped}
 use Rattle.dfu_asks.specs.Carried.{IsPiece}
 use Rattle.dfu_asks.specs.Phases.{grain_within, steps_left}
@@ -30,18 +30,19 @@ use Rattle.dfu_device_c.proofs.Runs.{sized_small}
 
 -- A record is one format at most.
 
-phase_at : (n from : ℕ) → Phase
-phase_at n from = if n == 0 then phase.CloseSecond else if n == 1 then phase.CloseFirst else if n == 2 then phase.Image from
-    else if n == 3 then phase.Header else if n == 4 then phase.Gate else phase.Ended
+phase_at : (n from : ℕ) → FormatStep
+phase_at n from =
+    if n == 0 then format_step.CloseSecond else if n == 1 then format_step.CloseFirst else if n == 2 then format_step.Image from
+    else if n == 3 then format_step.Header else if n == 4 then format_step.Gate else format_step.Ended
 
-phase_back : (n from : ℕ) (p : Phase) → HasPhase n from p → p ≡ phase_at n from
+phase_back : (n from : ℕ) (p : FormatStep) → HasPhase n from p → p ≡ phase_at n from
 unfolding phase_at
-phase_back n from phase.CloseSecond h = λ i. phase_at (sym h i) from
-phase_back n from phase.CloseFirst h = λ i. phase_at (sym h i) from
-phase_back n from (phase.Image at) h = λ i. phase_at (sym h.0 i) (h.1 i)
-phase_back n from phase.Header h = λ i. phase_at (sym h i) from
-phase_back n from phase.Gate h = λ i. phase_at (sym h i) from
-phase_back n from phase.Ended h = λ i. phase_at (sym h i) from
+phase_back n from format_step.CloseSecond h = λ i. phase_at (sym h i) from
+phase_back n from format_step.CloseFirst h = λ i. phase_at (sym h i) from
+phase_back n from (format_step.Image at) h = λ i. phase_at (sym h.0 i) (h.1 i)
+phase_back n from format_step.Header h = λ i. phase_at (sym h i) from
+phase_back n from format_step.Gate h = λ i. phase_at (sym h i) from
+phase_back n from format_step.Ended h = λ i. phase_at (sym h i) from
 
 one_format : (c : DfuConfig) (r : DfuRecord) (f g : Formatting) → IsFormatting c r f → IsFormatting c r g → f ≡ g
 one_format c r f g h k = λ i. record {
@@ -66,19 +67,19 @@ record IsAsking (c : DfuConfig) (image flash : List ℕ) (r : DfuRecord) : Type 
 grain_is : (c : DfuConfig) (r : DfuRecord) (f : Formatting) → IsFormatting c r f → grain_within f ≡ config_grain c
 grain_is c r f is = λ i. record { unit = is.unit i; sector = is.sector i }
 
-asks_number : (came : Progress) → progress_number came ≡ ASKS → came ≡ progress.Asks
-asks_number progress.Asks e = refl
-asks_number progress.Formatted e = absurd (cc)
-asks_number (progress.Broken why) e = absurd (cc)
+asks_number : (came : FormatProgress) → progress_number came ≡ ASKS → came ≡ format_progress.Asks
+asks_number format_progress.Asks e = refl
+asks_number format_progress.Formatted e = absurd (cc)
+asks_number (format_progress.Broken why) e = absurd (cc)
 
-done_number : (came : Progress) → progress_number came ≡ pos 0 → came ≡ progress.Formatted
-done_number progress.Asks e = absurd (cc)
-done_number progress.Formatted e = refl
-done_number (progress.Broken why) e = absurd (cc)
+done_number : (came : FormatProgress) → progress_number came ≡ pos 0 → came ≡ format_progress.Formatted
+done_number format_progress.Asks e = absurd (cc)
+done_number format_progress.Formatted e = refl
+done_number (format_progress.Broken why) e = absurd (cc)
 
 -- What comes of a piece that is not told as broken.
-comes_to : (f f' : Formatting) (image was flash : List ℕ) (p : Write) (failed : Bool) (came : Progress)
-    → TookPiece f f' image was flash p failed came → ((why : WriteFault) → came ≢ progress.Broken why)
+comes_to : (f f' : Formatting) (image was flash : List ℕ) (p : Write) (failed : Bool) (came : FormatProgress)
+    → TookPiece f f' image was flash p failed came → ((why : WriteFault) → came ≢ format_progress.Broken why)
     → FormatComesTo (grain_within f) f' image was flash came
 comes_to f f' image was flash p failed came (format_well r fine there comes) whole = comes
 comes_to f f' image was flash p failed _ (format_failed fails broken) whole = absurd (whole Failed refl)
@@ -98,7 +99,7 @@ module _ (c : DfuConfig) (image flash flash' : List ℕ) (r r' : DfuRecord) (n :
   -- Its number is that of a format that asks on.
   asks_on : n ≡ ASKS → IsAsking c image flash' r'
   asks_on e =
-      let came : t.goes.came ≡ progress.Asks = asks_number t.goes.came (sym t.goes.number_is ∙ e) in
+      let came : t.goes.came ≡ format_progress.Asks = asks_number t.goes.came (sym t.goes.number_is ∙ e) in
       let comes = comes_to t.goes.before t.goes.after image a.was flash' (ask_step t.ask).write t.failed t.goes.came took
       (λ why is. absurd (cc)) in
       record {
@@ -106,17 +107,18 @@ module _ (c : DfuConfig) (image flash flash' : List ℕ) (r r' : DfuRecord) (n :
         format = t.goes.after;
         is = t.goes.on came;
         was = a.was;
-        asks = subst (λ (x : Progress). FormatComesTo (grain_within t.goes.before) t.goes.after image a.was flash' x) came comes;
+        asks = subst (λ (x : FormatProgress). FormatComesTo (grain_within t.goes.before) t.goes.after image a.was flash' x) came comes;
         size = a.size ∙ sym t.torn.size;
       }
 
   -- Its number is that of a format that ended.
   ends : n ≡ pos 0 → Active (mapped (config_grain c) flash') image
   ends e =
-      let came : t.goes.came ≡ progress.Formatted = done_number t.goes.came (sym t.goes.number_is ∙ e) in
+      let came : t.goes.came ≡ format_progress.Formatted = done_number t.goes.came (sym t.goes.number_is ∙ e) in
       let comes = comes_to t.goes.before t.goes.after image a.was flash' (ask_step t.ask).write t.failed t.goes.came took
       (λ why is. absurd (cc)) in
-      let formatted = subst (λ (x : Progress). FormatComesTo (grain_within t.goes.before) t.goes.after image a.was flash' x) came comes in
+      let formatted =
+      subst (λ (x : FormatProgress). FormatComesTo (grain_within t.goes.before) t.goes.after image a.was flash' x) came comes in
       subst (λ (g : Grain). Active (mapped g flash') image) (grain_is c r t.goes.before t.goes.is) formatted.active
 
 asking : (c : DfuConfig) (image flash : List ℕ) (r : DfuRecord) → IsBeingFormatted c image flash r → IsAsking c image flash r

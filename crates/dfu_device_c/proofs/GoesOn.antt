@@ -4,13 +4,13 @@ use Rattle.std.proofs.Common.{refl, ap, ◌∙◌, subst}
 use Rattle.dfu_device.specs.Setting.{Setting}
 use Rattle.dfu_host.specs.Phases.{ToFetch}
 use Rattle.dfu_host.specs.Host.{started, aborted}
-use Rattle.dfu_sim.specs.Opening.{goal_of_aim}
-use Rattle.dfu_sim.specs.Bench.{Nobody, Hosted}
+use Rattle.dfu_sim.specs.Opening.{goal_of_purpose}
+use Rattle.dfu_sim.specs.LinkView.{Nobody, Hosted}
 use Rattle.dfu_board.specs.Board.{BoardStep}
 use Rattle.dfu_board_play.specs.Plays.{opened_on, starts as begins, offers as offers_on, uploads as uploads_on, aborts as gives_up, goes_on as comes_next}
 use Rattle.dfu_device_c.specs.Board.{CoreBoard, CoreStep}
 use Rattle.dfu_device_c.specs.Happens.{IsCoreRun}
-use Rattle.dfu_device_c.specs.Steps.{core_board_of, IsBoardOf, AreStepsOf}
+use Rattle.dfu_device_c.specs.Steps.{board_of_core, IsBoardOf, AreStepsOf}
 use Rattle.dfu_device_c.specs.Plays.{CorePlaysGoOn}
 use Rattle.dfu_device_c.proofs.Each.{powers_on}
 use Rattle.dfu_device_c.proofs.Played.{comes_on}
@@ -30,7 +30,7 @@ pub core_goes_on : CorePlaysGoOn
 core_goes_on = record {
   starts = λ b on.
       let start = powers_on b (pos 0) on.begins on.powers in
-      let x = core_board_of b on.powers.after in
+      let x = board_of_core b on.powers.after in
       let is : IsBoardOf b x = record { kept = start.0.kept; is = refl } in
       record {
         run = refl;
@@ -42,18 +42,19 @@ core_goes_on = record {
         is_link = record { board = is; session = refl };
         plays = begins;
       };
-  offers = λ b steps past last l aim payload limits p none some. record {
+  offers = λ b steps past last l purpose payload limits p none some. record {
     run = p.run;
     first = p.first;
     is_first = p.is_first;
     calls = p.calls;
     are = p.are;
-    link = opened_on p.link.board (goal_of_aim aim payload) limits;
+    link = opened_on p.link.board (goal_of_purpose purpose payload) limits;
     is_link = record {
       board = p.is_link.board;
-      session = ap (λ (s : Setting). Hosted (started s.functional (goal_of_aim aim payload) limits)) p.is_link.board.kept.set_up.config_is;
+      session = ap (λ (s : Setting). Hosted (started s.functional
+          (goal_of_purpose purpose payload) limits)) p.is_link.board.kept.set_up.config_is;
     };
-    plays = offers_on aim payload limits p.plays (p.is_link.session ∙ none) some;
+    plays = offers_on purpose payload limits p.plays (p.is_link.session ∙ none) some;
   };
   uploads = λ b steps past last l limits p none. record {
     run = p.run;

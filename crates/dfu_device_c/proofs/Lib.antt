@@ -2,12 +2,11 @@ pub mod StallPlans
 pub mod LongPlans
 pub mod Verdicts
 pub mod LongSetups
-pub mod Kept
 pub mod Found
 pub mod Split
 pub mod Handed
-pub mod Asked
 pub mod Moved
+pub mod Asked
 pub mod Refusals
 pub mod DueTimes
 pub mod Powered

@@ -9,11 +9,11 @@ use Rattle.dfu_wire.specs.Setup.{IsSetup}
 use Rattle.dfu_wire.specs.Request.{IsNamed}
 use Rattle.dfu_slots.specs.Seen.{SlotsState, image_of}
 use Rattle.dfu_device.specs.declared.answer.Answer.TheVariants as answer
-use Rattle.dfu_device.specs.declared.mode.Mode.{Mode}
-use Rattle.dfu_device.specs.declared.mode.Mode.TheVariants as mode
+use Rattle.dfu_device.specs.declared.device_state.DeviceState.{DeviceState}
+use Rattle.dfu_device.specs.declared.device_state.DeviceState.TheVariants as device_state
 use Rattle.dfu_device.specs.Stage.{Stage, Stall, OtherRequest, Dnload}
 use Rattle.dfu_device.specs.Table.{Plan, Sure, plan}
-use Rattle.dfu_device.specs.Shown.{Shown, profile}
+use Rattle.dfu_device.specs.DeviceView.{DeviceView, profile}
 use Rattle.dfu_device.specs.Parts.{stage_of, is_filled}
 use Rattle.dfu_device.specs.Rows.{Done, Handles, handled_as, body_length}
 use Rattle.dfu_device_c.specs.declared.config.DfuConfig.{DfuConfig}
@@ -22,20 +22,20 @@ use Rattle.dfu_device_c.specs.AfterLong.{after_long, IsLong}
 use Rattle.dfu_device_c.proofs.LongPlans.{plan_other, plan_long}
 
 -- Nothing is put in the modes that it leads to.
-pub after_free : (m : Mode) (n : ℕ) (x : SlotsState) → is_filled (after_long m) n x ≡ true
-after_free mode.AppIdle n x = refl
-after_free (mode.AppDetach timer passed) n x = refl
-after_free mode.DfuIdle n x = refl
-after_free (mode.DownloadSync written number) n x = refl
-after_free (mode.DownloadSyncWritten written number) n x = refl
-after_free (mode.DownloadBusy written number passed) n x = refl
-after_free (mode.DownloadIdle written number) n x = refl
-after_free (mode.ManifestSync written) n x = refl
-after_free mode.ManifestSyncComplete n x = refl
-after_free (mode.Manifest written passed) n x = refl
-after_free mode.ManifestWaitReset n x = refl
-after_free (mode.UploadIdle place number) n x = refl
-after_free (mode.Error code) n x = refl
+pub after_free : (m : DeviceState) (n : ℕ) (x : SlotsState) → is_filled (after_long m) n x ≡ true
+after_free device_state.AppIdle n x = refl
+after_free (device_state.AppDetach timer passed) n x = refl
+after_free device_state.DfuIdle n x = refl
+after_free (device_state.DownloadSync written number) n x = refl
+after_free (device_state.DownloadSyncWritten written number) n x = refl
+after_free (device_state.DownloadBusy written number passed) n x = refl
+after_free (device_state.DownloadIdle written number) n x = refl
+after_free (device_state.ManifestSync written) n x = refl
+after_free device_state.ManifestSyncComplete n x = refl
+after_free (device_state.Manifest written passed) n x = refl
+after_free device_state.ManifestWaitReset n x = refl
+after_free (device_state.UploadIdle place number) n x = refl
+after_free (device_state.Error code) n x = refl
 
 -- A setup with which the host sends bytes is none of those with a length of 0.
 unnamed : (p : Setup) → p.kind ≡ 0x21 → 0 < p.length → p.request ≢ 1 → (q : Asked) → IsNamed p q → ⊥
@@ -65,15 +65,15 @@ found_long c setup p b only is found =
     let long : transfer_of c < body_length p = omega (arith, leb-true _ (body_length p) (sym is ∙ found)) in
     (long, λ x also. subst (λ (y : Setup). transfer_of c < body_length y) (only x also) long)
 
-module _ (setup : List ℕ) (p : Setup) (is : IsSetup p setup) (d : Shown) where
+module _ (setup : List ℕ) (p : Setup) (is : IsSetup p setup) (d : DeviceView) where
   -- A request for another interface leaves the device as it was.
   pub long_elsewhere : p.index ≢ 0 → (body : List ℕ) → Handles setup body d answer.Stall [] d
   long_elsewhere other body = handled_as p asked.NotDfu is (λ us. other us.1) ((refl, refl), refl)
 
   -- Another one takes it where an unknown request does.
-  module _ (m : Mode) (spare block : List ℕ) (stage_is : d.stage ≡ stage_of m spare block)
+  module _ (m : DeviceState) (spare block : List ℕ) (stage_is : d.stage ≡ stage_of m spare block)
       (long : d.config.functional.transfer < body_length p) (index : p.index ≡ 0) (body : List ℕ) (fits : length body ≡ body_length p) where
-    abbrev after : Shown
+    abbrev after : DeviceView
     after = record d { stage = stage_of (after_long m) spare block }
 
     stalled : (w : Plan) → w ≡ Sure Stall (stage_of (after_long m) spare block) → (len : ℕ) → Done w len d answer.Stall [] after

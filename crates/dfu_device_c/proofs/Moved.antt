@@ -1,22 +1,51 @@
 -- A record whose mode alone is another one is that device in the other mode.
-use Rattle.std.proofs.Common.{◌≡◌, IsTrue, Option, ℕ, List, [], length, refl, sym, ap, ◌∙◌, subst}
+use Rattle.std.proofs.Common.{◌≡◌, ◌&&◌, Bool, true, IsTrue, Option, Some, None, ℕ, List, [], length, refl, sym, ap, ◌∙◌, subst, arith}
+use Rattle.std.proofs.lemmas.Grind.{common_steps}
+use Rattle.dfu_slots.specs.Seen.{SlotsState, is_shaped}
 use Rattle.dfu_device.specs.declared.answer.Answer.{Answer}
-use Rattle.dfu_device.specs.declared.mode.Mode.{Mode}
-use Rattle.dfu_device.specs.Parts.{is_filled}
+use Rattle.dfu_device.specs.declared.device_state.DeviceState.{DeviceState}
+use Rattle.dfu_device.specs.Parts.{is_sound, is_filled}
 use Rattle.dfu_device.specs.Rows.{Cause, Row}
 use Rattle.dfu_asks.specs.declared.asking.Asking.{Asking}
-use Rattle.dfu_asks.specs.declared.work.Work.{Work}
+use Rattle.dfu_asks.specs.declared.pending_writes.PendingWrites.{PendingWrites}
+use Rattle.dfu_asks.specs.declared.slot_write.SlotWrite.{SlotWrite}
+use Rattle.dfu_asks.specs.declared.slot_write.SlotWrite.TheVariants as slot_write
 use Rattle.dfu_asks.specs.Lent.{LentAsking}
 use Rattle.dfu_asks.specs.Asks.{store_in, device_in, IsDevice}
 use Rattle.dfu_device_c.specs.declared.config.DfuConfig.{DfuConfig}
 use Rattle.dfu_device_c.specs.declared.record.DfuRecord.{DfuRecord}
 use Rattle.dfu_device_c.specs.Config.{setting_of}
 use Rattle.dfu_device_c.specs.Mode.{HasMode}
-use Rattle.dfu_device_c.specs.Kept.{IsFlag, HasWork, IsKept, with_memory}
+use Rattle.dfu_device_c.specs.Kept.{IsFlag, HasJob, HasWork, IsKept, with_memory}
 use Rattle.dfu_device_c.specs.Refuse.{TakesCause}
-use Rattle.dfu_device_c.proofs.Asked.{none_kept, moved_sound}
 
-module _ (c : DfuConfig) (r r' : DfuRecord) (m m' : Mode) (the_mode : (x : Mode) → HasMode r x → m ≡ x) (idle : r.work ≡ 0)
+-- No work is due if the record has the number of none.
+pub none_kept : (r : DfuRecord) (w : Option PendingWrites) → r.work ≡ 0 → HasWork r w → w ≡ None
+none_kept r None is has = refl
+none_kept r (Some w) is has = absurd (some_job r w.job is has.0)
+  where
+    some_job : (r : DfuRecord) (j : SlotWrite) → r.work ≡ 0 → HasJob r j → ⊥
+    some_job r (slot_write.Block spare close) is has = omega (arith, is, has.0)
+    some_job r (slot_write.Commit spare generation register) is has = omega (arith, is, has.0)
+
+-- What a device has in its store goes with a mode in which nothing is put.
+moved_sound : (s : SlotsState) (m m' : DeviceState) (n : ℕ) → IsTrue (is_sound m n s) → is_filled m' n s ≡ true → IsTrue (is_sound m' n s)
+moved_sound s m m' n sound free = both (is_shaped s) (is_filled m n s) (is_filled m' n s) sound free
+  where
+    both : (x y z : Bool) → IsTrue (x && y) → z ≡ true → IsTrue (x && z)
+    both x y z t e = grind (arith, common_steps, t, e)
+
+-- So a device whose mode alone is another one is a device.
+pub moved_device : (l : LentAsking) (m' : DeviceState) (flash : List ℕ) → IsDevice l flash
+    → is_filled m' (length l.block) (store_in l flash) ≡ true
+    → IsDevice (record l { mode = m' }) flash
+moved_device l m' flash device free = record {
+  store = device.store;
+  sound = moved_sound (store_in l flash) l.mode m' (length l.block) device.sound free;
+  noted = device.noted;
+}
+
+module _ (c : DfuConfig) (r r' : DfuRecord) (m m' : DeviceState) (the_mode : (x : DeviceState) → HasMode r x → m ≡ x) (idle : r.work ≡ 0)
     (moved : HasMode r' m') (rest : r' ≡ record r {
       version = r'.version;
       mode = r'.mode;
@@ -26,10 +55,10 @@ module _ (c : DfuConfig) (r r' : DfuRecord) (m m' : Mode) (the_mode : (x : Mode)
     }) where
   -- What is left to be written is in neither record.
   moved_work : (a : Asking) → IsKept c r a → HasWork r' a.work
-  moved_work a kept = subst (λ (w : Option Work). HasWork r' w) (sym (none_kept r a.work idle kept.work))
+  moved_work a kept = subst (λ (w : Option PendingWrites). HasWork r' w) (sym (none_kept r a.work idle kept.work))
       (ap (λ (x : DfuRecord). x.work) rest ∙ idle)
 
-  moved_kept : (a : Asking) → IsKept c r a → IsKept c r' (record a { mode = m' })
+  pub moved_kept : (a : Asking) → IsKept c r a → IsKept c r' (record a { mode = m' })
   moved_kept a kept = record {
     set_up = kept.set_up;
     mode = moved;
@@ -59,11 +88,7 @@ module _ (c : DfuConfig) (r r' : DfuRecord) (m m' : Mode) (the_mode : (x : Mode)
     λ block flash device.
         let l : LentAsking = with_memory block a in
         let led = leads l flash kept.set_up.config_is (the_mode a.mode kept.mode) device in (
-          record {
-            store = device.store;
-            sound = moved_sound (store_in l flash) a.mode m' (length l.block) device.sound led.0;
-            noted = device.noted;
-          },
+          moved_device l m' flash device led.0,
           led.1,
         ),
   )

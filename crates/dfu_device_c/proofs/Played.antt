@@ -11,9 +11,9 @@ use Rattle.dfu_board.specs.Happens.{IsPoweredOn, IsRun}
 use Rattle.dfu_board_play.specs.Comes.{BoardLink, BoardComes}
 use Rattle.dfu_board_play.specs.Plays.{PlaysInstall, PlaysGive, PlaysKnow, PlaysKnowWithin}
 use Rattle.dfu_board_play.proofs.Ran.{run_parts, comes_run}
-use Rattle.dfu_device_c.specs.Board.{CoreBoard, CoreStep, core_flash_of}
+use Rattle.dfu_device_c.specs.Board.{CoreBoard, CoreStep, medium_of_core}
 use Rattle.dfu_device_c.specs.Happens.{IsCoreOn, IsCoreRun}
-use Rattle.dfu_device_c.specs.Steps.{core_board_of, IsBoardOf, AreStepsOf}
+use Rattle.dfu_device_c.specs.Steps.{board_of_core, IsBoardOf, AreStepsOf}
 use Rattle.dfu_device_c.specs.Plays.{CoreLink, IsLinkOf, CorePlays, CoreComes, CorePlaysInstall, CorePlaysGive, CorePlaysKnow, CorePlaysKnowWithin}
 use Rattle.dfu_device_c.proofs.Same.{one_device}
 use Rattle.dfu_device_c.proofs.Each.{powers_on}
@@ -22,7 +22,7 @@ use Rattle.dfu_device_c.proofs.Runs.{same_flash}
 -- A board in C is one board.
 one_board : (b : CoreBoard) (x y : Board) → IsBoardOf b x → IsBoardOf b y → x ≡ y
 one_board b x y h k =
-    h.is ∙ ap (λ (a : Asking). core_board_of b a) (one_device b.config b.kept x.asking y.asking h.kept k.kept) ∙ sym k.is
+    h.is ∙ ap (λ (a : Asking). board_of_core b a) (one_device b.config b.kept x.asking y.asking h.kept k.kept) ∙ sym k.is
 
 -- A link to it is one link.
 one_link : (l : CoreLink) (x y : BoardLink) → IsLinkOf l x → IsLinkOf l y → x ≡ y
@@ -39,13 +39,13 @@ record IsOnToo (x : Board) : Type 0 where
 on_too : (b : CoreBoard) (x : Board) → IsCoreOn b → IsBoardOf b x → IsOnToo x
 on_too b x on is =
     let start = powers_on b (pos 0) on.begins on.powers in
-    let same : core_board_of b on.powers.after
-    ≡ x = one_board b (core_board_of b on.powers.after) x (record { kept = start.0.kept; is = refl }) is in
+    let same : board_of_core b on.powers.after
+    ≡ x = one_board b (board_of_core b on.powers.after) x (record { kept = start.0.kept; is = refl }) is in
     let config = ap (λ (s : Setting). s.functional.transfer) is.kept.set_up.config_is in
     record { on = subst IsPoweredOn same start.1.0; sized = omega (arith, config, on.powers.config.allowed.transfer.some) }
 
 -- What is active on the board is active on the flash in C.
-active_too : (b : CoreBoard) (x : Board) (image : List ℕ) → IsBoardOf b x → Active (medium_on x) image → Active (core_flash_of b) image
+active_too : (b : CoreBoard) (x : Board) (image : List ℕ) → IsBoardOf b x → Active (medium_on x) image → Active (medium_of_core b) image
 active_too b x image is active = subst (λ (m : MediumState). Active m image) (same_flash b x is) active
 
 -- What comes next comes to the board of the sessions before.

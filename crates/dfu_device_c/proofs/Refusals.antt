@@ -2,7 +2,7 @@
 use Rattle.std.proofs.Common.{◌≡◌, ℕ, Bool, true, IsTrue, List, [], length, refl, sym, ap, ◌∙◌, subst}
 use Rattle.dfu_slots.specs.Seen.{SlotsState, spare_of}
 use Rattle.dfu_device.specs.declared.answer.Answer.TheVariants as answer
-use Rattle.dfu_device.specs.declared.mode.Mode.{Mode}
+use Rattle.dfu_device.specs.declared.device_state.DeviceState.{DeviceState}
 use Rattle.dfu_device.specs.declared.objection.Objection.{Objection}
 use Rattle.dfu_device.specs.Decision.{HoldsWritten}
 use Rattle.dfu_device.specs.Parts.{stage_of, is_filled, is_sound}
@@ -15,13 +15,13 @@ use Rattle.dfu_asks.specs.Asks.{store_in, device_in, IsDevice}
 use Rattle.dfu_device_c.specs.declared.config.DfuConfig.{DfuConfig}
 use Rattle.dfu_device_c.specs.Config.{setting_of}
 
-module _ (c : DfuConfig) (m m' : Mode) (why : Objection) (l : LentAsking) (flash : List ℕ) (config : l.config ≡ setting_of c)
+module _ (c : DfuConfig) (m m' : DeviceState) (why : Objection) (l : LentAsking) (flash : List ℕ) (config : l.config ≡ setting_of c)
     (mode : m ≡ l.mode) (device : IsDevice l flash) where
   abbrev s : SlotsState
   s = store_in l flash
 
   sound : IsTrue (is_sound m (length l.block) s)
-  sound = subst (λ (x : Mode). IsTrue (is_sound x (length l.block) s)) (sym mode) device.sound
+  sound = subst (λ (x : DeviceState). IsTrue (is_sound x (length l.block) s)) (sym mode) device.sound
 
   -- Its mode tells whether the download may be closed.
   pub may_is : (b : Bool) → ((spare block : List ℕ) → HoldsWritten m spare → b ≡ may_close c.least (stage_of m spare block))
@@ -40,7 +40,7 @@ module _ (c : DfuConfig) (m m' : Mode) (why : Objection) (l : LentAsking) (flash
       refl,
       refl,
       ap (λ st. record (device_in l flash) { stage = st })
-          (stage (spare_of s) l.block ∙ ap (λ (x : Mode). refuse_stage why (stage_of x (spare_of s) l.block)) mode),
+          (stage (spare_of s) l.block ∙ ap (λ (x : DeviceState). refuse_stage why (stage_of x (spare_of s) l.block)) mode),
     ),
   )
 

@@ -7,7 +7,7 @@ use Rattle.dfu_slots.specs.declared.unit.Unit.TheVariants as unit
 use Rattle.dfu_slots.specs.Units.{unit_size, Grain}
 use Rattle.dfu_slots.specs.Medium.{MediumState}
 use Rattle.dfu_slots.specs.Image.{Active, IsSized}
-use Rattle.dfu_device.specs.declared.mode.Mode.{Mode}
+use Rattle.dfu_device.specs.declared.device_state.DeviceState.{DeviceState}
 use Rattle.dfu_device.specs.Stage.{state_of}
 use Rattle.dfu_device.specs.Parts.{stage_of}
 use Rattle.dfu_asks.specs.declared.asking.Asking.{Asking}
@@ -20,9 +20,9 @@ use Rattle.dfu_board.specs.Refines.{RunRefines}
 use Rattle.dfu_device_c.specs.declared.config.DfuConfig.{DfuConfig}
 use Rattle.dfu_device_c.specs.Config.{config_grain}
 use Rattle.dfu_device_c.specs.Kept.{IsKept}
-use Rattle.dfu_device_c.specs.Board.{CoreBoard, CoreEvent, CoreHandle, CoreElapse, CoreReset, CoreTooLong, CoreRefuseClose, CoreRefuse, CoreWrite, CoreTook, CoreRestart, CoreStep, core_flash_of, IsIn}
+use Rattle.dfu_device_c.specs.Board.{CoreBoard, CoreEvent, CoreHandle, CoreElapse, CoreReset, CoreTooLong, CoreRefuseClose, CoreRefuse, CoreWrite, CoreTook, CoreRestart, CoreStep, medium_of_core, IsIn}
 use Rattle.dfu_device_c.specs.Happens.{IsCoreRun}
-use Rattle.dfu_device_c.specs.Steps.{core_board_of, core_event_of, IsBoardOf, AreStepsOf}
+use Rattle.dfu_device_c.specs.Steps.{board_of_core, event_of_core, IsBoardOf, AreStepsOf}
 use Rattle.dfu_device_c.specs.Runs.{IsRunOf, CoreRefines, CoreKeeps, CoreStays, CoreInstalls, CoreStarts}
 use Rattle.dfu_device_c.proofs.Same.{one_mode, set_up_alike}
 use Rattle.dfu_device_c.proofs.Fits.{all_fit}
@@ -35,20 +35,20 @@ record RanTo (b : CoreBoard) (a : Asking) (steps : List CoreStep) (b' : CoreBoar
   pub last : Asking
   pub sound : IsSound b' last
   pub run : List BoardStep
-  pub is_run : IsRun (core_board_of b a) run (core_board_of b' last)
+  pub is_run : IsRun (board_of_core b a) run (board_of_core b' last)
   pub are : AreStepsOf steps run
 
-is_board : (b : CoreBoard) (a : Asking) → IsSound b a → IsBoardOf b (core_board_of b a)
+is_board : (b : CoreBoard) (a : Asking) → IsSound b a → IsBoardOf b (board_of_core b a)
 is_board b a sound = record { kept = sound.kept; is = refl }
 
 -- The flash of a board in C is that of the board.
-pub same_flash : (b : CoreBoard) (x : Board) → IsBoardOf b x → medium_on x ≡ core_flash_of b
+pub same_flash : (b : CoreBoard) (x : Board) → IsBoardOf b x → medium_on x ≡ medium_of_core b
 same_flash b x is = λ i. mapped (record { unit = is.kept.set_up.unit_is i; sector = is.kept.set_up.sector_is i }) (is.is i).flash
 
 -- So is its state.
-same_state : (b : CoreBoard) (a : Asking) (state : State) → IsSound b a → IsIn b state → state_on (core_board_of b a) ≡ state
+same_state : (b : CoreBoard) (a : Asking) (state : State) → IsSound b a → IsIn b state → state_on (board_of_core b a) ≡ state
 same_state b a state sound is =
-    ap (λ (m : Mode). state_of (stage_of m [] [])) (one_mode b.kept a.mode is.mode sound.kept.mode is.has_mode) ∙ is.state_is
+    ap (λ (m : DeviceState). state_of (stage_of m [] [])) (one_mode b.kept a.mode is.mode sound.kept.mode is.has_mode) ∙ is.state_is
 
 run_to : (b : CoreBoard) (a : Asking) (steps : List CoreStep) (b' : CoreBoard) → IsSound b a → IsCoreRun b steps b' → RanTo b a steps b'
 run_to b a [] b' sound run = record {
@@ -56,7 +56,7 @@ run_to b a [] b' sound run = record {
   last = a;
   sound = subst (λ (x : CoreBoard). IsSound x a) (sym run) sound;
   run = [];
-  is_run = ap (λ (x : CoreBoard). core_board_of x a) run;
+  is_run = ap (λ (x : CoreBoard). board_of_core x a) run;
   are = tt;
 }
 run_to b a (s ∷ rest) b' sound run =
@@ -64,10 +64,10 @@ run_to b a (s ∷ rest) b' sound run =
     let more = run_to s.after t.after rest b' t.sound run.2 in
     let kept = subst (λ (c : DfuConfig). IsKept c s.after.kept t.after) t.config t.sound.kept in
     let step : BoardStep = record {
-      before = core_board_of b a;
-      event = core_event_of b.config s.event;
+      before = board_of_core b a;
+      event = event_of_core b.config s.event;
       says = t.says;
-      after = core_board_of s.after t.after;
+      after = board_of_core s.after t.after;
     } in
     record {
       config = more.config ∙ t.config;
@@ -77,8 +77,8 @@ run_to b a (s ∷ rest) b' sound run =
       is_run = (refl, t.happens, set_up_alike b.config b.kept s.after.kept a t.after sound.kept kept, more.is_run);
       are = (
         record {
-          before = subst (λ (x : CoreBoard). IsBoardOf x (core_board_of b a)) (sym run.0) (is_board b a sound);
-          event = ap (λ (x : CoreBoard). core_event_of x.config s.event) (sym run.0);
+          before = subst (λ (x : CoreBoard). IsBoardOf x (board_of_core b a)) (sym run.0) (is_board b a sound);
+          event = ap (λ (x : CoreBoard). event_of_core x.config s.event) (sym run.0);
           says = t.told;
           after = is_board s.after t.after t.sound;
         },
@@ -89,8 +89,8 @@ run_to b a (s ∷ rest) b' sound run =
 abbrev run_of : (b : CoreBoard) (a : Asking) (steps : List CoreStep) (b' : CoreBoard) → IsSound b a → RanTo b a steps b' → IsRunOf b b' steps
 run_of b a steps b' sound ran = record {
   config = ran.config;
-  first = core_board_of b a;
-  last = core_board_of b' ran.last;
+  first = board_of_core b a;
+  last = board_of_core b' ran.last;
   run = ran.run;
   is_first = is_board b a sound;
   is_last = is_board b' ran.last ran.sound;
@@ -103,12 +103,12 @@ pub core_refines : RunRefines → CoreRefines
 core_refines refines b b' steps on run =
     let start = powers_on b (pos 0) on.begins on.powers in
     let ran = run_to b on.powers.after steps b' start.0 run in
-    let refined = refines (core_board_of b on.powers.after) (core_board_of b' ran.last) ran.run start.1.0 ran.is_run in
+    let refined = refines (board_of_core b on.powers.after) (board_of_core b' ran.last) ran.run start.1.0 ran.is_run in
     record {
       runs = run_of b on.powers.after steps b' start.0 ran;
       on = start.1.0;
       refined = refined;
-      fit = all_fit ran.run None refined.due refined.rows (device_on (core_board_of b on.powers.after)) refined.device refined.tells
+      fit = all_fit ran.run None refined.due refined.rows (device_on (board_of_core b on.powers.after)) refined.device refined.tells
           refined.history;
     }
 
@@ -119,14 +119,14 @@ core_keeps keeps b b' steps image on active run =
     let none = run_to b on.powers.after [] b start.0 refl in
     let ran = run_to b on.powers.after steps b' start.0 run in
     let first = subst (λ (m : MediumState). Active m image)
-    (sym (same_flash b (core_board_of b on.powers.after) (is_board b on.powers.after start.0))) active in
-    let kept = keeps (core_board_of b on.powers.after) (core_board_of b' ran.last) ran.run image start.1.0 first ran.is_run in
+    (sym (same_flash b (board_of_core b on.powers.after) (is_board b on.powers.after start.0))) active in
+    let kept = keeps (board_of_core b on.powers.after) (board_of_core b' ran.last) ran.run image start.1.0 first ran.is_run in
     record {
       past = run_of b on.powers.after [] b start.0 none;
       runs = run_of b on.powers.after steps b' start.0 ran;
       kept = kept;
       active = subst (λ (m : MediumState). Active m kept.now)
-          (same_flash b' (core_board_of b' ran.last) (is_board b' ran.last ran.sound)) kept.active;
+          (same_flash b' (board_of_core b' ran.last) (is_board b' ran.last ran.sound)) kept.active;
     }
 
 pub core_stays : RunStays → CoreStays
@@ -135,8 +135,8 @@ core_stays stays b mid b' old steps image state on before is other active run =
     let past = run_to b on.powers.after old mid start.0 before in
     let ran = run_to mid past.last steps b' past.sound run in
     let here = subst (λ (m : MediumState). Active m image)
-    (sym (same_flash mid (core_board_of mid past.last) (is_board mid past.last past.sound))) active in
-    let kept = stays (core_board_of b on.powers.after) (core_board_of mid past.last) (core_board_of b' ran.last) past.run ran.run image
+    (sym (same_flash mid (board_of_core mid past.last) (is_board mid past.last past.sound))) active in
+    let kept = stays (board_of_core b on.powers.after) (board_of_core mid past.last) (board_of_core b' ran.last) past.run ran.run image
     start.1.0 past.is_run
     (ap (λ (s : State). is_manifesting s) (same_state mid past.last state past.sound is) ∙ other) here ran.is_run in
     record {
@@ -144,11 +144,11 @@ core_stays stays b mid b' old steps image state on before is other active run =
       runs = run_of mid past.last steps b' past.sound ran;
       kept = kept;
       active = subst (λ (m : MediumState). Active m kept.now)
-          (same_flash b' (core_board_of b' ran.last) (is_board b' ran.last ran.sound)) kept.active;
+          (same_flash b' (board_of_core b' ran.last) (is_board b' ran.last ran.sound)) kept.active;
     }
 
 -- Only dfu_core_begin is the event that begins.
-core_begins : (c : DfuConfig) (e : CoreEvent) → core_event_of c e ≡ Restart true → e ≡ CoreRestart true
+core_begins : (c : DfuConfig) (e : CoreEvent) → event_of_core c e ≡ Restart true → e ≡ CoreRestart true
 core_begins c (CoreRestart begins) same = ap CoreRestart (ap begins_of same)
   where
     begins_of : Event → Bool
@@ -172,8 +172,8 @@ core_installs installs b mid b' steps last state state' on before is waits run o
     record {
       runs = run_of b on.powers.after steps mid start.0 past;
       active = subst (λ (m : MediumState). Active m (taken_by [] past.run))
-          (same_flash b' (core_board_of b' ran.last) (is_board b' ran.last ran.sound))
-          (installs (core_board_of b on.powers.after) (core_board_of mid past.last) (core_board_of b' ran.last) past.run _ start.1.0
+          (same_flash b' (board_of_core b' ran.last) (is_board b' ran.last ran.sound))
+          (installs (board_of_core b on.powers.after) (board_of_core mid past.last) (board_of_core b' ran.last) past.run _ start.1.0
           past.is_run
           (ap (λ (s : State). is_manifesting s) (same_state mid past.last state past.sound is) ∙ waits) ran.is_run
           (λ e. other (core_begins mid.config last.event e))
@@ -194,9 +194,9 @@ sized_small m sized = omega (arith, sized.even, sized.bound, sized.whole.bound, 
 pub core_starts : CoreKeeps → CoreStarts
 core_starts keeps b b' steps on run n refused =
     let start = (powers_on b (pos 0) on.begins on.powers).1.0.is.store.has_image in
-    let grain : grain_in (lent_on (core_board_of b on.powers.after)) ≡ config_grain b.config =
+    let grain : grain_in (lent_on (board_of_core b on.powers.after)) ≡ config_grain b.config =
     λ i. record { unit = on.powers.is.set_up.unit_is i; sector = on.powers.is.set_up.sector_is i } in
-    let first : Active (core_flash_of b) start.image =
+    let first : Active (medium_of_core b) start.image =
     subst (λ (g : Grain). Active (mapped g b.flash) start.image) grain start.active in
     let kept = keeps b b' steps start.image on first run in
     let active = subst (λ (c : DfuConfig). Active (mapped (config_grain c) b'.flash) kept.kept.now) kept.runs.config kept.active in

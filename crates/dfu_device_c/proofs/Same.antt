@@ -7,11 +7,11 @@ use Rattle.std.proofs.Math.Nat.{ℕ_set}
 use Rattle.dfu_wire.specs.declared.codes.Code.{Code}
 use Rattle.dfu_wire.specs.declared.codes.Code.TheVariants as code
 use Rattle.dfu_wire.specs.Code.{code_byte}
-use Rattle.dfu_device.specs.declared.mode.Mode.{Mode}
-use Rattle.dfu_device.specs.declared.mode.Mode.TheVariants as mode
-use Rattle.dfu_asks.specs.declared.job.Job.{Job}
-use Rattle.dfu_asks.specs.declared.job.Job.TheVariants as job
-use Rattle.dfu_asks.specs.declared.work.Work.{Work}
+use Rattle.dfu_device.specs.declared.device_state.DeviceState.{DeviceState}
+use Rattle.dfu_device.specs.declared.device_state.DeviceState.TheVariants as device_state
+use Rattle.dfu_asks.specs.declared.slot_write.SlotWrite.{SlotWrite}
+use Rattle.dfu_asks.specs.declared.slot_write.SlotWrite.TheVariants as slot_write
+use Rattle.dfu_asks.specs.declared.pending_writes.PendingWrites.{PendingWrites}
 use Rattle.dfu_asks.specs.declared.sector.Sector.{Sector}
 use Rattle.dfu_asks.specs.declared.asking.Asking.{Asking}
 use Rattle.dfu_asks.specs.Lent.{IsSetUpAs}
@@ -47,41 +47,41 @@ code_back code.Unknown = refl
 code_back code.StalledPkt = refl
 
 -- The mode of these numbers.
-mode_at : (n first second number : ℕ) → Mode
+mode_at : (n first second number : ℕ) → DeviceState
 mode_at n first second number =
-    if n == 0 then mode.AppIdle
-    else if n == 1 then mode.AppDetach first second
-    else if n == 2 then mode.DfuIdle
-    else if n == 3 then mode.DownloadSync first number
-    else if n == 4 then mode.DownloadSyncWritten first number
-    else if n == 5 then mode.DownloadBusy first number second
-    else if n == 6 then mode.DownloadIdle first number
-    else if n == 7 then mode.ManifestSync first
-    else if n == 8 then mode.ManifestSyncComplete
-    else if n == 9 then mode.Manifest first second
-    else if n == 10 then mode.ManifestWaitReset
-    else if n == 11 then mode.UploadIdle first number
-    else mode.Error (code_at number)
+    if n == 0 then device_state.AppIdle
+    else if n == 1 then device_state.AppDetach first second
+    else if n == 2 then device_state.DfuIdle
+    else if n == 3 then device_state.DownloadSync first number
+    else if n == 4 then device_state.DownloadSyncWritten first number
+    else if n == 5 then device_state.DownloadBusy first number second
+    else if n == 6 then device_state.DownloadIdle first number
+    else if n == 7 then device_state.ManifestSync first
+    else if n == 8 then device_state.ManifestSyncComplete
+    else if n == 9 then device_state.Manifest first second
+    else if n == 10 then device_state.ManifestWaitReset
+    else if n == 11 then device_state.UploadIdle first number
+    else device_state.Error (code_at number)
 
-mode_back : (r : DfuRecord) (m : Mode) → HasNumbers r m → m ≡ mode_at r.mode r.first r.second r.number
+mode_back : (r : DfuRecord) (m : DeviceState) → HasNumbers r m → m ≡ mode_at r.mode r.first r.second r.number
 unfolding mode_at
-mode_back r mode.AppIdle h = λ i. mode_at (sym h i) r.first r.second r.number
-mode_back r (mode.AppDetach timer passed) h = λ i. mode_at (sym h.0 i) (h.1 i) (h.2 i) r.number
-mode_back r mode.DfuIdle h = λ i. mode_at (sym h i) r.first r.second r.number
-mode_back r (mode.DownloadSync written number) h = λ i. mode_at (sym h.0 i) (h.1 i) r.second (h.2 i)
-mode_back r (mode.DownloadSyncWritten written number) h = λ i. mode_at (sym h.0 i) (h.1 i) r.second (h.2 i)
-mode_back r (mode.DownloadBusy written number passed) h = λ i. mode_at (sym h.0 i) (h.1 i) (h.3 i) (h.2 i)
-mode_back r (mode.DownloadIdle written number) h = λ i. mode_at (sym h.0 i) (h.1 i) r.second (h.2 i)
-mode_back r (mode.ManifestSync written) h = λ i. mode_at (sym h.0 i) (h.1 i) r.second r.number
-mode_back r mode.ManifestSyncComplete h = λ i. mode_at (sym h i) r.first r.second r.number
-mode_back r (mode.Manifest written passed) h = λ i. mode_at (sym h.0 i) (h.1 i) (h.2 i) r.number
-mode_back r mode.ManifestWaitReset h = λ i. mode_at (sym h i) r.first r.second r.number
-mode_back r (mode.UploadIdle place number) h = λ i. mode_at (sym h.0 i) (h.1 i) r.second (h.2 i)
-mode_back r (mode.Error x) h =
-    ap (λ (y : Code). mode.Error y) (sym (code_back x)) ∙ (λ i. mode_at (sym h.0 i) r.first r.second (h.1 i))
+mode_back r device_state.AppIdle h = λ i. mode_at (sym h i) r.first r.second r.number
+mode_back r (device_state.AppDetach timer passed) h = λ i. mode_at (sym h.0 i) (h.1 i) (h.2 i) r.number
+mode_back r device_state.DfuIdle h = λ i. mode_at (sym h i) r.first r.second r.number
+mode_back r (device_state.DownloadSync written number) h = λ i. mode_at (sym h.0 i) (h.1 i) r.second (h.2 i)
+mode_back r (device_state.DownloadSyncWritten written number) h = λ i. mode_at (sym h.0 i) (h.1 i) r.second (h.2 i)
+mode_back r (device_state.DownloadBusy written number passed) h = λ i. mode_at (sym h.0 i) (h.1 i) (h.3 i) (h.2 i)
+mode_back r (device_state.DownloadIdle written number) h = λ i. mode_at (sym h.0 i) (h.1 i) r.second (h.2 i)
+mode_back r (device_state.ManifestSync written) h = λ i. mode_at (sym h.0 i) (h.1 i) r.second r.number
+mode_back r device_state.ManifestSyncComplete h = λ i. mode_at (sym h i) r.first r.second r.number
+mode_back r (device_state.Manifest written passed) h = λ i. mode_at (sym h.0 i) (h.1 i) (h.2 i) r.number
+mode_back r device_state.ManifestWaitReset h = λ i. mode_at (sym h i) r.first r.second r.number
+mode_back r (device_state.UploadIdle place number) h = λ i. mode_at (sym h.0 i) (h.1 i) r.second (h.2 i)
+mode_back r (device_state.Error x) h =
+    ap (λ (y : Code). device_state.Error y) (sym (code_back x)) ∙ (λ i. mode_at (sym h.0 i) r.first r.second (h.1 i))
 
 -- A record has one mode.
-pub one_mode : (r : DfuRecord) (m m' : Mode) → HasMode r m → HasMode r m' → m ≡ m'
+pub one_mode : (r : DfuRecord) (m m' : DeviceState) → HasMode r m → HasMode r m' → m ≡ m'
 one_mode r m m' h k = mode_back r m h.numbers ∙ sym (mode_back r m' k.numbers)
 
 flag_back : (b : Bool) (n : ℕ) → IsFlag b n → b ≡ (n == 1)
@@ -97,20 +97,20 @@ one_asked n None (Some y) h k = absurd (omega (arith, h, k.0))
 one_asked n (Some x) None h k = absurd (omega (arith, h.0, k))
 one_asked n (Some x) (Some y) h k = let same : x ≡ y = omega (arith, h.0, k.0) in ap (λ (z : ℕ). Some z) same
 
-one_job : (r : DfuRecord) (x y : Job) → HasJob r x → HasJob r y → x ≡ y
-one_job r (job.Block spare close) (job.Block spare' close') h k =
-    λ i. job.Block ((h.1 ∙ sym k.1) i) (one_flag close close' r.close h.2 k.2 i)
-one_job r (job.Block spare close) (job.Commit spare' generation register) h k = absurd (omega (arith, h.0, k.0))
-one_job r (job.Commit spare generation register) (job.Block spare' close') h k = absurd (omega (arith, h.0, k.0))
-one_job r (job.Commit spare generation register) (job.Commit spare' generation' register') h k =
-    λ i. job.Commit ((h.1 ∙ sym k.1) i) ((h.2 ∙ sym k.2) i) ((h.3 ∙ sym k.3) i)
+one_job : (r : DfuRecord) (x y : SlotWrite) → HasJob r x → HasJob r y → x ≡ y
+one_job r (slot_write.Block spare close) (slot_write.Block spare' close') h k =
+    λ i. slot_write.Block ((h.1 ∙ sym k.1) i) (one_flag close close' r.close h.2 k.2 i)
+one_job r (slot_write.Block spare close) (slot_write.Commit spare' generation register) h k = absurd (omega (arith, h.0, k.0))
+one_job r (slot_write.Commit spare generation register) (slot_write.Block spare' close') h k = absurd (omega (arith, h.0, k.0))
+one_job r (slot_write.Commit spare generation register) (slot_write.Commit spare' generation' register') h k =
+    λ i. slot_write.Commit ((h.1 ∙ sym k.1) i) ((h.2 ∙ sym k.2) i) ((h.3 ∙ sym k.3) i)
 
 -- A job has a number that is not 0.
-job_some : (r : DfuRecord) (j : Job) → HasJob r j → r.work ≡ 0 → ⊥
-job_some r (job.Block spare close) h is = omega (arith, is, h.0)
-job_some r (job.Commit spare generation register) h is = omega (arith, is, h.0)
+job_some : (r : DfuRecord) (j : SlotWrite) → HasJob r j → r.work ≡ 0 → ⊥
+job_some r (slot_write.Block spare close) h is = omega (arith, is, h.0)
+job_some r (slot_write.Commit spare generation register) h is = omega (arith, is, h.0)
 
-one_work : (r : DfuRecord) (x y : Option Work) → HasWork r x → HasWork r y → x ≡ y
+one_work : (r : DfuRecord) (x y : Option PendingWrites) → HasWork r x → HasWork r y → x ≡ y
 one_work r None None h k = refl
 one_work r None (Some w) h k = absurd (job_some r w.job k.0 h)
 one_work r (Some w) None h k = absurd (job_some r w.job h.0 k)
@@ -121,7 +121,7 @@ one_work r (Some w) (Some v) h k = λ i. Some (record {
 })
 
 -- If the number of its work is 0, no writes are due.
-pub no_work : (r : DfuRecord) (x : Option Work) → HasWork r x → r.work ≡ 0 → x ≡ None
+pub no_work : (r : DfuRecord) (x : Option PendingWrites) → HasWork r x → r.work ≡ 0 → x ≡ None
 no_work r x h is = one_work r x None h is
 
 -- Sectors of one size are the same.

@@ -7,7 +7,7 @@ use Rattle.dfu_device.specs.declared.answer.Answer.{Answer}
 use Rattle.dfu_device.specs.declared.answer.Answer.TheVariants as answer
 use Rattle.dfu_device.specs.Stage.{Reply, Ack, StatusOf, StateOf, Data, Stall}
 use Rattle.dfu_device.specs.Table.{Plan, Sure, Writes, Commits}
-use Rattle.dfu_device.specs.Shown.{Shown}
+use Rattle.dfu_device.specs.DeviceView.{DeviceView}
 use Rattle.dfu_device.specs.Rows.{Done, Answers}
 use Rattle.dfu_device_c.specs.Verdict.{is_stall, agreed, verdict}
 
@@ -32,59 +32,36 @@ reply_other len (StateOf state) a out says is = λ e. cc
 reply_other len (Data bytes) a out says is = λ e. cc
 
 -- What agrees is each of the three.
-first_agreed : (x y z b : Bool) → agreed x y z ≡ Some b → x ≡ b
-first_agreed true true true b is = cc
-first_agreed false false false b is = cc
-first_agreed true true false b is = cc
-first_agreed true false true b is = cc
-first_agreed true false false b is = cc
-first_agreed false true true b is = cc
-first_agreed false true false b is = cc
-first_agreed false false true b is = cc
-
-second_agreed : (x y z b : Bool) → agreed x y z ≡ Some b → y ≡ b
-second_agreed true true true b is = cc
-second_agreed false false false b is = cc
-second_agreed true true false b is = cc
-second_agreed true false true b is = cc
-second_agreed true false false b is = cc
-second_agreed false true true b is = cc
-second_agreed false true false b is = cc
-second_agreed false false true b is = cc
-
-third_agreed : (x y z b : Bool) → agreed x y z ≡ Some b → z ≡ b
-third_agreed true true true b is = cc
-third_agreed false false false b is = cc
-third_agreed true true false b is = cc
-third_agreed true false true b is = cc
-third_agreed true false false b is = cc
-third_agreed false true true b is = cc
-third_agreed false true false b is = cc
-third_agreed false false true b is = cc
+each_agreed : (x y z b : Bool) → agreed x y z ≡ Some b → (x ≡ b) × (y ≡ b) × (z ≡ b)
+each_agreed true true true b is = (cc, cc, cc)
+each_agreed false false false b is = (cc, cc, cc)
+each_agreed true true false b is = absurd (cc)
+each_agreed true false true b is = absurd (cc)
+each_agreed true false false b is = absurd (cc)
+each_agreed false true true b is = absurd (cc)
+each_agreed false true false b is = absurd (cc)
+each_agreed false false true b is = absurd (cc)
 
 fault_agreed : (fault : WriteFault) (bad : WriteFault → Reply) (x b : Bool)
     → agreed x (is_stall (bad Failed)) (is_stall (bad NotVerified)) ≡ Some b
     → is_stall (bad fault) ≡ b
-fault_agreed Failed bad x b is = second_agreed x _ _ b is
-fault_agreed NotVerified bad x b is = third_agreed x _ _ b is
+fault_agreed Failed bad x b is = (each_agreed x _ _ b is).1
+fault_agreed NotVerified bad x b is = (each_agreed x _ _ b is).2
 
-module _ (len : ℕ) (d : Shown) (a : Answer) (out : List ℕ) (d' : Shown) where
-  -- So is a plan, whatever its writes come to.
+module _ (len : ℕ) (d : DeviceView) (a : Answer) (out : List ℕ) (d' : DeviceView) where
+  -- Whatever its writes come to, a plan is answered by a reply that is a stall or none as it says.
+  done_reply : (p : Plan) (b : Bool) → Done p len d a out d' → verdict p ≡ Some b
+      → (reply : Reply) × Answers len reply a out × (is_stall reply ≡ b)
+  done_reply (Sure reply stage) b done is = (reply, done.0, same_some is)
+  done_reply (Writes before block reply stage bad) b (inl (says, done)) is = (reply, says, (each_agreed _ _ _ b is).0)
+  done_reply (Writes before block reply stage bad) b (inr (fault, says, done)) is = (bad fault, says, fault_agreed fault bad _ b is)
+  done_reply (Commits taken reply stage bad) b (inl (says, done)) is = (reply, says, (each_agreed _ _ _ b is).0)
+  done_reply (Commits taken reply stage bad) b (inr (fault, says, done)) is = (bad fault, says, fault_agreed fault bad _ b is)
+
+  -- So a plan that says so is stalled.
   pub done_stall : (p : Plan) → Done p len d a out d' → verdict p ≡ Some true → a ≡ answer.Stall
-  done_stall (Sure reply stage) done is = reply_stall len reply a out done.0 (same_some is)
-  done_stall (Writes before block reply stage bad) (inl (says, done)) is = reply_stall len reply a out says (first_agreed _ _ _ true is)
-  done_stall (Writes before block reply stage bad) (inr (fault, says, done)) is =
-      reply_stall len (bad fault) a out says (fault_agreed fault bad _ true is)
-  done_stall (Commits taken reply stage bad) (inl (says, done)) is = reply_stall len reply a out says (first_agreed _ _ _ true is)
-  done_stall (Commits taken reply stage bad) (inr (fault, says, done)) is =
-      reply_stall len (bad fault) a out says (fault_agreed fault bad _ true is)
+  done_stall p done is = let r = done_reply p true done is in reply_stall len r.0 a out r.1 r.2
 
-  -- And nothing else is answered so.
+  -- And nothing else is.
   pub done_other : (p : Plan) → Done p len d a out d' → verdict p ≡ Some false → a ≢ answer.Stall
-  done_other (Sure reply stage) done is = reply_other len reply a out done.0 (same_some is)
-  done_other (Writes before block reply stage bad) (inl (says, done)) is = reply_other len reply a out says (first_agreed _ _ _ false is)
-  done_other (Writes before block reply stage bad) (inr (fault, says, done)) is =
-      reply_other len (bad fault) a out says (fault_agreed fault bad _ false is)
-  done_other (Commits taken reply stage bad) (inl (says, done)) is = reply_other len reply a out says (first_agreed _ _ _ false is)
-  done_other (Commits taken reply stage bad) (inr (fault, says, done)) is =
-      reply_other len (bad fault) a out says (fault_agreed fault bad _ false is)
+  done_other p done is = let r = done_reply p false done is in reply_other len r.0 a out r.1 r.2

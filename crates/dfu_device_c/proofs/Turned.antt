@@ -13,7 +13,7 @@ use Rattle.dfu_device_c.specs.Config.{transfer_of, IsConfig}
 use Rattle.dfu_device_c.specs.Kept.{IsKept, block_in, held_back_in}
 use Rattle.dfu_device_c.specs.Calls.{Goes}
 use Rattle.dfu_device_c.specs.Board.{CoreBoard, CoreEvent}
-use Rattle.dfu_device_c.specs.Steps.{core_board_of, core_event_of, EventSays}
+use Rattle.dfu_device_c.specs.Steps.{board_of_core, event_of_core, EventSays}
 use Rattle.dfu_device_c.proofs.Same.{one_device}
 
 -- A board in C is a board with this device, whose block is no longer than any may be.
@@ -28,8 +28,17 @@ pub record IsTurn (b : CoreBoard) (a : Asking) (e : CoreEvent) (n : ℤ) (out : 
   pub after : Asking
   pub sound : IsSound b' after
   pub says : Says
-  pub happens : Happens (core_board_of b a) (core_event_of b.config e) says (core_board_of b' after)
+  pub happens : Happens (board_of_core b a) (event_of_core b.config e) says (board_of_core b' after)
   pub told : EventSays e n out says
+
+-- A board with the same configuration is one with this device, if its record is, with a block no longer than any may be.
+pub sound_as : (b b' : CoreBoard) (a : Asking) → IsConfig b.config → b'.config ≡ b.config → IsKept b.config b'.kept a
+    → a.block_len ≤ transfer_of b.config → IsSound b' a
+sound_as b b' a config same kept short = record {
+  config = subst (λ (c : DfuConfig). IsConfig c) (sym same) config;
+  kept = subst (λ (c : DfuConfig). IsKept c b'.kept a) (sym same) kept;
+  short = omega (arith, short, ap transfer_of same);
+}
 
 transfer_in : (b : CoreBoard) (a : Asking) → IsSound b a → a.config.functional.transfer ≡ transfer_of b.config
 transfer_in b a sound = ap (λ (s : Setting). s.functional.transfer) sound.kept.set_up.config_is
@@ -51,21 +60,16 @@ fits_of b a sound room =
 
 -- Nothing changed.
 still : (b : CoreBoard) (a : Asking) (b' : CoreBoard) → IsSound b a → b'.config ≡ b.config → b'.flash ≡ b.flash → b'.kept ≡ b.kept
-    → b'.block ≡ b.block → IsSound b' a × (core_board_of b' a ≡ core_board_of b a)
+    → b'.block ≡ b.block → IsSound b' a × (board_of_core b' a ≡ board_of_core b a)
 still b a b' sound config flash kept block = (
-  record {
-    config = subst (λ (c : DfuConfig). IsConfig c) (sym config) sound.config;
-    kept = subst (λ (c : DfuConfig). IsKept c b'.kept a) (sym config)
-        (subst (λ (r : DfuRecord). IsKept b.config r a) (sym kept) sound.kept);
-    short = omega (arith, sound.short, ap transfer_of config);
-  },
+  sound_as b b' a sound.config config (subst (λ (r : DfuRecord). IsKept b.config r a) (sym kept) sound.kept) sound.short,
   λ i. record { asking = a; block = block_in a (block i); held = held_back_in a (block i); flash = flash i },
 )
 
 -- A call that is refused changes nothing.
 pub unchanged : (b : CoreBoard) (a : Asking) (e : CoreEvent) (n : ℤ) (out' : List ℕ) (b' : CoreBoard) → IsSound b a
     → b'.config ≡ b.config → b'.flash ≡ b.flash → b'.kept ≡ b.kept → b'.block ≡ b.block
-    → (core_board_of b' a ≡ core_board_of b a → Happens (core_board_of b a) (core_event_of b.config e) Nothing (core_board_of b' a))
+    → (board_of_core b' a ≡ board_of_core b a → Happens (board_of_core b a) (event_of_core b.config e) Nothing (board_of_core b' a))
     → EventSays e n out' Nothing → IsTurn b a e n out' b'
 unchanged b a e n out' b' sound config flash kept block happens told =
     let same = still b a b' sound config flash kept block in
@@ -78,14 +82,24 @@ goes_on b a r' block' Does sound g =
     subst (λ (x : Asking). Does x g.after) (one_device b.config b.kept g.before a g.was sound.kept) g.does
 
 -- Then the board is that device.
-pub sound_on : (b : CoreBoard) (a : Asking) (b' : CoreBoard) (Does : Asking → Asking → Type 0) → IsSound b a
+sound_on : (b : CoreBoard) (a : Asking) (b' : CoreBoard) (Does : Asking → Asking → Type 0) → IsSound b a
     → b'.config ≡ b.config → (g : Goes b.config b.kept b.block b'.kept b'.block Does) → IsSound b' g.after
 sound_on b a b' Does sound config g =
     let same : g.before ≡ a = one_device b.config b.kept g.before a g.was sound.kept in
-    let short : g.after.block_len ≤ transfer_of b.config =
-    (g.fits (subst (λ (x : Asking). Fits x (transfer_of b.config)) (sym same) (fits_in b a sound))).block in
-    record {
-      config = subst (λ (c : DfuConfig). IsConfig c) (sym config) sound.config;
-      kept = subst (λ (c : DfuConfig). IsKept c b'.kept g.after) (sym config) g.is;
-      short = omega (arith, short, ap transfer_of config);
-    }
+    sound_as b b' g.after sound.config config g.is
+    (g.fits (subst (λ (x : Asking). Fits x (transfer_of b.config)) (sym same) (fits_in b a sound))).block
+
+-- So the call is a step of the board, if that is what it does.
+pub turns : (b : CoreBoard) (a : Asking) (e : CoreEvent) (n : ℤ) (out' : List ℕ) (b' : CoreBoard) {Does : Asking → Asking → Type 0}
+    (says : Says)
+    → IsSound b a → b'.config ≡ b.config → (g : Goes b.config b.kept b.block b'.kept b'.block Does)
+    → Happens (board_of_core b a) (event_of_core b.config e) says (board_of_core b' g.after) → EventSays e n out' says
+    → IsTurn b a e n out' b'
+turns b a e n out' b' says sound config g happens told = record {
+  config = config;
+  after = g.after;
+  sound = sound_on b a b' _ sound config g;
+  says = says;
+  happens = happens;
+  told = told;
+}

@@ -8,11 +8,11 @@ use Rattle.dfu_wire.specs.Setup.{IsSetup}
 use Rattle.dfu_wire.specs.Request.{Asks}
 use Rattle.dfu_slots.specs.Seen.{image_of}
 use Rattle.dfu_device.specs.declared.answer.Answer.{Answer}
-use Rattle.dfu_device.specs.declared.mode.Mode.{Mode}
+use Rattle.dfu_device.specs.declared.device_state.DeviceState.{DeviceState}
 use Rattle.dfu_device.specs.Stage.{Profile, Stage, Request, OtherRequest}
 use Rattle.dfu_device.specs.Table.{Plan, plan}
 use Rattle.dfu_device.specs.Setting.{Setting}
-use Rattle.dfu_device.specs.Shown.{Shown, profile, profile_of}
+use Rattle.dfu_device.specs.DeviceView.{DeviceView, profile, profile_of}
 use Rattle.dfu_device.specs.Parts.{stage_of}
 use Rattle.dfu_device.specs.Rows.{Done, Handles, handled_as, meant, asked_length, body_length, setup_plan}
 use Rattle.dfu_device_c.specs.Verdict.{verdict, IsBodyOf, SaysStall}
@@ -28,7 +28,7 @@ pub found_one : {A : Type 0} (o : Option A) (m x : A) → o ≡ Some m → o ≡
 found_one o m x is also = ap (value_or m) (sym is ∙ also)
 
 -- A setup with its body is stalled if the table stalls its request.
-pub served_stalls : (d : Shown) (m : Mode) (spare unwritten : List ℕ) (p : Setup) (q : Asked) (body : List ℕ)
+pub served_stalls : (d : DeviceView) (m : DeviceState) (spare unwritten : List ℕ) (p : Setup) (q : Asked) (body : List ℕ)
     → d.stage ≡ stage_of m spare unwritten
     → (length body == body_length p) ≡ true
     → verdict (setup_plan d p q body) ≡ verdict (plan (profile d) (image_of d.slots) d.stage (meant q body))
@@ -54,8 +54,9 @@ same_profile s image stage r {b = b} is room_is said =
 module _ (setup : List ℕ) (p : Setup) (q : Asked) (b : Bool) (the_setup : (x : Setup) → IsSetup x setup → p ≡ x)
     (the_request : (x : Asked) → Asks p x → q ≡ x) where
   -- 1 says of an answer that it is the stall of a plan, or 0.
-  says_stall : (result : ℤ) → (b ≡ true → result ≡ pos 1) → (b ≡ false → result ≡ pos 0) → (d : Shown) (w : Plan) (len : ℕ) (x : Answer)
-      (sent : List ℕ) (d' : Shown) → Done w len d x sent d' → Some b ≡ verdict w → (e : Bool) → b ≡ e → SaysStall result x
+  says_stall : (result : ℤ) → (b ≡ true → result ≡ pos 1) → (b ≡ false → result ≡ pos 0)
+      → (d : DeviceView) (w : Plan) (len : ℕ) (x : Answer)
+      (sent : List ℕ) (d' : DeviceView) → Done w len d x sent d' → Some b ≡ verdict w → (e : Bool) → b ≡ e → SaysStall result x
   says_stall result is_one is_zero d w len x sent d' done is true e = record {
     stall = λ _. is_one e;
     other = λ ne. absurd (ne (done_stall len d x sent d' w done (sym is ∙ ap Some e)));
@@ -66,10 +67,10 @@ module _ (setup : List ℕ) (p : Setup) (q : Asked) (b : Bool) (the_setup : (x :
   }
 
   -- So it says of the answer to the setup, if it says so of the row of what the setup asks.
-  pub told_row : (result : ℤ) → (b ≡ true → result ≡ pos 1) → (b ≡ false → result ≡ pos 0) → (d : Shown) (body : List ℕ)
+  pub told_row : (result : ℤ) → (b ≡ true → result ≡ pos 1) → (b ≡ false → result ≡ pos 0) → (d : DeviceView) (body : List ℕ)
       → IsBodyOf setup body
       → (length body ≡ body_length p → Asks p q → Some b ≡ verdict (setup_plan d p q body))
-      → (x : Answer) (sent : List ℕ) (d' : Shown) → Handles setup body d x sent d' → SaysStall result x
+      → (x : Answer) (sent : List ℕ) (d' : DeviceView) → Handles setup body d x sent d' → SaysStall result x
   told_row result is_one is_zero d body body_is said x sent d' (handled_as y z is asks done) =
       let p_is : p ≡ y = the_setup y is in
       let asks_p : Asks p z = subst (λ k. Asks k z) (sym p_is) asks in

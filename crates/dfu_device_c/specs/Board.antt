@@ -2,7 +2,7 @@
 use Rattle.std.specs.Prelude.{◌≡◌, ℕ, ℤ, Bool, List, []}
 use Rattle.dfu_wire.specs.declared.states.State.{State}
 use Rattle.dfu_slots.specs.Medium.{MediumState}
-use Rattle.dfu_device.specs.declared.mode.Mode.{Mode}
+use Rattle.dfu_device.specs.declared.device_state.DeviceState.{DeviceState}
 use Rattle.dfu_device.specs.Stage.{state_of}
 use Rattle.dfu_device.specs.Parts.{stage_of}
 use Rattle.dfu_asks.specs.Mapped.{mapped}
@@ -19,12 +19,12 @@ pub record CoreBoard : Type 0 where
   pub flash : List ℕ
 
 -- Its flash as a medium, of which any write may fail.
-abbrev pub core_flash_of : CoreBoard → MediumState
-core_flash_of b = mapped (config_grain b.config) b.flash
+abbrev pub medium_of_core : CoreBoard → MediumState
+medium_of_core b = mapped (config_grain b.config) b.flash
 
 -- It is in this state of the standard, as dfu_core_state tells it.
 pub record IsIn (b : CoreBoard) (state : State) : Type 0 where
-  pub mode : Mode
+  pub mode : DeviceState
   pub has_mode : HasMode b.kept mode
   pub state_is : state_of (stage_of mode [] []) ≡ state
 

@@ -3,16 +3,16 @@ use Rattle.std.specs.Prelude.{◌≡◌, ◌≢◌, ◌⊎◌, ℕ, ℤ, Bool, �
 use Rattle.dfu_slots.specs.Medium.{Torn}
 use Rattle.dfu_slots.specs.Seen.{SlotsState}
 use Rattle.dfu_device.specs.declared.answer.Answer.{Answer}
-use Rattle.dfu_device.specs.Shown.{Shown}
+use Rattle.dfu_device.specs.DeviceView.{DeviceView}
 use Rattle.dfu_asks.specs.declared.asking.Asking.{Asking}
 use Rattle.dfu_asks.specs.declared.reply.Reply.{Reply}
-use Rattle.dfu_asks.specs.declared.work.Work.{Work}
+use Rattle.dfu_asks.specs.declared.pending_writes.PendingWrites.{PendingWrites}
 use Rattle.dfu_asks.specs.Carried.{IsPiece}
 use Rattle.dfu_asks.specs.Steps.{Step}
 use Rattle.dfu_asks.specs.Lent.{LentAsking}
 use Rattle.dfu_asks.specs.Asks.{device_of, steps_in}
 use Rattle.dfu_asks.specs.Calls.{DeviceCalled, AsksWrites, DeviceTook}
-use Rattle.dfu_asks.specs.Refused.{IsKeptOn as IsWhole, IsThere, Fits, IsLeft}
+use Rattle.dfu_asks.specs.Refused.{IsKeptOn, IsThere, Fits, IsLeft}
 use Rattle.dfu_device_c.specs.declared.config.DfuConfig.{DfuConfig}
 use Rattle.dfu_device_c.specs.declared.record.DfuRecord.{DfuRecord}
 use Rattle.dfu_device_c.specs.declared.refusal.Refusal.{Refusal}
@@ -35,7 +35,7 @@ IsUnfound e c r room = ⊥
 
 -- This memory of its block is as the last call of a device that asks left it on this flash.
 abbrev pub IsIntact : (memory flash : List ℕ) → Asking → Type 0
-IsIntact memory flash a = IsWhole a (block_in a memory) (held_back_in a memory) flash
+IsIntact memory flash a = IsKeptOn a (block_in a memory) (held_back_in a memory) flash
 
 -- By this a call for a device that asks is refused: writes are due; or else the noted header is not in an open slot of the flash; or else
 -- the device is not as the last call left it.
@@ -72,7 +72,7 @@ pub record Goes (c : DfuConfig) (r : DfuRecord) (block : List ℕ) (r' : DfuReco
 
 -- No writes were due, and the number says what came of a call, which is a row, or asks for its writes, of a device that is as the last
 -- call left it.
-pub record Replied (Whole : Type 0) (a : LentAsking) (flash out : List ℕ) (Row : Answer → List ℕ → Shown → Type 0) (number : Reply → ℤ)
+pub record Replied (Whole : Type 0) (a : LentAsking) (flash out : List ℕ) (Row : Answer → List ℕ → DeviceView → Type 0) (number : Reply → ℤ)
     (result : ℤ) (a' : LentAsking) (out' : List ℕ) : Type 0 where
   pub idle : a.work ≡ None
   pub reply : Reply
@@ -80,7 +80,7 @@ pub record Replied (Whole : Type 0) (a : LentAsking) (flash out : List ℕ) (Row
   pub called : Whole → DeviceCalled a flash out Row a' out' reply
 
 -- The same of time that passed, of which the number says 0, or that writes are asked for.
-pub record TimePassed (Whole : Type 0) (a : LentAsking) (flash : List ℕ) (Row : Answer → List ℕ → Shown → Type 0) (result : ℤ)
+pub record TimePassed (Whole : Type 0) (a : LentAsking) (flash : List ℕ) (Row : Answer → List ℕ → DeviceView → Type 0) (result : ℤ)
     (a' : LentAsking)
     : Type 0 where
   pub idle : a.work ≡ None
@@ -91,7 +91,7 @@ pub record TimePassed (Whole : Type 0) (a : LentAsking) (flash : List ℕ) (Row 
 -- Writes were due, the program said how a piece went, and the number says what came of it.
 pub record Went (a : LentAsking) (flash : List ℕ) (failed : Bool) (out : List ℕ) (result : ℤ) (a' : LentAsking) (out' : List ℕ)
     : Type 0 where
-  pub work : Work
+  pub work : PendingWrites
   pub left : IsLeft a work
   pub reply : Reply
   pub number_is : result ≡ reply_number reply

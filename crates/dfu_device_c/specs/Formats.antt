@@ -5,8 +5,8 @@ use Rattle.dfu_slots.specs.declared.fault.FormatFault.TheVariants as fault
 use Rattle.dfu_slots.specs.Medium.{Torn}
 use Rattle.dfu_slots.specs.Changes.{IsFormatFault}
 use Rattle.dfu_asks.specs.declared.formatting.Formatting.{Formatting}
-use Rattle.dfu_asks.specs.declared.progress.Progress.{Progress}
-use Rattle.dfu_asks.specs.declared.progress.Progress.TheVariants as progress
+use Rattle.dfu_asks.specs.declared.format_progress.FormatProgress.{FormatProgress}
+use Rattle.dfu_asks.specs.declared.format_progress.FormatProgress.TheVariants as format_progress
 use Rattle.dfu_asks.specs.Mapped.{mapped}
 use Rattle.dfu_asks.specs.Steps.{Step}
 use Rattle.dfu_asks.specs.Carried.{IsPiece, ErasesWhole}
@@ -56,10 +56,10 @@ RefusesFormat c r Why result = ((result ≡ NO_CONFIG) × ¬ IsConfig c)
     ⊎ ((result ≡ NO_DEVICE) × IsConfig c × (((f : Formatting) → ¬ IsFormatting c r f) ⊎ ((f : Formatting) × IsFormatting c r f × Why f)))
 
 -- The number of what comes of a piece of a format.
-abbrev pub progress_number : Progress → ℤ
-progress_number progress.Asks = ASKS
-progress_number progress.Formatted = pos 0
-progress_number (progress.Broken why) = format_number fault.Failed
+abbrev pub progress_number : FormatProgress → ℤ
+progress_number format_progress.Asks = ASKS
+progress_number format_progress.Formatted = pos 0
+progress_number (format_progress.Broken why) = format_number fault.Failed
 
 -- The program said how a piece of a format went, and the number says what came of it.
 -- The record is the format while it asks; then it is none. Nothing else of it changes.
@@ -68,10 +68,10 @@ pub record GoesFormat (c : DfuConfig) (r : DfuRecord) (flash image : List ℕ) (
   pub before : Formatting
   pub is : IsFormatting c r before
   pub after : Formatting
-  pub came : Progress
+  pub came : FormatProgress
   pub number_is : result ≡ progress_number came
-  pub on : came ≡ progress.Asks → IsFormatting c r' after
-  pub over : came ≢ progress.Asks → r'.work ≡ 0
+  pub on : came ≡ format_progress.Asks → IsFormatting c r' after
+  pub over : came ≢ format_progress.Asks → r'.work ≡ 0
   pub rest : r' ≡ record r { work = r'.work; spare = r'.spare; sum = r'.sum; done = r'.done; generation = r'.generation }
   pub took : (was mid : List ℕ) → AsksFormat before image was mid → (p : Step)
       → IsPiece (steps_left before (length was) image) before.done p

@@ -1,7 +1,7 @@
 -- The format that a record is.
 use Rattle.std.specs.Prelude.{◌≡◌, ℕ}
-use Rattle.dfu_asks.specs.declared.phase.Phase.{Phase}
-use Rattle.dfu_asks.specs.declared.phase.Phase.TheVariants as phase
+use Rattle.dfu_asks.specs.declared.format_step.FormatStep.{FormatStep}
+use Rattle.dfu_asks.specs.declared.format_step.FormatStep.TheVariants as format_step
 use Rattle.dfu_asks.specs.declared.formatting.Formatting.{Formatting}
 use Rattle.dfu_device_c.specs.declared.config.DfuConfig.{DfuConfig}
 use Rattle.dfu_device_c.specs.Config.{unit_of}
@@ -12,13 +12,13 @@ abbrev pub FORMAT : ℕ
 FORMAT = 3
 
 -- These are the number of a part of a format, and where the image goes on.
-abbrev pub HasPhase : ℕ → ℕ → Phase → Type 0
-HasPhase n from phase.CloseSecond = n ≡ 0
-HasPhase n from phase.CloseFirst = n ≡ 1
-HasPhase n from (phase.Image at) = (n ≡ 2) × (at ≡ from)
-HasPhase n from phase.Header = n ≡ 3
-HasPhase n from phase.Gate = n ≡ 4
-HasPhase n from phase.Ended = n ≡ 5
+abbrev pub HasPhase : ℕ → ℕ → FormatStep → Type 0
+HasPhase n from format_step.CloseSecond = n ≡ 0
+HasPhase n from format_step.CloseFirst = n ≡ 1
+HasPhase n from (format_step.Image at) = (n ≡ 2) × (at ≡ from)
+HasPhase n from format_step.Header = n ≡ 3
+HasPhase n from format_step.Gate = n ≡ 4
+HasPhase n from format_step.Ended = n ≡ 5
 
 -- The record is this format.
 pub record IsFormatting (c : DfuConfig) (r : DfuRecord) (f : Formatting) : Type 0 where

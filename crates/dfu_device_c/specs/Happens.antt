@@ -1,12 +1,12 @@
 -- What may come of a step of a board in C: what the clauses of a call say, and what may become of its flash.
 use Rattle.std.specs.Prelude.{◌≡◌, ◌⊎◌, ◌==◌, ◌≤◌, not, ℕ, ℤ, Bool, true, false, pos, List, [], ◌∷◌, length, None}
 use Rattle.dfu_slots.specs.Medium.{Torn}
-use Rattle.dfu_device.specs.declared.mode.Mode.{Mode}
-use Rattle.dfu_device.specs.declared.mode.Mode.TheVariants.{AppIdle, DfuIdle}
+use Rattle.dfu_device.specs.declared.device_state.DeviceState.{DeviceState}
+use Rattle.dfu_device.specs.declared.device_state.DeviceState.TheVariants.{AppIdle, DfuIdle}
 use Rattle.dfu_device.specs.declared.answer.Answer.TheVariants as answer
 use Rattle.dfu_device.specs.Rows.{Handles, Elapses}
 use Rattle.dfu_device.specs.Table.{reset_stage}
-use Rattle.dfu_device.specs.Lent.{answer_room}
+use Rattle.dfu_device.specs.Borrowed.{answer_room}
 use Rattle.dfu_asks.specs.Asks.{device_in}
 use Rattle.dfu_device_c.specs.declared.ask.DfuAsk.{DfuAsk}
 use Rattle.dfu_device_c.specs.Config.{setting_of, transfer_of}
@@ -20,7 +20,7 @@ use Rattle.dfu_device_c.specs.Idle.{IsIdleRecord, RefusesSetup}
 use Rattle.dfu_device_c.specs.Verdict.{IsBodyOf}
 use Rattle.dfu_device_c.specs.AfterLong.{IsLong}
 use Rattle.dfu_device_c.specs.Long.{TakesLong}
-use Rattle.dfu_device_c.specs.Refuse.{WasClosed, WasRefused}
+use Rattle.dfu_device_c.specs.Refuse.{CloseRefused, WasRefused}
 use Rattle.dfu_device_c.specs.Board.{CoreBoard, CoreEvent, CoreHandle, CoreElapse, CoreReset, CoreTooLong, CoreRefuseClose, CoreRefuse, CoreWrite, CoreTook, CoreRestart, CoreStep}
 
 -- A call leaves the configuration and the flash as they were.
@@ -56,8 +56,8 @@ Reset b n b' =
     ⊎ CoreRefuses b.config b.kept b.block b.flash n b'.kept b'.block
 
 -- What the clause of dfu_core_too_long says, with this setup.
-abbrev pub TookLong : CoreBoard → (setup : List ℕ) → ℤ → CoreBoard → Type 0
-TookLong b setup n b' =
+abbrev pub TooLongCalled : CoreBoard → (setup : List ℕ) → ℤ → CoreBoard → Type 0
+TooLongCalled b setup n b' =
     let own = addressed b.config.interface setup in
     ((n ≡ STALL) × IsIdleRecord b.config b.kept × IsLong b.config own × TakesLong b.config b.kept own b'.kept)
     ⊎ ((b'.kept ≡ b.kept) × (((n ≡ NOT_LONG) × IsIdleRecord b.config b.kept × ¬ IsLong b.config own) ⊎ RefusesSetup b.config b.kept n))
@@ -82,7 +82,7 @@ pub record CoreIsWritten (b : CoreBoard) (n : ℤ) (b' : CoreBoard) : Type 0 whe
   pub block : b'.block ≡ b.block
 
 -- The mode of a device that gets power: dfuIDLE if it begins for a host, else appIDLE.
-abbrev pub start_mode : Bool → Mode
+abbrev pub start_mode : Bool → DeviceState
 start_mode true = DfuIdle
 start_mode false = AppIdle
 
@@ -92,9 +92,9 @@ CoreHappens b (CoreHandle setup body out) n out' b' = IsCalled b b' × Handled b
 CoreHappens b (CoreElapse ms) n out' b' = IsCalled b b' × Elapsed b ms n b'
 CoreHappens b CoreReset n out' b' = IsCalled b b' × Reset b n b'
 CoreHappens b (CoreTooLong setup body) n out' b' = IsCalled b b' × (b'.block ≡ b.block) × (transfer_of b.config ≤ length b.block)
-    × IsBodyOf (addressed b.config.interface setup) body × TookLong b setup n b'
+    × IsBodyOf (addressed b.config.interface setup) body × TooLongCalled b setup n b'
 CoreHappens b (CoreRefuseClose setup status) n out' b' = IsCalled b b' × (b'.block ≡ b.block)
-    × WasClosed b.config b.kept (addressed b.config.interface setup) status n b'.kept
+    × CloseRefused b.config b.kept (addressed b.config.interface setup) status n b'.kept
 CoreHappens b (CoreRefuse status) n out' b' = IsCalled b b' × (b'.block ≡ b.block) × WasRefused b.config b.kept status n b'.kept
 CoreHappens b CoreWrite n out' b' = CoreIsWritten b n b'
 CoreHappens b (CoreTook failed out) n out' b' = IsCalled b b' × Told b failed out n out' b'

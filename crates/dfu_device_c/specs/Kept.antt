@@ -3,9 +3,9 @@ use Rattle.std.specs.Prelude.{◌≡◌, ◌+◌, ◌^◌, ◌<◌, ℕ, Bool, t
 use Rattle.dfu_slots.specs.declared.unit.Unit.{Unit as WriteUnit}
 use Rattle.dfu_device.specs.Setting.{Setting}
 use Rattle.dfu_asks.specs.declared.sector.Sector.{Sector}
-use Rattle.dfu_asks.specs.declared.job.Job.{Job}
-use Rattle.dfu_asks.specs.declared.job.Job.TheVariants as job
-use Rattle.dfu_asks.specs.declared.work.Work.{Work}
+use Rattle.dfu_asks.specs.declared.slot_write.SlotWrite.{SlotWrite}
+use Rattle.dfu_asks.specs.declared.slot_write.SlotWrite.TheVariants as slot_write
+use Rattle.dfu_asks.specs.declared.pending_writes.PendingWrites.{PendingWrites}
 use Rattle.dfu_asks.specs.declared.asking.Asking.{Asking}
 use Rattle.dfu_asks.specs.declared.noted.Noted.{Noted}
 use Rattle.dfu_asks.specs.Lent.{LentAsking, lent}
@@ -20,9 +20,9 @@ IsFlag true n = n ≡ 1
 IsFlag false n = n ≡ 0
 
 -- The record has the numbers of this job.
-abbrev pub HasJob : DfuRecord → Job → Type 0
-HasJob r (job.Block spare close) = (r.work ≡ 1) × (spare ≡ r.spare) × IsFlag close r.close
-HasJob r (job.Commit spare generation register) =
+abbrev pub HasJob : DfuRecord → SlotWrite → Type 0
+HasJob r (slot_write.Block spare close) = (r.work ≡ 1) × (spare ≡ r.spare) × IsFlag close r.close
+HasJob r (slot_write.Commit spare generation register) =
     (r.work ≡ 2) × (spare ≡ r.spare) × (generation ≡ r.generation) × (register ≡ r.sum)
 
 -- This number is that of a GETSTATUS that waits, or of none.
@@ -31,7 +31,7 @@ IsAskedNumber n None = n ≡ 0
 IsAskedNumber n (Some len) = (n ≡ len + 1) × (len < 2 ^ 16)
 
 -- The record has this work, or none.
-abbrev pub HasWork : DfuRecord → Option Work → Type 0
+abbrev pub HasWork : DfuRecord → Option PendingWrites → Type 0
 HasWork r None = r.work ≡ 0
 HasWork r (Some w) = HasJob r w.job × IsAskedNumber r.asked w.asked × (w.done ≡ r.done)
 

@@ -5,16 +5,16 @@ use Rattle.dfu_slots.specs.Image.{Active}
 use Rattle.dfu_host.specs.declared.limits.Limits.{Limits}
 use Rattle.dfu_host.specs.Phases.{Goal, ToFetch}
 use Rattle.dfu_host.specs.Host.{HostState, started, aborted}
-use Rattle.dfu_sim.specs.declared.aim.Aim.{Aim}
-use Rattle.dfu_sim.specs.Opening.{goal_of_aim}
-use Rattle.dfu_sim.specs.Bench.{Session, Nobody, Hosted}
+use Rattle.dfu_sim.specs.declared.purpose.Purpose.{Purpose}
+use Rattle.dfu_sim.specs.Opening.{goal_of_purpose}
+use Rattle.dfu_sim.specs.LinkView.{Session, Nobody, Hosted}
 use Rattle.dfu_sim.specs.Play.{Answered}
 use Rattle.dfu_sim.specs.Session.{IsOneOf, SaysInPlace}
 use Rattle.dfu_board.specs.Board.{Board, BoardStep}
 use Rattle.dfu_board_play.specs.Comes.{BoardLink, BoardComes}
 use Rattle.dfu_board_play.specs.Plays.{Plays}
 use Rattle.dfu_device_c.specs.Config.{setting_of}
-use Rattle.dfu_device_c.specs.Board.{CoreBoard, CoreStep, core_flash_of, IsIn}
+use Rattle.dfu_device_c.specs.Board.{CoreBoard, CoreStep, medium_of_core, IsIn}
 use Rattle.dfu_device_c.specs.Happens.{IsCoreOn, IsCoreRun}
 use Rattle.dfu_device_c.specs.Steps.{IsBoardOf, AreStepsOf}
 
@@ -56,7 +56,7 @@ pub record CoreComes (l : CoreLink) (steps : List CoreStep) (answer : Answered) 
 pub record IsCoreInPlace (last : Option (List ℕ)) (b : CoreBoard) : Type 0 where
   pub payload : List ℕ
   pub offered : last ≡ Some payload
-  pub active : Active (core_flash_of b) payload
+  pub active : Active (medium_of_core b) payload
   pub state : IsIn b AppIdle
 
 -- If Installed or Verified is reported, it is so.
@@ -69,24 +69,24 @@ CorePlaysInstall = (b : CoreBoard) (steps more : List CoreStep) (past : List (Li
 abbrev pub CorePlaysGive : Type 0
 CorePlaysGive = (b : CoreBoard) (steps more : List CoreStep) (past : List (List ℕ)) (last : Option (List ℕ)) (l l' : CoreLink)
     (answer : Answered) (bytes : List ℕ) → IsCoreOn b → CorePlays b steps past last l → CoreComes l more answer l'
-    → answer.gave ≡ Some bytes → Active (core_flash_of l'.board) bytes
+    → answer.gave ≡ Some bytes → Active (medium_of_core l'.board) bytes
 
 -- The active image of the flash is this one, or one of these.
-pub record HasCoreKnown (image : List ℕ) (past : List (List ℕ)) (b : CoreBoard) : Type 0 where
+pub record CoreKnownIsActive (image : List ℕ) (past : List (List ℕ)) (b : CoreBoard) : Type 0 where
   pub now : List ℕ
-  pub active : Active (core_flash_of b) now
+  pub active : Active (medium_of_core b) now
   pub known : (now ≡ image) ⊎ IsOneOf now past
 
 -- The active image is the one that it was at first, or the whole of a payload offered so far.
 abbrev pub CorePlaysKnow : Type 0
 CorePlaysKnow = (b : CoreBoard) (steps : List CoreStep) (past : List (List ℕ)) (last : Option (List ℕ)) (l : CoreLink) (image : List ℕ)
-    → IsCoreOn b → Active (core_flash_of b) image → CorePlays b steps past last l → HasCoreKnown image past l.board
+    → IsCoreOn b → Active (medium_of_core b) image → CorePlays b steps past last l → CoreKnownIsActive image past l.board
 
 -- So it is at each step of what comes next, also between two writes of a call that is under way: after the first of its steps.
 abbrev pub CorePlaysKnowWithin : Type 0
 CorePlaysKnowWithin = (b mid : CoreBoard) (steps front rest : List CoreStep) (past : List (List ℕ)) (last : Option (List ℕ))
-    (l l' : CoreLink) (answer : Answered) (image : List ℕ) → IsCoreOn b → Active (core_flash_of b) image → CorePlays b steps past last l
-    → CoreComes l (front ++ rest) answer l' → IsCoreRun l.board front mid → HasCoreKnown image past mid
+    (l l' : CoreLink) (answer : Answered) (image : List ℕ) → IsCoreOn b → Active (medium_of_core b) image → CorePlays b steps past last l
+    → CoreComes l (front ++ rest) answer l' → IsCoreRun l.board front mid → CoreKnownIsActive image past mid
 
 -- All that comes to the board in C is a run of it, so what holds of runs holds.
 abbrev pub CorePlaysRun : Type 0
@@ -101,9 +101,9 @@ core_opened b goal limits = record { board = b; session = Hosted (started (setti
 -- live; or the live one is given up; or the next thing comes.
 pub record CorePlaysGoOn : Type 0 where
   pub starts : (b : CoreBoard) → IsCoreOn b → CorePlays b [] [] None (record { board = b; session = Nobody })
-  pub offers : (b : CoreBoard) (steps : List CoreStep) (past : List (List ℕ)) (last : Option (List ℕ)) (l : CoreLink) (aim : Aim)
+  pub offers : (b : CoreBoard) (steps : List CoreStep) (past : List (List ℕ)) (last : Option (List ℕ)) (l : CoreLink) (purpose : Purpose)
       (payload : List ℕ) (limits : Limits) → CorePlays b steps past last l → l.session ≡ Nobody → 0 < length payload
-      → CorePlays b steps (payload ∷ past) (Some payload) (core_opened l.board (goal_of_aim aim payload) limits)
+      → CorePlays b steps (payload ∷ past) (Some payload) (core_opened l.board (goal_of_purpose purpose payload) limits)
   pub uploads : (b : CoreBoard) (steps : List CoreStep) (past : List (List ℕ)) (last : Option (List ℕ)) (l : CoreLink)
       (limits : Limits) → CorePlays b steps past last l → l.session ≡ Nobody
       → CorePlays b steps past None (core_opened l.board ToFetch limits)

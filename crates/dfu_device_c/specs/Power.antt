@@ -2,9 +2,9 @@
 use Rattle.std.specs.Prelude.{◌≡◌, ◌⊎◌, ◌≤◌, ◌^◌, ℕ, ℤ, pos, List, [], length, None}
 use Rattle.dfu_slots.specs.Units.{Grain}
 use Rattle.dfu_slots.specs.Image.{HasImage}
-use Rattle.dfu_device.specs.declared.mode.Mode.{Mode}
+use Rattle.dfu_device.specs.declared.device_state.DeviceState.{DeviceState}
 use Rattle.dfu_device.specs.Parts.{stage_of}
-use Rattle.dfu_device.specs.Shown.{powered_on}
+use Rattle.dfu_device.specs.DeviceView.{powered_on}
 use Rattle.dfu_asks.specs.declared.asking.Asking.{Asking}
 use Rattle.dfu_asks.specs.Mapped.{mapped}
 use Rattle.dfu_asks.specs.Asks.{device_in, IsDevice}
@@ -21,7 +21,7 @@ IsNoMedium grain flash = ¬ HasImage (mapped grain flash) ⊎ 2 ^ 32 ≤ length 
 
 -- A device got power and stands in this mode: the record is this device, which with any memory is the one that gets power on this flash,
 -- in that mode, and no writes are due. All that the record does not need for this is 0.
-pub record Powers (c : DfuConfig) (mode : Mode) (flash : List ℕ) (result : ℤ) (r' : DfuRecord) : Type 0 where
+pub record Powers (c : DfuConfig) (mode : DeviceState) (flash : List ℕ) (result : ℤ) (r' : DfuRecord) : Type 0 where
   pub number_is : result ≡ pos 0
   pub config : IsConfig c
   pub after : Asking

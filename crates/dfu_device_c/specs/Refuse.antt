@@ -46,7 +46,7 @@ WasRefused c r status result r' =
     ⊎ ((r' ≡ r) × RefusesStatus c r status result)
 
 -- What comes of dfu_core_refuse_close, with a setup as the table of the device knows it.
-abbrev pub WasClosed : DfuConfig → DfuRecord → List ℕ → ℕ → ℤ → DfuRecord → Type 0
-WasClosed c r setup status result r' =
+abbrev pub CloseRefused : DfuConfig → DfuRecord → List ℕ → ℕ → ℤ → DfuRecord → Type 0
+CloseRefused c r setup status result r' =
     ((result ≡ STALL) × IsIdleRecord c r × IsObjection status × TakesCause c r (RefusingClose setup (objection_in status)) answer.Stall r')
     ⊎ ((r' ≡ r) × (((result ≡ NO_CLOSE) × IsIdleRecord c r × IsObjection status × ClosesNone c r setup) ⊎ RefusesStatus c r status result))

@@ -7,7 +7,7 @@ use Rattle.dfu_board.specs.Happens.{IsPoweredOn, IsRun}
 use Rattle.dfu_board.specs.Keeps.{HasKept, taken_by, is_manifesting, has_manifested}
 use Rattle.dfu_board.specs.Refines.{HasRefined}
 use Rattle.dfu_device_c.specs.Power.{RefusesPower}
-use Rattle.dfu_device_c.specs.Board.{CoreBoard, CoreRestart, CoreStep, core_flash_of, IsIn}
+use Rattle.dfu_device_c.specs.Board.{CoreBoard, CoreRestart, CoreStep, medium_of_core, IsIn}
 use Rattle.dfu_device_c.specs.Happens.{IsCoreOn, IsCoreRun}
 use Rattle.dfu_device_c.specs.Steps.{IsBoardOf, AreStepsOf}
 use Rattle.dfu_device_c.specs.Fits.{AreFit}
@@ -41,23 +41,24 @@ pub record HasCoreKept (image : List ℕ) (b mid b' : CoreBoard) (old steps : Li
   pub past : IsRunOf b mid old
   pub runs : IsRunOf mid b' steps
   pub kept : HasKept image past.run runs.run runs.last
-  pub active : Active (core_flash_of b') kept.now
+  pub active : Active (medium_of_core b') kept.now
 
 -- Whatever steps come to a board in C that just got power, its image is the one that it has then, or one that is closed later.
 abbrev pub CoreKeeps : Type 0
-CoreKeeps = (b b' : CoreBoard) (steps : List CoreStep) (image : List ℕ) → IsCoreOn b → Active (core_flash_of b) image → IsCoreRun b steps b'
+CoreKeeps =
+    (b b' : CoreBoard) (steps : List CoreStep) (image : List ℕ) → IsCoreOn b → Active (medium_of_core b) image → IsCoreRun b steps b'
     → HasCoreKept image b b b' [] steps
 
 -- So from any later time on, if it is in no state then in which an image may wait: no image comes back that was closed before.
 abbrev pub CoreStays : Type 0
 CoreStays = (b mid b' : CoreBoard) (old steps : List CoreStep) (image : List ℕ) (state : State) → IsCoreOn b → IsCoreRun b old mid
-    → IsIn mid state → is_manifesting state ≡ false → Active (core_flash_of mid) image → IsCoreRun mid steps b'
+    → IsIn mid state → is_manifesting state ≡ false → Active (medium_of_core mid) image → IsCoreRun mid steps b'
     → HasCoreKept image b mid b' old steps
 
 -- All bytes that were taken by these steps are the active image.
 pub record HasInstalled (b mid b' : CoreBoard) (steps : List CoreStep) : Type 0 where
   pub runs : IsRunOf b mid steps
-  pub active : Active (core_flash_of b') (taken_by [] runs.run)
+  pub active : Active (medium_of_core b') (taken_by [] runs.run)
 
 -- So it is if a step leads from a state in which an image may wait to one in which manifestation is over, and no fault is told; but for
 -- power that comes back with dfu_core_begin.

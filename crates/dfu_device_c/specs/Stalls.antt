@@ -2,7 +2,7 @@
 use Rattle.std.specs.Prelude.{◌≡◌, ℕ, ℤ, List, length}
 use Rattle.dfu_device.specs.declared.answer.Answer.{Answer}
 use Rattle.dfu_device.specs.Rows.{Handles}
-use Rattle.dfu_device.specs.Shown.{Shown}
+use Rattle.dfu_device.specs.DeviceView.{DeviceView}
 use Rattle.dfu_asks.specs.declared.asking.Asking.{Asking}
 use Rattle.dfu_asks.specs.Asks.{device_in, IsDevice}
 use Rattle.dfu_device_c.specs.declared.config.DfuConfig.{DfuConfig}
@@ -15,6 +15,6 @@ use Rattle.dfu_device_c.specs.Kept.{IsKept, with_memory}
 abbrev pub ToldStall : DfuConfig → DfuRecord → ℕ → List ℕ → ℤ → Type 0
 ToldStall c r size setup result = (block flash : List ℕ) (a : Asking) → IsKept c r a → IsDevice (with_memory block a) flash
     → length flash ≡ size
-    → (body : List ℕ) → IsBodyOf setup body → (x : Answer) (sent : List ℕ) (d' : Shown)
+    → (body : List ℕ) → IsBodyOf setup body → (x : Answer) (sent : List ℕ) (d' : DeviceView)
     → Handles setup body (device_in (with_memory block a) flash) x sent d'
     → SaysStall result x

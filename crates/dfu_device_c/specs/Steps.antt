@@ -1,7 +1,7 @@
 -- Which step of a board a step in C is.
 use Rattle.std.specs.Prelude.{◌≡◌, ◌⊎◌, ◌==◌, not, ℕ, ℤ, pos, List, [], ◌∷◌, take}
 use Rattle.dfu_asks.specs.declared.asking.Asking.{Asking}
-use Rattle.dfu_board.specs.Board.{Board, Event, Handle, Elapse, UsbReset, RefuseClose, Refuse, Write, Report, Restart, Says, Nothing, WritesDue, Answers, BoardStep}
+use Rattle.dfu_board.specs.Board.{Board, Event, Handle, Elapse, UsbReset, RefuseClose, Refuse, Write, Took, Restart, Says, Nothing, WritesDue, Answers, BoardStep}
 use Rattle.dfu_device_c.specs.declared.config.DfuConfig.{DfuConfig}
 use Rattle.dfu_device_c.specs.declared.refusal.Refusal.{Refusal}
 use Rattle.dfu_device_c.specs.Addressed.{addressed}
@@ -11,25 +11,25 @@ use Rattle.dfu_device_c.specs.Refuse.{objection_in}
 use Rattle.dfu_device_c.specs.Board.{CoreBoard, CoreEvent, CoreHandle, CoreElapse, CoreReset, CoreTooLong, CoreRefuseClose, CoreRefuse, CoreWrite, CoreTook, CoreRestart, CoreStep}
 
 -- The board that a board in C is, if its record is this device.
-abbrev pub core_board_of : CoreBoard → Asking → Board
-core_board_of b a = record { asking = a; block = block_in a b.block; held = held_back_in a b.block; flash = b.flash }
+abbrev pub board_of_core : CoreBoard → Asking → Board
+board_of_core b a = record { asking = a; block = block_in a b.block; held = held_back_in a b.block; flash = b.flash }
 
 -- A board is what a board in C is.
 pub record IsBoardOf (b : CoreBoard) (x : Board) : Type 0 where
   pub kept : IsKept b.config b.kept x.asking
-  pub is : x ≡ core_board_of b x.asking
+  pub is : x ≡ board_of_core b x.asking
 
 -- The event that one in C is: a setup is addressed, and a number that is not 0 says that a write failed.
-abbrev pub core_event_of : DfuConfig → CoreEvent → Event
-core_event_of c (CoreHandle setup body out) = Handle (addressed c.interface setup) body
-core_event_of c (CoreElapse ms) = Elapse ms
-core_event_of c CoreReset = UsbReset
-core_event_of c (CoreTooLong setup body) = Handle (addressed c.interface setup) body
-core_event_of c (CoreRefuseClose setup status) = RefuseClose (addressed c.interface setup) (objection_in status)
-core_event_of c (CoreRefuse status) = Refuse (objection_in status)
-core_event_of c CoreWrite = Write
-core_event_of c (CoreTook failed out) = Report (not (failed == 0))
-core_event_of c (CoreRestart begins) = Restart begins
+abbrev pub event_of_core : DfuConfig → CoreEvent → Event
+event_of_core c (CoreHandle setup body out) = Handle (addressed c.interface setup) body
+event_of_core c (CoreElapse ms) = Elapse ms
+event_of_core c CoreReset = UsbReset
+event_of_core c (CoreTooLong setup body) = Handle (addressed c.interface setup) body
+event_of_core c (CoreRefuseClose setup status) = RefuseClose (addressed c.interface setup) (objection_in status)
+event_of_core c (CoreRefuse status) = Refuse (objection_in status)
+event_of_core c CoreWrite = Write
+event_of_core c (CoreTook failed out) = Took (not (failed == 0))
+event_of_core c (CoreRestart begins) = Restart begins
 
 -- A call with this number was refused.
 abbrev pub IsRefusal : ℤ → Type 0
@@ -68,7 +68,7 @@ EventSays e n out' says = (n ≡ pos 0) × (says ≡ Nothing)
 -- A step in C is this step of a board.
 pub record IsStepOf (s : CoreStep) (t : BoardStep) : Type 0 where
   pub before : IsBoardOf s.before t.before
-  pub event : t.event ≡ core_event_of s.before.config s.event
+  pub event : t.event ≡ event_of_core s.before.config s.event
   pub says : EventSays s.event s.number s.out t.says
   pub after : IsBoardOf s.after t.after
 

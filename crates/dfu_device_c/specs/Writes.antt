@@ -3,7 +3,7 @@ use Rattle.std.specs.Prelude.{◌≡◌, ◌⊎◌, ◌==◌, ◌^◌, ℕ, ℤ,
 use Rattle.dfu_slots.specs.Image.{Active}
 use Rattle.dfu_slots.specs.Seen.{SlotsState}
 use Rattle.dfu_asks.specs.declared.asking.Asking.{Asking}
-use Rattle.dfu_asks.specs.declared.work.Work.{Work}
+use Rattle.dfu_asks.specs.declared.pending_writes.PendingWrites.{PendingWrites}
 use Rattle.dfu_asks.specs.Mapped.{grain_of, mapped, IsInSpare}
 use Rattle.dfu_asks.specs.Steps.{Step}
 use Rattle.dfu_asks.specs.Carried.{IsPiece, ErasesWhole}
@@ -33,7 +33,7 @@ pub record HandsOut (c : DfuConfig) (r : DfuRecord) (block flash : List ℕ) (re
   pub room : block_memory_size c ≤ length block
   pub asking : Asking
   pub is : IsKept c r asking
-  pub work : Work
+  pub work : PendingWrites
   pub work_is : asking.work ≡ Some work
   pub kind : (ask.kind ≡ 1) ⊎ (ask.kind ≡ 2)
   pub piece : IsPiece (steps_in (with_memory block asking) work) work.done (ask_step ask)

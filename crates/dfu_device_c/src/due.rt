@@ -7,7 +7,7 @@ ghost use Rattle.dfu_device_c.specs.Due.{LATEST, due_of, ToldDue};
 use crate::config::{DfuConfig, functional_of};
 use crate::idle::mode_in;
 use crate::record::DfuRecord;
-use dfu_device::Mode;
+use dfu_device::DeviceState;
 
 // How many milliseconds are left, at least 1; at the largest number as many or more.
 fn left(limit: u32, passed: u32) -> i32
@@ -17,18 +17,18 @@ fn left(limit: u32, passed: u32) -> i32
 }
 
 // In how many milliseconds the state of this mode changes; 0 if no time changes it.
-fn due_in(config: &DfuConfig, mode: Mode) -> i32
+fn due_in(config: &DfuConfig, mode: DeviceState) -> i32
     ensures { result ≡ pos (min LATEST (due_of (setting_of config.now) mode)) }
 {
     match mode {
-        Mode::AppDetach { timer, passed } => {
+        DeviceState::AppDetach { timer, passed } => {
             if functional_of(config).will_detach {
                 return 1;
             }
             left(timer, passed)
         }
-        Mode::DownloadBusy { passed, .. } => left(config.busy_ms, passed),
-        Mode::Manifest { passed, .. } => left(config.manifest_ms, passed),
+        DeviceState::DownloadBusy { passed, .. } => left(config.busy_ms, passed),
+        DeviceState::Manifest { passed, .. } => left(config.manifest_ms, passed),
         _ => 0,
     }
 }

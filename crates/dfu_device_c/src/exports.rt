@@ -2,7 +2,7 @@
 ghost use Rattle.std.specs.Prelude.{◌≡◌, ◌⊎◌, ◌<◌, [], ℕ, List, pos, length, None};
 ghost use Rattle.dfu_device.specs.Rows.{Handles, Elapses};
 ghost use Rattle.dfu_device.specs.Table.{reset_stage};
-ghost use Rattle.dfu_device.specs.Lent.{answer_room};
+ghost use Rattle.dfu_device.specs.Borrowed.{answer_room};
 ghost use Rattle.dfu_asks.specs.Asks.{device_in};
 ghost use Rattle.dfu_device_c.specs.Config.{setting_of};
 ghost use Rattle.dfu_device_c.specs.Addressed.{addressed};

@@ -10,7 +10,7 @@ use crate::formatting::{formatting_of, keep_format};
 use crate::numbers;
 use crate::record::{DfuRecord, blank};
 use crate::writes::kind_of;
-use dfu_asks::{Formatting, Progress};
+use dfu_asks::{FormatProgress, Formatting};
 use dfu_slots::FormatFault;
 
 // The number of a fault of a format.
@@ -109,15 +109,15 @@ pub extern "C" fn dfu_core_format_took(
     };
     match formatting.took(flash, image, failed != 0) {
         None => -4,
-        Some(Progress::Asks) => {
+        Some(FormatProgress::Asks) => {
             keep_format(&formatting, device);
             numbers::ASKS
         }
-        Some(Progress::Formatted) => {
+        Some(FormatProgress::Formatted) => {
             device.work = 0;
             0
         }
-        Some(Progress::Broken(_)) => {
+        Some(FormatProgress::Broken(_)) => {
             device.work = 0;
             number_of(FormatFault::Failed)
         }

@@ -1,6 +1,6 @@
 //! The format that a record is, by its numbers.
 ghost use Rattle.std.specs.Prelude.{◌≡◌, IfSome, IfNone};
-ghost use Rattle.dfu_asks.specs.declared.phase.Phase.{Phase as Part};
+ghost use Rattle.dfu_asks.specs.declared.format_step.FormatStep.{FormatStep as Part};
 ghost use Rattle.dfu_asks.specs.declared.formatting.Formatting.{Formatting as Going};
 ghost use Rattle.dfu_device_c.specs.declared.config.DfuConfig.{DfuConfig as Given};
 ghost use Rattle.dfu_device_c.specs.Kept.{IsSetUp};
@@ -8,23 +8,23 @@ ghost use Rattle.dfu_device_c.specs.Formatting.{FORMAT, HasPhase, IsFormatting};
 
 use crate::config::Settings;
 use crate::record::DfuRecord;
-use dfu_asks::{Formatting, Phase};
+use dfu_asks::{FormatStep, Formatting};
 
 /// What is due of a record if that is a format.
 pub(crate) const WORK: u32 = 3;
 
 // The part of a format by its number, and where the image goes on.
-fn phase_of(number: u8, from: u32) -> Option<Phase>
+fn phase_of(number: u8, from: u32) -> Option<FormatStep>
     ensures some { IfSome result (λ phase. HasPhase number from phase) }
     ensures none { IfNone result ((phase : Part) → ¬ HasPhase number from phase) }
 {
     match number {
-        0 => Some(Phase::CloseSecond),
-        1 => Some(Phase::CloseFirst),
-        2 => Some(Phase::Image { from }),
-        3 => Some(Phase::Header),
-        4 => Some(Phase::Gate),
-        5 => Some(Phase::Ended),
+        0 => Some(FormatStep::CloseSecond),
+        1 => Some(FormatStep::CloseFirst),
+        2 => Some(FormatStep::Image { from }),
+        3 => Some(FormatStep::Header),
+        4 => Some(FormatStep::Gate),
+        5 => Some(FormatStep::Ended),
         _ => None,
     }
 }
@@ -49,16 +49,16 @@ pub(crate) fn formatting_of(settings: &Settings, kept: &DfuRecord) -> Option<For
 }
 
 // The number of a part of a format, and where the image goes on.
-fn numbers_of(phase: Phase) -> (u8, u32)
+fn numbers_of(phase: FormatStep) -> (u8, u32)
     ensures { HasPhase result.0 result.1 phase }
 {
     match phase {
-        Phase::CloseSecond => (0, 0),
-        Phase::CloseFirst => (1, 0),
-        Phase::Image { from } => (2, from),
-        Phase::Header => (3, 0),
-        Phase::Gate => (4, 0),
-        Phase::Ended => (5, 0),
+        FormatStep::CloseSecond => (0, 0),
+        FormatStep::CloseFirst => (1, 0),
+        FormatStep::Image { from } => (2, from),
+        FormatStep::Header => (3, 0),
+        FormatStep::Gate => (4, 0),
+        FormatStep::Ended => (5, 0),
     }
 }
 

@@ -1,6 +1,6 @@
 //! The mode of a record that a question is asked about.
 ghost use Rattle.std.specs.Prelude.{◌≡◌, IfOk, IfErr, OnOk};
-ghost use Rattle.dfu_device.specs.declared.mode.Mode.{Mode as KeptMode};
+ghost use Rattle.dfu_device.specs.declared.device_state.DeviceState.{DeviceState as KeptMode};
 ghost use Rattle.dfu_device_c.specs.Config.{IsConfig};
 ghost use Rattle.dfu_device_c.specs.Mode.{HasMode};
 ghost use Rattle.dfu_device_c.specs.Numbers.{refusal_number};
@@ -10,10 +10,10 @@ use crate::config::{DfuConfig, is_allowed};
 use crate::mode::mode_of;
 use crate::record::DfuRecord;
 use crate::refusal::Refusal;
-use dfu_device::Mode;
+use dfu_device::DeviceState;
 
 /// The mode of a record, if the configuration is allowed and the record has one.
-pub(crate) fn mode_in(config: &DfuConfig, kept: &DfuRecord) -> Result<Mode, Refusal>
+pub(crate) fn mode_in(config: &DfuConfig, kept: &DfuRecord) -> Result<DeviceState, Refusal>
     ensures only { IfOk result (λ m. (x : KeptMode) → HasMode kept.now x → m ≡ x) }
     ensures mode { IfOk result (λ m. HasMode kept.now m) }
     ensures config { OnOk result (IsConfig config.now) }
@@ -29,7 +29,7 @@ pub(crate) fn mode_in(config: &DfuConfig, kept: &DfuRecord) -> Result<Mode, Refu
 }
 
 /// The same, if no writes are due either.
-pub(crate) fn idle_mode(config: &DfuConfig, kept: &DfuRecord) -> Result<Mode, Refusal>
+pub(crate) fn idle_mode(config: &DfuConfig, kept: &DfuRecord) -> Result<DeviceState, Refusal>
     ensures only { IfOk result (λ m. (x : KeptMode) → HasMode kept.now x → m ≡ x) }
     ensures idle { OnOk result (IsIdleRecord config.now kept.now) }
     ensures err { IfErr result (λ e. RefusesSetup config.now kept.now (refusal_number e)) }

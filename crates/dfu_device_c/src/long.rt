@@ -12,18 +12,18 @@ use crate::config::DfuConfig;
 use crate::idle::idle_mode;
 use crate::mode::set_mode;
 use crate::record::DfuRecord;
-use dfu_device::Mode;
+use dfu_device::DeviceState;
 use dfu_wire::{Code, Setup};
 
 // Where a device goes from this mode by a body that is longer than a block may be.
-fn after_long(mode: Mode) -> Mode
+fn after_long(mode: DeviceState) -> DeviceState
     ensures { result ≡ after_long mode }
 {
     match mode {
-        Mode::AppIdle | Mode::AppDetach { .. } => Mode::AppIdle,
-        Mode::ManifestWaitReset => Mode::ManifestWaitReset,
-        Mode::Error { code } => Mode::Error { code },
-        _ => Mode::Error {
+        DeviceState::AppIdle | DeviceState::AppDetach { .. } => DeviceState::AppIdle,
+        DeviceState::ManifestWaitReset => DeviceState::ManifestWaitReset,
+        DeviceState::Error { code } => DeviceState::Error { code },
+        _ => DeviceState::Error {
             code: Code::StalledPkt,
         },
     }

@@ -5,7 +5,7 @@ ghost use Rattle.dfu_device_c.specs.Mode.{HasMode, HasNumbers};
 
 use crate::record::DfuRecord;
 use crate::version::VERSION;
-use dfu_device::Mode;
+use dfu_device::DeviceState;
 use dfu_wire::Code;
 
 // The code of this number.
@@ -24,9 +24,9 @@ fn code_of(number: u16) -> Option<Code>
 
 /// The mode of a record, if it is of this version and has one.
 #[inline(never)]
-pub(crate) fn mode_of(kept: &DfuRecord) -> Option<Mode>
+pub(crate) fn mode_of(kept: &DfuRecord) -> Option<DeviceState>
     ensures some { IfSome result (λ m. HasMode kept.now m) }
-    ensures only { (m : Mode) → HasMode kept.now m → result ≡ Some m }
+    ensures only { (m : DeviceState) → HasMode kept.now m → result ≡ Some m }
 {
     if kept.version != VERSION {
         return None;
@@ -34,30 +34,30 @@ pub(crate) fn mode_of(kept: &DfuRecord) -> Option<Mode>
     // As a download keeps them.
     let (written, passed, number) = (kept.first, kept.second, kept.number);
     let mode = match kept.mode {
-        0 => Mode::AppIdle,
-        1 => Mode::AppDetach {
+        0 => DeviceState::AppIdle,
+        1 => DeviceState::AppDetach {
             timer: kept.first,
             passed,
         },
-        2 => Mode::DfuIdle,
-        3 => Mode::DownloadSync { written, number },
-        4 => Mode::DownloadSyncWritten { written, number },
-        5 => Mode::DownloadBusy {
+        2 => DeviceState::DfuIdle,
+        3 => DeviceState::DownloadSync { written, number },
+        4 => DeviceState::DownloadSyncWritten { written, number },
+        5 => DeviceState::DownloadBusy {
             written,
             number,
             passed,
         },
-        6 => Mode::DownloadIdle { written, number },
-        7 => Mode::ManifestSync { written },
-        8 => Mode::ManifestSyncComplete,
-        9 => Mode::Manifest { written, passed },
-        10 => Mode::ManifestWaitReset,
-        11 => Mode::UploadIdle {
+        6 => DeviceState::DownloadIdle { written, number },
+        7 => DeviceState::ManifestSync { written },
+        8 => DeviceState::ManifestSyncComplete,
+        9 => DeviceState::Manifest { written, passed },
+        10 => DeviceState::ManifestWaitReset,
+        11 => DeviceState::UploadIdle {
             place: kept.first,
             number,
         },
         12 => match code_of(number) {
-            Some(code) => Mode::Error { code },
+            Some(code) => DeviceState::Error { code },
             None => return None,
         },
         _ => return None,
@@ -67,8 +67,8 @@ pub(crate) fn mode_of(kept: &DfuRecord) -> Option<Mode>
 
 /// Whether a record has a mode.
 pub(crate) fn has_mode(kept: &DfuRecord) -> bool
-    ensures one { IsTrue result → (m : Mode) × HasMode kept.now m }
-    ensures none { IsTrue (not result) → (m : Mode) → ¬ HasMode kept.now m }
+    ensures one { IsTrue result → (m : DeviceState) × HasMode kept.now m }
+    ensures none { IsTrue (not result) → (m : DeviceState) → ¬ HasMode kept.now m }
 {
     match mode_of(kept) {
         Some(_) => true,
@@ -77,33 +77,33 @@ pub(crate) fn has_mode(kept: &DfuRecord) -> bool
 }
 
 // The numbers of a mode: its own, `first`, `second` and `number`.
-fn numbers_of(mode: Mode) -> (u32, u32, u32, u16)
+fn numbers_of(mode: DeviceState) -> (u32, u32, u32, u16)
     ensures { (r : DfuRecord) → r.mode ≡ result.0 → r.first ≡ result.1 → r.second ≡ result.2 → r.number ≡ result.3 → HasNumbers r mode }
 {
     match mode {
-        Mode::AppIdle => (0, 0, 0, 0),
-        Mode::AppDetach { timer, passed } => (1, timer, passed, 0),
-        Mode::DfuIdle => (2, 0, 0, 0),
-        Mode::DownloadSync { written, number } => (3, written, 0, number),
-        Mode::DownloadSyncWritten { written, number } => (4, written, 0, number),
-        Mode::DownloadBusy {
+        DeviceState::AppIdle => (0, 0, 0, 0),
+        DeviceState::AppDetach { timer, passed } => (1, timer, passed, 0),
+        DeviceState::DfuIdle => (2, 0, 0, 0),
+        DeviceState::DownloadSync { written, number } => (3, written, 0, number),
+        DeviceState::DownloadSyncWritten { written, number } => (4, written, 0, number),
+        DeviceState::DownloadBusy {
             written,
             number,
             passed,
         } => (5, written, passed, number),
-        Mode::DownloadIdle { written, number } => (6, written, 0, number),
-        Mode::ManifestSync { written } => (7, written, 0, 0),
-        Mode::ManifestSyncComplete => (8, 0, 0, 0),
-        Mode::Manifest { written, passed } => (9, written, passed, 0),
-        Mode::ManifestWaitReset => (10, 0, 0, 0),
-        Mode::UploadIdle { place, number } => (11, place, 0, number),
-        Mode::Error { code } => (12, 0, 0, u16::from(code.byte())),
+        DeviceState::DownloadIdle { written, number } => (6, written, 0, number),
+        DeviceState::ManifestSync { written } => (7, written, 0, 0),
+        DeviceState::ManifestSyncComplete => (8, 0, 0, 0),
+        DeviceState::Manifest { written, passed } => (9, written, passed, 0),
+        DeviceState::ManifestWaitReset => (10, 0, 0, 0),
+        DeviceState::UploadIdle { place, number } => (11, place, 0, number),
+        DeviceState::Error { code } => (12, 0, 0, u16::from(code.byte())),
     }
 }
 
 /// Writes a mode into a record.
 #[inline(never)]
-pub(crate) fn set_mode(kept: &mut DfuRecord, mode: Mode)
+pub(crate) fn set_mode(kept: &mut DfuRecord, mode: DeviceState)
     ensures mode { HasMode kept.new mode }
     ensures others { kept.new ≡ record kept.old {
       version = kept.new.version;

@@ -1,6 +1,6 @@
 //! The numbers that a program in C gets.
 ghost use Rattle.std.specs.Prelude.{◌≡◌, ◌≤◌};
-ghost use Rattle.dfu_device.specs.Lent.{answer_room};
+ghost use Rattle.dfu_device.specs.Borrowed.{answer_room};
 ghost use Rattle.dfu_device_c.specs.Config.{setting_of};
 ghost use Rattle.dfu_device_c.specs.Numbers.{answer_number};
 

@@ -1,6 +1,6 @@
 //! A device that asks gets power.
 ghost use Rattle.std.specs.Prelude.{◌≡◌, ◌⊎◌};
-ghost use Rattle.dfu_device.specs.declared.mode.Mode.TheVariants.{AppIdle, DfuIdle};
+ghost use Rattle.dfu_device.specs.declared.device_state.DeviceState.TheVariants.{AppIdle, DfuIdle};
 ghost use Rattle.dfu_device_c.specs.Power.{Powers, RefusesPower};
 
 use crate::config::{DfuConfig, settings_of};

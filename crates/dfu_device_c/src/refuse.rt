@@ -1,14 +1,14 @@
 //! The program refuses an image: the record alone is needed.
 ghost use Rattle.std.specs.Prelude.{◌≡◌, IfSome, IfNone};
 ghost use Rattle.dfu_device_c.specs.Addressed.{addressed};
-ghost use Rattle.dfu_device_c.specs.Refuse.{objection_in, IsObjection, WasRefused, WasClosed};
+ghost use Rattle.dfu_device_c.specs.Refuse.{objection_in, IsObjection, WasRefused, CloseRefused};
 
 use crate::addressed::addressed;
 use crate::config::DfuConfig;
 use crate::idle::idle_mode;
 use crate::mode::set_mode;
 use crate::record::DfuRecord;
-use dfu_device::{Mode, Objection, is_close};
+use dfu_device::{DeviceState, Objection, is_close};
 
 // The objection of a status, which is errTARGET or errFILE.
 fn objection_of(status: u32) -> Option<Objection>
@@ -50,7 +50,7 @@ pub extern "C" fn dfu_core_refuse_close(
     setup: &[u8; 8],
     status: u32,
 ) -> i32
-    ensures outcome { WasClosed config.now device.old (addressed config.now.interface setup.now) status result device.new }
+    ensures outcome { CloseRefused config.now device.old (addressed config.now.interface setup.now) status result device.new }
 {
     let mode = match idle_mode(config, device) {
         Ok(mode) => mode,
@@ -63,6 +63,6 @@ pub extern "C" fn dfu_core_refuse_close(
     if !mode.may_close(config.least) || !is_close(&own) {
         return -13;
     }
-    set_mode(device, Mode::after_refused_close(objection));
+    set_mode(device, DeviceState::after_refused_close(objection));
     -1
 }

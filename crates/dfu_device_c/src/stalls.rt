@@ -15,7 +15,7 @@ use crate::addressed::addressed;
 use crate::config::{DfuConfig, functional_of, gate_of, unit_of};
 use crate::idle::idle_mode;
 use crate::record::DfuRecord;
-use dfu_device::{Decision, Mode, Profile, Reply, decide};
+use dfu_device::{Decision, DeviceState, Profile, Reply, decide};
 use dfu_slots::Unit;
 use dfu_wire::{Request, Setup};
 
@@ -32,7 +32,7 @@ fn stalls(decision: Decision) -> bool
 }
 
 // Whether a device of this profile stalls this request of the class in this mode, whatever body of the right length comes with it.
-fn will_stall(profile: &Profile, mode: Mode, request: Request) -> bool
+fn will_stall(profile: &Profile, mode: DeviceState, request: Request) -> bool
     ensures { (image spare unwritten body : List ℕ) → HoldsWritten mode spare → HasLength request body
         → Some result ≡ verdict (plan (profile_in profile.now) image (stage_of mode spare unwritten) (meant request body)) }
 {

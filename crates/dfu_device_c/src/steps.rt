@@ -8,7 +8,7 @@ ghost use Rattle.dfu_device_c.specs.Writes.{ask_step};
 ghost use Rattle.dfu_device_c.specs.Config.{transfer_of};
 ghost use Rattle.dfu_device_c.specs.Addressed.{addressed};
 ghost use Rattle.dfu_device_c.specs.Verdict.{IsBodyOf};
-ghost use Rattle.dfu_device.specs.declared.mode.Mode.TheVariants.{AppIdle, DfuIdle};
+ghost use Rattle.dfu_device.specs.declared.device_state.DeviceState.TheVariants.{AppIdle, DfuIdle};
 ghost use Rattle.dfu_device_c.specs.Power.{Powers, RefusesPower};
 
 use crate::ask::DfuAsk;

@@ -9,15 +9,15 @@ ghost use Rattle.dfu_device_c.specs.Numbers.{NO_DEVICE};
 
 use crate::mode::has_mode;
 use crate::record::DfuRecord;
-use dfu_device::Mode;
+use dfu_device::DeviceState;
 
 /// The state of the device, bState: 0 to 10; -4 if the record has no mode.
 #[unsafe(no_mangle)]
 pub extern "C" fn dfu_core_state(device: &DfuRecord) -> i32
-    ensures state { (m : Mode) (spare block : List ℕ) → HasMode device.now m
+    ensures state { (m : DeviceState) (spare block : List ℕ) → HasMode device.now m
         → result ≡ pos (state_byte (state_of (stage_of m spare block))) }
-    ensures refused { result ≡ NO_DEVICE → (m : Mode) → ¬ HasMode device.now m }
-    ensures only { ((m : Mode) → ¬ HasMode device.now m) → result ≡ NO_DEVICE }
+    ensures refused { result ≡ NO_DEVICE → (m : DeviceState) → ¬ HasMode device.now m }
+    ensures only { ((m : DeviceState) → ¬ HasMode device.now m) → result ≡ NO_DEVICE }
 {
     if !has_mode(device) {
         return -4;
@@ -42,9 +42,10 @@ pub extern "C" fn dfu_core_state(device: &DfuRecord) -> i32
 /// The status code of the device, bStatus: 0 to 15, and 0 in every state but dfuERROR; -4 if the record has no mode.
 #[unsafe(no_mangle)]
 pub extern "C" fn dfu_core_code(device: &DfuRecord) -> i32
-    ensures code { (m : Mode) (spare block : List ℕ) → HasMode device.now m → result ≡ pos (code_byte (code_of (stage_of m spare block))) }
-    ensures refused { result ≡ NO_DEVICE → (m : Mode) → ¬ HasMode device.now m }
-    ensures only { ((m : Mode) → ¬ HasMode device.now m) → result ≡ NO_DEVICE }
+    ensures code { (m : DeviceState) (spare block : List ℕ) → HasMode device.now m
+        → result ≡ pos (code_byte (code_of (stage_of m spare block))) }
+    ensures refused { result ≡ NO_DEVICE → (m : DeviceState) → ¬ HasMode device.now m }
+    ensures only { ((m : DeviceState) → ¬ HasMode device.now m) → result ≡ NO_DEVICE }
 {
     if !has_mode(device) {
         return -4;

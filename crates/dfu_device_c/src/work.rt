@@ -1,11 +1,11 @@
 //! What is due of a record, by its numbers.
 ghost use Rattle.std.specs.Prelude.{◌≡◌, ℕ, Bool, IfSome, Option, Some};
-ghost use Rattle.dfu_asks.specs.declared.work.Work.{Work as Due};
-ghost use Rattle.dfu_asks.specs.declared.job.Job.{Job as Series};
+ghost use Rattle.dfu_asks.specs.declared.pending_writes.PendingWrites.{PendingWrites as Due};
+ghost use Rattle.dfu_asks.specs.declared.slot_write.SlotWrite.{SlotWrite as Series};
 ghost use Rattle.dfu_device_c.specs.Kept.{IsFlag, HasJob, IsAskedNumber, HasWork};
 
 use crate::record::DfuRecord;
-use dfu_asks::{Job, Work};
+use dfu_asks::{PendingWrites, SlotWrite};
 
 // wLength of the GETSTATUS that waits by this number, if one does; none if the number is no such.
 fn asked_of(number: u32) -> Option<Option<u16>>
@@ -32,17 +32,17 @@ fn flag_of(number: u8) -> Option<bool>
 }
 
 // The job of a record, if its numbers are those of one.
-fn job_of(kept: &DfuRecord) -> Option<Job>
+fn job_of(kept: &DfuRecord) -> Option<SlotWrite>
     ensures some { IfSome result (λ job. HasJob kept.now job) }
     ensures only { (job : Series) → HasJob kept.now job → result ≡ Some job }
 {
     let (spare, generation, register) = (kept.spare, kept.generation, kept.sum);
     match kept.work {
         1 => match flag_of(kept.close) {
-            Some(close) => Some(Job::Block { spare, close }),
+            Some(close) => Some(SlotWrite::Block { spare, close }),
             None => None,
         },
-        2 => Some(Job::Commit {
+        2 => Some(SlotWrite::Commit {
             spare,
             generation,
             register,
@@ -52,7 +52,7 @@ fn job_of(kept: &DfuRecord) -> Option<Job>
 }
 
 /// What is left to be written by a record, if anything is; none if its numbers say neither.
-pub(crate) fn work_of(kept: &DfuRecord) -> Option<Option<Work>>
+pub(crate) fn work_of(kept: &DfuRecord) -> Option<Option<PendingWrites>>
     ensures some { IfSome result (λ work. HasWork kept.now work) }
     ensures only { (work : Option Due) → HasWork kept.now work → result ≡ Some work }
 {
@@ -61,7 +61,7 @@ pub(crate) fn work_of(kept: &DfuRecord) -> Option<Option<Work>>
     }
     let job = job_of(kept)?;
     let asked = asked_of(kept.asked)?;
-    Some(Some(Work {
+    Some(Some(PendingWrites {
         job,
         asked,
         done: kept.done,
@@ -69,7 +69,7 @@ pub(crate) fn work_of(kept: &DfuRecord) -> Option<Option<Work>>
 }
 
 // Writes a job into a record.
-fn set_job(kept: &mut DfuRecord, job: Job)
+fn set_job(kept: &mut DfuRecord, job: SlotWrite)
     ensures job { HasJob kept.new job }
     ensures others { kept.new ≡ record kept.old {
       work = kept.new.work;
@@ -80,12 +80,12 @@ fn set_job(kept: &mut DfuRecord, job: Job)
     } }
 {
     match job {
-        Job::Block { spare, close: true } => {
+        SlotWrite::Block { spare, close: true } => {
             kept.work = 1;
             kept.spare = spare;
             kept.close = 1;
         }
-        Job::Block {
+        SlotWrite::Block {
             spare,
             close: false,
         } => {
@@ -93,7 +93,7 @@ fn set_job(kept: &mut DfuRecord, job: Job)
             kept.spare = spare;
             kept.close = 0;
         }
-        Job::Commit {
+        SlotWrite::Commit {
             spare,
             generation,
             register,
@@ -107,7 +107,7 @@ fn set_job(kept: &mut DfuRecord, job: Job)
 }
 
 /// Writes what is left to be written into a record.
-pub(crate) fn set_work(kept: &mut DfuRecord, work: Option<Work>)
+pub(crate) fn set_work(kept: &mut DfuRecord, work: Option<PendingWrites>)
     ensures work { HasWork kept.new work }
     ensures others { kept.new ≡ record kept.old {
       work = kept.new.work;

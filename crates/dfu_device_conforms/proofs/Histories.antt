@@ -16,13 +16,13 @@ use Rattle.dfu_device.specs.declared.answer.Answer.TheVariants as answer
 use Rattle.dfu_device.specs.Setting.{Setting}
 use Rattle.dfu_device.specs.Stage.{Profile, Stage, InDownloadIdle, InManifestSyncComplete, InUploadIdle, InError}
 use Rattle.dfu_device.specs.Table.{objection_code, may_close, Plan, Sure, Writes, Commits, plan, time_plan}
-use Rattle.dfu_device.specs.Shown.{Shown, profile, profile_of}
+use Rattle.dfu_device.specs.DeviceView.{DeviceView, profile, profile_of}
 use Rattle.dfu_device.specs.Rows.{Done, meant, Cause, Transfer, Passing, BusReset, RefusingClose, Refusing, PowerOn, Handles, Row, is_close, IsCloseSetup, body_length, is_served, asked_length}
 use Rattle.dfu_device.specs.Came.{row_of, not_served}
 use Rattle.dfu_slots.specs.Seen.{image_of, room_of}
-use Rattle.dfu_conformance.specs.declared.place.Place.{Place}
-use Rattle.dfu_conformance.specs.declared.place.Place.TheVariants as place
-use Rattle.dfu_conformance.specs.declared.event.Event.{Event}
+use Rattle.dfu_conformance.specs.declared.standard_state.StandardState.{StandardState}
+use Rattle.dfu_conformance.specs.declared.standard_state.StandardState.TheVariants as place
+use Rattle.dfu_conformance.specs.declared.event.LogEvent.{LogEvent}
 use Rattle.dfu_conformance.specs.Fits.{stays_at, asks}
 use Rattle.dfu_conformance.specs.Setups.{event_of, is_plain}
 use Rattle.dfu_conformance.specs.MayAnswer.{Run}
@@ -34,12 +34,11 @@ use Rattle.dfu_device_conforms.proofs.Seen.{LedOn}
 use Rattle.dfu_device_conforms.proofs.Passing.{time_kept, time_moved, reset_led, reset_stands, refusal_moved, objection_stands, power_led}
 
 -- A plan that is kept and was carried out led the device on.
-done_led : (pl : Plan) (c : Profile) (p : Setup) (q : Asked) (body : List ℕ) (st : Stage) (w : Shown) (a : Answer) (out : List ℕ)
-    (w' : Shown)
-    → PlanKept c p q body st pl → Done pl (asked_length q) w a out w'
+done_led : (pl : Plan) (c : Profile) (p : Setup) (q : Asked) (body : List ℕ) (st : Stage) (w : DeviceView) (a : Answer) (out : List ℕ)
+    (w' : DeviceView) → PlanKept c p q body st pl → Done pl (asked_length q) w a out w'
     → LedOn (attributes_of c) (place_of st) (event_of p q (length body) (seen a out)) (place_of w'.stage) × Stands c w'.stage
 done_led (Sure reply next) c p q body st w a out w' (leads, stands) (says, is) =
-    subst (λ (z : Shown). LedOn (attributes_of c) (place_of st) (event_of p q (length body) (seen a out)) (place_of z.stage)
+    subst (λ (z : DeviceView). LedOn (attributes_of c) (place_of st) (event_of p q (length body) (seen a out)) (place_of z.stage)
     × Stands c z.stage)
     (sym is) (leads a out says, stands)
 done_led (Writes before block reply next bad) c p q body st w a out w' ((leads, stands), fails) (inl (says, h)) =
@@ -56,8 +55,8 @@ done_led (Commits taken reply next bad) c p q body st w a out w' ((leads, stands
     (sym h.stage_is) (fails fault a out says, commit_stands c fault)
 
 -- A plan that was carried out keeps what the device is set up with.
-done_config : (pl : Plan) (len : ℕ) (w : Shown) (a : Answer) (out : List ℕ) (w' : Shown) → Done pl len w a out w' → w'.config ≡ w.config
-done_config (Sure reply next) len w a out w' (says, is) = ap (λ (z : Shown). z.config) is
+done_config : (pl : Plan) (len : ℕ) (w : DeviceView) (a : Answer) (out : List ℕ) (w' : DeviceView) → Done pl len w a out w' → w'.config ≡ w.config
+done_config (Sure reply next) len w a out w' (says, is) = ap (λ (z : DeviceView). z.config) is
 done_config (Writes before block reply next bad) len w a out w' (inl (says, h)) = h.config_is
 done_config (Writes before block reply next bad) len w a out w' (inr (fault, says, h)) = h.config_is
 done_config (Commits taken reply next bad) len w a out w' (inl (says, h)) = h.config_is
@@ -74,7 +73,7 @@ unserved p asked.NotDfu body ours off = absurd ours
 unserved p q body ours off = and_left _ _ off
 
 -- A transfer that goes by the table led the device on, and so did one that does not, which was stalled and changed nothing.
-transfer_kept : (w : Shown) (setup body : List ℕ) (a : Answer) (out : List ℕ) (w' : Shown) (p : Setup) (q : Asked) (b : Bool)
+transfer_kept : (w : DeviceView) (setup body : List ℕ) (a : Answer) (out : List ℕ) (w' : DeviceView) (p : Setup) (q : Asked) (b : Bool)
     → TakesTime (profile w) → Stands (profile w) w.stage → IsSetup p setup → Asks p q → IsOurs q → is_served p q body ≡ b
     → Handles setup body w a out w'
     → LedOn (attributes_of (profile w)) (place_of w.stage) (event_of p q (length body) (seen a out)) (place_of w'.stage)
@@ -86,7 +85,7 @@ transfer_kept w setup body a out w' p q true takes stands reads asks ours on h =
     (led.0, led.1, done_config _ (asked_length q) w a out w' done)
 transfer_kept w setup body a out w' p q false takes stands reads asks ours off h =
     let (stall, same) = not_served p q setup body w a out w' reads asks off h in
-    subst (λ (z : Shown). LedOn (attributes_of (profile w)) (place_of w.stage) (event_of p q (length body) (seen a out)) (place_of z.stage)
+    subst (λ (z : DeviceView). LedOn (attributes_of (profile w)) (place_of w.stage) (event_of p q (length body) (seen a out)) (place_of z.stage)
     × Stands (profile w) z.stage × (z.config ≡ w.config)) (sym same) (
       (place_of w.stage, inl refl, inr (inr (inr (refl, (λ k. stays_at (unserved p q body ours off k) (seen (stall k) out)))))),
       stands,
@@ -94,30 +93,31 @@ transfer_kept w setup body a out w' p q false takes stands reads asks ours off h
     )
 
 -- A step is kept: a run from where it ends is one from where it begins, with what was seen of it.
-abbrev pub StepKept : Shown → Shown → (rest events : List Event) → Type 0
+abbrev pub StepKept : DeviceView → DeviceView → (rest events : List LogEvent) → Type 0
 StepKept w w' rest events =
-    ((last : Place) → Run (attributes_of (profile w)) 0 (place_of w'.stage) rest last
+    ((last : StandardState) → Run (attributes_of (profile w)) 0 (place_of w'.stage) rest last
     → Run (attributes_of (profile w)) 0 (place_of w.stage) events last)
     × Stands (profile w) w'.stage × (w'.config ≡ w.config)
 
 -- What led a device on, and is seen, is the head of a run.
-led_step : (w w' : Shown) (e : Event) (rest events : List Event) → events ≡ e ∷ rest
+led_step : (w w' : DeviceView) (e : LogEvent) (rest events : List LogEvent) → events ≡ e ∷ rest
     → LedOn (attributes_of (profile w)) (place_of w.stage) e (place_of w'.stage) × Stands (profile w) w'.stage × (w'.config ≡ w.config)
     → StepKept w w' rest events
 led_step w w' e rest events adds ((here, moved, may), stands, config) = (
-  λ last run. subst (λ (es : List Event). Run (attributes_of (profile w)) 0 (place_of w.stage) es last) (sym adds)
+  λ last run. subst (λ (es : List LogEvent). Run (attributes_of (profile w)) 0 (place_of w.stage) es last) (sym adds)
       (here, place_of w'.stage, moved, may, run),
   stands,
   config,
 )
 
-by_request : (w : Shown) (setup body : List ℕ) (a : Answer) (out : List ℕ) (w' : Shown) (rest events : List Event) (p : Setup) (q : Asked)
+by_request : (w : DeviceView) (setup body : List ℕ) (a : Answer) (out : List ℕ) (w' : DeviceView) (rest events : List LogEvent) (p : Setup)
+    (q : Asked)
     → TakesTime (profile w) → Stands (profile w) w.stage → IsSetup p setup → Asks p q → Handles setup body w a out w'
     → AddsEvent p q body (seen a out) rest events → StepKept w w' rest events
 by_request w setup body a out w' rest events p asked.NotDfu takes stands reads asks h adds =
     let (stall, same) = not_served p asked.NotDfu setup body w a out w' reads asks refl h in
-    subst (λ (z : Shown). StepKept w z rest events) (sym same)
-    (λ last run. subst (λ (es : List Event). Run (attributes_of (profile w)) 0 (place_of w.stage) es last) (sym adds) run, stands, refl)
+    subst (λ (z : DeviceView). StepKept w z rest events) (sym same)
+    (λ last run. subst (λ (es : List LogEvent). Run (attributes_of (profile w)) 0 (place_of w.stage) es last) (sym adds) run, stands, refl)
 by_request w setup body a out w' rest events p q takes stands reads asks h adds =
     led_step w w' _ rest events adds (transfer_kept w setup body a out w' p q _ takes stands reads asks tt refl h)
 
@@ -128,8 +128,9 @@ close_read setup p q reads asks (p2, q2, reads2, asks2, close) =
     subst (λ (r : Asked). is_close r ≡ true) (Asks-one p q2 q (subst (λ (x : Setup). Asks x q2) same asks2) asks) close
 
 -- A close that the program refuses.
-close_kept : (w : Shown) (a : Answer) (out : List ℕ) (w' : Shown) (rest events : List Event) (p : Setup) (q : Asked) (why : Objection)
-    (st : Stage) → is_close q ≡ true → Asks p q → may_close w.config.least st ≡ true → w.stage ≡ st → (a ≡ answer.Stall) × (out ≡ [])
+close_kept : (w : DeviceView) (a : Answer) (out : List ℕ) (w' : DeviceView) (rest events : List LogEvent) (p : Setup) (q : Asked)
+    (why : Objection) (st : Stage) → is_close q ≡ true → Asks p q → may_close w.config.least st ≡ true → w.stage ≡ st
+    → (a ≡ answer.Stall) × (out ≡ [])
     → w' ≡ record w { stage = InError (objection_code why) } → AddsEvent p q [] (seen a out) rest events → StepKept w w' rest events
 close_kept w a out w' rest events p (asked.Dnload number len) why (InDownloadIdle taken next) close asks may at says same adds =
     let empty : len ≡ 0 = eqb-true len 0 close in
@@ -138,32 +139,33 @@ close_kept w a out w' rest events p (asked.Dnload number len) why (InDownloadIdl
     let led = stalls (profile w) p (asked.Dnload number len) [] (InDownloadIdle taken next) (InError (objection_code why)) asks served refl
     a out says in
     led_step w w' _ rest events adds (
-      subst (λ (z : Shown). LedOn (attributes_of (profile w)) (place_of w.stage) (event_of p (asked.Dnload number len) 0 (seen a out))
+      subst (λ (z : DeviceView). LedOn (attributes_of (profile w)) (place_of w.stage) (event_of p (asked.Dnload number len) 0 (seen a out))
           (place_of z.stage)) (sym same)
           (subst (λ (x : Stage). LedOn (attributes_of (profile w)) (place_of x) (event_of p (asked.Dnload number len) 0 (seen a out))
           place.Error) (sym at) led),
-      subst (λ (z : Shown). Stands (profile w) z.stage) (sym same) (objection_stands (profile w) why),
-      ap (λ (z : Shown). z.config) same,
+      subst (λ (z : DeviceView). Stands (profile w) z.stage) (sym same) (objection_stands (profile w) why),
+      ap (λ (z : DeviceView). z.config) same,
     )
 close_kept w a out w' rest events p (asked.Dnload number len) why st close asks may at says same adds = absurd (false≢true may)
 close_kept w a out w' rest events p q why st close asks may at says same adds = absurd (false≢true close)
 
 -- A step of a history.
-step_kept : (w : Shown) (cause : Cause) (a : Answer) (out : List ℕ) (w' : Shown) (rest events : List Event) → TakesTime (profile w)
-    → Stands (profile w) w.stage → Row w cause a out w' → TellsEvents cause a out rest events → StepKept w w' rest events
+step_kept : (w : DeviceView) (cause : Cause) (a : Answer) (out : List ℕ) (w' : DeviceView) (rest events : List LogEvent)
+    → TakesTime (profile w) → Stands (profile w) w.stage → Row w cause a out w' → TellsEvents cause a out rest events
+    → StepKept w w' rest events
 step_kept w (Transfer setup body) a out w' rest events takes stands row (p, q, reads, asks, adds) =
     by_request w setup body a out w' rest events p q takes stands reads asks row adds
 step_kept w (Passing ms) a out w' rest events takes stands row same =
-    let moved = time_moved (time_plan (profile w) w.stage ms) (profile w) w.stage w answer.Ack [] w' (time_kept
-    (profile w) w.stage ms stands) row.2 in (
-      λ last run. subst (λ (es : List Event). Run (attributes_of (profile w)) 0 (place_of w.stage) es last) (sym same)
+    let kept = time_kept (profile w) w.stage ms stands in
+    let moved = time_moved (time_plan (profile w) w.stage ms) (profile w) w.stage w answer.Ack [] w' kept row.2 in (
+      λ last run. subst (λ (es : List LogEvent). Run (attributes_of (profile w)) 0 (place_of w.stage) es last) (sym same)
           (moves_first (attributes_of (profile w)) 0 (place_of w.stage) (place_of w'.stage) rest last moved.0 run),
       moved.1,
       done_config _ 0 w answer.Ack [] w' row.2,
     )
 step_kept w BusReset a out w' rest events takes stands row adds =
-    subst (λ (z : Shown). StepKept w z rest events) (sym row.2) (
-      λ last run. subst (λ (es : List Event). Run (attributes_of (profile w)) 0 (place_of w.stage) es last) (sym adds)
+    subst (λ (z : DeviceView). StepKept w z rest events) (sym row.2) (
+      λ last run. subst (λ (es : List LogEvent). Run (attributes_of (profile w)) 0 (place_of w.stage) es last) (sym adds)
           (reset_led (attributes_of (profile w)) w.stage rest last run),
       reset_stands (profile w) w.stage,
       refl,
@@ -172,15 +174,15 @@ step_kept w (RefusingClose setup why) a out w' rest events takes stands (stall, 
     close_kept w a out w' rest events p q why w.stage (close_read setup p q reads asks closes.0) asks closes.1 refl (stall, none) same adds
 step_kept w (Refusing why) a out w' rest events takes stands row same =
     let moved = refusal_moved (profile w) why w.stage stands in
-    subst (λ (z : Shown). StepKept w z rest events) (sym row.2) (
-      λ last run. subst (λ (es : List Event). Run (attributes_of (profile w)) 0 (place_of w.stage) es last) (sym same)
+    subst (λ (z : DeviceView). StepKept w z rest events) (sym row.2) (
+      λ last run. subst (λ (es : List LogEvent). Run (attributes_of (profile w)) 0 (place_of w.stage) es last) (sym same)
           (moves_first (attributes_of (profile w)) 0 (place_of w.stage) _ rest last moved.0 run),
       moved.1,
       refl,
     )
 step_kept w PowerOn a out w' rest events takes stands row adds =
-    subst (λ (z : Shown). StepKept w z rest events) (sym row.2) (
-      λ last run. subst (λ (es : List Event). Run (attributes_of (profile w)) 0 (place_of w.stage) es last) (sym adds)
+    subst (λ (z : DeviceView). StepKept w z rest events) (sym row.2) (
+      λ last run. subst (λ (es : List LogEvent). Run (attributes_of (profile w)) 0 (place_of w.stage) es last) (sym adds)
           (power_led (attributes_of (profile w)) w.stage rest last run),
       tt,
       refl,
@@ -189,15 +191,15 @@ step_kept w PowerOn a out w' rest events takes stands row adds =
 -- Whatever history a device has, it is kept.
 pub history_kept : HistoryIsKept
 history_kept [] events w w' takes stands is none_seen =
-    subst (λ (z : Shown). Run (attributes_of (profile w)) 0 (place_of w.stage) events (place_of z.stage)
+    subst (λ (z : DeviceView). Run (attributes_of (profile w)) 0 (place_of w.stage) events (place_of z.stage)
     × Stands (profile z) z.stage) (sym is) (
-      subst (λ (es : List Event). Run (attributes_of (profile w)) 0 (place_of w.stage) es (place_of w.stage)) (sym none_seen)
+      subst (λ (es : List LogEvent). Run (attributes_of (profile w)) 0 (place_of w.stage) es (place_of w.stage)) (sym none_seen)
           (inl refl),
       stands,
     )
 history_kept (s ∷ h) events w w' takes stands (begins, row, after) (rest, tells, are_seen) =
-    let takes_before : TakesTime (profile s.before) = subst (λ (z : Shown). TakesTime (profile z)) (sym begins) takes in
-    let stands_before : Stands (profile s.before) s.before.stage = subst (λ (z : Shown). Stands (profile z) z.stage) (sym begins) stands in
+    let takes_before : TakesTime (profile s.before) = subst (λ (z : DeviceView). TakesTime (profile z)) (sym begins) takes in
+    let stands_before : Stands (profile s.before) s.before.stage = subst (λ (z : DeviceView). Stands (profile z) z.stage) (sym begins) stands in
     let (runs, stands_after, config) =
     step_kept s.before s.cause s.answer s.out s.after rest events takes_before stands_before row tells in
     let takes_after : TakesTime (profile s.after) =
@@ -208,12 +210,12 @@ history_kept (s ∷ h) events w w' takes stands (begins, row, after) (rest, tell
     let run_before : Run (attributes_of (profile s.before)) 0 (place_of s.after.stage) rest (place_of w'.stage) =
     subst (λ (x : Setting). Run (attributes_of (profile_of x (room_of s.before.slots))) 0 (place_of s.after.stage) rest
     (place_of w'.stage)) config run in (
-      subst (λ (z : Shown). Run (attributes_of (profile z)) 0 (place_of z.stage) events (place_of w'.stage)) begins (runs
+      subst (λ (z : DeviceView). Run (attributes_of (profile z)) 0 (place_of z.stage) events (place_of w'.stage)) begins (runs
           (place_of w'.stage) run_before),
       at_last,
     )
   where
-    stands_with : (w z : Shown) (st : Stage) → z.config ≡ w.config → Stands (profile w) st → Stands (profile z) st
+    stands_with : (w z : DeviceView) (st : Stage) → z.config ≡ w.config → Stands (profile w) st → Stands (profile z) st
     stands_with w z InManifestSyncComplete config on = ap (λ (x : Setting). x.functional.tolerant) config ∙ on
     stands_with w z (InUploadIdle at number) config on = ap (λ (x : Setting). x.functional.can_upload) config ∙ on
     stands_with w z (InError NoFault) config h = absurd h

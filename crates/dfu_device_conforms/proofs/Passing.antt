@@ -8,14 +8,14 @@ use Rattle.dfu_device.specs.declared.objection.Objection.TheVariants.{Target, Fi
 use Rattle.dfu_device.specs.Stage.{Profile, Stage, InAppIdle, InAppDetach, InDownloadBusy, InManifestSync, InManifestSyncComplete, InManifest, InManifestWaitReset, InError}
 use Rattle.dfu_device.specs.Table.{Plan, Sure, Writes, Commits, time_plan, reset_stage, objection_code, refuse_stage}
 use Rattle.dfu_device.specs.Cases.{either_way}
-use Rattle.dfu_device.specs.Shown.{Shown}
+use Rattle.dfu_device.specs.DeviceView.{DeviceView}
 use Rattle.dfu_device.specs.Rows.{Done}
-use Rattle.dfu_conformance.specs.declared.place.Place.{Place}
-use Rattle.dfu_conformance.specs.declared.place.Place.TheVariants as place
+use Rattle.dfu_conformance.specs.declared.standard_state.StandardState.{StandardState}
+use Rattle.dfu_conformance.specs.declared.standard_state.StandardState.TheVariants as place
 use Rattle.dfu_conformance.specs.declared.row.When.{When}
 use Rattle.dfu_conformance.specs.declared.row.When.TheVariants.{Always, Tolerant, NotTolerant, WillDetach}
 use Rattle.dfu_conformance.specs.declared.row.Gives.TheVariants as gives
-use Rattle.dfu_conformance.specs.declared.event.Event.{Event}
+use Rattle.dfu_conformance.specs.declared.event.LogEvent.{LogEvent}
 use Rattle.dfu_conformance.specs.declared.marks.TheConstants.{MARKS}
 use Rattle.dfu_conformance.specs.declared.drifts.TheConstants.{DRIFTS}
 use Rattle.dfu_conformance.specs.Fits.{asks, row_shows}
@@ -36,7 +36,7 @@ TimeKept c st (Commits taken reply next bad) =
     (MayMove (attributes_of c) 0 (place_of st) (place_of next) × Stands c next) × MayMove (attributes_of c) 0 (place_of st) place.Error
 
 -- It moves by itself.
-pub moves : (c : Profile) (from : Place) (when : When) (next : Place) → list_any (is_move from when next) DRIFTS ≡ true
+pub moves : (c : Profile) (from : StandardState) (when : When) (next : StandardState) → list_any (is_move from when next) DRIFTS ≡ true
     → meets when (attributes_of c) 0 ≡ true → MayMove (attributes_of c) 0 from next
 moves c from when next some of_it = inr (by_move DRIFTS from when next (attributes_of c) 0 some of_it)
 
@@ -87,11 +87,11 @@ time_kept c (InManifest taken passed) ms stands =
 time_kept c st ms stands = (inl refl, stands)
 
 -- A time that passed moved the device, or not.
-pub time_moved : (pl : Plan) (c : Profile) (st : Stage) (w : Shown) (a : Answer) (out : List ℕ) (w' : Shown) → TimeKept c st pl
+pub time_moved : (pl : Plan) (c : Profile) (st : Stage) (w : DeviceView) (a : Answer) (out : List ℕ) (w' : DeviceView) → TimeKept c st pl
     → Done pl 0 w a out w'
     → MayMove (attributes_of c) 0 (place_of st) (place_of w'.stage) × Stands c w'.stage
 time_moved (Sure reply next) c st w a out w' kept (says, is) =
-    subst (λ (z : Shown). MayMove (attributes_of c) 0 (place_of st) (place_of z.stage) × Stands c z.stage) (sym is) kept
+    subst (λ (z : DeviceView). MayMove (attributes_of c) 0 (place_of st) (place_of z.stage) × Stands c z.stage) (sym is) kept
 time_moved (Writes before block reply next bad) c st w a out w' kept (inl (says, h)) =
     subst (λ (z : Stage). MayMove (attributes_of c) 0 (place_of st) (place_of z) × Stands c z) (sym h.stage_is) kept.0
 time_moved (Writes before block reply next bad) c st w a out w' kept (inr (fault, says, h)) =
@@ -120,13 +120,14 @@ refusal_moved c why (InManifest taken passed) stands = (moves c place.Manifest A
 refusal_moved c why st stands = (inl refl, stands)
 
 -- A mark goes by a row of the table of marks.
-pub marked : (att : ℕ) (from : Place) (next : Place) (e : Event) → list_any (is_row from e.asked Always gives.Silent next) MARKS ≡ true
+pub marked : (att : ℕ) (from : StandardState) (next : StandardState) (e : LogEvent)
+    → list_any (is_row from e.asked Always gives.Silent next) MARKS ≡ true
     → row_shows gives.Silent from next e.length e.answer ≡ true → asks e.asked e ≡ true → MayAnswer att 0 from e next
 marked att from next e some is_shown is_asked =
     inr (inl (by_row MARKS from e.asked Always gives.Silent next att 0 e some refl is_asked is_shown))
 
 -- A reset leads a device on: in appDETACH to dfuIDLE, by way of dfuIDLE just entered.
-pub reset_led : (att : ℕ) (st : Stage) (rest : List Event) (last : Place) → Run att 0 (place_of (reset_stage st)) rest last
+pub reset_led : (att : ℕ) (st : Stage) (rest : List LogEvent) (last : StandardState) → Run att 0 (place_of (reset_stage st)) rest last
     → Run att 0 (place_of st) (reset ∷ rest) last
 reset_led att (InAppDetach timer passed) rest last run = (
   place.AppDetach,
@@ -143,7 +144,7 @@ reset_stands c (InAppDetach timer passed) = tt
 reset_stands c st = tt
 
 -- Power that comes back leads a device to appIDLE.
-pub power_led : (att : ℕ) (st : Stage) (rest : List Event) (last : Place) → Run att 0 place.AppIdle rest last
+pub power_led : (att : ℕ) (st : Stage) (rest : List LogEvent) (last : StandardState) → Run att 0 place.AppIdle rest last
     → Run att 0 (place_of st) (power ∷ rest) last
 power_led att InAppIdle rest last run =
     (place.AppIdle, place.AppIdle, inl refl, marked att place.AppIdle place.AppIdle power refl refl refl, run)

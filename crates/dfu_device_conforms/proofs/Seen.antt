@@ -12,13 +12,13 @@ use Rattle.dfu_wire.specs.State.{state_byte}
 use Rattle.dfu_device.specs.declared.answer.Answer.{Answer}
 use Rattle.dfu_device.specs.Stage.{Ack, StatusOf, StateOf, Data, Stall, Profile, Stage, InAppIdle, InAppDetach, InDfuIdle, InDownloadSync, InDownloadSyncWritten, InDownloadBusy, InDownloadIdle, InManifestSync, InManifestSyncComplete, InManifest, InManifestWaitReset, InUploadIdle, InError, state_of, code_of}
 use Rattle.dfu_device.specs.Rows.{Answers}
-use Rattle.dfu_conformance.specs.declared.place.Place.{Place}
-use Rattle.dfu_conformance.specs.declared.asked.Asked.{Asked as Came}
+use Rattle.dfu_conformance.specs.declared.standard_state.StandardState.{StandardState}
+use Rattle.dfu_conformance.specs.declared.event_kind.EventKind.{EventKind as Came}
 use Rattle.dfu_conformance.specs.declared.row.When.{When}
 use Rattle.dfu_conformance.specs.declared.row.When.TheVariants.{Always}
 use Rattle.dfu_conformance.specs.declared.row.Gives.{Gives}
 use Rattle.dfu_conformance.specs.declared.row.Gives.TheVariants as gives
-use Rattle.dfu_conformance.specs.declared.event.Event.{Event}
+use Rattle.dfu_conformance.specs.declared.event.LogEvent.{LogEvent}
 use Rattle.dfu_conformance.specs.declared.standard.TheConstants.{STANDARD}
 use Rattle.dfu_conformance.specs.declared.drifts.TheConstants.{DRIFTS}
 use Rattle.dfu_conformance.specs.Fits.{asks, row_shows, gives_bytes, has_code, number_of_state}
@@ -28,18 +28,18 @@ use Rattle.dfu_conformance.proofs.ForCallers.{is_row, by_row, is_move, by_move}
 use Rattle.dfu_device_conforms.specs.Kept.{place_of, seen, Stands}
 
 -- A device moves by itself, then an event leads it on.
-abbrev pub LedOn : (attributes : ℕ) → Place → Event → Place → Type 0
-LedOn a from e next = (here : Place) × MayMove a 0 from here × MayAnswer a 0 here e next
+abbrev pub LedOn : (attributes : ℕ) → StandardState → LogEvent → StandardState → Type 0
+LedOn a from e next = (here : StandardState) × MayMove a 0 from here × MayAnswer a 0 here e next
 
 -- It goes by a row of the standard's table.
-pub standing : (a : ℕ) (from : Place) (q : Came) (when : When) (g : Gives) (next : Place) (e : Event)
+pub standing : (a : ℕ) (from : StandardState) (q : Came) (when : When) (g : Gives) (next : StandardState) (e : LogEvent)
     → list_any (is_row from q when g next) STANDARD ≡ true → meets when a 0 ≡ true → asks q e ≡ true
     → row_shows g from next e.length e.answer ≡ true → LedOn a from e next
 standing a from q when g next e some of_it is_asked is_shown =
     (from, inl refl, inl (by_row STANDARD from q when g next a 0 e some of_it is_asked is_shown))
 
 -- It moves by itself first.
-pub moving : (a : ℕ) (from here : Place) (q : Came) (when : When) (g : Gives) (next : Place) (e : Event)
+pub moving : (a : ℕ) (from here : StandardState) (q : Came) (when : When) (g : Gives) (next : StandardState) (e : LogEvent)
     → list_any (is_move from Always here) DRIFTS ≡ true
     → list_any (is_row here q when g next) STANDARD ≡ true → meets when a 0 ≡ true → asks q e ≡ true
     → row_shows g here next e.length e.answer ≡ true → LedOn a from e next
@@ -47,12 +47,12 @@ moving a from here q when g next e move some of_it is_asked is_shown =
     (here, inr (by_move DRIFTS from Always here a 0 move refl), inl (by_row STANDARD here q when g next a 0 e some of_it is_asked is_shown))
 
 -- An acknowledgement is one.
-pub acked : (from next : Place) (len n : ℕ) (a : Answer) (out : List ℕ) → Answers n Ack a out
+pub acked : (from next : StandardState) (len n : ℕ) (a : Answer) (out : List ℕ) → Answers n Ack a out
     → row_shows gives.Ack from next len (seen a out) ≡ true
 acked from next len n a out h = ap (λ (x : Answer). row_shows gives.Ack from next len (seen x out)) h.0
 
 -- A stall is one.
-pub stalled : (from next : Place) (len n : ℕ) (a : Answer) (out : List ℕ) → Answers n Stall a out
+pub stalled : (from next : StandardState) (len n : ℕ) (a : Answer) (out : List ℕ) → Answers n Stall a out
     → row_shows gives.Stall from next len (seen a out) ≡ true
 stalled from next len n a out h = ap (λ (x : Answer). row_shows gives.Stall from next len (seen x out)) h.0
 
@@ -61,7 +61,8 @@ pub front_count : (bytes : List ℕ) (len n : ℕ) → length bytes ≡ n → (l
 front_count bytes len n size = eq-eqb _ _ (length-take len bytes ∙ ap (λ (k : ℕ). min len k) size)
 
 -- A state that was answered is what a row of GETSTATE gives.
-pub told : (from : Place) (state : State) (len n : ℕ) (a : Answer) (out : List ℕ) → state_byte state ≡ number_of_state from → n ≡ len
+pub told : (from : StandardState) (state : State) (len n : ℕ) (a : Answer) (out : List ℕ) → state_byte state ≡ number_of_state from
+    → n ≡ len
     → Answers n (StateOf state) a out → row_shows gives.State from from len (seen a out) ≡ true
 told from state len n a out same is h =
     ap (λ (x : Answer). row_shows gives.State from from len (seen x out)) h.0
@@ -75,7 +76,7 @@ told from state len n a out same is h =
     first (suc k) = or_right _ _ (eq-eqb _ _ same)
 
 -- The front of a status is what a row of GETSTATUS gives.
-pub front_of_status : (next : Place) (bytes : List ℕ) (len : ℕ) → length bytes ≡ 6 → has_code next (slice_index bytes 0) ≡ true
+pub front_of_status : (next : StandardState) (bytes : List ℕ) (len : ℕ) → length bytes ≡ 6 → has_code next (slice_index bytes 0) ≡ true
     → slice_index bytes 4 ≡ number_of_state next
     → gives_bytes gives.Status next next len (length (take len bytes)) (slice_index (take len bytes) 0) (slice_index
     (take len bytes) 4) ≡ true
@@ -92,7 +93,7 @@ front_of_status next bytes len size coded same =
     first (suc k) = or_right _ _ (ap (λ (x : ℕ). has_code next x) (get_or-take (suc k) bytes 0 0 (omega arith)) ∙ coded)
 
 -- A status that was answered is what a row of GETSTATUS gives.
-pub reported : (from next : Place) (code : Code) (poll : ℕ) (state : State) (len n : ℕ) (a : Answer) (out : List ℕ)
+pub reported : (from next : StandardState) (code : Code) (poll : ℕ) (state : State) (len n : ℕ) (a : Answer) (out : List ℕ)
     → has_code next (code_byte code) ≡ true → state_byte state ≡ number_of_state next → n ≡ len
     → Answers n (StatusOf code poll state) a out → row_shows gives.Status from next len (seen a out) ≡ true
 reported from next code poll state len n a out coded same is (bytes_are, bytes, status, string, front) =
@@ -102,7 +103,7 @@ reported from next code poll state len n a out coded same is (bytes_are, bytes, 
     ∙ front_of_status next bytes len status.length (ap (λ (x : ℕ). has_code next x) status.code ∙ coded) (status.state ∙ same)
 
 -- A part of an image is what a row of UPLOAD gives, a short one or a full one.
-pub parted : (from next : Place) (part : List ℕ) (len n : ℕ) (a : Answer) (out : List ℕ) (g : Gives)
+pub parted : (from next : StandardState) (part : List ℕ) (len n : ℕ) (a : Answer) (out : List ℕ) (g : Gives)
     → gives_bytes g from next len (length part) (slice_index part 0) (slice_index part 4) ≡ true
     → Answers n (Data part) a out → row_shows g from next len (seen a out) ≡ true
 parted from next part len n a out g fits h =

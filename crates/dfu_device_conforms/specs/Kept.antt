@@ -10,14 +10,14 @@ use Rattle.dfu_device.specs.declared.answer.Answer.{Answer}
 use Rattle.dfu_device.specs.declared.answer.Answer.TheVariants as answer
 use Rattle.dfu_device.specs.Setting.{IsAllowed}
 use Rattle.dfu_device.specs.Stage.{Profile, Stage, InAppIdle, InAppDetach, InDfuIdle, InDownloadSync, InDownloadSyncWritten, InDownloadBusy, InDownloadIdle, InManifestSync, InManifestSyncComplete, InManifest, InManifestWaitReset, InUploadIdle, InError}
-use Rattle.dfu_device.specs.Shown.{Shown, profile}
+use Rattle.dfu_device.specs.DeviceView.{DeviceView, profile}
 use Rattle.dfu_device.specs.Rows.{Cause, Transfer, Passing, BusReset, RefusingClose, Refusing, PowerOn}
 use Rattle.dfu_device.specs.History.{HistoryStep, IsHistory}
-use Rattle.dfu_conformance.specs.declared.place.Place.{Place}
-use Rattle.dfu_conformance.specs.declared.place.Place.TheVariants as place
-use Rattle.dfu_conformance.specs.declared.event.Answer.{Answer as Shows}
-use Rattle.dfu_conformance.specs.declared.event.Answer.TheVariants as shows
-use Rattle.dfu_conformance.specs.declared.event.Event.{Event}
+use Rattle.dfu_conformance.specs.declared.standard_state.StandardState.{StandardState}
+use Rattle.dfu_conformance.specs.declared.standard_state.StandardState.TheVariants as place
+use Rattle.dfu_conformance.specs.declared.event.Response.{Response as Shows}
+use Rattle.dfu_conformance.specs.declared.event.Response.TheVariants as shows
+use Rattle.dfu_conformance.specs.declared.event.LogEvent.{LogEvent}
 use Rattle.dfu_conformance.specs.Setups.{event_of, reset, power}
 use Rattle.dfu_conformance.specs.declared.verdict.Verdict.TheVariants.{Kept}
 use Rattle.dfu_conformance.specs.MayAnswer.{Run}
@@ -37,7 +37,7 @@ abbrev pub attributes_of : Profile → ℕ
 attributes_of c = attributes c.can_download c.can_upload c.tolerant c.will_detach
 
 -- Where a device stands by the table of the judge.
-abbrev pub place_of : Stage → Place
+abbrev pub place_of : Stage → StandardState
 place_of InAppIdle = place.AppIdle
 place_of (InAppDetach timer passed) = place.AppDetach
 place_of InDfuIdle = place.DfuIdle
@@ -59,12 +59,12 @@ seen answer.Stall out = shows.Stall
 seen answer.Bytes out = shows.Bytes (length out) (slice_index out 0) (slice_index out 4)
 
 -- A transfer comes before these events; one that is no request of the class for interface 0 is passed over.
-abbrev pub AddsEvent : Setup → Asked → List ℕ → Shows → (rest events : List Event) → Type 0
+abbrev pub AddsEvent : Setup → Asked → List ℕ → Shows → (rest events : List LogEvent) → Type 0
 AddsEvent p asked.NotDfu body a rest events = events ≡ rest
 AddsEvent p q body a rest events = events ≡ event_of p q (length body) a ∷ rest
 
 -- A step comes before these events: time that passes is not seen, nor that the program refuses an image that was closed.
-abbrev pub TellsEvents : Cause → Answer → List ℕ → (rest events : List Event) → Type 0
+abbrev pub TellsEvents : Cause → Answer → List ℕ → (rest events : List LogEvent) → Type 0
 TellsEvents (Transfer setup body) a out rest events =
     (p : Setup) × (q : Asked) × IsSetup p setup × Asks p q × AddsEvent p q body (seen a out) rest events
 TellsEvents (Passing ms) a out rest events = events ≡ rest
@@ -75,9 +75,9 @@ TellsEvents (Refusing why) a out rest events = events ≡ rest
 TellsEvents PowerOn a out rest events = events ≡ power ∷ rest
 
 -- These events are what is seen of a history.
-abbrev pub AreSeen : List HistoryStep → List Event → Type 0
+abbrev pub AreSeen : List HistoryStep → List LogEvent → Type 0
 AreSeen [] events = events ≡ []
-AreSeen (s ∷ h) events = (rest : List Event) × TellsEvents s.cause s.answer s.out rest events × AreSeen h rest
+AreSeen (s ∷ h) events = (rest : List LogEvent) × TellsEvents s.cause s.answer s.out rest events × AreSeen h rest
 
 -- What holds of each stage that a device comes to: manifestation is complete only where it is tolerant, an upload is under way
 -- only where it can upload, and dfuERROR never has the code OK.
@@ -93,12 +93,13 @@ TakesTime c = c.tolerant ≡ false → 1 ≤ c.manifest
 
 -- Whatever history a device has that stands so, the events that are seen of it are a run, with no habit, and it stands so at last.
 abbrev pub HistoryIsKept : Type 0
-HistoryIsKept = (h : List HistoryStep) (events : List Event) (w w' : Shown) → TakesTime (profile w) → Stands (profile w) w.stage →
+HistoryIsKept = (h : List HistoryStep) (events : List LogEvent) (w w' : DeviceView) → TakesTime (profile w) → Stands (profile w) w.stage →
     IsHistory w h w'
     → AreSeen h events → Run (attributes_of (profile w)) 0 (place_of w.stage) events (place_of w'.stage) × Stands (profile w') w'.stage
 
 -- So the answers of each device that begins in appIDLE, as one does that got power, are kept: a device of the standard may have
 -- answered so.
 abbrev pub StartIsKept : Type 0
-StartIsKept = (h : List HistoryStep) (events : List Event) (w w' : Shown) → IsAllowed w.config → w.stage ≡ InAppIdle → IsHistory w h w'
+StartIsKept =
+    (h : List HistoryStep) (events : List LogEvent) (w w' : DeviceView) → IsAllowed w.config → w.stage ≡ InAppIdle → IsHistory w h w'
     → AreSeen h events → Run (attributes_of (profile w)) 0 place.AppIdle events (place_of w'.stage) × IsVerdict Kept events

@@ -11,27 +11,10 @@ mod rows;
 mod trouble;
 mod untrue;
 
+use crate::requests::IDS;
 use dfu_device::Config;
-use dfu_wire::{Functional, Ids};
+use dfu_wire::Functional;
 use std::test::Fail;
-
-const IDS: Ids = Ids {
-    device: 0x0100,
-    product: 0x0001,
-    vendor: 0x1209,
-};
-
-const GET_STATUS: [u8; 8] = [0xa1, 3, 0, 0, 0, 0, 6, 0];
-
-const GET_STATE: [u8; 8] = [0xa1, 5, 0, 0, 0, 0, 1, 0];
-
-const UPLOAD: [u8; 8] = [0xa1, 2, 0, 0, 0, 0, 8, 0];
-
-const CLR_STATUS: [u8; 8] = [0x21, 4, 0, 0, 0, 0, 0, 0];
-
-const ABORT: [u8; 8] = [0x21, 6, 0, 0, 0, 0, 0, 0];
-
-const DETACH: [u8; 8] = [0x21, 0, 0xff, 0, 0, 0, 0, 0];
 
 /// DNLOAD of a block of so many bytes.
 fn dnload(number: u8, len: u16) -> [u8; 8] {

@@ -1,9 +1,10 @@
 //! Devices over a simulated medium, and what the tests of this crate share.
 
+use crate::requests::IDS;
 use arrayvec::ArrayVec;
 use dfu_device::{Answer, Config, ConfigFault, Device};
 use dfu_slots::{SimMedium, Slots};
-use dfu_wire::{Functional, Ids, State};
+use dfu_wire::{Functional, State};
 use std::alloc::Global;
 use std::process::Abort;
 use std::test::Fail;
@@ -21,29 +22,11 @@ mod sizes;
 mod stations;
 mod uploads;
 
-const IDS: Ids = Ids {
-    device: 0x0100,
-    product: 0x0001,
-    vendor: 0x1209,
-};
-
-const GET_STATUS: [u8; 8] = [0xa1, 3, 0, 0, 0, 0, 6, 0];
-
-const GET_STATE: [u8; 8] = [0xa1, 5, 0, 0, 0, 0, 1, 0];
-
-const DETACH: [u8; 8] = [0x21, 0, 0xff, 0, 0, 0, 0, 0];
-
 const FIRST: [u8; 8] = [0x21, 1, 0, 0, 0, 0, 4, 0];
 
 const SECOND: [u8; 8] = [0x21, 1, 1, 0, 0, 0, 4, 0];
 
 const CLOSE: [u8; 8] = [0x21, 1, 1, 0, 0, 0, 0, 0];
-
-const UPLOAD: [u8; 8] = [0xa1, 2, 0, 0, 0, 0, 8, 0];
-
-const CLR_STATUS: [u8; 8] = [0x21, 4, 0, 0, 0, 0, 0, 0];
-
-const ABORT: [u8; 8] = [0x21, 6, 0, 0, 0, 0, 0, 0];
 
 const BLOCK: [u8; 4] = [0xff; 4];
 

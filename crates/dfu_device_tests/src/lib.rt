@@ -8,6 +8,8 @@ mod device;
 #[cfg(test)]
 mod install;
 #[cfg(test)]
+mod requests;
+#[cfg(test)]
 mod slots;
 #[cfg(test)]
 mod trial;

@@ -6,7 +6,7 @@ ghost use Rattle.dfu_slots.specs.Image.{HasImage};
 ghost use Rattle.dfu_slots.specs.Seen.{image_of};
 ghost use Rattle.dfu_slots.specs.Changes.{IsOpenFault};
 ghost use Rattle.dfu_device.specs.Stage.{state_of};
-ghost use Rattle.dfu_device.specs.Shown.{powered_on};
+ghost use Rattle.dfu_device.specs.DeviceView.{powered_on};
 ghost use Rattle.dfu_device.specs.Rows as rows;
 ghost use Rattle.dfu_device.specs.Rows.{Row};
 

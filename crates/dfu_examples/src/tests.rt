@@ -12,7 +12,7 @@ use dfu_host::{Host, Limits, Report};
 use dfu_slots::{OpenFault, Slots};
 use dfu_suffix::read;
 use dfu_wire::{Code, Functional, Ids};
-use part::Part;
+use part::SimulatedNor;
 use ram::Ram;
 use seat::Seat;
 use std::process::Abort;
@@ -165,7 +165,12 @@ fn bootloader_refuses_a_blank_chip(rt: HostRuntime) -> Result<(), Fail> {
 // twice for one write, and no unit is programmed over.
 #[test]
 fn flash_is_erased_before_it_is_programmed(rt: HostRuntime) -> Result<(), Fail> {
-    let mut slots = match Slots::format(Nor { flash: Part::new() }, &[0]) {
+    let mut slots = match Slots::format(
+        Nor {
+            flash: SimulatedNor::new(),
+        },
+        &[0],
+    ) {
         Ok(slots) => slots,
         Err((fault, _medium)) => Err(fault)?,
     };

@@ -1,14 +1,14 @@
 //! `dfu add`.
 
 use crate::given::{Given, Held, open};
-use crate::noting::Noting;
 use crate::owner::Owned;
 use crate::reasons::{error_reason, file_reason, given_reason};
+use crate::recording_reader::RecordingReader;
 use crate::refusing::{gather_fault, refused, unread};
 use crate::replacing::{Replacement, finish};
-use dfu_image_output::{Taken, image_line, looks_like, refused_line, why};
-use dfu_images::{FileFault, format_of, image_of};
-use dfu_output::{Answer, Exit, add_with_fault, fault_text, write_out};
+use dfu_image_output::{FormatChoice, image_line, looks_like, refused_line, why};
+use dfu_images::{ImageFileFault, format_of, image_of};
+use dfu_output::{Exit, Outcome, add_with_fault, fault_text, write_out};
 use dfu_suffix::{Findings, SuffixFault, gather};
 use dfu_wire::Ids;
 use std::alloc::Global;
@@ -20,9 +20,9 @@ const MAX_FILE: usize = 16_777_216;
 
 /// How FILE is taken, and what fills the gaps of its image.
 #[derive(Clone, Copy, Debug, PartialEq, Eq)]
-pub struct How {
+pub struct AddOptions {
     /// `--format`.
-    pub taken: Taken,
+    pub taken: FormatChoice,
     /// `--fill`.
     pub fill: Option<u8>,
 }
@@ -49,9 +49,9 @@ fn hint(alloc: Global, file: &str, head: &[u8]) -> Option<String> {
 fn add_read<R: Files + Print + AllocGlobal, S: Read + Drop>(
     rt: &R,
     added: Added<'_>,
-    noting: &mut Noting<S>,
+    noting: &mut RecordingReader<S>,
     behind: &str,
-) -> Answer
+) -> Outcome
 where
     R::File: Owned,
 {
@@ -69,11 +69,11 @@ where
     };
     made.abandon();
     match exit {
-        Exit::Done => Answer {
+        Exit::Done => Outcome {
             exit: fault_text(SuffixFault::NoMemory, &mut io::writer(rt)),
             reason,
         },
-        _ => Answer {
+        _ => Outcome {
             exit: write_out(&mut io::writer(rt), &line, exit),
             reason,
         },
@@ -81,10 +81,10 @@ where
 }
 
 /// A file that makes no image.
-fn refuse_image<R: Print + AllocGlobal>(rt: &R, file: &str, fault: FileFault) -> Answer {
+fn refuse_image<R: Print + AllocGlobal>(rt: &R, file: &str, fault: ImageFileFault) -> Outcome {
     let alloc = rt.alloc();
     let mut out = io::writer(rt);
-    Answer {
+    Outcome {
         exit: match refused_line(alloc, fault) {
             Ok(line) => write_out(&mut out, line.as_bytes(), Exit::Refused),
             Err(_) => fault_text(SuffixFault::NoMemory, &mut out),
@@ -102,12 +102,12 @@ fn add_bytes<R: Files + Input + Print + AllocGlobal>(
     added: Added<'_>,
     bytes: Vec<u8>,
     behind: &str,
-) -> Answer
+) -> Outcome
 where
     R::File: Owned,
 {
     let given: Given<R::File, R::Reader> = Given::Bytes(Held::new(bytes));
-    add_read(rt, added, &mut Noting::new(given), behind)
+    add_read(rt, added, &mut RecordingReader::new(given), behind)
 }
 
 /// Adds a suffix to the image of a file, of the format that is asked for or that its first bytes look like; to the file as it is where
@@ -115,9 +115,9 @@ where
 fn add_image<R: Files + Input + Print + AllocGlobal>(
     rt: &R,
     added: Added<'_>,
-    how: How,
-    noting: &mut Noting<Given<R::File, R::Reader>>,
-) -> Answer
+    how: AddOptions,
+    noting: &mut RecordingReader<Given<R::File, R::Reader>>,
+) -> Outcome
 where
     R::File: Owned,
 {
@@ -127,7 +127,7 @@ where
         Err(fault) => return refused(rt, added.file, gather_fault(fault), noting),
     };
     let format = match how.taken {
-        Taken::As(format) => Some(format),
+        FormatChoice::As(format) => Some(format),
         _ => format_of(&bytes),
     };
     let Some(format) = format else {
@@ -150,8 +150,8 @@ pub fn add_file<R: Files + Input + Print + AllocGlobal>(
     file: &str,
     to: &str,
     ids: Ids,
-    how: How,
-) -> Answer
+    how: AddOptions,
+) -> Outcome
 where
     R::File: Owned,
 {
@@ -160,14 +160,14 @@ where
         Err(error) => return unread(rt, file, &error),
     };
     let added = Added { file, to, ids };
-    let mut noting = Noting::new(reader);
+    let mut noting = RecordingReader::new(reader);
     match how.taken {
-        Taken::Auto | Taken::As(_) => add_image(rt, added, how, &mut noting),
-        Taken::Raw => add_read(rt, added, &mut noting, ""),
-        Taken::Unsaid => {
+        FormatChoice::Auto | FormatChoice::As(_) => add_image(rt, added, how, &mut noting),
+        FormatChoice::Raw => add_read(rt, added, &mut noting, ""),
+        FormatChoice::Unsaid => {
             let answer = add_read(rt, added, &mut noting, "");
             match answer.exit {
-                Exit::Done => Answer {
+                Exit::Done => Outcome {
                     exit: Exit::Done,
                     reason: hint(rt.alloc(), file, noting.head()),
                 },

@@ -1,10 +1,10 @@
 //! `dfu check`.
 
 use crate::given::open;
-use crate::noting::Noting;
 use crate::reasons::{error_reason, given_reason};
+use crate::recording_reader::RecordingReader;
 use dfu_json::JsonLines;
-use dfu_output::{Answer, Exit, check_with_fault, fault_text, name_before, write_out};
+use dfu_output::{Exit, Outcome, check_with_fault, fault_text, name_before, write_out};
 use dfu_suffix::{Findings, SuffixFault};
 use std::io;
 use std::rt::Files;
@@ -16,21 +16,21 @@ fn check_file<R: Files + Input + Print + AllocGlobal>(
     file: &str,
     explain: bool,
     json: bool,
-) -> Answer {
+) -> Outcome {
     let alloc = rt.alloc();
     let mut out = JsonLines::new(alloc, json, Some(file), io::writer(rt));
     match open(rt, file) {
         Ok(reader) => {
-            let mut noting = Noting::new(reader);
+            let mut noting = RecordingReader::new(reader);
             let mut findings = Findings::new();
             let (exit, fault) = check_with_fault(alloc, &mut noting, &mut out, &mut findings);
             let reason = match fault {
                 Some(fault) if explain => given_reason(alloc, file, fault, &noting, &findings),
                 _ => None,
             };
-            Answer { exit, reason }
+            Outcome { exit, reason }
         }
-        Err(error) => Answer {
+        Err(error) => Outcome {
             exit: fault_text(SuffixFault::Read, &mut out),
             reason: error_reason(alloc, file, &error),
         },
@@ -42,14 +42,14 @@ fn check_named<R: Files + Input + Print + AllocGlobal>(
     rt: &R,
     file: &str,
     explain: bool,
-) -> Answer {
+) -> Outcome {
     let exit = match name_before(rt.alloc(), file) {
         Ok(text) => write_out(&mut io::writer(rt), text.as_bytes(), Exit::Done),
         Err(_) => fault_text(SuffixFault::NoMemory, &mut io::writer(rt)),
     };
     match exit {
         Exit::Done => check_file(rt, file, explain, false),
-        _ => Answer { exit, reason: None },
+        _ => Outcome { exit, reason: None },
     }
 }
 
@@ -60,11 +60,11 @@ pub fn check_files<R: Files + Input + Print + AllocGlobal>(
     files: &[String],
     explain: bool,
     json: bool,
-) -> Answer {
+) -> Outcome {
     if let [file] = files {
         return check_file(rt, file, explain, json);
     }
-    let mut all = Answer {
+    let mut all = Outcome {
         exit: Exit::Done,
         reason: None,
     };

@@ -1,11 +1,11 @@
 //! `dfu extract`.
 
 use crate::given::open;
-use crate::noting::Noting;
 use crate::owner::Owned;
+use crate::recording_reader::RecordingReader;
 use crate::refusing::{gather_fault, refused, refused_bytes, unread};
 use crate::replacing::replace;
-use dfu_output::{Answer, wrote_line};
+use dfu_output::{Outcome, wrote_line};
 use dfu_suffix::{SuffixFault, gather, read};
 use std::rt::Files;
 
@@ -19,7 +19,7 @@ pub fn extract_file<R: Files + Input + Print + AllocGlobal>(
     file: &str,
     to: &str,
     explain: bool,
-) -> Answer
+) -> Outcome
 where
     R::File: Owned,
 {
@@ -28,7 +28,7 @@ where
         Ok(reader) => reader,
         Err(error) => return unread(rt, file, &error),
     };
-    let mut noting = Noting::new(reader);
+    let mut noting = RecordingReader::new(reader);
     let bytes = match gather(alloc, &mut noting, MAX_FILE) {
         Ok(bytes) => bytes,
         Err(fault) => return refused(rt, file, gather_fault(fault), &noting),

@@ -4,7 +4,7 @@ ghost use Rattle.std.specs.Prelude.{◌≡◌, ◌≢◌, [], IfSome, List, ℕ,
 ghost use Rattle.std.specs.String.{string_bytes};
 ghost use Rattle.dfu_output.specs.ReasonLines.{reason_line};
 
-use crate::noting::Noting;
+use crate::recording_reader::RecordingReader;
 use crate::suffixes::{length_why, sums_why};
 use dfu_output::reason_line;
 use dfu_suffix::{Findings, SuffixFault};
@@ -104,7 +104,7 @@ pub(crate) fn given_reason<R>(
     alloc: Global,
     name: &str,
     fault: SuffixFault,
-    noting: &Noting<R>,
+    noting: &RecordingReader<R>,
     findings: &Findings,
 ) -> Option<String> {
     match (fault, &noting.error) {

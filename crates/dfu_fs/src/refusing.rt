@@ -1,14 +1,14 @@
 //! The answers where a file can't be read, or is refused.
 
-use crate::noting::Noting;
 use crate::reasons::{error_reason, found_reason, given_reason};
-use dfu_output::{Answer, fault_text};
+use crate::recording_reader::RecordingReader;
+use dfu_output::{Outcome, fault_text};
 use dfu_suffix::{Findings, GatherFault, SuffixFault, check_with};
 use std::io;
 
 /// The answer where a file can't be opened for reading.
-pub(crate) fn unread<R: Print + AllocGlobal>(rt: &R, file: &str, error: &io::Error) -> Answer {
-    Answer {
+pub(crate) fn unread<R: Print + AllocGlobal>(rt: &R, file: &str, error: &io::Error) -> Outcome {
+    Outcome {
         exit: fault_text(SuffixFault::Read, &mut io::writer(rt)),
         reason: error_reason(rt.alloc(), file, error),
     }
@@ -19,9 +19,9 @@ pub(crate) fn refused<R: Print + AllocGlobal, S>(
     rt: &R,
     file: &str,
     fault: SuffixFault,
-    noting: &Noting<S>,
-) -> Answer {
-    Answer {
+    noting: &RecordingReader<S>,
+) -> Outcome {
+    Outcome {
         exit: fault_text(fault, &mut io::writer(rt)),
         reason: given_reason(rt.alloc(), file, fault, noting, &Findings::new()),
     }
@@ -34,12 +34,12 @@ pub(crate) fn refused_bytes<R: Print + AllocGlobal>(
     fault: SuffixFault,
     bytes: &[u8],
     explain: bool,
-) -> Answer {
+) -> Outcome {
     let mut findings = Findings::new();
     if explain {
         let _ = check_with(bytes, &mut findings);
     }
-    Answer {
+    Outcome {
         exit: fault_text(fault, &mut io::writer(rt)),
         reason: found_reason(rt.alloc(), file, fault, &findings),
     }

@@ -3,9 +3,9 @@
 ghost use Rattle.std.specs.Prelude.{◌≤◌, length, IfOk};
 
 use crate::owner::Owned;
-use crate::part::{Part, begin, put, remove};
 use crate::reasons::error_reason;
-use dfu_output::{Answer, Exit, fault_text, write_out};
+use crate::temp_file::{TempFile, begin, put, remove};
+use dfu_output::{Exit, Outcome, fault_text, write_out};
 use dfu_suffix::{SuffixFault, write_whole};
 use std::io::{self, ErrorKind, Write};
 use std::rt::Files;
@@ -18,7 +18,7 @@ use std::rt::Files;
 pub(crate) struct Replacement<'a, R: Files> {
     rt: &'a R,
     out: &'a str,
-    part: Option<Part<R::File>>,
+    part: Option<TempFile<R::File>>,
     /// At what making or writing the part failed.
     pub error: Option<io::Error>,
 }
@@ -113,14 +113,14 @@ pub(crate) fn finish<R: Files + Print + AllocGlobal>(
     to: &str,
     made: Replacement<'_, R>,
     line: &[u8],
-) -> Answer {
+) -> Outcome {
     let mut out = io::writer(rt);
     match made.finish() {
-        Ok(()) => Answer {
+        Ok(()) => Outcome {
             exit: write_out(&mut out, line, Exit::Done),
             reason: None,
         },
-        Err(error) => Answer {
+        Err(error) => Outcome {
             exit: fault_text(SuffixFault::Write, &mut out),
             reason: error_reason(rt.alloc(), to, &error),
         },
@@ -133,7 +133,7 @@ pub(crate) fn replace<R: Files + Print + AllocGlobal>(
     to: &str,
     text: &[u8],
     line: &[u8],
-) -> Answer
+) -> Outcome
 where
     R::File: Owned,
 {
@@ -146,7 +146,7 @@ where
         None => None,
     };
     made.abandon();
-    Answer {
+    Outcome {
         exit: fault_text(SuffixFault::Write, &mut io::writer(rt)),
         reason,
     }

@@ -2,11 +2,11 @@
 
 use crate::changing::{Change, with_ids};
 use crate::given::open;
-use crate::noting::Noting;
 use crate::owner::Owned;
+use crate::recording_reader::RecordingReader;
 use crate::refusing::{gather_fault, refused, refused_bytes, unread};
 use crate::replacing::replace;
-use dfu_output::{Answer, Exit, check_text};
+use dfu_output::{Exit, Outcome, check_text};
 use dfu_suffix::{SuffixFault, gather};
 use std::rt::Files;
 
@@ -20,7 +20,7 @@ pub fn set_file<R: Files + Input + Print + AllocGlobal>(
     file: &str,
     change: &Change,
     explain: bool,
-) -> Answer
+) -> Outcome
 where
     R::File: Owned,
 {
@@ -29,7 +29,7 @@ where
         Ok(reader) => reader,
         Err(error) => return unread(rt, file, &error),
     };
-    let mut noting = Noting::new(reader);
+    let mut noting = RecordingReader::new(reader);
     let bytes = match gather(alloc, &mut noting, MAX_FILE) {
         Ok(bytes) => bytes,
         Err(fault) => return refused(rt, file, gather_fault(fault), &noting),

@@ -1,11 +1,11 @@
 -- Laws of what is understood: what a device means by its bytes is what the host hears.
-use Rattle.std.proofs.Common.{◌≡◌, ℕ, List, [], ◌∷◌, slice_index_or, refl, sym, ap, ◌∙◌, subst}
+use Rattle.std.proofs.Common.{◌≡◌, ℕ, List, [], ◌∷◌, refl, sym, ap, ◌∙◌, subst}
 use Rattle.dfu_wire.specs.declared.requests.Request.{Request}
 use Rattle.dfu_wire.specs.declared.requests.Request.TheVariants as request
 use Rattle.dfu_wire.specs.declared.states.State.{State}
-use Rattle.dfu_wire.specs.declared.states.State.TheVariants as state
 use Rattle.dfu_wire.specs.State.{state_byte}
 use Rattle.dfu_wire.specs.Status.{StatusFields, IsStatus}
+use Rattle.dfu_wire.specs.OneState.{one_state}
 use Rattle.dfu_wire.specs.OneStatus.{IsStatus-one}
 use Rattle.dfu_host.specs.declared.seen.Seen.{Seen}
 use Rattle.dfu_host.specs.declared.seen.Seen.TheVariants as seen
@@ -29,32 +29,6 @@ status_understood s bytes (Status code poll state) is reads =
     (IsStatus-one (record { code = code; poll_ms = poll; state = state }) s bytes reads is)
 status_understood s bytes Nothing is reads = absurd (reads s is)
 status_understood s bytes heard is reads = elim reads [ ]
-
--- The states in the order of their numbers.
-abbrev states : List State
-states =
-    state.AppIdle ∷ state.AppDetach ∷ state.DfuIdle ∷ state.DownloadSync ∷ state.DownloadBusy ∷ state.DownloadIdle
-    ∷ state.ManifestSync ∷ state.Manifest ∷ state.ManifestWaitReset ∷ state.UploadIdle ∷ state.Error ∷ []
-
--- The state of a number.
-abbrev state_numbered : ℕ → State
-state_numbered n = slice_index_or states n state.Error
-
-state_back : (s : State) → state_numbered (state_byte s) ≡ s
-state_back state.AppIdle = refl
-state_back state.AppDetach = refl
-state_back state.DfuIdle = refl
-state_back state.DownloadSync = refl
-state_back state.DownloadBusy = refl
-state_back state.DownloadIdle = refl
-state_back state.ManifestSync = refl
-state_back state.Manifest = refl
-state_back state.ManifestWaitReset = refl
-state_back state.UploadIdle = refl
-state_back state.Error = refl
-
-one_state : (s t : State) → state_byte s ≡ state_byte t → s ≡ t
-one_state s t e = sym (state_back s) ∙ ap state_numbered e ∙ state_back t
 
 -- A state is understood as it was meant.
 pub state_understood : StateUnderstood

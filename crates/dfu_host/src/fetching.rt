@@ -11,7 +11,7 @@ ghost use Rattle.dfu_host.specs.inside.View.{heard_of, task_of};
 ghost use Rattle.dfu_host.specs.Wire.{is_kept};
 
 use crate::heard::Heard;
-use crate::part::Part;
+use crate::part::UploadPart;
 use crate::phase::Phase;
 use crate::report::Report;
 use crate::task::Task;
@@ -40,7 +40,7 @@ impl Task<'_> {
     }
 
     /// The part that is to be kept of bytes that come where one is asked for.
-    pub(crate) fn part_in<'s>(&self, number: u16, bytes: &'s [u8]) -> Option<Part<'s>>
+    pub(crate) fn part_in<'s>(&self, number: u16, bytes: &'s [u8]) -> Option<UploadPart<'s>>
         requires { number < 65535 }
         ensures some { IfSome result (λ part. (refused : Bool) (memory memory' : List ℕ)
             → Stored part.number part.bytes.now refused memory memory'
@@ -62,7 +62,7 @@ impl Task<'_> {
             → StoresPart self.now.transfer number bytes.now count room count room }
     {
         if self.is_kept(number, bytes.len()) {
-            Some(Part { number, bytes })
+            Some(UploadPart { number, bytes })
         } else {
             None
         }

@@ -147,7 +147,7 @@ impl<'f> Host<'f> {
         ensures part { TakesPart self.old self.old.phase seen.entry self.new }
     {
         let refused = self.memory.refuses(&self.session, seen);
-        self.session.told(seen, refused);
+        self.session.on_result(seen, refused);
     }
 
     /// Gives the session up: what the host wants next is ABORT, and whatever comes of it, the

@@ -5,7 +5,7 @@ ghost use Rattle.dfu_host.specs.InParts.{kept_at};
 ghost use Rattle.dfu_host.specs.Keeping.{Kept, Stored};
 ghost use Rattle.dfu_host.specs.inside.Memories.{bytes_of};
 
-use crate::part::Part;
+use crate::part::UploadPart;
 use crate::seen::Seen;
 use crate::session::Session;
 
@@ -29,7 +29,7 @@ impl Memory {
 
     /// Stores a part, and says whether it was refused: that comes only where there is no vector, or
     /// the vector had no room for it and a growth was refused.
-    fn refuses_part(&mut self, part: &Part<'_>) -> bool
+    fn refuses_part(&mut self, part: &UploadPart<'_>) -> bool
         ensures { Stored part.now.number part.now.bytes.now result (bytes_of self.old) (bytes_of self.new) }
     {
         match self {
@@ -50,7 +50,7 @@ impl Memory {
 }
 
 /// Stores a part in a vector, and says whether that is full.
-fn is_full(kept: &mut Vec<u8>, part: &Part<'_>) -> bool
+fn is_full(kept: &mut Vec<u8>, part: &UploadPart<'_>) -> bool
     ensures stored { Stored part.now.number part.now.bytes.now result kept.old.items kept.new.items }
     ensures full { IsTrue result → vec_capacity kept.old < length (kept_at part.now.number kept.old.items) + length part.now.bytes.now }
 {

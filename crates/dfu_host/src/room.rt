@@ -10,7 +10,7 @@ ghost use Rattle.dfu_host.specs.inside.Refusing.{RefusesIn};
 ghost use Rattle.dfu_host.specs.Goals.{Carries};
 ghost use Rattle.std.specs.Borrow.{Bor};
 
-use crate::part::Part;
+use crate::part::UploadPart;
 use crate::seen::Seen;
 use crate::session::Session;
 
@@ -34,11 +34,11 @@ impl Session<'_> {
     {
         match keep(self, room, kept, seen) {
             Some(kept) => {
-                self.told(seen, false);
+                self.on_result(seen, false);
                 kept
             }
             None => {
-                self.told(seen, true);
+                self.on_result(seen, true);
                 kept
             }
         }
@@ -72,7 +72,7 @@ fn keep(session: &Session<'_>, room: &mut [u8], kept: usize, seen: Seen<'_>) -> 
 /// Stores a part behind the bytes that are kept, of which there are `kept`, and says how many are
 /// kept then. Where it finds no room nothing changes.
 #[tactic(auto, using(std::proofs::lemmas::Slice::overwrites))]
-fn store(room: &mut [u8], kept: usize, part: &Part<'_>) -> Option<usize>
+fn store(room: &mut [u8], kept: usize, part: &UploadPart<'_>) -> Option<usize>
     requires { kept ≤ length room.old }
     ensures len { length room.new ≡ length room.old }
     ensures fits { IfSome result (λ n. n ≤ length room.old) }

@@ -7,7 +7,7 @@ use crate::action::Action;
 use crate::fault::HostFault;
 use crate::goal::Goal;
 use crate::limits::Limits;
-use crate::part::Part;
+use crate::part::UploadPart;
 use crate::parts::Parts;
 use crate::phase::Phase;
 use crate::progress::{Progress, beginning};
@@ -180,7 +180,7 @@ impl<'f> Session<'f> {
     }
 
     /// The part of the image that is to be kept of what is seen, before the session is told of it.
-    pub(crate) fn part<'s>(&self, seen: Seen<'s>) -> Option<Part<'s>>
+    pub(crate) fn part<'s>(&self, seen: Seen<'s>) -> Option<UploadPart<'s>>
         ensures some { IfSome result (λ part. (refused : Bool) (memory memory' : List ℕ)
             → Stored part.number part.bytes.now refused memory memory'
             → Kept self.now.transfer self.now.phase seen.entry refused memory memory') }
@@ -208,7 +208,7 @@ impl<'f> Session<'f> {
 
     /// Tells the session what came of its action, and whether the part of the image in it, which is
     /// kept by now, was refused.
-    pub(crate) fn told(&mut self, seen: Seen<'_>, refused: bool)
+    pub(crate) fn on_result(&mut self, seen: Seen<'_>, refused: bool)
         ensures payload { (payload : Bor (List ℕ)) → Carries payload self.old.goal → Carries payload self.new.goal }
         ensures takes { (memory memory' : List ℕ) → Kept self.old.transfer self.old.phase seen.entry refused memory memory'
             → Takes (host_of memory self.old) seen.entry (host_of memory' self.new) }

@@ -3,14 +3,14 @@ use Rattle.std.specs.Prelude.{ℕ}
 use Rattle.dfu_host.specs.declared.phase.Phase.{Phase}
 use Rattle.dfu_host.specs.declared.phase.Phase.TheVariants as phase
 use Rattle.dfu_host_c.specs.ReportNumbers.{code_in, report_number}
-use Rattle.dfu_host_c.specs.declared.phases.Numbers.{Numbers}
+use Rattle.dfu_host_c.specs.declared.phases.EncodedPhase.{EncodedPhase}
 
 -- The numbers of a phase: which it is, its block, part or report, and its poll time or code.
-abbrev of : (which number more : ℕ) → Numbers
+abbrev of : (which number more : ℕ) → EncodedPhase
 of which number more = record { which = which; number = number; more = more }
 
 -- The numbers of each phase, as `phase_at` has them: what a phase does not have is 0.
-abbrev pub numbers_in : Phase → Numbers
+abbrev pub numbers_in : Phase → EncodedPhase
 numbers_in phase.Find = of 0 0 0
 numbers_in phase.FindAgain = of 1 0 0
 numbers_in phase.Detach = of 2 0 0

@@ -10,7 +10,7 @@ use dfu_host::{Phase, Report};
 
 /// A phase as numbers.
 #[derive(Clone, Copy)]
-pub(crate) struct Numbers {
+pub(crate) struct EncodedPhase {
     /// Which phase.
     pub(crate) which: u32,
     /// The block, the part or the report.
@@ -78,7 +78,7 @@ fn part_at(number: u64) -> Option<u16>
 }
 
 /// The numbers of a phase.
-pub(crate) fn numbers_of(phase: Phase) -> Numbers
+pub(crate) fn numbers_of(phase: Phase) -> EncodedPhase
     ensures phase { phase_at result.which result.number result.more ≡ Some phase }
     ensures numbers { result ≡ numbers_in phase }
 {
@@ -111,23 +111,23 @@ pub(crate) fn numbers_of(phase: Phase) -> Numbers
     }
 }
 
-fn of(which: u32, number: u64, more: u32) -> Numbers
+fn of(which: u32, number: u64, more: u32) -> EncodedPhase
     ensures { result ≡ record { which = which; number = number; more = more } }
 {
-    Numbers {
+    EncodedPhase {
         which,
         number,
         more,
     }
 }
 
-fn plain(which: u32) -> Numbers
+fn plain(which: u32) -> EncodedPhase
     ensures { result ≡ record { which = which; number = 0; more = 0 } }
 {
     of(which, 0, 0)
 }
 
-fn reported(which: u32, report: Report) -> Numbers
+fn reported(which: u32, report: Report) -> EncodedPhase
     ensures which { result.which ≡ which }
     ensures report { report_at result.number result.more ≡ Some report }
     ensures number { result.number ≡ report_number report }

@@ -5,8 +5,8 @@ use Rattle.dfu_images.specs.declared.fault.ImageFault.{ImageFault}
 use Rattle.dfu_images.specs.declared.fault.ImageFault.TheVariants as fault
 use Rattle.dfu_images.specs.declared.laying.LayFault.{LayFault}
 use Rattle.dfu_images.specs.declared.laying.LayFault.TheVariants as lay
-use Rattle.dfu_images.specs.declared.making.FileFault.{FileFault}
-use Rattle.dfu_images.specs.declared.making.FileFault.TheVariants.{Unread, NoData, Unlaid}
+use Rattle.dfu_images.specs.declared.making.ImageFileFault.{ImageFileFault}
+use Rattle.dfu_images.specs.declared.making.ImageFileFault.TheVariants.{Unread, NoData, Unlaid}
 use Rattle.dfu_images.specs.declared.format.Format.{Format}
 use Rattle.dfu_images.specs.declared.format.Format.TheVariants.{IntelHex, SRecord, Uf2, Elf}
 use Rattle.dfu_output.specs.AnswerLines.{hex}
@@ -55,11 +55,11 @@ unlaid_text (lay.Gap from to) = codes "Gap " ++ hex 8 from ++ (codes " " ++ hex 
 unlaid_text lay.TooLarge = codes "TooLarge"
 
 -- Why a file makes no image, by its name.
-abbrev pub fault_text : FileFault → List ℕ
+abbrev pub fault_text : ImageFileFault → List ℕ
 fault_text (Unread fault) = unread_text fault
 fault_text NoData = codes "NoData"
 fault_text (Unlaid fault) = unlaid_text fault
 
 -- The line for a file that makes no image is `refused NAME`, and what the fault names.
-unfoldable pub refused_line : FileFault → List ℕ
+unfoldable pub refused_line : ImageFileFault → List ℕ
 refused_line fault = codes "refused " ++ fault_text fault ++ 10 ∷ []

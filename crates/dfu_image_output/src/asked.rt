@@ -8,7 +8,7 @@ use dfu_images::Format;
 
 /// How FILE is taken.
 #[derive(Clone, Copy, Debug, PartialEq, Eq)]
-pub enum Taken {
+pub enum FormatChoice {
     /// Without a word: as it is, with a reason where it looks like a file of a format.
     Unsaid,
     /// As it is.
@@ -52,22 +52,22 @@ pub fn fill_in(word: &str) -> Option<u8>
 }
 
 /// How the word of `--format` has FILE taken.
-pub fn format_in(word: &str) -> Option<Taken>
-    ensures raw { word.now ≡ codes "raw" → result ≡ Some Taken.Raw }
-    ensures auto { word.now ≡ codes "auto" → result ≡ Some Taken.Auto }
-    ensures ihex { word.now ≡ codes "ihex" → result ≡ Some (Taken.As Format.IntelHex) }
-    ensures srec { word.now ≡ codes "srec" → result ≡ Some (Taken.As Format.SRecord) }
-    ensures uf2 { word.now ≡ codes "uf2" → result ≡ Some (Taken.As Format.Uf2) }
-    ensures elf { word.now ≡ codes "elf" → result ≡ Some (Taken.As Format.Elf) }
+pub fn format_in(word: &str) -> Option<FormatChoice>
+    ensures raw { word.now ≡ codes "raw" → result ≡ Some FormatChoice.Raw }
+    ensures auto { word.now ≡ codes "auto" → result ≡ Some FormatChoice.Auto }
+    ensures ihex { word.now ≡ codes "ihex" → result ≡ Some (FormatChoice.As Format.IntelHex) }
+    ensures srec { word.now ≡ codes "srec" → result ≡ Some (FormatChoice.As Format.SRecord) }
+    ensures uf2 { word.now ≡ codes "uf2" → result ≡ Some (FormatChoice.As Format.Uf2) }
+    ensures elf { word.now ≡ codes "elf" → result ≡ Some (FormatChoice.As Format.Elf) }
     ensures other { IsNoFormat word.now → result ≡ None }
 {
     match word {
-        "raw" => Some(Taken::Raw),
-        "auto" => Some(Taken::Auto),
-        "ihex" => Some(Taken::As(Format::IntelHex)),
-        "srec" => Some(Taken::As(Format::SRecord)),
-        "uf2" => Some(Taken::As(Format::Uf2)),
-        "elf" => Some(Taken::As(Format::Elf)),
+        "raw" => Some(FormatChoice::Raw),
+        "auto" => Some(FormatChoice::Auto),
+        "ihex" => Some(FormatChoice::As(Format::IntelHex)),
+        "srec" => Some(FormatChoice::As(Format::SRecord)),
+        "uf2" => Some(FormatChoice::As(Format::Uf2)),
+        "elf" => Some(FormatChoice::As(Format::Elf)),
         _ => None,
     }
 }

@@ -5,7 +5,7 @@ ghost use Rattle.std.specs.String.{string_bytes};
 ghost use Rattle.dfu_image_output.specs.ImageLines.{fault_text, refused_line, unlaid_text, unread_text};
 
 use crate::numbers::{addressed, ended, numbered};
-use dfu_images::{FileFault, ImageFault, LayFault};
+use dfu_images::{ImageFault, ImageFileFault, LayFault};
 use dfu_output::{made_field, push};
 use std::alloc::{AllocError, Global};
 
@@ -58,13 +58,13 @@ fn unlaid_text(alloc: Global, fault: LayFault) -> Result<String, AllocError>
 }
 
 /// Why a file makes no image, by its name.
-fn fault_text(alloc: Global, fault: FileFault) -> Result<String, AllocError>
+fn fault_text(alloc: Global, fault: ImageFileFault) -> Result<String, AllocError>
     ensures { IfOk result (λ t. string_bytes t ≡ fault_text fault) }
 {
     match fault {
-        FileFault::Unread(fault) => unread_text(alloc, fault),
-        FileFault::NoData => String::from_str(alloc, "NoData"),
-        FileFault::Unlaid(fault) => unlaid_text(alloc, fault),
+        ImageFileFault::Unread(fault) => unread_text(alloc, fault),
+        ImageFileFault::NoData => String::from_str(alloc, "NoData"),
+        ImageFileFault::Unlaid(fault) => unlaid_text(alloc, fault),
     }
 }
 
@@ -74,7 +74,7 @@ fn fault_text(alloc: Global, fault: FileFault) -> Result<String, AllocError>
 ///
 /// There is no memory for it.
 #[tactic(auto, unfolding(crate::specs::ImageLines::refused_line))]
-pub fn refused_line(alloc: Global, fault: FileFault) -> Result<String, AllocError>
+pub fn refused_line(alloc: Global, fault: ImageFileFault) -> Result<String, AllocError>
     ensures { IfOk result (λ t. string_bytes t ≡ refused_line fault) }
 {
     let mut line = String::from_str(alloc, "refused ")?;

@@ -7,7 +7,7 @@ mod lines;
 mod numbers;
 mod reasons;
 
-pub use asked::{Taken, fill_in, format_in};
+pub use asked::{FormatChoice, fill_in, format_in};
 pub use faults::refused_line;
 pub use lines::{format_name, image_line};
 pub use reasons::{looks_like, why};

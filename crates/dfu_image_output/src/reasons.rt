@@ -1,23 +1,25 @@
 //! Reasons, in words.
 
 use crate::lines::format_name;
-use dfu_images::{FileFault, Format, ImageFault, LayFault};
+use dfu_images::{Format, ImageFault, ImageFileFault, LayFault};
 use std::alloc::{AllocError, Global};
 
 /// What to do about a file that makes no image; nothing where the reason says it.
-fn advice(fault: FileFault) -> &'static str {
+fn advice(fault: ImageFileFault) -> &'static str {
     match fault {
-        FileFault::Unread(ImageFault::NoMemory) | FileFault::Unlaid(LayFault::NoMemory) => "",
-        FileFault::Unread(ImageFault::Overlaps(_)) => "; build it so that each byte is there once",
-        FileFault::Unread(_) => "; build it anew, or take it as it is by --format raw",
-        FileFault::NoData => "; look at what the build puts into it",
-        FileFault::Unlaid(LayFault::Gap(_, _)) => "; --fill ff fills gaps with this byte",
-        FileFault::Unlaid(LayFault::TooLarge) => "; give a file for one part of the memory",
+        ImageFileFault::Unread(ImageFault::NoMemory) | ImageFileFault::Unlaid(LayFault::NoMemory) =>
+            "",
+        ImageFileFault::Unread(ImageFault::Overlaps(_)) =>
+            "; build it so that each byte is there once",
+        ImageFileFault::Unread(_) => "; build it anew, or take it as it is by --format raw",
+        ImageFileFault::NoData => "; look at what the build puts into it",
+        ImageFileFault::Unlaid(LayFault::Gap(_, _)) => "; --fill ff fills gaps with this byte",
+        ImageFileFault::Unlaid(LayFault::TooLarge) => "; give a file for one part of the memory",
     }
 }
 
 /// Why a file makes no image, and what to do.
-pub fn why(alloc: Global, fault: FileFault) -> Result<String, AllocError> {
+pub fn why(alloc: Global, fault: ImageFileFault) -> Result<String, AllocError> {
     let advice = advice(fault);
     format!(in alloc; "{fault}{advice}")
 }

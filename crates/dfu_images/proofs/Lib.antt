@@ -3,4 +3,3 @@ pub mod LineLaws
 pub mod PairLaws
 pub mod PlaceLaws
 pub mod ReadLaws
-pub mod TestLaws

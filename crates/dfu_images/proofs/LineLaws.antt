@@ -2,6 +2,7 @@
 use Rattle.std.proofs.Common.{◌≡◌, ℕ, zero, suc, ◌+◌, ◌<◌, ◌≤◌, Bool, true, false, cond, eqb, ltb, List, [], ◌∷◌, length, take, drop, refl, sym, ap, ◌∙◌, arith, Option, Some, None, MatchOption}
 use Rattle.std.proofs.lemmas.Bool.{ltb-true, ltb-false}
 use Rattle.std.specs.List.{position, position_or_len}
+use Rattle.std.proofs.lemmas.Option.{cond_some}
 use Rattle.dfu_images.specs.Lines.{lines, before_lines, is_feed}
 
 lines_none : lines [] ≡ [] ∷ []
@@ -50,10 +51,6 @@ only_line (b ∷ bs) h =
       | false ↦ λ q. lines_other b bs q ∙ ap (before_lines b) (only_line bs (omega (arith, place_other b bs q, h)))
     ] in by (eqb b 10) refl
 
-some_by : (t : Bool) (k n : ℕ) → cond t (Some k) None ≡ Some n → (t ≡ true) × (k ≡ n)
-some_by true k n h = (refl, cc)
-some_by false k n h = cc
-
 none_by : (t : Bool) (k : ℕ) → cond t (Some k) None ≡ None → t ≡ false
 none_by true k h = cc
 none_by false k h = refl
@@ -61,7 +58,7 @@ none_by false k h = refl
 -- The first line, and those behind its feed.
 pub lines_at : (text : List ℕ) (n j : ℕ) → j ≡ suc n → position is_feed text ≡ Some n → lines text ≡ take n text ∷ lines (drop j text)
 lines_at text n j e h =
-    let s = some_by (ltb (position_or_len is_feed text) (length text)) (position_or_len is_feed text) n h in
+    let s = cond_some (ltb (position_or_len is_feed text) (length text)) (position_or_len is_feed text) n h in
     let within = ltb-true (position_or_len is_feed text) (length text) s.0 in
     first_line text n s.1 (omega (arith, within, s.1)) ∙ ap (λ (k : ℕ). take n text ∷ lines (drop k text)) (sym e)
 

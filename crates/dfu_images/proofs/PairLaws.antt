@@ -1,8 +1,8 @@
 -- Digits, pair by pair.
-use Rattle.std.proofs.Common.{◌≡◌, ℕ, zero, suc, ◌+◌, ◌*◌, ◌<◌, ◌≤◌, ltb, List, [], ◌∷◌, ◌++◌, length, drop, get_or, refl, sym, ap, ◌∙◌, arith, Option, Some, None, append_assoc, drop-cons}
-use Rattle.std.proofs.lemmas.List.{append-nil}
+use Rattle.std.proofs.Common.{◌≡◌, ℕ, suc, ◌+◌, ◌*◌, ◌<◌, ◌≤◌, ltb, List, [], ◌∷◌, ◌++◌, length, drop, get_or, refl, sym, ap, ◌∙◌, arith, Option, Some, None, append_assoc, drop-cons}
+use Rattle.std.proofs.lemmas.List.{append-nil, drop_all}
+use Rattle.std.proofs.lemmas.Bool.{lt-ltb, le-ltb, and_from, and_left, and_right}
 use Rattle.dfu_images.specs.Digits.{hex_value, before, pairs}
-use Rattle.dfu_images.proofs.TestLaws.{less, not_less, both, first_no, second_no}
 
 -- Bytes before those that digits spell.
 abbrev pub joined : List ℕ → Option (List ℕ) → Option (List ℕ)
@@ -25,28 +25,19 @@ pairs_one a = refl
 pub pairs_two : (a b : ℕ) (bs : List ℕ) → hex_value a < 16 → hex_value b < 16 →
     pairs (a ∷ b ∷ bs) ≡ before (16 * hex_value a + hex_value b) (pairs bs)
 unfolding pairs
-pairs_two a b bs h k = rw (both (ltb (hex_value a) 16) (ltb (hex_value b) 16) (less (hex_value a) 16 h) (less (hex_value b) 16 k)) refl
+pairs_two a b bs h k = rw (and_from (ltb (hex_value a) 16) (ltb (hex_value b) 16) (lt-ltb (hex_value a) 16 h) (lt-ltb (hex_value b) 16 k)) refl
 
 -- Anything else is none.
 pairs_high : (a b : ℕ) (bs : List ℕ) → 16 ≤ hex_value a → pairs (a ∷ b ∷ bs) ≡ None
 unfolding pairs
-pairs_high a b bs h = rw (first_no (ltb (hex_value a) 16) (ltb (hex_value b) 16) (not_less (hex_value a) 16 h)) refl
+pairs_high a b bs h = rw (and_left (ltb (hex_value a) 16) (ltb (hex_value b) 16) (le-ltb (hex_value a) 16 h)) refl
 
 pairs_low : (a b : ℕ) (bs : List ℕ) → 16 ≤ hex_value b → pairs (a ∷ b ∷ bs) ≡ None
 unfolding pairs
-pairs_low a b bs h = rw (second_no (ltb (hex_value a) 16) (ltb (hex_value b) 16) (not_less (hex_value b) 16 h)) refl
-
-drop_end : (xs : List ℕ) (i : ℕ) → length xs ≤ i → drop i xs ≡ []
-drop_end [] zero h = refl
-drop_end [] (suc i) h = refl
-drop_end (x ∷ xs) zero h = absurd (omega (arith, h))
-drop_end (x ∷ xs) (suc i) h = drop_end xs i (omega (arith, h))
+pairs_low a b bs h = rw (and_right (ltb (hex_value a) 16) (ltb (hex_value b) 16) (le-ltb (hex_value b) 16 h)) refl
 
 drop_one : (xs : List ℕ) (i : ℕ) → i + 1 ≡ length xs → drop i xs ≡ get_or xs i 0 ∷ []
-drop_one [] i h = absurd (omega (arith, h))
-drop_one (x ∷ []) zero h = refl
-drop_one (x ∷ y ∷ ys) zero h = absurd (omega (arith, h))
-drop_one (x ∷ xs) (suc i) h = drop_one xs i (omega (arith, h))
+drop_one xs i h = drop-cons xs i 0 (omega (arith, h)) ∙ ap (λ (ys : List ℕ). get_or xs i 0 ∷ ys) (drop_all (suc i) xs (omega (arith, h)))
 
 drop_two : (xs : List ℕ) (i j k : ℕ) → j ≡ suc i → k ≡ suc j → j < length xs → drop i xs ≡ get_or xs i 0 ∷ get_or xs j 0 ∷ drop k xs
 drop_two xs i j k e f h =
@@ -56,7 +47,7 @@ drop_two xs i j k e f h =
 -- All digits are read.
 pub spelled_all : (xs front : List ℕ) (i : ℕ) → length xs ≤ i → joined front (pairs (drop i xs)) ≡ pairs xs → pairs xs ≡ Some front
 spelled_all xs front i h so_far =
-    sym so_far ∙ ap (joined front) (ap pairs (drop_end xs i h) ∙ pairs_nil) ∙ ap Some (append-nil front)
+    sym so_far ∙ ap (joined front) (ap pairs (drop_all i xs h) ∙ pairs_nil) ∙ ap Some (append-nil front)
 
 -- A digit is left alone.
 pub spelled_odd : (xs front : List ℕ) (i : ℕ) → i + 1 ≡ length xs → joined front (pairs (drop i xs)) ≡ pairs xs → pairs xs ≡ None

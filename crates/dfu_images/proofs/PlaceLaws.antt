@@ -1,16 +1,15 @@
 -- Where an element goes among others, and that none shares an address.
 use Rattle.std.proofs.Common.{◌≡◌, ℕ, zero, suc, ◌+◌, ◌<◌, ◌≤◌, Bool, true, false, cond, ltb, List, [], ◌∷◌, length, drop, get_or, refl, sym, ap, ◌∙◌, arith, Some, None}
-use Rattle.std.proofs.lemmas.Bool.{ltb-false}
+use Rattle.std.proofs.lemmas.Bool.{ltb-false, lt-ltb, le-ltb}
 use Rattle.dfu_images.specs.Elements.{Piece, end_of_piece, element_place, shared, AreApart}
-use Rattle.dfu_images.proofs.TestLaws.{less, not_less}
 
 place_cons : (a : ℕ) (p : Piece) (ps : List Piece) → p.address ≤ a → element_place a (p ∷ ps) ≡ suc (element_place a ps)
 unfolding element_place
-place_cons a p ps h = rw (not_less a p.address h) refl
+place_cons a p ps h = rw (le-ltb a p.address h) refl
 
 place_here : (a : ℕ) (p : Piece) (ps : List Piece) → a < p.address → element_place a (p ∷ ps) ≡ 0
 unfolding element_place
-place_here a p ps h = rw (less a p.address h) refl
+place_here a p ps h = rw (lt-ltb a p.address h) refl
 
 place_none : (a : ℕ) → element_place a [] ≡ 0
 unfolding element_place

@@ -4,8 +4,8 @@ use Rattle.dfu_images.specs.declared.fault.ImageFault.{ImageFault}
 use Rattle.dfu_images.specs.declared.format.Format.{Format}
 use Rattle.dfu_images.specs.declared.format.Format.TheVariants as format
 use Rattle.dfu_images.specs.declared.making.Image.{Image}
-use Rattle.dfu_images.specs.declared.making.FileFault.{FileFault}
-use Rattle.dfu_images.specs.declared.making.FileFault.TheVariants.{Unread, NoData, Unlaid}
+use Rattle.dfu_images.specs.declared.making.ImageFileFault.{ImageFileFault}
+use Rattle.dfu_images.specs.declared.making.ImageFileFault.TheVariants.{Unread, NoData, Unlaid}
 use Rattle.dfu_images.specs.Elements.{Piece}
 use Rattle.dfu_images.specs.Laying.{FailsToLay, laid, lowest}
 use Rattle.dfu_images.specs.Reading.{FailsToRead}
@@ -27,7 +27,7 @@ LiesAs fill read image = (ps : List Piece) × (read ≡ Ok ps) × (0 < length ps
     × (laid fill 0 (lowest ps) ps ≡ Ok image.bytes.items)
 
 -- What comes of what is read of a file: its fault; or that there are no bytes; or its elements as one piece; or why they make none.
-abbrev pub MakesImage : Option ℕ → Result (List Piece) ImageFault → Result Image FileFault → Type 0
+abbrev pub MakesImage : Option ℕ → Result (List Piece) ImageFault → Result Image ImageFileFault → Type 0
 MakesImage fill read (Ok image) = LiesAs fill read image
 MakesImage fill read (Err (Unread fault)) = FailsToRead fault read
 MakesImage fill read (Err NoData) = read ≡ Ok []

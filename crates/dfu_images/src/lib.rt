@@ -24,4 +24,4 @@ pub use element::Element;
 pub use fault::ImageFault;
 pub use format::{Format, format_of};
 pub use laying::{LayFault, lay, lowest};
-pub use making::{FileFault, Image, image_of};
+pub use making::{Image, ImageFileFault, image_of};

@@ -23,7 +23,7 @@ pub struct Image {
 
 /// Why a file makes no image.
 #[derive(Clone, Copy, Debug, PartialEq, Eq, Error)]
-pub enum FileFault {
+pub enum ImageFileFault {
     /// It can't be read.
     #[error("{0}")]
     Unread(ImageFault),
@@ -58,20 +58,20 @@ pub fn image_of(
     format: Format,
     fill: Option<u8>,
     file: &[u8],
-) -> Result<Image, FileFault>
+) -> Result<Image, ImageFileFault>
     ensures value { MakesImage fill (elements_in format file.now) result }
     ensures few { IfOk result (λ i. length i.bytes.items ≤ 16777216) }
 {
     let elements = match elements_in(alloc, format, file) {
         Ok(elements) => elements,
-        Err(fault) => return Err(FileFault::Unread(fault)),
+        Err(fault) => return Err(ImageFileFault::Unread(fault)),
     };
     if elements.is_empty() {
-        return Err(FileFault::NoData);
+        return Err(ImageFileFault::NoData);
     }
     let address = lowest(&elements);
     match lay(alloc, &elements, fill) {
         Ok(bytes) => Ok(Image { address, bytes }),
-        Err(fault) => Err(FileFault::Unlaid(fault)),
+        Err(fault) => Err(ImageFileFault::Unlaid(fault)),
     }
 }

@@ -1,33 +1,23 @@
 -- Where a word and a list end.
-use Rattle.std.specs.Prelude.{◌≡◌, ℕ, ◌+◌, ◌<◌, ◌≤◌, nat_eq, nat_lt, cond, not, Bool, true, false, Some, None, List, [], ◌∷◌, length, drop, codes}
+use Rattle.std.specs.Prelude.{◌≡◌, ℕ, ◌+◌, ◌<◌, ◌≤◌, nat_eq, nat_lt, not, Bool, true, false, Some, None, List, [], ◌∷◌, length, drop, codes}
 use Rattle.std.specs.List.{position, position_or_len, starts_with}
 use Rattle.std.proofs.Common.{refl, arith, ap, sym, ◌∙◌, suc, drop-cons}
-use Rattle.std.proofs.lemmas.Bool.{ltb-false}
+use Rattle.std.proofs.lemmas.Bool.{ltb-false, false_from_ne_true, cond-true}
 use Rattle.std.proofs.lemmas.List.{drop_all}
 use Rattle.std.proofs.lemmas.List.Sums.{prefix_len-le-length}
+use Rattle.std.proofs.lemmas.Option.{cond_some, none-some}
 use Rattle.dfu_json.specs.Parts.{list_length}
-
-found_at : (b : Bool) (n at : ℕ) → cond b (Some n) None ≡ Some at → at ≡ n
-found_at true n at e = cc
-found_at false n at e = absurd cc
 
 -- A place that was found is where the first such element is.
 pub found : {X : Type 0} (p : X → Bool) (xs : List X) (at : ℕ) → position p xs ≡ Some at → at ≡ position_or_len p xs
-found p xs at e = found_at (nat_lt (position_or_len p xs) (length xs)) (position_or_len p xs) at e
-
-none_at : (b : Bool) (n : ℕ) → cond b (Some n) None ≡ None → b ≡ false
-none_at true n e = absurd cc
-none_at false n e = refl
+found p xs at e = sym (cond_some (nat_lt (position_or_len p xs) (length xs)) (position_or_len p xs) at e).1
 
 -- If none was found, it would be at the end.
 pub not_found : {X : Type 0} (p : X → Bool) (xs : List X) → position p xs ≡ None → length xs ≡ position_or_len p xs
 not_found p xs e =
-    omega (
-      arith,
-      ltb-false (position_or_len p xs) (length xs) (none_at (nat_lt (position_or_len p xs) (length xs))
-          (position_or_len p xs) e),
-      prefix_len-le-length (λ x. not (p x)) xs,
-    )
+    let at = position_or_len p xs in
+    let none = false_from_ne_true (nat_lt at (length xs)) (λ t. none-some at (sym e ∙ cond-true (nat_lt at (length xs)) (Some at) None t)) in
+    omega (arith, ltb-false at (length xs) none, prefix_len-le-length (λ x. not (p x)) xs)
 
 stops_cons : (b : ℕ) (bs : List ℕ) → starts_with nat_eq (b ∷ bs) (codes " events ") ≡ true → list_length (b ∷ bs) ≡ 0
 unfolding list_length

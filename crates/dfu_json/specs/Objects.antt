@@ -2,7 +2,7 @@
 use Rattle.std.specs.Prelude.{ℕ, List, [], ◌∷◌, ◌++◌, Option, Some, None, codes}
 use Rattle.std.specs.Borrow.{Bor}
 use Rattle.dfu_json.specs.declared.forms.TheConstants.{FORMS}
-use Rattle.dfu_json.specs.declared.part.Part.{Part}
+use Rattle.dfu_json.specs.declared.part.LinePart.{LinePart}
 use Rattle.dfu_json.specs.Parts.{◌>>=◌, taken}
 use Rattle.dfu_json.specs.Quoted.{quoted}
 
@@ -12,7 +12,7 @@ with_all out [] = Some out
 with_all out (b ∷ bs) = None
 
 -- The members so far and those of the parts of a form, where all words of the line are of these parts.
-unfoldable pub fitted : List Part → (out line : List ℕ) → Option (List ℕ)
+unfoldable pub fitted : List LinePart → (out line : List ℕ) → Option (List ℕ)
 fitted [] out line = with_all out line
 fitted (p ∷ ps) out line = taken p out line >>= λ s. fitted ps s.0 s.1
 
@@ -22,7 +22,7 @@ or_else None second = second
 or_else (Some x) second = Some x
 
 -- The members by the first of these forms that a line has.
-unfoldable pub first_fitted : List (List Part) → List ℕ → Option (List ℕ)
+unfoldable pub first_fitted : List (List LinePart) → List ℕ → Option (List ℕ)
 first_fitted [] line = None
 first_fitted (form ∷ forms) line = or_else (fitted form [] line) (first_fitted forms line)
 

@@ -4,10 +4,10 @@ use Rattle.std.specs.List.{list_all, position_or_len, starts_with}
 use Rattle.std.specs.Char.{is_ascii_digit}
 use Rattle.std.specs.Str.{bytes_eq}
 use Rattle.dfu_json.specs.declared.name.Name.{Name}
-use Rattle.dfu_json.specs.declared.part.Kind.{Kind}
-use Rattle.dfu_json.specs.declared.part.Kind.TheVariants.{Number, Flag, Word}
-use Rattle.dfu_json.specs.declared.part.Part.{Part}
-use Rattle.dfu_json.specs.declared.part.Part.TheVariants as part
+use Rattle.dfu_json.specs.declared.part.WordKind.{WordKind}
+use Rattle.dfu_json.specs.declared.part.WordKind.TheVariants.{Number, Flag, Word}
+use Rattle.dfu_json.specs.declared.part.LinePart.{LinePart}
+use Rattle.dfu_json.specs.declared.part.LinePart.TheVariants as part
 use Rattle.dfu_json.specs.Names.{name_text}
 use Rattle.dfu_json.specs.Quoted.{array, quoted}
 
@@ -48,7 +48,7 @@ abbrev pub is_number : List ℕ → Bool
 is_number word = list_all is_ascii_digit word && (nat_le (length word) 1 || not (slice_index word 0 == 48))
 
 -- The text so far and the value that a word is, if it is of this kind.
-unfoldable pub with_value : Kind → (out word : List ℕ) → Option (List ℕ)
+unfoldable pub with_value : WordKind → (out word : List ℕ) → Option (List ℕ)
 with_value Number out word = if is_number word then Some (out ++ word) else None
 with_value Flag out word =
     if bytes_eq word (codes "yes") then Some (out ++ codes "true")
@@ -66,7 +66,7 @@ unfoldable pub keyed : List ℕ → Name → List ℕ
 keyed out key = out ++ joint out ++ quoted (name_text key) ++ 58 ∷ []
 
 -- The members so far with a word as the value of this key, and the words after it.
-abbrev pub valued : Name → Kind → (out line : List ℕ) → Option (List ℕ × List ℕ)
+abbrev pub valued : Name → WordKind → (out line : List ℕ) → Option (List ℕ × List ℕ)
 valued key kind out line = word_in line >>= λ w. with_value kind (keyed out key) w.0 >>= λ now. Some (now, w.1)
 
 -- The members so far with a list as the value of this key, and the words after it.
@@ -79,7 +79,7 @@ nested outer key out line =
     word_in line >>= λ w. Some (keyed out outer ++ 123 ∷ [] ++ quoted (name_text key) ++ 58 ∷ [] ++ quoted w.0, w.1)
 
 -- The members so far and that of a part, and the words after the part; nothing where the words are not of this part.
-unfoldable pub taken : Part → (out line : List ℕ) → Option (List ℕ × List ℕ)
+unfoldable pub taken : LinePart → (out line : List ℕ) → Option (List ℕ × List ℕ)
 taken (part.Says key word) out line = rest_after line (name_text word) >>= λ r. Some (keyed out key ++ quoted (name_text word), r)
 taken (part.Value key kind) out line = valued key kind out line
 taken (part.Pair key kind) out line = rest_after line (name_text key) >>= λ r. valued key kind out r

@@ -3,12 +3,12 @@
 ghost use Rattle.std.specs.Prelude.{◌≡◌, [], IfOk, MatchOption, None, Some};
 ghost use Rattle.dfu_json.specs.Objects.{first_fitted, fitted};
 
-use crate::part::Part;
+use crate::part::LinePart;
 use crate::taking::take_part;
 use std::alloc::{AllocError, Global};
 
 /// The members of the object, where the line has this form.
-fn fit(alloc: Global, form: &[Part], line: &[u8]) -> Result<Option<Vec<u8>>, AllocError>
+fn fit(alloc: Global, form: &[LinePart], line: &[u8]) -> Result<Option<Vec<u8>>, AllocError>
     ensures { IfOk result (λ r. MatchOption r (fitted form.now [] line.now ≡ None) (λ out. fitted form.now [] line.now ≡ Some out.items)) }
 {
     let mut out = Vec::new(alloc);
@@ -28,7 +28,7 @@ fn fit(alloc: Global, form: &[Part], line: &[u8]) -> Result<Option<Vec<u8>>, All
 /// The members of the object by the first of these forms that the line has.
 pub(crate) fn first_fit(
     alloc: Global,
-    forms: &[[Part; 8]],
+    forms: &[[LinePart; 8]],
     line: &[u8],
 ) -> Result<Option<Vec<u8>>, AllocError>
     ensures { IfOk result (λ r. MatchOption r (first_fitted forms.now line.now ≡ None)

@@ -1,13 +1,13 @@
 //! The forms of the lines.
 
 use crate::name::Name;
-use crate::part::Kind::{Flag, Number, Word};
-use crate::part::Part;
-use crate::part::Part::{Blank, List, Opens, Pair, Rest, Says, Value, Without};
+use crate::part::LinePart;
+use crate::part::LinePart::{Blank, List, Opens, Pair, Rest, Says, Value, Without};
+use crate::part::WordKind::{Flag, Number, Word};
 
 /// The forms of the lines, in the order in which they are tried.
 #[rattlefmt::skip]
-pub(crate) static FORMS: [[Part; 8]; 15] = [
+pub(crate) static FORMS: [[LinePart; 8]; 15] = [
     // dfu check
     [Says(Name::Verdict, Name::Ok), Pair(Name::Payload, Number), Pair(Name::Suffix, Number), Pair(Name::Device, Word),
         Pair(Name::Product, Word), Pair(Name::Vendor, Word), Pair(Name::Dfu, Word), Pair(Name::Crc, Word)],

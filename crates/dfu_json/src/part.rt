@@ -4,7 +4,7 @@ use crate::name::Name;
 
 /// What a word of a line is in an object.
 #[derive(Clone, Copy, Debug, PartialEq, Eq)]
-pub(crate) enum Kind {
+pub(crate) enum WordKind {
     /// A decimal number: a number.
     Number,
     /// `yes` or `no`: `true` or `false`.
@@ -15,13 +15,13 @@ pub(crate) enum Kind {
 
 /// A part of a line, which gives a member of the object.
 #[derive(Clone, Copy, Debug, PartialEq, Eq)]
-pub(crate) enum Part {
+pub(crate) enum LinePart {
     /// The second name: the member of the first name has it as its string.
     Says(Name, Name),
     /// A word: the member of this name has it as its value.
-    Value(Name, Kind),
+    Value(Name, WordKind),
     /// The name and a word: the member of this name has the word as its value.
-    Pair(Name, Kind),
+    Pair(Name, WordKind),
     /// The first name and words, up to ` events ` or to the end: the member of the second name has them as its array.
     List(Name, Name),
     /// The first name and a word: the member of the first name is an object, whose member of the second name has the word as its string.

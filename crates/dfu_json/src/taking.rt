@@ -7,7 +7,7 @@ ghost use Rattle.dfu_json.specs.Parts.{is_number, keyed, with_list, nested, take
 
 use crate::arrays::push_array;
 use crate::name::Name;
-use crate::part::{Kind, Part};
+use crate::part::{LinePart, WordKind};
 use crate::quoting::push_quoted;
 use crate::words::{list_length, rest_after, word_in};
 use std::alloc::AllocError;
@@ -41,19 +41,19 @@ fn push_key(out: &mut Vec<u8>, key: Name) -> Result<(), AllocError>
 
 /// Adds the value that a word is, and answers whether it is of this kind.
 #[tactic(auto, unfolding(crate::specs::Parts::with_value))]
-fn push_value(out: &mut Vec<u8>, kind: Kind, word: &[u8]) -> Result<bool, AllocError>
+fn push_value(out: &mut Vec<u8>, kind: WordKind, word: &[u8]) -> Result<bool, AllocError>
     ensures { IfOk result (λ fits. MatchBool fits (with_value kind out.old.items word.now ≡ Some out.new.items)
         (with_value kind out.old.items word.now ≡ None)) }
 {
     match kind {
-        Kind::Number => {
+        WordKind::Number => {
             if !is_number(word) {
                 return Ok(false);
             }
             out.extend_from_slice(word)?;
             Ok(true)
         }
-        Kind::Flag => {
+        WordKind::Flag => {
             if word == b"yes".as_slice() {
                 out.extend_from_slice(b"true")?;
                 return Ok(true);
@@ -64,7 +64,7 @@ fn push_value(out: &mut Vec<u8>, kind: Kind, word: &[u8]) -> Result<bool, AllocE
             }
             Ok(false)
         }
-        Kind::Word => {
+        WordKind::Word => {
             push_quoted(out, word)?;
             Ok(true)
         }
@@ -75,7 +75,7 @@ fn push_value(out: &mut Vec<u8>, kind: Kind, word: &[u8]) -> Result<bool, AllocE
 fn take_value<'l>(
     out: &mut Vec<u8>,
     key: Name,
-    kind: Kind,
+    kind: WordKind,
     line: &'l [u8],
 ) -> Result<Option<&'l [u8]>, AllocError>
     ensures { IfOk result (λ r. MatchOption r (valued key kind out.old.items line.now ≡ None)
@@ -131,14 +131,14 @@ fn take_nested<'l>(
 #[tactic(auto, unfolding(crate::specs::Parts::taken))]
 pub(crate) fn take_part<'l>(
     out: &mut Vec<u8>,
-    part: Part,
+    part: LinePart,
     line: &'l [u8],
 ) -> Result<Option<&'l [u8]>, AllocError>
     ensures { IfOk result (λ r. MatchOption r (taken part out.old.items line.now ≡ None)
         (λ rest. taken part out.old.items line.now ≡ Some (out.new.items, rest.now))) }
 {
     match part {
-        Part::Says(key, word) => {
+        LinePart::Says(key, word) => {
             let Some(rest) = rest_after(line, word.text()) else {
                 return Ok(None);
             };
@@ -146,30 +146,30 @@ pub(crate) fn take_part<'l>(
             push_quoted(out, word.text().as_bytes())?;
             Ok(Some(rest))
         }
-        Part::Value(key, kind) => take_value(out, key, kind, line),
-        Part::Pair(key, kind) => match rest_after(line, key.text()) {
+        LinePart::Value(key, kind) => take_value(out, key, kind, line),
+        LinePart::Pair(key, kind) => match rest_after(line, key.text()) {
             Some(rest) => take_value(out, key, kind, rest),
             None => Ok(None),
         },
-        Part::List(word, key) => match rest_after(line, word.text()) {
+        LinePart::List(word, key) => match rest_after(line, word.text()) {
             Some(rest) => Ok(Some(take_list(out, key, rest)?)),
             None => Ok(None),
         },
-        Part::Opens(word, key) => match rest_after(line, word.text()) {
+        LinePart::Opens(word, key) => match rest_after(line, word.text()) {
             Some(rest) => take_nested(out, word, key, rest),
             None => Ok(None),
         },
-        Part::Rest(key) => {
+        LinePart::Rest(key) => {
             push_key(out, key)?;
             push_array(out, line)?;
             out.extend_from_slice(b"}")?;
             Ok(Some(&[]))
         }
-        Part::Without(key) => {
+        LinePart::Without(key) => {
             push_key(out, key)?;
             push_array(out, &[])?;
             Ok(Some(line))
         }
-        Part::Blank => Ok(Some(line)),
+        LinePart::Blank => Ok(Some(line)),
     }
 }

@@ -6,14 +6,14 @@ use Rattle.std.specs.Io.KnownBytes.{Appends}
 use Rattle.dfu_slots.specs.Seen.{format_series, image_of}
 use Rattle.dfu_slots.specs.Unarmed.{all_whole}
 use Rattle.dfu_device.specs.Stage.{Stage}
-use Rattle.dfu_device.specs.Shown.{Shown}
+use Rattle.dfu_device.specs.DeviceView.{DeviceView}
 use Rattle.dfu_host.specs.declared.report.Report.{Report}
 use Rattle.dfu_host.specs.declared.report.Report.TheVariants.{Uploaded}
 use Rattle.dfu_sim.specs.declared.fault.LinkFault.{LinkFault}
 use Rattle.dfu_link.specs.declared.scripting.fault.ScriptFault.{ScriptFault}
 use Rattle.dfu_link.specs.declared.scripting.fault.ScriptFault.TheVariants.{BadLine, LateConfig, BadConfig, Expected, NonePrinted, TooLarge, NoMemory, Read, Write}
 use Rattle.dfu_sim.specs.Happening.{Happening, Goes, Pass, unharmed}
-use Rattle.dfu_sim.specs.Bench.{Bench, ShowsActive}
+use Rattle.dfu_sim.specs.LinkView.{LinkView, ShowsActive}
 use Rattle.dfu_sim.specs.Standing.{IsSteady}
 use Rattle.dfu_sim.specs.Play.{Answered}
 use Rattle.dfu_sim.specs.Bytes.{link_of}
@@ -35,17 +35,17 @@ use Rattle.dfu_sim.proofs.Steady.{comes_follow, uploads_give, rest_is_steady}
 use Rattle.dfu_sim.proofs.HeadlineKept.{keeps_on, holds_at_rest}
 
 -- Where a script is: the headline holds of the bench, with what was reported last, and the bench is steady.
-record Keeps (factory : List ℕ) (past : List Begun) (b : Bench) : Type 0 where
+record Keeps (factory : List ℕ) (past : List Begun) (b : LinkView) : Type 0 where
   pub steady : IsSteady b
   pub report : Option Report
   pub holds : HeadlineHolds factory past report b
 
 -- The image that the bench shows is the one of which the headline speaks.
-image_is : ImageShown → {factory : List ℕ} {past : List Begun} {report : Option Report} {b : Bench} (k : HeadlineHolds factory past report b)
+image_is : ImageShown → {factory : List ℕ} {past : List Begun} {report : Option Report} {b : LinkView} (k : HeadlineHolds factory past report b)
     → k.says.image ≡ image_of b.device.slots
 image_is shown {b = b} k = (shown b).1 k.says.image k.says.active
 
-known_by : ImageShown → {factory : List ℕ} {past : List Begun} {b : Bench} → Keeps factory past b
+known_by : ImageShown → {factory : List ℕ} {past : List Begun} {b : LinkView} → Keeps factory past b
     → IsKnownImage factory past b (image_of b.device.slots)
 known_by shown {factory = factory} {past = past} {b = b} keeps =
     subst (λ (image : List ℕ). IsKnownImage factory past b image) (image_is shown keeps.holds)
@@ -61,12 +61,12 @@ line_is (Some report) gave image shows_image gives e = refl
 
 -- Events.
 
-record EventsKept (factory : List ℕ) (past : List Begun) (b : Bench) (hs : List Happening) (out : List ℕ) (b' : Bench) : Type 0 where
+record EventsKept (factory : List ℕ) (past : List Begun) (b : LinkView) (hs : List Happening) (out : List ℕ) (b' : LinkView) : Type 0 where
   pub past' : List Begun
   pub keeps : Keeps factory past' b'
   pub prints : EventsPrint factory past b (map session_by hs) out past' b'
 
-event_kept : ImageShown → {factory : List ℕ} {past : List Begun} {b c c' : Bench} {hs : List Happening} {out : List ℕ} {h : Happening}
+event_kept : ImageShown → {factory : List ℕ} {past : List Begun} {b c c' : LinkView} {hs : List Happening} {out : List ℕ} {h : Happening}
     {answer : Result Answered LinkFault} → EventsKept factory past b hs out c → Comes c h c' answer → ShowsActive c'
     → EventsKept factory past b (hs ++ h ∷ []) (out ++ answer_line answer) c'
 event_kept shown {factory = factory} {past = past} {b = b} {c = c} {hs = hs} {out = out} {h = h} rest (refuses {fault = fault} why) active =
@@ -96,7 +96,7 @@ event_kept shown {factory = factory} {past = past} {b = b} {c = c} {c' = c'} {hs
           (one_prints h rest.prints k));
     }
 
-events_kept : ImageShown → {factory : List ℕ} {past : List Begun} {check : List ℕ} {b b' : Bench} {hs : List Happening} {out : List ℕ}
+events_kept : ImageShown → {factory : List ℕ} {past : List Begun} {check : List ℕ} {b b' : LinkView} {hs : List Happening} {out : List ℕ}
     → Keeps factory past b → AllCome check b hs out b' → EventsKept factory past b hs out b'
 events_kept shown {past = past} keeps none_comes = record { past' = past; keeps = keeps; prints = no_event }
 events_kept shown {factory = factory} {past = past} {check = check} {b = b} {b' = b'} keeps
@@ -151,7 +151,7 @@ line_kept shown {past = past} {p = p} keeps (shows meets) = record {
 }
 line_kept shown {past = past} keeps (expects free) = record { past' = past; keeps = keeps; prints = prints_events no_event; given = refl }
 
-told : {factory : List ℕ} {past past' : List Begun} {b b' : Bench} {printed : List ℕ} (g : Option (List ℕ)) (line : List ℕ) (said : Said)
+told : {factory : List ℕ} {past past' : List Begun} {b b' : LinkView} {printed : List ℕ} (g : Option (List ℕ)) (line : List ℕ) (said : Said)
     → line_of g line ≡ Some said → LinePrints factory past b (said_brings said) printed past' b'
     → LinePrints factory past b (brought g line) printed past' b'
 told {factory = factory} {past = past} {past' = past'} {b = b} {b' = b'} {printed = printed} g line said is prints =
@@ -179,11 +179,11 @@ lines_kept shown {p = p} keeps (then_runs line {said = said} more is acts) =
 
 -- The start.
 
-starts_hold : {settings : Settings} {first : Shown} → DeviceStarts settings first → HeadlineHolds settings.image [] None (at_rest first)
+starts_hold : {settings : Settings} {first : DeviceView} → DeviceStarts settings first → HeadlineHolds settings.image [] None (at_rest first)
 starts_hold {settings = settings} {first = first} starts = holds_at_rest (at_rest first) settings.image starts.active refl
     (λ x waits. subst (λ (s : Stage). IsWaiting s x) starts.stage waits)
 
-starts_keep : {settings : Settings} {first : Shown} → DeviceStarts settings first → Keeps settings.image [] (at_rest first)
+starts_keep : {settings : Settings} {first : DeviceView} → DeviceStarts settings first → Keeps settings.image [] (at_rest first)
 starts_keep {settings = settings} {first = first} starts = record {
   steady = rest_is_steady first (all_whole (blank_slots settings.grain settings.capacity) first.slots.medium
       (format_series (blank_slots settings.grain settings.capacity) settings.image) refl starts.formatted);
@@ -191,7 +191,7 @@ starts_keep {settings = settings} {first = first} starts = record {
   holds = starts_hold starts;
 }
 
-text_prints : ImageShown → {g : Option (List ℕ)} {text : List ℕ} {settings : Settings} {after done : List (List ℕ)} {first : Shown}
+text_prints : ImageShown → {g : Option (List ℕ)} {text : List ℕ} {settings : Settings} {after done : List (List ℕ)} {first : DeviceView}
     {out : List ℕ} {end : Point} → SetsUp g text settings after → DeviceStarts settings first
     → (all : LinesKept settings.image [] (point settings (at_rest first)) done out end)
     → TextPrints g text after done out all.past' end.at (image_of end.at.device.slots)
@@ -241,7 +241,7 @@ part_of_line shown {p = p} {line = line} keeps (breaks_in_show says broke fails)
     in_line (told p.given line Show says
     (prints_image (state_words p.at.device) (state_words_endless p.at.device) (known_by shown keeps))) broke
 
-none_out : {g : Option (List ℕ)} {factory : List ℕ} {past : List Begun} {b : Bench} {image : List ℕ} {lines : List (List ℕ)}
+none_out : {g : Option (List ℕ)} {factory : List ℕ} {past : List Begun} {b : LinkView} {image : List ℕ} {lines : List (List ℕ)}
     {old new : Option (List ℕ)} → new ≡ old → PartPrints g factory past b image lines old new
 none_out {g = g} {factory = factory} {past = past} {b = b} {image = image} {lines = lines} {old = old} e =
     subst (λ (x : Option (List ℕ)). PartPrints g factory past b image lines old x) (sym e) nothing_out

@@ -3,11 +3,12 @@ use Rattle.std.proofs.Common.{◌≡◌, ℕ, List, [], ◌∷◌, ◌++◌, Opt
 use Rattle.std.proofs.lemmas.List.{append_assoc}
 use Rattle.std.specs.Prelude.{Result, Ok, Err, IsErrAnd}
 use Rattle.std.specs.Io.KnownBytes.{Appends}
+use Rattle.std.proofs.KnownBytes.{Appends-nil, Appends-trans}
 use Rattle.dfu_link.specs.Expecting.{Expectation, Meets, still, FailsToPrint}
 use Rattle.dfu_link.specs.inside.Expected.{Puts, Prints, PrintsNext}
 use Rattle.dfu_link.specs.declared.scripting.fault.ScriptFault.{ScriptFault}
 use Rattle.dfu_link.specs.declared.scripting.fault.ScriptFault.TheVariants.{Expected, NoMemory, Write}
-use Rattle.dfu_link.proofs.WriteLaws.{appends_none, appends_more, puts_stops}
+use Rattle.dfu_link.proofs.WriteLaws.{puts_stops}
 
 still_more : (e : Option Expectation) (xs ys : List ℕ) → still e (xs ++ ys) ≡ still (still e xs) ys
 still_more e [] ys = refl
@@ -28,13 +29,13 @@ meets_none (Some e) = tt
 
 -- Nothing is printed.
 pub prints_none : (e : Option Expectation) (old : Option (List ℕ)) → Prints e old [] e old
-prints_none e old = record { told = appends_none old; meets = meets_none e; left = refl }
+prints_none e old = record { told = Appends-nil old; meets = meets_none e; left = refl }
 
 -- One text is printed, and then another.
 pub prints_more : {e e' e'' : Option Expectation} {old mid new : Option (List ℕ)} {xs ys : List ℕ} → Prints e old xs e' mid
     → Prints e' mid ys e'' new → Prints e old (xs ++ ys) e'' new
 prints_more {e = e} {old = old} {mid = mid} {new = new} {xs = xs} {ys = ys} h k = record {
-  told = appends_more old mid new xs ys h.told k.told;
+  told = Appends-trans old mid new xs ys h.told k.told;
   meets = meets_more e xs ys h.meets (subst (λ (x : Option Expectation). Meets x ys) h.left k.meets);
   left = k.left ∙ (ap (λ (x : Option Expectation). still x ys) h.left ∙ sym (still_more e xs ys));
 }
@@ -71,7 +72,7 @@ short_now e ys (Expected n) old mid new told h = (
     last = h.1.last;
     whole = h.1.whole;
     other = h.1.other;
-    told = appends_more old mid new [] h.1.front told h.1.told;
+    told = Appends-trans old mid new [] h.1.front told h.1.told;
   },
 )
 short_now e ys f old mid new told h = absurd h

@@ -7,7 +7,7 @@ use Rattle.dfu_link.specs.Texts.{image_line}
 use Rattle.dfu_link.specs.Words.{lines_of}
 use Rattle.dfu_link.specs.Lines.{line_of}
 use Rattle.dfu_link.specs.ScriptRun.{Point}
-use Rattle.dfu_sim.specs.Bench.{Nobody}
+use Rattle.dfu_sim.specs.LinkView.{Nobody}
 use Rattle.dfu_link.specs.Said.{Said, Offer, Does}
 use Rattle.dfu_link.specs.Expecting.{Expectation, FailsToPrint}
 use Rattle.dfu_link.specs.Falls.{BreaksIn, in_events, in_passes, in_show, for_file, for_tear, LineFalls, NextFalls}
@@ -162,6 +162,6 @@ tear_falls p k line old said f e no_tear = elim no_tear [ ]
 -- There is no memory for the file that a line offers.
 pub offer_falls : (p : Point) (k : ℕ) (line : List ℕ) (old : Option (List ℕ)) (said : Said) (f : ScriptFault)
     → line_of p.given line ≡ Some said → p.at.session ≡ Nobody → FindsNoRoom said f → LineFalls p k line old old f
-offer_falls p k line old (Does (Offer aim file)) f e free is = subst (λ (g : ScriptFault). LineFalls p k line old old g) (sym is)
-    (inl (for_file (record { aim = aim; file = file; says = e }) free, refl))
+offer_falls p k line old (Does (Offer purpose file)) f e free is = subst (λ (g : ScriptFault). LineFalls p k line old old g) (sym is)
+    (inl (for_file (record { purpose = purpose; file = file; says = e }) free, refl))
 offer_falls p k line old said f e free is = elim is [ ]

@@ -6,11 +6,6 @@ use Rattle.dfu_link.specs.TextLimit.{IsStopped, StopsAfter}
 use Rattle.dfu_link.specs.inside.Source.{SourceState, TookLines, TakesLines, GivesLines}
 use Rattle.dfu_link.specs.declared.scripting.fault.ScriptFault.{ScriptFault}
 
--- What holds for each value that may be there holds for the one that is.
-pub if_some : {A : Type 0} (o : Option A) (P : A → Type 0) → ((x : A) → o ≡ Some x → P x) → IfSome o P
-if_some None P f = tt
-if_some (Some x) P f = f x refl
-
 -- What holds for the value that is there holds for this one.
 pub of_some : {A : Type 0} (o : Option A) (P : A → Type 0) (x : A) → o ≡ Some x → IfSome o P → P x
 of_some {A = A} o P x e h = subst (λ (p : Option A). IfSome p P) e h

@@ -3,10 +3,10 @@ use Rattle.std.proofs.Common.{◌≡◌, ℕ, ◌+◌, ◌-◌, ◌/◌, ◌%◌
 use Rattle.std.specs.List.{slice_range}
 use Rattle.std.proofs.lemmas.List.{take-append-drop}
 use Rattle.std.proofs.Math.Seq.{take-add}
+use Rattle.std.proofs.KnownBytes.{Appends-nil}
 use Rattle.hex.specs.Hex.{encode_with, encode_lower, lower_digits}
 use Rattle.dfu_link.specs.Texts.{hex_text}
 use Rattle.dfu_link.specs.inside.Expected.{Puts}
-use Rattle.dfu_link.proofs.WriteLaws.{appends_none}
 
 encode-append : (t xs ys : List ℕ) → encode_with t (xs ++ ys) ≡ encode_with t xs ++ encode_with t ys
 unfolding encode_with
@@ -31,7 +31,7 @@ digits_front bytes at = ap encode_lower (sym (take-append-drop at bytes)) ∙ en
 -- At first nothing is out.
 pub pieces_none : (old : Option (List ℕ)) → Puts (encode_lower []) old old (Ok tt)
 unfolding encode_with
-pieces_none old = record { ok = appends_none old; err = tt; fault = tt }
+pieces_none old = record { ok = Appends-nil old; err = tt; fault = tt }
 
 -- Bytes that are not none are printed as their digits.
 pub text_some : (bytes : List ℕ) → (length bytes ≡ 0 → ⊥) → hex_text bytes ≡ encode_lower bytes

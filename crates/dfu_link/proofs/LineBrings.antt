@@ -4,8 +4,8 @@ use Rattle.std.proofs.lemmas.Bool.Decides.{nat_tests}
 use Rattle.std.proofs.lemmas.Slice.Eq.{bytes_eq-Decides}
 use Rattle.std.specs.Prelude.{◌==◌, nat_le, length, unwrap_or, replicate, codes, Result, Ok, Err, ok_or}
 use Rattle.std.specs.Str.{bytes_eq}
-use Rattle.dfu_sim.specs.declared.aim.Aim.{Aim}
-use Rattle.dfu_sim.specs.declared.aim.Aim.TheVariants.{Install, Verify}
+use Rattle.dfu_sim.specs.declared.purpose.Purpose.{Purpose}
+use Rattle.dfu_sim.specs.declared.purpose.Purpose.TheVariants.{Install, Verify}
 use Rattle.dfu_link.specs.Words.{ok_of, hex_word_bytes, number_of, first_word, text_behind, words_of}
 use Rattle.dfu_link.specs.Fields.{small_of, count_of, unit_of_word, sector_of, objection_of, named_bytes}
 use Rattle.dfu_link.specs.Keywords.{keyword_of, later_keyword_of, fate_keyword_of}
@@ -23,7 +23,7 @@ use Rattle.dfu_link.specs.Printed.{Brings, Nothing, AnImage, Events, SomePasses,
 
 -- The events of an event line, of which each may begin a session.
 abbrev pub sessions_in : EventLine → List (Option Begun)
-sessions_in (Offer aim file) = Some (WithOffer file) ∷ []
+sessions_in (Offer purpose file) = Some (WithOffer file) ∷ []
 sessions_in Upload = Some AsUpload ∷ []
 sessions_in Abort = None ∷ []
 sessions_in (Go f harm times) = replicate times None
@@ -53,10 +53,6 @@ said_brings Show = AShow
 said_brings (Expects text) = Events []
 
 -- Steps of reading.
-
--- Some is one to one, and so is Ok.
-pub some_of : {A : Type 0} (x y : A) → Some x ≡ Some y → x ≡ y
-some_of x y h = ap (λ (o : Option _). unwrap_or o x) h
 
 abbrev same : {A : Type 0} → Result A LineFault → Result A LineFault → Type 0
 same a b = a ≡ b
@@ -150,11 +146,11 @@ limits_bring words said h = bind_ok (number_field 2 3 words) _ said h (λ a ia h
 
 -- Event lines.
 
-offer_brings : (given : Option (List ℕ)) (aim : Aim) (words : List (List ℕ)) (said : Said) → offer_of given aim words ≡ Ok said
+offer_brings : (given : Option (List ℕ)) (purpose : Purpose) (words : List (List ℕ)) (said : Said) → offer_of given purpose words ≡ Ok said
     → said_brings said ≡ Events (Some (WithOffer (file_in given words)) ∷ [])
 unfolding offer_of
-offer_brings given aim words said h = bind_ok (offered_file given 2 2 words) _ said h
-    (λ x is hx. ends_bring (Does (Offer aim x.0)) 2 x.1 said hx
+offer_brings given purpose words said h = bind_ok (offered_file given 2 2 words) _ said h
+    (λ x is hx. ends_bring (Does (Offer purpose x.0)) 2 x.1 said hx
     ∙ ap (λ (file : List ℕ). Events (Some (WithOffer file) ∷ [])) (file_is given 2 2 words x is))
 
 time_brings : (words : List (List ℕ)) (said : Said) → time_of words ≡ Ok said → said_brings said ≡ Events (None ∷ [])

@@ -2,10 +2,11 @@
 use Rattle.std.proofs.Common.{◌≡◌, ℕ, ◌+◌, List, [], ◌∷◌, ◌++◌, Option, Some, Ok, sym, ap, ◌∙◌, subst, append_assoc, arith, length, length-append}
 use Rattle.std.proofs.lemmas.List.{append-nil}
 use Rattle.std.specs.Io.KnownBytes.{Appends, IsAtEnd}
-use Rattle.dfu_device.specs.Shown.{Shown}
+use Rattle.std.proofs.KnownBytes.{Appends-nil, Appends-trans}
+use Rattle.dfu_device.specs.DeviceView.{DeviceView}
 use Rattle.dfu_slots.specs.Medium.{Fuse}
 use Rattle.dfu_slots.specs.Medium.Fuse.{Whole}
-use Rattle.dfu_sim.specs.Bench.{Bench, LinkState}
+use Rattle.dfu_sim.specs.LinkView.{LinkView, WorldView}
 use Rattle.dfu_sim.specs.Bytes.{armed}
 use Rattle.dfu_link.specs.Texts.{image_line}
 use Rattle.dfu_link.specs.Said.{Said}
@@ -16,7 +17,6 @@ use Rattle.dfu_link.specs.inside.Expected.{PrintsNext}
 use Rattle.dfu_link.specs.inside.Source.{SourceState, GivesLine}
 use Rattle.dfu_link.specs.inside.Moving.{Steps, Moves, Ends, IsUnarmed, LinesDone, all_done, gives_back, Prepared}
 use Rattle.dfu_link.proofs.GivenLaws.{gives_none, gives_trans}
-use Rattle.dfu_link.proofs.WriteLaws.{appends_none, appends_more}
 
 -- No line was done.
 pub moves_none : (p : Point) (s : SourceState) (old : Option (List ℕ)) → Moves p s old p s old
@@ -25,7 +25,7 @@ moves_none p s old = record {
   shown = [];
   gives = gives_none s;
   runs = stays;
-  told = appends_none old;
+  told = Appends-nil old;
 }
 
 -- One line more was done.
@@ -39,7 +39,7 @@ moves_then {q = q} {r = r} {s = s} {t = t} {u = u} {old = old} {mid = mid} {new 
       shown = m.shown ++ step.out;
       gives = gives_trans m.gives given.gives;
       runs = then_runs u.line m.runs step.is (subst (λ (k : ℕ). LineActs k q step.said step.out r) number step.acts);
-      told = appends_more old mid new m.shown step.out m.told step.told;
+      told = Appends-trans old mid new m.shown step.out m.told step.told;
     }
 
 -- Lines and then more lines are a run of all of them.
@@ -62,7 +62,7 @@ moves_trans {p = p} {q = q} {r = r} {s = s} {t = t} {old = old} {mid = mid} {new
   shown = m.shown ++ n.shown;
   gives = gives_trans m.gives n.gives;
   runs = runs_more (s.number + 1) (t.number + 1) p q r m.done n.done m.shown n.shown (omega (arith, m.gives.count)) m.runs n.runs;
-  told = appends_more old mid new m.shown n.shown m.told n.told;
+  told = Appends-trans old mid new m.shown n.shown m.told n.told;
 }
 
 -- All lines were done, and the line of the image is out.
@@ -77,7 +77,7 @@ ends_now {p = p} {q = q} {s = s} {t = t} {old = old} {mid = mid} {new = new} m e
   end = q;
   runs = m.runs;
   meets = prints.ok.meets;
-  told = appends_more old mid new m.shown (image_line q.at.device) m.told prints.ok.told;
+  told = Appends-trans old mid new m.shown (image_line q.at.device) m.told prints.ok.told;
 }
 
 -- Lines were done, and then all that were left.
@@ -95,11 +95,11 @@ ends_after {p = p} {q = q} {s = s} {t = t} {old = old} {mid = mid} {new = new} m
       runs = runs_more (s.number + 1) (t.number + 1) p q e.end m.done e.done m.shown e.shown (omega (arith, m.gives.count)) m.runs e.runs;
       meets = e.meets;
       told = subst (λ (xs : List ℕ). Appends old new xs) (sym (append_assoc m.shown e.shown image))
-          (appends_more old mid new m.shown (e.shown ++ image) m.told e.told);
+          (Appends-trans old mid new m.shown (e.shown ++ image) m.told e.told);
     }
 
 -- Lines were done, and then others until no session was live, or all that were left.
-pub lines_after : {p q : Point} {s t u : SourceState} {old mid new : Option (List ℕ)} {to : Bench → Point} {d : Option Shown}
+pub lines_after : {p q : Point} {s t u : SourceState} {old mid new : Option (List ℕ)} {to : LinkView → Point} {d : Option DeviceView}
     → Moves p s old q t mid → LinesDone q t mid to u new d → LinesDone p s old to u new d
 lines_after m (all_done e) = all_done (ends_after m e)
 lines_after m (gives_back n) = gives_back (moves_trans m n)
@@ -122,5 +122,6 @@ prepared_then {y = y} {u = u} w p given same is does = record {
 -- A device with no session.
 
 -- A link over a device that is not armed begins with that device as it is.
-pub rest_starts : {x : LinkState} (d : Shown) → x ≡ record { bench = at_rest (armed d Whole); up = [] } → IsUnarmed d → x.bench ≡ at_rest d
-rest_starts d link unarmed = ap (λ (y : LinkState). y.bench) link ∙ ap (λ (f : Fuse). at_rest (armed d f)) (sym unarmed)
+pub rest_starts : {x : WorldView} (d : DeviceView) → x ≡ record { bench = at_rest (armed d Whole); up = [] } → IsUnarmed d
+    → x.bench ≡ at_rest d
+rest_starts d link unarmed = ap (λ (y : WorldView). y.bench) link ∙ ap (λ (f : Fuse). at_rest (armed d f)) (sym unarmed)

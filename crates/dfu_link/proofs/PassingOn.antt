@@ -7,7 +7,7 @@ use Rattle.dfu_host.specs.declared.report.Report.{Report}
 use Rattle.dfu_host.specs.declared.report.Report.TheVariants as report
 use Rattle.dfu_sim.specs.declared.fault.LinkFault.{LinkFault}
 use Rattle.dfu_sim.specs.declared.fault.LinkFault.TheVariants as link
-use Rattle.dfu_sim.specs.Bench.{Bench, LinkState, ShowsActive}
+use Rattle.dfu_sim.specs.LinkView.{LinkView, WorldView, ShowsActive}
 use Rattle.dfu_sim.specs.Happening.{Happening, Goes, Pass, unharmed}
 use Rattle.dfu_sim.specs.Comes.{HasCome}
 use Rattle.dfu_link.specs.Texts.{told_line, answer_line}
@@ -27,7 +27,7 @@ abbrev passes : Happening
 passes = Goes Pass unharmed
 
 -- At first it has not passed.
-pub silent_none : (z : List ℕ) (b : Bench) (e : Option Expectation) (old : Option (List ℕ)) → SilentPasses z b e old b e old
+pub silent_none : (z : List ℕ) (b : LinkView) (e : Option Expectation) (old : Option (List ℕ)) → SilentPasses z b e old b e old
 silent_none z b e old = record {
   times = 0;
   plays = none_comes;
@@ -35,7 +35,7 @@ silent_none z b e old = record {
 }
 
 -- It passed once more, and again nothing is printed.
-pub silent_more : {check : List ℕ} {b : Bench} {c c' : LinkState} (r : Result (Option Report) LinkFault) {old mid new : Option (List ℕ)}
+pub silent_more : {check : List ℕ} {b : LinkView} {c c' : WorldView} (r : Result (Option Report) LinkFault) {old mid new : Option (List ℕ)}
     {x y z : Option Expectation} → SilentPasses check b x old c.bench y mid → HasCome c (checked check c.bench passes) c' r
     → ShowsActive c'.bench → r ≡ Ok None
     → Prints y mid (told_line r c'.up) z new → SilentPasses check b x old c'.bench z new
@@ -81,7 +81,8 @@ part_some : {old new : Option (List ℕ)} {text : List ℕ} → IsOutInPart old 
 part_some part = λ e. absurd (part_none part.front part.rest (sym part.whole ∙ e) part.left)
 
 -- Something is printed of one action more, which is as expected.
-goes_on_by : {b : Bench} {c c' : LinkState} (g : Option (List ℕ)) (check : List ℕ) (limits : Limits) (r : Result (Option Report) LinkFault) {old mid : Option (List ℕ)}
+goes_on_by : {b : LinkView} {c c' : WorldView} (g : Option (List ℕ)) (check : List ℕ) (limits : Limits)
+    (r : Result (Option Report) LinkFault) {old mid : Option (List ℕ)}
     {x y : Option Expectation} (k : ℕ) (next : Option Expectation) → Meets next (told_line r c'.up)
     → SilentPasses check b x old c.bench y mid → HasCome c (checked check c.bench passes) c' r → ShowsActive c'.bench →
     told_line r c'.up ≢ []
@@ -92,7 +93,8 @@ goes_on_by {b = b} {c = c} {c' = c'} g check limits r k next meets silent come a
     (goes_on silent.times silent.plays come.comes active (λ e. some (same ∙ e)) (subst (λ (text : List ℕ). Meets next text) same meets))
 
 -- It is out.
-pub passed_on : {b : Bench} {c c' : LinkState} (g : Option (List ℕ)) (check : List ℕ) (limits : Limits) (r : Result (Option Report) LinkFault)
+pub passed_on : {b : LinkView} {c c' : WorldView} (g : Option (List ℕ)) (check : List ℕ) (limits : Limits)
+    (r : Result (Option Report) LinkFault)
     {old mid new : Option (List ℕ)} {x y z : Option Expectation} → SilentPasses check b x old c.bench y mid
     → HasCome c (checked check c.bench passes) c' r → ShowsActive c'.bench → r ≢ Ok None
     → Prints y mid (told_line r c'.up) z new
@@ -108,7 +110,8 @@ passed_on {b = b} {c' = c'} g check limits r {x = x} silent come active other pr
     }
 
 -- Or it stopped in it.
-pub stopped_on : {b : Bench} {c c' : LinkState} (g : Option (List ℕ)) (check : List ℕ) (limits : Limits) (r : Result (Option Report) LinkFault)
+pub stopped_on : {b : LinkView} {c c' : WorldView} (g : Option (List ℕ)) (check : List ℕ) (limits : Limits)
+    (r : Result (Option Report) LinkFault)
     {old mid new : Option (List ℕ)} {x y z : Option Expectation} {f : ScriptFault} → SilentPasses check b x old c.bench y mid
     → HasCome c (checked check c.bench passes) c' r → ShowsActive c'.bench → PrintsNext y mid (told_line r c'.up) z new (Err f)
     → HasStopped (point_at g check limits x b) GoesOn old new f

@@ -4,8 +4,8 @@ use Rattle.std.proofs.lemmas.List.{append_assoc, append-nil}
 use Rattle.std.specs.Prelude.{replicate, Result, Ok, Err}
 use Rattle.dfu_host.specs.declared.limits.Limits.{Limits}
 use Rattle.dfu_host.specs.declared.report.Report.{Report}
-use Rattle.dfu_sim.specs.Bench.{Bench, ShowsActive, LinkState}
-use Rattle.dfu_sim.specs.declared.aim.Aim.{Aim}
+use Rattle.dfu_sim.specs.LinkView.{LinkView, ShowsActive, WorldView}
+use Rattle.dfu_sim.specs.declared.purpose.Purpose.{Purpose}
 use Rattle.dfu_sim.specs.Happening.{Happening, Offers}
 use Rattle.dfu_sim.specs.Refusing.{IsLive}
 use Rattle.dfu_sim.specs.Play.{Answered}
@@ -32,7 +32,7 @@ pub replicate_more : {A : Type 0} (n : ℕ) (x : A) → replicate (n + 1) x ≡ 
 replicate_more n x = ap (λ (k : ℕ). replicate k x) (add-one n) ∙ suc_more n x
 
 -- One event more.
-pub plays_one : (z : List ℕ) (b : Bench) (c c' : LinkState) (events : List Happening) (e : Happening) (out : List ℕ)
+pub plays_one : (z : List ℕ) (b : LinkView) (c c' : WorldView) (events : List Happening) (e : Happening) (out : List ℕ)
     (r : Result (Option Report) LinkFault) → AllCome z b events out c.bench → HasCome c (checked z c.bench e) c' r → ShowsActive c'.bench
     → AllCome z b (events ++ e ∷ []) (out ++ told_line r c'.up) c'.bench
 plays_one z b c c' events e out r p h active =
@@ -40,14 +40,14 @@ plays_one z b c c' events e out r p h active =
     (then_comes e p h.comes active)
 
 -- Nothing was played.
-pub played_none : (z : List ℕ) (b : Bench) (x : Option Expectation) (h : Option (List ℕ)) → HasPlayed z b x [] h b x h
+pub played_none : (z : List ℕ) (b : LinkView) (x : Option Expectation) (h : Option (List ℕ)) → HasPlayed z b x [] h b x h
 played_none z b x h = record {
   out = [];
   plays = none_comes;
   prints = prints_none x h;
 }
 
-played_then : (done : Result Unit ScriptFault) (e : Happening) {check : List ℕ} {b c c' : Bench} {events : List Happening}
+played_then : (done : Result Unit ScriptFault) (e : Happening) {check : List ℕ} {b c c' : LinkView} {events : List Happening}
     {answer : Result Answered LinkFault} {x y z : Option Expectation} {old mid new : Option (List ℕ)}
     → HasPlayed check b x events old c y mid → Comes c (checked check c e) c' answer
     → ShowsActive c' → PrintsNext y mid (answer_line answer) z new done → PlaysEvents check b x (events ++ e ∷ []) old c' z new done
@@ -75,7 +75,7 @@ played_then (Err f) e {c' = c'} {events = events} {answer = answer} {old = old} 
     }
 
 -- Events were played, and one more comes.
-pub plays_next : (e : Happening) {check : List ℕ} {b : Bench} {c c' : LinkState} {events : List Happening}
+pub plays_next : (e : Happening) {check : List ℕ} {b : LinkView} {c c' : WorldView} {events : List Happening}
     (r : Result (Option Report) LinkFault) {x y z : Option Expectation} {old mid new : Option (List ℕ)} {done : Result Unit ScriptFault}
     → HasPlayed check b x events old c.bench y mid → HasCome c (checked check c.bench e) c' r → ShowsActive c'.bench
     → PrintsNext y mid (told_line r c'.up) z new done
@@ -85,16 +85,17 @@ plays_next e {c = c} {c' = c'} r {y = y} {z = z} {mid = mid} {new = new} {done =
     (subst (λ (text : List ℕ). PrintsNext y mid text z new done) (told_line_is c c' r come) prints)
 
 -- An offer while a session is live.
-busy_offer : (b : Bench) (aim : Aim) (file : List ℕ) (limits : Limits) → IsLive b.session
-    → Comes b (Offers aim file limits) b (Err HostBusy)
-busy_offer b aim file limits live = refuses live
+busy_offer : (b : LinkView) (purpose : Purpose) (file : List ℕ) (limits : Limits) → IsLive b.session
+    → Comes b (Offers purpose file limits) b (Err HostBusy)
+busy_offer b purpose file limits live = refuses live
 
 -- An offer while a session is live is refused, whatever its file is, and that is printed.
-pub busy_plays : (check : List ℕ) {b : Bench} (aim : Aim) (file : List ℕ) (limits : Limits) {e e' : Option Expectation} {old new : Option (List ℕ)}
+pub busy_plays : (check : List ℕ) {b : LinkView} (purpose : Purpose) (file : List ℕ) (limits : Limits) {e e' : Option Expectation}
+    {old new : Option (List ℕ)}
     {done : Result Unit ScriptFault} → IsLive b.session → ShowsActive b → PrintsNext e old (answer_line (Err HostBusy)) e' new done
-    → PlaysEvents check b e (Offers aim file limits ∷ []) old b e' new done
-busy_plays check {b = b} aim file limits {e = e} {old = old} {done = done} live active prints =
-    played_then done (Offers aim file limits) (played_none check b e old) (busy_offer b aim file limits live) active prints
+    → PlaysEvents check b e (Offers purpose file limits ∷ []) old b e' new done
+busy_plays check {b = b} purpose file limits {e = e} {old = old} {done = done} live active prints =
+    played_then done (Offers purpose file limits) (played_none check b e old) (busy_offer b purpose file limits live) active prints
 
 -- What is played before another event is a front of what is played in all.
 replicate_front : {A : Type 0} (k n : ℕ) (x : A) → k < n → (left : List A) × (replicate n x ≡ (replicate k x ++ x ∷ []) ++ left)
@@ -105,7 +106,8 @@ replicate_front (suc k) (suc n) x h =
     (rest.0, ap (λ (xs : List _). x ∷ xs) rest.1)
 
 -- It stopped at one of so many turns of the same event.
-pub broken : (k n : ℕ) (e : Happening) {check : List ℕ} {b : Bench} {x : Option Expectation} {old new : Option (List ℕ)} {f : ScriptFault} → k < n
+pub broken : (k n : ℕ) (e : Happening) {check : List ℕ} {b : LinkView} {x : Option Expectation} {old new : Option (List ℕ)}
+    {f : ScriptFault} → k < n
     → HasBroken check b x (replicate k e ++ e ∷ []) old new f → HasBroken check b x (replicate n e) old new f
 broken k n e lt stopped =
     let rest = replicate_front k n e lt in
@@ -121,6 +123,6 @@ broken k n e lt stopped =
     }
 
 -- An offer goes as it is, whatever the program checks.
-pub offer_unchecked : (check : List ℕ) (b : Bench) {event : Happening} {aim : Aim} {file : List ℕ} {limits : Limits}
-    → event ≡ Offers aim file limits → checked check b event ≡ event
+pub offer_unchecked : (check : List ℕ) (b : LinkView) {event : Happening} {purpose : Purpose} {file : List ℕ} {limits : Limits}
+    → event ≡ Offers purpose file limits → checked check b event ≡ event
 offer_unchecked check b is = ap (λ (e : Happening). checked check b e) is ∙ sym is

@@ -13,7 +13,7 @@ use Rattle.dfu_suffix.specs.FaultName.{suffix_fault_name}
 use Rattle.dfu_host.specs.declared.fault.HostFault.{HostFault}
 use Rattle.dfu_host.specs.declared.fault.HostFault.TheVariants as host
 use Rattle.dfu_host.specs.FaultName.{host_fault_name}
-use Rattle.dfu_device.specs.Shown.{Shown}
+use Rattle.dfu_device.specs.DeviceView.{DeviceView}
 use Rattle.dfu_device.specs.Stage.{state_of, code_of}
 use Rattle.dfu_sim.specs.declared.fault.OfferFault.{OfferFault}
 use Rattle.dfu_sim.specs.declared.fault.OfferFault.TheVariants as offer
@@ -96,15 +96,15 @@ code_endless code.Unknown = refl
 code_endless code.StalledPkt = refl
 
 -- What `show` prints between the word `state ` and the image.
-abbrev pub state_words : Shown → List ℕ
+abbrev pub state_words : DeviceView → List ℕ
 state_words device = (state_name (state_of device.stage) ++ codes " status ") ++ (code_name (code_of device.stage) ++ codes " ")
 
 -- That text stands behind the word.
-pub state_is : (device : Shown) → state_text device ≡ codes "state " ++ state_words device
+pub state_is : (device : DeviceView) → state_text device ≡ codes "state " ++ state_words device
 state_is device = refl
 
 -- It holds no newline.
-pub state_words_endless : (device : Shown) → endless (state_words device) ≡ true
+pub state_words_endless : (device : DeviceView) → endless (state_words device) ≡ true
 state_words_endless device =
     let name = state_name (state_of device.stage) in
     let code = code_name (code_of device.stage) in

@@ -1,10 +1,11 @@
 -- What the lines of a script bring, and where it starts.
 use Rattle.std.proofs.Common.{◌≡◌, ℕ, zero, suc, List, [], ◌∷◌, ◌++◌, map, append_assoc, Option, Some, None, Ok, refl, sym, ap, ◌∙◌, subst}
 use Rattle.std.specs.Prelude.{replicate}
+use Rattle.std.proofs.lemmas.Option.{same_Some}
 use Rattle.dfu_host.specs.declared.report.Report.{Report}
 use Rattle.dfu_host.specs.declared.limits.Limits.{Limits}
 use Rattle.dfu_sim.specs.Happening.{Happening, Offers, Uploads, Aborts, Goes, Passes, Resets, Cuts, Refuses}
-use Rattle.dfu_sim.specs.Bench.{Bench}
+use Rattle.dfu_sim.specs.LinkView.{LinkView}
 use Rattle.dfu_link.specs.Texts.{told_line}
 use Rattle.dfu_link.specs.Said.{ConfigLine, TheIds, TheDevice, TheUnit, TheSector, TheCapacity, TheImage, TheCheck, EventLine, Offer, Upload, Abort, Go, Time, Reset, Cut, Refuse, Said, Blank, Sets, LimitsTo, Does, GoesOn, Show, Expects}
 use Rattle.dfu_link.specs.Lines.{line_of}
@@ -12,13 +13,13 @@ use Rattle.dfu_link.specs.ScriptRun.{Settings, set as set_by, checked, events_of
 use Rattle.dfu_sim.specs.Headline.{Begun, WithOffer, AsUpload, HeadlineHolds}
 use Rattle.dfu_sim.specs.BegunBy.{begun_by}
 use Rattle.dfu_link.specs.Printed.{brought, report_text, EventsPrint, then_prints, NeedsDevice, StartsWith, at_end, at_line, after_nothing, after_image}
-use Rattle.dfu_link.proofs.LineBrings.{some_of, sessions_in, set_brings, said_brings, line_brings}
+use Rattle.dfu_link.proofs.LineBrings.{sessions_in, set_brings, said_brings, line_brings}
 
 -- Events.
 
 -- The session that an event may begin.
 abbrev pub session_by : Happening → Option Begun
-session_by (Offers aim file limits) = Some (WithOffer file)
+session_by (Offers purpose file limits) = Some (WithOffer file)
 session_by (Uploads limits) = Some AsUpload
 session_by Aborts = None
 session_by (Goes fate harm) = None
@@ -28,7 +29,7 @@ session_by Cuts = None
 session_by (Refuses why) = None
 
 -- A check changes none of that.
-pub session_checked : (check : List ℕ) (b : Bench) (h : Happening) → session_by (checked check b h) ≡ session_by h
+pub session_checked : (check : List ℕ) (b : LinkView) (h : Happening) → session_by (checked check b h) ≡ session_by h
 session_checked check b (Goes fate harm) = refl
 session_checked check b h = refl
 
@@ -37,7 +38,7 @@ same_each zero h = refl
 same_each (suc times) h = ap (λ (events : List (Option Begun)). session_by h ∷ events) (same_each times h)
 
 pub same_events : (limits : Limits) (events : EventLine) → map session_by (events_of limits events) ≡ sessions_in events
-same_events limits (Offer aim file) = refl
+same_events limits (Offer purpose file) = refl
 same_events limits Upload = refl
 same_events limits Abort = refl
 same_events limits (Go f harm times) = same_each times (Goes f harm)
@@ -51,11 +52,11 @@ same_text None image = refl
 same_text (Some report) image = refl
 
 -- One event more after which the headline holds.
-pub one_prints : {factory : List ℕ} {past : List Begun} {b : Bench} {events : List (Option Begun)} {printed : List ℕ} {mid : List Begun}
-    {c c' : Bench} {report : Option Report} (h : Happening) → EventsPrint factory past b events printed mid c
+pub one_prints : {factory : List ℕ} {past : List Begun} {b : LinkView} {events : List (Option Begun)} {printed : List ℕ} {mid : List Begun}
+    {c c' : LinkView} {report : Option Report} (h : Happening) → EventsPrint factory past b events printed mid c
     → (holds : HeadlineHolds factory (begun_by h mid) report c')
     → EventsPrint factory past b (events ++ session_by h ∷ []) (printed ++ report_text report holds.says.image) (begun_by h mid) c'
-one_prints (Offers aim file limits) prints holds = then_prints (Some (WithOffer file)) prints holds
+one_prints (Offers purpose file limits) prints holds = then_prints (Some (WithOffer file)) prints holds
 one_prints (Uploads limits) prints holds = then_prints (Some AsUpload) prints holds
 one_prints Aborts prints holds = then_prints None prints holds
 one_prints (Goes fate harm) prints holds = then_prints None prints holds
@@ -69,7 +70,7 @@ one_prints (Refuses why) prints holds = then_prints None prints holds
 set_starts : {g : Option (List ℕ)} {t : Settings} {factory : List ℕ} {lines after : List (List ℕ)} (u : Settings) → Some u ≡ Some t
     → StartsWith g t.image lines after factory → StartsWith g u.image lines after factory
 set_starts {g = g} {t = t} {factory = factory} {lines = lines} {after = after} u e starts =
-    subst (λ (s : Settings). StartsWith g s.image lines after factory) (sym (some_of u t e)) starts
+    subst (λ (s : Settings). StartsWith g s.image lines after factory) (sym (same_Some u t e)) starts
 
 -- A line that sets something comes before the start.
 line_sets : {g : Option (List ℕ)} {factory line : List ℕ} {lines after : List (List ℕ)} (s : Settings) (x : ConfigLine)
@@ -107,10 +108,10 @@ set_keeps s (TheCheck front) = refl
 
 -- A line that sets something leaves the bytes that are given.
 said_keeps : {t : Settings} (s : Settings) (said : Said) → prepared s said ≡ Some t → t.given ≡ s.given
-said_keeps {t = t} s Blank sets = ap (λ (u : Settings). u.given) (sym (some_of s t sets))
-said_keeps {t = t} s (Sets x) sets = ap (λ (u : Settings). u.given) (sym (some_of (set_by s x) t sets)) ∙ set_keeps s x
+said_keeps {t = t} s Blank sets = ap (λ (u : Settings). u.given) (sym (same_Some s t sets))
+said_keeps {t = t} s (Sets x) sets = ap (λ (u : Settings). u.given) (sym (same_Some (set_by s x) t sets)) ∙ set_keeps s x
 said_keeps {t = t} s (LimitsTo actions restarts) sets =
-    ap (λ (u : Settings). u.given) (sym (some_of (record s { limits = record { actions = actions; restarts = restarts } }) t sets))
+    ap (λ (u : Settings). u.given) (sym (same_Some (record s { limits = record { actions = actions; restarts = restarts } }) t sets))
 said_keeps s (Does events) sets = absurd cc
 said_keeps s GoesOn sets = absurd cc
 said_keeps s Show sets = absurd cc

@@ -1,14 +1,14 @@
 -- Lines that are done while no session is live.
 use Rattle.std.proofs.Common.{◌≡◌, ℕ, List, Option, Some, None, Result, Ok, Err, Bool, true, false, refl}
 use Rattle.std.specs.Prelude.{OnOk, IfErr}
-use Rattle.dfu_device.specs.Shown.{Shown}
-use Rattle.dfu_sim.specs.Bench.{Bench}
+use Rattle.dfu_device.specs.DeviceView.{DeviceView}
+use Rattle.dfu_sim.specs.LinkView.{LinkView}
 use Rattle.dfu_link.specs.Said.{said_by}
 use Rattle.dfu_link.specs.Texts.{image_line}
 use Rattle.dfu_link.specs.ScriptRun.{Point, at_rest}
 use Rattle.dfu_link.specs.Expecting.{Expectation}
 use Rattle.dfu_link.specs.inside.Expected.{at_point, PrintsNext}
-use Rattle.dfu_link.specs.declared.scripting.expectation.Ahead.{Ahead}
+use Rattle.dfu_link.specs.declared.scripting.expectation.ScriptContext.{ScriptContext}
 use Rattle.dfu_link.specs.Falls.{LineFalls}
 use Rattle.dfu_link.specs.inside.Source.{SourceState, Next, GivesLine, StopsSource}
 use Rattle.dfu_link.specs.inside.Moving.{DoesLine, Steps, LineEnds, Moves, Ends, LinesDone, all_done, gives_back, Plainly, says_none, says_events, MovesAndFalls, FindsNoRoom, FindsNoTear}
@@ -46,16 +46,17 @@ pub record Went (given : Bool) (first : SourceState) (p : Point) (old : Option (
 pub moved_none : (given : Bool) (s : SourceState) (p : Point) (old : Option (List ℕ)) → HasMoved given s p old p given s old
 moved_none given s p old = record { from = λ r next. (r, moves_none p r old, next) }
 
-ends_of : {p : Point} {s s' : SourceState} {old new : Option (List ℕ)} {to : Bench → Point}
+ends_of : {p : Point} {s s' : SourceState} {old new : Option (List ℕ)} {to : LinkView → Point}
     → LinesDone p s old to s' new None → Ends p s old new
 ends_of (all_done ends) = ends
 
-moves_of : {p : Point} {s s' : SourceState} {old new : Option (List ℕ)} {to : Bench → Point} {d : Shown}
+moves_of : {p : Point} {s s' : SourceState} {old new : Option (List ℕ)} {to : LinkView → Point} {d : DeviceView}
     → LinesDone p s old to s' new (Some d) → Moves p s old (to (at_rest d)) s' new
 moves_of (gives_back moves) = moves
 
 -- The line that was given was done, and those after it until no session was live.
-pub moved_on : {given : Bool} {first s u : SourceState} {p q : Point} {old mid new : Option (List ℕ)} {to : Bench → Point} {d : Shown}
+pub moved_on : {given : Bool} {first s u : SourceState} {p q : Point} {old mid new : Option (List ℕ)} {to : LinkView → Point}
+    {d : DeviceView}
     → HasMoved given first p old q true s mid → ((r : SourceState) → GivesLine r s → LinesDone q r mid to u new (Some d))
     → Went given first p old (to (at_rest d)) u new
 moved_on moved done = record {
@@ -65,7 +66,7 @@ moved_on moved done = record {
 }
 
 -- The line that was given was done, and all that were left.
-pub moved_to_the_end : {given : Bool} {first s u : SourceState} {p q : Point} {old mid new : Option (List ℕ)} {to : Bench → Point}
+pub moved_to_the_end : {given : Bool} {first s u : SourceState} {p q : Point} {old mid new : Option (List ℕ)} {to : LinkView → Point}
     → HasMoved given first p old q true s mid → ((r : SourceState) → GivesLine r s → LinesDone q r mid to u new None)
     → (r : SourceState) → Next r given first → Ends p r old new
 moved_to_the_end moved done r next =
@@ -107,26 +108,30 @@ moved_breaks (Err f) moved prints = λ r next. image_falls (moved.from r next).1
 -- A line but for its events.
 
 -- It says none, and is done.
-pub plain_done : {d : Shown} {l l' : Ahead} {k : ℕ} {line : List ℕ} {old new : Option (List ℕ)} → Plainly d l k line old None l' new
-    → (b : Bench) → b.device ≡ d → Steps k (at_point l b) line old (at_point l' b) new
+pub plain_done : {d : DeviceView} {l l' : ScriptContext} {k : ℕ} {line : List ℕ} {old new : Option (List ℕ)}
+    → Plainly d l k line old None l' new
+    → (b : LinkView) → b.device ≡ d → Steps k (at_point l b) line old (at_point l' b) new
 plain_done (says_none done) = done
 
 -- There is no memory for the file that its events offer.
-pub no_room : {d : Shown} {l l' : Ahead} {k : ℕ} {line : List ℕ} {old new : Option (List ℕ)} {events : EventLine} (f : ScriptFault)
+pub no_room : {d : DeviceView} {l l' : ScriptContext} {k : ℕ} {line : List ℕ} {old new : Option (List ℕ)} {events : EventLine}
+    (f : ScriptFault)
     → Plainly d l k line old (Some events) l' new → FindsNoRoom (said_by events) f → LineFalls (at_point l (at_rest d)) k line old new f
 no_room {d = d} {l = l} {k = k} {line = line} {old = old} {events = events} f (says_events says) none =
     offer_falls (at_point l (at_rest d)) k line old (said_by events) f says refl none
 
 -- There is none for their tear.
-pub no_tear : {d : Shown} {l l' : Ahead} {k : ℕ} {line : List ℕ} {old new : Option (List ℕ)} {events : EventLine} (b : Bench)
+pub no_tear : {d : DeviceView} {l l' : ScriptContext} {k : ℕ} {line : List ℕ} {old new : Option (List ℕ)} {events : EventLine}
+    (b : LinkView)
     (f : ScriptFault) → Plainly d l k line old (Some events) l' new → FindsNoTear (said_by events) f
     → LineFalls (at_point l b) k line old new f
 no_tear {l = l} {k = k} {line = line} {old = old} {events = events} b f (says_events says) none =
     tear_falls (at_point l b) k line old (said_by events) f says none
 
 -- The line goes as what it says.
-pub line_ends : (done : Result Unit ScriptFault) {d : Shown} {l l' : Ahead} {k : ℕ} {line : List ℕ} {old mid new : Option (List ℕ)}
-    {events : EventLine} {b : Bench} {q : Point} → Plainly d l k line old (Some events) l' mid
+pub line_ends : (done : Result Unit ScriptFault) {d : DeviceView} {l l' : ScriptContext} {k : ℕ} {line : List ℕ}
+    {old mid new : Option (List ℕ)}
+    {events : EventLine} {b : LinkView} {q : Point} → Plainly d l k line old (Some events) l' mid
     → DoesLine (at_point l' b) (said_by events) mid q new done → LineEnds k (at_point l b) line old q new done
 line_ends (Ok it) (says_events says) acts = record { ok = step_acts says acts.ok; fault = tt }
 line_ends (Err f) {l = l} {k = k} {line = line} {old = old} {new = new} {events = events} {b = b} (says_events says) acts = record {

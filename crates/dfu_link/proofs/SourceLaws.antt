@@ -2,7 +2,7 @@
 use Rattle.std.proofs.Common.{◌≡◌, ℕ, ◌+◌, ◌-◌, ◌<◌, ◌≤◌, min, List, [], ◌∷◌, ◌++◌, length, get_or, take, drop, slice_range, Option, Some, None, refl, sym, ap, ◌∙◌, subst, arith, length-append, length-take, drop-drop, append_assoc, true, false, Bool}
 use Rattle.std.proofs.lemmas.List.{append-nil, drop-take, take-append-drop, take_more, take-take, take_min, length-take-le}
 use Rattle.std.proofs.lemmas.List.Quantifiers.{position-Some}
-use Rattle.std.proofs.KnownBytes.{Consumes-trans}
+use Rattle.std.proofs.KnownBytes.{Consumes-trans, Consumes-kept}
 use Rattle.std.specs.Prelude.{IfSome, not, ◌==◌}
 use Rattle.std.specs.List.{position}
 use Rattle.std.specs.Io.KnownBytes.{Consumes, IsAtEnd, Keeps, prepend_known}
@@ -76,17 +76,11 @@ pub record ReadSoFar (left : Option (List ℕ)) (room : ℕ) (left' : Option (Li
   pub no_end : endless line ≡ true
   pub short : length line ≤ 65536
 
-consumes_kept : (a b c : Option (List ℕ)) (xs : List ℕ) → Consumes a b xs → Keeps b c → Consumes a c xs
-consumes_kept None b c xs h k = tt
-consumes_kept (Some a) None c xs h k = absurd h
-consumes_kept (Some a) (Some b) None xs h k = absurd k
-consumes_kept (Some a) (Some b) (Some c) xs h k = h ∙ ap (λ (zs : List ℕ). xs ++ zs) (sym k)
-
 -- It was looked for more bytes.
 pub so_far_filled : {left left1 left2 : Option (List ℕ)} {room room' : ℕ} {line : List ℕ} → ReadSoFar left room left1 room' line
     → Keeps left1 left2 → ReadSoFar left room left2 room' line
 so_far_filled {left = left} {left1 = left1} {left2 = left2} {line = line} r kept = record {
-  given = consumes_kept left left1 left2 line r.given kept;
+  given = Consumes-kept left left1 left2 line r.given kept;
   rooms = r.rooms;
   no_end = r.no_end;
   short = r.short;

@@ -7,7 +7,7 @@ use Rattle.dfu_host.specs.BehindClose.{is_behind_close}
 use Rattle.dfu_host.specs.Table.{host_row}
 use Rattle.dfu_host.specs.Host.{HostState, IsOver, budgeted, restarted, left_by, host_heard, after_phase, after}
 use Rattle.dfu_sim.specs.declared.fault.LinkFault.{LinkFault}
-use Rattle.dfu_sim.specs.Bench.{Session, Nobody, Hosted, Bench, LinkState}
+use Rattle.dfu_sim.specs.LinkView.{Session, Nobody, Hosted, LinkView, WorldView}
 use Rattle.dfu_sim.specs.Bytes.{BytePlay}
 use Rattle.dfu_sim.specs.Play.{Answered, settled, took}
 use Rattle.dfu_sim.specs.Happening.{Happening, Fate, Harm, Goes}
@@ -62,7 +62,7 @@ took_less h heard e =
 ok_same : {A E : Type 0} {x y : A} → ◌≡◌ {A = Result A E} (Ok x) (Ok y) → x ≡ y
 ok_same e = cc
 
-comes_less : {b b' : Bench} {fate : Fate} {harm : Harm} {answer : Result Answered LinkFault} → Comes b (Goes fate harm) b' answer
+comes_less : {b b' : LinkView} {fate : Fate} {harm : Harm} {answer : Result Answered LinkFault} → Comes b (Goes fate harm) b' answer
     → shown_as answer ≡ Ok None → actions_in b'.session < actions_in b.session
 comes_less (refuses why) e = absurd cc
 comes_less {b = b} {b' = b'} (happens {answer = answer} means play) e =
@@ -73,6 +73,6 @@ comes_less {b = b} {b' = b'} (happens {answer = answer} means play) e =
     (subst (λ (s : Session). actions_in s < next.host.actions) (sym next.session) (took_less next.host heard none))
 
 -- An action that is not refused and of which nothing is reported leaves fewer.
-pub action_less : {w w' : LinkState} {fate : Fate} {harm : Harm} (host_heard : Result (Option Report) LinkFault)
+pub action_less : {w w' : WorldView} {fate : Fate} {harm : Harm} (host_heard : Result (Option Report) LinkFault)
     → HasCome w (Goes fate harm) w' host_heard → host_heard ≡ Ok None → actions_in w'.bench.session < actions_in w.bench.session
 action_less host_heard come e = comes_less come.comes (sym come.told ∙ e)

@@ -4,7 +4,7 @@ use Rattle.std.specs.Prelude.{unwrap_or, Result, Ok, Err}
 use Rattle.dfu_host.specs.declared.report.Report.{Report}
 use Rattle.dfu_host.specs.declared.report.Report.TheVariants.{Uploaded}
 use Rattle.dfu_sim.specs.Play.{Answered, given}
-use Rattle.dfu_sim.specs.Bench.{LinkState}
+use Rattle.dfu_sim.specs.LinkView.{WorldView}
 use Rattle.dfu_sim.specs.Happening.{Happening}
 use Rattle.dfu_sim.specs.Comes.{shown_as, gave_of, ComesWith, GivesWithUploaded, HasCome}
 use Rattle.dfu_sim.specs.declared.fault.LinkFault.{LinkFault}
@@ -24,7 +24,7 @@ told_same (Ok answer) up up' whole e = told_in answer.report answer.gave up up' 
 told_same (Err fault) up up' whole e = refl
 
 -- What is printed of what a caller was told is the line of what came.
-pub told_line_is : (c c' : LinkState) {e : Happening} (r : Result (Option Report) LinkFault) (h : HasCome c e c' r)
+pub told_line_is : (c c' : WorldView) {e : Happening} (r : Result (Option Report) LinkFault) (h : HasCome c e c' r)
     → told_line r c'.up ≡ answer_line h.answer
 told_line_is c c' r h = ap (λ (x : Result (Option Report) LinkFault). told_line x c'.up) h.told
     ∙ told_same h.answer c.up c'.up h.whole h.up_is

@@ -3,7 +3,8 @@ use Rattle.std.proofs.Common.{◌≡◌, ℕ, ◌+◌, ◌++◌, List, [], lengt
 use Rattle.std.proofs.lemmas.List.{append-nil}
 use Rattle.std.specs.Prelude.{Bool, Result, Ok, Err, IfSome, OnOk, IfErr}
 use Rattle.std.specs.Io.KnownBytes.{IsAtEnd, prepend_known}
-use Rattle.dfu_device.specs.Shown.{Shown}
+use Rattle.dfu_suffix.proofs.ReadLaws.{if_some}
+use Rattle.dfu_device.specs.DeviceView.{DeviceView}
 use Rattle.dfu_link.specs.Words.{lines_of}
 use Rattle.dfu_link.specs.Texts.{image_line}
 use Rattle.dfu_link.specs.TextLimit.{IsStopped, GivesNone}
@@ -13,7 +14,7 @@ use Rattle.dfu_link.specs.inside.Source.{SourceState, Next, TookLines, GivesLine
 use Rattle.dfu_link.specs.inside.Moving.{Ends, MovesAndFalls, LinesConfigured, StopsSetting, CannotConfigure}
 use Rattle.dfu_link.specs.declared.scripting.fault.ScriptFault.{ScriptFault}
 use Rattle.dfu_link.specs.declared.scripting.fault.ScriptFault.TheVariants.{BadLine, LateConfig, BadConfig, Expected, NonePrinted, TooLarge, NoMemory, Read, Write}
-use Rattle.dfu_link.proofs.GivenLaws.{if_some, of_some, took, took_trans, stops_after}
+use Rattle.dfu_link.proofs.GivenLaws.{of_some, took, took_trans, stops_after}
 
 -- Nothing was taken of a text.
 record IsFresh (text : List ℕ) (s : SourceState) : Type 0 where
@@ -122,7 +123,8 @@ done_all fresh c ends =
     let empty : u.0 ≡ [] = of_some ends.last.left (λ left. left ≡ []) u.0 u.1 (at_end ends.last.left ends.ended) in
     sym (u.2.are ∙ (ap (λ (zs : List ℕ). ends.done ++ lines_of zs) empty ∙ append-nil ends.done))
 
-run_ends : {g : Option (List ℕ)} {text : List ℕ} {s s' : SourceState} {x y : Settings} {more : Bool} {old new : Option (List ℕ)} (d : Shown)
+run_ends : {g : Option (List ℕ)} {text : List ℕ} {s s' : SourceState} {x y : Settings} {more : Bool} {old new : Option (List ℕ)}
+    (d : DeviceView)
     → IsFresh text s → x ≡ beginning g → (c : LinesConfigured x s y more s') → DeviceStarts y d → Ends (point y (at_rest d)) c.at old new
     → WroteRun g text old new
 run_ends {text = text} {y = y} d fresh e c starts ends =
@@ -152,7 +154,8 @@ run_ends {text = text} {y = y} d fresh e c starts ends =
       told = ends.told;
     }
 
-run_falls : {g : Option (List ℕ)} {text : List ℕ} {s s' : SourceState} {x y : Settings} {more : Bool} {old new : Option (List ℕ)} (d : Shown)
+run_falls : {g : Option (List ℕ)} {text : List ℕ} {s s' : SourceState} {x y : Settings} {more : Bool} {old new : Option (List ℕ)}
+    (d : DeviceView)
     (f : ScriptFault) → IsFresh text s → x ≡ beginning g → (c : LinesConfigured x s y more s') → DeviceStarts y d
     → MovesAndFalls (point y (at_rest d)) c.at old new f → Falls g text old new f
 run_falls {y = y} {new = new} d f fresh e c starts falls =
@@ -177,7 +180,7 @@ run_falls {y = y} {new = new} d f fresh e c starts falls =
     in_run (sets_up fresh e c) starts runs (stops_after f (took_trans t.2 u.2) here.0)
 
 -- It starts, and all lines after it are done, or one falls.
-pub run_ended : (r : Result Unit ScriptFault) {g : Option (List ℕ)} (given old new : Option (List ℕ)) (d : Shown) {s s' : SourceState}
+pub run_ended : (r : Result Unit ScriptFault) {g : Option (List ℕ)} (given old new : Option (List ℕ)) (d : DeviceView) {s s' : SourceState}
     {x y : Settings} {more : Bool} → (s.left ≡ prepend_known [] given) × (s.room ≡ 16777216) × (s.number ≡ 0) → x ≡ beginning g
     → LinesConfigured x s y more s' → DeviceStarts y d
     → OnOk r ((t : SourceState) → Next t more s' → Ends (point y (at_rest d)) t old new)

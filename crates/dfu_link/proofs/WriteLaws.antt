@@ -1,23 +1,12 @@
 -- What is out of texts that are written one after the other.
-use Rattle.std.proofs.Common.{◌≡◌, ℕ, List, [], ◌++◌, length-append, Option, Some, None, sym, ap, ◌∙◌, subst, arith}
-use Rattle.std.proofs.lemmas.List.{append_assoc, append-nil}
+use Rattle.std.proofs.Common.{◌≡◌, ℕ, List, ◌++◌, length-append, Option, sym, ap, ◌∙◌, subst, arith}
+use Rattle.std.proofs.lemmas.List.{append_assoc}
 use Rattle.std.specs.Io.KnownBytes.{Appends}
 use Rattle.std.specs.Prelude.{Result, Ok, Err, IsErrAnd}
+use Rattle.std.proofs.KnownBytes.{Appends-trans}
 use Rattle.dfu_suffix.specs.Writing.{IsOutInPart}
 use Rattle.dfu_link.specs.declared.scripting.fault.ScriptFault.{ScriptFault}
 use Rattle.dfu_link.specs.inside.Expected.{Puts}
-
--- Nothing is out.
-pub appends_none : (old : Option (List ℕ)) → Appends old old []
-appends_none None = tt
-appends_none (Some xs) = sym (append-nil xs)
-
--- One text is out, and then another.
-pub appends_more : (old mid new : Option (List ℕ)) (xs ys : List ℕ) → Appends old mid xs → Appends mid new ys → Appends old new (xs ++ ys)
-appends_more None mid new xs ys h k = tt
-appends_more (Some a) None new xs ys h k = absurd h
-appends_more (Some a) (Some b) None xs ys h k = absurd k
-appends_more (Some a) (Some b) (Some c) xs ys h k = k ∙ (ap (λ (zs : List ℕ). zs ++ ys) h ∙ append_assoc a xs ys)
 
 -- A text that broke, and would have gone on.
 pub broke_before : (old new : Option (List ℕ)) (xs ys : List ℕ) → IsOutInPart old new xs → IsOutInPart old new (xs ++ ys)
@@ -39,12 +28,12 @@ broke_after old mid new xs ys h b =
       rest = b.rest;
       left = b.left;
       whole = ap (λ (zs : List ℕ). xs ++ zs) b.whole ∙ sym (append_assoc xs b.front b.rest);
-      told = appends_more old mid new xs b.front h b.told;
+      told = Appends-trans old mid new xs b.front h b.told;
     }
 
 both_put : (r : Result Unit ScriptFault) (old mid new : Option (List ℕ)) (xs ys : List ℕ) → Appends old mid xs → Puts ys mid new r
     → Puts (xs ++ ys) old new r
-both_put (Ok done) old mid new xs ys h k = record { ok = appends_more old mid new xs ys h k.ok; err = tt; fault = tt }
+both_put (Ok done) old mid new xs ys h k = record { ok = Appends-trans old mid new xs ys h k.ok; err = tt; fault = tt }
 both_put (Err f) old mid new xs ys h k = record { ok = tt; err = broke_after old mid new xs ys h k.err; fault = k.fault }
 
 -- One text is out, and then it went so with another: so it went with both.

@@ -4,9 +4,9 @@ use Rattle.std.specs.Io.KnownBytes.{Appends}
 use Rattle.dfu_slots.specs.Units.{IsMultiple}
 use Rattle.dfu_device.specs.declared.fault.ConfigFault.{ConfigFault}
 use Rattle.dfu_device.specs.Setting.{FirstFault}
-use Rattle.dfu_device.specs.Shown.{Shown}
-use Rattle.dfu_sim.specs.declared.aim.Aim.{Aim}
-use Rattle.dfu_sim.specs.Bench.{Nobody, Bench}
+use Rattle.dfu_device.specs.DeviceView.{DeviceView}
+use Rattle.dfu_sim.specs.declared.purpose.Purpose.{Purpose}
+use Rattle.dfu_sim.specs.LinkView.{Nobody, LinkView}
 use Rattle.dfu_sim.specs.Happening.{Happening}
 use Rattle.dfu_suffix.specs.Writing.{IsOutInPart}
 use Rattle.dfu_link.specs.Texts.{image_line, show_line}
@@ -21,12 +21,13 @@ use Rattle.dfu_link.specs.declared.scripting.fault.ScriptFault.TheVariants.{BadL
 
 -- It stopped among events, where the program takes only images that begin with these bytes, and this is expected: some were played, and a
 -- front of their text is out, and not all of it.
-pub record HasBroken (check : List ℕ) (b : Bench) (next : Option Expectation) (events : List Happening) (old new : Option (List ℕ)) (fault : ScriptFault)
+pub record HasBroken (check : List ℕ) (b : LinkView) (next : Option Expectation) (events : List Happening) (old new : Option (List ℕ))
+    (fault : ScriptFault)
     : Type 0 where
   pub played : List Happening
   pub left : List Happening
   pub split : events ≡ played ++ left
-  pub after : Bench
+  pub after : LinkView
   pub out : List ℕ
   pub plays : AllCome check b played out after
   pub broke : IsOutInPart old new out
@@ -50,9 +51,9 @@ pub record IsSetting (given : Option (List ℕ)) (line : List ℕ) : Type 0 wher
 
 -- A line offers a file.
 pub record IsOffer (given : Option (List ℕ)) (line : List ℕ) : Type 0 where
-  pub aim : Aim
+  pub purpose : Purpose
   pub file : List ℕ
-  pub says : line_of given line ≡ Some (Does (Offer aim file))
+  pub says : line_of given line ≡ Some (Does (Offer purpose file))
 
 -- A line says which line is printed next.
 pub record IsExpect (given : Option (List ℕ)) (line : List ℕ) : Type 0 where
@@ -134,7 +135,8 @@ pub data Falls (given : Option (List ℕ)) (text : List ℕ) (old new : Option (
   in_setting : {fault : ScriptFault} → SettingFalls given text fault → new ≡ old → Falls given text old new fault
   at_start : {settings : Settings} {after : List (List ℕ)} (sets_up : SetsUp given text settings after) → CannotStart settings
       → StopsAfter text sets_up.before BadConfig → new ≡ old → Falls given text old new BadConfig
-  in_run : {settings : Settings} {after : List (List ℕ)} {first : Shown} {fault : ScriptFault} (sets_up : SetsUp given text settings after)
+  in_run : {settings : Settings} {after : List (List ℕ)} {first : DeviceView} {fault : ScriptFault}
+      (sets_up : SetsUp given text settings after)
       → DeviceStarts settings first
       → (falls : RunFalls (point settings (at_rest first)) (1 + length sets_up.before) after old new fault)
       → StopsAfter text (sets_up.before ++ falls.done) fault → Falls given text old new fault

@@ -1,7 +1,7 @@
 pub use Rattle.dfu_sim.specs.Session
 pub use Rattle.dfu_sim.specs.Happening
-pub use Rattle.dfu_sim.specs.Course
-pub use Rattle.dfu_sim.specs.Bench
+pub use Rattle.dfu_sim.specs.Delivery
+pub use Rattle.dfu_sim.specs.LinkView
 pub use Rattle.dfu_sim.specs.Opening
 pub use Rattle.dfu_sim.specs.Play
 pub use Rattle.dfu_sim.specs.Agreement

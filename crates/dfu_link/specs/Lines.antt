@@ -3,8 +3,8 @@ use Rattle.std.specs.Prelude.{◌≡◌, ℕ, Bool, false, length, ◌==◌, Lis
 use Rattle.std.specs.Str.{bytes_eq}
 use Rattle.dfu_wire.specs.Functional.{functional_of}
 use Rattle.dfu_wire.specs.Identifier.{identifier_in}
-use Rattle.dfu_sim.specs.declared.aim.Aim.{Aim}
-use Rattle.dfu_sim.specs.declared.aim.Aim.TheVariants.{Install, Verify}
+use Rattle.dfu_sim.specs.declared.purpose.Purpose.{Purpose}
+use Rattle.dfu_sim.specs.declared.purpose.Purpose.TheVariants.{Install, Verify}
 use Rattle.dfu_sim.specs.Happening.{Fate, Pass, LostOut, LostBack, Twice, TwiceLostBack, Slip, CutIn, Fail, Lie, unharmed, harmed}
 use Rattle.dfu_link.specs.Words.{ok_of, hex_word_bytes, number_of, first_word, text_behind, words_of}
 use Rattle.dfu_link.specs.Fields.{small_of, count_of, attributes_of_word, unit_of_word, sector_of, objection_of, named_bytes}
@@ -135,10 +135,10 @@ said_limits words = do
   ends (LimitsTo actions.0 restarts.0) 3 restarts.1
 
 -- After `offer` and `verify`: the bytes of the file.
-unfoldable pub offer_of : (given : Option (List ℕ)) → Aim → List (List ℕ) → Read Said
-offer_of given aim words = do
+unfoldable pub offer_of : (given : Option (List ℕ)) → Purpose → List (List ℕ) → Read Said
+offer_of given purpose words = do
   file ← offered_file given 2 2 words
-  ends (Does (Offer aim file.0)) 2 file.1
+  ends (Does (Offer purpose file.0)) 2 file.1
 
 -- After `time`: the milliseconds.
 unfoldable pub time_of : List (List ℕ) → Read Said

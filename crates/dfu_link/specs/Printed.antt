@@ -3,11 +3,11 @@ use Rattle.std.specs.Prelude.{Result, Ok, Err, ◌≡◌, ◌⊎◌, ℕ, List, 
 use Rattle.std.specs.Str.{bytes_eq}
 use Rattle.std.specs.Io.KnownBytes.{Appends}
 use Rattle.dfu_suffix.specs.Writing.{IsOutInPart}
-use Rattle.dfu_device.specs.Shown.{Shown}
+use Rattle.dfu_device.specs.DeviceView.{DeviceView}
 use Rattle.dfu_host.specs.declared.report.Report.{Report}
 use Rattle.dfu_link.specs.Words.{hex_word_bytes, number_of, endless, lines_of, words_of}
 use Rattle.dfu_link.specs.Texts.{report_line, line_of_image}
-use Rattle.dfu_sim.specs.Bench.{Bench}
+use Rattle.dfu_sim.specs.LinkView.{LinkView}
 use Rattle.dfu_link.specs.ScriptRun.{at_rest}
 use Rattle.dfu_sim.specs.Headline.{WasOffered, Begun, WithOffer, AsUpload, HeadlineHolds}
 use Rattle.dfu_slots.specs.Image.{Active}
@@ -73,7 +73,7 @@ brought given line = words_bring given (words_of line)
 -- What is printed.
 
 -- This image is active, and it is the factory image or the whole payload of a file offered so far.
-pub record IsKnownImage (factory : List ℕ) (past : List Begun) (b : Bench) (image : List ℕ) : Type 0 where
+pub record IsKnownImage (factory : List ℕ) (past : List Begun) (b : LinkView) (image : List ℕ) : Type 0 where
   pub active : Active b.device.slots.medium image
   pub known : (image ≡ factory) ⊎ WasOffered past image
 
@@ -93,32 +93,34 @@ refused_event_line reason = codes "refused " ++ reason ++ 10 ∷ []
 
 -- Events one after the other, with what is printed of them. After an event the headline holds with the report that is printed, and the line
 -- of an upload shows the active image. Or the event was refused: a line says so with some reason, and nothing else changes.
-pub data EventsPrint (factory : List ℕ) (past : List Begun) (b : Bench) :
-    List (Option Begun) → (printed : List ℕ) → List Begun → Bench → Type 0 where
+pub data EventsPrint (factory : List ℕ) (past : List Begun) (b : LinkView) :
+    List (Option Begun) → (printed : List ℕ) → List Begun → LinkView → Type 0 where
   no_event : EventsPrint factory past b [] [] past b
-  then_prints : {events : List (Option Begun)} {printed : List ℕ} {mid : List Begun} {c c' : Bench} {report : Option Report}
+  then_prints : {events : List (Option Begun)} {printed : List ℕ} {mid : List Begun} {c c' : LinkView} {report : Option Report}
       (event : Option Begun) → EventsPrint factory past b events printed mid c
       → (holds : HeadlineHolds factory (begun_after event mid) report c')
       → EventsPrint factory past b (events ++ event ∷ []) (printed ++ report_text report holds.says.image) (begun_after event mid) c'
-  then_refused : {events : List (Option Begun)} {printed : List ℕ} {mid : List Begun} {c : Bench} (event : Option Begun) (reason : List ℕ)
+  then_refused : {events : List (Option Begun)} {printed : List ℕ} {mid : List Begun} {c : LinkView} (event : Option Begun)
+      (reason : List ℕ)
       → EventsPrint factory past b events printed mid c → endless reason ≡ true
       → EventsPrint factory past b (events ++ event ∷ []) (printed ++ refused_event_line reason) mid c
 
 -- What is printed of a line by what it brings, once the device is started. Of `show` it is a state in one line with a known image.
-pub data LinePrints (factory : List ℕ) (past : List Begun) (b : Bench) : Brings → (printed : List ℕ) → List Begun → Bench → Type 0 where
+pub data LinePrints (factory : List ℕ) (past : List Begun) (b : LinkView) : Brings → (printed : List ℕ) → List Begun → LinkView
+    → Type 0 where
   prints_nothing : LinePrints factory past b Nothing [] past b
-  prints_events : {events : List (Option Begun)} {printed : List ℕ} {past' : List Begun} {b' : Bench}
+  prints_events : {events : List (Option Begun)} {printed : List ℕ} {past' : List Begun} {b' : LinkView}
       → EventsPrint factory past b events printed past' b' → LinePrints factory past b (Events events) printed past' b'
-  prints_passes : {printed : List ℕ} {past' : List Begun} {b' : Bench} (times : ℕ)
+  prints_passes : {printed : List ℕ} {past' : List Begun} {b' : LinkView} (times : ℕ)
       → EventsPrint factory past b (replicate times None) printed past' b' → LinePrints factory past b SomePasses printed past' b'
   prints_image : {image : List ℕ} (state : List ℕ) → endless state ≡ true → IsKnownImage factory past b image
       → LinePrints factory past b AShow (codes "state " ++ state ++ line_of_image image) past b
 
 -- Lines one after the other.
-pub data LinesPrint (given : Option (List ℕ)) (factory : List ℕ) (past : List Begun) (b : Bench) :
-    List (List ℕ) → (printed : List ℕ) → List Begun → Bench → Type 0 where
+pub data LinesPrint (given : Option (List ℕ)) (factory : List ℕ) (past : List Begun) (b : LinkView) :
+    List (List ℕ) → (printed : List ℕ) → List Begun → LinkView → Type 0 where
   no_line : LinesPrint given factory past b [] [] past b
-  then_line : {lines : List (List ℕ)} {printed more : List ℕ} {mid past' : List Begun} {c b' : Bench} (line : List ℕ)
+  then_line : {lines : List (List ℕ)} {printed more : List ℕ} {mid past' : List Begun} {c b' : LinkView} (line : List ℕ)
       → LinesPrint given factory past b lines printed mid c → LinePrints factory mid c (brought given line) more past' b'
       → LinesPrint given factory past b (lines ++ line ∷ []) (printed ++ more) past' b'
 
@@ -145,10 +147,10 @@ pub data StartsWith (given : Option (List ℕ)) : (image : List ℕ) (lines afte
 
 -- After the start these lines of a text were done. The headline held at the start, with no session, and the image at the end is known.
 pub record TextPrints (given : Option (List ℕ)) (text : List ℕ) (after done : List (List ℕ)) (printed : List ℕ) (past : List Begun)
-    (end : Bench) (image : List ℕ) : Type 0 where
+    (end : LinkView) (image : List ℕ) : Type 0 where
   pub factory : List ℕ
   pub starts : StartsWith given (0 ∷ []) (lines_of text) after factory
-  pub first : Shown
+  pub first : DeviceView
   pub holds : HeadlineHolds factory [] None (at_rest first)
   pub lines : LinesPrint given factory [] (at_rest first) done printed past end
   pub known : IsKnownImage factory past end image
@@ -158,21 +160,21 @@ pub record WrotePrinted (given : Option (List ℕ)) (text : List ℕ) (old new :
   pub after : List (List ℕ)
   pub printed : List ℕ
   pub past : List Begun
-  pub end : Bench
+  pub end : LinkView
   pub image : List ℕ
   pub prints : TextPrints given text after after printed past end image
   pub told : Appends old new (printed ++ line_of_image image)
 
 -- What is out of the first of these lines, before which a script stopped, or of the last line of a script where none is left: nothing, or a
 -- front of what is printed of the line or of the first of its events.
-pub data PartPrints (given : Option (List ℕ)) (factory : List ℕ) (past : List Begun) (b : Bench) (image : List ℕ) :
+pub data PartPrints (given : Option (List ℕ)) (factory : List ℕ) (past : List Begun) (b : LinkView) (image : List ℕ) :
     List (List ℕ) → (old new : Option (List ℕ)) → Type 0 where
   nothing_out : {lines : List (List ℕ)} {old : Option (List ℕ)} → PartPrints given factory past b image lines old old
   in_events : {line : List ℕ} {lines : List (List ℕ)} {old new : Option (List ℕ)} {come : List (Option Begun)} {printed : List ℕ}
-      {past' : List Begun} {b' : Bench} (left : List (Option Begun)) → brought given line ≡ Events (come ++ left)
+      {past' : List Begun} {b' : LinkView} (left : List (Option Begun)) → brought given line ≡ Events (come ++ left)
       → EventsPrint factory past b come printed past' b' → IsOutInPart old new printed
       → PartPrints given factory past b image (line ∷ lines) old new
-  in_line : {line : List ℕ} {lines : List (List ℕ)} {old new : Option (List ℕ)} {printed : List ℕ} {past' : List Begun} {b' : Bench}
+  in_line : {line : List ℕ} {lines : List (List ℕ)} {old new : Option (List ℕ)} {printed : List ℕ} {past' : List Begun} {b' : LinkView}
       → LinePrints factory past b (brought given line) printed past' b' → IsOutInPart old new printed
       → PartPrints given factory past b image (line ∷ lines) old new
   in_image : {old new : Option (List ℕ)} → IsOutInPart old new (line_of_image image) → PartPrints given factory past b image [] old new
@@ -180,7 +182,7 @@ pub data PartPrints (given : Option (List ℕ)) (factory : List ℕ) (past : Lis
 -- A script stopped: nothing is out, and no device was started; or what is out is the text of the lines that were done, and of the next.
 pub data StopsPrinted (given : Option (List ℕ)) (text : List ℕ) (old new : Option (List ℕ)) : Type 0 where
   before_start : new ≡ old → StopsPrinted given text old new
-  after_start : {after done rest : List (List ℕ)} {printed image : List ℕ} {past : List Begun} {end : Bench} {mid : Option (List ℕ)}
+  after_start : {after done rest : List (List ℕ)} {printed image : List ℕ} {past : List Begun} {end : LinkView} {mid : Option (List ℕ)}
       → (prints : TextPrints given text after done printed past end image) → after ≡ done ++ rest → Appends old mid printed
       → PartPrints given prints.factory past end image rest mid new → StopsPrinted given text old new
 

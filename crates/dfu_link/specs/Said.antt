@@ -7,7 +7,7 @@ use Rattle.dfu_slots.specs.declared.unit.Unit.{Unit as WriteUnit}
 use Rattle.dfu_device.specs.declared.objection.Objection.{Objection}
 use Rattle.dfu_link.specs.Words.{hex_word_bytes}
 use Rattle.dfu_sim.specs.Happening.{Fate, CutIn, Fail, Lie, Harm, harmed, fate_of, harm_in}
-use Rattle.dfu_sim.specs.declared.aim.Aim.{Aim}
+use Rattle.dfu_sim.specs.declared.purpose.Purpose.{Purpose}
 use Rattle.dfu_link.specs.declared.scripting.hex_text.HexText.{HexText}
 use Rattle.dfu_link.specs.declared.scripting.line.HarmKind as kinds
 use Rattle.dfu_link.specs.declared.scripting.line.HarmKind.TheVariants as kind
@@ -49,7 +49,7 @@ pub data ConfigLine : Type 0 where
 -- takes so many actions of one fate, which harm a write alike, time passes, the bus is reset, the power is cut, or the device's program
 -- refuses the image that was closed.
 pub data EventLine : Type 0 where
-  Offer : Aim → (file : List ℕ) → EventLine
+  Offer : Purpose → (file : List ℕ) → EventLine
   Upload : EventLine
   Abort : EventLine
   Go : Fate → Harm → (times : ℕ) → EventLine
@@ -94,7 +94,7 @@ harm_fate kind.Lie = Lie
 
 -- What an event line as the code has it says.
 abbrev pub said_by : event_lines.EventLine → Said
-said_by (events.Offer aim file) = Does (Offer aim (offered_bytes file))
+said_by (events.Offer purpose file) = Does (Offer purpose (offered_bytes file))
 said_by events.Upload = Does Upload
 said_by events.Abort = Does Abort
 said_by (events.Go f times) = Does (Go (fate_of f) (harm_in f) times)

@@ -12,8 +12,8 @@ use Rattle.dfu_device.specs.declared.objection.Objection.TheVariants.{File as Fa
 use Rattle.dfu_device.specs.Candidate.{candidate_in}
 use Rattle.dfu_device.specs.Stage.{InAppIdle}
 use Rattle.dfu_device.specs.Setting.{Setting, IsAllowed, of_this_version}
-use Rattle.dfu_device.specs.Shown.{Shown}
-use Rattle.dfu_sim.specs.Bench.{Nobody, Bench, ShowsActive}
+use Rattle.dfu_device.specs.DeviceView.{DeviceView}
+use Rattle.dfu_sim.specs.LinkView.{Nobody, LinkView, ShowsActive}
 use Rattle.dfu_sim.specs.Play.{Answered}
 use Rattle.dfu_sim.specs.Happening.{Happening, Offers, Uploads, Aborts, Goes, Passes, Resets, Cuts, Refuses, Fate, Pass, Refusing, unharmed}
 use Rattle.dfu_sim.specs.Comes.{Comes}
@@ -97,7 +97,7 @@ blank_slots grain capacity = blank_medium grain (2 * (2 * gate_room grain + capa
 
 -- The device starts: it is allowed, the room has whole units and sectors, the image fits, and it stands in appIDLE on a blank medium that
 -- was formatted with the image, which is the active one of its bytes.
-pub record DeviceStarts (s : Settings) (d : Shown) : Type 0 where
+pub record DeviceStarts (s : Settings) (d : DeviceView) : Type 0 where
   pub config : d.config ≡ record s.device { functional = of_this_version s.device.functional }
   pub allowed : IsAllowed d.config
   pub whole : IsWhole s.grain s.capacity
@@ -108,7 +108,7 @@ pub record DeviceStarts (s : Settings) (d : Shown) : Type 0 where
   pub stage : d.stage ≡ InAppIdle
 
 -- A device with no session.
-abbrev pub at_rest : Shown → Bench
+abbrev pub at_rest : DeviceView → LinkView
 at_rest d = record { device = d; session = Nobody }
 
 -- Bytes begin with these.
@@ -123,19 +123,19 @@ is_accepted check None = true
 is_accepted check (Some taken) = begins_with check taken
 
 -- An action of this fate on a device with such a program: it refuses an image that begins otherwise, if the action closes it.
-abbrev pub checked_fate : (check : List ℕ) → Shown → Fate → Fate
+abbrev pub checked_fate : (check : List ℕ) → DeviceView → Fate → Fate
 checked_fate check d fate = if is_accepted check (candidate_in d.stage) then fate else Refusing FailsCheck fate
 
 -- An event on such a device.
-abbrev pub checked : (check : List ℕ) → Bench → Happening → Happening
+abbrev pub checked : (check : List ℕ) → LinkView → Happening → Happening
 checked check b (Goes fate harm) = Goes (checked_fate check b.device fate) harm
 checked check b event = event
 
 -- Events one after the other, where the program takes only images that begin with these bytes, with what they print; after each the image
 -- that the bench shows is the active one of its medium's bytes.
-pub data AllCome (check : List ℕ) : Bench → List Happening → List ℕ → Bench → Type 0 where
-  none_comes : {b : Bench} → AllCome check b [] [] b
-  then_comes : {b c c' : Bench} {events : List Happening} {out : List ℕ} {answer : Result Answered LinkFault} (event : Happening) →
+pub data AllCome (check : List ℕ) : LinkView → List Happening → List ℕ → LinkView → Type 0 where
+  none_comes : {b : LinkView} → AllCome check b [] [] b
+  then_comes : {b c c' : LinkView} {events : List Happening} {out : List ℕ} {answer : Result Answered LinkFault} (event : Happening) →
       AllCome check b events out c → Comes c (checked check c event) c' answer → ShowsActive c'
       → AllCome check b (events ++ event ∷ []) (out ++ answer_line answer) c'
 
@@ -146,19 +146,19 @@ pub record Point : Type 0 where
   pub check : List ℕ
   pub limits : Limits
   pub next : Option Expectation
-  pub at : Bench
+  pub at : LinkView
 
 -- Where it is with these settings and this link, and no line is expected.
-abbrev pub point : Settings → Bench → Point
+abbrev pub point : Settings → LinkView → Point
 point s at = record { given = s.given; check = s.check; limits = s.limits; next = None; at = at }
 
 -- This was printed, and the link is this now.
-abbrev pub printed : Point → (text : List ℕ) → Bench → Point
+abbrev pub printed : Point → (text : List ℕ) → LinkView → Point
 printed p text at = record p { next = still p.next text; at = at }
 
 -- The events of an event line.
 abbrev pub events_of : Limits → EventLine → List Happening
-events_of limits (Offer aim file) = Offers aim file limits ∷ []
+events_of limits (Offer purpose file) = Offers purpose file limits ∷ []
 events_of limits Upload = Uploads limits ∷ []
 events_of limits Abort = Aborts ∷ []
 events_of limits (Go fate harm times) = replicate times (Goes fate harm)
@@ -174,9 +174,9 @@ pub data LineActs (k : ℕ) : Point → Said → List ℕ → Point → Type 0 w
   skips : {p : Point} → LineActs k p Blank [] p
   limits_to : {p : Point} {actions restarts : ℕ} → LineActs k p (LimitsTo actions restarts) []
       (record p { limits = record { actions = actions; restarts = restarts } })
-  plays : {p : Point} {events : EventLine} {b : Bench} {out : List ℕ} → AllCome p.check p.at (events_of p.limits events) out b
+  plays : {p : Point} {events : EventLine} {b : LinkView} {out : List ℕ} → AllCome p.check p.at (events_of p.limits events) out b
       → Meets p.next out → LineActs k p (Does events) out (printed p out b)
-  goes_on : {p : Point} {mid b : Bench} {answer : Result Answered LinkFault} (times : ℕ)
+  goes_on : {p : Point} {mid b : LinkView} {answer : Result Answered LinkFault} (times : ℕ)
       → AllCome p.check p.at (replicate times (Goes Pass unharmed)) [] mid → Comes mid (checked p.check mid (Goes Pass unharmed)) b answer
       → ShowsActive b
       → answer_line answer ≢ [] → Meets p.next (answer_line answer)
@@ -207,7 +207,7 @@ pub record IsScriptRun (given : Option (List ℕ)) (text out : List ℕ) : Type 
   pub settings : Settings
   pub after : List (List ℕ)
   pub sets_up : SetsUp given text settings after
-  pub first : Shown
+  pub first : DeviceView
   pub starts : DeviceStarts settings first
   pub shown : List ℕ
   pub end : Point

@@ -10,7 +10,7 @@ use Rattle.dfu_host.specs.declared.report.Report.{Report}
 use Rattle.dfu_host.specs.declared.report.Report.TheVariants as report
 use Rattle.dfu_slots.specs.Seen.{image_of}
 use Rattle.dfu_device.specs.Stage.{state_of, code_of}
-use Rattle.dfu_device.specs.Shown.{Shown}
+use Rattle.dfu_device.specs.DeviceView.{DeviceView}
 use Rattle.dfu_sim.specs.Play.{Answered}
 use Rattle.dfu_sim.specs.Comes.{shown_as, gave_of}
 use Rattle.dfu_sim.specs.declared.fault.OfferFault.{OfferFault}
@@ -72,14 +72,14 @@ abbrev pub line_of_image : List ℕ → List ℕ
 line_of_image image = codes "image " ++ (hex_text image ++ 10 ∷ [])
 
 -- The line of the device's image.
-abbrev pub image_line : Shown → List ℕ
+abbrev pub image_line : DeviceView → List ℕ
 image_line device = line_of_image (image_of device.slots)
 
 -- What `show` prints before the image: the device's state and its status code.
-abbrev pub state_text : Shown → List ℕ
+abbrev pub state_text : DeviceView → List ℕ
 state_text device = (codes "state " ++ state_name (state_of device.stage) ++ codes " status ")
     ++ (code_name (code_of device.stage) ++ codes " ")
 
 -- The line of `show`.
-abbrev pub show_line : Shown → List ℕ
+abbrev pub show_line : DeviceView → List ℕ
 show_line device = state_text device ++ image_line device

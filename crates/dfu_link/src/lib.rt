@@ -9,9 +9,9 @@ mod beside;
 mod same;
 mod scripting;
 mod seen;
-mod watch;
+mod tracer;
 
-pub use dfu_sim::{Aim, Event, Fate, LinkFault, OfferFault, Stop, World, laws, run};
+pub use dfu_sim::{Event, Fate, LinkFault, OfferFault, Purpose, Stop, World, laws, run};
 pub use scripting::{
     Field, LineFault, ScriptFault, SetupFault, script, script_beside_traced_with,
     script_beside_with, script_traced, script_traced_with, script_with,

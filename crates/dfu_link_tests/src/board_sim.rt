@@ -1,9 +1,9 @@
 //! A device that writes its medium itself and a board, each with a host on a link: the same random events come to both.
 
-mod dice;
+mod events;
 mod pair;
 
-use dice::Dice;
+use crate::dice::Dice;
 use pair::plays_the_same;
 use std::test::Fail;
 

@@ -4,4 +4,6 @@
 #[cfg(test)]
 mod board_sim;
 #[cfg(test)]
+mod dice;
+#[cfg(test)]
 mod link;

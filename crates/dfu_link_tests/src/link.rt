@@ -2,7 +2,7 @@
 
 mod bench;
 mod cuts;
-mod dice;
+mod events;
 mod fates;
 mod faults;
 mod lists;
@@ -14,9 +14,10 @@ mod uploads;
 mod verifying;
 mod watched;
 
-use bench::{AMPLE, Setup, USUAL, W, go, offer, pass, play, stands, world};
+use bench::{AMPLE, Setup, Turn, USUAL, W, go, offer, pass, play, stands, world};
 use dfu_host::{Limits, Report};
-use dfu_link::{Event, Fate};
+use dfu_link::{Event, Fate, World};
+use dfu_slots::SimMedium;
 use dfu_wire::{Code, State};
 use std::alloc::Global;
 use std::process::Abort;
@@ -38,22 +39,24 @@ static CLEAN: [(Setup, usize, Option<Report>); 5] = [
     (QUICK, 9, Some(Report::Installed)),
 ];
 
-/// The payload is in place after so many passes, and the device is back where something is reported.
-fn downloads(
+/// A session that begins with this turn has its payload in place after so many passes, and the device is back where
+/// something is reported.
+pub(crate) fn installs(
     rt: &impl Abort,
     alloc: Global,
     setup: Setup,
+    begin: Turn<'static, 'static>,
     passes: usize,
     last: Option<Report>,
-) -> Result<(), Fail> {
+) -> Result<World<'static, SimMedium>, Fail> {
     let mut world = world(alloc, setup)?;
-    play(rt, &mut world, &[offer(&W), pass(passes)], last);
+    play(rt, &mut world, &[begin, pass(passes)], last);
     stands(rt, &world, state_after(last), Code::Ok, &[0xff; 4]);
-    Ok(())
+    Ok(world)
 }
 
 /// Where a device stands whose host reported this last: back in appIDLE, or still in dfuIDLE where nothing came yet.
-pub(crate) fn state_after(last: Option<Report>) -> State {
+fn state_after(last: Option<Report>) -> State {
     match last {
         Some(_) => State::AppIdle,
         None => State::DfuIdle,
@@ -63,7 +66,7 @@ pub(crate) fn state_after(last: Option<Report>) -> State {
 #[test]
 fn clean_downloads_have_their_count(rt: HostRuntime) -> Result<(), Fail> {
     for (setup, passes, last) in &CLEAN {
-        downloads(&rt, rt.alloc(), *setup, *passes, *last)?;
+        installs(&rt, rt.alloc(), *setup, offer(&W), *passes, *last)?;
     }
     Ok(())
 }

@@ -8,7 +8,7 @@ use Rattle.dfu_suffix.specs.Writing.{IsOutInPart}
 use Rattle.dfu_conformance.specs.declared.verdict.Departure.{Departure}
 use Rattle.dfu_output.specs.declared.judge.fault.LogFault.{LogFault}
 use Rattle.dfu_output.specs.declared.judge.fault.LogFault.TheVariants.{BadLine, TooLarge, NoMemory, Read, Write}
-use Rattle.dfu_output.specs.judge.Course.{LogCourse, Judges, begins, at_first}
+use Rattle.dfu_output.specs.judge.Course.{LogCourse, begins, at_first}
 use Rattle.dfu_output.specs.judge.Judging.{CannotGo, CannotTell, LogStops, StopsWith}
 use Rattle.dfu_output.specs.judge.Texts.{departure_text}
 use Rattle.dfu_output.specs.judge.inside.Going.{JudgingState, IsAt, JudgedText, Going, told_text}
@@ -161,8 +161,3 @@ at_this (Err f) P tail h = h tail
 pub if_all : (o : Option (List ℕ)) (P : List ℕ → Type 0) → ((xs : List ℕ) → P xs) → IfSome o P
 if_all None P h = tt
 if_all (Some xs) P h = h xs
-
--- What follows of all follows of some.
-pub if_more : (o : Option (List ℕ)) (P Q : List ℕ → Type 0) → ((xs : List ℕ) → P xs → Q xs) → IfSome o P → IfSome o Q
-if_more None P Q f h = tt
-if_more (Some xs) P Q f h = f xs h

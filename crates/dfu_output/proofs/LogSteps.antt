@@ -2,7 +2,7 @@
 use Rattle.std.specs.Prelude.{◌≡◌, ℕ, ◌+◌, ◌<◌, List, [], ◌∷◌, ◌++◌, length, Bool, Option, Some, None, cond}
 use Rattle.std.proofs.Common.{sym, ap, ◌∙◌, subst, arith, length-append}
 use Rattle.std.proofs.lemmas.List.{append-nil}
-use Rattle.dfu_conformance.specs.declared.event.Event.{Event}
+use Rattle.dfu_conformance.specs.declared.event.LogEvent.{LogEvent}
 use Rattle.dfu_conformance.specs.declared.verdict.Departure.{Departure}
 use Rattle.dfu_conformance.specs.declared.log.Line.{Line}
 use Rattle.dfu_conformance.specs.declared.log.Line.TheVariants as line
@@ -18,11 +18,12 @@ use Rattle.dfu_output.specs.judge.Lines.{LinesState, GoesToLine, EndsLine, Takes
 use Rattle.dfu_output.specs.judge.Judging.{CannotGo}
 use Rattle.dfu_output.specs.judge.inside.Going.{JudgingState, IsAt, EventCame, JudgedText}
 
-counted : (events : List Event) (e : Event) (n : ℕ) → n ≡ length events → n + 1 ≡ length (events ++ e ∷ [])
+counted : (events : List LogEvent) (e : LogEvent) (n : ℕ) → n ≡ length events → n + 1 ≡ length (events ++ e ∷ [])
 counted events e n is = omega (arith, is, length-append events (e ∷ []))
 
 -- An event goes on.
-pub come_on : (s : JudgingState) (w v : List (List ℕ)) (n : ℕ) (text : List ℕ) (c : LogCourse) (e : Event) (at : List Bool) → IsAt s text c
+pub come_on : (s : JudgingState) (w v : List (List ℕ)) (n : ℕ) (text : List ℕ) (c : LogCourse) (e : LogEvent) (at : List Bool)
+    → IsAt s text c
     → IsHeld w (c.events ++ e ∷ []) → CanAnswer 0 (c.since ++ e ∷ []) × IsHeldPlain v (c.since ++ e ∷ [])
     → ArePlacesAfter 0 (c.since ++ e ∷ []) at → n ≡ s.single + cond (is_single at) 1 0
     → EventCame text c e None (record s { whole = w; since = v; events = s.events + 1; single = n })
@@ -42,14 +43,14 @@ come_on s w v n text c e at is held plain places single = record {
 }
 
 -- An event departs.
-pub come_off : (s : JudgingState) (w v : List (List ℕ)) (text : List ℕ) (c : LogCourse) (e : Event) (d : Departure) → IsAt s text c
+pub come_off : (s : JudgingState) (w v : List (List ℕ)) (text : List ℕ) (c : LogCourse) (e : LogEvent) (d : Departure) → IsAt s text c
     → IsHeld w (c.events ++ e ∷ []) → d.event ≡ e → Departs c.since d v
     → EventCame text c e (Some d) (record s { whole = w; since = v; events = s.events + 1 })
 come_off s w v text c e d is held same off = record {
   next = departing c d;
-  comes = departs d same (subst (λ (x : Event). CanAnswer 0 (c.since ++ x ∷ []) → ⊥) same off.none) off.before;
+  comes = departs d same (subst (λ (x : LogEvent). CanAnswer 0 (c.since ++ x ∷ []) → ⊥) same off.none) off.before;
   at = record {
-    whole = subst (λ (x : Event). IsHeld w (c.events ++ x ∷ [])) (sym same) held;
+    whole = subst (λ (x : LogEvent). IsHeld w (c.events ++ x ∷ [])) (sym same) held;
     since = off.anew;
     line = is.line;
     room = is.room;
@@ -89,7 +90,7 @@ ended_by : (interface byte : ℕ) (text : List ℕ) (c : LogCourse) (o : Option 
 ended_by interface byte text c o s end took = subst (λ (k : ℕ). JudgedText interface (text ++ k ∷ []) c o s) (sym end) took
 
 -- The end of a line at which an event came.
-pub took_event : (interface byte : ℕ) (s t : JudgingState) (lines : LinesState) (text : List ℕ) (c : LogCourse) (e : Event)
+pub took_event : (interface byte : ℕ) (s t : JudgingState) (lines : LinesState) (text : List ℕ) (c : LogCourse) (e : LogEvent)
     (o : Option Departure) → IsAt s text c → Judges interface text c → EndsLine interface s.lines lines byte (line.Came e)
     → EventCame (text ++ 10 ∷ []) (course_line_ended c) e o t → JudgedText interface (text ++ byte ∷ []) c o t
 took_event interface byte s t lines text c e o is judged end came = ended_by interface byte text c o t end.end (record {

@@ -4,7 +4,6 @@
 #![tactic(auto)]
 
 mod adding;
-mod answer;
 mod asked;
 mod checking;
 mod configuration;
@@ -12,13 +11,13 @@ mod exit;
 mod faults;
 mod judge;
 mod numbers;
+mod outcome;
 mod output;
 mod reasons;
 mod show_lines;
 mod showing;
 
 pub use adding::{add_text, add_with_fault, wrote_line};
-pub use answer::Answer;
 pub use checking::{check_text, check_with_fault};
 pub use exit::Exit;
 pub use faults::{bad_words, fault_text};
@@ -27,6 +26,7 @@ pub use judge::{
     verdict_text,
 };
 pub use numbers::{field, made_field, push};
+pub use outcome::Outcome;
 pub use output::write_out;
 pub use reasons::{name_before, reason_line};
 pub use showing::show_text;

@@ -1,7 +1,7 @@
 -- What a packet of usbmon says (Linux, Documentation/usb/usbmon.rst, "Raw binary format and API").
 use Rattle.std.specs.Prelude.{ℕ, ◌+◌, ◌*◌, ◌%◌, ◌==◌, ◌&&◌, ◌||◌, nat_le, Bool, true, List, [], ◌∷◌, length, drop, slice_index_or, Option, Some, None, if◌then◌else◌}
-use Rattle.dfu_pcap.specs.declared.event.Kind.{Kind}
-use Rattle.dfu_pcap.specs.declared.event.Kind.TheVariants.{Submits, Completes, Other}
+use Rattle.dfu_pcap.specs.declared.event.PacketKind.{PacketKind}
+use Rattle.dfu_pcap.specs.declared.event.PacketKind.TheVariants.{Submits, Completes, Other}
 use Rattle.dfu_pcap.specs.declared.event.Ending.{Ending}
 use Rattle.dfu_pcap.specs.declared.event.Ending.TheVariants.{Done, Stalled, Failed}
 
@@ -33,7 +33,7 @@ abbrev pub is_control : (head : ℕ) → List ℕ → Bool
 is_control head bytes = nat_le head (length bytes) && ((byte bytes 9 == 2) && (byte bytes 10 % 128 == 0))
 
 -- Byte 8 is 'S' of a submission and 'C' of a completion.
-abbrev pub kind_in : List ℕ → Kind
+abbrev pub kind_in : List ℕ → PacketKind
 kind_in bytes = if byte bytes 8 == 83 then Submits else if byte bytes 8 == 67 then Completes else Other
 
 -- Bytes 40 to 47 are the setup, where byte 14 is 0.

@@ -1,8 +1,8 @@
 -- What a packet of USBPcap says (USBPcap, "Capture format": USBPCAP_BUFFER_PACKET_HEADER and USBPCAP_BUFFER_CONTROL_HEADER).
 use Rattle.std.specs.Prelude.{ℕ, ◌+◌, ◌-◌, ◌%◌, ◌==◌, ◌&&◌, nat_le, Bool, false, List, length, drop, Option, Some, None, if◌then◌else◌}
 use Rattle.dfu_pcap.specs.Packets.{byte, two_in, four_in, eight_in}
-use Rattle.dfu_pcap.specs.declared.event.Kind.{Kind}
-use Rattle.dfu_pcap.specs.declared.event.Kind.TheVariants.{Submits, Carries, Completes, Other}
+use Rattle.dfu_pcap.specs.declared.event.PacketKind.{PacketKind}
+use Rattle.dfu_pcap.specs.declared.event.PacketKind.TheVariants.{Submits, Carries, Completes, Other}
 use Rattle.dfu_pcap.specs.declared.event.Ending.{Ending}
 use Rattle.dfu_pcap.specs.declared.event.Ending.TheVariants.{Done, Stalled, Failed}
 
@@ -19,7 +19,7 @@ from_device bytes = byte bytes 16 % 2 == 1
 
 -- Byte 27 is the stage. 0, the setup, submits a transfer. 1, the data, completes it from the device on, and else has the bytes of the
 -- host. 2, the status, completes it from the device on. 3 completes it.
-abbrev pub recorded_kind : List ℕ → Kind
+abbrev pub recorded_kind : List ℕ → PacketKind
 recorded_kind bytes =
     let stage = byte bytes 27 in
     if stage == 0 then Submits

@@ -4,7 +4,7 @@ use crate::address::Address;
 
 /// Which part of a transfer a packet is.
 #[derive(Clone, Copy, Debug, PartialEq, Eq)]
-pub enum Kind {
+pub enum PacketKind {
     /// It submits the transfer.
     Submits,
     /// It has the bytes of a transfer that was submitted without them.
@@ -30,7 +30,7 @@ pub enum Ending {
 #[derive(Clone, Copy)]
 pub struct UsbEvent<'c> {
     /// Which part of the transfer it is.
-    pub kind: Kind,
+    pub kind: PacketKind,
     /// What joins a submission and its completion.
     pub id: [u8; 8],
     /// Where the device is.

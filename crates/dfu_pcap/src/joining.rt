@@ -5,7 +5,7 @@ ghost use Rattle.dfu_pcap.specs.Packets.{begins_capture};
 ghost use Rattle.dfu_pcap.specs.declared.fault.CaptureFault.TheVariants as CaptureFault;
 
 use crate::address::Address;
-use crate::event::{Ending, Kind, UsbEvent};
+use crate::event::{Ending, PacketKind, UsbEvent};
 use crate::exchange::{Exchange, Seen};
 use crate::fault::CaptureFault;
 use crate::numbers::from;
@@ -146,12 +146,12 @@ impl<'c> Joining<'c> {
     /// An event comes, in a packet of this link type.
     fn come(&mut self, event: &UsbEvent<'c>, link: u16) -> Result<(), CaptureFault> {
         match (event.kind, event.setup) {
-            (Kind::Submits, Some(setup)) => self.submit(event, setup),
-            (Kind::Carries, _) => {
+            (PacketKind::Submits, Some(setup)) => self.submit(event, setup),
+            (PacketKind::Carries, _) => {
                 self.carry(event);
                 Ok(())
             }
-            (Kind::Completes, _) => self.complete(event, link),
+            (PacketKind::Completes, _) => self.complete(event, link),
             _ => Ok(()),
         }
     }

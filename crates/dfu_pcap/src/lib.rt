@@ -15,7 +15,7 @@ mod usbmon;
 mod usbpcap;
 
 pub use address::Address;
-pub use event::{Ending, Kind, UsbEvent};
+pub use event::{Ending, PacketKind, UsbEvent};
 pub use fault::CaptureFault;
 pub use logging::{is_capture, log_of};
 pub use usbmon::packet_event;

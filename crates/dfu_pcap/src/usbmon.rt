@@ -4,7 +4,7 @@ ghost use Rattle.std.specs.Prelude.{◌≡◌, drop, take, length, nat_lt, not, 
 ghost use Rattle.dfu_pcap.specs.Packets.{byte, two_in, four_in, eight_in, head_in, is_control, kind_in, setup_in_packet, ending_in};
 
 use crate::address::Address;
-use crate::event::{Ending, Kind, UsbEvent};
+use crate::event::{Ending, PacketKind, UsbEvent};
 use crate::numbers::{byte_at, eight, four, from, front, two};
 
 /// How a transfer ended: byte 28 on has 0, or -32 of a stall.
@@ -30,13 +30,13 @@ pub(crate) fn head_of(link: u16) -> Option<usize>
 }
 
 /// Whether an event submits a transfer or completes one.
-fn kind_of(bytes: &[u8]) -> Kind
+fn kind_of(bytes: &[u8]) -> PacketKind
     ensures { result ≡ kind_in bytes.now }
 {
     match byte_at(bytes, 8) {
-        b'S' => Kind::Submits,
-        b'C' => Kind::Completes,
-        _ => Kind::Other,
+        b'S' => PacketKind::Submits,
+        b'C' => PacketKind::Completes,
+        _ => PacketKind::Other,
     }
 }
 

@@ -6,24 +6,24 @@ ghost use Rattle.dfu_pcap.specs.Usbpcap.{is_recorded_control, recorded_kind, rec
 ghost use Rattle.std.specs.Prelude.{false};
 
 use crate::address::Address;
-use crate::event::{Ending, Kind, UsbEvent};
+use crate::event::{Ending, PacketKind, UsbEvent};
 use crate::numbers::{byte_at, eight, four, from, front, two};
 
 /// How many bytes the head of a control transfer has at least.
 const HEAD: usize = 28;
 
 /// Which part of a transfer a packet is, by its stage (byte 27) and its direction (bit 0 of byte 16).
-fn kind_of(bytes: &[u8]) -> Kind
+fn kind_of(bytes: &[u8]) -> PacketKind
     ensures { result ≡ recorded_kind bytes.now }
 {
     let answers = byte_at(bytes, 16) % 2 == 1;
     match byte_at(bytes, 27) {
-        0 => Kind::Submits,
-        1 if answers => Kind::Completes,
-        1 => Kind::Carries,
-        2 if answers => Kind::Completes,
-        3 => Kind::Completes,
-        _ => Kind::Other,
+        0 => PacketKind::Submits,
+        1 if answers => PacketKind::Completes,
+        1 => PacketKind::Carries,
+        2 if answers => PacketKind::Completes,
+        3 => PacketKind::Completes,
+        _ => PacketKind::Other,
     }
 }
 

@@ -1,6 +1,6 @@
 //! The jobs of known words.
 
-use dfu_args::{Job, JobFault, asked, job};
+use dfu_args::{JobFault, Subcommand, asked, job};
 use std::alloc::{AllocError, Global};
 use std::test::Fail;
 
@@ -67,9 +67,9 @@ fn run_told(
 }
 
 /// A job that makes a file in words.
-fn made_told(alloc: Global, job: Job) -> Result<String, AllocError> {
+fn made_told(alloc: Global, job: Subcommand) -> Result<String, AllocError> {
     match job {
-        Job::Add {
+        Subcommand::Add {
             file,
             to,
             vid,
@@ -82,8 +82,8 @@ fn made_told(alloc: Global, job: Job) -> Result<String, AllocError> {
             push_options(&mut line, &[&format, &fill])?;
             Ok(line)
         }
-        Job::Extract { file, to } => joined(alloc, &["extract", &file, &to]),
-        Job::Change {
+        Subcommand::Extract { file, to } => joined(alloc, &["extract", &file, &to]),
+        Subcommand::Change {
             file,
             vid,
             pid,
@@ -103,26 +103,26 @@ fn push_json(line: &mut String, json: bool) -> Result<(), AllocError> {
 }
 
 /// A job in words.
-fn told(alloc: Global, job: Job) -> Result<String, AllocError> {
+fn told(alloc: Global, job: Subcommand) -> Result<String, AllocError> {
     match job {
-        Job::Check { files, json } => {
+        Subcommand::Check { files, json } => {
             let mut line = list_told(alloc, "check", &files)?;
             push_json(&mut line, json)?;
             Ok(line)
         }
-        Job::Show { kind, hex, json } => {
+        Subcommand::Show { kind, hex, json } => {
             let mut line = joined(alloc, &["show", &kind])?;
             line.push_str(&list_told(alloc, "hex", &hex)?)?;
             push_json(&mut line, json)?;
             Ok(line)
         }
-        Job::Run {
+        Subcommand::Run {
             script,
             trace,
             board,
             file,
         } => run_told(alloc, &script, trace, board, &file),
-        Job::Judge {
+        Subcommand::Judge {
             files,
             interface,
             device,

@@ -2,15 +2,17 @@
 
 mod sessions;
 
+use crate::judging::{POWER, RESET, at};
 use dfu_conformance::{
-    Answer, Asked, Departure, Event, HABITS, Judge, Line, Place, Row, STANDARD, read_line,
+    Departure, EventKind, HABITS, Judge, Line, LogEvent, Response, Row, STANDARD, StandardState,
+    read_line,
 };
 use dfuse_conformance::{DFUSE, DfuseJudge, first_departure, is_of_dfuse};
 use sessions::{LOGS, SESSION};
 use std::process::Abort;
 
 /// What a line of a log says came, if it does.
-fn event_of(rt: &impl Abort, line: &[u8]) -> Option<Event> {
+fn event_of(rt: &impl Abort, line: &[u8]) -> Option<LogEvent> {
     let read = read_line(0, line);
     assert!(rt; read.is_some(), "a line that can't be read: {line:?}");
     match read {
@@ -44,17 +46,6 @@ fn logs_depart_where_they_should(rt: HostRuntime) {
     }
 }
 
-/// By place, where a device may be that is at one of these.
-fn at(places: &[Place]) -> [bool; 12] {
-    let mut at = [false; 12];
-    for place in places {
-        if let Some(slot) = at.get_mut(place.number()) {
-            *slot = true;
-        }
-    }
-    at
-}
-
 #[test]
 fn a_session_is_kept_and_departs_from_dfu_at_the_leave(rt: HostRuntime) {
     let (judge, sum, _) = judged(&rt, &SESSION);
@@ -62,10 +53,10 @@ fn a_session_is_kept_and_departs_from_dfu_at_the_leave(rt: HostRuntime) {
     assert_eq!(rt;
         judge.at,
         at(&[
-            Place::Manifest,
-            Place::ManifestWaitReset,
-            Place::AppIdle,
-            Place::Error,
+            StandardState::Manifest,
+            StandardState::ManifestWaitReset,
+            StandardState::AppIdle,
+            StandardState::Error,
         ])
     );
     let mut standard = Judge::new();
@@ -110,7 +101,11 @@ fn a_departure_says_what_was_allowed(rt: HostRuntime) {
     if let Some(departure) = last {
         assert_eq!(rt;
             departure.before,
-            at(&[Place::DownloadSync, Place::DownloadBusy, Place::Error])
+            at(&[
+                StandardState::DownloadSync,
+                StandardState::DownloadBusy,
+                StandardState::Error
+            ])
         );
         let stalls = allowed(&departure, &STANDARD);
         assert_eq!(rt; stalls, 3, "a stall, to dfuERROR, from each of the three");
@@ -119,27 +114,13 @@ fn a_departure_says_what_was_allowed(rt: HostRuntime) {
     }
 }
 
-/// An event of no request.
-const fn mark(asked: Asked) -> Event {
-    Event {
-        asked,
-        is_plain: true,
-        length: 0,
-        answer: Answer::Bytes {
-            count: 0,
-            first: 0,
-            fifth: 0,
-        },
-    }
-}
-
 /// GETSTATE as section 3 has it, answered with this state.
-const fn told(state: u8) -> Event {
-    Event {
-        asked: Asked::GetState,
+const fn told(state: u8) -> LogEvent {
+    LogEvent {
+        asked: EventKind::GetState,
         is_plain: true,
         length: 1,
-        answer: Answer::Bytes {
+        answer: Response::Bytes {
             count: 1,
             first: state,
             fifth: 0,
@@ -150,20 +131,14 @@ const fn told(state: u8) -> Event {
 #[test]
 fn the_first_departure_is_told(rt: HostRuntime) {
     assert!(rt; first_departure(&[]).is_none());
-    let kept = [
-        mark(Asked::Power),
-        told(2),
-        told(2),
-        mark(Asked::Reset),
-        told(0),
-    ];
+    let kept = [POWER, told(2), told(2), RESET, told(0)];
     assert!(rt; first_departure(&kept).is_none());
-    let departs = [mark(Asked::Power), told(2), told(9), told(5)];
+    let departs = [POWER, told(2), told(9), told(5)];
     let first = first_departure(&departs);
     assert!(rt; first.is_some());
     if let Some((number, departure)) = first {
         assert_eq!(rt; number, 2);
-        assert_eq!(rt; departure.before, at(&[Place::DfuIdle]));
+        assert_eq!(rt; departure.before, at(&[StandardState::DfuIdle]));
         assert_eq!(rt; departure.event, told(9));
     }
 }

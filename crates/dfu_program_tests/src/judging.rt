@@ -9,7 +9,7 @@ mod walker;
 mod ways;
 mod wrong_rows;
 
-use dfu_conformance::{Answer, Asked, Event};
+use dfu_conformance::{EventKind, LogEvent, Response, StandardState};
 use dfu_wire::Setup;
 
 /// GETSTATUS as section 3 has it.
@@ -32,45 +32,37 @@ pub(crate) static REQUESTS: [[u8; 8]; 9] = [
     [0x21, 9, 0, 0, 0, 0, 0, 0],
 ];
 
-/// A reset of the bus.
-pub(crate) const RESET: Event = Event {
-    asked: Asked::Reset,
-    is_plain: true,
-    length: 0,
-    answer: Answer::Bytes {
-        count: 0,
-        first: 0,
-        fifth: 0,
-    },
-};
-
-/// Power that comes back.
-pub(crate) const POWER: Event = Event {
-    asked: Asked::Power,
-    is_plain: true,
-    length: 0,
-    answer: Answer::Bytes {
-        count: 0,
-        first: 0,
-        fifth: 0,
-    },
-};
-
 /// An acknowledgement, or no bytes.
-pub(crate) const ACK: Answer = Answer::Bytes {
+pub(crate) const ACK: Response = Response::Bytes {
     count: 0,
     first: 0,
     fifth: 0,
 };
 
+/// A reset of the bus.
+pub(crate) const RESET: LogEvent = LogEvent {
+    asked: EventKind::Reset,
+    is_plain: true,
+    length: 0,
+    answer: ACK,
+};
+
+/// Power that comes back.
+pub(crate) const POWER: LogEvent = LogEvent {
+    asked: EventKind::Power,
+    is_plain: true,
+    length: 0,
+    answer: ACK,
+};
+
 /// What is seen of these bytes.
-pub(crate) fn bytes(out: &[u8]) -> Answer {
+pub(crate) fn bytes(out: &[u8]) -> Response {
     let count = if out.len() < 70_000 {
         out.len() as u32
     } else {
         70_000
     };
-    Answer::Bytes {
+    Response::Bytes {
         count,
         first: match out.first() {
             Some(byte) => *byte,
@@ -84,8 +76,8 @@ pub(crate) fn bytes(out: &[u8]) -> Answer {
 }
 
 /// A status with this code and this state.
-pub(crate) fn status(code: u8, state: u8) -> Answer {
-    Answer::Bytes {
+pub(crate) fn status(code: u8, state: u8) -> Response {
+    Response::Bytes {
         count: 6,
         first: code,
         fifth: state,
@@ -93,8 +85,8 @@ pub(crate) fn status(code: u8, state: u8) -> Answer {
 }
 
 /// A state.
-pub(crate) fn state(state: u8) -> Answer {
-    Answer::Bytes {
+pub(crate) fn state(state: u8) -> Response {
+    Response::Bytes {
         count: 1,
         first: state,
         fifth: 0,
@@ -102,12 +94,23 @@ pub(crate) fn state(state: u8) -> Answer {
 }
 
 /// A request with a whole body and its answer.
-pub(crate) fn asked(bytes: &[u8; 8], answer: Answer) -> Option<Event> {
+pub(crate) fn asked(bytes: &[u8; 8], answer: Response) -> Option<LogEvent> {
     let setup = Setup::decode(bytes);
     let body = if setup.kind == 0x21 {
         setup.length as usize
     } else {
         0
     };
-    Event::exchange(&setup, body, answer)
+    LogEvent::exchange(&setup, body, answer)
+}
+
+/// By place, where a device may be that is at one of these.
+pub(crate) fn at(places: &[StandardState]) -> [bool; 12] {
+    let mut at = [false; 12];
+    for place in places {
+        if let Some(slot) = at.get_mut(place.number()) {
+            *slot = true;
+        }
+    }
+    at
 }

@@ -12,7 +12,11 @@ mod images;
 #[cfg(test)]
 mod judging;
 #[cfg(test)]
+mod known_files;
+#[cfg(test)]
 mod output;
+#[cfg(test)]
+mod readers;
 #[cfg(test)]
 mod suffix;
 #[cfg(test)]

@@ -3,10 +3,10 @@ use Rattle.std.proofs.Common.{◌≡◌, ◌⊎◌, inl, inr, ℕ, Bool, true, L
 use Rattle.dfu_slots.specs.Image.{Active}
 use Rattle.dfu_slots.specs.Seen.{SlotsState, image_of}
 use Rattle.dfu_device.specs.Setting.{Setting}
-use Rattle.dfu_device.specs.Shown.{profile}
+use Rattle.dfu_device.specs.DeviceView.{profile}
 use Rattle.dfu_sim.specs.declared.fault.LinkFault.{LinkFault}
 use Rattle.dfu_sim.specs.Happening.{Happening, Offers, Uploads, Aborts, Goes, Passes, Resets, Cuts, Refuses}
-use Rattle.dfu_sim.specs.Bench.{Bench, LinkState}
+use Rattle.dfu_sim.specs.LinkView.{LinkView, WorldView}
 use Rattle.dfu_sim.specs.Play.{Answered}
 use Rattle.dfu_sim.specs.Bytes.{link_of}
 use Rattle.dfu_sim.specs.Comes.{Means, Comes, refuses, happens, HasCome}
@@ -17,13 +17,13 @@ use Rattle.dfu_sim.proofs.Placed.{play_placed}
 use Rattle.dfu_sim.proofs.Projected.{bytes_show}
 
 -- The image stays on a bench; or it is what waited, none waits then, and what happened may put one in place.
-abbrev OnBench : Happening → Bench → Bench → Type 0
+abbrev OnBench : Happening → LinkView → LinkView → Type 0
 OnBench h b b' = (image_of b'.device.slots ≡ image_of b.device.slots)
     ⊎ (MayPlace h × IsWaiting b.device.stage (image_of b'.device.slots) × IsFree b'.device.stage)
 
 -- An event puts an image in place only if what its caller names may.
 may_as : (s : Setting) (h e : Happening) → Means s h e → MayPlace e → MayPlace h
-may_as s (Offers aim file limits) e m may = subst MayPlace m.2 may
+may_as s (Offers purpose file limits) e m may = subst MayPlace m.2 may
 may_as s (Uploads limits) e m may = subst MayPlace m.1 may
 may_as s Aborts e m may = subst MayPlace m may
 may_as s (Goes fate harm) e m may = tt
@@ -32,7 +32,7 @@ may_as s Resets e m may = subst MayPlace m may
 may_as s Cuts e m may = subst MayPlace m may
 may_as s (Refuses why) e m may = subst MayPlace m may
 
-comes_placed : (h : Happening) (b b' : Bench) (told : Result Answered LinkFault) → Comes b h b' told → OnBench h b b'
+comes_placed : (h : Happening) (b b' : LinkView) (told : Result Answered LinkFault) → Comes b h b' told → OnBench h b b'
 comes_placed h b b' told (refuses why) = inl refl
 comes_placed h b b' told (happens {event = e} {answer = answer} means play) =
     elim (play_placed (profile b.device) (link_of b) (link_of b') e answer (bytes_show b b' e answer play).play) [
@@ -40,7 +40,7 @@ comes_placed h b b' told (happens {event = e} {answer = answer} means play) =
       | inr placed ↦ inr (may_as b.device.config h e means placed.0, placed.1, placed.2)
     ]
 
-step_accepts : (check : List ℕ → Bool) (w : LinkState) (s : LinkStep) → HasCome w s.happening s.after s.told → HeedsStep check w s
+step_accepts : (check : List ℕ → Bool) (w : WorldView) (s : LinkStep) → HasCome w s.happening s.after s.told → HeedsStep check w s
     → (image_on s.after ≡ image_on w) ⊎ (check (image_on s.after) ≡ true)
 step_accepts check w s come heeds = elim (comes_placed s.happening w.bench s.after.bench come.answer come.comes) [
   | inl same ↦ inl same

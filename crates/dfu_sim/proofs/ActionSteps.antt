@@ -8,10 +8,10 @@ use Rattle.dfu_host.specs.Table.{deed, host_row, goal_after_reset}
 use Rattle.dfu_host.specs.Host.{HostState, IsOn}
 use Rattle.dfu_sim.specs.Session.{Machine, Live, Loading, IsFirst, SaysInPlace, Begins, begins_not, takes, installs, MayDrop, ends_not, drops, Kind, AGo, MachineStep, goes}
 use Rattle.dfu_sim.specs.Happening.{Fate}
-use Rattle.dfu_sim.specs.Course.{Course, course_of}
+use Rattle.dfu_sim.specs.Delivery.{Delivery, delivery_of}
 use Rattle.dfu_sim.specs.Opening.{task_for}
 use Rattle.dfu_sim.specs.Play.{Link, given, Played, Passed, acted, gone}
-use Rattle.dfu_sim.specs.Bench.{Hosted}
+use Rattle.dfu_sim.specs.LinkView.{Hosted}
 use Rattle.dfu_sim.specs.LinkAgreement.{pending_of, IsSound}
 use Rattle.dfu_sim.specs.Agreement.{live_goal, live_of, IsLiveOffer}
 use Rattle.dfu_sim.specs.Fact.{GoalFact, HasBlocks, HostFact, SessionFact}
@@ -79,29 +79,29 @@ module _ (c : Profile) (sized : 0 < c.transfer) (offers : List (List ℕ)) where
     next = if_heard d.heard (λ heard. goal_stays c g f d.device phase heard) q.next;
   }
 
-  comes : (s : Situation) (g : Goal) (phase : Phase) (up : List ℕ) (course : Course) (l k : Luck) → IsSound offers s.stage
+  comes : (s : Situation) (g : Goal) (phase : Phase) (up : List ℕ) (delivery : Delivery) (l k : Luck) → IsSound offers s.stage
       → IsLiveOffer offers (live_goal g) → IsOn phase → GoalFact c g phase s → HasBlocks c g
-      → Comes g phase s up (acted c s (deed (task_for c g) phase) course l k)
-  comes s (ToLoad p) phase up course l k q o on f some =
-      let d = acted c s (deed (task_for c (ToLoad p)) phase) course l k in
-      let x = go_download c offers p some sized phase s on f q o course l k in
+      → Comes g phase s up (acted c s (deed (task_for c g) phase) delivery l k)
+  comes s (ToLoad p) phase up delivery l k q o on f some =
+      let d = acted c s (deed (task_for c (ToLoad p)) phase) delivery l k in
+      let x = go_download c offers p some sized phase s on f q o delivery l k in
       record {
         moves = moved up x.moves;
         sound = x.sound;
         next = if_heard d.heard (λ heard. goal_stays c (ToLoad p) (λ x y h. h) d.device phase heard) x.next;
       }
-  comes s ToFetch phase up course l k q o on f some =
-      comes_quietly ToFetch phase s up _ (λ x y h. h) (go_upload c offers phase s on f q course l k)
-  comes s (ToVerify p) phase up course l k q o on f some =
-      let d = acted c s (deed (task_for c (ToLoad p)) phase) course l k in
-      let x = go_download c offers p some sized phase s on f q o course l k in
-      subst (λ (z : Deed). Comes (ToVerify p) phase s up (acted c s z course l k)) (sym (same_deed c p phase)) (record {
+  comes s ToFetch phase up delivery l k q o on f some =
+      comes_quietly ToFetch phase s up _ (λ x y h. h) (go_upload c offers phase s on f q delivery l k)
+  comes s (ToVerify p) phase up delivery l k q o on f some =
+      let d = acted c s (deed (task_for c (ToLoad p)) phase) delivery l k in
+      let x = go_download c offers p some sized phase s on f q o delivery l k in
+      subst (λ (z : Deed). Comes (ToVerify p) phase s up (acted c s z delivery l k)) (sym (same_deed c p phase)) (record {
         moves = moved up x.moves;
         sound = x.sound;
         next = if_heard d.heard (λ heard. verify_next c p d.device phase heard) x.next;
       })
-  comes s (ToCompare p) phase up course l k q o on f some =
-      comes_quietly (ToCompare p) phase s up _ (λ x y h. h) (go_compare c offers p some sized phase s on f q course l k)
+  comes s (ToCompare p) phase up delivery l k q o on f some =
+      comes_quietly (ToCompare p) phase s up _ (λ x y h. h) (go_compare c offers p some sized phase s on f q delivery l k)
 
   goal_simulated : (s : Situation) (g : Goal) (phase : Phase) (left again : ℕ) (up : List ℕ) (fate : Fate) (l k : Luck) (room : Bool)
       → IsSound offers s.stage → IsLiveOffer offers (live_goal g) → IsOn phase → GoalFact c g phase s → HasBlocks c g
@@ -115,8 +115,8 @@ module _ (c : Profile) (sized : 0 < c.transfer) (offers : List (List ℕ)) where
         });
       } in Simulated c offers w up AGo (gone c w w.session fate l k room) offers
   goal_simulated s g phase left again up fate l k room q o on f some =
-      let d = acted c s (deed (task_for c g) phase) (course_of fate) l k in
-      let x = comes s g phase up (course_of fate) l k q o on f some in
+      let d = acted c s (deed (task_for c g) phase) (delivery_of fate) l k in
+      let x = comes s g phase up (delivery_of fate) l k q o on f some in
       let t = goal_taken c offers g s d.device up phase left again room d.heard on o some f x.next in
       record { step = goes x.moves.first_part x.moves.last_part t.says; sound = x.sound; offer = t.offer; fact = t.fact; done = t.done }
 

@@ -14,17 +14,17 @@ use Rattle.dfu_device.specs.declared.objection.Objection.{Objection}
 use Rattle.dfu_device.specs.Stage.{Profile, Reply}
 use Rattle.dfu_device.specs.Table.{Plan, error, plan, objection_code}
 use Rattle.dfu_device.specs.Outcome.{Situation, Luck, Works, Outcome, outcome, handled, elapsed}
-use Rattle.dfu_device.specs.Shown.{Shown, profile, situation}
+use Rattle.dfu_device.specs.DeviceView.{DeviceView, profile, situation}
 use Rattle.dfu_device.specs.Rows.{meant, asked_length, Answers, Done as RowDone, is_close, IsCloseSetup, ClosesDownload, Handles}
 use Rattle.dfu_device.specs.Came.{Came, came, row_of, time_came}
 use Rattle.dfu_host.specs.Phases.{Deed, Send, Wait, Reset, Done, Heard, Waited, WasReset}
 use Rattle.dfu_host.specs.Wire.{IsAsked}
-use Rattle.dfu_sim.specs.declared.back.Back.{Back}
-use Rattle.dfu_sim.specs.declared.course.Handling.{Handling}
-use Rattle.dfu_sim.specs.declared.course.Handling.TheVariants.{Late}
-use Rattle.dfu_sim.specs.declared.course.Harming.{Harming}
-use Rattle.dfu_sim.specs.declared.course.Harming.TheVariants.{CutsPower}
-use Rattle.dfu_sim.specs.Course.{Course}
+use Rattle.dfu_sim.specs.declared.response.Response.{Response}
+use Rattle.dfu_sim.specs.declared.delivery.Handled.{Handled}
+use Rattle.dfu_sim.specs.declared.delivery.Handled.TheVariants.{Late}
+use Rattle.dfu_sim.specs.declared.delivery.MediumFault.{MediumFault}
+use Rattle.dfu_sim.specs.declared.delivery.MediumFault.TheVariants.{CutsPower}
+use Rattle.dfu_sim.specs.Delivery.{Delivery}
 use Rattle.dfu_sim.specs.Play.{heard_as, remembered, reached, heard_back, heard_over, over, waits_for, slipped, plan_by, acted}
 use Rattle.dfu_sim.specs.Bytes.{armed, bus_was_reset, HearsAnswer, HearsBack, TakesSetup, ReachesDevice, unseen, once, again, late, came_back, ended_back, Sends, Waits, Slips, ResetsBus, Acts}
 use Rattle.dfu_sim.proofs.Fates.{all_remembered}
@@ -32,31 +32,32 @@ use Rattle.dfu_sim.proofs.Replies.{IsHosts, HostsDeed, plan_heard, served}
 use Rattle.dfu_sim.proofs.Closing.{by_table, by_objection, host_closes, host_open}
 
 -- The fuse of the medium is no part of what is shown.
-pub armed_profile : (w : Shown) (fuse : Fuse) → profile (armed w fuse) ≡ profile w
+pub armed_profile : (w : DeviceView) (fuse : Fuse) → profile (armed w fuse) ≡ profile w
 armed_profile w fuse = λ k. record (profile w) { capacity = room_fused w.slots fuse k }
 
 -- A medium that is armed leaves a device's situation as it is.
-pub armed_situation : (w : Shown) (fuse : Fuse) → situation (armed w fuse) ≡ situation w
+pub armed_situation : (w : DeviceView) (fuse : Fuse) → situation (armed w fuse) ≡ situation w
 armed_situation w fuse = λ k. record { image = image_fused w.slots fuse k; stage = w.stage }
 
 -- What a device went through is what its situation goes through by the table; with a medium that is not armed, at the luck that it works.
-pub record Went (fuse : Fuse) (c : Profile) (s : Situation) (d : Deed) (course : Course) (w' : Shown) (heard : Heard) : Type 0 where
+pub record Went (fuse : Fuse) (c : Profile) (s : Situation) (d : Deed) (delivery : Delivery) (w' : DeviceView) (heard : Heard)
+    : Type 0 where
   pub first : Luck
   pub second : Luck
   pub room : Bool
-  pub device : (acted c s d course first second).device ≡ over course.harming (situation w')
-  pub hears : heard ≡ remembered (acted c s d course first second).heard room
+  pub device : (acted c s d delivery first second).device ≡ over delivery.harming (situation w')
+  pub hears : heard ≡ remembered (acted c s d delivery first second).heard room
   pub fixed : profile w' ≡ c
   pub lucky : fuse ≡ Whole → (first ≡ Works) × (second ≡ Works)
 
 -- What comes back is heard, or nothing, or the restart.
-heard_by_course : (d : Deed) (harming : Harming) (back : Bool) (came : Back) (out : List ℕ) (heard x : Heard)
+heard_by_delivery : (d : Deed) (harming : MediumFault) (back : Bool) (came : Response) (out : List ℕ) (heard x : Heard)
     → ((h : Heard) → HearsBack d came out h → (room : Bool) × (h ≡ remembered x room))
     → HearsBack d (ended_back harming (came_back back came)) out heard
     → (room : Bool) × (heard ≡ remembered (heard_over harming (heard_back back x)) room)
-heard_by_course d CutsPower back came out heard x f h = (true, h)
-heard_by_course d harming true came out heard x f h = f heard h
-heard_by_course d harming false came out heard x f h = (true, h)
+heard_by_delivery d CutsPower back came out heard x f h = (true, h)
+heard_by_delivery d harming true came out heard x f h = f heard h
+heard_by_delivery d harming false came out heard x f h = (true, h)
 
 -- A setup that closes a download asks for a DNLOAD of no bytes, whatever it is read as.
 close_read : (setup : List ℕ) (p : Setup) (q : Asked) → IsSetup p setup → Asks p q → IsCloseSetup setup → is_close q ≡ true
@@ -65,29 +66,29 @@ close_read setup p q reads asks (p2, q2, reads2, asks2, close) =
     subst (λ (r : Asked). is_close r ≡ true) (Asks-one p q2 q (subst (λ (x : Setup). Asks x q2) same asks2) asks) close
 
 -- The plan of a request on a device whose program refuses the image that it closes, or refuses none.
-abbrev pub plan_on : Asked → (body : List ℕ) → Option Objection → Shown → Plan
+abbrev pub plan_on : Asked → (body : List ℕ) → Option Objection → DeviceView → Plan
 plan_on q body x w = plan_by x (profile w) (image_of w.slots) w.stage (meant q body)
 
 module _ (q : Asked) (setup body : List ℕ) (is : IsHosts q body) (asked : IsAsked q setup) where
-  closed_plan : (why : Objection) (w : Shown) → ClosesDownload setup w → plan_on q body (Some why) w ≡ error (objection_code why)
+  closed_plan : (why : Objection) (w : DeviceView) → ClosesDownload setup w → plan_on q body (Some why) w ≡ error (objection_code why)
   closed_plan why w (close, may) =
       by_objection why (profile w) (image_of w.slots) w.stage (meant q body)
       (host_closes q body w.config.least w.stage is (close_read setup asked.setup q asked.fields asked.asks close) may)
 
-  open_plan : (why : Objection) (w : Shown) → (ClosesDownload setup w → ⊥)
+  open_plan : (why : Objection) (w : DeviceView) → (ClosesDownload setup w → ⊥)
       → plan_on q body (Some why) w ≡ plan (profile w) (image_of w.slots) w.stage (meant q body)
   open_plan why w other =
       by_table (Some why) (profile w) (image_of w.slots) w.stage (meant q body)
       (host_open q body w.config.least w.stage is (λ close may. other ((asked.setup, q, asked.fields, asked.asks, close), may)))
 
   -- A request goes by its plan, whatever bytes ask for it.
-  goes_by : (w w' : Shown) (a : Answer) (out : List ℕ) → Handles setup body w a out w'
+  goes_by : (w w' : DeviceView) (a : Answer) (out : List ℕ) → Handles setup body w a out w'
       → RowDone (plan (profile w) (image_of w.slots) w.stage (meant q body)) (asked_length q) w a out w'
   goes_by w w' a out h =
       rw (served asked.setup q body is asked.asks) at (row_of asked.setup q setup body w a out w' asked.fields asked.asks h)
 
   -- And so does one that the program of the device may refuse.
-  pub takes_by : (x : Option Objection) (w w' : Shown) (a : Answer) (out : List ℕ) → TakesSetup x setup body w a out w'
+  pub takes_by : (x : Option Objection) (w w' : DeviceView) (a : Answer) (out : List ℕ) → TakesSetup x setup body w a out w'
       → RowDone (plan_on q body x w) (asked_length q) w a out w'
   takes_by None w w' a out h = goes_by w w' a out h
   takes_by (Some why) w w' a out (inl (stalls, none, closing, same)) =
@@ -95,12 +96,12 @@ module _ (q : Asked) (setup body : List ℕ) (is : IsHosts q body) (asked : IsAs
   takes_by (Some why) w w' a out (inr (other, h)) =
       subst (λ (p : Plan). RowDone p (asked_length q) w a out w') (sym (open_plan why w other)) (goes_by w w' a out h)
 
-  takes_came : (x : Option Objection) (w w' : Shown) (a : Answer) (out : List ℕ) → TakesSetup x setup body w a out w'
+  takes_came : (x : Option Objection) (w w' : DeviceView) (a : Answer) (out : List ℕ) → TakesSetup x setup body w a out w'
       → Came (plan_on q body x w) (asked_length q) w a out w'
   takes_came x w w' a out h = came (plan_on q body x w) (asked_length q) w a out w' (takes_by x w w' a out h)
 
   -- What was heard of a row.
-  heard_by : (x : Option Objection) (w w' : Shown) (a : Answer) (out : List ℕ) (heard : Heard)
+  heard_by : (x : Option Objection) (w w' : DeviceView) (a : Answer) (out : List ℕ) (heard : Heard)
       (y : Came (plan_on q body x w) (asked_length q) w a out w')
       → HearsAnswer (Send q body) a out heard
       → (room : Bool) × (heard ≡ remembered (heard_as (outcome (image_of w.slots) (plan_on q body x w) y.luck).reply) room)
@@ -109,7 +110,7 @@ module _ (q : Asked) (setup body : List ℕ) (is : IsHosts q body) (asked : IsAs
       (subst (λ (r : Reply). Answers (asked_length q) r a out) (sym (ap (λ (o : Outcome). o.reply) y.same)) y.answers) h
 
   -- What a device makes of a request is what its situation makes of it.
-  record Arrives (x : Option Objection) (w w' : Shown) (how : Handling) (came : Back) (out : List ℕ) : Type 0 where
+  record Arrives (x : Option Objection) (w w' : DeviceView) (how : Handled) (came : Response) (out : List ℕ) : Type 0 where
     first : Luck
     second : Luck
     device : (reached (profile w) (situation w) (meant q body) (plan_on q body x w) how first second).device ≡ situation w'
@@ -118,7 +119,7 @@ module _ (q : Asked) (setup body : List ℕ) (is : IsHosts q body) (asked : IsAs
     fixed : profile w' ≡ profile w
     lucky : w.slots.medium.fuse ≡ Whole → (first ≡ Works) × (second ≡ Works)
 
-  reaches_go : {x : Option Objection} {w w' : Shown} {how : Handling} {came : Back} {out : List ℕ}
+  reaches_go : {x : Option Objection} {w w' : DeviceView} {how : Handled} {came : Response} {out : List ℕ}
       → ReachesDevice x setup body how w came out w' → Arrives x w w' how came out
   reaches_go unseen = record {
     first = Works;
@@ -165,63 +166,63 @@ module _ (q : Asked) (setup body : List ℕ) (is : IsHosts q body) (asked : IsAs
         lucky = λ e. let k = y.unarmed e in (k.0, (z.unarmed k.1).0);
       }
 
-  sends_go : (course : Course) (w w' : Shown) (heard : Heard) → Sends q setup body course w w' heard
-      → Went w.slots.medium.fuse (profile w) (situation w) (Send q body) course w' heard
-  sends_go course w w' heard s =
+  sends_go : (delivery : Delivery) (w w' : DeviceView) (heard : Heard) → Sends q setup body delivery w w' heard
+      → Went w.slots.medium.fuse (profile w) (situation w) (Send q body) delivery w' heard
+  sends_go delivery w w' heard s =
       let x = reaches_go s.reaches in
-      let h = heard_by_course (Send q body) course.harming course.back s.came s.out heard _ x.hears s.hears in
+      let h = heard_by_delivery (Send q body) delivery.harming delivery.back s.came s.out heard _ x.hears s.hears in
       record {
         first = x.first;
         second = x.second;
         room = h.0;
-        device = ap (over course.harming) x.device;
+        device = ap (over delivery.harming) x.device;
         hears = h.1;
         fixed = x.fixed;
         lucky = x.lucky;
       }
 
-waits_go : (ms : ℕ) (course : Course) (w w' : Shown) (heard : Heard) → Waits ms course w w' heard
-    → Went w.slots.medium.fuse (profile w) (situation w) (Wait ms) course w' heard
-waits_go ms course w w' heard (e, h) = let y = time_came (waits_for course.handling ms) w w' e in
+waits_go : (ms : ℕ) (delivery : Delivery) (w w' : DeviceView) (heard : Heard) → Waits ms delivery w w' heard
+    → Went w.slots.medium.fuse (profile w) (situation w) (Wait ms) delivery w' heard
+waits_go ms delivery w w' heard (e, h) = let y = time_came (waits_for delivery.handling ms) w w' e in
     record {
       first = y.luck;
       second = Works;
       room = true;
-      device = ap (λ (o : Outcome). over course.harming o.after) y.same;
-      hears = h ∙ all_remembered (heard_over course.harming Waited);
+      device = ap (λ (o : Outcome). over delivery.harming o.after) y.same;
+      hears = h ∙ all_remembered (heard_over delivery.harming Waited);
       fixed = y.fixed;
       lucky = λ whole. ((y.unarmed whole).0, refl);
     }
 
 -- The time that slips in.
-record Slid (fuse : Fuse) (c : Profile) (s : Situation) (how : Handling) (w' : Shown) : Type 0 where
+record Slid (fuse : Fuse) (c : Profile) (s : Situation) (how : Handled) (w' : DeviceView) : Type 0 where
   luck : Luck
   device : slipped c s how luck ≡ situation w'
   fixed : profile w' ≡ c
   lucky : fuse ≡ Whole → luck ≡ Works
 
-slips_go : (how : Handling) (w w' : Shown) → Slips how w w' → Slid w.slots.medium.fuse (profile w) (situation w) how w'
+slips_go : (how : Handled) (w w' : DeviceView) → Slips how w w' → Slid w.slots.medium.fuse (profile w) (situation w) how w'
 slips_go (Late ms) w w' e = let y = time_came ms w w' e in
     record { luck = y.luck; device = ap (λ (o : Outcome). o.after) y.same; fixed = y.fixed; lucky = λ whole. (y.unarmed whole).0 }
 slips_go how w w' e = record { luck = Works; device = sym (ap situation e); fixed = ap profile e; lucky = λ whole. refl }
 
-resets_go : (course : Course) (w w' : Shown) (heard : Heard) → ResetsBus course w w' heard
-    → Went w.slots.medium.fuse (profile w) (situation w) Reset course w' heard
-resets_go course w w' heard (e, h) = let y = slips_go course.handling (bus_was_reset w) w' e in
+resets_go : (delivery : Delivery) (w w' : DeviceView) (heard : Heard) → ResetsBus delivery w w' heard
+    → Went w.slots.medium.fuse (profile w) (situation w) Reset delivery w' heard
+resets_go delivery w w' heard (e, h) = let y = slips_go delivery.handling (bus_was_reset w) w' e in
     record {
       first = y.luck;
       second = Works;
       room = true;
-      device = ap (over course.harming) y.device;
-      hears = h ∙ all_remembered (heard_over course.harming WasReset);
+      device = ap (over delivery.harming) y.device;
+      hears = h ∙ all_remembered (heard_over delivery.harming WasReset);
       fixed = y.fixed;
       lucky = λ whole. (y.lucky whole, refl);
     }
 
--- An action with its bytes goes as the table of its course has it.
-pub acts_go : (d : Deed) (course : Course) (w w' : Shown) (heard : Heard) → HostsDeed d → Acts d course w w' heard
-    → Went w.slots.medium.fuse (profile w) (situation w) d course w' heard
-acts_go (Send q body) course w w' heard is (setup, asked, h) = sends_go q setup body is asked course w w' heard h
-acts_go (Wait ms) course w w' heard is h = waits_go ms course w w' heard h
-acts_go Reset course w w' heard is h = resets_go course w w' heard h
-acts_go (Done report) course w w' heard is h = elim h [ ]
+-- An action with its bytes goes as the table of its delivery has it.
+pub acts_go : (d : Deed) (delivery : Delivery) (w w' : DeviceView) (heard : Heard) → HostsDeed d → Acts d delivery w w' heard
+    → Went w.slots.medium.fuse (profile w) (situation w) d delivery w' heard
+acts_go (Send q body) delivery w w' heard is (setup, asked, h) = sends_go q setup body is asked delivery w w' heard h
+acts_go (Wait ms) delivery w w' heard is h = waits_go ms delivery w w' heard h
+acts_go Reset delivery w w' heard is h = resets_go delivery w w' heard h
+acts_go (Done report) delivery w w' heard is h = elim h [ ]

@@ -6,7 +6,7 @@ use Rattle.dfu_device.specs.Stage.{Stage, InManifestSync, InManifest}
 use Rattle.dfu_host.specs.Phases.{Goal, ToLoad, ToFetch, ToVerify, ToCompare}
 use Rattle.dfu_sim.specs.Session.{Machine, IsOneOf}
 use Rattle.dfu_sim.specs.Play.{Link}
-use Rattle.dfu_sim.specs.Bench.{Session, Nobody, Hosted, Bench}
+use Rattle.dfu_sim.specs.LinkView.{Session, Nobody, Hosted, LinkView}
 use Rattle.dfu_sim.specs.LinkAgreement.{IsSound, Agrees, NothingClosed, SomeAgrees, FreshAgrees, LinkAgreesOn}
 use Rattle.dfu_sim.specs.Agreement.{intake_of, pending_in, live_goal, live_of, IsShutOffer, IsLiveOffer, AgreesOn}
 use Rattle.dfu_sim.specs.Bytes.{link_of}
@@ -112,7 +112,7 @@ agrees_on b up m shows agrees = record {
 }
 
 -- Where a bench agrees, its link does: no image but the one that is shown is active.
-pub link_agrees : ImageShown → (b : Bench) (up : List ℕ) (m : Machine) → AgreesOn b up m → Agrees (link_of b) up m
+pub link_agrees : ImageShown → (b : LinkView) (up : List ℕ) (m : Machine) → AgreesOn b up m → Agrees (link_of b) up m
 link_agrees shown b up m agrees = record {
   cur = (shown b).1 m.cur agrees.active;
   pending = agrees.pending;

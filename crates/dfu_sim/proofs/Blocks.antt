@@ -11,11 +11,11 @@ use Rattle.dfu_host.specs.BlockLaws.{first_suc, full_block}
 use Rattle.dfu_host.specs.Phases.{ToLoad, Phase, Block, Ask, Close, AskLast, Nothing}
 use Rattle.dfu_host.specs.Table.{host_row}
 use Rattle.dfu_sim.specs.Session.{IsOneOf, IsFirst}
-use Rattle.dfu_sim.specs.declared.course.Handling.{Handling}
-use Rattle.dfu_sim.specs.declared.course.Handling.TheVariants.{Unseen, Again}
-use Rattle.dfu_sim.specs.declared.course.Harming.{Harming}
-use Rattle.dfu_sim.specs.declared.course.Harming.TheVariants.{CutsPower}
-use Rattle.dfu_sim.specs.Course.{Course}
+use Rattle.dfu_sim.specs.declared.delivery.Handled.{Handled}
+use Rattle.dfu_sim.specs.declared.delivery.Handled.TheVariants.{Unseen, Again}
+use Rattle.dfu_sim.specs.declared.delivery.MediumFault.{MediumFault}
+use Rattle.dfu_sim.specs.declared.delivery.MediumFault.TheVariants.{CutsPower}
+use Rattle.dfu_sim.specs.Delivery.{Delivery}
 use Rattle.dfu_sim.specs.Opening.{task_for}
 use Rattle.dfu_sim.specs.Play.{Passed, reached, heard_back, ends_by, sent_by, sent}
 use Rattle.dfu_sim.specs.LinkAgreement.{pending_of, IsSound}
@@ -37,7 +37,7 @@ pub is_one : (offers : List (List ℕ)) {x y : List ℕ} → x ≡ y → IsOneOf
 is_one offers e h = subst (λ z. IsOneOf z offers) (sym e) h
 
 module _ (c : Profile) (offers : List (List ℕ)) (p : List ℕ) where
-  -- A request of this phase goes well by its course: the image and the pending bytes move as they may, bytes that were closed stay an
+  -- A request of this phase goes well by its delivery: the image and the pending bytes move as they may, bytes that were closed stay an
   -- offer, and the fact of the next phase holds.
   pub record GoesWell (phase : Phase) (s : Situation) (d : Passed) : Type 0 where
     pub moves : ImageMoves offers p c.transfer s.image (pending_of s.stage) d.device.image (pending_of d.device.stage)
@@ -57,27 +57,27 @@ module _ (c : Profile) (offers : List (List ℕ)) (p : List ℕ) where
   cut_moves (takes_block n more b f e) = loses_block n more b f e
   cut_moves (loses_block n more b f e) = loses_block n more b f e
 
-  ended_well : (phase : Phase) (s : Situation) (harming : Harming) (d : Passed)
+  ended_well : (phase : Phase) (s : Situation) (harming : MediumFault) (d : Passed)
       → ImageMoves offers p c.transfer s.image (pending_of s.stage) d.device.image (pending_of d.device.stage)
       → IsSound offers d.device.stage
       → Fact c p (host_row (task_for c (ToLoad p)) phase d.heard) d.device → GoesWell phase s (ends_by harming d)
   ended_well phase s CutsPower d m h n = record { moves = cut_moves m; sound = tt; next = tt }
   ended_well phase s harming d m h n = record { moves = m; sound = h; next = if_some d.heard _ n }
 
-  goes_well : (phase : Phase) (s : Situation) (harming : Harming) (back : Bool) (d : Passed) → Reached phase s d
+  goes_well : (phase : Phase) (s : Situation) (harming : MediumFault) (back : Bool) (d : Passed) → Reached phase s d
       → GoesWell phase s (ends_by harming (record { device = d.device; heard = heard_back back d.heard }))
   goes_well phase s harming true d r = ended_well phase s harming d r.moves r.sound r.next
   goes_well phase s harming false d r =
       ended_well phase s harming (record { device = d.device; heard = Nothing }) r.moves r.sound r.lost
 
   block_fault : (n num : ℕ) (body : List ℕ) (s : Situation) (code : Code) → n < length (blocks p c.transfer) → Fact c p (Ask n) s
-      → IsSound offers s.stage → (how : Handling) (l k : Luck) → Reached (Block n) s (reached c s (Dnload num body) (error code) how l k)
+      → IsSound offers s.stage → (how : Handled) (l k : Luck) → Reached (Block n) s (reached c s (Dnload num body) (error code) how l k)
   block_fault n num body s code b a h Unseen l k = record { moves = quietly stays; sound = h; next = a; lost = a }
   block_fault n num body s code b a h how l k = record { moves = quietly forgets; sound = tt; next = tt; lost = (b, tt) }
 
   block_taken : (n num : ℕ) (before body : List ℕ) (number : ℕ) (s : Situation) → n < length (blocks p c.transfer) → Fact c p (Ask n) s
       → IsSound offers s.stage → IsFirst p c.transfer n (pending_of s.stage) → before ++ body ≡ first p c.transfer (suc n)
-      → (how : Handling) (l k : Luck) → Reached (Block n) s
+      → (how : Handled) (l k : Luck) → Reached (Block n) s
       (reached c s (Dnload num body) (Sure Ack (InDownloadSync before body number)) how l k)
   block_taken n num before body number s b a h f e Unseen l k = record { moves = quietly stays; sound = h; next = a; lost = a }
   block_taken n num before body number s b a h f e Again l k =
@@ -85,12 +85,12 @@ module _ (c : Profile) (offers : List (List ℕ)) (p : List ℕ) where
   block_taken n num before body number s b a h f e how l k =
       record { moves = takes_block n _ b f e; sound = tt; next = (b, e); lost = (b, e) }
 
-  close_fault : (num : ℕ) (s : Situation) (code : Code) → Fact c p AskLast s → IsSound offers s.stage → (how : Handling) (l k : Luck)
+  close_fault : (num : ℕ) (s : Situation) (code : Code) → Fact c p AskLast s → IsSound offers s.stage → (how : Handled) (l k : Luck)
       → Reached Close s (reached c s (Dnload num []) (error code) how l k)
   close_fault num s code a h Unseen l k = record { moves = quietly stays; sound = h; next = a; lost = a }
   close_fault num s code a h how l k = record { moves = quietly forgets; sound = tt; next = tt; lost = tt }
 
-  close_taken : (num : ℕ) (image taken : List ℕ) (number : ℕ) → taken ≡ p → IsOneOf taken offers → (how : Handling) (l k : Luck)
+  close_taken : (num : ℕ) (image taken : List ℕ) (number : ℕ) → taken ≡ p → IsOneOf taken offers → (how : Handled) (l k : Luck)
       → let s : Situation = record { image = image; stage = InDownloadIdle taken number } in
       Reached Close s (reached c s (Dnload num []) (Sure Ack (InManifestSync taken)) how l k)
   close_taken num image taken number e o Unseen l k = record { moves = quietly stays; sound = tt; next = e; lost = e }
@@ -129,48 +129,48 @@ module _ (c : Profile) (sized : 0 < c.transfer) (offers : List (List ℕ)) (p : 
   first_body n b e = sym (first_suc p c.transfer n b ∙ ap (λ m. first p c.transfer m ++ slice_index_or (blocks p c.transfer) n []) e)
 
   block_goes : (n : ℕ) (i : List ℕ) (stage : Stage) → n < length (blocks p c.transfer) → AtBlock p c.transfer n stage → IsSound offers stage
-      → (course : Course) (l k : Luck) → let s : Situation = record { image = i; stage = stage } in
+      → (delivery : Delivery) (l k : Luck) → let s : Situation = record { image = i; stage = stage } in
       let r = Dnload (n % 65536) (slice_index_or (blocks p c.transfer) n []) in
-      GoesWell c offers p (Block n) s (sent_by c s r (plan c i stage r) course l k)
-  block_goes n i InDfuIdle b g h course l k =
+      GoesWell c offers p (Block n) s (sent_by c s r (plan c i stage r) delivery l k)
+  block_goes n i InDfuIdle b g h delivery l k =
       let body = slice_index_or (blocks p c.transfer) n [] in
       let s : Situation = record { image = i; stage = InDfuIdle } in
-      let P : Plan → Type 0 = λ q. Reached c offers p (Block n) s (reached c s (Dnload (n % 65536) body) q course.handling l k) in
-      goes_well c offers p (Block n) s course.harming course.back _ (first_cases P c (n % 65536) body
-      (λ code. block_fault c offers p n (n % 65536) body s code b (b, g) h course.handling l k)
-      (block_taken c offers p n (n % 65536) [] body _ s b (b, g) h g (first_body n b g) course.handling l k))
-  block_goes n i (InDownloadIdle taken number) b g h course l k =
+      let P : Plan → Type 0 = λ q. Reached c offers p (Block n) s (reached c s (Dnload (n % 65536) body) q delivery.handling l k) in
+      goes_well c offers p (Block n) s delivery.harming delivery.back _ (first_cases P c (n % 65536) body
+      (λ code. block_fault c offers p n (n % 65536) body s code b (b, g) h delivery.handling l k)
+      (block_taken c offers p n (n % 65536) [] body _ s b (b, g) h g (first_body n b g) delivery.handling l k))
+  block_goes n i (InDownloadIdle taken number) b g h delivery l k =
       let body = slice_index_or (blocks p c.transfer) n [] in
       let s : Situation = record { image = i; stage = InDownloadIdle taken number } in
-      let P : Plan → Type 0 = λ q. Reached c offers p (Block n) s (reached c s (Dnload (n % 65536) body) q course.handling l k) in
-      goes_well c offers p (Block n) s course.harming course.back _
+      let P : Plan → Type 0 = λ q. Reached c offers p (Block n) s (reached c s (Dnload (n % 65536) body) q delivery.handling l k) in
+      goes_well c offers p (Block n) s delivery.harming delivery.back _
       (further_cases P c taken number (n % 65536) body (not_empty _ (full_block p c.transfer n sized b))
-      (λ code. block_fault c offers p n (n % 65536) body s code b (b, g) h course.handling l k)
+      (λ code. block_fault c offers p n (n % 65536) body s code b (b, g) h delivery.handling l k)
       (block_taken c offers p n (n % 65536) taken body _ s b (b, g) h g (ap (λ x. x ++ body) g.1 ∙ sym (first_suc p c.transfer n b))
-      course.handling l k))
-  block_goes n i stage b g h course l k = elim g [ ]
+      delivery.handling l k))
+  block_goes n i stage b g h delivery l k = elim g [ ]
 
-  -- The phase that sends block n goes well by each course.
+  -- The phase that sends block n goes well by each delivery.
   pub go_block : (n : ℕ) (i : List ℕ) (stage : Stage) → n < length (blocks p c.transfer) → AtBlock p c.transfer n stage →
       IsSound offers stage
-      → (course : Course) (l k : Luck) → let s : Situation = record { image = i; stage = stage } in
-      GoesWell c offers p (Block n) s (sent c s (Dnload (n % 65536) (slice_index_or (blocks p c.transfer) n [])) course l k)
-  go_block n i stage b g h course l k =
+      → (delivery : Delivery) (l k : Luck) → let s : Situation = record { image = i; stage = stage } in
+      GoesWell c offers p (Block n) s (sent c s (Dnload (n % 65536) (slice_index_or (blocks p c.transfer) n [])) delivery l k)
+  go_block n i stage b g h delivery l k =
       let s : Situation = record { image = i; stage = stage } in
       let body = slice_index_or (blocks p c.transfer) n [] in
-      subst (λ (x : Plan). GoesWell c offers p (Block n) s (sent_by c s (Dnload (n % 65536) body) x course l k))
-      (sym (by_table course.refusing c i stage (Dnload (n % 65536) body)
+      subst (λ (x : Plan). GoesWell c offers p (Block n) s (sent_by c s (Dnload (n % 65536) body) x delivery l k))
+      (sym (by_table delivery.refusing c i stage (Dnload (n % 65536) body)
       (block_closes c.least stage (n % 65536) body (not_empty body (full_block p c.transfer n sized b)))))
-      (block_goes n i stage b g h course l k)
+      (block_goes n i stage b g h delivery l k)
 
-  -- The phase that closes the download goes well by each course.
+  -- The phase that closes the download goes well by each delivery.
   pub go_close : (num : ℕ) (i : List ℕ) (stage : Stage) → AllTaken p stage → IsSound offers stage → IsOneOf p offers
-      → (course : Course) (l k : Luck) → let s : Situation = record { image = i; stage = stage } in
-      GoesWell c offers p Close s (sent c s (Dnload num []) course l k)
-  go_close num i (InDownloadIdle taken number) w h o course l k =
+      → (delivery : Delivery) (l k : Luck) → let s : Situation = record { image = i; stage = stage } in
+      GoesWell c offers p Close s (sent c s (Dnload num []) delivery l k)
+  go_close num i (InDownloadIdle taken number) w h o delivery l k =
       let s : Situation = record { image = i; stage = InDownloadIdle taken number } in
-      let P : Plan → Type 0 = λ q. Reached c offers p Close s (reached c s (Dnload num []) q course.handling l k) in
-      goes_well c offers p Close s course.harming course.back _ (close_cases P course.refusing c i taken number num
-      (λ code. close_fault c offers p num s code w h course.handling l k)
-      (close_taken c offers p num i taken number w (is_one offers w o) course.handling l k))
-  go_close num i stage w h o course l k = elim w [ ]
+      let P : Plan → Type 0 = λ q. Reached c offers p Close s (reached c s (Dnload num []) q delivery.handling l k) in
+      goes_well c offers p Close s delivery.harming delivery.back _ (close_cases P delivery.refusing c i taken number num
+      (λ code. close_fault c offers p num s code w h delivery.handling l k)
+      (close_taken c offers p num i taken number w (is_one offers w o) delivery.handling l k))
+  go_close num i stage w h o delivery l k = elim w [ ]

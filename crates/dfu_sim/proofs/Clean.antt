@@ -7,8 +7,8 @@ use Rattle.dfu_host.specs.Blocks.{blocks, first}
 use Rattle.dfu_host.specs.BlockLaws.{first_suc, first_all, first_le, block_counts, small_block, full_block}
 use Rattle.dfu_host.specs.Phases.{ToLoad, ToVerify, ToCompare, Find, Last}
 use Rattle.dfu_host.specs.Clean.{clean}
-use Rattle.dfu_sim.specs.declared.aim.Aim.{Aim}
-use Rattle.dfu_sim.specs.declared.aim.Aim.TheVariants.{Install, Verify}
+use Rattle.dfu_sim.specs.declared.purpose.Purpose.{Purpose}
+use Rattle.dfu_sim.specs.declared.purpose.Purpose.TheVariants.{Install, Verify}
 use Rattle.dfu_sim.specs.Play.{Link, silent}
 use Rattle.dfu_sim.specs.CleanRun.{actions_of, PassesTo, Quietly, there, resting, InstalledAfter, CleanRun}
 use Rattle.dfu_sim.proofs.Blocks.{not_empty}
@@ -125,7 +125,7 @@ module _ (c : Profile) (p : List ℕ) (again : ℕ) where
       }
 
 -- A clean run takes an action at least.
-pub takes_actions : (aim : Aim) (t busy manifest : ℕ) (payload : List ℕ) → 0 < actions_of aim t busy manifest payload
+pub takes_actions : (purpose : Purpose) (t busy manifest : ℕ) (payload : List ℕ) → 0 < actions_of purpose t busy manifest payload
 takes_actions Install t busy manifest payload = omega (arith, clean_is (length (blocks payload t)) busy manifest)
 takes_actions Verify t busy manifest payload = omega (arith, clean_is (length (blocks payload t)) busy manifest)
 

@@ -3,15 +3,15 @@ use Rattle.std.proofs.Common.{◌≡◌, ℕ, zero, suc, ◌-◌, ◌<◌, ◌�
 use Rattle.std.proofs.lemmas.List.{take-replicate}
 use Rattle.dfu_device.specs.Stage.{Profile}
 use Rattle.dfu_device.specs.Outcome.{Works}
-use Rattle.dfu_device.specs.Shown.{profile}
+use Rattle.dfu_device.specs.DeviceView.{profile}
 use Rattle.dfu_host.specs.declared.limits.Limits.{Limits}
 use Rattle.dfu_host.specs.declared.report.Report.{Report}
 use Rattle.dfu_sim.specs.Session.{said}
-use Rattle.dfu_sim.specs.declared.aim.Aim.{Aim}
+use Rattle.dfu_sim.specs.declared.purpose.Purpose.{Purpose}
 use Rattle.dfu_sim.specs.Happening.{Pass, Happening, Offers, Aborts}
 use Rattle.dfu_sim.specs.Play.{Link, Played, gone}
-use Rattle.dfu_sim.specs.Bench.{Session, Nobody, Bench, LinkState}
-use Rattle.dfu_sim.specs.CleanRun.{report_of_aim, PassesTo, Quietly, here, there, resting}
+use Rattle.dfu_sim.specs.LinkView.{Session, Nobody, LinkView, WorldView}
+use Rattle.dfu_sim.specs.CleanRun.{report_of_purpose, PassesTo, Quietly, here, there, resting}
 use Rattle.dfu_sim.specs.Refusing.{IsLive, IsRefused}
 use Rattle.dfu_sim.specs.CleanInstall.{clean_passes, CanInstall, offer_and_passes}
 use Rattle.dfu_sim.specs.declared.fault.LinkFault.{LinkFault}
@@ -40,17 +40,18 @@ nobody_installs c w end r p e =
     absurd cc
 
 -- The offer is not refused.
-offer_stands : (b : Bench) (aim : Aim) (file : List ℕ) (limits : Limits) (payload : List ℕ) → CanInstall b aim file limits payload
+offer_stands : (b : LinkView) (purpose : Purpose) (file : List ℕ) (limits : Limits) (payload : List ℕ)
+    → CanInstall b purpose file limits payload
     → (why : LinkFault)
-    → IsStop b (Offers aim file limits) why → why ≡ fault.NoMemory
-offer_stands b aim file limits payload can fault.NoMemory h = refl
-offer_stands b aim file limits payload can fault.HostBusy h = absurd (subst IsLive can.free h)
-offer_stands b aim file limits payload can fault.NoHost h = elim h [ ]
-offer_stands b aim file limits payload can (fault.BadOffer f) h =
-    absurd (offered_not_bad b.device.config aim file payload f can.offered h.1)
+    → IsStop b (Offers purpose file limits) why → why ≡ fault.NoMemory
+offer_stands b purpose file limits payload can fault.NoMemory h = refl
+offer_stands b purpose file limits payload can fault.HostBusy h = absurd (subst IsLive can.free h)
+offer_stands b purpose file limits payload can fault.NoHost h = elim h [ ]
+offer_stands b purpose file limits payload can (fault.BadOffer f) h =
+    absurd (offered_not_bad b.device.config purpose file payload f can.offered h.1)
 
 -- Nor is a pass, while a session is live.
-pass_stands : (b : Bench) → (b.session ≡ Nobody → ⊥) → (why : LinkFault) → IsStop b pass why → why ≡ fault.NoMemory
+pass_stands : (b : LinkView) → (b.session ≡ Nobody → ⊥) → (why : LinkFault) → IsStop b pass why → why ≡ fault.NoMemory
 pass_stands b live fault.NoMemory h = refl
 pass_stands b live fault.NoHost h = absurd (live h)
 pass_stands b live why h = elim h [ ]
@@ -64,42 +65,44 @@ next_pass (suc count) zero e = (omega arith, cc)
 next_pass (suc count) (suc k) e = let x = next_pass count k e in (omega (arith, x.0), x.1)
 
 -- No event is refused for want of memory.
-never_full : (b : Bench) (h : Happening) → ¬ IsRefused b h fault.NoMemory
+never_full : (b : LinkView) (h : Happening) → ¬ IsRefused b h fault.NoMemory
 never_full b Aborts refused = refused
 never_full b h refused = refused
 
-clean_stop : {b b' : Bench} {next : Happening} {more : List Happening} {why : LinkFault} {reports : List Report} (aim : Aim) (file : List ℕ)
-    (limits : Limits) (payload : List ℕ) (count at : ℕ) → CanInstall b aim file limits payload
-    → count ≤ clean_passes aim b.device.config payload → drop at (offer_and_passes aim file limits count) ≡ next ∷ more
-    → SureSteps b (take at (offer_and_passes aim file limits count)) reports b' → IsStop b' next why → (why ≡ fault.NoMemory) × (reports ≡ [])
-clean_stop {b = b} {next = next} {why = why} aim file limits payload count zero can most next_is no_step stop =
-    let same : next ≡ Offers aim file limits = cc in
-    (offer_stands b aim file limits payload can why (subst (λ (h : Happening). IsStop b h why) same stop), refl)
-clean_stop {b = b} {b' = b'} {why = why} aim file limits payload count (suc k) can most next_is
+clean_stop : {b b' : LinkView} {next : Happening} {more : List Happening} {why : LinkFault} {reports : List Report} (purpose : Purpose)
+    (file : List ℕ)
+    (limits : Limits) (payload : List ℕ) (count at : ℕ) → CanInstall b purpose file limits payload
+    → count ≤ clean_passes purpose b.device.config payload → drop at (offer_and_passes purpose file limits count) ≡ next ∷ more
+    → SureSteps b (take at (offer_and_passes purpose file limits count)) reports b' → IsStop b' next why
+    → (why ≡ fault.NoMemory) × (reports ≡ [])
+clean_stop {b = b} {next = next} {why = why} purpose file limits payload count zero can most next_is no_step stop =
+    let same : next ≡ Offers purpose file limits = cc in
+    (offer_stands b purpose file limits payload can why (subst (λ (h : Happening). IsStop b h why) same stop), refl)
+clean_stop {b = b} {b' = b'} {why = why} purpose file limits payload count (suc k) can most next_is
     (one_step {mid = mid} {report = report} {reports = later} s more) stop =
-    let n : ℕ = clean_passes aim b.device.config payload in
+    let n : ℕ = clean_passes purpose b.device.config payload in
     let y = next_pass count k next_is in
-    let x = has_begun b mid report aim file limits payload can s in
+    let x = has_begun b mid report purpose file limits payload can s in
     let cut : take k (replicate count pass) ≡ replicate k pass = take-replicate k count pass (omega (arith, y.0)) in
     let q = quiet_passes k (n - 1) (omega (arith, y.0, most)) (subst (λ (hs : List Happening). SureSteps mid hs later b') cut more) x.fixed
     x.quiet in (
-      pass_stands b' (λ e. nobody_installs (profile b.device) x.before (resting payload) (report_of_aim aim) x.last
+      pass_stands b' (λ e. nobody_installs (profile b.device) x.before (resting payload) (report_of_purpose purpose) x.last
           (nobody_stays q.rest e)) why (subst (λ (h : Happening). IsStop b' h why) y.1 stop),
       ap (λ (r : Option Report). said r ++ later) x.told ∙ q.none,
     )
 
 -- A run that stops before the end of a clean run had no memory, and reported nothing.
-pub stopped_clean : {w w' : LinkState} {hs : List Happening} {why : LinkFault} {at : ℕ} {reports : List Report}
-    → Stopped w hs why at reports w' → (aim : Aim) (file : List ℕ) (limits : Limits) (payload : List ℕ) (count : ℕ)
-    → CanInstall w.bench aim file limits payload → hs ≡ offer_and_passes aim file limits count
-    → count ≤ clean_passes aim w.bench.device.config payload → (why ≡ fault.NoMemory) × (reports ≡ [])
-stopped_clean {w = w} {w' = w'} {at = at} {reports = reports} s aim file limits payload count can is most =
-    clean_stop aim file limits payload count at can most
+pub stopped_clean : {w w' : WorldView} {hs : List Happening} {why : LinkFault} {at : ℕ} {reports : List Report}
+    → Stopped w hs why at reports w' → (purpose : Purpose) (file : List ℕ) (limits : Limits) (payload : List ℕ) (count : ℕ)
+    → CanInstall w.bench purpose file limits payload → hs ≡ offer_and_passes purpose file limits count
+    → count ≤ clean_passes purpose w.bench.device.config payload → (why ≡ fault.NoMemory) × (reports ≡ [])
+stopped_clean {w = w} {w' = w'} {at = at} {reports = reports} s purpose file limits payload count can is most =
+    clean_stop purpose file limits payload count at can most
     (subst (λ (hs : List Happening). drop at hs ≡ s.runs.next ∷ s.runs.more) is s.runs.here)
     (subst (λ (hs : List Happening). SureSteps w.bench (take at hs) reports w'.bench) is (sure_chain s.chain)) s.runs.why
 
 -- No step of a clean run is refused.
 pub steps_stand : StepsStand
-steps_stand b b' aim file limits payload count at reports next more why can most steps next_is refused =
-    let x = clean_stop aim file limits payload count at can most next_is steps (stop_why b' next why refused) in
+steps_stand b b' purpose file limits payload count at reports next more why can most steps next_is refused =
+    let x = clean_stop purpose file limits payload count at can most next_is steps (stop_why b' next why refused) in
     never_full b' next (subst (λ (f : LinkFault). IsRefused b' next f) x.0 refused)

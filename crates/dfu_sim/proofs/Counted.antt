@@ -9,13 +9,13 @@ use Rattle.dfu_host.specs.CountingLaws.{after_stays}
 use Rattle.dfu_host.specs.TaskLaws.{after_same_device}
 use Rattle.dfu_device.specs.Stage.{Profile}
 use Rattle.dfu_device.specs.Outcome.{Situation}
-use Rattle.dfu_sim.specs.Course.{Course}
+use Rattle.dfu_sim.specs.Delivery.{Delivery}
 use Rattle.dfu_sim.specs.Happening.{Happening, Aborts, Goes, Passes, Resets, Cuts, Refuses}
-use Rattle.dfu_sim.specs.Play.{Answered, settled, took, told, session_aborted}
-use Rattle.dfu_sim.specs.Bench.{Session, Nobody, Hosted, Bench}
+use Rattle.dfu_sim.specs.Play.{Answered, settled, took, notify_restart, session_aborted}
+use Rattle.dfu_sim.specs.LinkView.{Session, Nobody, Hosted, LinkView}
 use Rattle.dfu_sim.specs.Fact.{SessionFact}
 use Rattle.dfu_sim.specs.Bytes.{HappensOnBench, HostActs}
-use Rattle.dfu_device.specs.Shown.{Shown}
+use Rattle.dfu_device.specs.DeviceView.{DeviceView}
 use Rattle.dfu_sim.specs.Comes.{ComesWith, GivesWithUploaded}
 use Rattle.dfu_sim.specs.Standing.{SendsBytes, IsCountedIn}
 
@@ -58,12 +58,12 @@ took_fits : (h : HostState) (heard : Heard) → SendsBytes (Hosted h) → IsCoun
 took_fits h heard some c = subst (λ (t : ℕ). Fits t (took h heard).answer) (after_same_device h heard).transfer
     (settled_fits (after h heard).task (after h heard) (after h heard).phase (after_stays h heard some c))
 
-told_counted : (session : Session) → SendsBytes session → IsCountedIn session → IsCountedIn (told session).session
+told_counted : (session : Session) → SendsBytes session → IsCountedIn session → IsCountedIn (notify_restart session).session
 told_counted Nobody some c = tt
 told_counted (Hosted h) some c = took_counted h Restarted some c
 
 told_fits : (p : Profile) (s : Situation) (session : Session) → SessionFact p s session → SendsBytes session → IsCountedIn session
-    → Fits p.transfer (told session).answer
+    → Fits p.transfer (notify_restart session).answer
 told_fits p s Nobody f some c = tt
 told_fits p s (Hosted h) f some c = subst (λ (n : ℕ). Fits n (took h Restarted).answer) f.task_is.transfer (took_fits h Restarted some c)
 
@@ -89,33 +89,33 @@ took_whole h heard some c = let answer = (took h heard).answer in
     fits_whole h.task.transfer answer.report answer.gave (took_fits h heard some c)
 
 -- What a session answers to a restart gives bytes with Uploaded alone.
-pub told_whole : (session : Session) → SendsBytes session → IsCountedIn session → GivesWithUploaded (Ok (told session).answer)
+pub told_whole : (session : Session) → SendsBytes session → IsCountedIn session → GivesWithUploaded (Ok (notify_restart session).answer)
 told_whole Nobody some c = tt
 told_whole (Hosted h) some c = took_whole h Restarted some c
 
 -- A host that took the answer of its action.
-pub acted_counted : (course : Course) (w w' : Shown) (h h' : HostState) → SendsBytes (Hosted h) → IsCountedIn (Hosted h)
-    → HostActs h course w w' h' → IsCountedIn (Hosted h')
-acted_counted course w w' h h' some c acted = subst (λ (x : HostState). IsCountedIn (Hosted x)) (sym acted.same)
+pub acted_counted : (delivery : Delivery) (w w' : DeviceView) (h h' : HostState) → SendsBytes (Hosted h) → IsCountedIn (Hosted h)
+    → HostActs h delivery w w' h' → IsCountedIn (Hosted h')
+acted_counted delivery w w' h h' some c acted = subst (λ (x : HostState). IsCountedIn (Hosted x)) (sym acted.same)
     (after_counted_in h acted.heard some c)
 
 -- Each event.
 
 -- After each event what a live session keeps is counted.
-pub happens_counted : (event : Happening) (b b' : Bench) (answer : Answered) → SendsBytes b.session → IsCountedIn b.session
+pub happens_counted : (event : Happening) (b b' : LinkView) (answer : Answered) → SendsBytes b.session → IsCountedIn b.session
     → HappensOnBench event b b' answer → IsCountedIn b'.session
-happens_counted Aborts b b' answer some c (e, f) = subst (λ (x : Bench). IsCountedIn x.session) (sym e) (aborted_counted b.session c)
+happens_counted Aborts b b' answer some c (e, f) = subst (λ (x : LinkView). IsCountedIn x.session) (sym e) (aborted_counted b.session c)
 happens_counted (Goes fate harm) b b' answer some c g = subst IsCountedIn (sym g.session)
     (took_counted g.host g.gone.acted.heard (subst SendsBytes g.live some) (subst IsCountedIn g.live c))
 happens_counted (Passes ms) b b' answer some c (e, s, n) = subst IsCountedIn (sym s) c
-happens_counted Resets b b' answer some c (e, f) = subst (λ (x : Bench). IsCountedIn x.session) (sym e)
+happens_counted Resets b b' answer some c (e, f) = subst (λ (x : LinkView). IsCountedIn x.session) (sym e)
     (told_counted b.session some c)
-happens_counted Cuts b b' answer some c (e, f) = subst (λ (x : Bench). IsCountedIn x.session) (sym e) (told_counted b.session some c)
-happens_counted (Refuses why) b b' answer some c (e, f) = subst (λ (x : Bench). IsCountedIn x.session) (sym e) c
-happens_counted event b b' answer some c h = subst (λ (x : Bench). IsCountedIn x.session) (sym h.0) tt
+happens_counted Cuts b b' answer some c (e, f) = subst (λ (x : LinkView). IsCountedIn x.session) (sym e) (told_counted b.session some c)
+happens_counted (Refuses why) b b' answer some c (e, f) = subst (λ (x : LinkView). IsCountedIn x.session) (sym e) c
+happens_counted event b b' answer some c h = subst (λ (x : LinkView). IsCountedIn x.session) (sym h.0) tt
 
 -- What an answer gives, by the device's transfer size.
-pub happens_fits : (p : Profile) (s : Situation) (event : Happening) (b b' : Bench) (answer : Answered)
+pub happens_fits : (p : Profile) (s : Situation) (event : Happening) (b b' : LinkView) (answer : Answered)
     → SessionFact p s b.session → SendsBytes b.session → IsCountedIn b.session → HappensOnBench event b b' answer → Fits p.transfer answer
 happens_fits p s (Goes fate harm) b b' answer f some c g =
     let fact = subst (SessionFact p s) g.live f in

@@ -7,13 +7,13 @@ use Rattle.dfu_host.specs.Blocks.{blocks}
 use Rattle.dfu_host.specs.BlockLaws.{block_counts}
 use Rattle.dfu_host.specs.Phases.{ToFetch, Phase, Find, GiveUp, Over, OverUploaded, Restarted}
 use Rattle.dfu_host.specs.Host.{HostState, IsOn, aborted_in}
-use Rattle.dfu_sim.specs.declared.aim.Aim.{Aim}
-use Rattle.dfu_sim.specs.declared.aim.Aim.TheVariants.{Install, Verify}
+use Rattle.dfu_sim.specs.declared.purpose.Purpose.{Purpose}
+use Rattle.dfu_sim.specs.declared.purpose.Purpose.TheVariants.{Install, Verify}
 use Rattle.dfu_sim.specs.Session.{Machine, Live, NoOne, Loading, SaysReport, says_not, AnOffer, ARestart, MachineStep, offered, uploads, aborts, restarts, refuses}
 use Rattle.dfu_sim.specs.Happening.{Happening, Offers, Uploads, Aborts, Goes, Passes, Resets, Cuts, Refuses}
-use Rattle.dfu_sim.specs.Opening.{goal_of_aim}
+use Rattle.dfu_sim.specs.Opening.{goal_of_purpose}
 use Rattle.dfu_sim.specs.Play.{kind_of, Link, Answered, silent, given, Played, took, restarted_to, played, MayHappen, Play}
-use Rattle.dfu_sim.specs.Bench.{Session, Nobody, Hosted}
+use Rattle.dfu_sim.specs.LinkView.{Session, Nobody, Hosted}
 use Rattle.dfu_sim.specs.LinkAgreement.{pending_of, IsSound, Agrees}
 use Rattle.dfu_sim.specs.Agreement.{live_goal, live_of, IsLiveOffer}
 use Rattle.dfu_sim.specs.Fact.{HasBlocks, SessionFact}
@@ -67,24 +67,24 @@ module _ (c : Profile) (offers : List (List ℕ)) where
   more_sound p stage h = tt
 
 -- What is live of a session that was offered.
-goal_live : (aim : Aim) (payload : List ℕ) → live_goal (goal_of_aim aim payload) ≡ Loading payload
+goal_live : (purpose : Purpose) (payload : List ℕ) → live_goal (goal_of_purpose purpose payload) ≡ Loading payload
 goal_live Install payload = refl
 goal_live Verify payload = refl
 
 -- The offers after an event.
 abbrev offers_by : Happening → List (List ℕ) → List (List ℕ)
-offers_by (Offers aim payload limits) offers = payload ∷ offers
+offers_by (Offers purpose payload limits) offers = payload ∷ offers
 offers_by event offers = offers
 
 -- What an event has to know of the transfer size: an offer, and an action of the host.
 abbrev pub Sizes : Profile → Session → Happening → Type 0
-Sizes c Nobody (Offers aim payload limits) = 0 < c.transfer
+Sizes c Nobody (Offers purpose payload limits) = 0 < c.transfer
 Sizes c (Hosted h) (Goes fate harm) = 0 < c.transfer
 Sizes c session event = Unit {0}
 
 -- Where the transfer size is known, each event knows it.
 pub all_sized : (c : Profile) (session : Session) (event : Happening) → 0 < c.transfer → Sizes c session event
-all_sized c Nobody (Offers aim payload limits) h = h
+all_sized c Nobody (Offers purpose payload limits) h = h
 all_sized c (Hosted host) (Goes fate harm) h = h
 all_sized c session event h = tt
 
@@ -98,7 +98,7 @@ module _ (c : Profile) where
   some_blocks : (p : List ℕ) → 0 < c.transfer → 0 < length p → 0 < length (blocks p c.transfer)
   some_blocks p sized h = block_counts p c.transfer 0 sized (omega (arith, h))
 
-  offered_blocks : (aim : Aim) (p : List ℕ) → 0 < c.transfer → 0 < length p → HasBlocks c (goal_of_aim aim p)
+  offered_blocks : (purpose : Purpose) (p : List ℕ) → 0 < c.transfer → 0 < length p → HasBlocks c (goal_of_purpose purpose p)
   offered_blocks Install p sized h = some_blocks p sized h
   offered_blocks Verify p sized h = some_blocks p sized h
 
@@ -107,18 +107,18 @@ module _ (c : Profile) where
       → SessionFact c s session
       → let w : Link = record { device = s; session = session } in
       Simulated c offers w up (kind_of event) (played c w event l k room) (offers_by event offers)
-  simulated offers s Nobody up (Offers aim payload limits) l k room z a q o f =
+  simulated offers s Nobody up (Offers purpose payload limits) l k room z a q o f =
       record {
         step = subst (λ (x : Live). MachineStep c.tolerant c.transfer (AnOffer payload)
             (shown offers s.image (pending_of s.stage) NoOne up) None
-            (shown (payload ∷ offers) s.image (pending_of s.stage) x up)) (sym (goal_live aim payload)) (offered refl);
+            (shown (payload ∷ offers) s.image (pending_of s.stage) x up)) (sym (goal_live purpose payload)) (offered refl);
         sound = more_sound c offers payload s.stage q;
-        offer = subst (IsLiveOffer (payload ∷ offers)) (sym (goal_live aim payload)) (inl refl);
+        offer = subst (IsLiveOffer (payload ∷ offers)) (sym (goal_live purpose payload)) (inl refl);
         fact = record {
-          task_is = goes_by c (goal_of_aim aim payload);
+          task_is = goes_by c (goal_of_purpose purpose payload);
           on = tt;
-          some = offered_blocks aim payload z a;
-          fact = goal_anywhere c (goal_of_aim aim payload) s Find tt;
+          some = offered_blocks purpose payload z a;
+          fact = goal_anywhere c (goal_of_purpose purpose payload) s Find tt;
         };
         done = λ e. elim e [ ];
       }

@@ -4,7 +4,7 @@ use Rattle.std.proofs.lemmas.Bool.Decides.{nat_tests}
 use Rattle.dfu_slots.specs.Medium.Fuse.{Whole}
 use Rattle.dfu_suffix.specs.Grammar.{Content, IsFile}
 use Rattle.dfu_device.specs.Setting.{Setting}
-use Rattle.dfu_device.specs.Shown.{Shown}
+use Rattle.dfu_device.specs.DeviceView.{DeviceView}
 use Rattle.dfu_device.specs.Rows.{Elapses}
 use Rattle.dfu_device.specs.declared.objection.Objection.{Objection}
 use Rattle.dfu_wire.specs.declared.functionals.Functional.{Functional}
@@ -14,16 +14,16 @@ use Rattle.dfu_host.specs.declared.fault.HostFault.{HostFault}
 use Rattle.dfu_host.specs.declared.limits.Limits.{Limits}
 use Rattle.dfu_host.specs.declared.report.Report.{Report}
 use Rattle.dfu_host.specs.Host.{HostState, started}
-use Rattle.dfu_sim.specs.declared.aim.Aim.{Aim}
-use Rattle.dfu_sim.specs.declared.aim.Aim.TheVariants.{Install, Verify}
+use Rattle.dfu_sim.specs.declared.purpose.Purpose.{Purpose}
+use Rattle.dfu_sim.specs.declared.purpose.Purpose.TheVariants.{Install, Verify}
 use Rattle.dfu_sim.specs.declared.fault.LinkFault.{LinkFault}
 use Rattle.dfu_sim.specs.declared.fault.LinkFault.TheVariants as fault
 use Rattle.dfu_sim.specs.declared.fault.OfferFault.TheVariants as offer_fault
-use Rattle.dfu_sim.specs.Course.{course_of}
+use Rattle.dfu_sim.specs.Delivery.{delivery_of}
 use Rattle.dfu_sim.specs.Happening.{Fate, Harm, Happening, Offers, Goes, Passes, Refuses}
-use Rattle.dfu_sim.specs.Opening.{goal_of_aim}
-use Rattle.dfu_sim.specs.Play.{Answered, given, silent, Took, told, took, settled, MayHappen}
-use Rattle.dfu_sim.specs.Bench.{Session, Nobody, Hosted, Bench, linked}
+use Rattle.dfu_sim.specs.Opening.{goal_of_purpose}
+use Rattle.dfu_sim.specs.Play.{Answered, given, silent, Took, notify_restart, took, settled, MayHappen}
+use Rattle.dfu_sim.specs.LinkView.{Session, Nobody, Hosted, LinkView, linked}
 use Rattle.dfu_sim.specs.Bytes.{was_refused, HostActsArmed, HappensOnBench, BytePlay}
 use Rattle.dfu_sim.specs.Refusing.{first_offer_fault, IsOffered, IsBadOffer, IsRefused}
 use Rattle.dfu_sim.specs.Comes.{Means, refuses, happens, GivesWithUploaded, HasCome, HasComeAlone}
@@ -37,18 +37,18 @@ any_session Nobody h none live = none
 any_session (Hosted k) h none live = live k
 
 -- An event that is refused changes nothing.
-pub refused_comes : (b : Bench) (h : Happening) (why : LinkFault) → IsRefused b h why → HasComeAlone b h b (Err why)
+pub refused_comes : (b : LinkView) (h : Happening) (why : LinkFault) → IsRefused b h why → HasComeAlone b h b (Err why)
 refused_comes b h why is up = record { answer = Err why; comes = refuses is; whole = tt; up_is = refl; told = refl }
 
 -- An event that is not refused, with its answer.
-pub event_comes : {b b' : Bench} {h : Happening} {up up' : List ℕ} {report : Option Report} (event : Happening) (answer : Answered)
+pub event_comes : {b b' : LinkView} {h : Happening} {up up' : List ℕ} {report : Option Report} (event : Happening) (answer : Answered)
     → Means b.device.config h event → BytePlay b event b' answer → GivesWithUploaded (Ok answer) → up' ≡ given answer.gave up
     → report ≡ answer.report → HasCome (linked b up) h (linked b' up') (Ok report)
 event_comes event answer means play whole kept says =
     record { answer = Ok answer; comes = happens {event = event} means play; whole = whole; up_is = kept; told = ap Ok says }
 
 -- Time that passes.
-pub time_comes : (ms : ℕ) (w w' : Shown) (host gave : Option HostState) → w.slots.medium.fuse ≡ Whole → Elapses ms w w'
+pub time_comes : (ms : ℕ) (w w' : DeviceView) (host gave : Option HostState) → w.slots.medium.fuse ≡ Whole → Elapses ms w w'
     → HasCome (link_state w host gave) (Passes ms) (link_state w' host gave) (Ok None)
 time_comes ms w w' host gave e row = event_comes (Passes ms) silent refl (record {
   allowed = any_session (session_of host) (Passes ms) tt (λ k. tt);
@@ -57,7 +57,8 @@ time_comes ms w w' host gave e row = event_comes (Passes ms) silent refl (record
 }) tt refl refl
 
 -- The program refuses the image that was closed, if one was.
-pub refusal_comes : (why : Objection) (w w' : Shown) (host gave : Option HostState) → w.slots.medium.fuse ≡ Whole → w' ≡ was_refused why w
+pub refusal_comes : (why : Objection) (w w' : DeviceView) (host gave : Option HostState) → w.slots.medium.fuse ≡ Whole
+    → w' ≡ was_refused why w
     → HasCome (link_state w host gave) (Refuses why) (link_state w' host gave) (Ok None)
 refusal_comes why w w' host gave e row = event_comes (Refuses why) silent refl (record {
   allowed = any_session (session_of host) (Refuses why) tt (λ k. tt);
@@ -66,20 +67,22 @@ refusal_comes why w w' host gave e row = event_comes (Refuses why) silent refl (
 }) tt refl refl
 
 -- A restart that comes from outside: a reset of the bus, or a cut of the power.
-pub restart_comes : (h : Happening) (w w' : Shown) (host host' gave gave' : Option HostState) (report : Option Report)
+pub restart_comes : (h : Happening) (w w' : DeviceView) (host host' gave gave' : Option HostState) (report : Option Report)
     → Means w.config h h → MayHappen Nobody h → ((k : HostState) → MayHappen (Hosted k) h) → SendsBytes (session_of host)
     → IsCountedIn (session_of host) → w.slots.medium.fuse ≡ Whole
-    → HappensOnBench h (bench_of w host) (bench_of w' host') (told (session_of host)).answer
-    → given_by gave' ≡ given (told (session_of host)).answer.gave (given_by gave) → report ≡ (told (session_of host)).answer.report
+    → HappensOnBench h (bench_of w host) (bench_of w' host') (notify_restart (session_of host)).answer
+    → given_by gave' ≡ given (notify_restart (session_of host)).answer.gave (given_by gave)
+    → report ≡ (notify_restart (session_of host)).answer.report
     → HasCome (link_state w host gave) h (link_state w' host' gave') (Ok report)
 restart_comes h w w' host host' gave gave' report means none live sized counted e row kept says =
-    event_comes h (told (session_of host)).answer means
+    event_comes h (notify_restart (session_of host)).answer means
     (record { allowed = any_session (session_of host) h none live; unarmed = e; happens = row })
     (told_whole (session_of host) sized counted) kept says
 
 -- The host's next action.
-pub go_comes : (fate : Fate) (harm : Harm) (w w' : Shown) (h h' : HostState) (host' gave gave' : Option HostState) (report : Option Report)
-    → SendsBytes (Hosted h) → IsCountedIn (Hosted h) → w.slots.medium.fuse ≡ Whole → HostActsArmed h (course_of fate) harm w w' h'
+pub go_comes : (fate : Fate) (harm : Harm) (w w' : DeviceView) (h h' : HostState) (host' gave gave' : Option HostState)
+    (report : Option Report)
+    → SendsBytes (Hosted h) → IsCountedIn (Hosted h) → w.slots.medium.fuse ≡ Whole → HostActsArmed h (delivery_of fate) harm w w' h'
     → session_of host' ≡ (ended (Hosted h')).session → given_by gave' ≡ given (ended (Hosted h')).answer.gave (given_by gave)
     → report ≡ (ended (Hosted h')).answer.report
     → HasCome (link_state w (Some h) gave) (Goes fate harm) (link_state w' host' gave') (Ok report)
@@ -100,7 +103,7 @@ go_comes fate harm w w' h h' host' gave gave' report sized counted e gone sessio
     (says ∙ ap (λ (t : Took). t.answer.report) same)
 
 -- An action where no session is live.
-pub go_refused : (f : Fate) (harm : Harm) (w : Shown) (gave : Option HostState)
+pub go_refused : (f : Fate) (harm : Harm) (w : DeviceView) (gave : Option HostState)
     → HasCome (link_state w None gave) (Goes f harm) (link_state w None gave) (Err fault.NoHost)
 go_refused f harm w gave = refused_comes (bench_of w None) (Goes f harm) fault.NoHost refl (given_by gave)
 
@@ -114,13 +117,14 @@ is_true true e = refl
 is_true false e = absurd cc
 
 -- What is known of a payload and of a device's descriptor, where a session that is offered has no fault.
-record NoFault (aim : Aim) (payload : List ℕ) (f : Functional) : Type 0 where
+record NoFault (purpose : Purpose) (payload : List ℕ) (f : Functional) : Type 0 where
   some : (length payload == 0) ≡ false
   loads : f.can_download ≡ true
-  gives : aim ≡ Verify → f.can_upload ≡ true
+  gives : purpose ≡ Verify → f.can_upload ≡ true
   sized : (f.transfer == 0) ≡ false
 
-no_fault : (aim : Aim) (file : Content) (f : Functional) (ids : Ids) → first_offer_fault aim file f ids ≡ None → NoFault aim file.payload f
+no_fault : (purpose : Purpose) (file : Content) (f : Functional) (ids : Ids) → first_offer_fault purpose file f ids ≡ None
+    → NoFault purpose file.payload f
 no_fault Install file f ids e =
     let a = not_first (length file.payload == 0) _ _ e in
     let d = not_first (not f.can_download) _ _ (not_first (not (is_for file.ids ids)) _ _ a.1).1 in
@@ -133,19 +137,21 @@ no_fault Verify file f ids e =
     let z = not_first (f.transfer == 0) _ _ u.1 in
     record { some = a.0; loads = is_true f.can_download d.0; gives = λ same. is_true f.can_upload u.0; sized = z.0 }
 
-offered_so : {s : Setting} {aim : Aim} {file payload : List ℕ} → IsOffered s aim file payload → NoFault aim payload s.functional
-offered_so {s = s} {aim = aim} offered = no_fault aim _ s.functional s.ids offered.taken
+offered_so : {s : Setting} {purpose : Purpose} {file payload : List ℕ} → IsOffered s purpose file payload
+    → NoFault purpose payload s.functional
+offered_so {s = s} {purpose = purpose} offered = no_fault purpose _ s.functional s.ids offered.taken
 
 -- A file that is taken has bytes of payload, and the device takes blocks of some bytes.
-pub bytes_of : {s : Setting} {aim : Aim} {file payload : List ℕ} → IsOffered s aim file payload → 0 < length payload
+pub bytes_of : {s : Setting} {purpose : Purpose} {file payload : List ℕ} → IsOffered s purpose file payload → 0 < length payload
 bytes_of {payload = payload} offered = let e : (length payload == 0) ≡ false = (offered_so offered).some in grind (arith, nat_tests)
 
 -- A device to which a file can be offered has a transfer size.
-pub has_transfer : {s : Setting} {aim : Aim} {file payload : List ℕ} → IsOffered s aim file payload → 0 < s.functional.transfer
+pub has_transfer : {s : Setting} {purpose : Purpose} {file payload : List ℕ} → IsOffered s purpose file payload → 0 < s.functional.transfer
 has_transfer {s = s} offered = let e : (s.functional.transfer == 0) ≡ false = (offered_so offered).sized in grind (arith, nat_tests)
 
 -- It can download.
-pub can_download : {s : Setting} {aim : Aim} {file payload : List ℕ} → IsOffered s aim file payload → s.functional.can_download ≡ true
+pub can_download : {s : Setting} {purpose : Purpose} {file payload : List ℕ} → IsOffered s purpose file payload
+    → s.functional.can_download ≡ true
 can_download offered = (offered_so offered).loads
 
 -- It can upload, where the file is to be verified.
@@ -153,20 +159,20 @@ pub can_upload : {s : Setting} {file payload : List ℕ} → IsOffered s Verify 
 can_upload offered = (offered_so offered).gives refl
 
 -- An event that can't come while a session is live.
-pub busy_comes : (h : Happening) (w : Shown) (host : Option HostState)
+pub busy_comes : (h : Happening) (w : DeviceView) (host : Option HostState)
     → ((k : HostState) → IsRefused (bench_of w (Some k)) h fault.HostBusy) → is_some host ≡ true
     → HasComeAlone (bench_of w host) h (bench_of w host) (Err fault.HostBusy)
 busy_comes h w (Some k) busy e = refused_comes (bench_of w (Some k)) h fault.HostBusy (busy k)
 busy_comes h w None busy e = absurd cc
 
 -- An event that is refused while no session is live.
-pub idle_refused : (h : Happening) (why : LinkFault) (w : Shown) (host : Option HostState) → is_some host ≡ false
+pub idle_refused : (h : Happening) (why : LinkFault) (w : DeviceView) (host : Option HostState) → is_some host ≡ false
     → IsRefused (bench_of w None) h why → HasComeAlone (bench_of w host) h (bench_of w host) (Err why)
 idle_refused h why w None e is = refused_comes (bench_of w None) h why is
 idle_refused h why w (Some k) e is = absurd cc
 
 -- An event with which a session begins.
-pub begins_comes : (h event : Happening) (w : Shown) (host : Option HostState) (k : HostState) → is_some host ≡ false
+pub begins_comes : (h event : Happening) (w : DeviceView) (host : Option HostState) (k : HostState) → is_some host ≡ false
     → w.slots.medium.fuse ≡ Whole → Means w.config h event → MayHappen Nobody event
     → HappensOnBench event (bench_of w None) (bench_of w (Some k)) silent → HasComeAlone (bench_of w host) h (bench_of w (Some k)) (Ok None)
 begins_comes h event w None k n e means allowed row up =
@@ -174,17 +180,18 @@ begins_comes h event w None k n e means allowed row up =
 begins_comes h event w (Some j) k n e means allowed row up = absurd cc
 
 -- An offer with which a session begins.
-pub offer_comes : (aim : Aim) (file : List ℕ) (limits : Limits) (w : Shown) (host : Option HostState) (h : HostState) → is_some host ≡ false
-    → w.slots.medium.fuse ≡ Whole → HasBegun w.config aim file limits h
-    → HasComeAlone (bench_of w host) (Offers aim file limits) (bench_of w (Some h)) (Ok None)
-offer_comes aim file limits w host h n e begun =
-    begins_comes (Offers aim file limits) (Offers aim begun.content.payload limits) w host h n e
+pub offer_comes : (purpose : Purpose) (file : List ℕ) (limits : Limits) (w : DeviceView) (host : Option HostState) (h : HostState)
+    → is_some host ≡ false
+    → w.slots.medium.fuse ≡ Whole → HasBegun w.config purpose file limits h
+    → HasComeAlone (bench_of w host) (Offers purpose file limits) (bench_of w (Some h)) (Ok None)
+offer_comes purpose file limits w host h n e begun =
+    begins_comes (Offers purpose file limits) (Offers purpose begun.content.payload limits) w host h n e
     (begun.content.payload, begun.offered, refl) (bytes_of begun.offered)
     ((λ i. record { device = w; session = Hosted (begun.host i) }), refl)
 
 -- The faults of a session that is offered go by the payload and the identifiers alone.
-pub same_fault : (aim : Aim) (c d : Content) (f : Functional) (ids : Ids) → c.payload ≡ d.payload → c.ids ≡ d.ids
-    → first_offer_fault aim c f ids ≡ first_offer_fault aim d f ids
+pub same_fault : (purpose : Purpose) (c d : Content) (f : Functional) (ids : Ids) → c.payload ≡ d.payload → c.ids ≡ d.ids
+    → first_offer_fault purpose c f ids ≡ first_offer_fault purpose d f ids
 same_fault Install c d f ids p q = λ i. first_download_fault (record { payload = p i; ids = q i; dfu = c.dfu; suffix = c.suffix }) f ids
 same_fault Verify c d f ids p q = λ i. first_verify_fault (record { payload = p i; ids = q i; dfu = c.dfu; suffix = c.suffix }) f ids
 
@@ -193,15 +200,15 @@ abbrev Found : List ℕ → Content → Type 0
 Found file content = (extra : List ℕ) × IsFile content.payload content.ids content.dfu extra file × (content.suffix ≡ 16 + length extra)
 
 -- A file that is read but not taken.
-pub offer_bad : (s : Setting) (aim : Aim) (file : List ℕ) (content : Content) (f : Functional) (ids : Ids) (why : HostFault)
+pub offer_bad : (s : Setting) (purpose : Purpose) (file : List ℕ) (content : Content) (f : Functional) (ids : Ids) (why : HostFault)
     → f ≡ s.functional
     → ids ≡ s.ids → Found file content
-    → first_offer_fault aim content f ids ≡ Some why → IsBadOffer s aim file (offer_fault.Host why)
-offer_bad s aim file content f ids why e k found h = (
+    → first_offer_fault purpose content f ids ≡ Some why → IsBadOffer s purpose file (offer_fault.Host why)
+offer_bad s purpose file content f ids why e k found h = (
   content,
   record { extra = found.0; reads = found.1; suffix = found.2 },
-  subst (λ (x : Functional). first_offer_fault aim content x s.ids ≡ Some why) e
-      (subst (λ (y : Ids). first_offer_fault aim content f y ≡ Some why) k h),
+  subst (λ (x : Functional). first_offer_fault purpose content x s.ids ≡ Some why) e
+      (subst (λ (y : Ids). first_offer_fault purpose content f y ≡ Some why) k h),
 )
 
 -- Where a session begins, the download has no fault.
@@ -211,15 +218,15 @@ none_of None h f = refl
 none_of (Some why) h f = let e : ◌≡◌ {A = Result HostState HostFault} (Ok h) (Err why) = (f why).1 refl in absurd cc
 
 -- A file that is read and taken.
-pub offer_begins : (s : Setting) (aim : Aim) (file : List ℕ) (limits : Limits) (content : Content) (f : Functional) (ids : Ids)
+pub offer_begins : (s : Setting) (purpose : Purpose) (file : List ℕ) (limits : Limits) (content : Content) (f : Functional) (ids : Ids)
     (h : HostState)
     → f ≡ s.functional → ids ≡ s.ids → Found file content
-    → ((why : HostFault) → (◌≡◌ {A = Result HostState HostFault} (Ok h) (Err why)) ↔ (first_offer_fault aim content f ids ≡ Some why))
-    → h ≡ started f (goal_of_aim aim content.payload) limits → HasBegun s aim file limits h
-offer_begins s aim file limits content f ids h e k found none is =
-    let taken : first_offer_fault aim content s.functional s.ids ≡ None =
-    subst (λ (x : Functional). first_offer_fault aim content x s.ids ≡ None) e
-    (subst (λ (y : Ids). first_offer_fault aim content f y ≡ None) k (none_of (first_offer_fault aim content f ids) h none)) in
+    → ((why : HostFault) → (◌≡◌ {A = Result HostState HostFault} (Ok h) (Err why)) ↔ (first_offer_fault purpose content f ids ≡ Some why))
+    → h ≡ started f (goal_of_purpose purpose content.payload) limits → HasBegun s purpose file limits h
+offer_begins s purpose file limits content f ids h e k found none is =
+    let taken : first_offer_fault purpose content s.functional s.ids ≡ None =
+    subst (λ (x : Functional). first_offer_fault purpose content x s.ids ≡ None) e
+    (subst (λ (y : Ids). first_offer_fault purpose content f y ≡ None) k (none_of (first_offer_fault purpose content f ids) h none)) in
     record {
       content = content;
       offered = record {
@@ -227,7 +234,7 @@ offer_begins s aim file limits content f ids h e k found none is =
         dfu = content.dfu;
         extra = found.0;
         reads = found.1;
-        taken = same_fault aim _ content s.functional s.ids refl refl ∙ taken;
+        taken = same_fault purpose _ content s.functional s.ids refl refl ∙ taken;
       };
-      host = is ∙ ap (λ (x : Functional). started x (goal_of_aim aim content.payload) limits) e;
+      host = is ∙ ap (λ (x : Functional). started x (goal_of_purpose purpose content.payload) limits) e;
     }

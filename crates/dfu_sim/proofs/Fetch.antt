@@ -9,11 +9,11 @@ use Rattle.dfu_device.specs.Outcome.{Situation, Luck, outcome}
 use Rattle.dfu_device.specs.Cases.{either_way}
 use Rattle.dfu_host.specs.Phases.{ToFetch, Phase, Nothing}
 use Rattle.dfu_host.specs.Table.{fetched, on_part}
-use Rattle.dfu_sim.specs.declared.course.Handling.{Handling}
-use Rattle.dfu_sim.specs.declared.course.Handling.TheVariants.{Unseen, Again}
-use Rattle.dfu_sim.specs.declared.course.Harming.{Harming}
-use Rattle.dfu_sim.specs.declared.course.Harming.TheVariants.{CutsPower}
-use Rattle.dfu_sim.specs.Course.{Course}
+use Rattle.dfu_sim.specs.declared.delivery.Handled.{Handled}
+use Rattle.dfu_sim.specs.declared.delivery.Handled.TheVariants.{Unseen, Again}
+use Rattle.dfu_sim.specs.declared.delivery.MediumFault.{MediumFault}
+use Rattle.dfu_sim.specs.declared.delivery.MediumFault.TheVariants.{CutsPower}
+use Rattle.dfu_sim.specs.Delivery.{Delivery}
 use Rattle.dfu_sim.specs.Play.{heard_as, Passed, reached, heard_back, ends_by, sent_by, sent}
 use Rattle.dfu_sim.specs.LinkAgreement.{pending_of, IsSound}
 use Rattle.dfu_sim.specs.Fact.{Fetches, FetchFact}
@@ -24,7 +24,7 @@ use Rattle.dfu_sim.proofs.Fates.{if_some}
 use Rattle.dfu_sim.proofs.GoCommon.{GoesQuietly}
 
 module _ (c : Profile) (offers : List (List ℕ)) (k : ℕ) (kept : List ℕ) where
-  -- A request for part k goes quietly by its course.
+  -- A request for part k goes quietly by its delivery.
   abbrev pub Fetched : Situation → Passed → Type 0
   Fetched s d = GoesQuietly c offers ToFetch (on_part c.transfer k kept) s d
 
@@ -34,17 +34,17 @@ module _ (c : Profile) (offers : List (List ℕ)) (k : ℕ) (kept : List ℕ) wh
     sound : IsSound offers d.device.stage
     next : FetchFact (on_part c.transfer k kept d.heard) d.device
 
-  ended_fetch : (s : Situation) (harming : Harming) (d : Passed) → Reached s d → Fetched s (ends_by harming d)
+  ended_fetch : (s : Situation) (harming : MediumFault) (d : Passed) → Reached s d → Fetched s (ends_by harming d)
   ended_fetch s CutsPower d r = record { quiet = record { moves = quiet_on r.moves forgets; sound = tt }; next = tt }
   ended_fetch s harming d r = record { quiet = record { moves = r.moves; sound = r.sound }; next = if_some d.heard _ r.next }
 
-  fetched_by : (s : Situation) (harming : Harming) (back : Bool) (d : Passed) → Reached s d
+  fetched_by : (s : Situation) (harming : MediumFault) (back : Bool) (d : Passed) → Reached s d
       → Fetched s (ends_by harming (record { device = d.device; heard = heard_back back d.heard }))
   fetched_by s harming true d r = ended_fetch s harming d r
   fetched_by s harming false d r = ended_fetch s harming (record { device = d.device; heard = Nothing })
       (record { moves = r.moves; sound = r.sound; next = tt })
 
-  fetch_fault : (number size : ℕ) (s : Situation) (code : Code) → IsSound offers s.stage → (how : Handling) (l r : Luck)
+  fetch_fault : (number size : ℕ) (s : Situation) (code : Code) → IsSound offers s.stage → (how : Handled) (l r : Luck)
       → Reached s (reached c s (Upload number size) (error code) how l r)
   fetch_fault number size s code h Unseen l r = record { moves = stays; sound = h; next = tt }
   fetch_fault number size s code h how l r = record { moves = forgets; sound = tt; next = tt }
@@ -118,7 +118,7 @@ module _ (c : Profile) (offers : List (List ℕ)) (k : ℕ) (kept : List ℕ) wh
 
   sent_part : (part : List ℕ) (s : Situation) → IsSound offers s.stage
       → FetchFact (fetched c.transfer k kept part) (record { image = s.image; stage = InDfuIdle })
-      → Second s.image (plan c s.image InDfuIdle (Upload (k % 65536) c.transfer)) → (how : Handling) (l r : Luck)
+      → Second s.image (plan c s.image InDfuIdle (Upload (k % 65536) c.transfer)) → (how : Handled) (l r : Luck)
       → Reached s (reached c s (Upload (k % 65536) c.transfer) (Sure (Data part) InDfuIdle) how l r)
   sent_part part s h n q Unseen l r = record { moves = stays; sound = h; next = tt }
   sent_part part s h n q Again l r = record { moves = quiet_on forgets (q.moves r); sound = q.sound r; next = q.next r }
@@ -126,7 +126,7 @@ module _ (c : Profile) (offers : List (List ℕ)) (k : ℕ) (kept : List ℕ) wh
 
   sent_full : (part : List ℕ) (place number : ℕ) (s : Situation) → IsSound offers s.stage
       → FetchFact (fetched c.transfer k kept part) (record { image = s.image; stage = InUploadIdle place number })
-      → Second s.image (plan c s.image (InUploadIdle place number) (Upload (k % 65536) c.transfer)) → (how : Handling) (l r : Luck)
+      → Second s.image (plan c s.image (InUploadIdle place number) (Upload (k % 65536) c.transfer)) → (how : Handled) (l r : Luck)
       → Reached s (reached c s (Upload (k % 65536) c.transfer) (Sure (Data part) (InUploadIdle place number)) how l r)
   sent_full part place number s h n q Unseen l r = record { moves = stays; sound = h; next = tt }
   sent_full part place number s h n q Again l r = record { moves = quiet_on forgets (q.moves r); sound = q.sound r; next = q.next r }
@@ -141,7 +141,7 @@ module _ (c : Profile) (offers : List (List ℕ)) (k : ℕ) (kept : List ℕ) wh
 
   -- A request for the next part, if what was kept is the image as far as this place.
   goes_on : (s : Situation) (place expected : ℕ) → k < 65535 → expected ≡ k % 65536 → kept ≡ take place s.image → (k ≡ 0 → kept ≡ [])
-      → IsSound offers s.stage → (how : Handling) (l r : Luck)
+      → IsSound offers s.stage → (how : Handled) (l r : Luck)
       → Reached s (reached c s (Upload (k % 65536) c.transfer) (upload_plan c s.image place expected (k % 65536) c.transfer) how l r)
   goes_on s place expected b f e z h how l r =
       upload_cases (λ p. Reached s (reached c s (Upload (k % 65536) c.transfer) p how l r)) s.image place expected (k % 65536)
@@ -153,27 +153,27 @@ module _ (c : Profile) (offers : List (List ℕ)) (k : ℕ) (kept : List ℕ) wh
       (past s.image _ expected (sym n)) how l r)
 
   fetch_goes : (image : List ℕ) (stage : Stage) → k < 65535 → Fetches k kept image stage → IsSound offers stage
-      → (course : Course) (l r : Luck) → let s : Situation = record { image = image; stage = stage } in
-      Fetched s (sent_by c s (Upload (k % 65536) c.transfer) (plan c image stage (Upload (k % 65536) c.transfer)) course l r)
-  fetch_goes image InDfuIdle b f h course l r =
+      → (delivery : Delivery) (l r : Luck) → let s : Situation = record { image = image; stage = stage } in
+      Fetched s (sent_by c s (Upload (k % 65536) c.transfer) (plan c image stage (Upload (k % 65536) c.transfer)) delivery l r)
+  fetch_goes image InDfuIdle b f h delivery l r =
       let s : Situation = record { image = image; stage = InDfuIdle } in
-      let how = course.handling in
-      fetched_by s course.harming course.back _
+      let how = delivery.handling in
+      fetched_by s delivery.harming delivery.back _
       (either_way (λ p. Reached s (reached c s (Upload (k % 65536) c.transfer) p how l r)) c.can_upload _ _
       (goes_on s 0 0 b (omega (arith, f.0)) f.1 (λ e. f.1) h how l r)
       (fetch_fault (k % 65536) c.transfer s ErrStalledPkt h how l r))
-  fetch_goes image (InUploadIdle place number) b f h course l r =
-      fetched_by _ course.harming course.back _
+  fetch_goes image (InUploadIdle place number) b f h delivery l r =
+      fetched_by _ delivery.harming delivery.back _
       (goes_on (record { image = image; stage = InUploadIdle place number }) place number b f.1 f.2 (λ e. absurd (omega (arith, f.0))) h
-      course.handling l r)
-  fetch_goes image stage b f h course l r = elim f [ ]
+      delivery.handling l r)
+  fetch_goes image stage b f h delivery l r = elim f [ ]
 
-  -- The phase that fetches part k goes well by each course.
+  -- The phase that fetches part k goes well by each delivery.
   pub go_fetch : (image : List ℕ) (stage : Stage) → k < 65535 → Fetches k kept image stage → IsSound offers stage
-      → (course : Course) (l r : Luck) → let s : Situation = record { image = image; stage = stage } in
-      Fetched s (sent c s (Upload (k % 65536) c.transfer) course l r)
-  go_fetch image stage b f h course l r =
+      → (delivery : Delivery) (l r : Luck) → let s : Situation = record { image = image; stage = stage } in
+      Fetched s (sent c s (Upload (k % 65536) c.transfer) delivery l r)
+  go_fetch image stage b f h delivery l r =
       let s : Situation = record { image = image; stage = stage } in
-      subst (λ (x : Plan). Fetched s (sent_by c s (Upload (k % 65536) c.transfer) x course l r))
-      (sym (by_table course.refusing c image stage (Upload (k % 65536) c.transfer) refl))
-      (fetch_goes image stage b f h course l r)
+      subst (λ (x : Plan). Fetched s (sent_by c s (Upload (k % 65536) c.transfer) x delivery l r))
+      (sym (by_table delivery.refusing c image stage (Upload (k % 65536) c.transfer) refl))
+      (fetch_goes image stage b f h delivery l r)

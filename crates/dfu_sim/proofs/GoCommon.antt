@@ -7,7 +7,7 @@ use Rattle.dfu_host.specs.Phases.{Goal, Phase, Find, FindAgain, Detach, Enter, C
 use Rattle.dfu_host.specs.Table.{deed, on_waited, on_reset, host_row}
 use Rattle.dfu_host.specs.CommonPhases.{IsCommon, IsSeeking}
 use Rattle.dfu_host.specs.RowLaws.{after_common}
-use Rattle.dfu_sim.specs.Course.{Course}
+use Rattle.dfu_sim.specs.Delivery.{Delivery}
 use Rattle.dfu_sim.specs.Opening.{task_for}
 use Rattle.dfu_sim.specs.Play.{Passed, slipped, waits_for, sent, waited, bus_reset, acted}
 use Rattle.dfu_sim.specs.LinkAgreement.{IsSound}
@@ -24,33 +24,33 @@ module _ (c : Profile) (offers : List (List ℕ)) (g : Goal) where
     pub next : IfHeard d.heard (λ heard. GoalFact c g (follows heard) d.device)
 
   -- A wait goes quietly, where the fact of the phase after it holds as time passes.
-  pub go_wait : (next again : Phase) (s : Situation) (ms : ℕ) (course : Course) (l : Luck)
-      → GoalFact c g next (elapsed c s (waits_for course.handling ms) l) → IsSound offers s.stage
-      → GoesQuietly (λ heard. on_waited heard next again) s (waited c s ms course l)
-  go_wait next again s ms course l f q = record {
-    quiet = waited_quiet c offers s ms course l q;
-    next = if_ended course.harming _ (λ heard x. GoalFact c g (on_waited heard next again) x) f;
+  pub go_wait : (next again : Phase) (s : Situation) (ms : ℕ) (delivery : Delivery) (l : Luck)
+      → GoalFact c g next (elapsed c s (waits_for delivery.handling ms) l) → IsSound offers s.stage
+      → GoesQuietly (λ heard. on_waited heard next again) s (waited c s ms delivery l)
+  go_wait next again s ms delivery l f q = record {
+    quiet = waited_quiet c offers s ms delivery l q;
+    next = if_ended delivery.harming _ (λ heard x. GoalFact c g (on_waited heard next again) x) f;
   }
 
   -- A reset of the bus goes quietly, where the fact of the phase after it holds of the device that was reset.
-  pub go_reset : (next again : Phase) (s : Situation) (course : Course) (l : Luck)
-      → GoalFact c g next (slipped c (was_reset s) course.handling l)
-      → GoesQuietly (λ heard. on_reset heard next again) s (bus_reset c s course l)
-  go_reset next again s course l f = record {
-    quiet = bus_reset_quiet c offers s course l;
-    next = if_ended course.harming _ (λ heard x. GoalFact c g (on_reset heard next again) x) f;
+  pub go_reset : (next again : Phase) (s : Situation) (delivery : Delivery) (l : Luck)
+      → GoalFact c g next (slipped c (was_reset s) delivery.handling l)
+      → GoesQuietly (λ heard. on_reset heard next again) s (bus_reset c s delivery l)
+  go_reset next again s delivery l f = record {
+    quiet = bus_reset_quiet c offers s delivery l;
+    next = if_ended delivery.harming _ (λ heard x. GoalFact c g (on_reset heard next again) x) f;
   }
 
   -- A phase that asks goes quietly, if the fact of the phase after it comes of what is known then.
   pub go_asking : (r : Request) (p : List ℕ) (phase : Phase) (follows : Heard → Phase) (s : Situation) → IsPolite r → Asks r phase
-      → Fact c p phase s → IsSound offers s.stage → (course : Course) (l k : Luck)
+      → Fact c p phase s → IsSound offers s.stage → (delivery : Delivery) (l k : Luck)
       → ((d : Situation) (heard : Heard) → Knows c offers p phase d heard → GoalFact c g (follows heard) d)
-      → GoesQuietly follows s (sent c s r course l k)
-  go_asking r p phase follows s polite a h q course l k f = let d = sent c s r course l k in
+      → GoesQuietly follows s (sent c s r delivery l k)
+  go_asking r p phase follows s polite a h q delivery l k f = let d = sent c s r delivery l k in
       record {
-        quiet = sent_quiet c offers s r course l k polite q;
+        quiet = sent_quiet c offers s r delivery l k polite q;
         next = if_heard {P = Knows c offers p phase d.device} {Q = λ heard. GoalFact c g (follows heard) d.device} d.heard
-            (f d.device) (asked_knows c offers r p phase s course l k polite a h);
+            (f d.device) (asked_knows c offers r p phase s delivery l k polite a h);
       }
 
   module _ (some : HasBlocks c g) where
@@ -59,9 +59,9 @@ module _ (c : Profile) (offers : List (List ℕ)) (g : Goal) where
     Follows phase = host_row (task_for c g) phase
 
     -- A phase that asks for the status. What is known of the device is what is known in Find, which is nothing.
-    seeks : (phase : Phase) (s : Situation) → IsCommon phase → IsSound offers s.stage → (course : Course) (l k : Luck)
-        → GoesQuietly (Follows phase) s (sent c s GetStatus course l k)
-    seeks phase s a q course l k = go_asking GetStatus [] Find (Follows phase) s tt tt tt q course l k
+    seeks : (phase : Phase) (s : Situation) → IsCommon phase → IsSound offers s.stage → (delivery : Delivery) (l k : Luck)
+        → GoesQuietly (Follows phase) s (sent c s GetStatus delivery l k)
+    seeks phase s a q delivery l k = go_asking GetStatus [] Find (Follows phase) s tt tt tt q delivery l k
         (λ d heard w. after_common (task_for c g) (λ x. GoalFact c g x d) (λ x. ToldBy x d.stage) (common_facts c g some d) phase heard a
         (λ x. w.told))
 
@@ -75,20 +75,20 @@ module _ (c : Profile) (offers : List (List ℕ)) (g : Goal) where
           (common_facts c g some d.device) phase heard a (λ x. elim (n x) [ ]));
     }
 
-    -- Each phase that each session has goes quietly by each course.
-    pub go_common : (phase : Phase) (s : Situation) → IsCommon phase → IsSound offers s.stage → (course : Course) (l k : Luck)
-        → GoesQuietly (Follows phase) s (acted c s (deed (task_for c g) phase) course l k)
-    go_common Find s a q course l k = seeks Find s tt q course l k
-    go_common FindAgain s a q course l k = seeks FindAgain s tt q course l k
-    go_common Trouble s a q course l k = seeks Trouble s tt q course l k
-    go_common Detach s a q course l k =
-        brings Detach s _ tt (λ x. x) (sent_quiet c offers s (AskDetach c.detach_ms) course l k tt q)
-    go_common Enter s a q course l k = brings Enter s _ tt (λ x. x)
-        (either_way (λ a. IsQuiet offers s (acted c s a course l k).device) c.will_detach _ _
-        (waited_quiet c offers s (max 1 c.detach_ms) course l q) (bus_reset_quiet c offers s course l))
-    go_common Clear s a q course l k = brings Clear s _ tt (λ x. x) (sent_quiet c offers s ClrStatus course l k tt q)
-    go_common Quit s a q course l k = brings Quit s _ tt (λ x. x) (sent_quiet c offers s Abort course l k tt q)
-    go_common (WaitFind poll) s a q course l k = brings (WaitFind poll) s _ tt (λ x. x) (waited_quiet c offers s poll course l q)
-    go_common ResetFind s a q course l k = brings ResetFind s _ tt (λ x. x) (bus_reset_quiet c offers s course l)
-    go_common GiveUp s a q course l k = brings GiveUp s _ tt (λ x. x) (sent_quiet c offers s Abort course l k tt q)
-    go_common phase s a q course l k = elim a [ ]
+    -- Each phase that each session has goes quietly by each delivery.
+    pub go_common : (phase : Phase) (s : Situation) → IsCommon phase → IsSound offers s.stage → (delivery : Delivery) (l k : Luck)
+        → GoesQuietly (Follows phase) s (acted c s (deed (task_for c g) phase) delivery l k)
+    go_common Find s a q delivery l k = seeks Find s tt q delivery l k
+    go_common FindAgain s a q delivery l k = seeks FindAgain s tt q delivery l k
+    go_common Trouble s a q delivery l k = seeks Trouble s tt q delivery l k
+    go_common Detach s a q delivery l k =
+        brings Detach s _ tt (λ x. x) (sent_quiet c offers s (AskDetach c.detach_ms) delivery l k tt q)
+    go_common Enter s a q delivery l k = brings Enter s _ tt (λ x. x)
+        (either_way (λ a. IsQuiet offers s (acted c s a delivery l k).device) c.will_detach _ _
+        (waited_quiet c offers s (max 1 c.detach_ms) delivery l q) (bus_reset_quiet c offers s delivery l))
+    go_common Clear s a q delivery l k = brings Clear s _ tt (λ x. x) (sent_quiet c offers s ClrStatus delivery l k tt q)
+    go_common Quit s a q delivery l k = brings Quit s _ tt (λ x. x) (sent_quiet c offers s Abort delivery l k tt q)
+    go_common (WaitFind poll) s a q delivery l k = brings (WaitFind poll) s _ tt (λ x. x) (waited_quiet c offers s poll delivery l q)
+    go_common ResetFind s a q delivery l k = brings ResetFind s _ tt (λ x. x) (bus_reset_quiet c offers s delivery l)
+    go_common GiveUp s a q delivery l k = brings GiveUp s _ tt (λ x. x) (sent_quiet c offers s Abort delivery l k tt q)
+    go_common phase s a q delivery l k = elim a [ ]

@@ -11,7 +11,7 @@ use Rattle.dfu_host.specs.BlockLaws.{first_next, last_short}
 use Rattle.dfu_host.specs.Phases.{ToCompare, Phase, Fetch, LastUploaded, Compare, Last, Over, Heard, Part}
 use Rattle.dfu_host.specs.Table.{deed, fetched, on_part, on_compared, host_row}
 use Rattle.dfu_host.specs.Host.{IsOn}
-use Rattle.dfu_sim.specs.Course.{Course}
+use Rattle.dfu_sim.specs.Delivery.{Delivery}
 use Rattle.dfu_sim.specs.Opening.{task_for}
 use Rattle.dfu_sim.specs.Play.{acted}
 use Rattle.dfu_sim.specs.LinkAgreement.{IsSound}
@@ -68,16 +68,17 @@ module _ (c : Profile) (offers : List (List ℕ)) (p : List ℕ) (some : 0 < len
       (λ other. tt))
   compared_fact k heard d h = tt
 
-  -- Each phase of a host that compares and is not done goes quietly by each course.
-  pub go_compare : (phase : Phase) (s : Situation) → IsOn phase → CompareFact c p phase s → IsSound offers s.stage → (course : Course)
+  -- Each phase of a host that compares and is not done goes quietly by each delivery.
+  pub go_compare : (phase : Phase) (s : Situation) → IsOn phase → CompareFact c p phase s → IsSound offers s.stage → (delivery : Delivery)
       (l r : Luck)
       → GoesQuietly c offers (ToCompare p) (host_row (task_for c (ToCompare p)) phase) s
-      (acted c s (deed (task_for c (ToCompare p)) phase) course l r)
-  go_compare (Compare k) s on h q course l r =
-      let d = acted c s (deed (task_for c (ToCompare p)) (Compare k)) course l r in
-      let x = go_fetch c offers k (front k) s.image s.stage h.0 h.1 q course l r in
+      (acted c s (deed (task_for c (ToCompare p)) phase) delivery l r)
+  go_compare (Compare k) s on h q delivery l r =
+      let d = acted c s (deed (task_for c (ToCompare p)) (Compare k)) delivery l r in
+      let x = go_fetch c offers k (front k) s.image s.stage h.0 h.1 q delivery l r in
       record { quiet = x.quiet; next = if_heard d.heard (λ heard. compared_fact k heard d.device) x.next }
-  go_compare (Last report) s on h q course l r =
-      go_reset c offers (ToCompare p) (Over report) (Last report) s course l (last_ends c offers p some sized s report course.handling l h)
-  go_compare (Over report) s on h q course l r = elim on [ ]
-  go_compare phase s on h q course l r = go_common c offers (ToCompare p) some phase s h q course l r
+  go_compare (Last report) s on h q delivery l r =
+      go_reset c offers (ToCompare p) (Over report) (Last report) s delivery l
+      (last_ends c offers p some sized s report delivery.handling l h)
+  go_compare (Over report) s on h q delivery l r = elim on [ ]
+  go_compare phase s on h q delivery l r = go_common c offers (ToCompare p) some phase s h q delivery l r

@@ -11,8 +11,8 @@ use Rattle.dfu_host.specs.Table.{deed, polled_phase, manifested, asked_phase, as
 use Rattle.dfu_host.specs.RowLaws.{after_status, after_state}
 use Rattle.dfu_host.specs.Host.{IsOn}
 use Rattle.dfu_sim.specs.Session.{IsOneOf}
-use Rattle.dfu_sim.specs.Course.{Course}
-use Rattle.dfu_sim.specs.declared.course.Handling.{Handling}
+use Rattle.dfu_sim.specs.Delivery.{Delivery}
+use Rattle.dfu_sim.specs.declared.delivery.Handled.{Handled}
 use Rattle.dfu_sim.specs.Opening.{task_for}
 use Rattle.dfu_sim.specs.Play.{Passed, waits_for, slipped, sent, acted}
 use Rattle.dfu_sim.specs.LinkAgreement.{IsSound}
@@ -36,10 +36,10 @@ module _ (c : Profile) (offers : List (List ℕ)) (p : List ℕ) (some : 0 < len
 
   -- A phase that asks goes well, if the fact of the phase after it comes of what is known then.
   asks : (r : Request) (phase : Phase) (s : Situation) → IsPolite r → Asks r phase → Fact c p phase s → IsSound offers s.stage
-      → (course : Course) (l k : Luck) → ((d : Situation) (heard : Heard) → Knows c offers p phase d heard
-      → Fact c p (host_row (task_for c (ToLoad p)) phase heard) d) → GoesWell c offers p phase s (sent c s r course l k)
-  asks r phase s polite a h q course l k f =
-      well phase (go_asking c offers (ToLoad p) r p phase (host_row (task_for c (ToLoad p)) phase) s polite a h q course l k f)
+      → (delivery : Delivery) (l k : Luck) → ((d : Situation) (heard : Heard) → Knows c offers p phase d heard
+      → Fact c p (host_row (task_for c (ToLoad p)) phase heard) d) → GoesWell c offers p phase s (sent c s r delivery l k)
+  asks r phase s polite a h q delivery l k f =
+      well phase (go_asking c offers (ToLoad p) r p phase (host_row (task_for c (ToLoad p)) phase) s polite a h q delivery l k f)
 
   reset_in_place : (s : Situation) (stage : Stage) → (s.image ≡ p) × IsDfuIdle stage → (s.image ≡ p) × IsInApp (reset_stage stage)
   reset_in_place s InDfuIdle h = h
@@ -52,39 +52,40 @@ module _ (c : Profile) (offers : List (List ℕ)) (p : List ℕ) (some : 0 < len
   reset_ends s stage report h = h
 
   -- A session that ends in dfuIDLE ends in appIDLE after the last reset, whatever time slips in.
-  pub last_ends : (s : Situation) (report : Report) (how : Handling) (l : Luck) → EndsAs c p s IsDfuIdle report
+  pub last_ends : (s : Situation) (report : Report) (how : Handled) (l : Luck) → EndsAs c p s IsDfuIdle report
       → EndsAs c p (slipped c (was_reset s) how l) IsInApp report
   last_ends s report how l h = slipped_fact c offers p (Over report) s how l (reset_ends s s.stage report h)
 
-  passes : (phase : Phase) (s : Situation) (ms : ℕ) (course : Course) (l : Luck) → Fact c p phase s
-      → Fact c p phase (elapsed c s (waits_for course.handling ms) l)
-  passes phase s ms course l h = fact_time c s.image p phase (waits_for course.handling ms) s.stage h l
+  passes : (phase : Phase) (s : Situation) (ms : ℕ) (delivery : Delivery) (l : Luck) → Fact c p phase s
+      → Fact c p phase (elapsed c s (waits_for delivery.handling ms) l)
+  passes phase s ms delivery l h = fact_time c s.image p phase (waits_for delivery.handling ms) s.stage h l
 
-  -- Each phase of a download's host that is not done goes well by each course.
+  -- Each phase of a download's host that is not done goes well by each delivery.
   pub go_download : (phase : Phase) (s : Situation) → IsOn phase → Fact c p phase s → IsSound offers s.stage → IsOneOf p offers
-      → (course : Course) (l k : Luck) → GoesWell c offers p phase s (acted c s (deed (task_for c (ToLoad p)) phase) course l k)
-  go_download (Block n) s on h q o course l k = go_block c sized offers p n s.image s.stage h.0 h.1 q course l k
-  go_download (Ask n) s on h q o course l k = asks GetState (Ask n) s tt tt h q course l k
+      → (delivery : Delivery) (l k : Luck) → GoesWell c offers p phase s (acted c s (deed (task_for c (ToLoad p)) phase) delivery l k)
+  go_download (Block n) s on h q o delivery l k = go_block c sized offers p n s.image s.stage h.0 h.1 q delivery l k
+  go_download (Ask n) s on h q o delivery l k = asks GetState (Ask n) s tt tt h q delivery l k
       (λ d heard w. after_state (λ x. Fact c p x d) (λ x. ToldBy x d.stage) heard (asked_phase n) Trouble (Ask n)
       (λ state. asked_fact c p some sized n state d.image d.stage w.fact.0 w.fact.1) tt w.fact w.told)
-  go_download (Poll n) s on h q o course l k = asks GetStatus (Poll n) s tt tt h q course l k
+  go_download (Poll n) s on h q o delivery l k = asks GetStatus (Poll n) s tt tt h q delivery l k
       (λ d heard w. after_status (λ x. Fact c p x d) (λ x. ToldBy x d.stage) heard (polled_phase (Block 0) b n) Trouble (Poll n)
       (λ code poll state. polled_fact c p some sized n code poll state d.image d.stage w.fact.0 w.fact.1) tt w.fact w.told)
-  go_download (WaitPoll n poll) s on h q o course l k = well (WaitPoll n poll)
-      (go_wait c offers (ToLoad p) (Poll n) (WaitPoll n poll) s poll course l (passes (Poll n) s poll course l h) q)
-  go_download Close s on h q o course l k =
-      go_close c sized offers p (length (blocks p c.transfer) % 65536) s.image s.stage h q o course l k
-  go_download AskLast s on h q o course l k = asks GetState AskLast s tt tt h q course l k
+  go_download (WaitPoll n poll) s on h q o delivery l k = well (WaitPoll n poll)
+      (go_wait c offers (ToLoad p) (Poll n) (WaitPoll n poll) s poll delivery l (passes (Poll n) s poll delivery l h) q)
+  go_download Close s on h q o delivery l k =
+      go_close c sized offers p (length (blocks p c.transfer) % 65536) s.image s.stage h q o delivery l k
+  go_download AskLast s on h q o delivery l k = asks GetState AskLast s tt tt h q delivery l k
       (λ d heard w. after_state (λ x. Fact c p x d) (λ x. ToldBy x d.stage) heard asked_last Trouble AskLast
       (λ state. asked_last_fact c p some sized state d.image d.stage w.fact) tt w.fact w.told)
-  go_download Manifest s on h q o course l k = asks GetStatus Manifest s tt tt h q course l k
+  go_download Manifest s on h q o delivery l k = asks GetStatus Manifest s tt tt h q delivery l k
       (λ d heard w. after_status (λ x. Fact c p x d) (λ x. ToldBy x d.stage) heard (manifested (Block 0) c.tolerant) Trouble Manifest
       (λ code poll state. manifested_fact c p some sized c.tolerant code poll state d.image d.stage (λ x. x) w.fact) tt w.fact w.told)
-  go_download (WaitManifest poll) s on h q o course l k = well (WaitManifest poll)
-      (go_wait c offers (ToLoad p) Manifest (WaitManifest poll) s poll course l (passes Manifest s poll course l h) q)
-  go_download (WaitLast poll) s on h q o course l k = well (WaitLast poll)
-      (go_wait c offers (ToLoad p) (Last Unconfirmed) (WaitLast poll) s poll course l tt q)
-  go_download (Last report) s on h q o course l k = well (Last report) (go_reset c offers (ToLoad p) (Over report) (Last report) s course l
-      (last_ends s report course.handling l h))
-  go_download (Over report) s on h q o course l k = elim on [ ]
-  go_download phase s on h q o course l k = well phase (go_common c offers (ToLoad p) some phase s h q course l k)
+  go_download (WaitManifest poll) s on h q o delivery l k = well (WaitManifest poll)
+      (go_wait c offers (ToLoad p) Manifest (WaitManifest poll) s poll delivery l (passes Manifest s poll delivery l h) q)
+  go_download (WaitLast poll) s on h q o delivery l k = well (WaitLast poll)
+      (go_wait c offers (ToLoad p) (Last Unconfirmed) (WaitLast poll) s poll delivery l tt q)
+  go_download (Last report) s on h q o delivery l k = well (Last report)
+      (go_reset c offers (ToLoad p) (Over report) (Last report) s delivery l
+      (last_ends s report delivery.handling l h))
+  go_download (Over report) s on h q o delivery l k = elim on [ ]
+  go_download phase s on h q o delivery l k = well phase (go_common c offers (ToLoad p) some phase s h q delivery l k)

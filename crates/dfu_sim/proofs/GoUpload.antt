@@ -6,9 +6,9 @@ use Rattle.dfu_device.specs.Outcome.{Situation, Luck, elapsed, was_reset}
 use Rattle.dfu_host.specs.Phases.{ToFetch, Phase, Fetch, LastUploaded, Over, OverUploaded}
 use Rattle.dfu_host.specs.Table.{deed, host_row}
 use Rattle.dfu_host.specs.Host.{IsOn}
-use Rattle.dfu_sim.specs.declared.course.Handling.{Handling}
-use Rattle.dfu_sim.specs.declared.course.Handling.TheVariants.{Late}
-use Rattle.dfu_sim.specs.Course.{Course}
+use Rattle.dfu_sim.specs.declared.delivery.Handled.{Handled}
+use Rattle.dfu_sim.specs.declared.delivery.Handled.TheVariants.{Late}
+use Rattle.dfu_sim.specs.Delivery.{Delivery}
 use Rattle.dfu_sim.specs.Opening.{task_for}
 use Rattle.dfu_sim.specs.Play.{slipped, acted}
 use Rattle.dfu_sim.specs.LinkAgreement.{IsSound}
@@ -22,16 +22,17 @@ module _ (c : Profile) (offers : List (List ℕ)) where
   time_image image (InAppDetach timer passed) ms l = refl
   time_image image stage ms l = refl
 
-  slipped_image : (s : Situation) (how : Handling) (l : Luck) → (slipped c (was_reset s) how l).image ≡ s.image
+  slipped_image : (s : Situation) (how : Handled) (l : Luck) → (slipped c (was_reset s) how l).image ≡ s.image
   slipped_image s (Late ms) l = time_image s.image s.stage ms l
   slipped_image s how l = refl
 
-  -- Each phase of an upload's host that is not done goes quietly by each course.
-  pub go_upload : (phase : Phase) (s : Situation) → IsOn phase → FetchFact phase s → IsSound offers s.stage → (course : Course) (l k : Luck)
-      → GoesQuietly c offers ToFetch (host_row (task_for c ToFetch) phase) s (acted c s (deed (task_for c ToFetch) phase) course l k)
-  go_upload (Fetch n kept) s on h q course l k = go_fetch c offers n kept s.image s.stage h.0 h.1 q course l k
-  go_upload (LastUploaded kept) s on h q course l k = go_reset c offers ToFetch (OverUploaded kept) (LastUploaded kept) s course l
-      (h.0 ∙ sym (slipped_image s course.handling l))
-  go_upload (Over report) s on h q course l k = elim on [ ]
-  go_upload (OverUploaded kept) s on h q course l k = elim on [ ]
-  go_upload phase s on h q course l k = go_common c offers ToFetch tt phase s h q course l k
+  -- Each phase of an upload's host that is not done goes quietly by each delivery.
+  pub go_upload : (phase : Phase) (s : Situation) → IsOn phase → FetchFact phase s → IsSound offers s.stage
+      → (delivery : Delivery) (l k : Luck)
+      → GoesQuietly c offers ToFetch (host_row (task_for c ToFetch) phase) s (acted c s (deed (task_for c ToFetch) phase) delivery l k)
+  go_upload (Fetch n kept) s on h q delivery l k = go_fetch c offers n kept s.image s.stage h.0 h.1 q delivery l k
+  go_upload (LastUploaded kept) s on h q delivery l k = go_reset c offers ToFetch (OverUploaded kept) (LastUploaded kept) s delivery l
+      (h.0 ∙ sym (slipped_image s delivery.handling l))
+  go_upload (Over report) s on h q delivery l k = elim on [ ]
+  go_upload (OverUploaded kept) s on h q delivery l k = elim on [ ]
+  go_upload phase s on h q delivery l k = go_common c offers ToFetch tt phase s h q delivery l k

@@ -8,21 +8,21 @@ use Rattle.dfu_device.specs.declared.answer.Answer.TheVariants as answer
 use Rattle.dfu_device.specs.declared.objection.Objection.{Objection}
 use Rattle.dfu_device.specs.Table.{time_plan}
 use Rattle.dfu_device.specs.Outcome.{outcome}
-use Rattle.dfu_device.specs.Shown.{Shown, profile}
+use Rattle.dfu_device.specs.DeviceView.{DeviceView, profile}
 use Rattle.dfu_device.specs.Rows.{asked_length}
 use Rattle.dfu_host.specs.Phases.{Deed, Send, Wait, Reset, Done as IsDone, Heard, Waited, WasReset, Restarted}
 use Rattle.dfu_host.specs.Table.{deed}
 use Rattle.dfu_host.specs.Host.{HostState}
 use Rattle.dfu_host.specs.Wire.{IsAsked}
-use Rattle.dfu_sim.specs.declared.back.Back.{Back}
-use Rattle.dfu_sim.specs.declared.back.Back.TheVariants as back
-use Rattle.dfu_sim.specs.declared.course.Handling.{Handling}
-use Rattle.dfu_sim.specs.declared.course.Handling.TheVariants.{Once, Late}
-use Rattle.dfu_sim.specs.declared.course.Harming.{Harming}
-use Rattle.dfu_sim.specs.declared.course.Harming.TheVariants.{NoWrite, CutsPower}
-use Rattle.dfu_sim.specs.Course.{course_of}
+use Rattle.dfu_sim.specs.declared.response.Response.{Response}
+use Rattle.dfu_sim.specs.declared.response.Response.TheVariants as response
+use Rattle.dfu_sim.specs.declared.delivery.Handled.{Handled}
+use Rattle.dfu_sim.specs.declared.delivery.Handled.TheVariants.{Once, Late}
+use Rattle.dfu_sim.specs.declared.delivery.MediumFault.{MediumFault}
+use Rattle.dfu_sim.specs.declared.delivery.MediumFault.TheVariants.{NoWrite, CutsPower}
+use Rattle.dfu_sim.specs.Delivery.{delivery_of}
 use Rattle.dfu_sim.specs.Happening.{Fate, CutIn, Fail, Lie, Refusing, Harm, Happening}
-use Rattle.dfu_sim.specs.Bench.{Hosted, Bench}
+use Rattle.dfu_sim.specs.LinkView.{Hosted, LinkView}
 use Rattle.dfu_sim.specs.Play.{Answered, took, heard_as, remembered, heard_over, waits_for}
 use Rattle.dfu_sim.specs.Bytes.{fuse_of, armed, bus_was_reset, HearsBack, TakesSetup, ReachesDevice, once, Sends, Slips, Acts, device_left_by, NextAction, HappensOnBench}
 use Rattle.dfu_sim.specs.Comes.{happens}
@@ -33,23 +33,24 @@ use Rattle.dfu_sim.proofs.Replies.{IsHosts, HostsDeed, hosts_deed, plan_heard}
 use Rattle.dfu_sim.proofs.Actions.{plan_on, takes_by}
 
 -- What two results of an action have in common: the devices are the same, and one thing is heard, but for want of memory.
-record ActedOnce (w' v' : Shown) (heard other : Heard) : Type 0 where
+record ActedOnce (w' v' : DeviceView) (heard other : Heard) : Type 0 where
   device : SameDevice w' v'
   hears : Heard
   first : (room : Bool) × (heard ≡ remembered hears room)
   second : (room : Bool) × (other ≡ remembered hears room)
 
-one_heard : {w' v' : Shown} {heard other : Heard} (x : Heard) → SameDevice w' v' → heard ≡ x → other ≡ x → ActedOnce w' v' heard other
+one_heard : {w' v' : DeviceView} {heard other : Heard} (x : Heard) → SameDevice w' v' → heard ≡ x → other ≡ x → ActedOnce w' v' heard other
 one_heard x same e f =
     record { device = same; hears = x; first = (true, e ∙ all_remembered x); second = (true, f ∙ all_remembered x) }
 
 -- A request that comes once: there is one answer.
-reached_once : {x : Option Objection} {setup body : List ℕ} {w w' : Shown} {came : Back} {out : List ℕ}
-    → ReachesDevice x setup body Once w came out w' → (a : Answer) × (came ≡ back.Answered a) × TakesSetup x setup body w a out w'
+reached_once : {x : Option Objection} {setup body : List ℕ} {w w' : DeviceView} {came : Response} {out : List ℕ}
+    → ReachesDevice x setup body Once w came out w' → (a : Answer) × (came ≡ response.Answered a) × TakesSetup x setup body w a out w'
 reached_once (once {a = a} h) = (a, refl, h)
 
-module _ (q : Asked) (body : List ℕ) (is : IsHosts q body) (w : Shown) (known : IsKnown w.slots.medium.fuse) (x : Option Objection) where
-  taken_once : (setup setup2 : List ℕ) (w' v' : Shown) (a b : Answer) (out other : List ℕ) → IsAsked q setup → IsAsked q setup2
+module _ (q : Asked) (body : List ℕ) (is : IsHosts q body) (w : DeviceView) (known : IsKnown w.slots.medium.fuse)
+    (x : Option Objection) where
+  taken_once : (setup setup2 : List ℕ) (w' v' : DeviceView) (a b : Answer) (out other : List ℕ) → IsAsked q setup → IsAsked q setup2
       → TakesSetup x setup body w a out w' → TakesSetup x setup2 body w b other v'
       → DoneOnce (plan_on q body x w) (asked_length q) w w' v' a b out other
   taken_once setup setup2 w' v' a b out other asked asked2 h k =
@@ -57,7 +58,7 @@ module _ (q : Asked) (body : List ℕ) (is : IsHosts q body) (w : Shown) (known 
       (takes_by q setup body is asked x w w' a out h) (takes_by q setup2 body is asked2 x w v' b other k)
 
   -- A request whose answer comes back: one thing is heard of it.
-  answered_once : (setup setup2 : List ℕ) (w' v' : Shown) (heard heard2 : Heard) (came came2 : Back) (out out2 : List ℕ)
+  answered_once : (setup setup2 : List ℕ) (w' v' : DeviceView) (heard heard2 : Heard) (came came2 : Response) (out out2 : List ℕ)
       → IsAsked q setup → IsAsked q setup2 → ReachesDevice x setup body Once w came out w' →
       ReachesDevice x setup2 body Once w came2 out2 v'
       → HearsBack (Send q body) came out heard → HearsBack (Send q body) came2 out2 heard2 → ActedOnce w' v' heard heard2
@@ -69,14 +70,14 @@ module _ (q : Asked) (body : List ℕ) (is : IsHosts q body) (w : Shown) (known 
         device = y.device;
         hears = heard_as (outcome (image_of w.slots) (plan_on q body x w) y.luck).reply;
         first = plan_heard x q body (profile w) (image_of w.slots) w.stage y.luck a.0 out heard is y.first
-            (subst (λ (c : Back). HearsBack (Send q body) c out heard) a.1 says);
+            (subst (λ (c : Response). HearsBack (Send q body) c out heard) a.1 says);
         second = plan_heard x q body (profile w) (image_of w.slots) w.stage y.luck b.0 out2 heard2 is y.second
-            (subst (λ (c : Back). HearsBack (Send q body) c out2 heard2) b.1 says2);
+            (subst (λ (c : Response). HearsBack (Send q body) c out2 heard2) b.1 says2);
       }
 
-  sends_as : (fate : Fate) (setup setup2 : List ℕ) (w' v' : Shown) (heard heard2 : Heard) → HarmsAWrite (course_of fate).harming
-      → IsAsked q setup → IsAsked q setup2 → Sends q setup body (record (course_of fate) { refusing = x }) w w' heard
-      → Sends q setup2 body (record (course_of fate) { refusing = x }) w v' heard2
+  sends_as : (fate : Fate) (setup setup2 : List ℕ) (w' v' : DeviceView) (heard heard2 : Heard) → HarmsAWrite (delivery_of fate).harming
+      → IsAsked q setup → IsAsked q setup2 → Sends q setup body (record (delivery_of fate) { refusing = x }) w w' heard
+      → Sends q setup2 body (record (delivery_of fate) { refusing = x }) w v' heard2
       → ActedOnce w' v' heard heard2
   sends_as CutIn setup setup2 w' v' heard heard2 harms asked asked2 h k =
       let a = reached_once h.reaches in
@@ -91,30 +92,31 @@ module _ (q : Asked) (body : List ℕ) (is : IsHosts q body) (w : Shown) (known 
       sends_as fate setup setup2 w' v' heard heard2 harms asked asked2 h k
   sends_as fate setup setup2 w' v' heard heard2 harms asked asked2 h k = elim harms [ ]
 
-slips_once : (how : Handling) (w w' v' : Shown) → IsKnown w.slots.medium.fuse → Slips how w w' → Slips how w v' → SameDevice w' v'
+slips_once : (how : Handled) (w w' v' : DeviceView) → IsKnown w.slots.medium.fuse → Slips how w w' → Slips how w v' → SameDevice w' v'
 slips_once (Late ms) w w' v' known h k =
     (done_once (time_plan (profile w) w.stage ms) 0 w w' v' answer.Ack answer.Ack [] [] known h k).device
 slips_once how w w' v' known h k = same_device (h ∙ sym k)
 
 -- An action in which a write is harmed, from one device.
-acts_once : (d : Deed) (fate : Fate) (w w' v' : Shown) (heard heard2 : Heard) → HostsDeed d
-    → HarmsAWrite (course_of fate).harming → IsKnown w.slots.medium.fuse → Acts d (course_of fate) w w' heard
-    → Acts d (course_of fate) w v' heard2 → ActedOnce w' v' heard heard2
+acts_once : (d : Deed) (fate : Fate) (w w' v' : DeviceView) (heard heard2 : Heard) → HostsDeed d
+    → HarmsAWrite (delivery_of fate).harming → IsKnown w.slots.medium.fuse → Acts d (delivery_of fate) w w' heard
+    → Acts d (delivery_of fate) w v' heard2 → ActedOnce w' v' heard heard2
 acts_once (Send q body) fate w w' v' heard heard2 is harms known (setup, asked, h) (setup2, asked2, k) =
-    sends_as q body is w known (course_of fate).refusing fate setup setup2 w' v' heard heard2 harms asked asked2 h k
+    sends_as q body is w known (delivery_of fate).refusing fate setup setup2 w' v' heard heard2 harms asked asked2 h k
 acts_once (Wait ms) fate w w' v' heard heard2 is harms known (h, e) (k, f) =
-    let time = time_plan (profile w) w.stage (waits_for (course_of fate).handling ms) in
-    one_heard (heard_over (course_of fate).harming Waited) (done_once time 0 w w' v' answer.Ack answer.Ack [] [] known h k).device e f
+    let time = time_plan (profile w) w.stage (waits_for (delivery_of fate).handling ms) in
+    one_heard (heard_over (delivery_of fate).harming Waited) (done_once time 0 w w' v' answer.Ack answer.Ack [] [] known h k).device e f
 acts_once Reset fate w w' v' heard heard2 is harms known (h, e) (k, f) =
-    one_heard (heard_over (course_of fate).harming WasReset) (slips_once (course_of fate).handling (bus_was_reset w) w' v' known h k) e f
+    one_heard (heard_over (delivery_of fate).harming WasReset)
+    (slips_once (delivery_of fate).handling (bus_was_reset w) w' v' known h k) e f
 acts_once (IsDone report) fate w w' v' heard heard2 is harms known h k = absurd h
 
 -- The fuse of an action in which a write is harmed is known.
-fuse_known : (harming : Harming) (harm : Harm) → HarmsAWrite harming → IsKnown (fuse_of harming harm)
+fuse_known : (harming : MediumFault) (harm : Harm) → HarmsAWrite harming → IsKnown (fuse_of harming harm)
 fuse_known NoWrite harm harms = elim harms [ ]
 fuse_known harming harm harms = tt
 
-left_same : (harming : Harming) {w v : Shown} → SameDevice w v → SameDevice (device_left_by harming w) (device_left_by harming v)
+left_same : (harming : MediumFault) {w v : DeviceView} → SameDevice w v → SameDevice (device_left_by harming w) (device_left_by harming v)
 left_same CutsPower same = powered_same same
 left_same harming same = disarmed_same same
 
@@ -122,20 +124,21 @@ hosted_one : (h k : HostState) → Hosted h ≡ Hosted k → k ≡ h
 hosted_one h k e = sym cc
 
 -- The host's next action, where a write is harmed in it.
-action_once : (fate : Fate) (harm : Harm) (b c d : Bench) (x y : Answered) → HarmsAWrite (course_of fate).harming
+action_once : (fate : Fate) (harm : Harm) (b c d : LinkView) (x y : Answered) → HarmsAWrite (delivery_of fate).harming
     → NextAction b.session fate harm b c x → NextAction b.session fate harm b d y → AreOne c d x y
 action_once fate harm b c d x y harms g k =
-    let harming = (course_of fate).harming in
+    let harming = (delivery_of fate).harming in
     let w = armed b.device (fuse_of harming harm) in
     let same : k.host ≡ g.host = hosted_one g.host k.host (sym g.live ∙ k.live) in
-    let acts : Acts (deed g.host.task g.host.phase) (course_of fate) w k.gone.last k.gone.acted.heard = subst
-    (λ (h : HostState). Acts (deed h.task h.phase) (course_of fate) w k.gone.last k.gone.acted.heard) same k.gone.acted.acts in
+    let acts : Acts (deed g.host.task g.host.phase) (delivery_of fate) w k.gone.last k.gone.acted.heard = subst
+    (λ (h : HostState). Acts (deed h.task h.phase) (delivery_of fate) w k.gone.last k.gone.acted.heard) same k.gone.acted.acts in
     let one = acts_once (deed g.host.task g.host.phase) fate w g.gone.last k.gone.last g.gone.acted.heard k.gone.acted.heard
     (hosts_deed g.host.task g.host.phase) harms
     (fuse_known harming harm harms) g.gone.acted.acts acts in
     record {
-      device = subst (λ (z : Shown). SameDevice z d.device) (sym g.gone.device)
-          (subst (λ (z : Shown). SameDevice (device_left_by harming g.gone.last) z) (sym k.gone.device) (left_same harming one.device));
+      device = subst (λ (z : DeviceView). SameDevice z d.device) (sym g.gone.device)
+          (subst (λ (z : DeviceView). SameDevice (device_left_by harming g.gone.last) z) (sym k.gone.device)
+          (left_same harming one.device));
       rule = λ room. took g.host (remembered one.hears room);
       first = (
         one.first.0,

@@ -9,7 +9,7 @@ use Rattle.dfu_sim.specs.declared.event.Event.TheVariants.{Abort}
 use Rattle.dfu_sim.specs.declared.fault.LinkFault.{LinkFault}
 use Rattle.dfu_sim.specs.Session.{Machine, Loading, IsOneOf, SaysInPlace}
 use Rattle.dfu_sim.specs.Agreement.{AgreesOn, intake_of, live_of, live_goal, IsShutOffer}
-use Rattle.dfu_sim.specs.Bench.{Session, Nobody, Hosted, Bench, LinkState}
+use Rattle.dfu_sim.specs.LinkView.{Session, Nobody, Hosted, LinkView, WorldView}
 use Rattle.dfu_sim.specs.Happening.{Happening, happening}
 use Rattle.dfu_sim.specs.Following.{IsFollowed, AllFollow}
 use Rattle.dfu_sim.specs.Headline.{Begun, WithOffer, AsUpload, begun_now, WasOffered, IsLastPayload, IsWaiting, IsGoalPayload, IsLivePayload, HeadlineHolds, StepKeepsHeadline, no_event, one_event, EventsKeepHeadline, HoldsAtRest}
@@ -79,10 +79,10 @@ loads_session Nobody x is = absurd is
 loads_session (Hosted h) x is = loads_goal h.task.goal x is
 
 -- The session machine of a link of which the headline holds.
-abbrev machine_at : LinkState → List ℕ → Machine
+abbrev machine_at : WorldView → List ℕ → Machine
 machine_at w image = machine_with image w.bench.device.stage w.bench.session w.up
 
-agrees_then : {factory : List ℕ} {past : List Begun} {before : Option Report} {w : LinkState}
+agrees_then : {factory : List ℕ} {past : List Begun} {before : Option Report} {w : WorldView}
     (k : HeadlineHolds factory past before w.bench) → AgreesOn w.bench w.up (machine_at w k.says.image)
 agrees_then {w = w} k = record {
   active = k.says.active;
@@ -93,7 +93,7 @@ agrees_then {w = w} k = record {
   offered = live_offered w.bench.session (closed_in w.bench.device.stage);
 }
 
-past_then : {factory : List ℕ} {past : List Begun} {before : Option Report} {w : LinkState}
+past_then : {factory : List ℕ} {past : List Begun} {before : Option Report} {w : WorldView}
     (k : HeadlineHolds factory past before w.bench) → IsOfPast factory past (machine_at w k.says.image)
 past_then {past = past} {w = w} k = record {
   known = k.says.known;
@@ -105,7 +105,7 @@ past_then {past = past} {w = w} k = record {
 }
 
 -- The headline holds where a session machine agrees that has what was offered, and where what is reported is so.
-abbrev pub holds_by : {factory : List ℕ} {past : List Begun} {report : Option Report} {b : Bench} {up : List ℕ} {m : Machine}
+abbrev pub holds_by : {factory : List ℕ} {past : List Begun} {report : Option Report} {b : LinkView} {up : List ℕ} {m : Machine}
     → AgreesOn b up m → IsOfPast factory past m → (SaysInPlace report → (b.device.stage ≡ InAppIdle) × IsLastPayload past m.cur)
     → HeadlineHolds factory past report b
 holds_by {b = b} {m = m} agrees of_past in_place = record {
@@ -117,12 +117,12 @@ holds_by {b = b} {m = m} agrees of_past in_place = record {
 }
 
 -- The headline holds after an event that such a session machine follows.
-abbrev pub holds_after : {factory : List ℕ} {past : List Begun} {m : Machine} {w w' : LinkState} (h : Happening) {report : Option Report}
+abbrev pub holds_after : {factory : List ℕ} {past : List Begun} {m : Machine} {w w' : WorldView} (h : Happening) {report : Option Report}
     → IsOfPast factory past m → IsFollowed w h w' report m → HeadlineHolds factory (begun_by h past) report w'.bench
 holds_after h of_past f = holds_by f.agrees (past_on h of_past f) (λ e. ((f.in_place e).0, in_place_on h of_past f e))
 
 -- What each session machine follows keeps the headline.
-pub keeps_on : {factory : List ℕ} {past : List Begun} {before : Option Report} {w w' : LinkState} (h : Happening) {report : Option Report}
+pub keeps_on : {factory : List ℕ} {past : List Begun} {before : Option Report} {w w' : WorldView} (h : Happening) {report : Option Report}
     → ((m : Machine) → AgreesOn w.bench w.up m → IsFollowed w h w' report m) → HeadlineHolds factory past before w.bench
     → HeadlineHolds factory (begun_by h past) report w'.bench
 keeps_on {w = w} h follow k = holds_after h (past_then k) (follow (machine_at w k.says.image) (agrees_then k))
@@ -133,7 +133,7 @@ begun_same : (event : Event) (past : List Begun) → begun_by (happening event) 
 begun_same Abort past = refl
 begun_same event past = refl
 
-keeps : {factory : List ℕ} {past : List Begun} {before : Option Report} {w w' : LinkState} (event : Event) {report : Option Report}
+keeps : {factory : List ℕ} {past : List Begun} {before : Option Report} {w w' : WorldView} (event : Event) {report : Option Report}
     → ((m : Machine) → AgreesOn w.bench w.up m → IsFollowed w (happening event) w' report m) → HeadlineHolds factory past before w.bench
     → HeadlineHolds factory (begun_now event past) report w'.bench
 keeps {factory = factory} {past = past} {w' = w'} event {report = report} follow k =
@@ -141,13 +141,13 @@ keeps {factory = factory} {past = past} {w' = w'} event {report = report} follow
     (keeps_on (happening event) follow k)
 
 -- An event that each session machine follows keeps the headline.
-pub step_keeps : (w w' : LinkState) (event : Event) (result : Result (Option Report) LinkFault) → AllFollow w (happening event) w' result
+pub step_keeps : (w w' : WorldView) (event : Event) (result : Result (Option Report) LinkFault) → AllFollow w (happening event) w' result
     → StepKeepsHeadline w event w' result
 step_keeps w w' event (Ok report) follow = λ factory past before k. keeps event follow k
 step_keeps w w' event (Err fault) follow = follow
 
 -- So does a run.
-pub chain_keeps : {w w' : LinkState} {reports : List Report} (events : List Event) → Chain w (map happening events) reports w'
+pub chain_keeps : {w w' : WorldView} {reports : List Report} (events : List Event) → Chain w (map happening events) reports w'
     → EventsKeepHeadline w events reports w'
 chain_keeps [] no_more factory past before k = no_event
 chain_keeps (event ∷ events) (one_more {report = report} s more) factory past before k =
@@ -155,7 +155,7 @@ chain_keeps (event ∷ events) (one_more {report = report} s more) factory past 
     one_event next (chain_keeps events more factory (begun_now event past) report next)
 
 -- And one that stopped.
-pub stopped_keeps : {w w' : LinkState} {reports : List Report} (n : ℕ) (events : List Event)
+pub stopped_keeps : {w w' : WorldView} {reports : List Report} (n : ℕ) (events : List Event)
     → Chain w (take n (map happening events)) reports w' → EventsKeepHeadline w (take n events) reports w'
 stopped_keeps {w = w} {w' = w'} {reports = reports} n events chain =
     chain_keeps (take n events) (subst (λ (hs : List Happening). Chain w hs reports w') (take-map happening n events) chain)

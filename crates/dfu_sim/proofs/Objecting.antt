@@ -10,7 +10,7 @@ use Rattle.dfu_host.specs.Host.{IsOn}
 use Rattle.dfu_host.specs.Phases.{Goal, ToLoad, ToFetch, ToVerify, ToCompare, Phase, Block, Ask, Poll, WaitPoll, Close, AskLast, Manifest, WaitManifest, Fetch, LastUploaded, Compare, Last, Over, OverUploaded}
 use Rattle.dfu_sim.specs.Session.{Live, MayDrop, ends_not, drops}
 use Rattle.dfu_sim.specs.Play.{image_refused}
-use Rattle.dfu_sim.specs.Bench.{Session, Nobody, Hosted}
+use Rattle.dfu_sim.specs.LinkView.{Session, Nobody, Hosted}
 use Rattle.dfu_sim.specs.LinkAgreement.{pending_of, IsSound}
 use Rattle.dfu_sim.specs.Fact.{IsDfuIdle, EndsAs, Fact, FetchFact, CompareFact, GoalFact, SessionFact}
 use Rattle.dfu_sim.proofs.Taking.{shown}

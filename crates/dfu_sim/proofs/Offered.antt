@@ -3,7 +3,7 @@ use Rattle.std.proofs.Common.{◌≡◌, ◌⊎◌, inl, inr, ℕ, Bool, List, [
 use Rattle.dfu_host.specs.declared.report.Report.{Report}
 use Rattle.dfu_sim.specs.Session.{Machine, Loading, IsOneOf, SaysReport, says_not, Kind, AnOffer, AnUpload, SaysInPlace, MachineStep, offered, uploads, restarts, refuses, goes, stops, and_then, said}
 use Rattle.dfu_sim.specs.Simulation.{offers_after}
-use Rattle.dfu_sim.specs.Bench.{LinkState}
+use Rattle.dfu_sim.specs.LinkView.{WorldView}
 use Rattle.dfu_sim.specs.Happening.{Happening, Offers, Uploads}
 use Rattle.dfu_sim.specs.Following.{IsOfKind, IsFollowed}
 use Rattle.dfu_sim.specs.BegunBy.{begun_by}
@@ -48,13 +48,13 @@ pub record IsOfPast (factory : List ℕ) (past : List Begun) (m : Machine) : Typ
   pub live : (x : List ℕ) → m.live ≡ Loading x → IsLastPayload past x
 
 still_offered : (h : Happening) (past : List Begun) (x : List ℕ) → WasOffered past x → WasOffered (begun_by h past) x
-still_offered (Offers aim file limits) past x was = inr was
+still_offered (Offers purpose file limits) past x was = inr was
 still_offered h past x was = was
 
 -- Each offer of the machine after an event was offered: by this event, or before it.
 offers_on : (h : Happening) (kind : Kind) (past : List Begun) (offers : List (List ℕ)) (x : List ℕ) → IsOfKind h kind
     → ((y : List ℕ) → IsOneOf y offers → WasOffered past y) → IsOneOf x (offers_after (kind ∷ []) offers) → WasOffered (begun_by h past) x
-offers_on (Offers aim file limits) kind past offers x is all one =
+offers_on (Offers purpose file limits) kind past offers x is all one =
     let new : IsOneOf x (is.0 ∷ offers) = subst (λ (k : Kind). IsOneOf x (offers_after (k ∷ []) offers)) is.5 one in
     elim new [
       | inl e ↦ inl (subst (λ (y : List ℕ). IsPayload y file) (sym e) (is.1, is.2, is.3, is.4))
@@ -65,14 +65,14 @@ offers_on h kind past offers x is all one = all x (subst (λ (k : Kind). IsOneOf
 -- A payload that can be live after an event is that of the last session.
 last_on : (h : Happening) (kind : Kind) (past : List Begun) (m : Machine) (x : List ℕ) → IsOfKind h kind
     → ((y : List ℕ) → m.live ≡ Loading y → IsLastPayload past y) → IsLiveBy kind m x → IsLastPayload (begun_by h past) x
-last_on (Offers aim file limits) kind past m x is all by =
+last_on (Offers purpose file limits) kind past m x is all by =
     let same : is.0 ≡ x = subst (λ (k : Kind). IsLiveBy k m x) is.5 by in
     subst (λ (y : List ℕ). IsPayload y file) same (is.1, is.2, is.3, is.4)
 last_on (Uploads limits) kind past m x is all by = absurd (subst (λ (k : Kind). IsLiveBy k m x) is by)
 last_on h kind past m x is all by = all x (subst (λ (k : Kind). IsLiveBy k m x) is by)
 
 -- It stays so with each event that the machine follows.
-pub past_on : {factory : List ℕ} {past : List Begun} {m : Machine} {w w' : LinkState} (h : Happening) {report : Option Report}
+pub past_on : {factory : List ℕ} {past : List Begun} {m : Machine} {w w' : WorldView} (h : Happening) {report : Option Report}
     → IsOfPast factory past m → (f : IsFollowed w h w' report m) → IsOfPast factory (begun_by h past) f.after
 past_on {factory = factory} {past = past} {m = m} {w = w} h {report = report} of_past f =
     let s = w.bench.device.config.functional in
@@ -91,6 +91,6 @@ past_on {factory = factory} {past = past} {m = m} {w = w} h {report = report} of
     }
 
 -- Where Installed or Verified is reported, the image of the machine is the payload of the last session.
-pub in_place_on : {factory : List ℕ} {past : List Begun} {m : Machine} {w w' : LinkState} (h : Happening) {report : Option Report}
+pub in_place_on : {factory : List ℕ} {past : List Begun} {m : Machine} {w w' : WorldView} (h : Happening) {report : Option Report}
     → IsOfPast factory past m → (f : IsFollowed w h w' report m) → SaysInPlace report → IsLastPayload (begun_by h past) f.after.cur
 in_place_on {past = past} {m = m} h of_past f e = last_on h f.kind past m f.after.cur f.is of_past.live (in_place_by f.step e)

@@ -6,8 +6,8 @@ use Rattle.dfu_host.specs.Phases.{Goal, Phase, Over, OverUploaded, Heard}
 use Rattle.dfu_host.specs.Table.{deed}
 use Rattle.dfu_host.specs.Host.{HostState, IsOn, budgeted}
 use Rattle.dfu_sim.specs.Happening.{Pass}
-use Rattle.dfu_sim.specs.Course.{course_of}
-use Rattle.dfu_sim.specs.Bench.{Hosted}
+use Rattle.dfu_sim.specs.Delivery.{delivery_of}
+use Rattle.dfu_sim.specs.LinkView.{Hosted}
 use Rattle.dfu_sim.specs.Opening.{task_for}
 use Rattle.dfu_sim.specs.Play.{Link, silent, Took, settled, took, remembered, has_room, Passed, acted}
 use Rattle.dfu_sim.specs.CleanRun.{PassesTo, Quietly, here, there}
@@ -58,7 +58,7 @@ module _ (c : Profile) (goal : Goal) (again : ℕ) where
 
   -- One action: what the device does, what the host hears, and the phase to which it comes.
   pub one_by : {i j : List ℕ} {s t : Stage} {phase next : Phase} (heard : Heard) (mid : Phase)
-      → ((k : Luck) → acted c (record { image = i; stage = s }) (deed (task_for c goal) phase) (course_of Pass) Works k
+      → ((k : Luck) → acted c (record { image = i; stage = s }) (deed (task_for c goal) phase) (delivery_of Pass) Works k
       ≡ record { device = record { image = j; stage = t }; heard = heard })
       → ((l : ℕ) (room : Bool) → took (host_at phase (suc (suc l))) (remembered heard (has_room phase room)) ≡ comes_to mid l)
       → mid ≡ next → IsOn next

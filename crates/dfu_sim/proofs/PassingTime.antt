@@ -8,7 +8,7 @@ use Rattle.dfu_host.specs.Blocks.{first}
 use Rattle.dfu_host.specs.Phases.{Goal, ToLoad, ToFetch, ToVerify, ToCompare, Phase, Fetch, LastUploaded, Compare, Last, Over, OverUploaded}
 use Rattle.dfu_host.specs.Host.{IsOn}
 use Rattle.dfu_sim.specs.Session.{Live, ATime, MachineStep, passes, passes_installed}
-use Rattle.dfu_sim.specs.Bench.{Session, Nobody, Hosted}
+use Rattle.dfu_sim.specs.LinkView.{Session, Nobody, Hosted}
 use Rattle.dfu_sim.specs.LinkAgreement.{pending_of, IsSound}
 use Rattle.dfu_sim.specs.Fact.{IsDfuIdle, Fetches, FetchFact, CompareFact, GoalFact, SessionFact}
 use Rattle.dfu_sim.proofs.Kept.{fact_time}

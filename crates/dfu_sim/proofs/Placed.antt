@@ -7,13 +7,13 @@ use Rattle.dfu_device.specs.Outcome.{Situation, Luck, Works, FailsOld, FailsNew,
 use Rattle.dfu_device.specs.Rows.{meant}
 use Rattle.dfu_host.specs.Phases.{Deed, Send, Wait, Reset, Done}
 use Rattle.dfu_host.specs.Table.{deed}
-use Rattle.dfu_sim.specs.declared.course.Handling.{Handling}
-use Rattle.dfu_sim.specs.declared.course.Handling.TheVariants.{Unseen, Once, Again, Late}
-use Rattle.dfu_sim.specs.declared.course.Harming.{Harming}
-use Rattle.dfu_sim.specs.declared.course.Harming.TheVariants.{CutsPower}
-use Rattle.dfu_sim.specs.Course.{Course, course_of}
+use Rattle.dfu_sim.specs.declared.delivery.Handled.{Handled}
+use Rattle.dfu_sim.specs.declared.delivery.Handled.TheVariants.{Unseen, Once, Again, Late}
+use Rattle.dfu_sim.specs.declared.delivery.MediumFault.{MediumFault}
+use Rattle.dfu_sim.specs.declared.delivery.MediumFault.TheVariants.{CutsPower}
+use Rattle.dfu_sim.specs.Delivery.{Delivery, delivery_of}
 use Rattle.dfu_sim.specs.Happening.{Fate, Happening, Offers, Uploads, Aborts, Goes, Passes, Resets, Cuts, Refuses}
-use Rattle.dfu_sim.specs.Bench.{Session, Nobody, Hosted}
+use Rattle.dfu_sim.specs.LinkView.{Session, Nobody, Hosted}
 use Rattle.dfu_sim.specs.Play.{Link, Answered, Played, plan_by, reached, over, slipped, waits_for, acted, gone, played, Play}
 use Rattle.dfu_sim.specs.Headline.{IsWaiting}
 use Rattle.dfu_sim.specs.Accepting.{MayPlace}
@@ -95,7 +95,7 @@ module _ (c : Profile) where
   ]
 
   -- A request, however it comes.
-  reached_placed : (s : Situation) (r : Request) (x : Option Objection) (how : Handling) (l k : Luck)
+  reached_placed : (s : Situation) (r : Request) (x : Option Objection) (how : Handled) (l k : Luck)
       → Placed s (reached c s r (plan_by x c s.image s.stage r) how l k).device
   reached_placed s r x Unseen l k = inl refl
   reached_placed s r x Once l k =
@@ -111,7 +111,7 @@ module _ (c : Profile) where
       (first_of s r (plan_by x c s.image s.stage r) l (by_leads x c s.image s.stage r))
 
   -- The end of an action.
-  over_placed : (s s' : Situation) (harming : Harming) → Placed s s' → Placed s (over harming s')
+  over_placed : (s s' : Situation) (harming : MediumFault) → Placed s s' → Placed s (over harming s')
   over_placed s s' CutsPower (inl same) = inl same
   over_placed s s' CutsPower (inr placed) = inr (placed.0, λ t m. m)
   over_placed s s' harming placed = placed
@@ -121,7 +121,7 @@ module _ (c : Profile) where
   reset_free (InAppDetach timer passed) = λ t m. m
   reset_free st = λ t m. m
 
-  slipped_same : (s : Situation) (how : Handling) (l : Luck) → (slipped c (was_reset s) how l).image ≡ s.image
+  slipped_same : (s : Situation) (how : Handled) (l : Luck) → (slipped c (was_reset s) how l).image ≡ s.image
   slipped_same s (Late ms) l = elim (time_placed (was_reset s) ms l) [
     | inl same ↦ same
     | inr placed ↦ absurd (reset_free s.stage _ placed.0)
@@ -129,17 +129,17 @@ module _ (c : Profile) where
   slipped_same s how l = refl
 
   -- An action of the host.
-  acted_placed : (s : Situation) (d : Deed) (course : Course) (l k : Luck) → Placed s (acted c s d course l k).device
-  acted_placed s (Send q body) course l k =
-      over_placed s _ course.harming (reached_placed s (meant q body) course.refusing course.handling l k)
-  acted_placed s (Wait ms) course l k = over_placed s _ course.harming (time_placed s (waits_for course.handling ms) l)
-  acted_placed s Reset course l k = over_placed s _ course.harming (inl (slipped_same s course.handling l))
-  acted_placed s (Done report) course l k = inl refl
+  acted_placed : (s : Situation) (d : Deed) (delivery : Delivery) (l k : Luck) → Placed s (acted c s d delivery l k).device
+  acted_placed s (Send q body) delivery l k =
+      over_placed s _ delivery.harming (reached_placed s (meant q body) delivery.refusing delivery.handling l k)
+  acted_placed s (Wait ms) delivery l k = over_placed s _ delivery.harming (time_placed s (waits_for delivery.handling ms) l)
+  acted_placed s Reset delivery l k = over_placed s _ delivery.harming (inl (slipped_same s delivery.handling l))
+  acted_placed s (Done report) delivery l k = inl refl
 
   gone_placed : (w : Link) (session : Session) (fate : Fate) (l k : Luck) (room : Bool)
       → Placed w.device (gone c w session fate l k room).link.device
   gone_placed w Nobody fate l k room = inl refl
-  gone_placed w (Hosted h) fate l k room = acted_placed w.device (deed h.task h.phase) (course_of fate) l k
+  gone_placed w (Hosted h) fate l k room = acted_placed w.device (deed h.task h.phase) (delivery_of fate) l k
 
   -- The image stays after an event; or it is what waited, none waits then, and the event may put one in place.
   abbrev pub Comes : Happening → Situation → Situation → Type 0
@@ -154,7 +154,7 @@ module _ (c : Profile) where
     | inl same ↦ inl same
     | inr placed ↦ inr (tt, placed.0, placed.1)
   ]
-  played_placed w (Offers aim payload limits) l k room = inl refl
+  played_placed w (Offers purpose payload limits) l k room = inl refl
   played_placed w (Uploads limits) l k room = inl refl
   played_placed w Aborts l k room = inl refl
   played_placed w Resets l k room = inl refl

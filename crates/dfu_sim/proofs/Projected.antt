@@ -5,78 +5,78 @@ use Rattle.dfu_slots.specs.Medium.Fuse.{Whole}
 use Rattle.dfu_slots.specs.Seen.{image_restarted, room_restarted}
 use Rattle.dfu_device.specs.Stage.{Profile, InAppIdle}
 use Rattle.dfu_device.specs.Outcome.{Situation, Luck, Works, Outcome, elapsed, powered}
-use Rattle.dfu_device.specs.Shown.{Shown, profile, situation}
+use Rattle.dfu_device.specs.DeviceView.{DeviceView, profile, situation}
 use Rattle.dfu_device.specs.Came.{time_came}
 use Rattle.dfu_host.specs.Phases.{Phase, Fetch, Deed, Heard, Part, NoRoom}
 use Rattle.dfu_host.specs.Table.{deed}
 use Rattle.dfu_host.specs.Host.{wants_memory}
 use Rattle.dfu_sim.specs.Happening.{Fate, Harm, Happening, Goes, Passes, Cuts}
-use Rattle.dfu_sim.specs.declared.course.Harming.{Harming}
-use Rattle.dfu_sim.specs.declared.course.Harming.TheVariants.{CutsPower}
-use Rattle.dfu_sim.specs.Course.{Course, course_of}
-use Rattle.dfu_sim.specs.Play.{Answered, remembered, has_room, over, acted, took, told, played, gone, MayHappen}
-use Rattle.dfu_sim.specs.Bench.{Session, Bench}
+use Rattle.dfu_sim.specs.declared.delivery.MediumFault.{MediumFault}
+use Rattle.dfu_sim.specs.declared.delivery.MediumFault.TheVariants.{CutsPower}
+use Rattle.dfu_sim.specs.Delivery.{Delivery, delivery_of}
+use Rattle.dfu_sim.specs.Play.{Answered, remembered, has_room, over, acted, took, notify_restart, played, gone, MayHappen}
+use Rattle.dfu_sim.specs.LinkView.{Session, LinkView}
 use Rattle.dfu_sim.specs.Bytes.{fuse_of, armed, powered_up, device_left_by, link_of, NextAction, HappensOnBench, BytePlay}
 use Rattle.dfu_sim.specs.Understood.{Shows, BytesShow}
 use Rattle.dfu_sim.proofs.Replies.{hosts_deed}
 use Rattle.dfu_sim.proofs.Actions.{armed_profile, armed_situation, Went, acts_go}
 
 -- An action on an armed medium.
-armed_goes : (d : Deed) (course : Course) (fuse : Fuse) (w w' : Shown) (heard : Heard)
-    → Went fuse (profile (armed w fuse)) (situation (armed w fuse)) d course w' heard
-    → Went fuse (profile w) (situation w) d course w' heard
-armed_goes d course fuse w w' heard x =
-    subst (λ (s : Situation). Went fuse (profile w) s d course w' heard) (armed_situation w fuse)
-    (subst (λ (c : Profile). Went fuse c (situation (armed w fuse)) d course w' heard) (armed_profile w fuse) x)
+armed_goes : (d : Deed) (delivery : Delivery) (fuse : Fuse) (w w' : DeviceView) (heard : Heard)
+    → Went fuse (profile (armed w fuse)) (situation (armed w fuse)) d delivery w' heard
+    → Went fuse (profile w) (situation w) d delivery w' heard
+armed_goes d delivery fuse w w' heard x =
+    subst (λ (s : Situation). Went fuse (profile w) s d delivery w' heard) (armed_situation w fuse)
+    (subst (λ (c : Profile). Went fuse c (situation (armed w fuse)) d delivery w' heard) (armed_profile w fuse) x)
 
-powered_situation : (w : Shown) → situation (powered_up w) ≡ powered (situation w)
+powered_situation : (w : DeviceView) → situation (powered_up w) ≡ powered (situation w)
 powered_situation w = λ k. record { image = image_restarted w.slots Whole k; stage = InAppIdle }
 
-powered_profile : (w : Shown) → profile (powered_up w) ≡ profile w
+powered_profile : (w : DeviceView) → profile (powered_up w) ≡ profile w
 powered_profile w = λ k. record (profile w) { capacity = room_restarted w.slots Whole k }
 
-after_situation : (harming : Harming) (w : Shown) → situation (device_left_by harming w) ≡ over harming (situation w)
+after_situation : (harming : MediumFault) (w : DeviceView) → situation (device_left_by harming w) ≡ over harming (situation w)
 after_situation CutsPower w = powered_situation w
 after_situation harming w = armed_situation w Whole
 
-after_profile : (harming : Harming) (w : Shown) → profile (device_left_by harming w) ≡ profile w
+after_profile : (harming : MediumFault) (w : DeviceView) → profile (device_left_by harming w) ≡ profile w
 after_profile CutsPower w = powered_profile w
 after_profile harming w = armed_profile w Whole
 
-after_whole : (harming : Harming) (w : Shown) → (device_left_by harming w).slots.medium.fuse ≡ Whole
+after_whole : (harming : MediumFault) (w : DeviceView) → (device_left_by harming w).slots.medium.fuse ≡ Whole
 after_whole CutsPower w = refl
 after_whole harming w = refl
 
 -- The fuse of the medium in an event: only an action can be harmed.
 abbrev pub fuse_in : Happening → Fuse
-fuse_in (Goes fate harm) = fuse_of (course_of fate).harming harm
+fuse_in (Goes fate harm) = fuse_of (delivery_of fate).harming harm
 fuse_in event = Whole
 
 -- What benches show of an event; where no write is harmed it goes at the luck that the medium works.
-record Showed (b : Bench) (event : Happening) (fuse : Fuse) (b' : Bench) (answer : Answered) : Type 0 where
+record Showed (b : LinkView) (event : Happening) (fuse : Fuse) (b' : LinkView) (answer : Answered) : Type 0 where
   shown : Shows b event b' answer
   sure : fuse ≡ Whole → (room : Bool) × (played (profile b.device) (link_of b) event Works Works room
       ≡ record { link = link_of b'; answer = answer })
 
 -- A host whose phase wants no memory hears what it would hear with memory.
-heard_in : (phase : Phase) (heard x : Heard) (room : Bool) → heard ≡ remembered x room → (heard ≡ NoRoom → IsTrue (wants_memory phase))
-    → heard ≡ remembered x (has_room phase room)
+pub heard_in : (phase : Phase) (heard x : Heard) (room : Bool) → heard ≡ remembered x room
+    → (heard ≡ NoRoom → IsTrue (wants_memory phase)) → heard ≡ remembered x (has_room phase room)
 heard_in (Fetch k kept) heard x room e h = e
 heard_in phase heard x true e h = e
 heard_in phase heard (Part bytes) false e h = let none : false ≡ true = h e in absurd cc
 heard_in phase heard x false e h = e
 
-goes_show : (fate : Fate) (harm : Harm) (b b' : Bench) (answer : Answered) → MayHappen b.session (Goes fate harm)
-    → NextAction b.session fate harm b b' answer → Showed b (Goes fate harm) (fuse_of (course_of fate).harming harm) b' answer
+goes_show : (fate : Fate) (harm : Harm) (b b' : LinkView) (answer : Answered) → MayHappen b.session (Goes fate harm)
+    → NextAction b.session fate harm b b' answer → Showed b (Goes fate harm) (fuse_of (delivery_of fate).harming harm) b' answer
 goes_show fate harm b b' answer allowed g =
     let d = deed g.host.task g.host.phase in
-    let course = course_of fate in
-    let x = armed_goes d course (fuse_of course.harming harm) b.device g.gone.last g.gone.acted.heard
-    (acts_go d course (armed b.device (fuse_of course.harming harm)) g.gone.last g.gone.acted.heard
+    let delivery = delivery_of fate in
+    let x = armed_goes d delivery (fuse_of delivery.harming harm) b.device g.gone.last g.gone.acted.heard
+    (acts_go d delivery (armed b.device (fuse_of delivery.harming harm)) g.gone.last g.gone.acted.heard
     (hosts_deed g.host.task g.host.phase) g.gone.acted.acts) in
     let hears = heard_in g.host.phase g.gone.acted.heard _ x.room x.hears g.gone.acted.room in
-    let there : (acted (profile b.device) (situation b.device) d course x.first x.second).device ≡ situation b'.device = x.device
-    ∙ sym (after_situation course.harming g.gone.last) ∙ sym (ap situation g.gone.device) in
+    let there : (acted (profile b.device) (situation b.device) d delivery x.first x.second).device ≡ situation b'.device = x.device
+    ∙ sym (after_situation delivery.harming g.gone.last) ∙ sym (ap situation g.gone.device) in
     let same : played (profile b.device) (link_of b) (Goes fate harm) x.first x.second x.room
     ≡ record { link = link_of b'; answer = answer } =
     ap (λ (z : Session). gone (profile b.device) (link_of b) z fate x.first x.second x.room) g.live
@@ -87,8 +87,8 @@ goes_show fate harm b b' answer allowed g =
     record {
       shown = record {
         play = record { allowed = allowed; first = x.first; second = x.second; room = x.room; same = same };
-        fixed = ap profile g.gone.device ∙ after_profile course.harming g.gone.last ∙ x.fixed;
-        unarmed = ap (λ (w : Shown). w.slots.medium.fuse) g.gone.device ∙ after_whole course.harming g.gone.last;
+        fixed = ap profile g.gone.device ∙ after_profile delivery.harming g.gone.last ∙ x.fixed;
+        unarmed = ap (λ (w : DeviceView). w.slots.medium.fuse) g.gone.device ∙ after_whole delivery.harming g.gone.last;
       };
       sure = λ whole. (
         x.room,
@@ -101,7 +101,7 @@ goes_show fate harm b b' answer allowed g =
     }
 
 -- An event that goes at the luck that the medium works, whatever it does.
-at_luck : (b b' : Bench) (event : Happening) (answer : Answered) → MayHappen b.session event
+at_luck : (b b' : LinkView) (event : Happening) (answer : Answered) → MayHappen b.session event
     → played (profile b.device) (link_of b) event Works Works true ≡ record { link = link_of b'; answer = answer }
     → profile b'.device ≡ profile b.device → b'.device.slots.medium.fuse ≡ Whole → Showed b event Whole b' answer
 at_luck b b' event answer allowed same fixed whole = record {
@@ -114,15 +114,15 @@ at_luck b b' event answer allowed same fixed whole = record {
 }
 
 -- An event that comes at once to this bench.
-at_once : (b b' now : Bench) (event : Happening) (answer said : Answered) → MayHappen b.session event
+at_once : (b b' now : LinkView) (event : Happening) (answer said : Answered) → MayHappen b.session event
     → played (profile b.device) (link_of b) event Works Works true ≡ record { link = link_of now; answer = said }
     → profile now.device ≡ profile b.device → now.device.slots.medium.fuse ≡ Whole
     → b' ≡ now → answer ≡ said → Showed b event Whole b' answer
 at_once b b' now event answer said allowed same fixed whole e f =
     at_luck b b' event answer allowed (same ∙ (λ i. record { link = link_of (sym e i); answer = sym f i }))
-    (ap (λ (z : Bench). profile z.device) e ∙ fixed) (ap (λ (z : Bench). z.device.slots.medium.fuse) e ∙ whole)
+    (ap (λ (z : LinkView). profile z.device) e ∙ fixed) (ap (λ (z : LinkView). z.device.slots.medium.fuse) e ∙ whole)
 
-shows : (event : Happening) (b b' : Bench) (answer : Answered) → MayHappen b.session event → b.device.slots.medium.fuse ≡ Whole
+shows : (event : Happening) (b b' : LinkView) (answer : Answered) → MayHappen b.session event → b.device.slots.medium.fuse ≡ Whole
     → HappensOnBench event b b' answer → Showed b event (fuse_in event) b' answer
 shows (Goes fate harm) b b' answer allowed unarmed g = goes_show fate harm b b' answer allowed g
 shows (Passes ms) b b' answer allowed unarmed (e, s, n) =
@@ -134,7 +134,7 @@ shows (Passes ms) b b' answer allowed unarmed (e, s, n) =
     at_luck b b' (Passes ms) answer allowed
     (λ i. record { link = record { device = there i; session = sym s i }; answer = sym n i }) y.fixed works.1
 shows Cuts b b' answer allowed unarmed (e, f) =
-    at_once b b' _ Cuts answer _ allowed (λ i. let t = told b.session in
+    at_once b b' _ Cuts answer _ allowed (λ i. let t = notify_restart b.session in
     record { link = record { device = sym (powered_situation b.device) i; session = t.session }; answer = t.answer })
     (powered_profile b.device) refl e f
 shows event b b' answer allowed unarmed h = at_once b b' _ event answer _ allowed refl refl unarmed h.0 h.1
@@ -144,7 +144,7 @@ pub bytes_show : BytesShow
 bytes_show b b' event answer p = (shows event b b' answer p.allowed p.unarmed p.happens).shown
 
 -- Where no write is harmed, the play is the one at the luck that the medium works.
-pub bytes_sure : (b b' : Bench) (event : Happening) (answer : Answered) → BytePlay b event b' answer
+pub bytes_sure : (b b' : LinkView) (event : Happening) (answer : Answered) → BytePlay b event b' answer
     → fuse_in event ≡ Whole
     → (room : Bool) × (played (profile b.device) (link_of b) event Works Works room ≡ record { link = link_of b'; answer = answer })
 bytes_sure b b' event answer p whole = (shows event b b' answer p.allowed p.unarmed p.happens).sure whole

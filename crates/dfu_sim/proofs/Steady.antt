@@ -2,18 +2,18 @@
 use Rattle.std.proofs.Common.{◌≡◌, ◌⊎◌, ℕ, ◌<◌, List, [], Option, Some, None, Result, Ok, Err, refl, sym, ap, ◌∙◌, subst, inl, inr}
 use Rattle.dfu_slots.specs.Medium.Fuse.{Whole}
 use Rattle.dfu_device.specs.Stage.{Profile}
-use Rattle.dfu_device.specs.Shown.{Shown, profile, situation}
+use Rattle.dfu_device.specs.DeviceView.{DeviceView, profile, situation}
 use Rattle.dfu_host.specs.declared.report.Report.{Report}
 use Rattle.dfu_host.specs.declared.report.Report.TheVariants.{Uploaded}
 use Rattle.dfu_device.specs.Setting.{Setting}
 use Rattle.dfu_sim.specs.declared.fault.LinkFault.{LinkFault}
 use Rattle.dfu_sim.specs.Session.{Machine, Loading}
 use Rattle.dfu_sim.specs.Play.{kind_of, Answered, given, MayHappen}
-use Rattle.dfu_sim.specs.declared.course.Harming.{Harming}
-use Rattle.dfu_sim.specs.declared.course.Harming.TheVariants.{NoWrite}
-use Rattle.dfu_sim.specs.Course.{course_of}
+use Rattle.dfu_sim.specs.declared.delivery.MediumFault.{MediumFault}
+use Rattle.dfu_sim.specs.declared.delivery.MediumFault.TheVariants.{NoWrite}
+use Rattle.dfu_sim.specs.Delivery.{delivery_of}
 use Rattle.dfu_sim.specs.Happening.{Harm, Happening, Offers, Uploads, Goes, Passes, Resets, Cuts, Refuses}
-use Rattle.dfu_sim.specs.Bench.{Session, Nobody, Hosted, Bench, ShowsActive, LinkState, linked}
+use Rattle.dfu_sim.specs.LinkView.{Session, Nobody, Hosted, LinkView, ShowsActive, WorldView, linked}
 use Rattle.dfu_sim.specs.LinkAgreement.{Agrees}
 use Rattle.dfu_sim.specs.Fact.{SessionFact}
 use Rattle.dfu_sim.specs.Simulation.{Follows}
@@ -35,7 +35,7 @@ use Rattle.dfu_sim.proofs.Agreeing.{machine_of, machine_agrees, agrees_on, link_
 
 -- What happens is of the kind that its event is of.
 kind_is : (s : Setting) (h event : Happening) → Means s h event → IsOfKind h (kind_of event)
-kind_is s (Offers aim file limits) event m = (m.0, m.1.ids, m.1.dfu, m.1.extra, m.1.reads, ap kind_of m.2)
+kind_is s (Offers purpose file limits) event m = (m.0, m.1.ids, m.1.dfu, m.1.extra, m.1.reads, ap kind_of m.2)
 kind_is s (Uploads limits) event m = ap kind_of m.1
 kind_is s h event m = ap kind_of m
 
@@ -43,36 +43,36 @@ kind_is s h event m = ap kind_of m
 
 -- An event with which a session begins knows the transfer size.
 abbrev BeginsSized : (t : ℕ) → Happening → Type 0
-BeginsSized t (Offers aim payload limits) = 0 < t
+BeginsSized t (Offers purpose payload limits) = 0 < t
 BeginsSized t (Uploads limits) = 0 < t
 BeginsSized t event = Unit {0}
 
 begins_sized : (s : Setting) (h event : Happening) → Means s h event → BeginsSized s.functional.transfer event
-begins_sized s (Offers aim file limits) event m = subst (BeginsSized s.functional.transfer) (sym m.2) (has_transfer m.1)
+begins_sized s (Offers purpose file limits) event m = subst (BeginsSized s.functional.transfer) (sym m.2) (has_transfer m.1)
 begins_sized s (Uploads limits) event m = subst (BeginsSized s.functional.transfer) (sym m.1) (gives_transfer s m.0)
 begins_sized s h event m = subst (BeginsSized s.functional.transfer) (sym m) tt
 
-sizes : (w : Shown) (session : Session) (event : Happening) → BeginsSized w.config.functional.transfer event
+sizes : (w : DeviceView) (session : Session) (event : Happening) → BeginsSized w.config.functional.transfer event
     → SessionFact (profile w) (situation w) session → SendsBytes session → Sizes (profile w) session event
 sizes w (Hosted host) event begins f z = all_sized (profile w) (Hosted host) event (subst (λ (n : ℕ). 0 < n) f.task_is.transfer z)
-sizes w Nobody (Offers aim payload limits) begins f z = begins
+sizes w Nobody (Offers purpose payload limits) begins f z = begins
 sizes w Nobody event begins f z = tt
 
 -- After an event no session is live, or the transfer size is known.
-sized_or_none : (w : Shown) (session : Session) (event : Happening) (b' : Bench) (answer : Answered)
+sized_or_none : (w : DeviceView) (session : Session) (event : Happening) (b' : LinkView) (answer : Answered)
     → BeginsSized w.config.functional.transfer event → SessionFact (profile w) (situation w) session → SendsBytes session
     → MayHappen session event → HappensOnBench event (record { device = w; session = session }) b' answer
     → (0 < (profile w).transfer) ⊎ (b'.session ≡ Nobody)
 sized_or_none w (Hosted host) event b' answer begins f z a x = inl (subst (λ (n : ℕ). 0 < n) f.task_is.transfer z)
-sized_or_none w Nobody (Offers aim payload limits) b' answer begins f z a x = inl begins
+sized_or_none w Nobody (Offers purpose payload limits) b' answer begins f z a x = inl begins
 sized_or_none w Nobody (Uploads limits) b' answer begins f z a x = inl begins
 sized_or_none w Nobody (Passes ms) b' answer begins f z a x = inr x.1
-sized_or_none w Nobody Resets b' answer begins f z a x = inr (ap (λ (b : Bench). b.session) x.0)
-sized_or_none w Nobody Cuts b' answer begins f z a x = inr (ap (λ (b : Bench). b.session) x.0)
-sized_or_none w Nobody (Refuses why) b' answer begins f z a x = inr (ap (λ (b : Bench). b.session) x.0)
+sized_or_none w Nobody Resets b' answer begins f z a x = inr (ap (λ (b : LinkView). b.session) x.0)
+sized_or_none w Nobody Cuts b' answer begins f z a x = inr (ap (λ (b : LinkView). b.session) x.0)
+sized_or_none w Nobody (Refuses why) b' answer begins f z a x = inr (ap (λ (b : LinkView). b.session) x.0)
 sized_or_none w Nobody event b' answer begins f z a x = elim a [ ]
 
-sized_by : (c : Profile) (w : Shown) (session : Session) → SessionFact c (situation w) session → (0 < c.transfer) ⊎ (session ≡ Nobody)
+sized_by : (c : Profile) (w : DeviceView) (session : Session) → SessionFact c (situation w) session → (0 < c.transfer) ⊎ (session ≡ Nobody)
     → SendsBytes session
 sized_by c w Nobody f z = tt
 sized_by c w (Hosted host) f (inl z) = subst (λ (n : ℕ). 0 < n) (sym f.task_is.transfer) z
@@ -80,7 +80,7 @@ sized_by c w (Hosted host) f (inr e) = absurd cc
 
 -- One event.
 
-module _ {b b' : Bench} {event : Happening} {answer : Answered} (steady : IsSteady b)
+module _ {b b' : LinkView} {event : Happening} {answer : Answered} (steady : IsSteady b)
     (begins : BeginsSized b.device.config.functional.transfer event) (play : BytePlay b event b' answer) where
   -- The session machine follows a play.
   follows_play : (up : List ℕ) (m : Machine) → Agrees (link_of b) up m
@@ -111,25 +111,25 @@ module _ {b b' : Bench} {event : Happening} {answer : Answered} (steady : IsStea
   play_fits = happens_fits (profile b.device) (situation b.device) event b b' answer steady.fact steady.sized steady.counted play.happens
 
 -- What holds of what comes of an event holds of what its caller is told.
-told_so : {w w' : LinkState} {h : Happening} {result : Result (Option Report) LinkFault}
-    (P : LinkState → Result (Option Report) LinkFault → Type 0) (x : HasCome w h w' result)
+told_so : {w w' : WorldView} {h : Happening} {result : Result (Option Report) LinkFault}
+    (P : WorldView → Result (Option Report) LinkFault → Type 0) (x : HasCome w h w' result)
     → P (linked w'.bench (given (gave_of x.answer) w.up)) (shown_as x.answer) → P w' result
 told_so {w = w} {w' = w'} {result = result} P x p =
     subst (λ (up : List ℕ). P (linked w'.bench up) result) (sym x.up_is)
     (subst (λ (r : Result (Option Report) LinkFault). P (linked w'.bench (given (gave_of x.answer) w.up)) r) (sym x.told) p)
 
-comes_steady : {b b' : Bench} {h : Happening} {answer : Result Answered LinkFault} → IsSteady b → Comes b h b' answer → IsSteady b'
+comes_steady : {b b' : LinkView} {h : Happening} {answer : Result Answered LinkFault} → IsSteady b → Comes b h b' answer → IsSteady b'
 comes_steady steady (refuses why) = steady
 comes_steady {b = b} {h = h} steady (happens {event = event} means play) =
     play_steady steady (begins_sized b.device.config h event means) play
 
 -- What holds of a link between events holds after each event that comes.
-pub come_steady : {w w' : LinkState} {h : Happening} {result : Result (Option Report) LinkFault} → IsSteady w.bench → HasCome w h w' result
+pub come_steady : {w w' : WorldView} {h : Happening} {result : Result (Option Report) LinkFault} → IsSteady w.bench → HasCome w h w' result
     → IsSteady w'.bench
 come_steady steady x = comes_steady steady x.comes
 
 -- The session machine follows what comes of an event.
-pub comes_follow : ImageShown → {b b' : Bench} {h : Happening} {answer : Result Answered LinkFault} (up : List ℕ) → IsSteady b
+pub comes_follow : ImageShown → {b b' : LinkView} {h : Happening} {answer : Result Answered LinkFault} (up : List ℕ) → IsSteady b
     → ShowsActive b'
     → Comes b h b' answer → AllFollow (linked b up) h (linked b' (given (gave_of answer) up)) (shown_as answer)
 comes_follow shown up steady shows (refuses why) = refl
@@ -145,14 +145,14 @@ comes_follow shown {b = b} {b' = b'} {h = h} up steady shows (happens {event = e
     }
 
 -- The session machine follows each event that comes.
-pub come_follow : ImageShown → {w w' : LinkState} {h : Happening} {result : Result (Option Report) LinkFault} → IsSteady w.bench
+pub come_follow : ImageShown → {w w' : WorldView} {h : Happening} {result : Result (Option Report) LinkFault} → IsSteady w.bench
     → ShowsActive w'.bench → HasCome w h w' result → AllFollow w h w' result
 come_follow shown {w = w} {h = h} steady shows x =
     told_so (λ v r. AllFollow w h v r) x (comes_follow shown w.up steady shows x.comes)
 
 -- What an upload gives.
 
-gives_in : (b' : Bench) (up : List ℕ) (report : Option Report) (gave : Option (List ℕ)) (w : LinkState) → w.up ≡ up
+gives_in : (b' : LinkView) (up : List ℕ) (report : Option Report) (gave : Option (List ℕ)) (w : WorldView) → w.up ≡ up
     → FitsIn b'.device.config.functional.transfer report gave → (report ≡ Some Uploaded → given gave up ≡ (link_of b').device.image)
     → GivesOrKeeps w (linked b' (given gave up)) (Ok report)
 gives_in b' up (Some Uploaded) (Some bytes) w same fits image = record { image = image refl; short = fits }
@@ -160,7 +160,7 @@ gives_in b' up (Some Uploaded) None w same fits image = elim fits [ ]
 gives_in b' up report (Some bytes) w same fits image = elim fits [ ]
 gives_in b' up report None w same fits image = sym same
 
-comes_give : {b b' : Bench} {h : Happening} {answer : Result Answered LinkFault} (up : List ℕ) → IsSteady b → Comes b h b' answer
+comes_give : {b b' : LinkView} {h : Happening} {answer : Result Answered LinkFault} (up : List ℕ) → IsSteady b → Comes b h b' answer
     → GivesOrKeeps (linked b up) (linked b' (given (gave_of answer) up)) (shown_as answer)
 comes_give up steady (refuses why) = refl
 comes_give {b = b} {b' = b'} {h = h} up steady (happens {event = event} {answer = answer} means play) =
@@ -171,7 +171,7 @@ comes_give {b = b} {b' = b'} {h = h} up steady (happens {event = event} {answer 
     (subst (λ (n : ℕ). FitsIn n answer.report answer.gave) same (play_fits steady begins play)) (image_given steady begins play up)
 
 -- Each event that comes gives what it should.
-pub come_gives : {w w' : LinkState} {h : Happening} {result : Result (Option Report) LinkFault} → IsSteady w.bench → HasCome w h w' result
+pub come_gives : {w w' : WorldView} {h : Happening} {result : Result (Option Report) LinkFault} → IsSteady w.bench → HasCome w h w' result
     → GivesOrKeeps w w' result
 come_gives {w = w} steady x = told_so (λ v r. GivesOrKeeps w v r) x (comes_give w.up steady x.comes)
 
@@ -180,11 +180,11 @@ gave_image : (t : ℕ) (up image : List ℕ) (report : Option Report) (gave : Op
 gave_image t up image report (Some bytes) fits e u = ap Some e
 gave_image t up image report None fits e u = absurd (subst (λ (r : Option Report). FitsIn t r None) u fits)
 
-abbrev GivesThen : Bench → Result Answered LinkFault → Type 0
+abbrev GivesThen : LinkView → Result Answered LinkFault → Type 0
 GivesThen b (Ok answer) = answer.report ≡ Some Uploaded → answer.gave ≡ Some (link_of b).device.image
 GivesThen b (Err fault) = Unit {0}
 
-gives_then : {b b' : Bench} {h : Happening} {result : Result Answered LinkFault} → IsSteady b → Comes b h b' result → GivesThen b' result
+gives_then : {b b' : LinkView} {h : Happening} {result : Result Answered LinkFault} → IsSteady b → Comes b h b' result → GivesThen b' result
 gives_then steady (refuses why) = tt
 gives_then {b = b} {b' = b'} {h = h} steady (happens {event = event} {answer = answer} means play) = λ e.
     let begins = begins_sized b.device.config h event means in
@@ -201,22 +201,22 @@ rest_is_steady device unarmed = record { fact = tt; unarmed = unarmed; sized = t
 
 -- Nothing is cut and nothing fails.
 
-unharmed_whole : (harming : Harming) (harm : Harm) → HarmsNothing harming → fuse_of harming harm ≡ Whole
+unharmed_whole : (harming : MediumFault) (harm : Harm) → HarmsNothing harming → fuse_of harming harm ≡ Whole
 unharmed_whole NoWrite harm h = refl
 unharmed_whole harming harm h = elim h [ ]
 
 harmless_whole : (event : Happening) → IsHarmless event → fuse_in event ≡ Whole
-harmless_whole (Goes fate harm) h = unharmed_whole (course_of fate).harming harm h
+harmless_whole (Goes fate harm) h = unharmed_whole (delivery_of fate).harming harm h
 harmless_whole event h = refl
 
-as_played : (b b' : Bench) (event : Happening) (answer : Answered) → BytePlay b event b' answer → IsHarmless event
+as_played : (b b' : LinkView) (event : Happening) (answer : Answered) → BytePlay b event b' answer → IsHarmless event
     → IsAsPlayed b event b' answer.report
 as_played b b' event answer play h =
     let s = bytes_sure b b' event answer play (harmless_whole event h) in
     record { room = s.0; answer = answer; same = s.1; told = refl }
 
 -- What comes of an event goes as the table of fates says, where no write is harmed.
-pub comes_sure : {b b' : Bench} {h : Happening} {answer : Result Answered LinkFault} → Comes b h b' answer
+pub comes_sure : {b b' : LinkView} {h : Happening} {answer : Result Answered LinkFault} → Comes b h b' answer
     → AllSure b h b' (shown_as answer)
 comes_sure (refuses why) = tt
 comes_sure {b = b} {b' = b'} {h = h} (happens {event = event} {answer = answer} means play) = record {
@@ -230,6 +230,6 @@ comes_sure {b = b} {b' = b'} {h = h} (happens {event = event} {answer = answer} 
 }
 
 -- Each event that comes goes as the table of fates says, where no write is harmed.
-pub come_sure : {w w' : LinkState} {h : Happening} {result : Result (Option Report) LinkFault} → HasCome w h w' result
+pub come_sure : {w w' : WorldView} {h : Happening} {result : Result (Option Report) LinkFault} → HasCome w h w' result
     → AllSure w.bench h w'.bench result
 come_sure {w = w} {h = h} x = told_so (λ v r. AllSure w.bench h v.bench r) x (comes_sure x.comes)

@@ -9,7 +9,7 @@ use Rattle.dfu_host.specs.BehindClose.{is_behind_close}
 use Rattle.dfu_host.specs.Table.{host_row, goal_after_reset, goal_after}
 use Rattle.dfu_host.specs.Host.{HostState, IsOn, budgeted, restarted, left_by, after_phase, host_heard as host_told}
 use Rattle.dfu_sim.specs.Session.{Machine, Live, NoOne, Loading, Fetching, PromisesNothing, SaysReport, says_not, says_installed, says_verified, says_uploaded, says_other, SaysInPlace, SaysNoPromise}
-use Rattle.dfu_sim.specs.Bench.{Nobody}
+use Rattle.dfu_sim.specs.LinkView.{Nobody}
 use Rattle.dfu_sim.specs.Opening.{task_for}
 use Rattle.dfu_sim.specs.Play.{given, Took, settled, took, remembered, has_room}
 use Rattle.dfu_sim.specs.LinkAgreement.{pending_of}

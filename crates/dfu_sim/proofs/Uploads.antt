@@ -3,7 +3,7 @@ use Rattle.std.proofs.Common.{◌≡◌, ◌↔◌, ◌<◌, ◌==◌, not, is_s
 use Rattle.std.proofs.lemmas.Bool.Decides.{nat_tests}
 use Rattle.dfu_slots.specs.Medium.Fuse.{Whole}
 use Rattle.dfu_device.specs.Setting.{Setting}
-use Rattle.dfu_device.specs.Shown.{Shown}
+use Rattle.dfu_device.specs.DeviceView.{DeviceView}
 use Rattle.dfu_wire.specs.declared.functionals.Functional.{Functional}
 use Rattle.dfu_host.specs.Uploading.{first_upload_fault}
 use Rattle.dfu_host.specs.declared.fault.HostFault.{HostFault}
@@ -15,7 +15,7 @@ use Rattle.dfu_sim.specs.declared.fault.LinkFault.{LinkFault}
 use Rattle.dfu_sim.specs.declared.fault.LinkFault.TheVariants as fault
 use Rattle.dfu_sim.specs.declared.fault.OfferFault.TheVariants as offer_fault
 use Rattle.dfu_sim.specs.Play.{silent, session_aborted}
-use Rattle.dfu_sim.specs.Bench.{Session, Hosted, linked}
+use Rattle.dfu_sim.specs.LinkView.{Session, Hosted, linked}
 use Rattle.dfu_sim.specs.Happening.{Uploads, Aborts}
 use Rattle.dfu_sim.specs.Refusing.{CanGive}
 use Rattle.dfu_sim.specs.Comes.{HasCome, HasComeAlone}
@@ -32,14 +32,14 @@ gives_transfer s gives =
     grind (arith, nat_tests)
 
 -- An upload from a device that gives no image.
-pub upload_refused : (limits : Limits) (w : Shown) (host : Option HostState) (f : Functional) (why : HostFault) → is_some host ≡ false
+pub upload_refused : (limits : Limits) (w : DeviceView) (host : Option HostState) (f : Functional) (why : HostFault) → is_some host ≡ false
     → f ≡ w.config.functional → first_upload_fault f ≡ Some why
     → HasComeAlone (bench_of w host) (Uploads limits) (bench_of w host) (Err (fault.BadOffer (offer_fault.Host why)))
 upload_refused limits w host f why n e bad = idle_refused (Uploads limits) (fault.BadOffer (offer_fault.Host why)) w host n
     (refl, subst (λ (x : Functional). first_upload_fault x ≡ Some why) e bad)
 
 -- An upload that begins.
-pub upload_comes : (limits : Limits) (w : Shown) (host : Option HostState) (h : HostState) (f : Functional) → is_some host ≡ false
+pub upload_comes : (limits : Limits) (w : DeviceView) (host : Option HostState) (h : HostState) (f : Functional) → is_some host ≡ false
     → w.slots.medium.fuse ≡ Whole → f ≡ w.config.functional
     → ((why : HostFault) → (◌≡◌ {A = Result HostState HostFault} (Ok h) (Err why)) ↔ (first_upload_fault f ≡ Some why))
     → h ≡ started f ToFetch limits
@@ -51,7 +51,8 @@ upload_comes limits w host h f n e k none is =
     ((λ i. record { device = w; session = Hosted (begun i) }), refl)
 
 -- An abort.
-pub abort_comes : (w : Shown) (host host' gave : Option HostState) (result : Result (Option Report) LinkFault) → w.slots.medium.fuse ≡ Whole
+pub abort_comes : (w : DeviceView) (host host' gave : Option HostState) (result : Result (Option Report) LinkFault)
+    → w.slots.medium.fuse ≡ Whole
     → session_of host' ≡ session_aborted (session_of host) → result ≡ abort_told (session_of host)
     → HasCome (link_state w host gave) Aborts (link_state w host' gave) result
 abort_comes w None host' gave result e session says =

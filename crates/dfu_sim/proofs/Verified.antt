@@ -10,8 +10,8 @@ use Rattle.dfu_host.specs.Table.{deed, goal_after, host_row}
 use Rattle.dfu_host.specs.Host.{HostState, restarted, host_heard, after_phase, after}
 use Rattle.dfu_host.specs.TaskLaws.{after_task}
 use Rattle.dfu_sim.specs.Happening.{Pass}
-use Rattle.dfu_sim.specs.Course.{course_of}
-use Rattle.dfu_sim.specs.Bench.{Session, Nobody, Hosted}
+use Rattle.dfu_sim.specs.Delivery.{delivery_of}
+use Rattle.dfu_sim.specs.LinkView.{Session, Nobody, Hosted}
 use Rattle.dfu_sim.specs.Opening.{task_for}
 use Rattle.dfu_sim.specs.Play.{Link, silent, Took, settled, took, heard_as, remembered, has_room, Played, acted, gone}
 use Rattle.dfu_sim.specs.CleanRun.{PassesTo, Quietly, here, there}
@@ -32,7 +32,7 @@ room_stays heard room never e = never e
 
 module _ (c : Profile) (p : List ℕ) where
   -- No pass tells a host that its device left of itself.
-  pass_stays : (s : Situation) (d : Deed) (l k : Luck) → (acted c s d (course_of Pass) l k).heard ≡ Left → ⊥
+  pass_stays : (s : Situation) (d : Deed) (l k : Luck) → (acted c s d (delivery_of Pass) l k).heard ≡ Left → ⊥
   pass_stays s (Send q body) l k e = reply_stays (outcome s.image (plan c s.image s.stage (meant q body)) l).reply e
   pass_stays s d l k e = absurd cc
 
@@ -115,7 +115,7 @@ module _ (c : Profile) (p : List ℕ) where
       let o : Session = Hosted (host plain phase left again) in
       gone c (w v) v Pass Works other room ≡ played_verified (gone c (w o) o Pass Works other room)
   gone_alike s phase left again other room b =
-      let d = acted c s (deed plain phase) (course_of Pass) Works other in
+      let d = acted c s (deed plain phase) (delivery_of Pass) Works other in
       rw (deed_alike phase)
       (ap (λ (t : Took). record { link = record { device = d.device; session = t.session }; answer = t.answer })
       (took_alike phase (remembered d.heard (has_room phase room)) left again b
@@ -153,7 +153,7 @@ module _ (c : Profile) (p : List ℕ) where
       → Alike (record { device = s; session = Hosted (host plain phase left again) }) w'
   pass_alike s (Last r) left again w' f = absurd (never_silent s r left again w' f)
   pass_alike s phase left again w' f =
-      let d = acted c s (deed plain phase) (course_of Pass) Works Works in
+      let d = acted c s (deed plain phase) (delivery_of Pass) Works Works in
       record {
         passes = λ other room. gone_alike s phase left again other room tt ∙ ap played_verified (f other room);
         stays = subst IsDownload (ap (λ (x : Played). x.link.session) (f Works true))

@@ -5,7 +5,7 @@ use Rattle.dfu_slots.specs.Seen.{image_of}
 use Rattle.dfu_host.specs.declared.report.Report.{Report}
 use Rattle.dfu_sim.specs.declared.fault.LinkFault.{LinkFault}
 use Rattle.dfu_sim.specs.Happening.{Happening, Goes, Passes}
-use Rattle.dfu_sim.specs.Bench.{LinkState}
+use Rattle.dfu_sim.specs.LinkView.{WorldView}
 use Rattle.dfu_sim.specs.Comes.{HasCome}
 use Rattle.dfu_sim.specs.Headline.{Begun, WasOffered, IsWaiting, HeadlineSays}
 
@@ -20,37 +20,37 @@ MayPlace h = ⊥
 pub record LinkStep : Type 0 where
   pub happening : Happening
   pub told : Result (Option Report) LinkFault
-  pub after : LinkState
+  pub after : WorldView
 
 -- These came one after the other.
-abbrev pub AllCame : LinkState → List LinkStep → LinkState → Type 0
+abbrev pub AllCame : WorldView → List LinkStep → WorldView → Type 0
 AllCame w [] w' = w' ≡ w
 AllCame w (s ∷ rest) w' = HasCome w s.happening s.after s.told × AllCame s.after rest w'
 
 -- The program heeds the check at a step: of an image that waits before what may put it in place, the check accepts it, or it waits
 -- afterwards too.
-abbrev pub HeedsStep : (check : List ℕ → Bool) → LinkState → LinkStep → Type 0
+abbrev pub HeedsStep : (check : List ℕ → Bool) → WorldView → LinkStep → Type 0
 HeedsStep check w s = MayPlace s.happening → (t : List ℕ) → IsWaiting w.bench.device.stage t
     → (check t ≡ true) ⊎ IsWaiting s.after.bench.device.stage t
 
 -- So it does at each of these steps. It does if the program refuses each image that the check refuses, in the close or right after it; or
 -- later, but before an action or a time that would put it in place.
-abbrev pub HeedsSteps : (check : List ℕ → Bool) → LinkState → List LinkStep → Type 0
+abbrev pub HeedsSteps : (check : List ℕ → Bool) → WorldView → List LinkStep → Type 0
 HeedsSteps check w [] = Unit {0}
 HeedsSteps check w (s ∷ rest) = HeedsStep check w s × HeedsSteps check s.after rest
 
 -- The image that a link shows.
-abbrev pub image_on : LinkState → List ℕ
+abbrev pub image_on : WorldView → List ℕ
 image_on w = image_of w.bench.device.slots
 
 -- Whatever comes to a link, and whatever the check is that its program heeds: the image is the one before, or one that the check accepts.
 abbrev pub LinkAccepts : Type 0
-LinkAccepts = (check : List ℕ → Bool) (w w' : LinkState) (steps : List LinkStep) → AllCame w steps w' → HeedsSteps check w steps
+LinkAccepts = (check : List ℕ → Bool) (w w' : WorldView) (steps : List LinkStep) → AllCame w steps w' → HeedsSteps check w steps
     → (image_on w' ≡ image_on w) ⊎ (check (image_on w') ≡ true)
 
 -- Where the headline says what is active then, it is the factory image, or one whole payload that was offered and that the check accepts.
 abbrev pub OffersAccepted : Type 0
-OffersAccepted = (check : List ℕ → Bool) (w w' : LinkState) (steps : List LinkStep) (factory image : List ℕ) (past : List Begun)
+OffersAccepted = (check : List ℕ → Bool) (w w' : WorldView) (steps : List LinkStep) (factory image : List ℕ) (past : List Begun)
     (report : Option Report) → Active w.bench.device.slots.medium factory → AllCame w steps w' → HeedsSteps check w steps
     → HeadlineSays factory past report w'.bench → Active w'.bench.device.slots.medium image
     → (image ≡ factory) ⊎ (WasOffered past image × (check image ≡ true))

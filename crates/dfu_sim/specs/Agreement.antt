@@ -4,7 +4,7 @@ use Rattle.dfu_slots.specs.Image.{Active}
 use Rattle.dfu_device.specs.Stage.{Stage, InAppIdle, InAppDetach, InDfuIdle, InDownloadSync, InDownloadSyncWritten, InDownloadBusy, InDownloadIdle, InManifestSync, InManifestSyncComplete, InManifest, InManifestWaitReset, InUploadIdle, InError}
 use Rattle.dfu_host.specs.Phases.{Goal, ToLoad, ToFetch, ToVerify, ToCompare}
 use Rattle.dfu_sim.specs.Session.{IsOneOf, Machine, Live, NoOne, Loading, Fetching}
-use Rattle.dfu_sim.specs.Bench.{Session, Nobody, Hosted, Bench}
+use Rattle.dfu_sim.specs.LinkView.{Session, Nobody, Hosted, LinkView}
 
 -- How far a device has taken an image and not put it in place: nothing of it; bytes, and more may come; or all of it, which a host closed.
 pub data Intake : Type 0 where
@@ -61,7 +61,7 @@ IsLiveOffer offers Fetching = Unit {0}
 -- A bench, with what the last reported upload gave, agrees with a session machine: the machine's active image is that of the medium's
 -- bytes; what is pending, what is live and what was uploaded are the machine's; bytes that were closed, and the payload of the live
 -- session, are among its offers. So the bench fixes all of it but the offers.
-pub record AgreesOn (b : Bench) (up : List ℕ) (m : Machine) : Type 0 where
+pub record AgreesOn (b : LinkView) (up : List ℕ) (m : Machine) : Type 0 where
   pub active : Active b.device.slots.medium m.cur
   pub pending : m.pending ≡ pending_in (intake_of b.device.stage)
   pub live : m.live ≡ live_of b.session

@@ -5,6 +5,6 @@ use Rattle.dfu_sim.specs.Headline.{Begun, WithOffer, AsUpload}
 
 -- The sessions that have begun once this has happened too; the last one comes first.
 abbrev pub begun_by : Happening → List Begun → List Begun
-begun_by (Offers aim file limits) past = WithOffer file ∷ past
+begun_by (Offers purpose file limits) past = WithOffer file ∷ past
 begun_by (Uploads limits) past = AsUpload ∷ past
 begun_by h past = past

@@ -9,47 +9,48 @@ use Rattle.dfu_host.specs.declared.limits.Limits.{Limits}
 use Rattle.dfu_host.specs.declared.report.Report.{Report}
 use Rattle.dfu_sim.specs.declared.fault.LinkFault.TheVariants.{NoMemory}
 use Rattle.dfu_sim.specs.declared.running.Stop.{Stop}
-use Rattle.dfu_sim.specs.declared.aim.Aim.{Aim}
+use Rattle.dfu_sim.specs.declared.purpose.Purpose.{Purpose}
 use Rattle.dfu_sim.specs.Happening.{Pass, Happening, Offers, Goes, unharmed}
-use Rattle.dfu_sim.specs.Bench.{Nobody, Bench}
+use Rattle.dfu_sim.specs.LinkView.{Nobody, LinkView}
 use Rattle.dfu_sim.specs.Bytes.{link_of}
-use Rattle.dfu_sim.specs.CleanRun.{actions_of, report_of_aim, HasParts, resting}
+use Rattle.dfu_sim.specs.CleanRun.{actions_of, report_of_purpose, HasParts, resting}
 use Rattle.dfu_sim.specs.Refusing.{IsOffered}
 
--- How many passes install a payload on a device of these settings, and verify it where that is the aim.
-abbrev pub clean_passes : Aim → Setting → List ℕ → ℕ
-clean_passes aim s payload = actions_of aim s.functional.transfer s.busy_ms s.manifest_ms payload
+-- How many passes install a payload on a device of these settings, and verify it where that is the purpose.
+abbrev pub clean_passes : Purpose → Setting → List ℕ → ℕ
+clean_passes purpose s payload = actions_of purpose s.functional.transfer s.busy_ms s.manifest_ms payload
 
--- A file can be installed cleanly, and verified where that is the aim: a tolerant device rests in appIDLE with no session, takes the file,
--- has room for its payload, which is not too long to be compared, and the actions suffice.
-pub record CanInstall (b : Bench) (aim : Aim) (file : List ℕ) (limits : Limits) (payload : List ℕ) : Type 0 where
+-- A file can be installed cleanly, and verified if that is the purpose: a tolerant device rests in appIDLE with no session, takes the
+-- file, has room for its payload, which is not too long to be compared, and the actions suffice.
+pub record CanInstall (b : LinkView) (purpose : Purpose) (file : List ℕ) (limits : Limits) (payload : List ℕ) : Type 0 where
   pub free : b.session ≡ Nobody
   pub rests : b.device.stage ≡ InAppIdle
   pub tolerant : b.device.config.functional.tolerant ≡ true
-  pub offered : IsOffered b.device.config aim file payload
+  pub offered : IsOffered b.device.config purpose file payload
   pub least : b.device.config.least ≤ length payload
   pub room : length payload ≤ room_of b.device.slots
-  pub parts : HasParts aim b.device.config.functional.transfer payload
-  pub enough : clean_passes aim b.device.config payload ≤ limits.actions
+  pub parts : HasParts purpose b.device.config.functional.transfer payload
+  pub enough : clean_passes purpose b.device.config payload ≤ limits.actions
 
 -- An offer, and so many passes.
-abbrev pub offer_and_passes : Aim → List ℕ → Limits → ℕ → List Happening
-offer_and_passes aim file limits count = Offers aim file limits ∷ replicate count (Goes Pass unharmed)
+abbrev pub offer_and_passes : Purpose → List ℕ → Limits → ℕ → List Happening
+offer_and_passes purpose file limits count = Offers purpose file limits ∷ replicate count (Goes Pass unharmed)
 
 -- With fewer passes than a clean run has nothing is reported; with exactly as many its report is, Installed or Verified, in the last, and
 -- the payload is the active image of a device in appIDLE.
-pub record InstallsCleanly (b : Bench) (aim : Aim) (payload : List ℕ) (count : ℕ) (reports : List Report) (b' : Bench) : Type 0 where
-  pub early : count < clean_passes aim b.device.config payload → reports ≡ []
-  pub reported : count ≡ clean_passes aim b.device.config payload → reports ≡ report_of_aim aim ∷ []
-  pub installed : count ≡ clean_passes aim b.device.config payload → link_of b' ≡ resting payload
+pub record InstallsCleanly (b : LinkView) (purpose : Purpose) (payload : List ℕ) (count : ℕ) (reports : List Report) (b' : LinkView)
+    : Type 0 where
+  pub early : count < clean_passes purpose b.device.config payload → reports ≡ []
+  pub reported : count ≡ clean_passes purpose b.device.config payload → reports ≡ report_of_purpose purpose ∷ []
+  pub installed : count ≡ clean_passes purpose b.device.config payload → link_of b' ≡ resting payload
 
 -- What a clean run answers; it stops only where there is no memory for a report, and nothing is reported then.
-abbrev pub EndsCleanly : Bench → Aim → List ℕ → ℕ → Bench → Result (Vec Report Global) Stop → Type 0
-EndsCleanly b aim payload count b' (Ok reports) = InstallsCleanly b aim payload count reports.items b'
-EndsCleanly b aim payload count b' (Err stop) = (stop.fault ≡ NoMemory) × (stop.reports.items ≡ [])
+abbrev pub EndsCleanly : LinkView → Purpose → List ℕ → ℕ → LinkView → Result (Vec Report Global) Stop → Type 0
+EndsCleanly b purpose payload count b' (Ok reports) = InstallsCleanly b purpose payload count reports.items b'
+EndsCleanly b purpose payload count b' (Err stop) = (stop.fault ≡ NoMemory) × (stop.reports.items ≡ [])
 
 -- Each run that is an offer and at most the passes of a clean run.
-abbrev pub RunsCleanly : Bench → List Happening → Bench → Result (Vec Report Global) Stop → Type 0
-RunsCleanly b hs b' result = (aim : Aim) (file : List ℕ) (limits : Limits) (payload : List ℕ) (count : ℕ)
-    → CanInstall b aim file limits payload → hs ≡ offer_and_passes aim file limits count
-    → count ≤ clean_passes aim b.device.config payload → EndsCleanly b aim payload count b' result
+abbrev pub RunsCleanly : LinkView → List Happening → LinkView → Result (Vec Report Global) Stop → Type 0
+RunsCleanly b hs b' result = (purpose : Purpose) (file : List ℕ) (limits : Limits) (payload : List ℕ) (count : ℕ)
+    → CanInstall b purpose file limits payload → hs ≡ offer_and_passes purpose file limits count
+    → count ≤ clean_passes purpose b.device.config payload → EndsCleanly b purpose payload count b' result

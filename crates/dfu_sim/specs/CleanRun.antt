@@ -8,11 +8,11 @@ use Rattle.dfu_host.specs.Blocks.{blocks}
 use Rattle.dfu_host.specs.Clean.{clean}
 use Rattle.dfu_device.specs.Stage.{Profile, InAppIdle}
 use Rattle.dfu_device.specs.Outcome.{Luck, Works}
-use Rattle.dfu_sim.specs.declared.aim.Aim.{Aim}
-use Rattle.dfu_sim.specs.declared.aim.Aim.TheVariants.{Install, Verify}
+use Rattle.dfu_sim.specs.declared.purpose.Purpose.{Purpose}
+use Rattle.dfu_sim.specs.declared.purpose.Purpose.TheVariants.{Install, Verify}
 use Rattle.dfu_sim.specs.Happening.{Pass, Offers, Goes, unharmed}
 use Rattle.dfu_sim.specs.Play.{Link, Answered, silent, played}
-use Rattle.dfu_sim.specs.Bench.{Nobody}
+use Rattle.dfu_sim.specs.LinkView.{Nobody}
 
 -- A pass over a medium that works leads from one link to another with this answer, whatever the medium's second luck and the memory are.
 abbrev pub PassesTo : Profile → Link → Link → Answered → Type 0
@@ -30,22 +30,22 @@ resting image = record { device = record { image = image; stage = InAppIdle }; s
 
 -- How many actions a clean run takes: those of a clean download; and where it is verified, six more, and one for each full block of the
 -- payload.
-abbrev pub actions_of : Aim → (t busy manifest : ℕ) → List ℕ → ℕ
+abbrev pub actions_of : Purpose → (t busy manifest : ℕ) → List ℕ → ℕ
 actions_of Install t busy manifest payload = clean (length (blocks payload t)) busy manifest
 actions_of Verify t busy manifest payload = clean (length (blocks payload t)) busy manifest + 6 + length payload / t
 
 -- The report with which it ends.
-abbrev pub report_of_aim : Aim → Report
-report_of_aim Install = Installed
-report_of_aim Verify = Verified
+abbrev pub report_of_purpose : Purpose → Report
+report_of_purpose Install = Installed
+report_of_purpose Verify = Verified
 
 -- A comparison has fewer than 65,535 full blocks.
-abbrev pub HasParts : Aim → (t : ℕ) → List ℕ → Type 0
+abbrev pub HasParts : Purpose → (t : ℕ) → List ℕ → Type 0
 HasParts Install t payload = Unit {0}
 HasParts Verify t payload = length payload / t < 65535
 
 -- The device can do what the session asks for: it downloads, and where the payload is verified it uploads too.
-abbrev pub CanDo : Aim → Profile → Type 0
+abbrev pub CanDo : Purpose → Profile → Type 0
 CanDo Install c = c.can_download ≡ true
 CanDo Verify c = (c.can_download ≡ true) × (c.can_upload ≡ true)
 
@@ -58,8 +58,9 @@ pub record InstalledAfter (c : Profile) (w : Link) (count : ℕ) (payload : List
 -- A tolerant device that can do it, in appIDLE; a payload with at least the fewest bytes and at most the room; actions for a clean run at
 -- least: after the offer, exactly as many passes as a clean run has end in its report.
 abbrev pub CleanRun : Type 0
-CleanRun = (c : Profile) (aim : Aim) (image payload : List ℕ) (limits : Limits) → c.tolerant ≡ true → CanDo aim c → 0 < c.transfer
-    → 0 < length payload → c.least ≤ length payload → length payload ≤ c.capacity → HasParts aim c.transfer payload
-    → actions_of aim c.transfer c.busy c.manifest payload ≤ limits.actions
-    → (other : Luck) (room : Bool) → InstalledAfter c (played c (resting image) (Offers aim payload limits) Works other room).link
-    (actions_of aim c.transfer c.busy c.manifest payload) payload (report_of_aim aim)
+CleanRun = (c : Profile) (purpose : Purpose) (image payload : List ℕ) (limits : Limits) → c.tolerant ≡ true → CanDo purpose c
+    → 0 < c.transfer
+    → 0 < length payload → c.least ≤ length payload → length payload ≤ c.capacity → HasParts purpose c.transfer payload
+    → actions_of purpose c.transfer c.busy c.manifest payload ≤ limits.actions
+    → (other : Luck) (room : Bool) → InstalledAfter c (played c (resting image) (Offers purpose payload limits) Works other room).link
+    (actions_of purpose c.transfer c.busy c.manifest payload) payload (report_of_purpose purpose)

@@ -2,33 +2,35 @@
 use Rattle.std.specs.Prelude.{◌≡◌, ℕ, ◌≤◌, List, [], ◌∷◌, ◌++◌, take, drop, Option}
 use Rattle.dfu_host.specs.declared.limits.Limits.{Limits}
 use Rattle.dfu_host.specs.declared.report.Report.{Report}
-use Rattle.dfu_sim.specs.declared.aim.Aim.{Aim}
+use Rattle.dfu_sim.specs.declared.purpose.Purpose.{Purpose}
 use Rattle.dfu_sim.specs.declared.fault.LinkFault.{LinkFault}
 use Rattle.dfu_sim.specs.Session.{said}
-use Rattle.dfu_sim.specs.Bench.{Bench}
+use Rattle.dfu_sim.specs.LinkView.{LinkView}
 use Rattle.dfu_sim.specs.Happening.{Happening}
 use Rattle.dfu_sim.specs.Refusing.{IsRefused}
 use Rattle.dfu_sim.specs.Sure.{IsSureEvent}
 use Rattle.dfu_sim.specs.CleanInstall.{clean_passes, CanInstall, offer_and_passes, InstallsCleanly}
 
 -- Steps one after the other, with their reports: of each this is known by the clause `sure` of `World::step`.
-pub data SureSteps : Bench → List Happening → List Report → Bench → Type 0 where
-  no_step : {b : Bench} → SureSteps b [] [] b
-  one_step : {b mid b' : Bench} {h : Happening} {hs : List Happening} {report : Option Report} {reports : List Report}
+pub data SureSteps : LinkView → List Happening → List Report → LinkView → Type 0 where
+  no_step : {b : LinkView} → SureSteps b [] [] b
+  one_step : {b mid b' : LinkView} {h : Happening} {hs : List Happening} {report : Option Report} {reports : List Report}
       → IsSureEvent b h mid report → SureSteps mid hs reports b' → SureSteps b (h ∷ hs) (said report ++ reports) b'
 
 -- Whatever memory there is: an offer and at most the passes of a clean run, let come by steps, report as a clean run does.
 abbrev pub StepsInstall : Type 0
-StepsInstall = (b b' : Bench) (aim : Aim) (file : List ℕ) (limits : Limits) (payload : List ℕ) (count : ℕ) (reports : List Report)
-    → CanInstall b aim file limits payload → count ≤ clean_passes aim b.device.config payload
-    → SureSteps b (offer_and_passes aim file limits count) reports b' → InstallsCleanly b aim payload count reports b'
+StepsInstall = (b b' : LinkView) (purpose : Purpose) (file : List ℕ) (limits : Limits) (payload : List ℕ) (count : ℕ)
+    (reports : List Report)
+    → CanInstall b purpose file limits payload → count ≤ clean_passes purpose b.device.config payload
+    → SureSteps b (offer_and_passes purpose file limits count) reports b' → InstallsCleanly b purpose payload count reports b'
 
 -- And none of these steps is refused.
 abbrev pub StepsStand : Type 0
-StepsStand = (b b' : Bench) (aim : Aim) (file : List ℕ) (limits : Limits) (payload : List ℕ) (count at : ℕ) (reports : List Report)
+StepsStand = (b b' : LinkView) (purpose : Purpose) (file : List ℕ) (limits : Limits) (payload : List ℕ) (count at : ℕ)
+    (reports : List Report)
     (next : Happening)
     (more : List Happening) (fault : LinkFault)
-    → CanInstall b aim file limits payload → count ≤ clean_passes aim b.device.config payload
-    → SureSteps b (take at (offer_and_passes aim file limits count)) reports b'
-    → drop at (offer_and_passes aim file limits count) ≡ next ∷ more
+    → CanInstall b purpose file limits payload → count ≤ clean_passes purpose b.device.config payload
+    → SureSteps b (take at (offer_and_passes purpose file limits count)) reports b'
+    → drop at (offer_and_passes purpose file limits count) ≡ next ∷ more
     → ¬ IsRefused b' next fault

@@ -7,13 +7,13 @@ use Rattle.dfu_device.specs.Setting.{Setting}
 use Rattle.dfu_sim.specs.declared.fault.LinkFault.{LinkFault}
 use Rattle.dfu_sim.specs.Play.{Answered, given}
 use Rattle.dfu_sim.specs.Happening.{Happening, Offers, Uploads, Aborts, Goes, Passes, Resets, Cuts, Refuses}
-use Rattle.dfu_sim.specs.Bench.{Bench, LinkState, linked}
+use Rattle.dfu_sim.specs.LinkView.{LinkView, WorldView, linked}
 use Rattle.dfu_sim.specs.Bytes.{BytePlay}
 use Rattle.dfu_sim.specs.Refusing.{IsOffered, CanGive, IsRefused}
 
 -- What happens, as the event of a device of these settings: an offer is that of the file's payload, and all else is what it is.
 abbrev pub Means : Setting → Happening → Happening → Type 0
-Means s (Offers aim file limits) e = (payload : List ℕ) × IsOffered s aim file payload × (e ≡ Offers aim payload limits)
+Means s (Offers purpose file limits) e = (payload : List ℕ) × IsOffered s purpose file payload × (e ≡ Offers purpose payload limits)
 Means s (Uploads limits) e = CanGive s × (e ≡ Uploads limits)
 Means s Aborts e = e ≡ Aborts
 Means s (Goes fate harm) e = e ≡ Goes fate harm
@@ -23,9 +23,9 @@ Means s Cuts e = e ≡ Cuts
 Means s (Refuses why) e = e ≡ Refuses why
 
 -- What comes of an event: it is refused and nothing changes, or it is a play with its bytes.
-pub data Comes (b : Bench) (h : Happening) : Bench → Result Answered LinkFault → Type 0 where
+pub data Comes (b : LinkView) (h : Happening) : LinkView → Result Answered LinkFault → Type 0 where
   refuses : {fault : LinkFault} → IsRefused b h fault → Comes b h b (Err fault)
-  happens : {event : Happening} {b' : Bench} {answer : Answered} → Means b.device.config h event → BytePlay b event b' answer
+  happens : {event : Happening} {b' : LinkView} {answer : Answered} → Means b.device.config h event → BytePlay b event b' answer
       → Comes b h b' (Ok answer)
 
 -- What a caller is told of it: the report.
@@ -51,7 +51,7 @@ GivesWithUploaded (Ok answer) = ComesWith answer.report answer.gave
 GivesWithUploaded (Err fault) = Unit {0}
 
 -- An event came, what was uploaded took the place of what the upload before gave, and its caller was told of it.
-pub record HasCome (w : LinkState) (h : Happening) (w' : LinkState) (result : Result (Option Report) LinkFault) : Type 0 where
+pub record HasCome (w : WorldView) (h : Happening) (w' : WorldView) (result : Result (Option Report) LinkFault) : Type 0 where
   pub answer : Result Answered LinkFault
   pub comes : Comes w.bench h w'.bench answer
   pub whole : GivesWithUploaded answer
@@ -59,5 +59,5 @@ pub record HasCome (w : LinkState) (h : Happening) (w' : LinkState) (result : Re
   pub told : result ≡ shown_as answer
 
 -- An event came with which nothing is given.
-abbrev pub HasComeAlone : Bench → Happening → Bench → Result (Option Report) LinkFault → Type 0
+abbrev pub HasComeAlone : LinkView → Happening → LinkView → Result (Option Report) LinkFault → Type 0
 HasComeAlone b h b' result = (up : List ℕ) → HasCome (linked b up) h (linked b' up) result

@@ -9,7 +9,7 @@ use Rattle.dfu_host.specs.Phases.{Goal, ToLoad, ToFetch, ToVerify, ToCompare, Ta
 use Rattle.dfu_host.specs.CommonPhases.{IsCommon}
 use Rattle.dfu_host.specs.Host.{HostState, IsOn}
 use Rattle.dfu_sim.specs.Session.{PromisesNothing}
-use Rattle.dfu_sim.specs.Bench.{Session, Nobody, Hosted}
+use Rattle.dfu_sim.specs.LinkView.{Session, Nobody, Hosted}
 
 -- The states of a phase.
 

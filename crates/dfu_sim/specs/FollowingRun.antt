@@ -8,7 +8,7 @@ use Rattle.dfu_sim.specs.declared.running.Stop.{Stop}
 use Rattle.dfu_sim.specs.Session.{Machine, IsOneOf, Kind, Legal}
 use Rattle.dfu_sim.specs.Agreement.{AgreesOn}
 use Rattle.dfu_sim.specs.Happening.{Happening}
-use Rattle.dfu_sim.specs.Bench.{LinkState}
+use Rattle.dfu_sim.specs.LinkView.{WorldView}
 use Rattle.dfu_sim.specs.Following.{IsOfKind}
 
 -- What happens one after the other is of these kinds.
@@ -19,7 +19,7 @@ AreOfKinds hs kinds = ⊥
 
 -- The session machine follows all that happens: it makes a legal run that says the reports in order, and agrees again, so that its active
 -- image is that of the medium's bytes; that image was theirs before, or is a whole payload that was offered so far.
-pub record IsFollowedRun (w : LinkState) (hs : List Happening) (reports : List Report) (w' : LinkState) (m : Machine) : Type 0 where
+pub record IsFollowedRun (w : WorldView) (hs : List Happening) (reports : List Report) (w' : WorldView) (m : Machine) : Type 0 where
   pub kinds : List Kind
   pub are : AreOfKinds hs kinds
   pub after : Machine
@@ -28,6 +28,6 @@ pub record IsFollowedRun (w : LinkState) (hs : List Happening) (reports : List R
   pub active : Active w.bench.device.slots.medium after.cur ⊎ IsOneOf after.cur after.offers
 
 -- Each session machine that agrees follows a run, or what of it came before it stopped.
-abbrev pub AllFollowRun : LinkState → List Happening → LinkState → Result (Vec Report Global) Stop → Type 0
+abbrev pub AllFollowRun : WorldView → List Happening → WorldView → Result (Vec Report Global) Stop → Type 0
 AllFollowRun w hs w' (Ok reports) = (m : Machine) → AgreesOn w.bench w.up m → IsFollowedRun w hs reports.items w' m
 AllFollowRun w hs w' (Err stop) = (m : Machine) → AgreesOn w.bench w.up m → IsFollowedRun w (take stop.at hs) stop.reports.items w' m

@@ -4,8 +4,8 @@ use Rattle.dfu_device.specs.declared.objection.Objection.{Objection}
 use Rattle.dfu_host.specs.declared.limits.Limits.{Limits}
 use Rattle.dfu_sim.specs.declared.fate.Fate.{Fate as GivenFate}
 use Rattle.dfu_sim.specs.declared.fate.Fate.TheVariants as fate
-use Rattle.dfu_sim.specs.declared.aim.Aim.{Aim}
-use Rattle.dfu_sim.specs.declared.aim.Aim.TheVariants.{Install, Verify}
+use Rattle.dfu_sim.specs.declared.purpose.Purpose.{Purpose}
+use Rattle.dfu_sim.specs.declared.purpose.Purpose.TheVariants.{Install, Verify}
 use Rattle.dfu_sim.specs.declared.event.Event.{Event as GivenEvent}
 use Rattle.dfu_sim.specs.declared.event.Event.TheVariants as event
 
@@ -32,7 +32,7 @@ pub record Harm : Type 0 where
 -- An event, as its caller gives it; in a play the bytes of an offer are the payload. A file is offered to be installed, or to be installed
 -- and verified. Between two actions the program of the device may refuse the image that was closed.
 pub data Happening : Type 0 where
-  Offers : Aim → (file : List ℕ) → Limits → Happening
+  Offers : Purpose → (file : List ℕ) → Limits → Happening
   Uploads : Limits → Happening
   Aborts : Happening
   Goes : Fate → Harm → Happening

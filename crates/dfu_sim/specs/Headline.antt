@@ -13,7 +13,7 @@ use Rattle.dfu_sim.specs.declared.event.Event.TheVariants.{Offer, OfferVerified,
 use Rattle.dfu_sim.specs.declared.fault.LinkFault.{LinkFault}
 use Rattle.dfu_sim.specs.declared.running.Stop.{Stop}
 use Rattle.dfu_sim.specs.Session.{SaysInPlace, said}
-use Rattle.dfu_sim.specs.Bench.{Session, Nobody, Hosted, Bench, LinkState}
+use Rattle.dfu_sim.specs.LinkView.{Session, Nobody, Hosted, LinkView, WorldView}
 
 -- How a session began: with the offer of a file, or as an upload of the active image.
 pub data Begun : Type 0 where
@@ -45,7 +45,7 @@ IsLastPayload (AsUpload ∷ past) x = ⊥
 
 -- What the headline says, when these sessions have begun and this was reported last. The active image is the factory image or a payload
 -- offered so far. Where Installed or Verified was reported, the device is in appIDLE, and that image is the last session's payload.
-pub record HeadlineSays (factory : List ℕ) (past : List Begun) (report : Option Report) (b : Bench) : Type 0 where
+pub record HeadlineSays (factory : List ℕ) (past : List Begun) (report : Option Report) (b : LinkView) : Type 0 where
   pub image : List ℕ
   pub active : Active b.device.slots.medium image
   pub known : (image ≡ factory) ⊎ WasOffered past image
@@ -70,41 +70,41 @@ IsLivePayload Nobody x = ⊥
 IsLivePayload (Hosted host) x = IsGoalPayload host.task.goal x
 
 -- What keeps the headline: an image that waits to be put in place was offered, and a live session's payload is that of the last offer.
-pub record KeepsHeadline (past : List Begun) (b : Bench) : Type 0 where
+pub record KeepsHeadline (past : List Begun) (b : LinkView) : Type 0 where
   pub waiting : (x : List ℕ) → IsWaiting b.device.stage x → WasOffered past x
   pub live : (x : List ℕ) → IsLivePayload b.session x → IsLastPayload past x
 
 -- The headline holds: it is so, and what keeps it is so.
-pub record HeadlineHolds (factory : List ℕ) (past : List Begun) (report : Option Report) (b : Bench) : Type 0 where
+pub record HeadlineHolds (factory : List ℕ) (past : List Begun) (report : Option Report) (b : LinkView) : Type 0 where
   pub says : HeadlineSays factory past report b
   pub kept : KeepsHeadline past b
 
 -- Where the headline holds before an event, it holds after it, with what the event reports. A refused event changes nothing.
-abbrev pub StepKeepsHeadline : LinkState → Event → LinkState → Result (Option Report) LinkFault → Type 0
+abbrev pub StepKeepsHeadline : WorldView → Event → WorldView → Result (Option Report) LinkFault → Type 0
 StepKeepsHeadline w event w' (Ok report) = (factory : List ℕ) (past : List Begun) (before : Option Report)
     → HeadlineHolds factory past before w.bench → HeadlineHolds factory (begun_now event past) report w'.bench
 StepKeepsHeadline w event w' (Err fault) = w' ≡ w
 
 -- The headline holds after each of these events, with what that event reports. These are the reports in order, and the link at the end.
-pub data HoldsAfterEach (factory : List ℕ) : (past : List Begun) → LinkState → List Event → List Report → LinkState → Type 0 where
-  no_event : {past : List Begun} {w : LinkState} → HoldsAfterEach factory past w [] [] w
-  one_event : {past : List Begun} {w mid w' : LinkState} {event : Event} {events : List Event} {report : Option Report}
+pub data HoldsAfterEach (factory : List ℕ) : (past : List Begun) → WorldView → List Event → List Report → WorldView → Type 0 where
+  no_event : {past : List Begun} {w : WorldView} → HoldsAfterEach factory past w [] [] w
+  one_event : {past : List Begun} {w mid w' : WorldView} {event : Event} {events : List Event} {report : Option Report}
       {reports : List Report}
       → HeadlineHolds factory (begun_now event past) report mid.bench → HoldsAfterEach factory (begun_now event past) mid events reports w'
       → HoldsAfterEach factory past w (event ∷ events) (said report ++ reports) w'
 
 -- Where the headline holds before these events, it holds after each of them.
-abbrev pub EventsKeepHeadline : LinkState → List Event → List Report → LinkState → Type 0
+abbrev pub EventsKeepHeadline : WorldView → List Event → List Report → WorldView → Type 0
 EventsKeepHeadline w events reports w' = (factory : List ℕ) (past : List Begun) (before : Option Report)
     → HeadlineHolds factory past before w.bench → HoldsAfterEach factory past w events reports w'
 
 -- A run keeps the headline through all of its events, or through those before the one at which it stopped.
-abbrev pub RunKeepsHeadline : LinkState → List Event → LinkState → Result (Vec Report Global) Stop → Type 0
+abbrev pub RunKeepsHeadline : WorldView → List Event → WorldView → Result (Vec Report Global) Stop → Type 0
 RunKeepsHeadline w events w' (Ok reports) = EventsKeepHeadline w events reports.items w'
 RunKeepsHeadline w events w' (Err stop) = EventsKeepHeadline w (take stop.at events) stop.reports.items w'
 
 -- The headline holds at the start. No session has begun, and no complete image waits to be put in place. The factory image is the one that
 -- is active then.
 abbrev pub HoldsAtRest : Type 0
-HoldsAtRest = (b : Bench) (factory : List ℕ) → Active b.device.slots.medium factory → b.session ≡ Nobody
+HoldsAtRest = (b : LinkView) (factory : List ℕ) → Active b.device.slots.medium factory → b.session ≡ Nobody
     → ((x : List ℕ) → IsWaiting b.device.stage x → ⊥) → HeadlineHolds factory [] None b

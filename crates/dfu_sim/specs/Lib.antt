@@ -1,7 +1,7 @@
 pub mod Session
 pub mod Happening
-pub mod Course
-pub mod Bench
+pub mod Delivery
+pub mod LinkView
 pub mod Opening
 pub mod Play
 pub mod Agreement

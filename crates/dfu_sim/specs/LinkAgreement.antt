@@ -3,7 +3,7 @@ use Rattle.std.specs.Prelude.{◌≡◌, ℕ, List, [], Option}
 use Rattle.dfu_device.specs.Stage.{Stage}
 use Rattle.dfu_sim.specs.Session.{Machine, NoOne}
 use Rattle.dfu_sim.specs.Play.{Link}
-use Rattle.dfu_sim.specs.Bench.{Bench, Nobody, ShowsActive}
+use Rattle.dfu_sim.specs.LinkView.{LinkView, Nobody, ShowsActive}
 use Rattle.dfu_sim.specs.Bytes.{link_of}
 use Rattle.dfu_sim.specs.Agreement.{Intake, NothingTaken, Open, Shut, intake_of, pending_in, live_of, IsShutOffer, IsLiveOffer, AgreesOn}
 
@@ -50,4 +50,4 @@ FreshAgrees = (w : Link) → w.session ≡ Nobody → NothingClosed w.device.sta
 
 -- A bench that shows the active image of its medium's bytes agrees with each machine that its link agrees with.
 abbrev pub LinkAgreesOn : Type 0
-LinkAgreesOn = (b : Bench) (up : List ℕ) (m : Machine) → ShowsActive b → Agrees (link_of b) up m → AgreesOn b up m
+LinkAgreesOn = (b : LinkView) (up : List ℕ) (m : Machine) → ShowsActive b → Agrees (link_of b) up m → AgreesOn b up m

@@ -1,31 +1,31 @@
 -- That an action in which a write is harmed has one result.
 use Rattle.std.specs.Prelude.{◌≡◌, Bool, Ok}
 use Rattle.dfu_slots.specs.Determined.{SameStore}
-use Rattle.dfu_device.specs.Shown.{Shown}
-use Rattle.dfu_sim.specs.declared.course.Harming.{Harming}
-use Rattle.dfu_sim.specs.declared.course.Harming.TheVariants.{NoWrite, CutsPower, FailsWrite, LiesInWrite}
-use Rattle.dfu_sim.specs.Course.{course_of}
+use Rattle.dfu_device.specs.DeviceView.{DeviceView}
+use Rattle.dfu_sim.specs.declared.delivery.MediumFault.{MediumFault}
+use Rattle.dfu_sim.specs.declared.delivery.MediumFault.TheVariants.{NoWrite, CutsPower, FailsWrite, LiesInWrite}
+use Rattle.dfu_sim.specs.Delivery.{delivery_of}
 use Rattle.dfu_sim.specs.Happening.{Fate, Harm, Goes}
 use Rattle.dfu_sim.specs.Play.{Answered, Took}
-use Rattle.dfu_sim.specs.Bench.{Bench}
+use Rattle.dfu_sim.specs.LinkView.{LinkView}
 use Rattle.dfu_sim.specs.Comes.{Comes}
 
 -- Two devices are the same but for how many writes of their media have failed.
-pub record SameDevice (w v : Shown) : Type 0 where
+pub record SameDevice (w v : DeviceView) : Type 0 where
   pub config : w.config ≡ v.config
   pub stage : w.stage ≡ v.stage
   pub store : SameStore w.slots v.slots
 
 -- Two results of one event are one: the devices are the same but for that count, and the sessions and the answers come of one rule that
 -- asks for nothing but whether there was memory for a part of an upload.
-pub record AreOne (c d : Bench) (x y : Answered) : Type 0 where
+pub record AreOne (c d : LinkView) (x y : Answered) : Type 0 where
   pub device : SameDevice c.device d.device
   pub rule : (room : Bool) → Took
   pub first : (room : Bool) × (rule room ≡ record { session = c.session; answer = x })
   pub second : (room : Bool) × (rule room ≡ record { session = d.session; answer = y })
 
 -- A write is harmed: by a cut, by a failure, or by a lie.
-abbrev pub HarmsAWrite : Harming → Type 0
+abbrev pub HarmsAWrite : MediumFault → Type 0
 HarmsAWrite NoWrite = ⊥
 HarmsAWrite CutsPower = Unit {0}
 HarmsAWrite FailsWrite = Unit {0}
@@ -33,5 +33,5 @@ HarmsAWrite LiesInWrite = Unit {0}
 
 -- An action in which a write is harmed has one result.
 abbrev pub OneResult : Type 0
-OneResult = (b c d : Bench) (fate : Fate) (harm : Harm) (x y : Answered) → HarmsAWrite (course_of fate).harming
+OneResult = (b c d : LinkView) (fate : Fate) (harm : Harm) (x y : Answered) → HarmsAWrite (delivery_of fate).harming
     → Comes b (Goes fate harm) c (Ok x) → Comes b (Goes fate harm) d (Ok y) → AreOne c d x y

@@ -4,9 +4,9 @@ use Rattle.dfu_wire.specs.declared.functionals.Functional.{Functional}
 use Rattle.dfu_device.specs.Stage.{Profile}
 use Rattle.dfu_host.specs.Phases.{Goal, ToLoad, ToVerify, Task}
 use Rattle.dfu_host.specs.Host.{host_begun, task_by_descriptor as host_task_for}
-use Rattle.dfu_sim.specs.declared.aim.Aim.{Aim}
-use Rattle.dfu_sim.specs.declared.aim.Aim.TheVariants.{Install, Verify}
-use Rattle.dfu_sim.specs.Bench.{Session, Hosted}
+use Rattle.dfu_sim.specs.declared.purpose.Purpose.{Purpose}
+use Rattle.dfu_sim.specs.declared.purpose.Purpose.TheVariants.{Install, Verify}
+use Rattle.dfu_sim.specs.LinkView.{Session, Hosted}
 
 -- The descriptor of a device with this profile, whose version no task goes by.
 abbrev pub descriptor_of : Profile → Functional
@@ -25,9 +25,9 @@ abbrev pub task_for : Profile → Goal → Task
 task_for c goal = host_task_for (descriptor_of c) goal
 
 -- What a session is for with which a payload is offered.
-abbrev pub goal_of_aim : Aim → (payload : List ℕ) → Goal
-goal_of_aim Install payload = ToLoad payload
-goal_of_aim Verify payload = ToVerify payload
+abbrev pub goal_of_purpose : Purpose → (payload : List ℕ) → Goal
+goal_of_purpose Install payload = ToLoad payload
+goal_of_purpose Verify payload = ToVerify payload
 
 -- A session that begins, with the device's task for this goal.
 abbrev pub opened : Profile → Goal → (actions restarts : ℕ) → Session

@@ -10,21 +10,21 @@ use Rattle.dfu_device.specs.Rows.{meant}
 use Rattle.dfu_host.specs.Phases.{ToFetch, Phase, Fetch, Over, OverUploaded, Deed, Send, Wait, Reset, Done, Heard, Acked, Status, StateIs, Part, NoRoom, Stalled, Nothing, Waited, WasReset, Restarted}
 use Rattle.dfu_host.specs.Table.{deed}
 use Rattle.dfu_host.specs.Host.{HostState, after, aborted as host_aborted}
-use Rattle.dfu_sim.specs.Opening.{goal_of_aim, opened}
+use Rattle.dfu_sim.specs.Opening.{goal_of_purpose, opened}
 use Rattle.dfu_sim.specs.Session.{Kind, AnOffer, AnUpload, AnAbort, ATime, ARestart, ARefusal, AGo}
 use Rattle.dfu_sim.specs.Happening.{Fate, Happening, Offers, Uploads, Aborts, Goes, Passes, Resets, Cuts, Refuses}
-use Rattle.dfu_sim.specs.declared.course.Handling.{Handling}
-use Rattle.dfu_sim.specs.declared.course.Handling.TheVariants.{Unseen, Once, Again, Late}
-use Rattle.dfu_sim.specs.declared.course.Harming.{Harming}
-use Rattle.dfu_sim.specs.declared.course.Harming.TheVariants.{NoWrite, CutsPower, FailsWrite, LiesInWrite}
-use Rattle.dfu_sim.specs.Course.{Course, course_of}
-use Rattle.dfu_sim.specs.Bench.{Session, Nobody, Hosted}
+use Rattle.dfu_sim.specs.declared.delivery.Handled.{Handled}
+use Rattle.dfu_sim.specs.declared.delivery.Handled.TheVariants.{Unseen, Once, Again, Late}
+use Rattle.dfu_sim.specs.declared.delivery.MediumFault.{MediumFault}
+use Rattle.dfu_sim.specs.declared.delivery.MediumFault.TheVariants.{NoWrite, CutsPower, FailsWrite, LiesInWrite}
+use Rattle.dfu_sim.specs.Delivery.{Delivery, delivery_of}
+use Rattle.dfu_sim.specs.LinkView.{Session, Nobody, Hosted}
 
 -- The events, in which the bytes of an offer are its payload.
 
 -- What an event is to the session machine.
 abbrev pub kind_of : Happening → Kind
-kind_of (Offers aim payload limits) = AnOffer payload
+kind_of (Offers purpose payload limits) = AnOffer payload
 kind_of (Uploads limits) = AnUpload
 kind_of Aborts = AnAbort
 kind_of (Goes fate harm) = AGo
@@ -75,9 +75,9 @@ abbrev pub took : HostState → Heard → Took
 took h heard = let h' = after h heard in settled h' h'.phase
 
 -- A restart that comes from outside is told to a live host at once.
-abbrev pub told : Session → Took
-told Nobody = record { session = Nobody; answer = silent }
-told (Hosted h) = took h Restarted
+abbrev pub notify_restart : Session → Took
+notify_restart Nobody = record { session = Nobody; answer = silent }
+notify_restart (Hosted h) = took h Restarted
 
 -- An abort reaches a live host, by the host's own rule.
 abbrev pub session_aborted : Session → Session
@@ -121,7 +121,7 @@ pub record Passed : Type 0 where
 
 -- A request that the table answers by this plan: the device after it, and what its host hears where the answer comes back. The medium's
 -- luck is said for the first and for the second thing that the device does.
-abbrev pub reached : Profile → Situation → Request → Plan → Handling → (first second : Luck) → Passed
+abbrev pub reached : Profile → Situation → Request → Plan → Handled → (first second : Luck) → Passed
 reached c s r p Unseen l k = record { device = s; heard = Nothing }
 reached c s r p Once l k = let o = outcome s.image p l in record { device = o.after; heard = heard_as o.reply }
 reached c s r p Again l k = let o = handled c (outcome s.image p l).after r k in record { device = o.after; heard = heard_as o.reply }
@@ -133,60 +133,60 @@ heard_back true heard = heard
 heard_back false heard = Nothing
 
 -- What is heard once an action is over: where the power was cut, of the restart alone.
-abbrev pub heard_over : Harming → Heard → Heard
+abbrev pub heard_over : MediumFault → Heard → Heard
 heard_over NoWrite heard = heard
 heard_over CutsPower heard = Restarted
 heard_over FailsWrite heard = heard
 heard_over LiesInWrite heard = heard
 
 -- The device once an action is over: where the power was cut, it starts again.
-abbrev pub over : Harming → Situation → Situation
+abbrev pub over : MediumFault → Situation → Situation
 over NoWrite s = s
 over CutsPower s = powered s
 over FailsWrite s = s
 over LiesInWrite s = s
 
 -- The end of an action.
-abbrev pub ends_by : Harming → Passed → Passed
+abbrev pub ends_by : MediumFault → Passed → Passed
 ends_by harming d = record { device = over harming d.device; heard = heard_over harming d.heard }
 
 -- The time that passes in a wait: another where one slips in.
-abbrev pub waits_for : Handling → ℕ → ℕ
+abbrev pub waits_for : Handled → ℕ → ℕ
 waits_for Unseen ms = ms
 waits_for Once ms = ms
 waits_for Again ms = ms
 waits_for (Late other) ms = other
 
 -- The time that slips in after a reset of the bus, or none.
-abbrev pub slipped : Profile → Situation → Handling → Luck → Situation
+abbrev pub slipped : Profile → Situation → Handled → Luck → Situation
 slipped c s Unseen l = s
 slipped c s Once l = s
 slipped c s Again l = s
 slipped c s (Late ms) l = elapsed c s ms l
 
--- A request by its course, where the table answers it by this plan.
-abbrev pub sent_by : Profile → Situation → Request → Plan → Course → (first second : Luck) → Passed
-sent_by c s r p course l k = let d = reached c s r p course.handling l k in
-    ends_by course.harming (record { device = d.device; heard = heard_back course.back d.heard })
+-- A request by its delivery, where the table answers it by this plan.
+abbrev pub sent_by : Profile → Situation → Request → Plan → Delivery → (first second : Luck) → Passed
+sent_by c s r p delivery l k = let d = reached c s r p delivery.handling l k in
+    ends_by delivery.harming (record { device = d.device; heard = heard_back delivery.back d.heard })
 
--- A request, by its course. Of two the program refuses at most the first.
-abbrev pub sent : Profile → Situation → Request → Course → (first second : Luck) → Passed
-sent c s r course l k = sent_by c s r (plan_by course.refusing c s.image s.stage r) course l k
+-- A request, by its delivery. Of two the program refuses at most the first.
+abbrev pub sent : Profile → Situation → Request → Delivery → (first second : Luck) → Passed
+sent c s r delivery l k = sent_by c s r (plan_by delivery.refusing c s.image s.stage r) delivery l k
 
--- A wait, by its course.
-abbrev pub waited : Profile → Situation → ℕ → Course → Luck → Passed
-waited c s ms course l = ends_by course.harming (record { device = elapsed c s (waits_for course.handling ms) l; heard = Waited })
+-- A wait, by its delivery.
+abbrev pub waited : Profile → Situation → ℕ → Delivery → Luck → Passed
+waited c s ms delivery l = ends_by delivery.harming (record { device = elapsed c s (waits_for delivery.handling ms) l; heard = Waited })
 
--- A reset of the bus by the host, by its course.
-abbrev pub bus_reset : Profile → Situation → Course → Luck → Passed
-bus_reset c s course l = ends_by course.harming (record { device = slipped c (was_reset s) course.handling l; heard = WasReset })
+-- A reset of the bus by the host, by its delivery.
+abbrev pub bus_reset : Profile → Situation → Delivery → Luck → Passed
+bus_reset c s delivery l = ends_by delivery.harming (record { device = slipped c (was_reset s) delivery.handling l; heard = WasReset })
 
--- An action of the host, by its course. A host that is done has none.
-abbrev pub acted : Profile → Situation → Deed → Course → (first second : Luck) → Passed
-acted c s (Send q body) course l k = sent c s (meant q body) course l k
-acted c s (Wait ms) course l k = waited c s ms course l
-acted c s Reset course l k = bus_reset c s course l
-acted c s (Done report) course l k = record { device = s; heard = Nothing }
+-- An action of the host, by its delivery. A host that is done has none.
+abbrev pub acted : Profile → Situation → Deed → Delivery → (first second : Luck) → Passed
+acted c s (Send q body) delivery l k = sent c s (meant q body) delivery l k
+acted c s (Wait ms) delivery l k = waited c s ms delivery l
+acted c s Reset delivery l k = bus_reset c s delivery l
+acted c s (Done report) delivery l k = record { device = s; heard = Nothing }
 
 -- The rows.
 
@@ -194,13 +194,13 @@ acted c s (Done report) course l k = record { device = s; heard = Nothing }
 abbrev pub gone : Profile → Link → Session → Fate → (first second : Luck) → (room : Bool) → Played
 gone c w Nobody fate l k room = record { link = w; answer = silent }
 gone c w (Hosted h) fate l k room =
-    let d = acted c w.device (deed h.task h.phase) (course_of fate) l k in
+    let d = acted c w.device (deed h.task h.phase) (delivery_of fate) l k in
     let t = took h (remembered d.heard (has_room h.phase room)) in
     record { link = record { device = d.device; session = t.session }; answer = t.answer }
 
 -- A restart that comes from outside: the device is in this situation, and a live host is told.
 abbrev pub restarted_to : Situation → Session → Played
-restarted_to s session = let t = told session in record { link = record { device = s; session = t.session }; answer = t.answer }
+restarted_to s session = let t = notify_restart session in record { link = record { device = s; session = t.session }; answer = t.answer }
 
 -- The device once its program has refused the image that was closed, if one was.
 abbrev pub image_refused : Objection → Situation → Situation
@@ -209,8 +209,8 @@ image_refused why s = record { image = s.image; stage = refuse_stage why s.stage
 -- Each event. The harm that an action does to a write is in the luck of the medium. Between actions the medium is not armed, so that it
 -- works while time passes.
 abbrev pub played : Profile → Link → Happening → (first second : Luck) → (room : Bool) → Played
-played c w (Offers aim payload limits) l k room = record {
-  link = record { device = w.device; session = opened c (goal_of_aim aim payload) limits.actions limits.restarts };
+played c w (Offers purpose payload limits) l k room = record {
+  link = record { device = w.device; session = opened c (goal_of_purpose purpose payload) limits.actions limits.restarts };
   answer = silent;
 }
 played c w (Uploads limits) l k room =
@@ -225,7 +225,7 @@ played c w (Refuses why) l k room = record { link = record { device = image_refu
 -- An event that is not refused: a session begins only where none is live, and no offer is empty; an abort and an action need a live
 -- session.
 abbrev pub MayHappen : Session → Happening → Type 0
-MayHappen Nobody (Offers aim payload limits) = 0 < length payload
+MayHappen Nobody (Offers purpose payload limits) = 0 < length payload
 MayHappen Nobody (Uploads limits) = Unit {0}
 MayHappen Nobody Aborts = ⊥
 MayHappen Nobody (Goes fate harm) = ⊥
@@ -233,7 +233,7 @@ MayHappen Nobody (Passes ms) = Unit {0}
 MayHappen Nobody Resets = Unit {0}
 MayHappen Nobody Cuts = Unit {0}
 MayHappen Nobody (Refuses why) = Unit {0}
-MayHappen (Hosted h) (Offers aim payload limits) = ⊥
+MayHappen (Hosted h) (Offers purpose payload limits) = ⊥
 MayHappen (Hosted h) (Uploads limits) = ⊥
 MayHappen (Hosted h) Aborts = Unit {0}
 MayHappen (Hosted h) (Goes fate harm) = Unit {0}

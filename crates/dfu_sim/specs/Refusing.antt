@@ -7,27 +7,27 @@ use Rattle.dfu_host.specs.declared.fault.HostFault.{HostFault}
 use Rattle.dfu_host.specs.Download.{first_download_fault, first_verify_fault}
 use Rattle.dfu_host.specs.Uploading.{first_upload_fault}
 use Rattle.dfu_device.specs.Setting.{Setting}
-use Rattle.dfu_sim.specs.declared.aim.Aim.{Aim}
-use Rattle.dfu_sim.specs.declared.aim.Aim.TheVariants.{Install, Verify}
+use Rattle.dfu_sim.specs.declared.purpose.Purpose.{Purpose}
+use Rattle.dfu_sim.specs.declared.purpose.Purpose.TheVariants.{Install, Verify}
 use Rattle.dfu_sim.specs.declared.fault.LinkFault.{LinkFault}
 use Rattle.dfu_sim.specs.declared.fault.LinkFault.TheVariants as link_fault
 use Rattle.dfu_sim.specs.declared.fault.OfferFault.{OfferFault}
 use Rattle.dfu_sim.specs.declared.fault.OfferFault.TheVariants as offer_fault
-use Rattle.dfu_sim.specs.Bench.{Session, Nobody, Hosted, Bench}
+use Rattle.dfu_sim.specs.LinkView.{Session, Nobody, Hosted, LinkView}
 use Rattle.dfu_sim.specs.Happening.{Happening, Offers, Uploads, Aborts, Goes}
 
 -- The first fault of a session with which this is offered to a device of this descriptor.
-abbrev pub first_offer_fault : Aim → Content → Functional → Ids → Option HostFault
+abbrev pub first_offer_fault : Purpose → Content → Functional → Ids → Option HostFault
 first_offer_fault Install file functional device = first_download_fault file functional device
 first_offer_fault Verify file functional device = first_verify_fault file functional device
 
 -- The bytes are a file with this payload that a device of these settings takes: a file of the grammar, and no fault of the session.
-pub record IsOffered (s : Setting) (aim : Aim) (file payload : List ℕ) : Type 0 where
+pub record IsOffered (s : Setting) (purpose : Purpose) (file payload : List ℕ) : Type 0 where
   pub ids : Ids
   pub dfu : ℕ
   pub extra : List ℕ
   pub reads : IsFile payload ids dfu extra file
-  pub taken : first_offer_fault aim (record { payload = payload; ids = ids; dfu = dfu; suffix = 16 + length extra }) s.functional
+  pub taken : first_offer_fault purpose (record { payload = payload; ids = ids; dfu = dfu; suffix = 16 + length extra }) s.functional
       s.ids ≡ None
 
 -- What the bytes say, as a file of the grammar with these contents.
@@ -37,10 +37,10 @@ pub record SaysContent (file : List ℕ) (content : Content) : Type 0 where
   pub suffix : content.suffix ≡ 16 + length extra
 
 -- Why an offer is refused: the first fault of the bytes, or the first fault of the session that would begin.
-abbrev pub IsBadOffer : Setting → Aim → List ℕ → OfferFault → Type 0
-IsBadOffer s aim file (offer_fault.Suffix fault) = First fault file
-IsBadOffer s aim file (offer_fault.Host fault) = (content : Content) × SaysContent file content
-    × (first_offer_fault aim content s.functional s.ids ≡ Some fault)
+abbrev pub IsBadOffer : Setting → Purpose → List ℕ → OfferFault → Type 0
+IsBadOffer s purpose file (offer_fault.Suffix fault) = First fault file
+IsBadOffer s purpose file (offer_fault.Host fault) = (content : Content) × SaysContent file content
+    × (first_offer_fault purpose content s.functional s.ids ≡ Some fault)
 
 -- A device of these settings gives its image: no fault of an upload.
 abbrev pub CanGive : Setting → Type 0
@@ -58,9 +58,9 @@ IsLive (Hosted h) = Unit {0}
 
 -- When an event is refused: an offer or an upload while a session is live, an abort or an action while none is, and, while none is, an
 -- offer of a file that is not taken and an upload from a device that gives no image.
-abbrev pub IsRefused : Bench → Happening → LinkFault → Type 0
-IsRefused b (Offers aim file limits) link_fault.HostBusy = IsLive b.session
-IsRefused b (Offers aim file limits) (link_fault.BadOffer fault) = (b.session ≡ Nobody) × IsBadOffer b.device.config aim file fault
+abbrev pub IsRefused : LinkView → Happening → LinkFault → Type 0
+IsRefused b (Offers purpose file limits) link_fault.HostBusy = IsLive b.session
+IsRefused b (Offers purpose file limits) (link_fault.BadOffer fault) = (b.session ≡ Nobody) × IsBadOffer b.device.config purpose file fault
 IsRefused b (Uploads limits) link_fault.HostBusy = IsLive b.session
 IsRefused b (Uploads limits) (link_fault.BadOffer fault) = (b.session ≡ Nobody) × IsBadUpload b.device.config fault
 IsRefused b Aborts link_fault.NoHost = b.session ≡ Nobody

@@ -8,7 +8,7 @@ use Rattle.dfu_sim.specs.declared.fault.LinkFault.{LinkFault}
 use Rattle.dfu_sim.specs.declared.fault.LinkFault.TheVariants.{NoMemory}
 use Rattle.dfu_sim.specs.declared.running.Stop.{Stop}
 use Rattle.dfu_sim.specs.Session.{said}
-use Rattle.dfu_sim.specs.Bench.{Bench, LinkState}
+use Rattle.dfu_sim.specs.LinkView.{LinkView, WorldView}
 use Rattle.dfu_sim.specs.Happening.{Happening, happening}
 use Rattle.dfu_sim.specs.Refusing.{IsRefused}
 use Rattle.dfu_sim.specs.Comes.{HasCome}
@@ -16,9 +16,9 @@ use Rattle.dfu_sim.specs.Giving.{GivesOrKeeps}
 
 -- What happens comes to a link one after the other, none of it is refused, these are the reports in their order, and with Uploaded the
 -- active image is given.
-pub data Runs : LinkState → List Happening → List Report → LinkState → Type 0 where
-  rests : {w : LinkState} → Runs w [] [] w
-  comes : {w mid w' : LinkState} {h : Happening} {hs : List Happening} {report : Option Report} {reports : List Report}
+pub data Runs : WorldView → List Happening → List Report → WorldView → Type 0 where
+  rests : {w : WorldView} → Runs w [] [] w
+  comes : {w mid w' : WorldView} {h : Happening} {hs : List Happening} {report : Option Report} {reports : List Report}
       → HasCome w h mid (Ok report) → GivesOrKeeps w mid (Ok report) → Runs mid hs reports w' → Runs w (h ∷ hs) (said report ++ reports) w'
 
 -- What happens, of the events that a caller names.
@@ -26,13 +26,13 @@ abbrev pub happenings : List GivenEvent → List Happening
 happenings events = map happening events
 
 -- Why a run stops before what happens next: that is refused as this fault, or there is no memory for a report.
-abbrev pub IsStop : Bench → Happening → LinkFault → Type 0
+abbrev pub IsStop : LinkView → Happening → LinkFault → Type 0
 IsStop b next NoMemory = Unit {0}
 IsStop b next fault = IsRefused b next fault
 
 -- A run stopped at this place: what happens before it came, and what is next did not.
-pub record StopsAt (w : LinkState) (hs : List Happening) (fault : LinkFault) (at : ℕ) (reports : List Report)
-    (w' : LinkState) : Type 0 where
+pub record StopsAt (w : WorldView) (hs : List Happening) (fault : LinkFault) (at : ℕ) (reports : List Report)
+    (w' : WorldView) : Type 0 where
   pub next : Happening
   pub more : List Happening
   pub here : drop at hs ≡ next ∷ more
@@ -40,6 +40,6 @@ pub record StopsAt (w : LinkState) (hs : List Happening) (fault : LinkFault) (at
   pub why : IsStop w'.bench next fault
 
 -- What a run answers: the reports of all that happens, or where it stopped.
-abbrev pub RunAnswers : LinkState → List Happening → LinkState → Result (Vec Report Global) Stop → Type 0
+abbrev pub RunAnswers : WorldView → List Happening → WorldView → Result (Vec Report Global) Stop → Type 0
 RunAnswers w hs w' (Ok reports) = Runs w hs reports.items w'
 RunAnswers w hs w' (Err stop) = StopsAt w hs stop.fault stop.at stop.reports.items w'

@@ -1,11 +1,11 @@
 -- What a link stands on between events, as one value and as a fact.
 use Rattle.std.specs.Prelude.{◌≡◌, ℕ, ◌<◌, List, [], Option, Some, None}
 use Rattle.dfu_slots.specs.Medium.Fuse.{Whole}
-use Rattle.dfu_device.specs.Shown.{Shown, profile, situation}
+use Rattle.dfu_device.specs.DeviceView.{DeviceView, profile, situation}
 use Rattle.dfu_host.specs.Host.{HostState, IsOn}
 use Rattle.dfu_host.specs.Counting.{IsCounted}
 use Rattle.dfu_host.specs.Uploading.{kept_in}
-use Rattle.dfu_sim.specs.Bench.{Session, Nobody, Hosted, Bench, ShowsActive, LinkState}
+use Rattle.dfu_sim.specs.LinkView.{Session, Nobody, Hosted, LinkView, ShowsActive, WorldView}
 use Rattle.dfu_sim.specs.Fact.{SessionFact}
 
 -- The session of a host, or of none.
@@ -19,11 +19,11 @@ given_by None = []
 given_by (Some h) = kept_in h.phase
 
 -- A device and a host, or none, as a bench.
-abbrev pub bench_of : Shown → Option HostState → Bench
+abbrev pub bench_of : DeviceView → Option HostState → LinkView
 bench_of w host = record { device = w; session = session_of host }
 
 -- A device, the host that is live and the one whose upload was reported last, or none, as a link.
-abbrev pub link_state : Shown → (live gave : Option HostState) → LinkState
+abbrev pub link_state : DeviceView → (live gave : Option HostState) → WorldView
 link_state w live gave = record { bench = bench_of w live; up = given_by gave }
 
 -- A live session is not done.
@@ -42,13 +42,13 @@ SendsBytes Nobody = Unit {0}
 SendsBytes (Hosted h) = 0 < h.task.transfer
 
 -- What holds of a link between events: the phase fact, a medium that is not armed, blocks of at least one byte, and parts that are counted.
-pub record IsSteady (b : Bench) : Type 0 where
+pub record IsSteady (b : LinkView) : Type 0 where
   pub fact : SessionFact (profile b.device) (situation b.device) b.session
   pub unarmed : b.device.slots.medium.fuse ≡ Whole
   pub sized : SendsBytes b.session
   pub counted : IsCountedIn b.session
 
 -- What holds of a world between events: its bench is steady, and shows the active image of its medium's bytes.
-pub record BenchHolds (b : Bench) : Type 0 where
+pub record LinkViewHolds (b : LinkView) : Type 0 where
   pub steady : IsSteady b
   pub active : ShowsActive b

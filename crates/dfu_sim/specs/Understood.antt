@@ -6,7 +6,7 @@ use Rattle.dfu_device.specs.declared.answer.Answer.{Answer}
 use Rattle.dfu_device.specs.Table.{plan}
 use Rattle.dfu_device.specs.Outcome.{Luck, outcome}
 use Rattle.dfu_device.specs.Stage.{Profile, Stage}
-use Rattle.dfu_device.specs.Shown.{profile}
+use Rattle.dfu_device.specs.DeviceView.{profile}
 use Rattle.dfu_device.specs.Rows.{meant, asked_length, Answers}
 use Rattle.dfu_wire.specs.declared.requests.Request.{Request as Asked}
 use Rattle.dfu_host.specs.Phases.{Task, Phase, Send, Heard}
@@ -14,7 +14,7 @@ use Rattle.dfu_host.specs.Table.{deed}
 use Rattle.dfu_sim.specs.Play.{Answered, Play, heard_as, remembered}
 use Rattle.dfu_sim.specs.Bytes.{HearsAnswer, link_of, BytePlay}
 use Rattle.dfu_sim.specs.Happening.{Happening}
-use Rattle.dfu_sim.specs.Bench.{Bench, ShowsActive}
+use Rattle.dfu_sim.specs.LinkView.{LinkView, ShowsActive}
 
 -- What a device answers to a request of a host, in bytes, is heard as what the device meant; a part of an upload may find no memory.
 abbrev pub Understood : Type 0
@@ -26,16 +26,16 @@ Understood = (task : Task) (phase : Phase) (q : Asked) (body : List ℕ) (c : Pr
 
 -- A play with its bytes is a play of the links that the benches show; the device stays what it is set up as, and its medium is not armed
 -- again.
-pub record Shows (b : Bench) (event : Happening) (b' : Bench) (answer : Answered) : Type 0 where
+pub record Shows (b : LinkView) (event : Happening) (b' : LinkView) (answer : Answered) : Type 0 where
   pub play : Play (profile b.device) (link_of b) event (link_of b') answer
   pub fixed : profile b'.device ≡ profile b.device
   pub unarmed : b'.device.slots.medium.fuse ≡ Whole
 
 -- Each play with its bytes is one of the links.
 abbrev pub BytesShow : Type 0
-BytesShow = (b b' : Bench) (event : Happening) (answer : Answered) → BytePlay b event b' answer → Shows b event b' answer
+BytesShow = (b b' : LinkView) (event : Happening) (answer : Answered) → BytePlay b event b' answer → Shows b event b' answer
 
 -- The image of the link that a bench shows is the active image of the bytes of its medium, where they have one; and they have no other.
 abbrev pub ImageShown : Type 0
-ImageShown = (b : Bench) → (HasImage b.device.slots.medium → ShowsActive b)
+ImageShown = (b : LinkView) → (HasImage b.device.slots.medium → ShowsActive b)
     × ((image : List ℕ) → Active b.device.slots.medium image → image ≡ (link_of b).device.image)

@@ -1,4 +1,4 @@
-//! One action of a host, by its course.
+//! One action of a host, by its delivery.
 
 ghost use Rattle.std.specs.Prelude.{◌≡◌};
 ghost use Rattle.dfu_device.specs.Rows.{Elapses};
@@ -7,10 +7,10 @@ ghost use Rattle.dfu_sim.specs.Play.{waits_for};
 ghost use Rattle.dfu_host.specs.Wire.{Hears};
 ghost use Rattle.dfu_host.specs.Phases.{Deed, Heard};
 ghost use Rattle.dfu_sim.specs.Bytes.{TakesSetup, ReachesDevice, Slips, bus_was_reset, came_back, ended_back, Waits, ResetsBus, HostActs};
-ghost use Rattle.dfu_sim.specs.inside.Acting.{course_in, seen_over, HasHeardBack};
+ghost use Rattle.dfu_sim.specs.inside.Acting.{delivery_in, seen_over, HasHeardBack};
 
-use crate::back::Back;
-use crate::course::{Course, Handling, Harming};
+use crate::delivery::{Delivery, Handled, MediumFault};
+use crate::response::Response;
 use arrayvec::ArrayVec;
 use dfu_device::{Answer, Device, Objection};
 use dfu_host::{Action, Host, Seen};
@@ -45,130 +45,138 @@ fn reach<M: Medium>(
     device: &mut Device<M>,
     setup: &[u8; 8],
     body: &[u8],
-    handling: Handling,
+    handling: Handled,
     refusing: Option<Objection>,
     out: &mut ArrayVec<u8, 4096>,
-) -> Back
+) -> Response
     ensures { ReachesDevice refusing setup.now body.now handling device.old result out.new.items device.new }
 {
     match handling {
-        Handling::Unseen => Back::Lost,
-        Handling::Once => Back::Answered(take_in(device, setup, body, refusing, out)),
-        Handling::Again => {
+        Handled::Unseen => Response::Lost,
+        Handled::Once => Response::Answered(take_in(device, setup, body, refusing, out)),
+        Handled::Again => {
             let _ = take_in(device, setup, body, refusing, out);
-            Back::Answered(device.handle(setup, body, out))
+            Response::Answered(device.handle(setup, body, out))
         }
-        Handling::Late(ms) => {
+        Handled::Late(ms) => {
             let answer = take_in(device, setup, body, refusing, out);
             device.elapse(ms);
-            Back::Answered(answer)
+            Response::Answered(answer)
         }
     }
 }
 
 /// What comes back of a request to the host.
-fn come_back(course: Course<'_>, back: Back) -> Back
-    ensures { result ≡ ended_back course.entry.harming (came_back course.entry.back back) }
+fn come_back(delivery: Delivery<'_>, back: Response) -> Response
+    ensures { result ≡ ended_back delivery.entry.harming (came_back delivery.entry.back back) }
 {
-    match (course.harming, course.back) {
-        (Harming::CutsPower, _) => Back::Restarted,
-        (Harming::NoWrite | Harming::FailsWrite | Harming::LiesInWrite, true) => back,
-        (Harming::NoWrite | Harming::FailsWrite | Harming::LiesInWrite, false) => Back::Lost,
+    match (delivery.harming, delivery.back) {
+        (MediumFault::CutsPower, _) => Response::Restarted,
+        (MediumFault::NoWrite | MediumFault::FailsWrite | MediumFault::LiesInWrite, true) => back,
+        (MediumFault::NoWrite | MediumFault::FailsWrite | MediumFault::LiesInWrite, false) =>
+            Response::Lost,
     }
 }
 
 /// The time that passes in a wait: another where one slips in.
-fn time_of(handling: Handling, ms: u32) -> u32
+fn time_of(handling: Handled, ms: u32) -> u32
     ensures { result ≡ waits_for handling ms }
 {
     match handling {
-        Handling::Unseen | Handling::Once | Handling::Again => ms,
-        Handling::Late(other) => other,
+        Handled::Unseen | Handled::Once | Handled::Again => ms,
+        Handled::Late(other) => other,
     }
 }
 
 /// What the host sees of a wait or a reset: after a cut that the device was restarted.
-fn seen_after(harming: Harming, seen: Seen<'static>) -> Seen<'static>
+fn seen_after(harming: MediumFault, seen: Seen<'static>) -> Seen<'static>
     ensures { result ≡ seen_over harming seen.entry }
 {
     match harming {
-        Harming::CutsPower => Seen::Restarted,
-        Harming::NoWrite | Harming::FailsWrite | Harming::LiesInWrite => seen,
+        MediumFault::CutsPower => Seen::Restarted,
+        MediumFault::NoWrite | MediumFault::FailsWrite | MediumFault::LiesInWrite => seen,
     }
 }
 
 /// A wait of the host: where a time slips in it passes in its place.
-fn wait<M: Medium>(device: &mut Device<M>, ms: u32, course: Course<'_>) -> Seen<'static>
+fn wait<M: Medium>(device: &mut Device<M>, ms: u32, delivery: Delivery<'_>) -> Seen<'static>
     ensures hears { (d : Deed) (heard : Heard) → Hears d result heard
-        → Waits ms (course_in course.entry) device.old device.new heard }
-    ensures row { Elapses (waits_for course.entry.handling ms) device.old device.new }
+        → Waits ms (delivery_in delivery.entry) device.old device.new heard }
+    ensures row { Elapses (waits_for delivery.entry.handling ms) device.old device.new }
 {
-    device.elapse(time_of(course.handling, ms));
-    seen_after(course.harming, Seen::Waited)
+    device.elapse(time_of(delivery.handling, ms));
+    seen_after(delivery.harming, Seen::Waited)
 }
 
 /// The time that slips in after a reset of the bus passes.
-fn slip<M: Medium>(device: &mut Device<M>, handling: Handling)
+fn slip<M: Medium>(device: &mut Device<M>, handling: Handled)
     ensures { Slips handling device.old device.new }
 {
     match handling {
-        Handling::Unseen | Handling::Once | Handling::Again => {}
-        Handling::Late(ms) => device.elapse(ms),
+        Handled::Unseen | Handled::Once | Handled::Again => {}
+        Handled::Late(ms) => device.elapse(ms),
     }
 }
 
 /// A reset of the bus by the host, and the time that slips in after it.
-fn reset_bus<M: Medium>(device: &mut Device<M>, course: Course<'_>) -> Seen<'static>
+fn reset_bus<M: Medium>(device: &mut Device<M>, delivery: Delivery<'_>) -> Seen<'static>
     ensures hears { (d : Deed) (heard : Heard) → Hears d result heard
-        → ResetsBus (course_in course.entry) device.old device.new heard }
-    ensures row { Slips course.entry.handling (bus_was_reset device.old) device.new }
+        → ResetsBus (delivery_in delivery.entry) device.old device.new heard }
+    ensures row { Slips delivery.entry.handling (bus_was_reset device.old) device.new }
 {
     device.usb_reset();
-    slip(device, course.handling);
-    seen_after(course.harming, Seen::WasReset)
+    slip(device, delivery.handling);
+    seen_after(delivery.harming, Seen::WasReset)
 }
 
 /// Tells the host what came back of its request.
-fn tell(host: &mut Host<'_>, back: Back, out: &[u8])
+fn tell(host: &mut Host<'_>, back: Response, out: &[u8])
     ensures { HasHeardBack host.old back out.now host.new }
 {
     match back {
-        Back::Answered(Answer::Ack) => host.take(Seen::Ack),
-        Back::Answered(Answer::Bytes) => host.take(Seen::Bytes(out)),
-        Back::Answered(Answer::Stall) => host.take(Seen::Stall),
-        Back::Lost => host.take(Seen::Nothing),
-        Back::Restarted => host.take(Seen::Restarted),
+        Response::Answered(Answer::Ack) => host.take(Seen::Ack),
+        Response::Answered(Answer::Bytes) => host.take(Seen::Bytes(out)),
+        Response::Answered(Answer::Stall) => host.take(Seen::Stall),
+        Response::Lost => host.take(Seen::Nothing),
+        Response::Restarted => host.take(Seen::Restarted),
     }
 }
 
-/// The next action of a host that is not done, by its course. Who harms a write has armed the
+/// The next action of a host that is not done, by its delivery. Who harms a write has armed the
 /// medium for it. `out` is room for an answer; what it holds at first isn't read. It tells what the
 /// device answered, if it did, whether that came back or not.
 pub(crate) fn act<M: Medium>(
     device: &mut Device<M>,
     host: &mut Host<'_>,
-    course: Course<'_>,
+    delivery: Delivery<'_>,
     out: &mut ArrayVec<u8, 4096>,
-) -> Back
+) -> Response
     requires { IsOn host.old.phase }
-    ensures { HostActs host.old (course_in course.entry) device.old device.new host.new }
+    ensures { HostActs host.old (delivery_in delivery.entry) device.old device.new host.new }
 {
     match host.next() {
         Action::Send { setup, body } => {
-            let came = reach(device, &setup, body, course.handling, course.refusing, out);
-            let back = come_back(course, came);
+            let came = reach(
+                device,
+                &setup,
+                body,
+                delivery.handling,
+                delivery.refusing,
+                out,
+            );
+            let back = come_back(delivery, came);
             tell(host, back, out.as_slice());
             came
         }
         Action::Wait(ms) => {
-            let seen = wait(device, ms, course);
+            let seen = wait(device, ms, delivery);
             host.take(seen);
-            Back::Lost
+            Response::Lost
         }
         Action::Reset => {
-            let seen = reset_bus(device, course);
+            let seen = reset_bus(device, delivery);
             host.take(seen);
-            Back::Lost
+            Response::Lost
         }
         Action::Done(_) => unreachable!(),
     }

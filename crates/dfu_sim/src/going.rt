@@ -4,40 +4,41 @@ ghost use Rattle.std.specs.Prelude.{◌≡◌};
 ghost use Rattle.dfu_host.specs.Host.{IsOn};
 ghost use Rattle.dfu_slots.specs.Medium.Fuse.{Whole};
 ghost use Rattle.dfu_sim.specs.Bytes.{fuse_of, armed, device_left_by, HostActsArmed};
-ghost use Rattle.dfu_sim.specs.Course.{course_of};
+ghost use Rattle.dfu_sim.specs.Delivery.{delivery_of};
 ghost use Rattle.dfu_sim.specs.Happening.{fate_of, harm_in, refused_in};
 ghost use Rattle.dfu_sim.specs.inside.Acting.{harm_at};
 
 use crate::acting::act;
 use crate::answered::Answered;
-use crate::course::{Course, Harming, course_by};
+use crate::delivery::{Delivery, MediumFault, delivery_by};
 use crate::fate::Fate;
 use crate::power::power_cycle;
 use dfu_device::{Device, Objection};
 use dfu_host::Host;
 use dfu_slots::Faulty;
 
-/// Arms the medium for an action of this course: with a cut no later write works, with a failure and a
+/// Arms the medium for an action of this delivery: with a cut no later write works, with a failure and a
 /// lie all later ones do.
-fn arm<M: Faulty>(device: &mut Device<M>, course: Course<'_>)
+fn arm<M: Faulty>(device: &mut Device<M>, delivery: Delivery<'_>)
     requires { device.old.slots.medium.fuse ≡ Whole }
-    ensures { device.new ≡ armed device.old (fuse_of course.entry.harming (harm_at course.entry)) }
+    ensures { device.new ≡ armed device.old (fuse_of delivery.entry.harming (harm_at delivery.entry)) }
 {
-    match course.harming {
-        Harming::NoWrite => {}
-        Harming::CutsPower => device.arm(course.writes, course.tear, true),
-        Harming::FailsWrite => device.arm(course.writes, course.tear, false),
-        Harming::LiesInWrite => device.arm_lie(course.writes, course.tear),
+    match delivery.harming {
+        MediumFault::NoWrite => {}
+        MediumFault::CutsPower => device.arm(delivery.writes, delivery.tear, true),
+        MediumFault::FailsWrite => device.arm(delivery.writes, delivery.tear, false),
+        MediumFault::LiesInWrite => device.arm_lie(delivery.writes, delivery.tear),
     }
 }
 
 /// The action is over: after a cut the power comes back, and in any case the medium is disarmed.
-fn settle<M: Faulty>(device: &mut Device<M>, harming: Harming)
+fn settle<M: Faulty>(device: &mut Device<M>, harming: MediumFault)
     ensures { device.new ≡ device_left_by harming device.old }
 {
     match harming {
-        Harming::CutsPower => power_cycle(device),
-        Harming::NoWrite | Harming::FailsWrite | Harming::LiesInWrite => device.disarm(),
+        MediumFault::CutsPower => power_cycle(device),
+        MediumFault::NoWrite | MediumFault::FailsWrite | MediumFault::LiesInWrite =>
+            device.disarm(),
     }
 }
 
@@ -52,11 +53,11 @@ pub(crate) fn carry_out<M: Faulty>(
 )
     requires on { IsOn host.old.phase }
     requires unarmed { device.old.slots.medium.fuse ≡ Whole }
-    ensures { HostActsArmed host.old (course_of (refused_in refusing (fate_of fate.entry))) (harm_in fate.entry) device.old device.new
+    ensures { HostActsArmed host.old (delivery_of (refused_in refusing (fate_of fate.entry))) (harm_in fate.entry) device.old device.new
         host.new }
 {
-    let course = course_by(fate, refusing);
-    arm(device, course);
-    out.came = act(device, host, course, &mut out.bytes);
-    settle(device, course.harming);
+    let delivery = delivery_by(fate, refusing);
+    arm(device, delivery);
+    out.came = act(device, host, delivery, &mut out.bytes);
+    settle(device, delivery.harming);
 }

@@ -6,10 +6,8 @@
 #![tactic(auto)]
 
 mod acting;
-mod aim;
 mod answered;
-mod back;
-mod course;
+mod delivery;
 mod event;
 mod fate;
 mod fault;
@@ -18,13 +16,15 @@ pub mod laws;
 mod offering;
 mod play;
 mod power;
+mod purpose;
+mod response;
 mod running;
 mod uploading;
 mod world;
 
-pub use aim::Aim;
 pub use event::Event;
 pub use fate::Fate;
 pub use fault::{LinkFault, OfferFault};
+pub use purpose::Purpose;
 pub use running::{Stop, run};
 pub use world::World;

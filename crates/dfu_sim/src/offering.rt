@@ -2,12 +2,12 @@
 
 ghost use Rattle.std.specs.Prelude.{◌≡◌, ◌↔◌, Some, Err, IfOk, IfErr};
 ghost use Rattle.dfu_host.specs.Host.{started};
-ghost use Rattle.dfu_sim.specs.Opening.{goal_of_aim};
+ghost use Rattle.dfu_sim.specs.Opening.{goal_of_purpose};
 ghost use Rattle.dfu_sim.specs.inside.Acting.{HasBegun};
 ghost use Rattle.dfu_sim.specs.Refusing.{first_offer_fault, IsBadOffer};
 
-use crate::aim::Aim;
 use crate::fault::OfferFault;
+use crate::purpose::Purpose;
 use dfu_device::Device;
 use dfu_host::{Host, HostFault, Limits};
 use dfu_slots::Medium;
@@ -19,33 +19,34 @@ fn open<'f>(
     file: &File<'f>,
     functional: &Functional,
     device_ids: Ids,
-    aim: Aim,
+    purpose: Purpose,
     limits: Limits,
 ) -> Result<Host<'f>, HostFault>
-    ensures refused { (fault : HostFault) → (result ≡ Err fault) ↔ (first_offer_fault aim file.now functional.now device_ids ≡ Some fault) }
-    ensures started { IfOk result (λ host. host ≡ started functional.now (goal_of_aim aim file.now.payload) limits) }
+    ensures refused { (fault : HostFault) → (result ≡ Err fault) ↔
+        (first_offer_fault purpose file.now functional.now device_ids ≡ Some fault) }
+    ensures started { IfOk result (λ host. host ≡ started functional.now (goal_of_purpose purpose file.now.payload) limits) }
 {
-    match aim {
-        Aim::Install => Host::download(file, functional, device_ids, limits),
-        Aim::Verify => Host::download_verified(file, functional, device_ids, limits),
+    match purpose {
+        Purpose::Install => Host::download(file, functional, device_ids, limits),
+        Purpose::Verify => Host::download_verified(file, functional, device_ids, limits),
     }
 }
 
 /// A host for a file that is offered to a device.
 pub(crate) fn begin<'f, M: Medium>(
     device: &Device<M>,
-    aim: Aim,
+    purpose: Purpose,
     file: &'f [u8],
     limits: Limits,
 ) -> Result<Host<'f>, OfferFault>
-    ensures ok { IfOk result (λ host. HasBegun device.now.config aim file.now limits host) }
-    ensures err { IfErr result (λ fault. IsBadOffer device.now.config aim file.now fault) }
+    ensures ok { IfOk result (λ host. HasBegun device.now.config purpose file.now limits host) }
+    ensures err { IfErr result (λ fault. IsBadOffer device.now.config purpose file.now fault) }
 {
     let file = match read(file) {
         Ok(file) => file,
         Err(fault) => return Err(OfferFault::Suffix(fault)),
     };
-    match open(&file, &device.functional(), device.ids(), aim, limits) {
+    match open(&file, &device.functional(), device.ids(), purpose, limits) {
         Ok(host) => Ok(host),
         Err(fault) => Err(OfferFault::Host(fault)),
     }

@@ -1,14 +1,13 @@
 //! What each event makes of a device and a host.
 
 ghost use Rattle.std.specs.Prelude.{◌≡◌};
-ghost use Rattle.dfu_sim.specs.Course.{course_of};
-ghost use Rattle.dfu_sim.specs.Play.{given, told, session_aborted};
+ghost use Rattle.dfu_sim.specs.Delivery.{delivery_of};
+ghost use Rattle.dfu_sim.specs.Play.{given, notify_restart, session_aborted};
 ghost use Rattle.dfu_sim.specs.Standing.{session_of, given_by, bench_of, link_state, IsOnIn, SendsBytes, IsCountedIn, IsSteady};
 ghost use Rattle.dfu_sim.specs.Happening.{Offers, Goes, fate_of, harm_in, refused_in, happening};
 ghost use Rattle.dfu_sim.specs.Comes.{HasCome, HasComeAlone};
 ghost use Rattle.dfu_sim.specs.inside.Acting.{report_of, ended, abort_told};
 
-use crate::aim::Aim;
 use crate::answered::Answered;
 use crate::event::Event;
 use crate::fate::Fate;
@@ -16,6 +15,7 @@ use crate::fault::LinkFault;
 use crate::going::carry_out;
 use crate::offering::begin;
 use crate::power::power_cycle;
+use crate::purpose::Purpose;
 use crate::uploading::upload;
 use dfu_device::{Device, Objection};
 use dfu_host::{Action, Host, Limits, Report, Seen};
@@ -55,9 +55,9 @@ fn end<'f>(host: &mut Option<Host<'f>>, gave: &mut Option<Host<'f>>) -> Option<R
 fn restart<'f>(host: &mut Option<Host<'f>>, gave: &mut Option<Host<'f>>) -> Option<Report>
     requires sized { SendsBytes (session_of host.old) }
     requires counted { IsCountedIn (session_of host.old) }
-    ensures session { session_of host.new ≡ (told (session_of host.old)).session }
-    ensures given { given_by gave.new ≡ given (told (session_of host.old)).answer.gave (given_by gave.old) }
-    ensures report { result ≡ (told (session_of host.old)).answer.report }
+    ensures session { session_of host.new ≡ (notify_restart (session_of host.old)).session }
+    ensures given { given_by gave.new ≡ given (notify_restart (session_of host.old)).answer.gave (given_by gave.old) }
+    ensures report { result ≡ (notify_restart (session_of host.old)).answer.report }
 {
     if let Some(live) = host {
         live.take(Seen::Restarted);
@@ -69,17 +69,17 @@ fn restart<'f>(host: &mut Option<Host<'f>>, gave: &mut Option<Host<'f>>) -> Opti
 fn offer<'f, M: Medium>(
     device: &Device<M>,
     host: &mut Option<Host<'f>>,
-    aim: Aim,
+    purpose: Purpose,
     file: &'f [u8],
     limits: Limits,
 ) -> Result<Option<Report>, LinkFault>
     requires { IsSteady (bench_of device.now host.old) }
-    ensures { HasComeAlone (bench_of device.now host.old) (Offers aim file.now limits) (bench_of device.now host.new) result }
+    ensures { HasComeAlone (bench_of device.now host.old) (Offers purpose file.now limits) (bench_of device.now host.new) result }
 {
     if host.is_some() {
         return Err(LinkFault::HostBusy);
     }
-    match begin(device, aim, file, limits) {
+    match begin(device, purpose, file, limits) {
         Ok(begun) => {
             *host = Some(begun);
             Ok(None)
@@ -104,7 +104,7 @@ fn abort(host: &mut Option<Host<'_>>) -> Result<Option<Report>, LinkFault>
 }
 
 /// The host takes its next action, and the device's program refuses the image that it closes, or refuses none. `out` is room for an answer.
-fn go<'f, M: Faulty>(
+fn take_action<'f, M: Faulty>(
     device: &mut Device<M>,
     host: &mut Option<Host<'f>>,
     gave: &mut Option<Host<'f>>,
@@ -124,7 +124,7 @@ fn go<'f, M: Faulty>(
 }
 
 /// An event comes. A refused one changes nothing. `out` is room for an answer.
-pub(crate) fn come<'f, M: Faulty>(
+pub(crate) fn apply_event<'f, M: Faulty>(
     alloc: Global,
     device: &mut Device<M>,
     host: &mut Option<Host<'f>>,
@@ -136,13 +136,13 @@ pub(crate) fn come<'f, M: Faulty>(
     ensures { HasCome (link_state device.old host.old gave.old) (happening event.entry) (link_state device.new host.new gave.new) result }
 {
     match event {
-        Event::Offer { file, limits } => offer(device, host, Aim::Install, file, limits),
-        Event::OfferVerified { file, limits } => offer(device, host, Aim::Verify, file, limits),
+        Event::Offer { file, limits } => offer(device, host, Purpose::Install, file, limits),
+        Event::OfferVerified { file, limits } => offer(device, host, Purpose::Verify, file, limits),
         Event::Upload { limits } => upload(alloc, device, host, limits),
         Event::Abort => abort(host),
-        Event::Go(fate) => go(device, host, gave, fate, None, out),
+        Event::Go(fate) => take_action(device, host, gave, fate, None, out),
         Event::GoRefused { fate, objection } => {
-            go(device, host, gave, fate, Some(objection), out)
+            take_action(device, host, gave, fate, Some(objection), out)
         }
         Event::Time(ms) => {
             device.elapse(ms);

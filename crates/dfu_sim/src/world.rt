@@ -2,9 +2,9 @@
 
 ghost use Rattle.std.specs.Prelude.{◌≡◌, [], true, false, IfOk, IfErr, IfNone};
 ghost use Rattle.dfu_slots.specs.Medium.Fuse.{Whole};
-ghost use Rattle.dfu_sim.specs.Bench.{Nobody};
+ghost use Rattle.dfu_sim.specs.LinkView.{Nobody};
 ghost use Rattle.dfu_sim.specs.Bytes.{armed};
-ghost use Rattle.dfu_sim.specs.Bench.{ShowsActive};
+ghost use Rattle.dfu_sim.specs.LinkView.{ShowsActive};
 ghost use Rattle.dfu_sim.specs.Happening.{happening};
 ghost use Rattle.dfu_sim.specs.Refusing.{IsLive};
 ghost use Rattle.dfu_sim.specs.Comes.{HasCome};
@@ -14,11 +14,11 @@ ghost use Rattle.dfu_sim.specs.Sure.{AllSure};
 ghost use Rattle.dfu_sim.specs.Giving.{GivesOrKeeps};
 
 use crate::answered::Answered;
-use crate::back::Back;
 use crate::event::Event;
 use crate::fault::LinkFault;
 use crate::laws::image_shown;
-use crate::play::come;
+use crate::play::apply_event;
+use crate::response::Response;
 use arrayvec::ArrayVec;
 use dfu_device::{Answer, Device};
 use dfu_host::{Action, Host, Phase, Report};
@@ -28,7 +28,7 @@ use std::marker::Model;
 
 /// A device, the host of the session that is live, if one is, and what was uploaded last.
 ///
-/// Contracts see it as a `LinkState`. Only `step` takes memory, and only in an upload.
+/// Contracts see it as a `WorldView`. Only `step` takes memory, and only in an upload.
 #[derive(Drop)]
 pub struct World<'f, M: Faulty> {
     alloc: Global,
@@ -40,14 +40,14 @@ pub struct World<'f, M: Faulty> {
 }
 
 impl<'f, M: Faulty> Model for World<'f, M> {
-    ghost use Rattle.dfu_sim.specs.Bench.{LinkState};
-    ghost use Rattle.dfu_sim.specs.Standing.{bench_of, link_state, BenchHolds};
+    ghost use Rattle.dfu_sim.specs.LinkView.{WorldView};
+    ghost use Rattle.dfu_sim.specs.Standing.{bench_of, link_state, LinkViewHolds};
 
-    ghost Value = { LinkState };
+    ghost Value = { WorldView };
 
     ghost view = { λ w. link_state w.device w.host w.gave };
 
-    ghost invariant = { λ w. BenchHolds (bench_of w.device w.host) };
+    ghost invariant = { λ w. LinkViewHolds (bench_of w.device w.host) };
 }
 
 impl<'f, M: Faulty> World<'f, M> {
@@ -67,7 +67,7 @@ impl<'f, M: Faulty> World<'f, M> {
             host: None,
             gave: None,
             out: Answered {
-                came: Back::Lost,
+                came: Response::Lost,
                 bytes: ArrayVec::new(),
             },
         }
@@ -100,7 +100,7 @@ impl<'f, M: Faulty> World<'f, M> {
     {
         // Called for its law, which `legal` needs: no image but the one that is shown is active.
         image_shown();
-        let told = come(
+        let told = apply_event(
             self.alloc,
             &mut self.device,
             &mut self.host,
@@ -127,8 +127,8 @@ impl<'f, M: Faulty> World<'f, M> {
     /// on its way back. No clause speaks of it: it is for a trace.
     pub fn answered(&self) -> Option<(Answer, &[u8])> {
         match self.out.came {
-            Back::Answered(answer) => Some((answer, self.out.bytes.as_slice())),
-            Back::Lost | Back::Restarted => None,
+            Response::Answered(answer) => Some((answer, self.out.bytes.as_slice())),
+            Response::Lost | Response::Restarted => None,
         }
     }
 

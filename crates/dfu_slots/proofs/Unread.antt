@@ -113,16 +113,16 @@ first_told g bytes p here some = elim (cases_Bool (first_is_active g bytes)) [
 
 -- A header that was read is well formed where the slot's header is.
 pub formed_told : (g : ℕ) (bytes : List ℕ) (at : ℕ) → at + slot_size bytes ≤ length bytes → 2 * g ≤ slot_size bytes → (found : List ℕ)
-    → found ≡ (slot g bytes at).header → (room : ℕ) → room ≡ capacity g bytes → (header_version crc : ℕ) → {T : Type 0}
-    → T ↔ ((found ≡ header header_version (get_or found 0 0) (from_le_bytes w32 (take 4 (drop 4 found))) crc)
+    → found ≡ (slot g bytes at).header → (room : ℕ) → room ≡ capacity g bytes → (version crc : ℕ) → {T : Type 0}
+    → T ↔ ((found ≡ header version (get_or found 0 0) (from_le_bytes w32 (take 4 (drop 4 found))) crc)
     × (from_le_bytes w32 (take 4 (drop 4 found)) ≤ room))
-    → T ↔ IsFormed (slot g bytes at) header_version crc
-formed_told g bytes at end room found read most most_is header_version crc {T} test =
+    → T ↔ IsFormed (slot g bytes at) version crc
+formed_told g bytes at end room found read most most_is version crc {T} test =
     let size = data_length g bytes at end room in
     let same : T ↔ (((slot g bytes at).header
-    ≡ header header_version (get_or (slot g bytes at).header 0 0) (header_length (slot g bytes at)) crc)
+    ≡ header version (get_or (slot g bytes at).header 0 0) (header_length (slot g bytes at)) crc)
     × (header_length (slot g bytes at) ≤ most)) =
-    subst (λ (l : List ℕ). T ↔ ((l ≡ header header_version (get_or l 0 0) (from_le_bytes w32 (take 4 (drop 4 l))) crc)
+    subst (λ (l : List ℕ). T ↔ ((l ≡ header version (get_or l 0 0) (from_le_bytes w32 (take 4 (drop 4 l))) crc)
     × (from_le_bytes w32 (take 4 (drop 4 l)) ≤ most))) read test in (
       λ t. record { header_is = (same.0 t).0; fits = omega (arith, (same.0 t).1, most_is, size) },
       λ f. same.1 (f.header_is, omega (arith, f.fits, most_is, size)),

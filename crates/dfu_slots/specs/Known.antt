@@ -10,8 +10,8 @@ abbrev pub header_register : Slot → ℕ
 header_register s = from_le_bytes w32 (take 4 (drop 8 s.header))
 
 -- A slot's header is of this version with this register, zeros where they are due, and a length that fits.
-pub record IsFormed (s : Slot) (header_version register : ℕ) : Type 0 where
-  pub header_is : s.header ≡ header header_version (generation s) (header_length s) register
+pub record IsFormed (s : Slot) (version register : ℕ) : Type 0 where
+  pub header_is : s.header ≡ header version (generation s) (header_length s) register
   pub fits : header_length s ≤ length s.data_bytes
 
 -- A slot is open, and its header is well formed and of version 1: it counts, whatever its data is.

@@ -56,7 +56,7 @@ header_length s = from_le_bytes w32 (take 4 (drop 4 s.header))
 
 -- The header of an image: generation, version, two zero bytes, length, register, four zero bytes.
 abbrev pub header : ℕ → ℕ → ℕ → ℕ → List ℕ
-header header_version gen len crc = gen ∷ header_version ∷ 0 ∷ 0 ∷ to_le_bytes w32 len ++ to_le_bytes w32 crc ++ replicate 4 0
+header version gen len crc = gen ∷ version ∷ 0 ∷ 0 ∷ to_le_bytes w32 len ++ to_le_bytes w32 crc ++ replicate 4 0
 
 -- A slot has a well-formed header, of so many bytes at the front of its data: in version 2 their register, in version 1 zeros.
 pub record HasHeader (s : Slot) (len : ℕ) : Type 0 where

@@ -6,7 +6,7 @@ use Rattle.byteorder.specs.Endian.{little_number}
 use Rattle.dfu_suffix.specs.Register.{register}
 use Rattle.dfu_suffix.specs.Grammar.{Content, IsFile, First, before_crc, has_fault}
 use Rattle.dfu_suffix.specs.inside.Reading.{reading}
-use Rattle.dfu_suffix.specs.inside.Judging.{judged}
+use Rattle.dfu_suffix.specs.inside.TailChecks.{register_checked}
 use Rattle.dfu_suffix.specs.Checking.{Checks, UnlessRead, summary_of}
 use Rattle.dfu_suffix.specs.Laws.{AreBytes}
 use Rattle.dfu_suffix.proofs.OneReading.{reading_fault, never_both, one_reading}
@@ -60,7 +60,7 @@ checks_summed b (Ok c) f e = let (extra, is_file, long) = reading_found b c f e 
 checks_summed b (Err x) f e = checks_fault b x ((reading_fault b x).0 e)
 
 -- What is judged by the window, the count and the register is the answer.
-pub checks_judged : (s : List ℕ) → AreBytes s → length s ≤ 16777216 → Checks s (judged (window_of s) (length s) (register s))
+pub checks_judged : (s : List ℕ) → AreBytes s → length s ≤ 16777216 → Checks s (register_checked (window_of s) (length s) (register s))
 checks_judged s f small = subst (λ (r : Result Summary SuffixFault). Checks s r) (sym (judged_is_read s f small))
     (checks_summed s (reading s) f refl)
 

@@ -7,7 +7,7 @@ use Rattle.byteorder.specs.Endian.{little_number}
 use Rattle.dfu_suffix.specs.Register.{register}
 use Rattle.dfu_suffix.specs.Grammar.{Content, tail_of, is_signed, has_fault, fault_order}
 use Rattle.dfu_suffix.specs.inside.Reading.{content_of, content_or, reading}
-use Rattle.dfu_suffix.specs.inside.Judging.{told_by, tail_summary, sealed, judged}
+use Rattle.dfu_suffix.specs.inside.TailChecks.{told_by, tail_summary, sealed, register_checked}
 use Rattle.dfu_suffix.specs.Laws.{AreBytes}
 use Rattle.dfu_suffix.proofs.OneReading.{not_less}
 use Rattle.dfu_suffix.specs.declared.summary.Summary.{Summary}
@@ -143,7 +143,7 @@ told_window s false e = ap (λ (w : List ℕ). tail_summary w (length s)) (windo
 
 -- Judging by the last 16 bytes, the count and the register is reading all of the bytes.
 judged_tail : (s : List ℕ) → AreBytes s → length s ≤ 16777216 → (short : Bool) → ltb (length s) 16 ≡ short →
-    judged (tail_of s) (length s) (register s) ≡ summed s (reading s)
+    register_checked (tail_of s) (length s) (register s) ≡ summed s (reading s)
 judged_tail s f small true e =
     ap (sealed (eqb (register s) 0)) (too_short (tail_of s) (length s) e)
     ∙ sym (ap (summed s) (reading_told s small
@@ -155,7 +155,8 @@ judged_tail s f small false e =
     ∙ sym (ap (summed s) (reading_told s small)))
 
 -- Judging by the window, the count and the register is reading all of the bytes.
-pub judged_is_read : (s : List ℕ) → AreBytes s → length s ≤ 16777216 → judged (window_of s) (length s) (register s) ≡ summed s (reading s)
+pub judged_is_read : (s : List ℕ) → AreBytes s → length s ≤ 16777216
+    → register_checked (window_of s) (length s) (register s) ≡ summed s (reading s)
 judged_is_read s f small = ap (sealed (eqb (register s) 0)) (told_window s (ltb (length s) 16) refl)
     ∙ judged_tail s f small (ltb (length s) 16) refl
 
@@ -169,7 +170,7 @@ summed_filed s None = refl
 summed_filed s (Some fault) = refl
 
 -- Reading is filing what is judged by the last 16 bytes, the count and the register.
-read_is_filed : (s : List ℕ) → AreBytes s → length s ≤ 16777216 → reading s ≡ filed s (judged (tail_of s) (length s) (register s))
+read_is_filed : (s : List ℕ) → AreBytes s → length s ≤ 16777216 → reading s ≡ filed s (register_checked (tail_of s) (length s) (register s))
 unfolding reading
 read_is_filed s f small =
     summed_filed s (find (has_fault s) fault_order) ∙ ap (filed s) (sym (judged_tail s f small (ltb (length s) 16) refl))

@@ -4,7 +4,7 @@ use Rattle.std.proofs.KnownBytes.{Consumes-trans}
 use Rattle.std.specs.Io.KnownBytes.{Consumes, IsAtEnd}
 use Rattle.byteorder.specs.Endian.{little_number}
 use Rattle.dfu_suffix.specs.Register.{register, shifts}
-use Rattle.dfu_suffix.specs.inside.Judging.{judged}
+use Rattle.dfu_suffix.specs.inside.TailChecks.{register_checked}
 use Rattle.dfu_suffix.specs.Checking.{Checks, FindsFile, UnlessRead}
 use Rattle.dfu_suffix.specs.Laws.{AreBytes}
 use Rattle.dfu_suffix.specs.declared.summary.Summary.{Summary}
@@ -52,12 +52,12 @@ seen_more old mid new turn crc count crc' count' window window' more (seen, k) g
 
 -- At the end of the reader, what was kept is judged.
 pub seen_end : (old new : Option (List ℕ)) (turn crc count value : ℕ) (window : List ℕ) (r : Result Summary SuffixFault) →
-    Seen old new turn crc count window → IsAtEnd new → r ≡ judged window count value → value ≡ crc →
+    Seen old new turn crc count window → IsAtEnd new → r ≡ register_checked window count value → value ≡ crc →
     IfSome old (λ all. UnlessRead r (Checks all r))
 seen_end old new turn crc count value window r (seen, k) e j v =
-    let same : judged window count value ≡ judged (window_of seen) (length seen) (register seen) =
-    ap (λ (w : List ℕ). judged w count value) k.window_is ∙ (ap (λ (n : ℕ). judged (window_of seen) n value) k.count_is
-    ∙ ap (judged (window_of seen) (length seen)) (v ∙ k.crc_is)) in
+    let same : register_checked window count value ≡ register_checked (window_of seen) (length seen) (register seen) =
+    ap (λ (w : List ℕ). register_checked w count value) k.window_is ∙ (ap (λ (n : ℕ). register_checked (window_of seen) n value) k.count_is
+    ∙ ap (register_checked (window_of seen) (length seen)) (v ∙ k.crc_is)) in
     let checks : Checks seen r = subst (λ (a : Result Summary SuffixFault). Checks seen a) (sym (j ∙ same))
     (checks_judged seen k.bytes k.small) in
     if_some old (λ all. UnlessRead r (Checks all r)) (λ all o. unless_read r (Checks all r)

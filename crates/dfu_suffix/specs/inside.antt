@@ -1,4 +1,4 @@
 pub mod Reading
-pub mod Judging
+pub mod TailChecks
 pub mod Making
 pub mod Folding

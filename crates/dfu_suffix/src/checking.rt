@@ -7,9 +7,9 @@ ghost use Rattle.dfu_suffix.specs.declared.fault.SuffixFault.TheVariants.{NoMemo
 use crate::crc::Crc;
 use crate::fault::SuffixFault;
 use crate::findings::{Findings, findings_of};
-use crate::judging::judge;
 use crate::limits::{MAX_FILE, MAX_READS, PIECE};
 use crate::summary::Summary;
+use crate::tail_checks::check_register;
 use crate::window::slide;
 use std::io::Read;
 
@@ -58,7 +58,7 @@ pub fn check_with<R: Read + Drop>(
             Ok(0) => {
                 let register = crc.value();
                 *findings = findings_of(&window, count, register);
-                return judge(&window, count, register);
+                return check_register(&window, count, register);
             }
             Ok(taken) => {
                 if taken > MAX_FILE - count as usize {

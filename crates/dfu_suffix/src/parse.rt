@@ -8,8 +8,8 @@ ghost use Rattle.dfu_wire.specs.declared.ids.Ids.{Ids};
 use crate::fault::SuffixFault;
 use crate::fields::{payload_of, register_over, tail};
 use crate::file::File;
-use crate::judging::told;
 use crate::limits::MAX_FILE;
+use crate::tail_checks::parse_tail;
 
 /// What the bytes say, read from their end, or their first fault. Each reader has a body of its own, so that the small
 /// one is linked without the large tables.
@@ -21,7 +21,7 @@ fn parse(bytes: &[u8], by_small_table: bool) -> Result<File<'_>, SuffixFault>
     if bytes.len() > MAX_FILE {
         return Err(SuffixFault::TooLarge);
     }
-    match told(tail(bytes), bytes.len() as u32) {
+    match parse_tail(tail(bytes), bytes.len() as u32) {
         Ok(_) if register_over(bytes, by_small_table) != 0 => Err(SuffixFault::BadCrc),
         Ok(summary) => Ok(File {
             payload: payload_of(bytes, summary.suffix as usize),

@@ -6,28 +6,28 @@ use std::io::Write;
 
 /// The writer failed, or took nothing of what was left.
 #[derive(Clone, Copy, Debug, PartialEq, Eq)]
-pub struct WriteFault;
+pub struct OutputError;
 
 /// Writes the whole text. It doesn't flush.
 ///
 /// # Errors
 ///
-/// WriteFault at the first error of the writer, with no second try, and where it takes nothing of
+/// OutputError at the first error of the writer, with no second try, and where it takes nothing of
 /// what is left.
 #[inline(never)]
-pub fn write_whole<W: Write>(writer: &mut W, text: &[u8]) -> Result<(), WriteFault>
+pub fn write_whole<W: Write>(writer: &mut W, text: &[u8]) -> Result<(), OutputError>
     // At Ok the text is out, and at a fault a front of it, not all of it.
     ensures { WritesWhole (W.contents writer.old) (W.contents writer.new) text.now result }
 {
     let mut rest = text;
     while !rest.is_empty() {
         match writer.write(rest) {
-            Ok(0) => return Err(WriteFault),
+            Ok(0) => return Err(OutputError),
             Ok(taken) => {
                 let (_, left) = rest.split_at(taken);
                 rest = left;
             }
-            Err(_) => return Err(WriteFault),
+            Err(_) => return Err(OutputError),
         }
     }
     Ok(())

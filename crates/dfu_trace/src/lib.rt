@@ -5,4 +5,4 @@ mod answers;
 mod line;
 mod words;
 
-pub use line::{Count, Look, step_line, time_of};
+pub use line::{Count, Snapshot, step_line, time_of};

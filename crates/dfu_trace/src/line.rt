@@ -26,7 +26,7 @@ pub struct Count {
 
 /// How a link stood before an action of its host.
 #[derive(Drop)]
-pub struct Look<'f> {
+pub struct Snapshot<'f> {
     pub phase: Phase,
     pub action: Action<'f>,
     pub state: State,
@@ -44,7 +44,7 @@ fn push_state_name(line: &mut String, state: State) -> Result<(), AllocError> {
 pub fn step_line(
     alloc: Global,
     count: Count,
-    look: &Look<'_>,
+    before: &Snapshot<'_>,
     fate: Fate<'_>,
     world: &World<'_, SimMedium>,
 ) -> Result<String, AllocError> {
@@ -53,17 +53,17 @@ pub fn step_line(
     let device = world.device();
     push_number(line, alloc, "# ", count.number)?;
     push(line, " ")?;
-    push_phase(line, alloc, look.phase)?;
+    push_phase(line, alloc, before.phase)?;
     push(line, "; ")?;
-    push_action(line, alloc, look.action)?;
+    push_action(line, alloc, before.action)?;
     push(line, "; ")?;
     push_fate(line, alloc, fate)?;
     push(line, "; ")?;
-    push_answer(line, alloc, look.action, fate, world.answered())?;
-    push_state_name(line, look.state)?;
+    push_answer(line, alloc, before.action, fate, world.answered())?;
+    push_state_name(line, before.state)?;
     push_state_name(line, device.state())?;
     push(line, "; ")?;
-    push_writes(line, alloc, device.slots().medium().noted(), look.writes)?;
+    push_writes(line, alloc, device.slots().medium().noted(), before.writes)?;
     push_number(line, alloc, "; ", count.ms)?;
     push(line, " ms\n")?;
     Ok(text)

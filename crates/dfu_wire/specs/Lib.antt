@@ -4,6 +4,7 @@ pub mod Functional
 pub mod OneFunctional
 pub mod OneRequest
 pub mod OneSetup
+pub mod OneState
 pub mod OneStatus
 pub mod Request
 pub mod Setup

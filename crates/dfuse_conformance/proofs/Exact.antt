@@ -3,9 +3,9 @@ use Rattle.std.specs.Prelude.{◌≡◌, ◌⊎◌, ◌↔◌, ◌&&◌, ◌||�
 use Rattle.std.specs.List.{list_any}
 use Rattle.std.proofs.Common.{refl, sym, ap, ◌∙◌, inl, inr}
 use Rattle.std.proofs.lemmas.Bool.{or_cases, or_left, or_right, and_parts, and_from}
-use Rattle.dfu_conformance.specs.declared.place.Place.{Place}
+use Rattle.dfu_conformance.specs.declared.standard_state.StandardState.{StandardState}
 use Rattle.dfu_conformance.specs.declared.row.Row.{Row}
-use Rattle.dfu_conformance.specs.declared.event.Event.{Event}
+use Rattle.dfu_conformance.specs.declared.event.LogEvent.{LogEvent}
 use Rattle.dfu_conformance.specs.declared.standard.TheConstants.{STANDARD}
 use Rattle.dfu_conformance.specs.declared.marks.TheConstants.{MARKS}
 use Rattle.dfu_conformance.specs.declared.habits.TheConstants.{HABITS}
@@ -17,19 +17,19 @@ use Rattle.dfuse_conformance.specs.inside.Stepped.{leads_to, led_or_rests, after
 use Rattle.dfu_conformance.proofs.Goings.{goes_by, led_by, moves_by, moved_by}
 
 -- Some row of four lists leads there, or the device stays.
-abbrev led_of : (s m h d : List Row) (at : List Bool) (e : Event) (n : Place) → Bool
+abbrev led_of : (s m h d : List Row) (at : List Bool) (e : LogEvent) (n : StandardState) → Bool
 led_of s m h d at e n =
     ((((rests e && may_stand at n) || list_any (leads_to at e n) s) || list_any (leads_to at e n) m) || list_any (leads_to at e n) h)
     || list_any (leads_to at e n) d
 
 -- What may be answered by four lists of rows.
-abbrev MayBy : (s m h d : List Row) → Place → Event → Place → Type 0
+abbrev MayBy : (s m h d : List Row) → StandardState → LogEvent → StandardState → Type 0
 MayBy s m h d p e n =
     GoesByDfuse s p e n ⊎ GoesByDfuse m p e n ⊎ GoesByDfuse h p e n
     ⊎ GoesByDfuse d p e n ⊎ ((n ≡ p) × (rests e ≡ true))
 
-led_there : (s m h d : List Row) (at : List Bool) (e : Event) (n : Place) → led_of s m h d at e n ≡ true
-    → (p : Place) × (may_stand at p ≡ true) × MayBy s m h d p e n
+led_there : (s m h d : List Row) (at : List Bool) (e : LogEvent) (n : StandardState) → led_of s m h d at e n ≡ true
+    → (p : StandardState) × (may_stand at p ≡ true) × MayBy s m h d p e n
 led_there s m h d at e n some = elim (or_cases _ _ some) [
   | inr by_d ↦ let (p, is, g) = goes_by d (may_stand at) e n dfuse_attributes dfuse_habits by_d in (p, is, inr (inr (inr (inl g))))
   | inl some ↦ elim (or_cases _ _ some) [
@@ -44,26 +44,26 @@ led_there s m h d at e n some = elim (or_cases _ _ some) [
   ]
 ]
 
-led_back : (s m h d : List Row) (at : List Bool) (e : Event) (p n : Place) → may_stand at p ≡ true → MayBy s m h d p e n
+led_back : (s m h d : List Row) (at : List Bool) (e : LogEvent) (p n : StandardState) → may_stand at p ≡ true → MayBy s m h d p e n
     → led_of s m h d at e n ≡ true
 led_back s m h d at e p n is (inl g) = or_left _ _ (or_left _ _ (or_left _ _ (or_right _ _ (led_by s (may_stand at) e p n dfuse_attributes dfuse_habits is g))))
 led_back s m h d at e p n is (inr (inl g)) = or_left _ _ (or_left _ _ (or_right _ _ (led_by m (may_stand at) e p n dfuse_attributes dfuse_habits is g)))
 led_back s m h d at e p n is (inr (inr (inl g))) = or_left _ _ (or_right _ _ (led_by h (may_stand at) e p n dfuse_attributes dfuse_habits is g))
 led_back s m h d at e p n is (inr (inr (inr (inl g)))) = or_right _ _ (led_by d (may_stand at) e p n dfuse_attributes dfuse_habits is g)
 led_back s m h d at e p n is (inr (inr (inr (inr (same, stay))))) =
-    or_left _ _ (or_left _ _ (or_left _ _ (or_left _ _ (and_from _ _ stay (ap (λ (q : Place). may_stand at q) same ∙ is)))))
+    or_left _ _ (or_left _ _ (or_left _ _ (or_left _ _ (and_from _ _ stay (ap (λ (q : StandardState). may_stand at q) same ∙ is)))))
 
 -- A device may stand at a place after an event exactly where it might stand somewhere, and the event may lead it there.
-answered_exact : (at : List Bool) (e : Event) (n : Place)
-    → (led_or_rests at e n ≡ true) ↔ ((p : Place) × (may_stand at p ≡ true) × DfuseAnswer p e n)
+answered_exact : (at : List Bool) (e : LogEvent) (n : StandardState)
+    → (led_or_rests at e n ≡ true) ↔ ((p : StandardState) × (may_stand at p ≡ true) × DfuseAnswer p e n)
 answered_exact at e n = (
   led_there STANDARD MARKS HABITS DFUSE at e n,
   λ x. led_back STANDARD MARKS HABITS DFUSE at e x.0 n x.1 x.2,
 )
 
 -- One event more: a run ends where the device might stand, was led, and moved.
-stepped_exact : (at : List Bool) (e : Event) (n : Place)
-    → (after_event at e n ≡ true) ↔ ((p q : Place) × (may_stand at p ≡ true) × DfuseAnswer p e q × MayMoveDfuse q n)
+stepped_exact : (at : List Bool) (e : LogEvent) (n : StandardState)
+    → (after_event at e n ≡ true) ↔ ((p q : StandardState) × (may_stand at p ≡ true) × DfuseAnswer p e q × MayMoveDfuse q n)
 stepped_exact at e n = (
   λ some.
       let (q, is, moved) = moves_by DRIFTS (led_or_rests at e) n dfuse_attributes dfuse_habits some in
@@ -73,9 +73,9 @@ stepped_exact at e n = (
 )
 
 -- A run with one event more at its end.
-run_more : (p : Place) (events : List Event) (e : Event) (n : Place)
+run_more : (p : StandardState) (events : List LogEvent) (e : LogEvent) (n : StandardState)
     → DfuseRun p (events ++ e ∷ []) n
-    ↔ ((here next : Place) × DfuseRun p events here × DfuseAnswer here e next × MayMoveDfuse next n)
+    ↔ ((here next : StandardState) × DfuseRun p events here × DfuseAnswer here e next × MayMoveDfuse next n)
 run_more p [] e n = (λ x. x, λ x. x)
 run_more p (f ∷ events) e n = (
   λ x. let (here, next, run, may, moved) = (run_more x.1 events e n).0 x.4 in (here, next, (x.0, x.1, x.2, x.3, run), may, moved),
@@ -83,10 +83,10 @@ run_more p (f ∷ events) e n = (
 )
 
 -- Exactly the places are held where a device may be: after one event more they are those of the step.
-pub held_more : (before after : List Bool) (events : List Event) (e : Event)
-    → ((p : Place) → (may_stand before p ≡ true) ↔ DfuseComesTo events p)
-    → ((n : Place) → may_stand after n ≡ after_event before e n)
-    → (n : Place) → (may_stand after n ≡ true) ↔ DfuseComesTo (events ++ e ∷ []) n
+pub held_more : (before after : List Bool) (events : List LogEvent) (e : LogEvent)
+    → ((p : StandardState) → (may_stand before p ≡ true) ↔ DfuseComesTo events p)
+    → ((n : StandardState) → may_stand after n ≡ after_event before e n)
+    → (n : StandardState) → (may_stand after n ≡ true) ↔ DfuseComesTo (events ++ e ∷ []) n
 held_more before after events e so says n = (
   λ is.
       let (p, q, was, may, moved) = (stepped_exact before e n).0 (sym (says n) ∙ is) in
@@ -98,7 +98,8 @@ held_more before after events e so says n = (
 )
 
 -- A device that may have answered a list may have answered its front.
-pub run_front : (p : Place) (front back : List Event) (n : Place) → DfuseRun p (front ++ back) n → (last : Place) × DfuseRun p front last
+pub run_front : (p : StandardState) (front back : List LogEvent) (n : StandardState) → DfuseRun p (front ++ back) n
+    → (last : StandardState) × DfuseRun p front last
 run_front p [] back n run = (p, inl refl)
 run_front p (e ∷ front) back n (here, next, moved, may, rest) =
     let (last, run) = run_front next front back n rest in

@@ -1,23 +1,23 @@
 -- A run of a device of USB DFU 1.1 is one of a DfuSe device.
 use Rattle.std.specs.Prelude.{◌≡◌, ◌&&◌, Bool, true, false, List, [], ◌∷◌}
 use Rattle.std.proofs.Common.{refl, inl, inr}
-use Rattle.dfu_conformance.specs.declared.place.Place.{Place}
-use Rattle.dfu_conformance.specs.declared.event.Event.{Event}
-use Rattle.dfu_conformance.specs.declared.event.Answer.{Answer}
-use Rattle.dfu_conformance.specs.declared.event.Answer.TheVariants as answer
+use Rattle.dfu_conformance.specs.declared.standard_state.StandardState.{StandardState}
+use Rattle.dfu_conformance.specs.declared.event.LogEvent.{LogEvent}
+use Rattle.dfu_conformance.specs.declared.event.Response.{Response}
+use Rattle.dfu_conformance.specs.declared.event.Response.TheVariants as answer
 use Rattle.dfu_conformance.specs.Fits.{stays_at}
 use Rattle.dfu_conformance.specs.MayAnswer.{MayAnswer as StandardAnswer, Run as StandardRun}
 use Rattle.dfuse_conformance.specs.Laws.{StandardIsKept}
 use Rattle.dfuse_conformance.specs.Runs.{dfuse_attributes, dfuse_habits, tells, DfuseAnswer, DfuseRun}
 
 -- Where a device may stay of which more requests have to be answered, it may of which fewer have to.
-still : (plain other : Bool) (a : Answer) → stays_at plain a ≡ true → stays_at (plain && other) a ≡ true
+still : (plain other : Bool) (a : Response) → stays_at plain a ≡ true → stays_at (plain && other) a ≡ true
 still plain other answer.Nothing e = refl
 still false other answer.Stall e = refl
 still true other answer.Stall e = absurd cc
 still plain other (answer.Bytes count first fifth) e = absurd cc
 
-answers : (from next : Place) (e : Event) → StandardAnswer dfuse_attributes dfuse_habits from e next → DfuseAnswer from e next
+answers : (from next : StandardState) (e : LogEvent) → StandardAnswer dfuse_attributes dfuse_habits from e next → DfuseAnswer from e next
 answers from next e (inl by_s) = inl by_s
 answers from next e (inr (inl by_m)) = inr (inl by_m)
 answers from next e (inr (inr (inl by_h))) = inr (inr (inl by_h))

@@ -1,8 +1,8 @@
 -- A device may stand somewhere exactly where some run ends.
 use Rattle.std.specs.Prelude.{◌≡◌, ◌↔◌, ℕ, Bool, true, false, List, slice_index_or}
 use Rattle.std.proofs.Common.{ap, ◌∙◌}
-use Rattle.dfu_conformance.specs.declared.place.Place.{Place}
-use Rattle.dfu_conformance.specs.declared.event.Event.{Event}
+use Rattle.dfu_conformance.specs.declared.standard_state.StandardState.{StandardState}
+use Rattle.dfu_conformance.specs.declared.event.LogEvent.{LogEvent}
 use Rattle.dfu_conformance.specs.Fits.{place_number}
 use Rattle.dfuse_conformance.specs.Runs.{DfuseCanAnswer}
 use Rattle.dfuse_conformance.specs.Verdicts.{may_stand, AreHeld}
@@ -11,7 +11,7 @@ use Rattle.dfu_conformance.proofs.Places.{place_of, number_back, number_below}
 use Rattle.dfu_conformance.proofs.Somewhere.{some_there, some_from}
 
 -- A device may stand somewhere exactly where it may at some place.
-held_anywhere : (at : List Bool) → (is_somewhere at ≡ true) ↔ ((p : Place) × (may_stand at p ≡ true))
+held_anywhere : (at : List Bool) → (is_somewhere at ≡ true) ↔ ((p : StandardState) × (may_stand at p ≡ true))
 unfolding is_somewhere
 held_anywhere at = (
   λ is_so.
@@ -22,7 +22,7 @@ held_anywhere at = (
 )
 
 -- It may stand somewhere exactly where it may have answered so.
-pub held_can : (at : List Bool) (events : List Event) → AreHeld at events → (is_somewhere at ≡ true) ↔ DfuseCanAnswer events
+pub held_can : (at : List Bool) (events : List LogEvent) → AreHeld at events → (is_somewhere at ≡ true) ↔ DfuseCanAnswer events
 held_can at events so = (
   λ is_so. let (p, is) = (held_anywhere at).0 is_so in (p, (so p).0 is),
   λ x. (held_anywhere at).1 (x.0, (so x.0).1 x.1),

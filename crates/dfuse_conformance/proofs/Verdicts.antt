@@ -3,9 +3,9 @@ use Rattle.std.specs.Prelude.{◌≡◌, ℕ, ◌+◌, ◌<◌, true, false, Boo
 use Rattle.std.proofs.Common.{refl, sym, ap, ◌∙◌, subst, inl}
 use Rattle.std.proofs.lemmas.Bool.{both_ways}
 use Rattle.std.proofs.lemmas.List.{take-append-drop}
-use Rattle.dfu_conformance.specs.declared.place.Place.{Place}
-use Rattle.dfu_conformance.specs.declared.place.Place.TheVariants.{AppIdle, AppDetach, DfuIdle, DownloadSync, DownloadBusy, DownloadIdle, ManifestSync, Manifest, ManifestWaitReset, UploadIdle, Error, Fresh}
-use Rattle.dfu_conformance.specs.declared.event.Event.{Event}
+use Rattle.dfu_conformance.specs.declared.standard_state.StandardState.{StandardState}
+use Rattle.dfu_conformance.specs.declared.standard_state.StandardState.TheVariants.{AppIdle, AppDetach, DfuIdle, DownloadSync, DownloadBusy, DownloadIdle, ManifestSync, Manifest, ManifestWaitReset, UploadIdle, Error, Fresh}
+use Rattle.dfu_conformance.specs.declared.event.LogEvent.{LogEvent}
 use Rattle.dfu_conformance.specs.declared.verdict.Departure.{Departure}
 use Rattle.dfuse_conformance.specs.declared.judge.TheConstants.{EVERYWHERE}
 use Rattle.dfuse_conformance.specs.Runs.{DfuseCanAnswer, DfuseRun}
@@ -15,7 +15,7 @@ use Rattle.dfuse_conformance.proofs.Exact.{held_more, run_front}
 use Rattle.dfuse_conformance.proofs.Somewhere.{held_can}
 
 -- A device may stand at each place at first.
-everywhere : (p : Place) → may_stand EVERYWHERE p ≡ true
+everywhere : (p : StandardState) → may_stand EVERYWHERE p ≡ true
 everywhere AppIdle = refl
 everywhere AppDetach = refl
 everywhere DfuIdle = refl
@@ -38,17 +38,17 @@ pub can_nothing : DfuseCanAnswer []
 can_nothing = (AppIdle, (AppIdle, inl refl))
 
 -- A step.
-abbrev pub IsStep : List Bool → Event → List Bool → Type 0
-IsStep before e after = (n : Place) → may_stand after n ≡ after_event before e n
+abbrev pub IsStep : List Bool → LogEvent → List Bool → Type 0
+IsStep before e after = (n : StandardState) → may_stand after n ≡ after_event before e n
 
 -- If a device may stand somewhere behind an event, it may have answered it so.
-pub goes_on : (before after : List Bool) (events : List Event) (e : Event) → IsStep before e after → AreHeld before events
+pub goes_on : (before after : List Bool) (events : List LogEvent) (e : LogEvent) → IsStep before e after → AreHeld before events
     → is_somewhere after ≡ true → DfuseCanAnswer (events ++ e ∷ []) × AreHeld after (events ++ e ∷ [])
 goes_on before after events e says so left =
     let next = held_more before after events e so says in ((held_can after (events ++ e ∷ []) next).0 left, next)
 
 -- If it may stand nowhere, the event is a departure.
-pub departs : (before after : List Bool) (events : List Event) (e : Event) → IsStep before e after → AreHeld before events
+pub departs : (before after : List Bool) (events : List LogEvent) (e : LogEvent) → IsStep before e after → AreHeld before events
     → is_somewhere after ≡ false → DfuseDeparts events (record { before = before; event = e }) EVERYWHERE
 departs before after events e says so none = record {
   before = so;
@@ -57,22 +57,22 @@ departs before after events e says so none = record {
 }
 
 -- A device that may have answered all events may have answered the first of them.
-can_front : (n : ℕ) (events : List Event) → DfuseCanAnswer events → DfuseCanAnswer (take n events)
+can_front : (n : ℕ) (events : List LogEvent) → DfuseCanAnswer events → DfuseCanAnswer (take n events)
 can_front n events may = go (take-append-drop n events) may
   where
     go : take n events ++ drop n events ≡ events → DfuseCanAnswer events → DfuseCanAnswer (take n events)
     go e (last, (from, run)) =
         let (here, front) = run_front from (take n events) (drop n events) last
-        (subst (λ (es : List Event). DfuseRun from es last) (sym e) run) in
+        (subst (λ (es : List LogEvent). DfuseRun from es last) (sym e) run) in
         (here, (from, front))
 
 -- A departure behind the first events is the first one, and no device may have answered all.
-pub is_first : (events : List Event) (n : ℕ) (e : Event) (d : Departure) (anew : List Bool) → n < length events
+pub is_first : (events : List LogEvent) (n : ℕ) (e : LogEvent) (d : Departure) (anew : List Bool) → n < length events
     → DfuseCanAnswer (take n events) → take (n + 1) events ≡ take n events ++ e ∷ [] → d.event ≡ e → DfuseDeparts (take n events) d anew
     → IsFirstDeparture events n d × (DfuseCanAnswer events → ⊥)
 is_first events n e d anew below may more is so =
     let event : take (n + 1) events ≡ take n events ++ d.event ∷ [] =
-    more ∙ ap (λ (y : Event). take n events ++ y ∷ []) (sym is) in
+    more ∙ ap (λ (y : LogEvent). take n events ++ y ∷ []) (sym is) in
     let none : DfuseCanAnswer (take (n + 1) events) → ⊥ = λ can. so.none (subst DfuseCanAnswer event can) in (
       record {
         below = below;

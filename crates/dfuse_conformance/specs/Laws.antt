@@ -1,11 +1,12 @@
 -- A law of the table.
 use Rattle.std.specs.Prelude.{List}
-use Rattle.dfu_conformance.specs.declared.place.Place.{Place}
-use Rattle.dfu_conformance.specs.declared.event.Event.{Event}
+use Rattle.dfu_conformance.specs.declared.standard_state.StandardState.{StandardState}
+use Rattle.dfu_conformance.specs.declared.event.LogEvent.{LogEvent}
 use Rattle.dfu_conformance.specs.MayAnswer.{Run as StandardRun}
 use Rattle.dfuse_conformance.specs.Runs.{dfuse_attributes, dfuse_habits, DfuseRun}
 
 -- A run of a device of USB DFU 1.1 that has the bmAttributes and habits of a DfuSe device is one of a DfuSe device.
 abbrev pub StandardIsKept : Type 0
 StandardIsKept =
-    (events : List Event) (from last : Place) → StandardRun dfuse_attributes dfuse_habits from events last → DfuseRun from events last
+    (events : List LogEvent) (from last : StandardState) → StandardRun dfuse_attributes dfuse_habits from events last
+    → DfuseRun from events last

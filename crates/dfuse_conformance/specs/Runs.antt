@@ -1,9 +1,9 @@
 -- What a DfuSe device may answer: the rows are in the tables of dfu_conformance and in `src/rows.rt`, a line each.
 use Rattle.std.specs.Prelude.{◌≡◌, ◌⊎◌, ℕ, ◌&&◌, Bool, true, false, List, [], ◌∷◌}
-use Rattle.dfu_conformance.specs.declared.place.Place.{Place}
-use Rattle.dfu_conformance.specs.declared.asked.Asked.{Asked}
-use Rattle.dfu_conformance.specs.declared.asked.Asked.TheVariants.{GetStatus, GetState}
-use Rattle.dfu_conformance.specs.declared.event.Event.{Event}
+use Rattle.dfu_conformance.specs.declared.standard_state.StandardState.{StandardState}
+use Rattle.dfu_conformance.specs.declared.event_kind.EventKind.{EventKind}
+use Rattle.dfu_conformance.specs.declared.event_kind.EventKind.TheVariants.{GetStatus, GetState}
+use Rattle.dfu_conformance.specs.declared.event.LogEvent.{LogEvent}
 use Rattle.dfu_conformance.specs.declared.standard.TheConstants.{STANDARD}
 use Rattle.dfu_conformance.specs.declared.marks.TheConstants.{MARKS}
 use Rattle.dfu_conformance.specs.declared.habits.TheConstants.{HABITS}
@@ -27,44 +27,44 @@ abbrev pub of_dfuse : When → Bool
 of_dfuse when = meets when dfuse_attributes dfuse_habits
 
 -- A DfuSe device goes by one of these rows: an event leads it from one place to another.
-abbrev pub GoesByDfuse : List Row → Place → Event → Place → Type 0
+abbrev pub GoesByDfuse : List Row → StandardState → LogEvent → StandardState → Type 0
 GoesByDfuse rows from e next = GoesBy rows dfuse_attributes dfuse_habits from e next
 
 -- Between two events a DfuSe device stays or moves by itself.
-abbrev pub MayMoveDfuse : Place → Place → Type 0
+abbrev pub MayMoveDfuse : StandardState → StandardState → Type 0
 MayMoveDfuse from next = MayMove dfuse_attributes dfuse_habits from next
 
 -- GETSTATUS and GETSTATE tell where a device is.
-abbrev pub tells : Asked → Bool
+abbrev pub tells : EventKind → Bool
 tells GetStatus = true
 tells GetState = true
 tells asked = false
 
 -- The request has to be answered: it tells where a device is, and is as section 3 of USB DFU 1.1 has it.
-abbrev pub is_told : Event → Bool
+abbrev pub is_told : LogEvent → Bool
 is_told e = e.is_plain && tells e.asked
 
 -- A device may be where it was: nothing was seen, so that the request may not have come; or a request was stalled that doesn't have to be
 -- answered.
-abbrev pub rests : Event → Bool
+abbrev pub rests : LogEvent → Bool
 rests e = stays_at (is_told e) e.answer
 
 -- An event may lead a DfuSe device from one place to another: by a row of USB DFU 1.1, of a habit or of DfuSe; or it stays.
-abbrev pub DfuseAnswer : Place → Event → Place → Type 0
+abbrev pub DfuseAnswer : StandardState → LogEvent → StandardState → Type 0
 DfuseAnswer from e next =
     GoesByDfuse STANDARD from e next ⊎ GoesByDfuse MARKS from e next ⊎ GoesByDfuse HABITS from e next ⊎ GoesByDfuse DFUSE from e next
     ⊎ ((next ≡ from) × (rests e ≡ true))
 
 -- A run: a device begins at one place, moves by itself or not before each event, and ends at another.
-abbrev pub DfuseRun : Place → List Event → Place → Type 0
+abbrev pub DfuseRun : StandardState → List LogEvent → StandardState → Type 0
 DfuseRun from [] last = MayMoveDfuse from last
 DfuseRun from (e ∷ events) last =
-    (here : Place) × (next : Place) × MayMoveDfuse from here × DfuseAnswer here e next × DfuseRun next events last
+    (here : StandardState) × (next : StandardState) × MayMoveDfuse from here × DfuseAnswer here e next × DfuseRun next events last
 
 -- A DfuSe device that began anywhere may be at this place after these events.
-abbrev pub DfuseComesTo : List Event → Place → Type 0
-DfuseComesTo events last = (from : Place) × DfuseRun from events last
+abbrev pub DfuseComesTo : List LogEvent → StandardState → Type 0
+DfuseComesTo events last = (from : StandardState) × DfuseRun from events last
 
 -- Some DfuSe device may have answered so.
-abbrev pub DfuseCanAnswer : List Event → Type 0
-DfuseCanAnswer events = (last : Place) × DfuseComesTo events last
+abbrev pub DfuseCanAnswer : List LogEvent → Type 0
+DfuseCanAnswer events = (last : StandardState) × DfuseComesTo events last

@@ -3,7 +3,7 @@
 ghost use Rattle.std.specs.Prelude.{◌≡◌, List, IsNone, IfSome, [], ◌∷◌, ◌++◌};
 
 use crate::stands::{Places, is_anywhere, step};
-use dfu_conformance::{Departure, Event};
+use dfu_conformance::{Departure, LogEvent};
 
 /// Every place.
 const EVERYWHERE: Places = [true; 12];
@@ -11,15 +11,15 @@ const EVERYWHERE: Places = [true; 12];
 /// A judge of one DfuSe device, of which nothing is known at first. It takes no memory beyond its own 12 bytes.
 #[derive(Clone, Copy, Debug, Drop, PartialEq, Eq)]
 pub struct DfuseJudge {
-    /// By place, in the order of [`dfu_conformance::Place`]: whether a DfuSe device may stand there now, by the events since the last
-    /// departure.
+    /// By place, in the order of [`dfu_conformance::StandardState`]: whether a DfuSe device may stand there now, by the events since the
+    /// last departure.
     pub at: [bool; 12],
 }
 
 impl DfuseJudge {
     ghost use Rattle.dfuse_conformance.specs.Runs.{DfuseCanAnswer};
     ghost use Rattle.dfuse_conformance.specs.Verdicts.{AreHeld, DfuseDeparts};
-    ghost use Rattle.dfu_conformance.specs.declared.event.Event.{Event};
+    ghost use Rattle.dfu_conformance.specs.declared.event.LogEvent.{LogEvent};
 
     /// A judge of a device of which nothing is known: it may be anywhere.
     pub fn new() -> DfuseJudge
@@ -29,10 +29,10 @@ impl DfuseJudge {
     }
 
     /// An event comes. If no DfuSe device is left, the departure is handed out, and from then on the device may be anywhere again.
-    pub fn take(&mut self, event: &Event) -> Option<Departure>
-        ensures kept { IsNone result → (es : List Event) → AreHeld self.old.at es
+    pub fn take(&mut self, event: &LogEvent) -> Option<Departure>
+        ensures kept { IsNone result → (es : List LogEvent) → AreHeld self.old.at es
             → DfuseCanAnswer (es ++ event.now ∷ []) × AreHeld self.new.at (es ++ event.now ∷ []) }
-        ensures departs { IfSome result (λ d. (d.event ≡ event.now) × ((es : List Event) → AreHeld self.old.at es
+        ensures departs { IfSome result (λ d. (d.event ≡ event.now) × ((es : List LogEvent) → AreHeld self.old.at es
             → DfuseDeparts es d self.new.at)) }
     {
         let before = self.at;

@@ -1,12 +1,12 @@
 //! What DfuSe adds to the table of USB DFU 1.1.
 
-use dfu_conformance::Asked::{Close, GetState, GetStatus, Reset, Upload};
+use dfu_conformance::EventKind::{Close, GetState, GetStatus, Reset, Upload};
 use dfu_conformance::Gives::{Ack, Short, Silent, Stall};
-use dfu_conformance::Place::{
-    DfuIdle, DownloadBusy, DownloadIdle, DownloadSync, Manifest, ManifestSync, UploadIdle,
-};
 use dfu_conformance::Row;
 use dfu_conformance::Source::{Habit, Open};
+use dfu_conformance::StandardState::{
+    DfuIdle, DownloadBusy, DownloadIdle, DownloadSync, Manifest, ManifestSync, UploadIdle,
+};
 use dfu_conformance::When::Always;
 
 macro_rules! row {

@@ -5,7 +5,7 @@ ghost use Rattle.std.specs.Int.{bit_at};
 ghost use Rattle.dfu_conformance.specs.Held.{reading_bit};
 ghost use Rattle.dfuse_conformance.specs.Runs.{dfuse_habits, is_told, of_dfuse, rests};
 
-use dfu_conformance::{Answer, Asked, Event, Reading, When};
+use dfu_conformance::{EventKind, LogEvent, Reading, Response, When};
 
 /// Whether a DfuSe device may have this habit: bit n of 0Fh is reading n.
 fn is_habit(reading: Reading) -> bool
@@ -39,23 +39,23 @@ pub fn is_of_dfuse(when: When) -> bool
 
 /// Whether a request has to be answered: GETSTATUS and GETSTATE as section 3 of USB DFU 1.1 has them. Any other request may be stalled, and
 /// nothing changes.
-pub fn is_told(event: &Event) -> bool
+pub fn is_told(event: &LogEvent) -> bool
     ensures { result ≡ is_told event.now }
 {
     match event.asked {
-        Asked::GetStatus => event.is_plain,
-        Asked::GetState => event.is_plain,
+        EventKind::GetStatus => event.is_plain,
+        EventKind::GetState => event.is_plain,
         _ => false,
     }
 }
 
 /// Whether a device may be where it was: nothing was seen of an answer, or a request was stalled that doesn't have to be answered.
-pub(crate) fn may_rest(event: &Event) -> bool
+pub(crate) fn may_rest(event: &LogEvent) -> bool
     ensures { result ≡ rests event.now }
 {
     match event.answer {
-        Answer::Nothing => true,
-        Answer::Stall => !is_told(event),
-        Answer::Bytes { .. } => false,
+        Response::Nothing => true,
+        Response::Stall => !is_told(event),
+        Response::Bytes { .. } => false,
     }
 }

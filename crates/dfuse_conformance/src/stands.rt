@@ -9,14 +9,16 @@ ghost use Rattle.dfuse_conformance.specs.inside.Stepped.{is_somewhere, moves_to,
 
 use crate::rows::DFUSE;
 use crate::speaks::{is_of_dfuse, may_rest};
-use dfu_conformance::{DRIFTS, Drift, Event, HABITS, MARKS, Place, Row, STANDARD, When, speaks_of};
+use dfu_conformance::{
+    DRIFTS, Drift, HABITS, LogEvent, MARKS, Row, STANDARD, StandardState, When, speaks_of,
+};
 
 /// By place, whether a device may stand there.
 pub(crate) type Places = [bool; 12];
 
 /// A device is led from one place to another, if it may stand at the first and is one of those.
-fn lead(before: &Places, from: Place, when: When, after: &mut Places, to: Place)
-    ensures { (n : Place) → may_stand after.new n
+fn lead(before: &Places, from: StandardState, when: When, after: &mut Places, to: StandardState)
+    ensures { (n : StandardState) → may_stand after.new n
         ≡ (may_stand after.old n || ((place_number to == place_number n) && (may_stand before.now from && of_dfuse when))) }
 {
     let to = to.number();
@@ -24,8 +26,8 @@ fn lead(before: &Places, from: Place, when: When, after: &mut Places, to: Place)
 }
 
 /// The place is added to which a row leads.
-fn go(row: &Row, before: &Places, event: &Event, after: &mut Places)
-    ensures { (n : Place) → may_stand after.new n ≡ (may_stand after.old n || leads_to before.now event.now n row.now) }
+fn go(row: &Row, before: &Places, event: &LogEvent, after: &mut Places)
+    ensures { (n : StandardState) → may_stand after.new n ≡ (may_stand after.old n || leads_to before.now event.now n row.now) }
 {
     if speaks_of(row, event) {
         lead(before, row.from, row.when, after, row.next);
@@ -33,8 +35,8 @@ fn go(row: &Row, before: &Places, event: &Event, after: &mut Places)
 }
 
 /// The places are added to which one of these rows leads.
-fn pass(rows: &[Row], before: &Places, event: &Event, after: &mut Places)
-    ensures { (n : Place) → may_stand after.new n ≡ (may_stand after.old n || list_any (leads_to before.now event.now n) rows.now) }
+fn pass(rows: &[Row], before: &Places, event: &LogEvent, after: &mut Places)
+    ensures { (n : StandardState) → may_stand after.new n ≡ (may_stand after.old n || list_any (leads_to before.now event.now n) rows.now) }
 {
     for row in rows {
         go(row, before, event, after);
@@ -43,7 +45,7 @@ fn pass(rows: &[Row], before: &Places, event: &Event, after: &mut Places)
 
 /// The places are added to which one of these moves leads.
 fn drift(moves: &[Drift], before: &Places) -> Places
-    ensures { (n : Place) → may_stand result n ≡ (may_stand before.now n || list_any (moves_to before.now n) moves.now) }
+    ensures { (n : StandardState) → may_stand result n ≡ (may_stand before.now n || list_any (moves_to before.now n) moves.now) }
 {
     let mut after = *before;
     for one in moves {
@@ -53,8 +55,8 @@ fn drift(moves: &[Drift], before: &Places) -> Places
 }
 
 /// The places where a device may be as before.
-fn rest(before: &Places, event: &Event) -> Places
-    ensures { (n : Place) → may_stand result n ≡ (rests event.now && may_stand before.now n) }
+fn rest(before: &Places, event: &LogEvent) -> Places
+    ensures { (n : StandardState) → may_stand result n ≡ (rests event.now && may_stand before.now n) }
 {
     if may_rest(event) {
         *before
@@ -64,8 +66,8 @@ fn rest(before: &Places, event: &Event) -> Places
 }
 
 /// The places where a device may stand after an event, if it might stand at these before it.
-pub(crate) fn step(before: &Places, event: &Event) -> Places
-    ensures { (n : Place) → may_stand result n ≡ after_event before.now event.now n }
+pub(crate) fn step(before: &Places, event: &LogEvent) -> Places
+    ensures { (n : StandardState) → may_stand result n ≡ after_event before.now event.now n }
 {
     let mut after = rest(before, event);
     pass(&STANDARD, before, event, &mut after);

@@ -5,11 +5,11 @@ ghost use Rattle.dfuse_conformance.specs.Runs.{DfuseCanAnswer};
 ghost use Rattle.dfuse_conformance.specs.Verdicts.{IsFirstDeparture};
 
 use crate::judge::DfuseJudge;
-use dfu_conformance::{Departure, Event};
+use dfu_conformance::{Departure, LogEvent};
 
 /// The first event that no DfuSe device may have answered so, if nothing is known of it before these events: its place in the list, counted
 /// from 0, and the departure. `None` if a DfuSe device may have answered all.
-pub fn first_departure(events: &[Event]) -> Option<(usize, Departure)>
+pub fn first_departure(events: &[LogEvent]) -> Option<(usize, Departure)>
     ensures kept { IsNone result → DfuseCanAnswer events.now }
     ensures departs { IfSome result (λ f. IsFirstDeparture events.now f.0 f.1 × (DfuseCanAnswer events.now → ⊥)) }
 {

@@ -1,15 +1,16 @@
 -- What reading elements has to do with the grammar.
 use Rattle.std.proofs.Common.{◌≡◌, ℕ, zero, suc, ◌+◌, ◌^◌, ◌≤◌, eqb, ltb, List, [], ◌∷◌, ◌++◌, length, take, drop, Result, Ok, refl, sym, ap, ◌∙◌, subst, arith, length-append, length-take}
-use Rattle.std.proofs.lemmas.Bool.{ltb-false}
+use Rattle.std.proofs.lemmas.Bool.{ltb-false, le-ltb}
 use Rattle.std.proofs.lemmas.List.{take-append-drop, take_at, drop_at}
+use Rattle.dfu_suffix.proofs.Bytes.{AreBytes-drop}
 use Rattle.dfu_suffix.specs.Laws.{AreBytes}
 use Rattle.dfu_images.specs.Elements.{Piece}
 use Rattle.dfuse_file.specs.declared.fault.FileFault.{FileFault}
 use Rattle.dfuse_file.specs.declared.fault.FileFault.TheVariants.{ElementPastTheTarget, EmptyElement, AddressPastTheEnd}
 use Rattle.dfuse_file.specs.Reading.{Split, ◌>>=◌, number_at, front_element, before_elements, elements_at}
 use Rattle.dfuse_file.specs.Grammar.{four, spelled_elements, ElementFits, ElementsFit}
-use Rattle.dfuse_file.proofs.Steps.{bound, passed, skip, same_ok, not_less, not_zero, zero_not}
-use Rattle.dfuse_file.proofs.Fields.{AreBytes-drop, cut, number_fits, number_is}
+use Rattle.dfuse_file.proofs.Steps.{bound, passed, skip, same_ok, not_zero, zero_not}
+use Rattle.dfuse_file.proofs.Fields.{cut, number_fits, number_is}
 
 -- The bytes begin with an element, and others stand behind it.
 pub record Begins (b : List ℕ) (s : Split) : Type 0 where
@@ -42,7 +43,7 @@ element_found b s f h =
         size_fits = omega (arith, has, number_fits 4 b f);
         within = omega (arith, has, ltb-false (2 ^ 32) (a + n) p3.0);
       };
-      bytes = AreBytes-drop n (drop 8 b) (AreBytes-drop 8 b f);
+      bytes = AreBytes-drop (drop 8 b) n (AreBytes-drop b 8 f);
     })
 
 split_same : (a c : ℕ) (d e r s : List ℕ) → a ≡ c → d ≡ e → r ≡ s →
@@ -62,12 +63,12 @@ element_read e rest h =
     let got : take (number_at 4 b) (drop 8 b) ≡ e.bytes = take_at e.bytes rest (number_at 4 b) (sym size) in
     let left : drop (number_at 4 b) (drop 8 b) ≡ rest = drop_at e.bytes rest (number_at 4 b) (sym size) in
     let len : length b ≡ 8 + (n + length rest) = omega (arith, length-append e.bytes rest) in
-    skip (ltb (length b) 8) ElementPastTheTarget _ _ (not_less (length b) 8 (omega (arith, len)))
+    skip (ltb (length b) 8) ElementPastTheTarget _ _ (le-ltb (length b) 8 (omega (arith, len)))
     (skip (ltb (length (drop 8 b)) (number_at 4 b)) ElementPastTheTarget _ _
-    (not_less (length (drop 8 b)) (number_at 4 b) (omega (arith, size, length-append e.bytes rest)))
+    (le-ltb (length (drop 8 b)) (number_at 4 b) (omega (arith, size, length-append e.bytes rest)))
     (skip (eqb (number_at 4 b) 0) EmptyElement _ _ (not_zero (number_at 4 b) (omega (arith, size, h.some)))
     (skip (ltb (2 ^ 32) (number_at 0 b + number_at 4 b)) AddressPastTheEnd _ _
-    (not_less (2 ^ 32) (number_at 0 b + number_at 4 b) (omega (arith, address, size, h.within)))
+    (le-ltb (2 ^ 32) (number_at 0 b + number_at 4 b) (omega (arith, address, size, h.within)))
     (ap Ok (split_same _ _ _ _ _ _ address got left)))))
 
 -- The bytes are these elements, so many, and nothing else.

@@ -1,28 +1,31 @@
 -- Numbers of four bytes among others.
-use Rattle.std.proofs.Common.{◌≡◌, ℕ, zero, suc, ◌+◌, ◌^◌, ◌<◌, ◌≤◌, List, [], ◌∷◌, ◌++◌, length, take, drop, refl, sym, ap, ◌∙◌, arith, length-take, length-drop}
+use Rattle.std.proofs.Common.{◌≡◌, ℕ, ◌+◌, ◌^◌, ◌<◌, ◌≤◌, List, ◌∷◌, ◌++◌, length, take, drop, refl, sym, ap, ◌∙◌, arith, length-take, length-drop, get_or}
 use Rattle.std.specs.Int.{w32, from_le_bytes}
-use Rattle.std.proofs.lemmas.List.{take-append-drop, drop-drop, get_or-drop}
+use Rattle.std.proofs.lemmas.List.{take-append-drop, drop-drop}
 use Rattle.std.proofs.lemmas.Nat.{from_le_bytes-to_le_bytes_4, le_bytes_4}
+use Rattle.std.proofs.Math.Seq.{drop-cons}
+use Rattle.dfu_suffix.proofs.Bytes.{AreBytes-drop, AreBytes-take}
 use Rattle.dfu_suffix.specs.Laws.{AreBytes}
 use Rattle.dfuse_file.specs.Reading.{number_at}
 use Rattle.dfuse_file.specs.Grammar.{four}
 
--- A list of bytes without its first ones is one of bytes.
-pub AreBytes-drop : (n : ℕ) (xs : List ℕ) → AreBytes xs → AreBytes (drop n xs)
-AreBytes-drop n xs f k = omega (arith, f (n + k), get_or-drop n xs k 0)
-
--- The first of some bytes are bytes.
-pub AreBytes-take : (n : ℕ) (xs : List ℕ) → AreBytes xs → AreBytes (take n xs)
-AreBytes-take zero xs f k = omega arith
-AreBytes-take (suc n) [] f k = f k
-AreBytes-take (suc n) (x ∷ xs) f zero = f zero
-AreBytes-take (suc n) (x ∷ xs) f (suc k) = AreBytes-take n xs (λ i. f (suc i)) k
+-- Six bytes stand before the others, each in its place.
+pub six_cut : (b : List ℕ) → 6 ≤ length b →
+    b ≡ get_or b 0 0 ∷ get_or b 1 0 ∷ get_or b 2 0 ∷ get_or b 3 0 ∷ get_or b 4 0 ∷ get_or b 5 0 ∷ drop 6 b
+six_cut b long =
+    let c0 : b ≡ get_or b 0 0 ∷ drop 1 b = drop-cons b 0 0 (omega (arith, long)) in
+    let c1 : drop 1 b ≡ get_or b 1 0 ∷ drop 2 b = drop-cons b 1 0 (omega (arith, long)) in
+    let c2 : drop 2 b ≡ get_or b 2 0 ∷ drop 3 b = drop-cons b 2 0 (omega (arith, long)) in
+    let c3 : drop 3 b ≡ get_or b 3 0 ∷ drop 4 b = drop-cons b 3 0 (omega (arith, long)) in
+    let c4 : drop 4 b ≡ get_or b 4 0 ∷ drop 5 b = drop-cons b 4 0 (omega (arith, long)) in
+    let c5 : drop 5 b ≡ get_or b 5 0 ∷ drop 6 b = drop-cons b 5 0 (omega (arith, long)) in
+    cc
 
 -- From a place on there are the four bytes of the number there, and what is behind them.
 pub cut : (place next : ℕ) (b : List ℕ) → AreBytes b → next ≡ place + 4 → next ≤ length b → drop place b ≡ four (number_at place b) ++ drop next b
 cut place next b f e h =
     let xs = drop place b in
-    let bytes = AreBytes-take 4 xs (AreBytes-drop place b f) in
+    let bytes = AreBytes-take 4 xs (AreBytes-drop b place f) in
     let long : length (take 4 xs) ≡ 4 = length-take 4 xs ∙ omega (arith, length-drop place b) in
     let here : four (number_at place b) ≡ take 4 xs = le_bytes_4 (take 4 xs) (number_at place b) long bytes refl in
     let behind : drop 4 xs ≡ drop next b = drop-drop 4 place b ∙ ap (λ (k : ℕ). drop k b) (sym e) in
@@ -31,7 +34,7 @@ cut place next b f e h =
 -- Such a number fits.
 pub number_fits : (place : ℕ) (b : List ℕ) → AreBytes b → number_at place b < 2 ^ 32
 number_fits place b f =
-    let g = AreBytes-take 4 (drop place b) (AreBytes-drop place b f) in
+    let g = AreBytes-take 4 (drop place b) (AreBytes-drop b place f) in
     omega (arith, g 0, g 1, g 2, g 3)
 
 -- The four bytes of a number make it.

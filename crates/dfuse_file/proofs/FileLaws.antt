@@ -1,15 +1,17 @@
 -- What reading a file has to do with the grammar.
-use Rattle.std.proofs.Common.{◌≡◌, ◌⊎◌, ℕ, ◌≤◌, ◌&&◌, ◌||◌, Bool, true, false, not, eqb, ltb, List, [], ◌∷◌, ◌++◌, length, take, drop, get_or, Result, Ok, IfOk, inl, inr, refl, sym, ap, ◌∙◌, subst, arith}
-use Rattle.std.proofs.lemmas.Bool.{eqb-true, eq-eqb, ltb-false, not-false}
+use Rattle.std.proofs.Common.{◌≡◌, ◌⊎◌, ℕ, ◌≤◌, ◌&&◌, ◌||◌, true, not, eqb, ltb, List, ◌∷◌, ◌++◌, length, take, drop, get_or, Result, Ok, IfOk, inl, inr, refl, sym, ap, ◌∙◌, subst, arith}
+use Rattle.std.proofs.lemmas.Bool.{eqb-true, eq-eqb, ltb-false, not-false, and_parts, le-ltb, or_cases, or_left, or_right}
 use Rattle.std.proofs.lemmas.List.{append_assoc}
-use Rattle.std.proofs.Math.Seq.{drop-cons}
+use Rattle.std.proofs.Math.Seq.{drop-cons, take-append_seam}
+use Rattle.dfu_suffix.proofs.FileLaws.{if_ok}
+use Rattle.dfu_suffix.proofs.Bytes.{AreBytes-take, AreBytes-drop}
 use Rattle.dfu_suffix.specs.Laws.{AreBytes}
 use Rattle.dfuse_file.specs.declared.fault.FileFault.{FileFault}
 use Rattle.dfuse_file.specs.declared.fault.FileFault.TheVariants.{NoPrefix, BadVersion, BadImageSize, NoTargets}
 use Rattle.dfuse_file.specs.Reading.{Target, Suffixed, DfuseContent, ◌>>=◌, number_at, is_prefixed, targets_at, body_at, suffix_at, of_targets, file_at}
 use Rattle.dfuse_file.specs.Grammar.{four, opening, spelled_targets, IsBody, IsDfuSe}
-use Rattle.dfuse_file.proofs.Steps.{bound, passed, skip, same_ok, if_ok, not_less, not_zero, zero_not, and_true}
-use Rattle.dfuse_file.proofs.Fields.{AreBytes-drop, AreBytes-take, cut, number_fits, number_is}
+use Rattle.dfuse_file.proofs.Steps.{bound, passed, skip, same_ok, not_zero, zero_not}
+use Rattle.dfuse_file.proofs.Fields.{cut, number_fits, number_is, six_cut}
 use Rattle.dfuse_file.proofs.TargetLaws.{targets_found, targets_read}
 use Rattle.dfuse_file.proofs.SuffixLaws.{Ends, suffix_found}
 use Rattle.dfuse_file.proofs.SuffixReads.{suffix_read}
@@ -17,31 +19,22 @@ use Rattle.dfuse_file.proofs.SuffixReads.{suffix_read}
 -- Letters that are told one by one are those of DfuSe, with the version.
 opening_is : (b : List ℕ) → 6 ≤ length b → is_prefixed b ≡ true → get_or b 5 0 ≡ 1 → b ≡ opening ++ drop 6 b
 opening_is b long h v =
-    let s0 = and_true (eqb (get_or b 0 0) 68) (eqb (get_or b 1 0) 102 && (eqb (get_or b 2 0) 117 && (eqb (get_or b 3 0) 83
+    let s0 = and_parts (eqb (get_or b 0 0) 68) (eqb (get_or b 1 0) 102 && (eqb (get_or b 2 0) 117 && (eqb (get_or b 3 0) 83
     && eqb (get_or b 4 0) 101))) h in
-    let s1 = and_true (eqb (get_or b 1 0) 102) (eqb (get_or b 2 0) 117 && (eqb (get_or b 3 0) 83 && eqb (get_or b 4 0) 101)) s0.1 in
-    let s2 = and_true (eqb (get_or b 2 0) 117) (eqb (get_or b 3 0) 83 && eqb (get_or b 4 0) 101) s1.1 in
-    let s3 = and_true (eqb (get_or b 3 0) 83) (eqb (get_or b 4 0) 101) s2.1 in
+    let s1 = and_parts (eqb (get_or b 1 0) 102) (eqb (get_or b 2 0) 117 && (eqb (get_or b 3 0) 83 && eqb (get_or b 4 0) 101)) s0.1 in
+    let s2 = and_parts (eqb (get_or b 2 0) 117) (eqb (get_or b 3 0) 83 && eqb (get_or b 4 0) 101) s1.1 in
+    let s3 = and_parts (eqb (get_or b 3 0) 83) (eqb (get_or b 4 0) 101) s2.1 in
     let e0 = eqb-true (get_or b 0 0) 68 s0.0 in
     let e1 = eqb-true (get_or b 1 0) 102 s1.0 in
     let e2 = eqb-true (get_or b 2 0) 117 s2.0 in
     let e3 = eqb-true (get_or b 3 0) 83 s3.0 in
     let e4 = eqb-true (get_or b 4 0) 101 s3.1 in
-    let c0 : b ≡ get_or b 0 0 ∷ drop 1 b = drop-cons b 0 0 (omega (arith, long)) in
-    let c1 : drop 1 b ≡ get_or b 1 0 ∷ drop 2 b = drop-cons b 1 0 (omega (arith, long)) in
-    let c2 : drop 2 b ≡ get_or b 2 0 ∷ drop 3 b = drop-cons b 2 0 (omega (arith, long)) in
-    let c3 : drop 3 b ≡ get_or b 3 0 ∷ drop 4 b = drop-cons b 3 0 (omega (arith, long)) in
-    let c4 : drop 4 b ≡ get_or b 4 0 ∷ drop 5 b = drop-cons b 4 0 (omega (arith, long)) in
-    let c5 : drop 5 b ≡ get_or b 5 0 ∷ drop 6 b = drop-cons b 5 0 (omega (arith, long)) in
+    let cells = six_cut b long in
     cc
-
-by_first : (n a b : ℕ) (t : Bool) → eqb n a ≡ t → (t || eqb n b) ≡ true → (n ≡ a) ⊎ (n ≡ b)
-by_first n a b true e h = inl (eqb-true n a e)
-by_first n a b false e h = inr (eqb-true n b h)
 
 -- One of two numbers is meant.
 either : (n a b : ℕ) → (eqb n a || eqb n b) ≡ true → (n ≡ a) ⊎ (n ≡ b)
-either n a b h = by_first n a b (eqb n a) refl h
+either n a b h = elim (or_cases (eqb n a) (eqb n b) h) [ inl e ↦ inl (eqb-true n a e) | inr e ↦ inr (eqb-true n b e) ]
 
 -- What was read stood there.
 body_found : (whole : ℕ) (b : List ℕ) (ts : List Target) → AreBytes b → body_at whole b ≡ Ok ts → IsBody ts whole b
@@ -55,7 +48,7 @@ body_found whole b ts f h =
     let p3 = passed (not (eqb size (length b) || eqb size whole)) BadImageSize _ ts p2.1 in
     let p4 = passed (eqb count 0) NoTargets _ ts p3.1 in
     let long : 11 ≤ length b = ltb-false (length b) 11 p0.0 in
-    let are = targets_found count (drop 11 b) ts (AreBytes-drop 11 b f) p4.1 in
+    let are = targets_found count (drop 11 b) ts (AreBytes-drop b 11 f) p4.1 in
     let version : get_or b 5 0 ≡ 1 = eqb-true (get_or b 5 0) 1 (not-false (eqb (get_or b 5 0) 1) p2.0) in
     let d10 : drop 10 b ≡ length ts ∷ spelled_targets ts = drop-cons b 10 0 (omega (arith, long))
     ∙ (ap (λ (z : List ℕ). count ∷ z) are.spelled ∙ ap (λ (k : ℕ). k ∷ spelled_targets ts) (sym are.number)) in
@@ -72,14 +65,10 @@ body_found whole b ts f h =
       fit = are.fit;
     }
 
-second : (s t : Bool) → t ≡ true → (s || t) ≡ true
-second true t h = refl
-second false t h = h
-
 -- One of two tests says yes.
 either_true : (n a b : ℕ) → (n ≡ a) ⊎ (n ≡ b) → (eqb n a || eqb n b) ≡ true
-either_true n a b (inl h) = ap (λ (t : Bool). t || eqb n b) (eq-eqb n a h)
-either_true n a b (inr h) = second (eqb n a) (eqb n b) (eq-eqb n b h)
+either_true n a b (inl h) = or_left (eqb n a) (eqb n b) (eq-eqb n a h)
+either_true n a b (inr h) = or_right (eqb n a) (eqb n b) (eq-eqb n b h)
 
 -- Each body is read.
 body_read : (whole : ℕ) (b : List ℕ) (ts : List Target) → IsBody ts whole b → body_at whole b ≡ Ok ts
@@ -94,20 +83,16 @@ body_read whole b ts h =
     let prefixed : is_prefixed b ≡ true = ap is_prefixed is in
     let targets : drop 11 b ≡ spelled_targets ts = ap (drop 11) is in
     let told : (number_at 6 b ≡ length b) ⊎ (number_at 6 b ≡ whole) = subst (λ (k : ℕ). (k ≡ length b) ⊎ (k ≡ whole)) (sym size) h.size_is in
-    skip (ltb (length b) 11) NoPrefix _ _ (not_less (length b) 11 len)
+    skip (ltb (length b) 11) NoPrefix _ _ (le-ltb (length b) 11 len)
     (skip (not (is_prefixed b)) NoPrefix _ _ (ap not prefixed)
     (skip (not (eqb (get_or b 5 0) 1)) BadVersion _ _ (ap not (eq-eqb (get_or b 5 0) 1 version))
     (skip (not (eqb (number_at 6 b) (length b) || eqb (number_at 6 b) whole)) BadImageSize _ _ (ap not (either_true (number_at 6 b) (length b) whole told))
     (skip (eqb (get_or b 10 0) 0) NoTargets _ _ (not_zero (get_or b 10 0) (omega (arith, count, h.some)))
     (ap (λ (k : ℕ). targets_at k (drop 11 b)) count ∙ (ap (targets_at (length ts)) targets ∙ targets_read ts h.fit))))))
 
-take_front : (xs ys : List ℕ) → take (length xs) (xs ++ ys) ≡ xs
-take_front [] ys = refl
-take_front (x ∷ xs) ys = ap (λ (z : List ℕ). x ∷ z) (take_front xs ys)
-
 -- The bytes before a suffix are bytes.
 payload_bytes : (b rest : List ℕ) (s : Suffixed) → AreBytes b → b ≡ s.payload ++ rest → AreBytes s.payload
-payload_bytes b rest s f h = subst AreBytes (ap (take (length s.payload)) h ∙ take_front s.payload rest) (AreBytes-take (length s.payload) b f)
+payload_bytes b rest s f h = subst AreBytes (ap (take (length s.payload)) h ∙ take-append_seam s.payload rest) (AreBytes-take (length s.payload) b f)
 
 ends_body : (b : List ℕ) (s : Suffixed) (ts : List Target) → Ends b s → IsBody ts (length b) s.payload → IsDfuSe (record { ids = s.ids; targets = ts }) b
 ends_body b s ts e body = record {

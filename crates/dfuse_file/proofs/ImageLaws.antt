@@ -1,7 +1,6 @@
 -- Lists of elements, as an image is made of them.
-use Rattle.std.proofs.Common.{◌≡◌, ◌≢◌, ℕ, suc, ◌+◌, ◌<◌, ◌≤◌, ◌&&◌, ◌||◌, Bool, true, false, not, cond, eqb, ltb, leb, List, [], ◌∷◌, ◌++◌, length, take, map, set, get_or, Some, None, inl, inr, refl, sym, ap, ◌∙◌, arith, length-append}
-use Rattle.std.proofs.lemmas.Bool.{eq-eqb}
-use Rattle.std.proofs.lemmas.Bool.Decides.{nat_tests, eqb_tells}
+use Rattle.std.proofs.Common.{◌≡◌, ◌≢◌, ℕ, suc, ◌+◌, ◌<◌, ◌≤◌, ◌&&◌, ◌||◌, Bool, true, false, not, cond, eqb, ltb, leb, List, [], ◌∷◌, ◌++◌, length, take, map, set, get_or, Some, None, refl, sym, ap, ◌∙◌, arith, length-append}
+use Rattle.std.proofs.lemmas.Bool.{eq-eqb, le-ltb, and_from, le-leb, lt-ltb, ne_eqb, or_right}
 use Rattle.std.proofs.lemmas.List.{append_assoc, append-nil, map-append, take_more_set}
 use Rattle.std.specs.List.Sorted.{IsNonDecreasingBy}
 use Rattle.dfu_images.specs.Elements.{Piece}
@@ -11,7 +10,6 @@ use Rattle.dfuse_file.specs.Found.{piece_of}
 use Rattle.dfuse_file.specs.Reading.{Target}
 use Rattle.dfuse_file.specs.declared.image.ImageFault.TheVariants.{NoSuchSetting, TooManyElements}
 use Rattle.dfuse_file.specs.Images.{all_for, one_setting, has_setting, elements_for, image_fault}
-use Rattle.dfuse_file.proofs.Steps.{not_less}
 
 -- An element behind those that are there.
 pub one_behind : (room : List Element) (count : ℕ) (e : Element) (p : Piece) → count < length room → piece_of e ≡ p →
@@ -29,25 +27,15 @@ moved room count e old new h is =
 
 -- ---- sorting
 
-both_yes : (a b : Bool) → a ≡ true → b ≡ true → (a && b) ≡ true
-both_yes true b h e = e
-both_yes false b h e = h
-
-not_more : (a b : ℕ) → a ≤ b → leb a b ≡ true
-not_more a b h = grind (arith, nat_tests)
-
 -- Elements whose addresses do not fall ascend.
 pub ascends : (start : ℕ) (es : List Element) → IsNonDecreasingBy (λ (e : Element). e.address) es →
     ((d : Element) → 0 < length es → start ≤ (get_or es 0 d).address) → ascends_from start es ≡ true
 ascends start [] f h = refl
 ascends start (e ∷ es) f h =
-    both_yes (leb start e.address) (ascends_from e.address es) (not_more start e.address (h e (omega arith)))
+    and_from (leb start e.address) (ascends_from e.address es) (le-leb start e.address (h e (omega arith)))
     (ascends e.address es (λ i j d p q. f (suc i) (suc j) d (omega (arith, p)) (omega (arith, q))) (λ d p. f 0 1 d (omega arith) (omega (arith, p))))
 
 -- ---- settings
-
-no_equal : (a b : ℕ) → a ≢ b → eqb a b ≡ false
-no_equal a b h = elim (eqb_tells a b) [ inl p ↦ absurd (h p.1) | inr p ↦ p.0 ]
 
 for_both : (s : ℕ) (t : Target) (ts : List Target) → all_for s (t ∷ ts) ≡ ((eqb t.setting s) && all_for s ts)
 unfolding all_for
@@ -59,7 +47,7 @@ same_for s t ts old is h = ap (all_for s) is ∙ (for_both s t ts ∙ ap (λ (b 
 
 -- One of another setting decides it.
 pub other_for : (s : ℕ) (t : Target) (ts old : List Target) → old ≡ t ∷ ts → t.setting ≢ s → all_for s old ≡ false
-other_for s t ts old is h = ap (all_for s) is ∙ (for_both s t ts ∙ ap (λ (b : Bool). b && all_for s ts) (no_equal t.setting s h))
+other_for s t ts old is h = ap (all_for s) is ∙ (for_both s t ts ∙ ap (λ (b : Bool). b && all_for s ts) (ne_eqb t.setting s h))
 
 -- None is of another setting, if there are none.
 pub none_for : (s : ℕ) → all_for s [] ≡ true
@@ -91,7 +79,7 @@ has_this s t ts old is h = ap (has_setting s) is ∙ (has_both s t ts ∙ ap (λ
 
 -- One of another setting leaves that open.
 pub has_other : (s : ℕ) (t : Target) (ts old : List Target) → old ≡ t ∷ ts → t.setting ≢ s → has_setting s old ≡ has_setting s ts
-has_other s t ts old is h = ap (has_setting s) is ∙ (has_both s t ts ∙ ap (λ (b : Bool). b || has_setting s ts) (no_equal t.setting s h))
+has_other s t ts old is h = ap (has_setting s) is ∙ (has_both s t ts ∙ ap (λ (b : Bool). b || has_setting s ts) (ne_eqb t.setting s h))
 
 -- The elements of a target of this setting stand before those of the others.
 pub elements_this : (s : ℕ) (t : Target) (ts old : List Target) → old ≡ t ∷ ts → t.setting ≡ s → elements_for s old ≡ t.elements ++ elements_for s ts
@@ -101,7 +89,7 @@ elements_this s t ts old is h = ap (elements_for s) is ∙ (for_cons s t ts
 -- Those of another setting are left out.
 pub elements_other : (s : ℕ) (t : Target) (ts old : List Target) → old ≡ t ∷ ts → t.setting ≢ s → elements_for s old ≡ elements_for s ts
 elements_other s t ts old is h = ap (elements_for s) is ∙ (for_cons s t ts
-    ∙ ap (λ (b : Bool). cond b (t.elements ++ elements_for s ts) (elements_for s ts)) (no_equal t.setting s h))
+    ∙ ap (λ (b : Bool). cond b (t.elements ++ elements_for s ts) (elements_for s ts)) (ne_eqb t.setting s h))
 
 -- Without targets there is none of this setting.
 pub has_none : (s : ℕ) → has_setting s [] ≡ false
@@ -115,9 +103,6 @@ elements_none s = refl
 
 -- ---- why there is no image
 
-less : (a b : ℕ) → a < b → ltb a b ≡ true
-less a b h = grind (arith, nat_tests)
-
 -- No target is of this setting.
 pub no_such : (room s : ℕ) (all : List Target) → has_setting s all ≡ false → image_fault room s all ≡ Some NoSuchSetting
 unfolding image_fault
@@ -128,14 +113,14 @@ pub too_many : (room s : ℕ) (all : List Target) → has_setting s all ≡ true
 unfolding image_fault
 too_many room s all h more =
     ap (λ (b : Bool). cond (not b) (Some NoSuchSetting) (cond (ltb room (length (elements_for s all))) (Some TooManyElements) None)) h
-    ∙ ap (λ (b : Bool). cond b (Some TooManyElements) None) (less room (length (elements_for s all)) more)
+    ∙ ap (λ (b : Bool). cond b (Some TooManyElements) None) (lt-ltb room (length (elements_for s all)) more)
 
 -- There is one, and room for its elements.
 pub no_image_fault : (room s : ℕ) (all : List Target) → has_setting s all ≡ true → length (elements_for s all) ≤ room → image_fault room s all ≡ None
 unfolding image_fault
 no_image_fault room s all h few =
     ap (λ (b : Bool). cond (not b) (Some NoSuchSetting) (cond (ltb room (length (elements_for s all))) (Some TooManyElements) None)) h
-    ∙ ap (λ (b : Bool). cond b (Some TooManyElements) None) (not_less room (length (elements_for s all)) few)
+    ∙ ap (λ (b : Bool). cond b (Some TooManyElements) None) (le-ltb room (length (elements_for s all)) few)
 
 -- ---- one target further
 
@@ -160,10 +145,6 @@ or_nothing : (a b : Bool) → b ≡ false → (a || b) ≡ a
 or_nothing true b h = refl
 or_nothing false b h = h
 
-or_true : (a b : Bool) → a ≡ true → (b || a) ≡ true
-or_true a true h = refl
-or_true a false h = h
-
 -- A target of the setting, whose elements were put behind.
 pub past_this : (s : ℕ) (room next : List Element) (count n : ℕ) (has : Bool) (left all ts : List Target) (t : Target) → Looked s room count has left all →
     left ≡ t ∷ ts → t.setting ≡ s → n ≡ count + length t.elements → map piece_of (take n next) ≡ map piece_of (take count room) ++ t.elements →
@@ -175,7 +156,7 @@ past_this s room next count n has left all ts t h is this number listed =
       listed = ap (λ (xs : List Piece). xs ++ elements_for s ts) listed
           ∙ (append_assoc (map piece_of (take count room)) t.elements (elements_for s ts)
           ∙ (ap (λ (xs : List Piece). map piece_of (take count room) ++ xs) (sym es) ∙ h.listed));
-      has_it = sym (or_true (has_setting s left) has (has_this s t ts left is this)) ∙ h.has_it;
+      has_it = sym (or_right has (has_setting s left) (has_this s t ts left is this)) ∙ h.has_it;
     }
 
 -- A target of the setting, whose elements are too many.
@@ -183,7 +164,7 @@ pub too_many_here : (s room_size : ℕ) (room : List Element) (count : ℕ) (has
     left ≡ t ∷ ts → t.setting ≡ s → room_size < count + length t.elements → image_fault room_size s all ≡ Some TooManyElements
 too_many_here s room_size room count has left all ts t h is this more =
     let es = elements_this s t ts left is this in
-    too_many room_size s all (sym h.has_it ∙ or_true (has_setting s left) has (has_this s t ts left is this))
+    too_many room_size s all (sym h.has_it ∙ or_right has (has_setting s left) (has_this s t ts left is this))
     (omega (arith, more, ap length es, length-append t.elements (elements_for s ts), h.number))
 
 -- All were looked at.

@@ -1,6 +1,6 @@
 -- Steps of reading, one after the other.
-use Rattle.std.proofs.Common.{◌≡◌, ◌≢◌, ℕ, zero, suc, ◌-◌, ◌≤◌, ◌&&◌, Bool, true, false, cond, eqb, ltb, Result, Ok, Err, IfOk, inl, inr, refl, arith}
-use Rattle.std.proofs.lemmas.Bool.Decides.{nat_tests, eqb_tells}
+use Rattle.std.proofs.Common.{◌≡◌, ◌≢◌, ℕ, zero, suc, ◌-◌, ◌≤◌, Bool, true, false, cond, eqb, Result, Ok, Err, inl, inr, refl, arith}
+use Rattle.std.proofs.lemmas.Bool.Decides.{eqb_tells}
 use Rattle.dfuse_file.specs.declared.fault.FileFault.{FileFault}
 use Rattle.dfuse_file.specs.Reading.{◌>>=◌}
 
@@ -25,15 +25,6 @@ skip false fault r s h e = e
 pub same_ok : {A : Type 0} (x y : A) → ◌≡◌ {A = Result A FileFault} (Ok x) (Ok y) → x ≡ y
 same_ok x y h = cc
 
--- What holds for each value that an answer may be holds for the one that it is.
-pub if_ok : {T E : Type 0} (r : Result T E) (P : T → Type 0) → ((x : T) → r ≡ Ok x → P x) → IfOk r P
-if_ok (Ok x) P f = f x refl
-if_ok (Err e) P f = tt
-
--- A test says no if the one number is no less than the other.
-pub not_less : (a b : ℕ) → b ≤ a → ltb a b ≡ false
-not_less a b h = grind (arith, nat_tests)
-
 -- A test says no if a number is one at least.
 pub not_zero : (a : ℕ) → 1 ≤ a → eqb a 0 ≡ false
 not_zero a h = elim (eqb_tells a 0) [ inl p ↦ absurd (omega (arith, p.1)) | inr p ↦ p.0 ]
@@ -42,11 +33,6 @@ not_zero a h = elim (eqb_tells a 0) [ inl p ↦ absurd (omega (arith, p.1)) | in
 pub zero_not : (a : ℕ) → eqb a 0 ≡ false → 1 ≤ a
 zero_not zero h = cc
 zero_not (suc n) h = omega arith
-
--- Both hold if both together do.
-pub and_true : (a b : Bool) → (a && b) ≡ true → (a ≡ true) × (b ≡ true)
-and_true true b h = (refl, h)
-and_true false b h = (h, cc)
 
 -- A number that isn't 0 is one more than another.
 pub positive : (n : ℕ) → n ≢ 0 → n ≡ suc (n - 1)

@@ -1,10 +1,12 @@
 -- What reading a suffix has to do with the grammar.
-use Rattle.std.proofs.Common.{◌≡◌, ◌≢◌, ◌↔◌, ℕ, ◌+◌, ◌-◌, ◌*◌, ◌/◌, ◌%◌, ◌^◌, ◌<◌, ◌≤◌, ◌&&◌, ◌||◌, Bool, true, false, cond, eqb, ltb, List, [], ◌∷◌, ◌++◌, length, take, drop, get_or, Option, Some, None, Result, Ok, Err, refl, sym, ap, ◌∙◌, subst, arith, length-append, length-take, length-drop}
+use Rattle.std.proofs.Common.{◌≡◌, ◌≢◌, ◌↔◌, ℕ, ◌+◌, ◌-◌, ◌^◌, ◌<◌, ◌≤◌, ◌&&◌, Bool, true, false, cond, eqb, ltb, List, [], ◌∷◌, ◌++◌, length, take, drop, get_or, Option, Some, None, Result, Ok, Err, refl, sym, ap, ◌∙◌, subst, arith, length-append, length-take, length-drop}
 use Rattle.std.specs.Prelude.{find}
-use Rattle.std.specs.Int.{w16, w32, to_le_bytes}
-use Rattle.std.proofs.lemmas.Bool.{eqb-true, ltb-false, not-false}
+use Rattle.std.specs.Int.{w16, to_le_bytes}
+use Rattle.std.proofs.lemmas.Bool.{eqb-true, ltb-false, not-false, and_parts, or_parts}
 use Rattle.std.proofs.Math.Seq.{drop-cons}
 use Rattle.std.proofs.lemmas.List.{append_assoc, take-append-drop, take_at, drop-drop}
+use Rattle.std.proofs.lemmas.Nat.{le_bytes_2, le_bytes_4}
+use Rattle.dfu_suffix.proofs.Bytes.{AreBytes-drop, AreBytes-take}
 use Rattle.byteorder.specs.Endian.{little_number}
 use Rattle.dfu_wire.specs.declared.ids.Ids.{Ids}
 use Rattle.dfu_suffix.specs.Laws.{AreBytes}
@@ -15,8 +17,7 @@ use Rattle.dfu_suffix.specs.declared.fault.SuffixFault.TheVariants as suffix
 use Rattle.dfuse_file.specs.declared.fault.FileFault.TheVariants.{BadCrc, NotDfuSe}
 use Rattle.dfuse_file.specs.Reading.{Suffixed, suffixed_by, is_dfuse, refusal, signed_by, suffix_by, suffix_at}
 use Rattle.dfuse_file.specs.Grammar.{four}
-use Rattle.dfuse_file.proofs.Steps.{same_ok, and_true}
-use Rattle.dfuse_file.proofs.Fields.{AreBytes-drop}
+use Rattle.dfuse_file.proofs.Steps.{same_ok, passed as passed_over}
 
 -- A file ends in a suffix with bcdDFU 011Ah.
 pub record Ends (b : List ℕ) (s : Suffixed) : Type 0 where
@@ -30,62 +31,49 @@ pub record Ends (b : List ℕ) (s : Suffixed) : Type 0 where
 
 -- ---- bytes and their numbers
 
-two_bytes : (x y : ℕ) → x < 256 → y < 256 → to_le_bytes w16 (x + 256 * (y + 256 * 0)) ≡ x ∷ y ∷ []
-two_bytes x y p q =
-    let low : (x + 256 * (y + 256 * 0)) % 256 ≡ x = omega arith in
-    let high : (x + 256 * (y + 256 * 0)) / 256 % 256 ≡ y = omega arith in
-    cc
-
-four_bytes : (x y z w : ℕ) → x < 256 → y < 256 → z < 256 → w < 256 →
-    to_le_bytes w32 (x + 256 * (y + 256 * (z + 256 * (w + 256 * 0)))) ≡ x ∷ y ∷ z ∷ w ∷ []
-four_bytes x y z w p q r s =
-    let n = x + 256 * (y + 256 * (z + 256 * (w + 256 * 0))) in
-    let e0 : n % 256 ≡ x = omega arith in
-    let e1 : n / 256 % 256 ≡ y = omega arith in
-    let e2 : n / 65536 % 256 ≡ z = omega arith in
-    let e3 : n / 16777216 % 256 ≡ w = omega arith in
-    cc
-
 -- Bytes begin with the two of their number.
 two_cut : (xs : List ℕ) → AreBytes xs → 2 ≤ length xs → xs ≡ to_le_bytes w16 (little_number 2 xs) ++ drop 2 xs
 two_cut [] f h = absurd (omega (arith, h))
 two_cut (x ∷ []) f h = absurd (omega (arith, h))
-two_cut (x ∷ y ∷ xs) f h = ap (λ (z : List ℕ). z ++ xs) (sym (two_bytes x y (f 0) (f 1)))
+two_cut (x ∷ y ∷ xs) f h =
+    ap (λ (z : List ℕ). z ++ xs) (sym (le_bytes_2 (x ∷ y ∷ []) (little_number 2 (x ∷ y ∷ xs)) refl (AreBytes-take 2 (x ∷ y ∷ xs) f) (omega arith)))
 
 -- Four bytes are those of their number.
 four_cut : (xs : List ℕ) → AreBytes xs → length xs ≡ 4 → xs ≡ four (little_number 4 xs)
-four_cut [] f h = absurd (omega (arith, h))
-four_cut (a ∷ []) f h = absurd (omega (arith, h))
-four_cut (a ∷ b ∷ []) f h = absurd (omega (arith, h))
-four_cut (a ∷ b ∷ c ∷ []) f h = absurd (omega (arith, h))
-four_cut (a ∷ b ∷ c ∷ d ∷ []) f h = sym (four_bytes a b c d (f 0) (f 1) (f 2) (f 3))
-four_cut (a ∷ b ∷ c ∷ d ∷ e ∷ xs) f h = absurd (omega (arith, h))
+four_cut xs f h = sym (le_bytes_4 xs (little_number 4 xs) h f (omega arith))
 
 number_fits : (xs : List ℕ) → AreBytes xs → little_number 2 xs < 2 ^ 16
 number_fits xs f = omega (arith, f 0, f 1)
 
 -- ---- what was found
 
-crc_right : (t : Bool) (x s : Suffixed) → cond t (Err BadCrc) (Ok x) ≡ Ok s → (◌≡◌ {A = Option SuffixFault} (Some suffix.DfuSe) (Some suffix.DfuSe))
-    × (t ≡ false) × (x ≡ s)
-crc_right true x s h = cc
-crc_right false x s h = (refl, refl, same_ok x s h)
+-- Only DfuSe is that fault.
+pub is_the_fault : (f : SuffixFault) → is_dfuse f ≡ true → f ≡ suffix.DfuSe
+is_the_fault suffix.DfuSe h = refl
+is_the_fault suffix.TooLarge h = cc
+is_the_fault suffix.TooShort h = cc
+is_the_fault suffix.NoSignature h = cc
+is_the_fault suffix.BadLength h = cc
+is_the_fault suffix.BadCrc h = cc
+is_the_fault suffix.AlreadySuffixed h = cc
+is_the_fault suffix.NoMemory h = cc
+is_the_fault suffix.Read h = cc
+is_the_fault suffix.Write h = cc
+
+asked : (t : Bool) (f : SuffixFault) (b : List ℕ) (s : Suffixed) → cond t (signed_by b) (Err (refusal f)) ≡ Ok s →
+    (t ≡ true) × (signed_by b ≡ Ok s)
+asked true f b s h = (refl, h)
+asked false f b s h = cc
 
 -- Only the fault DfuSe is followed by more.
 only_dfuse : (o : Option SuffixFault) (b : List ℕ) (s : Suffixed) → suffix_by o b ≡ Ok s →
     (o ≡ Some suffix.DfuSe) × (has_fault b suffix.BadCrc ≡ false) × (suffixed_by b ≡ s)
 unfolding suffix_by
 only_dfuse None b s h = cc
-only_dfuse (Some suffix.DfuSe) b s h = crc_right (has_fault b suffix.BadCrc) (suffixed_by b) s h
-only_dfuse (Some suffix.TooLarge) b s h = cc
-only_dfuse (Some suffix.TooShort) b s h = cc
-only_dfuse (Some suffix.NoSignature) b s h = cc
-only_dfuse (Some suffix.BadLength) b s h = cc
-only_dfuse (Some suffix.BadCrc) b s h = cc
-only_dfuse (Some suffix.AlreadySuffixed) b s h = cc
-only_dfuse (Some suffix.NoMemory) b s h = cc
-only_dfuse (Some suffix.Read) b s h = cc
-only_dfuse (Some suffix.Write) b s h = cc
+only_dfuse (Some f) b s h =
+    let p = asked (is_dfuse f) f b s h in
+    let q = passed_over (has_fault b suffix.BadCrc) BadCrc (Ok (suffixed_by b)) s p.1 in
+    (ap Some (is_the_fault f p.0), q.0, same_ok _ s q.1)
 
 -- A fault that isn't DfuSe was not found.
 passed : (t : Bool) (x : SuffixFault) (o : Option SuffixFault) → x ≢ suffix.DfuSe → cond t (Some x) o ≡ Some suffix.DfuSe →
@@ -101,10 +89,6 @@ was_dfuse false o none h = absurd (none h)
 last_fault : (t : Bool) → ◌≢◌ {A = Option SuffixFault} (cond t (Some suffix.BadCrc) None) (Some suffix.DfuSe)
 last_fault true = λ e. cc
 last_fault false = λ e. cc
-
-or_false : (a b : Bool) → (a || b) ≡ false → (a ≡ false) × (b ≡ false)
-or_false true b h = (h, cc)
-or_false false b h = (refl, h)
 
 -- What is known of bytes whose first fault is DfuSe.
 record Signed (b : List ℕ) : Type 0 where
@@ -125,9 +109,9 @@ signed b h =
     let p3 = passed (has_fault b suffix.BadLength) suffix.BadLength _ (λ e. cc) p2.1 in
     let v = was_dfuse (has_fault b suffix.DfuSe) _ (last_fault (has_fault b suffix.BadCrc)) p3.1 in
     let t = tail_of b in
-    let s0 = and_true (eqb (get_or t 8 0) 0x55) (eqb (get_or t 9 0) 0x46 && eqb (get_or t 10 0) 0x44) (not-false (is_signed t) p2.0) in
-    let s1 = and_true (eqb (get_or t 9 0) 0x46) (eqb (get_or t 10 0) 0x44) s0.1 in
-    let l = or_false (ltb (get_or t 11 0) 16) (ltb (length b) (get_or t 11 0)) p3.0 in
+    let s0 = and_parts (eqb (get_or t 8 0) 0x55) (eqb (get_or t 9 0) 0x46 && eqb (get_or t 10 0) 0x44) (not-false (is_signed t) p2.0) in
+    let s1 = and_parts (eqb (get_or t 9 0) 0x46) (eqb (get_or t 10 0) 0x44) s0.1 in
+    let l = or_parts (ltb (get_or t 11 0) 16) (ltb (length b) (get_or t 11 0)) p3.0 in
     record {
       small = ltb-false 16777216 (length b) p0.0;
       long = ltb-false (length b) 16 p1.0;
@@ -145,11 +129,11 @@ fields_cut : (t extra : List ℕ) (ids : Ids) → AreBytes t → length t ≡ 16
     get_or t 10 0 ≡ 0x44 → get_or t 11 0 ≡ 16 + length extra → t ≡ fields_before_crc ids 0x011A extra ++ drop 12 t
 fields_cut t extra ids f long d p v u e8 e9 e10 e11 =
     let w0 : t ≡ to_le_bytes w16 ids.device ++ drop 2 t = two_cut t f (omega (arith, long)) ∙ ap (λ (k : ℕ). to_le_bytes w16 k ++ drop 2 t) (sym d) in
-    let w2 : drop 2 t ≡ to_le_bytes w16 ids.product ++ drop 4 t = two_cut (drop 2 t) (AreBytes-drop 2 t f) (omega (arith, long, length-drop 2 t))
+    let w2 : drop 2 t ≡ to_le_bytes w16 ids.product ++ drop 4 t = two_cut (drop 2 t) (AreBytes-drop t 2 f) (omega (arith, long, length-drop 2 t))
     ∙ (ap (λ (k : ℕ). to_le_bytes w16 k ++ drop 2 (drop 2 t)) (sym p) ∙ ap (λ (z : List ℕ). to_le_bytes w16 ids.product ++ z) (drop-drop 2 2 t)) in
-    let w4 : drop 4 t ≡ to_le_bytes w16 ids.vendor ++ drop 6 t = two_cut (drop 4 t) (AreBytes-drop 4 t f) (omega (arith, long, length-drop 4 t))
+    let w4 : drop 4 t ≡ to_le_bytes w16 ids.vendor ++ drop 6 t = two_cut (drop 4 t) (AreBytes-drop t 4 f) (omega (arith, long, length-drop 4 t))
     ∙ (ap (λ (k : ℕ). to_le_bytes w16 k ++ drop 2 (drop 4 t)) (sym v) ∙ ap (λ (z : List ℕ). to_le_bytes w16 ids.vendor ++ z) (drop-drop 2 4 t)) in
-    let w6 : drop 6 t ≡ to_le_bytes w16 0x011A ++ drop 8 t = two_cut (drop 6 t) (AreBytes-drop 6 t f) (omega (arith, long, length-drop 6 t))
+    let w6 : drop 6 t ≡ to_le_bytes w16 0x011A ++ drop 8 t = two_cut (drop 6 t) (AreBytes-drop t 6 f) (omega (arith, long, length-drop 6 t))
     ∙ (ap (λ (k : ℕ). to_le_bytes w16 k ++ drop 2 (drop 6 t)) u ∙ ap (λ (z : List ℕ). to_le_bytes w16 0x011A ++ z) (drop-drop 2 6 t)) in
     let c8 : drop 8 t ≡ get_or t 8 0 ∷ drop 9 t = drop-cons t 8 0 (omega (arith, long)) in
     let c9 : drop 9 t ≡ get_or t 9 0 ∷ drop 10 t = drop-cons t 9 0 (omega (arith, long)) in
@@ -172,7 +156,7 @@ ends b f s crc =
     let extra = take (l - 16) (drop (n - l) b) in
     let payload = take (n - l) b in
     let ids = (suffixed_by b).ids in
-    let ft : AreBytes t = AreBytes-drop (n - 16) b f in
+    let ft : AreBytes t = AreBytes-drop b (n - 16) f in
     let long : length t ≡ 16 = length-drop (n - 16) b ∙ omega (arith, s.long) in
     let has : l ≡ 16 + length extra = omega (arith, whole, within, length-take (l - 16) (drop (n - l) b), length-drop (n - l) b) in
     let place : (n - l) + (l - 16) ≡ n - 16 = omega (arith, whole, within) in
@@ -180,7 +164,7 @@ ends b f s crc =
     ∙ ap (λ (z : List ℕ). extra ++ z) (drop-drop (l - 16) (n - l) b ∙ ap (λ (k : ℕ). drop k b) place) in
     let fields = fields_before_crc ids 0x011A extra in
     let cut : t ≡ fields ++ drop 12 t = fields_cut t extra ids ft long refl refl refl s.version s.letter_u s.letter_f s.letter_d has in
-    let last : drop 12 t ≡ four (little_number 4 (drop 12 t)) = four_cut (drop 12 t) (AreBytes-drop 12 t ft) (length-drop 12 t ∙ omega (arith, long)) in
+    let last : drop 12 t ≡ four (little_number 4 (drop 12 t)) = four_cut (drop 12 t) (AreBytes-drop t 12 ft) (length-drop 12 t ∙ omega (arith, long)) in
     let front = before_crc payload ids 0x011A extra in
     let all : b ≡ front ++ drop 12 t = sym (take-append-drop (n - l) b)
     ∙ (ap (λ (z : List ℕ). payload ++ z) (behind ∙ ap (λ (z : List ℕ). extra ++ z) cut) ∙ sym (simp append_assoc)) in
@@ -191,8 +175,8 @@ ends b f s crc =
       spelled = all ∙ ap (λ (z : List ℕ). front ++ z) (last ∙ ap four (crc ∙ ap register before));
       extra_fits = omega (arith, has, ft 11);
       device_fits = number_fits t ft;
-      product_fits = number_fits (drop 2 t) (AreBytes-drop 2 t ft);
-      vendor_fits = number_fits (drop 4 t) (AreBytes-drop 4 t ft);
+      product_fits = number_fits (drop 2 t) (AreBytes-drop t 2 ft);
+      vendor_fits = number_fits (drop 4 t) (AreBytes-drop t 4 ft);
       small = s.small;
     }
 
@@ -215,19 +199,6 @@ other_fault f b h = ap (λ (t : Bool). cond t (signed_by b) (Err (refusal f))) h
 pub the_fault : (f : SuffixFault) (b : List ℕ) → is_dfuse f ≡ true → suffix_by (Some f) b ≡ signed_by b
 unfolding suffix_by
 the_fault f b h = ap (λ (t : Bool). cond t (signed_by b) (Err (refusal f))) h
-
--- Only DfuSe is that fault.
-pub is_the_fault : (f : SuffixFault) → is_dfuse f ≡ true → f ≡ suffix.DfuSe
-is_the_fault suffix.DfuSe h = refl
-is_the_fault suffix.TooLarge h = cc
-is_the_fault suffix.TooShort h = cc
-is_the_fault suffix.NoSignature h = cc
-is_the_fault suffix.BadLength h = cc
-is_the_fault suffix.BadCrc h = cc
-is_the_fault suffix.AlreadySuffixed h = cc
-is_the_fault suffix.NoMemory h = cc
-is_the_fault suffix.Read h = cc
-is_the_fault suffix.Write h = cc
 
 -- Without a fault the file is of another version.
 pub is_other : (b : List ℕ) → suffix_by None b ≡ Err NotDfuSe

@@ -1,16 +1,17 @@
 -- What reading targets has to do with the grammar.
 use Rattle.std.proofs.Common.{◌≡◌, ℕ, zero, suc, ◌^◌, ◌<◌, ◌≤◌, ◌&&◌, true, not, eqb, ltb, List, [], ◌∷◌, ◌++◌, length, take, drop, get_or, Result, Ok, refl, sym, ap, ◌∙◌, subst, arith, length-append, length-take, length-drop}
-use Rattle.std.proofs.lemmas.Bool.{eqb-true, ltb-false, not-false}
+use Rattle.std.proofs.lemmas.Bool.{eqb-true, ltb-false, not-false, and_parts, le-ltb}
 use Rattle.std.proofs.lemmas.List.{take-append-drop, take_at, drop_at, drop-drop}
 use Rattle.std.proofs.Math.Seq.{drop-cons}
+use Rattle.dfu_suffix.proofs.Bytes.{AreBytes-take, AreBytes-drop}
 use Rattle.dfu_suffix.specs.Laws.{AreBytes}
 use Rattle.dfu_images.specs.Elements.{Piece}
 use Rattle.dfuse_file.specs.declared.fault.FileFault.{FileFault}
 use Rattle.dfuse_file.specs.declared.fault.FileFault.TheVariants.{NoTarget, BadTargetSize}
 use Rattle.dfuse_file.specs.Reading.{Target, Heading, ◌>>=◌, number_at, elements_at, is_target, heading_at, target_of, before_targets, targets_at}
 use Rattle.dfuse_file.specs.Grammar.{four, spelled_elements, ElementsFit, target_letters, spelled_targets, TargetsFit}
-use Rattle.dfuse_file.proofs.Steps.{bound, passed, skip, same_ok, not_less, and_true}
-use Rattle.dfuse_file.proofs.Fields.{AreBytes-drop, AreBytes-take, cut, number_fits, number_is}
+use Rattle.dfuse_file.proofs.Steps.{bound, passed, skip, same_ok}
+use Rattle.dfuse_file.proofs.Fields.{cut, number_fits, number_is, six_cut}
 use Rattle.dfuse_file.proofs.ElementLaws.{elements_found, elements_read}
 
 -- A target is spelled so, with what stands behind it.
@@ -32,25 +33,20 @@ record Heads (b : List ℕ) (h : Heading) : Type 0 where
 -- Letters that are told one by one are those of Target.
 letters_are : (b : List ℕ) → 6 ≤ length b → is_target b ≡ true → b ≡ target_letters ++ drop 6 b
 letters_are b long h =
-    let s0 = and_true (eqb (get_or b 0 0) 84) (eqb (get_or b 1 0) 97 && (eqb (get_or b 2 0) 114 && (eqb (get_or b 3 0) 103
+    let s0 = and_parts (eqb (get_or b 0 0) 84) (eqb (get_or b 1 0) 97 && (eqb (get_or b 2 0) 114 && (eqb (get_or b 3 0) 103
     && (eqb (get_or b 4 0) 101 && eqb (get_or b 5 0) 116)))) h in
-    let s1 = and_true (eqb (get_or b 1 0) 97) (eqb (get_or b 2 0) 114 && (eqb (get_or b 3 0) 103 && (eqb (get_or b 4 0) 101
+    let s1 = and_parts (eqb (get_or b 1 0) 97) (eqb (get_or b 2 0) 114 && (eqb (get_or b 3 0) 103 && (eqb (get_or b 4 0) 101
     && eqb (get_or b 5 0) 116))) s0.1 in
-    let s2 = and_true (eqb (get_or b 2 0) 114) (eqb (get_or b 3 0) 103 && (eqb (get_or b 4 0) 101 && eqb (get_or b 5 0) 116)) s1.1 in
-    let s3 = and_true (eqb (get_or b 3 0) 103) (eqb (get_or b 4 0) 101 && eqb (get_or b 5 0) 116) s2.1 in
-    let s4 = and_true (eqb (get_or b 4 0) 101) (eqb (get_or b 5 0) 116) s3.1 in
+    let s2 = and_parts (eqb (get_or b 2 0) 114) (eqb (get_or b 3 0) 103 && (eqb (get_or b 4 0) 101 && eqb (get_or b 5 0) 116)) s1.1 in
+    let s3 = and_parts (eqb (get_or b 3 0) 103) (eqb (get_or b 4 0) 101 && eqb (get_or b 5 0) 116) s2.1 in
+    let s4 = and_parts (eqb (get_or b 4 0) 101) (eqb (get_or b 5 0) 116) s3.1 in
     let e0 = eqb-true (get_or b 0 0) 84 s0.0 in
     let e1 = eqb-true (get_or b 1 0) 97 s1.0 in
     let e2 = eqb-true (get_or b 2 0) 114 s2.0 in
     let e3 = eqb-true (get_or b 3 0) 103 s3.0 in
     let e4 = eqb-true (get_or b 4 0) 101 s4.0 in
     let e5 = eqb-true (get_or b 5 0) 116 s4.1 in
-    let c0 : b ≡ get_or b 0 0 ∷ drop 1 b = drop-cons b 0 0 (omega (arith, long)) in
-    let c1 : drop 1 b ≡ get_or b 1 0 ∷ drop 2 b = drop-cons b 1 0 (omega (arith, long)) in
-    let c2 : drop 2 b ≡ get_or b 2 0 ∷ drop 3 b = drop-cons b 2 0 (omega (arith, long)) in
-    let c3 : drop 3 b ≡ get_or b 3 0 ∷ drop 4 b = drop-cons b 3 0 (omega (arith, long)) in
-    let c4 : drop 4 b ≡ get_or b 4 0 ∷ drop 5 b = drop-cons b 4 0 (omega (arith, long)) in
-    let c5 : drop 5 b ≡ get_or b 5 0 ∷ drop 6 b = drop-cons b 5 0 (omega (arith, long)) in
+    let cells = six_cut b long in
     cc
 
 -- What is taken off stood there.
@@ -88,8 +84,8 @@ heading_found b h f e =
       name_fits = length-take 255 (drop 11 b) ∙ omega (arith, long, length-drop 11 b);
       size_fits = omega (arith, has, number_fits 266 b f);
       count_fits = number_fits 270 b f;
-      content_bytes = AreBytes-take n (drop 274 b) (AreBytes-drop 274 b f);
-      rest_bytes = AreBytes-drop n (drop 274 b) (AreBytes-drop 274 b f);
+      content_bytes = AreBytes-take n (drop 274 b) (AreBytes-drop b 274 f);
+      rest_bytes = AreBytes-drop (drop 274 b) n (AreBytes-drop b 274 f);
     })
 
 heading_same : (a a' n n' k k' : ℕ) (m m' e e' r r' : List ℕ) → a ≡ a' → n ≡ n' → m ≡ m' → k ≡ k' → e ≡ e' → r ≡ r' →
@@ -125,10 +121,10 @@ heading_read h fits =
     ∙ take_at h.content h.rest (number_at 266 b) (sym size) in
     let rest : drop (number_at 266 b) (drop 274 b) ≡ h.rest = ap (drop (number_at 266 b)) d274
     ∙ drop_at h.content h.rest (number_at 266 b) (sym size) in
-    skip (ltb (length b) 274) NoTarget _ _ (not_less (length b) 274 (omega (arith, length-append h.name sized, fits.name_fits)))
+    skip (ltb (length b) 274) NoTarget _ _ (le-ltb (length b) 274 (omega (arith, length-append h.name sized, fits.name_fits)))
     (skip (not (is_target b)) NoTarget _ _ refl
     (skip (ltb (length (drop 274 b)) (number_at 266 b)) BadTargetSize _ _
-    (not_less (length (drop 274 b)) (number_at 266 b) (omega (arith, ap length d274, length-append h.content h.rest, size)))
+    (le-ltb (length (drop 274 b)) (number_at 266 b) (omega (arith, ap length d274, length-append h.content h.rest, size)))
     (ap Ok (heading_same _ _ _ _ _ _ _ _ _ _ _ _ refl named name count content rest))))
 
 -- The bytes are these targets, so many, and nothing else.

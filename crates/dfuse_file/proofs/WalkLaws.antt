@@ -1,12 +1,12 @@
 -- Elements and targets, taken off one by one.
-use Rattle.std.proofs.Common.{◌≡◌, ℕ, zero, suc, true, false, eqb, List, [], ◌∷◌, length, Result, Ok, Err, refl, sym, ap, ◌∙◌, subst, arith}
+use Rattle.std.proofs.Common.{◌≡◌, ℕ, zero, suc, true, false, eqb, List, [], ◌∷◌, length, Result, Ok, Err, refl, sym, ap, ◌∙◌, subst, arith, ◌-◌, ◌≢◌}
 use Rattle.std.proofs.lemmas.Bool.{eqb-true}
 use Rattle.dfu_images.specs.Elements.{Piece}
 use Rattle.dfuse_file.specs.declared.fault.FileFault.{FileFault}
 use Rattle.dfuse_file.specs.declared.fault.FileFault.TheVariants.{BadTargetSize, Trailing}
 use Rattle.dfuse_file.specs.Reading.{Split, Target, Heading, ◌>>=◌, front_element, before_elements, elements_at, heading_at, target_of, before_targets, targets_at}
 use Rattle.dfuse_file.specs.Found.{found, fault_only}
-use Rattle.dfuse_file.proofs.Steps.{bound, same_ok}
+use Rattle.dfuse_file.proofs.Steps.{bound, same_ok, positive}
 
 -- A list without a length is empty.
 pub empty : {A : Type 0} (xs : List A) → eqb (length xs) 0 ≡ true → xs ≡ []
@@ -114,20 +114,27 @@ taken_off : (e : Piece) (r : Result (List Piece) FileFault) (xs : List Piece) �
 taken_off e (Ok es) xs h = record { rest = refl; is = refl }
 taken_off e (Err fault) xs h = cc
 
--- An element is taken off others.
-pub element_taken : (n : ℕ) (b : List ℕ) (s : Split) (xs : List Piece) → front_element b ≡ Ok s → elements_at (suc n) b ≡ Ok xs →
+one_taken : (n : ℕ) (b : List ℕ) (s : Split) (xs : List Piece) → front_element b ≡ Ok s → elements_at (suc n) b ≡ Ok xs →
     TakenOff (elements_at (suc n) b) (elements_at n s.rest) s.element
 unfolding elements_at
-element_taken n b s xs h e =
+one_taken n b s xs h e =
     let is = ap (λ (r : Result Split FileFault). r >>= λ s. before_elements s.element (elements_at n s.rest)) h in
     subst (λ (r : Result (List Piece) FileFault). TakenOff r (elements_at n s.rest) s.element) (sym is)
     (taken_off s.element (elements_at n s.rest) xs (sym is ∙ e))
 
+-- An element is taken off others, of which there are some.
+pub element_taken : (left : ℕ) (b : List ℕ) (s : Split) (xs : List Piece) → left ≢ 0 → front_element b ≡ Ok s → elements_at left b ≡ Ok xs →
+    TakenOff (elements_at left b) (elements_at (left - 1) s.rest) s.element
+element_taken left b s xs some h =
+    subst (λ (k : ℕ). elements_at k b ≡ Ok xs → TakenOff (elements_at k b) (elements_at (left - 1) s.rest) s.element) (sym (positive left some))
+    (one_taken (left - 1) b s xs h)
+
 -- So there is a first one.
-pub element_there : (n : ℕ) (b : List ℕ) (fault : FileFault) (xs : List Piece) → front_element b ≡ Err fault →
-    elements_at (suc n) b ≡ Ok xs → ⊥
+pub element_there : (left : ℕ) (b : List ℕ) (fault : FileFault) (xs : List Piece) → left ≢ 0 → front_element b ≡ Err fault →
+    elements_at left b ≡ Ok xs → ⊥
 unfolding elements_at
-element_there n b fault xs h e =
+element_there zero b fault xs some h e = some refl
+element_there (suc n) b fault xs some h e =
     let p = bound (front_element b) _ xs e in
     let one = p.1 in
     cc
@@ -150,19 +157,27 @@ target_off h (Ok es) (Ok ts) xs e = record { its = refl; rest = refl; is = refl 
 target_off h (Ok es) (Err fault) xs e = cc
 target_off h (Err fault) m xs e = cc
 
--- A target is taken off others.
-pub target_taken : (n : ℕ) (b : List ℕ) (h : Heading) (xs : List Target) → heading_at b ≡ Ok h → targets_at (suc n) b ≡ Ok xs →
+first_taken : (n : ℕ) (b : List ℕ) (h : Heading) (xs : List Target) → heading_at b ≡ Ok h → targets_at (suc n) b ≡ Ok xs →
     TargetTaken (targets_at (suc n) b) (targets_at n h.rest) (elements_at h.count h.content) h
 unfolding targets_at
-target_taken n b h xs h0 e =
+first_taken n b h xs h0 e =
     let is = ap (λ (r : Result Heading FileFault). r >>= λ h. elements_at h.count h.content >>= λ es. before_targets (target_of h es) (targets_at n h.rest)) h0 in
     subst (λ (r : Result (List Target) FileFault). TargetTaken r (targets_at n h.rest) (elements_at h.count h.content) h) (sym is)
     (target_off h (elements_at h.count h.content) (targets_at n h.rest) xs (sym is ∙ e))
 
+-- A target is taken off others, of which there are some.
+pub target_taken : (left : ℕ) (b : List ℕ) (h : Heading) (xs : List Target) → left ≢ 0 → heading_at b ≡ Ok h → targets_at left b ≡ Ok xs →
+    TargetTaken (targets_at left b) (targets_at (left - 1) h.rest) (elements_at h.count h.content) h
+target_taken left b h xs some e =
+    subst (λ (k : ℕ). targets_at k b ≡ Ok xs → TargetTaken (targets_at k b) (targets_at (left - 1) h.rest) (elements_at h.count h.content) h)
+    (sym (positive left some)) (first_taken (left - 1) b h xs e)
+
 -- So there is a first target.
-pub target_there : (n : ℕ) (b : List ℕ) (fault : FileFault) (xs : List Target) → heading_at b ≡ Err fault → targets_at (suc n) b ≡ Ok xs → ⊥
+pub target_there : (left : ℕ) (b : List ℕ) (fault : FileFault) (xs : List Target) → left ≢ 0 → heading_at b ≡ Err fault →
+    targets_at left b ≡ Ok xs → ⊥
 unfolding targets_at
-target_there n b fault xs h e =
+target_there zero b fault xs some h e = some refl
+target_there (suc n) b fault xs some h e =
     let p = bound (heading_at b) _ xs e in
     let one = p.1 in
     cc

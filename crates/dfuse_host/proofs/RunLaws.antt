@@ -40,7 +40,8 @@ pub plan_told : (s : Session) (w : Work) (p : Place) (at : Step) (h : Heard) →
 plan_told s w p at heard.Restarted = plan_restart s w p at
 plan_told s w p at h = refl
 
-plan_after : (s : Session) (p : Phase) (h : Heard) → (dfuse_after_phase s p h).plan ≡ s.plan
+-- So does its next step.
+pub plan_after : (s : Session) (p : Phase) (h : Heard) → (dfuse_after_phase s p h).plan ≡ s.plan
 plan_after s (Over r) h = refl
 plan_after s (On at) h = plan_told s at.work at.place at.step h
 

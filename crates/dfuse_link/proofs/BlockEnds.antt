@@ -1,6 +1,7 @@
 -- How far blocks go, and where a block can be read.
-use Rattle.std.proofs.Common.{◌≡◌, ℕ, ◌-◌, ◌/◌, ◌%◌, ◌<◌, ◌≤◌, ◌&&◌, max, Bool, true, false, eqb, leb, Option, Some, None, ap, ◌∙◌, arith}
+use Rattle.std.proofs.Common.{◌≡◌, ℕ, ◌-◌, ◌/◌, ◌%◌, ◌<◌, ◌≤◌, max, Bool, true, false, eqb, leb, Option, Some, None, ap, refl, ◌∙◌, arith}
 use Rattle.std.proofs.lemmas.Bool.Decides.{nat_tests}
+use Rattle.std.proofs.lemmas.Bool.{and_from, le-leb, eq-eqb}
 use Rattle.dfuse_host.specs.declared.element.Element.{Element}
 use Rattle.dfuse_host.specs.declared.plan.Plan.{Plan}
 use Rattle.dfuse_host.specs.Images.{element_at}
@@ -8,16 +9,6 @@ use Rattle.dfuse_host.specs.Plans.{page_end, block_size, write_end, read_end}
 use Rattle.dfuse_host.specs.ReadBack.{HasByte}
 use Rattle.dfuse_host.specs.Settling.{can_read}
 use Rattle.dfuse_link.proofs.NextBytes.{held, ends_behind}
-
-both_true : (x y : Bool) → x ≡ true → y ≡ true → (x && y) ≡ true
-both_true true y e f = f
-both_true false y e f = cc
-
-at_most_itself : (a : ℕ) → leb a a ≡ true
-at_most_itself a = grind (arith, nat_tests)
-
-is_itself : (a : ℕ) → eqb a a ≡ true
-is_itself a = grind (arith, nat_tests)
 
 none_over : (a : ℕ) → a - a ≡ 0
 none_over a = omega arith
@@ -31,13 +22,10 @@ no_block n some = grind arith
 few : leb 0 65533 ≡ true
 few = grind (arith, nat_tests)
 
-at_least : (m n : ℕ) → m ≤ n → leb m n ≡ true
-at_least m n h = grind (arith, nat_tests)
-
 element_by : (plan : Plan) (a : ℕ) (e : Element) → element_at a plan.image.now ≡ Some e → e.address ≤ a →
     elim (element_at a plan.image.now) as (λ _. Bool) [ None ↦ false | Some x ↦ leb x.address a ] ≡ true
 element_by plan a e is low =
-    ap (λ (o : Option Element). elim o as (λ _. Bool) [ None ↦ false | Some x ↦ leb x.address a ]) is ∙ at_least e.address a low
+    ap (λ (o : Option Element). elim o as (λ _. Bool) [ None ↦ false | Some x ↦ leb x.address a ]) is ∙ le-leb e.address a low
 
 -- A byte can be read from where the pointer is set to it.
 pub reads_itself : (plan : Plan) (a : ℕ) → HasByte a plan.image.now → can_read plan a a ≡ true
@@ -48,12 +36,12 @@ reads_itself plan a b =
     let whole : eqb ((a - a) % block_size plan) 0 ≡ true =
     ap (λ (x : ℕ). eqb (x % block_size plan) 0) (none_over a)
     ∙ ap (λ (x : ℕ). eqb x 0) (no_rest (block_size plan) size)
-    ∙ is_itself 0 in
+    ∙ eq-eqb 0 0 refl in
     let first : leb ((a - a) / block_size plan) 65533 ≡ true =
     ap (λ (x : ℕ). leb (x / block_size plan) 65533) (none_over a)
     ∙ ap (λ (x : ℕ). leb x 65533) (no_block (block_size plan) size)
     ∙ few in
-    both_true _ _ (at_most_itself a) (both_true _ _ whole (both_true _ _ first (element_by plan a h.element h.is h.low)))
+    and_from _ _ (le-leb a a (omega arith)) (and_from _ _ whole (and_from _ _ first (element_by plan a h.element h.is h.low)))
 
 -- A block that is read goes behind its first byte.
 pub read_goes : (plan : Plan) (a end : ℕ) → HasByte a plan.image.now → a < end → a < read_end plan a end

@@ -1,7 +1,7 @@
 -- The byte of an image at an address.
-use Rattle.std.proofs.Common.{◌≡◌, ℕ, suc, ◌+◌, ◌-◌, ◌<◌, ◌≤◌, ◌^◌, ◌&&◌, ◌⊎◌, inl, inr, Bool, true, false, cond, leb, List, [], ◌∷◌, get_or, take, drop, Option, Some, None, refl, sym, ap, ◌∙◌, subst, arith}
+use Rattle.std.proofs.Common.{◌≡◌, ℕ, suc, ◌+◌, ◌-◌, ◌<◌, ◌≤◌, ◌^◌, ◌⊎◌, inl, inr, Bool, true, false, cond, leb, List, [], ◌∷◌, get_or, take, drop, Option, Some, None, refl, sym, ap, ◌∙◌, subst, arith}
 use Rattle.std.specs.List.{All, AllByRecursion}
-use Rattle.std.proofs.lemmas.Bool.{leb-true}
+use Rattle.std.proofs.lemmas.Bool.{leb-true, and_parts}
 use Rattle.std.proofs.lemmas.Bool.Decides.{nat_tests}
 use Rattle.std.proofs.lemmas.List.{get_or-take, get_or-drop}
 use Rattle.dfuse_memory.specs.declared.pages.Access.{Access}
@@ -14,6 +14,7 @@ use Rattle.dfuse_host.specs.Images.{end_of, holds, element_at}
 use Rattle.dfuse_host.specs.Refusing.{apart_from, EachGranted}
 use Rattle.dfuse_host.specs.ReadBack.{HasByte}
 use Rattle.dfuse_link.specs.Reactions.{StandsAt}
+use Rattle.dfuse_link.proofs.OnPages.{range_step}
 
 -- The byte of an element, if there is one.
 abbrev pub byte_of : (a : ℕ) → Option Element → ℕ
@@ -24,11 +25,8 @@ byte_of a (Some e) = get_or e.bytes.now (a - e.address) 0
 abbrev pub byte_at : (a : ℕ) → List Element → ℕ
 byte_at a es = byte_of a (element_at a es)
 
-and_true : (a b : Bool) → (a && b) ≡ true → (a ≡ true) × (b ≡ true)
-and_true true b h = (refl, h)
-and_true false b h = (h, cc)
-
-element_step : (at : ℕ) (e : Element) (es : List Element) → element_at at (e ∷ es) ≡ cond (holds at e) (Some e) (element_at at es)
+-- The element at an address is the first one if it holds the address, and else one of the others.
+pub element_step : (at : ℕ) (e : Element) (es : List Element) → element_at at (e ∷ es) ≡ cond (holds at e) (Some e) (element_at at es)
 unfolding element_at
 element_step at e es = refl
 
@@ -60,7 +58,7 @@ pub found_at : (at from : ℕ) (e : Element) (es : List Element) → apart_from 
     (from ≤ e.address) × (e.address ≤ at) × (at < end_of e)
 found_at at from e [] apart h = absurd (none_in at e h)
 found_at at from e (x ∷ xs) apart h =
-    let both = and_true (leb from x.address) (apart_from (end_of x) xs) apart in
+    let both = and_parts (leb from x.address) (apart_from (end_of x) xs) apart in
     let low = leb-true from x.address both.0 in
     elim (first_or at x e xs h) [
       | inl w ↦
@@ -80,7 +78,7 @@ pub same_element : (at a from : ℕ) (e : Element) (es : List Element) → apart
     a < end_of e → element_at a es ≡ Some e
 same_element at a from e [] apart h low high = absurd (none_in at e h)
 same_element at a from e (x ∷ xs) apart h low high =
-    let both = and_true (leb from x.address) (apart_from (end_of x) xs) apart in
+    let both = and_parts (leb from x.address) (apart_from (end_of x) xs) apart in
     elim (first_or at x e xs h) [
       | inl w ↦
           let held = held_in at x w.1 in
@@ -95,7 +93,7 @@ same_element at a from e (x ∷ xs) apart h low high =
 pub lower : (from a : ℕ) (es : List Element) → apart_from from es ≡ true → HasByte a es → from ≤ a
 lower from a [] h b = absurd b
 lower from a (e ∷ es) h b =
-    let both = and_true (leb from e.address) (apart_from (end_of e) es) h in
+    let both = and_parts (leb from e.address) (apart_from (end_of e) es) h in
     let first = leb-true from e.address both.0 in
     elim b [ inl w ↦ omega (arith, first, w.0) | inr w ↦ omega (arith, first, lower (end_of e) a es both.1 w) ]
 
@@ -124,17 +122,13 @@ pub all_stands : (memory : ℕ → ℕ) (from : ℕ) (es : List Element) → apa
     AllByRecursion (λ (e : Element). StandsAt memory e.address e.bytes.now) es
 all_stands memory from [] apart h = tt
 all_stands memory from (e ∷ es) apart h =
-    let both = and_true (leb from e.address) (apart_from (end_of e) es) apart in (
+    let both = and_parts (leb from e.address) (apart_from (end_of e) es) apart in (
       first_stands memory e es h,
       all_stands memory (end_of e) es both.1
           (λ a b. h a (inr b) ∙ ap (byte_of a) (pass_first a e es (not_before a e (lower (end_of e) a es both.1 b)))),
     )
 
 -- ---- a byte of the image has an address
-
-range_step : (a : ℕ) (p : Pages) (ps : List Pages) → range_at a (p ∷ ps) ≡ cond (has a p) (Some p) (range_at a ps)
-unfolding range_at
-range_step a p ps = refl
 
 no_range : (wanted : Access) (a : ℕ) → IsGranted wanted (range_at a []) → ⊥
 unfolding range_at

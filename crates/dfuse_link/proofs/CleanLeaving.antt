@@ -1,6 +1,6 @@
 -- How long it takes to leave.
 use Rattle.std.proofs.Common.{◌≡◌, ℕ, suc, ◌+◌, ◌*◌, Bool, true, false, cond, eqb, Option, Some, None, refl, ap, ◌∙◌, subst, arith}
-use Rattle.std.proofs.lemmas.Bool.Decides.{nat_tests}
+use Rattle.std.proofs.lemmas.Bool.{eq-eqb}
 use Rattle.dfuse_host.specs.declared.plan.Plan.{Plan}
 use Rattle.dfuse_host.specs.declared.phase.Phase.TheVariants.{Over}
 use Rattle.dfuse_host.specs.declared.work.Work.TheVariants as work
@@ -15,9 +15,6 @@ use Rattle.dfuse_link.specs.Counts.{sets_to_start}
 use Rattle.dfuse_link.proofs.Lasting.{Lasts, count_as, phase_as, lasts_over}
 use Rattle.dfuse_link.proofs.CleanSteps.{lasts_end, lasts_close, lasts_command}
 use Rattle.dfuse_link.proofs.CleanWriting.{place_of, owed}
-
-same_number : (n : ℕ) → eqb n n ≡ true
-same_number n = grind (arith, nat_tests)
 
 leaves_from : (plan : Plan) (p : Place) → plan.leaves ≡ true → to_leave plan p ≡ leaving_by plan p
 unfolding to_leave
@@ -57,7 +54,7 @@ module _ (plan : Plan) (leaves : plan.leaves ≡ true) where
   set_to_start : (p : Place) → Lasts plan (stand work.Leave p step.Send) (4 + 2) (1 + 0)
   set_to_start p =
       lasts_command plan work.Leave p 2 0
-      (phase_as plan _ _ 2 0 (settles_leave plan (place.At plan.start)) (closes_there plan.start (same_number plan.start)))
+      (phase_as plan _ _ 2 0 (settles_leave plan (place.At plan.start)) (closes_there plan.start (eq-eqb plan.start plan.start refl)))
 
   leave_at : (x : ℕ) (t : Bool) → eqb x plan.start ≡ t →
       Lasts plan (to_leave plan (place.At x)) (4 * cond t 0 1 + 2) (cond t 0 1)

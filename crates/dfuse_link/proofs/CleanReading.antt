@@ -1,7 +1,6 @@
 -- How long it takes to read back.
 use Rattle.std.proofs.Common.{◌≡◌, ℕ, suc, ◌+◌, ◌*◌, ◌≤◌, Bool, true, false, cond, eqb, Option, Some, None, refl, sym, ap, ◌∙◌, subst, arith}
-use Rattle.std.proofs.lemmas.Bool.{eqb-true}
-use Rattle.std.proofs.lemmas.Bool.Decides.{nat_tests}
+use Rattle.std.proofs.lemmas.Bool.{eqb-true, eq-eqb}
 use Rattle.dfuse_host.specs.declared.plan.Plan.{Plan}
 use Rattle.dfuse_host.specs.declared.phase.Phase.{Phase}
 use Rattle.dfuse_host.specs.declared.work.Work.{Work}
@@ -32,9 +31,6 @@ pub record IsReading (plan : Plan) (works : ℕ → Work) (here : Place → ℕ 
   pub settles : (p : Place) (b : ℕ) → settle plan (works b) p ≡ here p b
   pub reads : (b : ℕ) → read_on plan (works b) ≡ works (read_end plan b end)
 
-same_number : (n : ℕ) → eqb n n ≡ true
-same_number n = grind (arith, nat_tests)
-
 module _ (plan : Plan) where
   -- From another address than that which can be read.
   other_by : (x b : ℕ) (t : Bool) → eqb x b ≡ t → HasByte b plan.image.now → can_read plan x b ≡ false → t ≡ false
@@ -48,7 +44,7 @@ module _ (plan : Plan) where
   sends_from x b has not_so = ap (λ (t : Bool). cond t step.BeginReading step.Send) (other_by x b (eqb x b) refl has not_so)
 
   begins_from : (b : ℕ) → comparing plan b (place.At b) ≡ step.BeginReading
-  begins_from b = ap (λ (t : Bool). cond t step.BeginReading step.Send) (same_number b)
+  begins_from b = ap (λ (t : Bool). cond t step.BeginReading step.Send) (eq-eqb b b refl)
 
   by_reach : (x b : ℕ) (t : Bool) → can_read plan x b ≡ t → comparing plan b (place.Reading x) ≡ cond t step.Read step.EndReading
   by_reach x b t e = ap (λ (u : Bool). cond u step.Read step.EndReading) e

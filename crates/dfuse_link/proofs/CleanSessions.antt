@@ -1,5 +1,6 @@
 -- How long a session lasts from which nothing gets lost.
 use Rattle.std.proofs.Common.{◌≡◌, ℕ, suc, ◌+◌, ◌*◌, max, Bool, true, false, cond, Option, Some, None, refl, sym, ◌∙◌, arith}
+use Rattle.std.proofs.lemmas.Bool.{false_from_ne_true}
 use Rattle.dfuse_host.specs.declared.plan.Plan.{Plan}
 use Rattle.dfuse_host.specs.declared.work.Work.TheVariants as work
 use Rattle.dfuse_host.specs.declared.place.Place.TheVariants as place
@@ -8,21 +9,17 @@ use Rattle.dfuse_host.specs.Images.{image_start, image_end}
 use Rattle.dfuse_host.specs.Plans.{front_end}
 use Rattle.dfuse_host.specs.Refusing.{has_empty, is_empty}
 use Rattle.dfuse_host.specs.Settling.{stand, byte_in, to_leave, to_compare_front, to_write_front, to_compare, to_write}
+use Rattle.dfuse_host.proofs.TouchedBytes.{filled}
 use Rattle.dfuse_link.specs.Counts.{IsPlanned, BlocksWritten, no_block, PlanCounts, BlocksRead, no_read, set_anew, read_on, sets_to_start, pointer_at_last, commands, requests, CleanRunsAreCounted}
 use Rattle.dfuse_link.proofs.Lasting.{Lasts, count_as, phase_as}
 use Rattle.dfuse_link.proofs.CleanSteps.{lasts_abort, lasts_ask_state}
-use Rattle.dfuse_link.proofs.NextBytes.{no_empty}
 use Rattle.dfuse_link.proofs.CleanWriting.{place_of, owed, erase_lasts, write_lasts, write_lasts_from}
 use Rattle.dfuse_link.proofs.CleanReading.{read_lasts, reads_behind}
 use Rattle.dfuse_link.proofs.CleanLeaving.{leave_takes, leave_waits, leaving_lasts}
 use Rattle.dfuse_link.proofs.CleanWorks.{write_front_none, compare_front_none, settles_erase, writing_rest, writing_front, reading_rest, reading_front}
 
-not_true : (t : Bool) → (t ≡ true → ⊥) → t ≡ false
-not_true true h = absurd (h refl)
-not_true false h = refl
-
 pub is_filled : (plan : Plan) → IsPlanned plan → has_empty plan.image.now ≡ false
-is_filled plan ready = no_empty plan.image.now (not_true (is_empty plan.image.now) ready.sound.0.0.0.0.0.0.1)
+is_filled plan ready = filled plan.image.now (false_from_ne_true (is_empty plan.image.now) ready.sound.0.0.0.0.0.0.1)
 
 not_both : (b : ℕ) → Some b ≡ None → ⊥
 not_both b e = cc

@@ -1,8 +1,8 @@
 -- What each request and wait of a clean run leads to.
-use Rattle.std.proofs.Common.{◌≡◌, ℕ, zero, suc, ◌+◌, ◌<◌, Bool, true, cond, eqb, List, [], ◌∷◌, length, slice_index_or, refl, sym, ap, ◌∙◌, subst, arith}
+use Rattle.std.proofs.Common.{◌≡◌, ℕ, zero, suc, ◌+◌, ◌<◌, Bool, true, cond, List, [], ◌∷◌, length, slice_index_or, refl, sym, ap, ◌∙◌, subst, arith}
 use Rattle.std.specs.Str.{bytes_eq}
-use Rattle.std.proofs.lemmas.Bool.Decides.{nat_tests}
 use Rattle.std.proofs.lemmas.Slice.Eq.{bytes_eq-Decides}
+use Rattle.std.proofs.lemmas.Bool.{eq-eqb}
 use Rattle.dfu_wire.specs.declared.codes.Code.{Code}
 use Rattle.dfu_wire.specs.declared.codes.Code.TheVariants as code
 use Rattle.dfu_wire.specs.declared.states.State.{State}
@@ -29,16 +29,13 @@ use Rattle.dfuse_host.specs.Table.{state_found, polled, reading_begun, reading_e
 use Rattle.dfuse_host.specs.Wire.{DfuseReadsStatus, DfuseReadsState, DfuseHears, compared}
 use Rattle.dfuse_host.proofs.ForCallers.{AnyHeard, by_heard, compared_as, heard_nothing}
 use Rattle.dfuse_link.specs.CleanRuns.{IsGiven, TellsStatus, TellsBusy, TellsState}
-use Rattle.dfuse_link.proofs.Heards.{one_state}
+use Rattle.dfu_wire.specs.OneState.{one_state}
 use Rattle.dfuse_link.proofs.Lasting.{one_wait, session_at, Lasts, count_as, Onward, lasts_on, asked, acked}
-
-same_length : (n : ℕ) → eqb n n ≡ true
-same_length n = grind (arith, nat_tests)
 
 -- Bytes that are the image's are found to be so.
 compared_same : (xs : List ℕ) → compared xs xs ≡ compared_as true
 compared_same xs =
-    ap (λ (t : Bool). cond t (compared_as (bytes_eq xs xs)) heard_nothing) (same_length (length xs))
+    ap (λ (t : Bool). cond t (compared_as (bytes_eq xs xs)) heard_nothing) (eq-eqb (length xs) (length xs) refl)
     ∙ ap compared_as ((bytes_eq-Decides xs xs).1 refl)
 
 module _ (plan : Plan) (w : Work) (p : Place) where

@@ -1,6 +1,7 @@
 -- How long it takes to erase, and to write.
-use Rattle.std.proofs.Common.{◌≡◌, ℕ, suc, ◌+◌, ◌*◌, ◌<◌, ◌≤◌, Bool, true, false, cond, eqb, Option, Some, None, refl, ap, ◌∙◌, arith}
+use Rattle.std.proofs.Common.{◌≡◌, ℕ, suc, ◌+◌, ◌*◌, ◌<◌, ◌≤◌, Bool, false, cond, eqb, Option, Some, None, refl, ap, ◌∙◌, arith}
 use Rattle.std.proofs.lemmas.Bool.Decides.{nat_tests}
+use Rattle.std.proofs.lemmas.Bool.{eq-eqb}
 use Rattle.dfuse_host.specs.declared.plan.Plan.{Plan}
 use Rattle.dfuse_host.specs.declared.phase.Phase.{Phase}
 use Rattle.dfuse_host.specs.declared.work.Work.{Work}
@@ -63,14 +64,11 @@ pub record IsWriting (plan : Plan) (works : ℕ → Work) (here : Place → ℕ 
   pub settles : (p : Place) (b : ℕ) → settle plan (works b) p ≡ here p b
   pub writes : (at b : ℕ) → IsByteIn plan at end b → done plan (works b) (write_at b) ≡ here place.Lost (write_end plan b end)
 
-same_number : (n : ℕ) → eqb n n ≡ true
-same_number n = grind (arith, nat_tests)
-
 other_number : (m n : ℕ) → n < m → eqb m n ≡ false
 other_number m n h = grind (arith, nat_tests)
 
 writes_there : (b : ℕ) → writing (place.At b) b ≡ write_at b
-writes_there b = ap (λ (t : Bool). cond t (write_at b) (set_address b)) (same_number b)
+writes_there b = ap (λ (t : Bool). cond t (write_at b) (set_address b)) (eq-eqb b b refl)
 
 points_there : (x b : ℕ) → b < x → writing (place.At x) b ≡ set_address b
 points_there x b h = ap (λ (t : Bool). cond t (write_at b) (set_address b)) (other_number x b h)

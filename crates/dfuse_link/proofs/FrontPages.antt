@@ -1,24 +1,24 @@
 -- The front, and the page that it is on.
-use Rattle.std.proofs.Common.{◌≡◌, ℕ, ◌%◌, ◌^◌, ◌<◌, ◌≤◌, ◌&&◌, ◌||◌, inl, inr, max, Bool, true, false, cond, eqb, ltb, leb, List, [], ◌∷◌, length, Some, None, refl, sym, ap, ◌∙◌, arith}
-use Rattle.std.proofs.lemmas.Bool.{cases_lt}
-use Rattle.std.proofs.lemmas.Bool.Decides.{nat_tests}
+use Rattle.std.proofs.Common.{◌≡◌, ℕ, ◌%◌, ◌^◌, ◌<◌, ◌≤◌, inl, inr, max, Bool, true, false, cond, eqb, List, [], ◌∷◌, length, Some, None, sym, ap, ◌∙◌, arith}
+use Rattle.std.proofs.lemmas.Bool.{cases_lt, or_parts, lt-ltb}
 use Rattle.dfuse_memory.specs.Ranges.{are_apart}
 use Rattle.dfuse_memory.specs.Lookups.{OnePage}
 use Rattle.dfuse_host.specs.declared.element.Element.{Element}
 use Rattle.dfuse_host.specs.declared.plan.Plan.{Plan}
 use Rattle.dfuse_host.specs.Images.{end_of, next_byte, image_start, image_end}
 use Rattle.dfuse_host.specs.Plans.{page_start, page_end, front_end}
-use Rattle.dfuse_host.specs.Refusing.{has_empty, is_empty, apart_from}
+use Rattle.dfuse_host.specs.Refusing.{has_empty, is_empty}
 use Rattle.dfuse_host.specs.ReadBack.{HasByte}
 use Rattle.dfuse_host.specs.Settling.{if_before, byte_in}
+use Rattle.dfuse_host.proofs.ImageLaws.{from_start}
 use Rattle.dfuse_link.specs.Chips.{Chip}
 use Rattle.dfuse_link.specs.Promises.{IsFor}
 use Rattle.dfuse_link.specs.Touched.{IsTrueMap}
 use Rattle.dfuse_link.specs.Fronts.{IsOfFront, IsElsewhere, ErasesFront}
-use Rattle.dfuse_link.proofs.Bytes.{lower}
 use Rattle.dfuse_link.proofs.OnPages.{starts_at, ends_at, also_on, has_page}
 use Rattle.dfuse_link.proofs.OwnTurns.{is_filled}
 use Rattle.dfuse_link.proofs.Turns.{is_apart}
+use Rattle.dfuse_link.proofs.NextBytes.{some_bytes}
 
 -- What the law of mixtures asks of a device and its plan.
 pub record Mixable (chip : Chip) (plan : Plan) : Type 0 where
@@ -27,26 +27,12 @@ pub record Mixable (chip : Chip) (plan : Plan) : Type 0 where
   pub map : IsTrueMap chip plan
   pub erases : ErasesFront chip plan
 
-or_false : (a b : Bool) → (a || b) ≡ false → (a ≡ false) × (b ≡ false)
-or_false true b h = (h, cc)
-or_false false b h = (refl, h)
-
-and_true : (a b : Bool) → (a && b) ≡ true → (a ≡ true) × (b ≡ true)
-and_true true b h = (refl, h)
-and_true false b h = (h, cc)
-
-some_bytes : (e : Element) → eqb (length e.bytes.now) 0 ≡ false → e.address < end_of e
-some_bytes e h = grind (arith, nat_tests)
-
-less : (m n : ℕ) → m < n → ltb m n ≡ true
-less m n h = grind (arith, nat_tests)
-
 -- ---- the first byte
 
 first_element : (e : Element) (es : List Element) → is_empty (e ∷ es) ≡ false → e.address < end_of e
 first_element e es h =
-    let all = or_false (eqb (length (e ∷ es)) 0) (has_empty (e ∷ es)) h in
-    some_bytes e (or_false (eqb (length e.bytes.now) 0) (has_empty es) all.1).0
+    let all = or_parts (eqb (length (e ∷ es)) 0) (has_empty (e ∷ es)) h in
+    some_bytes e (or_parts (eqb (length e.bytes.now) 0) (has_empty es) all.1).0
 
 -- What is so of the first byte.
 record IsFirstByte (es : List Element) : Type 0 where
@@ -62,21 +48,13 @@ first_byte (e ∷ es) h =
     let here : max e.address e.address ≡ e.address = omega arith in
     record {
       has = inl (omega arith, some);
-      next = ap (λ (t : Bool). cond t (Some (max e.address e.address)) (next_byte e.address es)) (less e.address (end_of e) some)
+      next = ap (λ (t : Bool). cond t (Some (max e.address e.address)) (next_byte e.address es)) (lt-ltb e.address (end_of e) some)
           ∙ ap Some here;
       within = omega (arith, some);
     }
 
--- Each byte lies from the first one on.
-pub from_start : (a : ℕ) (es : List Element) → apart_from 0 es ≡ true → HasByte a es → image_start es ≤ a
-unfolding image_start
-from_start a [] h b = absurd b
-from_start a (e ∷ es) h b =
-    let both = and_true (leb 0 e.address) (apart_from (end_of e) es) h in
-    elim b [ inl w ↦ w.0 | inr w ↦ omega (arith, lower (end_of e) a es both.1 w) ]
-
 before_step : (end b : ℕ) → b < end → if_before end (Some b) ≡ Some b
-before_step end b h = ap (λ (t : Bool). cond t (Some b) None) (less b end h)
+before_step end b h = ap (λ (t : Bool). cond t (Some b) None) (lt-ltb b end h)
 
 first_in : (plan : Plan) → IsFirstByte plan.image.now →
     byte_in plan (image_start plan.image.now) (image_end plan.image.now) ≡ Some (image_start plan.image.now)

@@ -11,11 +11,12 @@ use Rattle.dfuse_host.specs.declared.step.Step.TheVariants as step
 use Rattle.dfuse_host.specs.Images.{image_start, image_end}
 use Rattle.dfuse_host.specs.Plans.{page_start, front_end}
 use Rattle.dfuse_host.specs.Settling.{stand, byte_in, leaving_by, staying, to_leave, compare_front_or, to_compare_front, write_front_or, to_write_front, compare_or, to_compare, write_or, to_write, erase_or, to_erase}
+use Rattle.dfuse_host.proofs.TouchedBytes.{filled}
 use Rattle.dfuse_memory.specs.Lookups.{OnePage}
 use Rattle.dfuse_link.specs.Chips.{Chip, Device}
 use Rattle.dfuse_link.specs.Fronts.{FrontIsBlank}
 use Rattle.dfuse_link.proofs.Claims.{IsQuiet}
-use Rattle.dfuse_link.proofs.NextBytes.{byte_is, no_empty}
+use Rattle.dfuse_link.proofs.NextBytes.{byte_is}
 use Rattle.dfuse_link.proofs.OwnTurns.{is_filled}
 use Rattle.dfuse_link.proofs.GroupRows.{GoesIn}
 use Rattle.dfuse_link.proofs.FrontPages.{Mixable, of_front}
@@ -80,7 +81,7 @@ module _ (one : OnePage) (chip : Chip) (plan : Plan) (m : Mixable chip plan) (G 
   write_front_by : (p : Place) (at : ℕ) (o : Option ℕ) → byte_in plan at (front_end plan) ≡ o → GoesIn G B (write_front_or plan p o)
   write_front_by p at None e = compare_front_goes p (image_start plan.image.now)
   write_front_by p at (Some c) e =
-      let b = byte_is plan at (front_end plan) c (no_empty plan.image.now (is_filled chip plan m.for)) e in
+      let b = byte_is plan at (front_end plan) c (filled plan.image.now (is_filled chip plan m.for)) e in
       inl (wf c (of_front one chip plan m c b.has b.to))
 
   pub write_front_goes : (p : Place) (at : ℕ) → GoesIn G B (to_write_front plan p at)

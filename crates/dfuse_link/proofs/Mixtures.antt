@@ -24,7 +24,7 @@ use Rattle.dfuse_link.proofs.Groups.{Placed, Erasing, Behind, Blanked}
 use Rattle.dfuse_link.proofs.Own.{OwnIn, phase_own}
 use Rattle.dfuse_link.proofs.OwnTurns.{is_filled}
 use Rattle.dfuse_link.proofs.Rows.{turn_row}
-use Rattle.dfuse_link.proofs.Sessions.{plan_after}
+use Rattle.dfuse_host.proofs.RunLaws.{plan_after}
 use Rattle.dfuse_link.proofs.Spared.{Before, erasing_none, behind_none, before_spares}
 use Rattle.dfuse_link.proofs.Staying.{InPhase, turn_stays, passes_stays}
 use Rattle.dfuse_link.proofs.Passing.{passes_so}

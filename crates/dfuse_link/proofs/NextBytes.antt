@@ -1,26 +1,22 @@
 -- Where the next byte of an image is, and how far a block goes.
-use Rattle.std.proofs.Common.{◌≡◌, ℕ, ◌<◌, ◌≤◌, ◌||◌, inl, inr, max, Bool, true, false, cond, eqb, ltb, List, [], ◌∷◌, length, Option, Some, None, refl, sym, ap, ◌∙◌, arith}
-use Rattle.std.proofs.lemmas.Bool.{ltb-true, ltb-false}
+use Rattle.std.proofs.Common.{◌≡◌, ℕ, ◌<◌, ◌≤◌, inl, inr, max, Bool, true, false, cond, eqb, ltb, List, [], ◌∷◌, length, Option, Some, None, refl, sym, ap, ◌∙◌, arith}
+use Rattle.std.proofs.lemmas.Bool.{ltb-true, ltb-false, or_parts, lt-ltb, le-ltb}
 use Rattle.std.proofs.lemmas.Bool.Decides.{nat_tests}
+use Rattle.std.proofs.lemmas.Option.{cond_some}
+use Rattle.dfuse_link.proofs.Bytes.{element_step}
 use Rattle.dfuse_host.specs.declared.element.Element.{Element}
 use Rattle.dfuse_host.specs.declared.plan.Plan.{Plan}
 use Rattle.dfuse_host.specs.Images.{end_of, holds, element_at, next_byte}
 use Rattle.dfuse_host.specs.Plans.{element_end}
-use Rattle.dfuse_host.specs.Refusing.{has_empty, is_empty}
+use Rattle.dfuse_host.specs.Refusing.{has_empty}
 use Rattle.dfuse_host.specs.ReadBack.{HasByte}
 use Rattle.dfuse_host.specs.Settling.{if_before, byte_in}
 
 -- ---- the next byte
 
-or_false : (a b : Bool) → (a || b) ≡ false → (a ≡ false) × (b ≡ false)
-or_false true b h = (h, cc)
-or_false false b h = (refl, h)
-
-some_bytes : (e : Element) → eqb (length e.bytes.now) 0 ≡ false → e.address < end_of e
+-- An element with bytes ends behind its address.
+pub some_bytes : (e : Element) → eqb (length e.bytes.now) 0 ≡ false → e.address < end_of e
 some_bytes e h = grind (arith, nat_tests)
-
-pub no_empty : (es : List Element) → is_empty es ≡ false → has_empty es ≡ false
-no_empty es h = (or_false (eqb (length es) 0) (has_empty es) h).1
 
 next_step : (at : ℕ) (e : Element) (es : List Element) →
     next_byte at (e ∷ es) ≡ cond (ltb at (end_of e)) (Some (max at e.address)) (next_byte at es)
@@ -30,12 +26,6 @@ next_step at e es = refl
 next_nil : (at c : ℕ) → next_byte at [] ≡ Some c → ⊥
 unfolding next_byte
 next_nil at c h = cc
-
-less : (m n : ℕ) → m < n → ltb m n ≡ true
-less m n h = grind (arith, nat_tests)
-
-not_less : (m n : ℕ) → n ≤ m → ltb m n ≡ false
-not_less m n h = grind (arith, nat_tests)
 
 -- The next byte is in the first element that ends behind the address, and it is the next one of itself.
 record IsNext (at c : ℕ) (es : List Element) : Type 0 where
@@ -54,7 +44,7 @@ next_by at c e es true h some rest f =
       from = omega (arith, same);
       has = inl (omega (arith, same), within);
       itself = next_step c e es
-          ∙ ap (λ (t : Bool). cond t (Some (max c e.address)) (next_byte c es)) (less c (end_of e) within)
+          ∙ ap (λ (t : Bool). cond t (Some (max c e.address)) (next_byte c es)) (lt-ltb c (end_of e) within)
           ∙ ap Some here;
     }
 next_by at c e es false h some rest f =
@@ -64,25 +54,19 @@ next_by at c e es false h some rest f =
       from = r.from;
       has = inr r.has;
       itself = next_step c e es
-          ∙ ap (λ (t : Bool). cond t (Some (max c e.address)) (next_byte c es)) (not_less c (end_of e) past)
+          ∙ ap (λ (t : Bool). cond t (Some (max c e.address)) (next_byte c es)) (le-ltb c (end_of e) past)
           ∙ r.itself;
     }
 
 next_is : (at c : ℕ) (es : List Element) → has_empty es ≡ false → next_byte at es ≡ Some c → IsNext at c es
 next_is at c [] h f = absurd (next_nil at c f)
 next_is at c (e ∷ es) h f =
-    let both = or_false (eqb (length e.bytes.now) 0) (has_empty es) h in
+    let both = or_parts (eqb (length e.bytes.now) 0) (has_empty es) h in
     next_by at c e es (ltb at (end_of e)) refl (some_bytes e both.0) (next_is at c es both.1) (sym (next_step at e es) ∙ f)
-
-before_by : (end b c : ℕ) (t : Bool) → ltb b end ≡ t → cond t (Some b) None ≡ Some c → (b ≡ c) × (c < end)
-before_by end b c true h f =
-    let same : b ≡ c = cc in
-    (same, omega (arith, same, ltb-true b end h))
-before_by end b c false h f = cc
 
 before_is : (end c : ℕ) (o : Option ℕ) → if_before end o ≡ Some c → (o ≡ Some c) × (c < end)
 before_is end c None h = cc
-before_is end c (Some b) h = let k = before_by end b c (ltb b end) refl h in (ap Some k.0, k.1)
+before_is end c (Some b) h = let k = cond_some (ltb b end) b c h in (ap Some k.1, omega (arith, k.1, ltb-true b end k.0))
 
 -- The next byte of a part of an image.
 pub record IsByteIn (plan : Plan) (at end c : ℕ) : Type 0 where
@@ -99,7 +83,7 @@ byte_is plan at end c h f =
       from = n.from;
       to = b.1;
       has = n.has;
-      itself = ap (if_before end) n.itself ∙ ap (λ (t : Bool). cond t (Some c) None) (less c end b.1);
+      itself = ap (if_before end) n.itself ∙ ap (λ (t : Bool). cond t (Some c) None) (lt-ltb c end b.1);
     }
 
 -- ---- the element of a byte
@@ -110,10 +94,6 @@ pub record IsHeld (a : ℕ) (es : List Element) : Type 0 where
   pub is : element_at a es ≡ Some element
   pub low : element.address ≤ a
   pub high : a < end_of element
-
-element_step : (at : ℕ) (e : Element) (es : List Element) → element_at at (e ∷ es) ≡ cond (holds at e) (Some e) (element_at at es)
-unfolding element_at
-element_step at e es = refl
 
 held_by : (a : ℕ) (e : Element) (es : List Element) (t : Bool) → holds a e ≡ t → (holds a e ≡ false → IsHeld a es) → IsHeld a (e ∷ es)
 held_by a e es true h rest = record {

@@ -1,14 +1,17 @@
 -- Which page an address is on.
-use Rattle.std.proofs.Common.{◌≡◌, ℕ, zero, suc, ◌+◌, ◌-◌, ◌*◌, ◌/◌, ◌<◌, ◌≤◌, ◌^◌, inl, inr, Bool, true, false, cond, ltb, List, [], ◌∷◌, Option, Some, None, refl, sym, ap, ◌∙◌, subst, arith}
+use Rattle.std.proofs.Common.{◌≡◌, ℕ, suc, ◌+◌, ◌-◌, ◌*◌, ◌/◌, ◌<◌, ◌≤◌, ◌^◌, inl, inr, Bool, true, false, cond, List, [], ◌∷◌, Option, Some, None, refl, sym, ap, ◌∙◌, subst, arith}
 use Rattle.std.specs.List.{All}
 use Rattle.std.specs.Option.{option_map}
 use Rattle.std.proofs.lemmas.Bool.Decides.{nat_tests}
+use Rattle.std.proofs.Math.Nat.{div-mul-le_self}
+use Rattle.std.proofs.lemmas.Bool.{lt-ltb}
 use Rattle.dfuse_memory.specs.declared.pages.Access.{Access}
 use Rattle.dfuse_memory.specs.declared.pages.Pages.{Pages}
 use Rattle.dfuse_memory.specs.declared.pages.Page.{Page}
 use Rattle.dfuse_memory.specs.Ranges.{IsRange, are_apart}
 use Rattle.dfuse_memory.specs.Ranges as ranges
 use Rattle.dfuse_memory.specs.Lookups.{has, range_at, page_in, page_at, IsGranted, OnePage}
+use Rattle.dfuse_memory.proofs.OneRange.{no_range}
 use Rattle.dfuse_host.specs.declared.element.Element.{Element}
 use Rattle.dfuse_host.specs.declared.plan.Plan.{Plan}
 use Rattle.dfuse_host.specs.Plans.{page_of, page_start, page_end}
@@ -17,13 +20,10 @@ use Rattle.dfuse_host.specs.ReadBack.{HasByte}
 
 -- ---- ranges
 
-range_step : (a : ℕ) (p : Pages) (ps : List Pages) → range_at a (p ∷ ps) ≡ cond (has a p) (Some p) (range_at a ps)
+-- The range that has an address is the first one if it has it, and else one of the others.
+pub range_step : (a : ℕ) (p : Pages) (ps : List Pages) → range_at a (p ∷ ps) ≡ cond (has a p) (Some p) (range_at a ps)
 unfolding range_at
 range_step a p ps = refl
-
-no_range : (a : ℕ) (q : Pages) → range_at a [] ≡ Some q → ⊥
-unfolding range_at
-no_range a q h = cc
 
 -- A range that is found has the address.
 record IsInRange (a : ℕ) (q : Pages) (ps : List Pages) : Type 0 where
@@ -56,10 +56,6 @@ pub record IsOnPage (plan : Plan) (a : ℕ) (page : Page) : Type 0 where
   pub high : a < page.start + page.size
   pub fits : a < 2 ^ 32
 
-parts_below : (x n : ℕ) → x / n * n ≤ x
-parts_below x zero = omega arith
-parts_below x (suc n) = omega arith
-
 parts_above : (x n : ℕ) → 1 ≤ n → x < x / n * n + n
 parts_above x n some = grind arith
 
@@ -72,7 +68,7 @@ page_by plan a page (Some q) e all h =
     let same : page_in a q ≡ page = cc in
     subst (λ (x : Page). IsOnPage plan a x) same (record {
       is = ap (option_map (page_in a)) e;
-      low = omega (arith, there.low, parts_below (a - q.start) q.size);
+      low = omega (arith, there.low, div-mul-le_self (a - q.start) q.size);
       high = omega (arith, there.low, parts_above (a - q.start) q.size range.some_bytes);
       fits = omega (arith, there.high, range.ends);
     })
@@ -82,20 +78,17 @@ pub on_page : (plan : Plan) (a : ℕ) (page : Page) → All IsRange plan.map.now
     IsOnPage plan a page
 on_page plan a page all h = page_by plan a page (range_at a plan.map.now.ranges) refl all h
 
-below : (a : ℕ) → a < 2 ^ 32 → ltb a (2 ^ 32) ≡ true
-below a h = grind (arith, nat_tests)
-
 pub starts_at : (plan : Plan) (a : ℕ) (page : Page) → IsOnPage plan a page → page_start plan a ≡ page.start
 unfolding page_of
 starts_at plan a page on =
-    ap (λ (t : Bool). elim (cond t (page_at a plan.map.now.ranges) None) as (λ _. ℕ) [ None ↦ a | Some p ↦ p.start ]) (below a on.fits)
+    ap (λ (t : Bool). elim (cond t (page_at a plan.map.now.ranges) None) as (λ _. ℕ) [ None ↦ a | Some p ↦ p.start ]) (lt-ltb a (2 ^ 32) on.fits)
     ∙ ap (λ (o : Option Page). elim o as (λ _. ℕ) [ None ↦ a | Some p ↦ p.start ]) on.is
 
 pub ends_at : (plan : Plan) (a : ℕ) (page : Page) → IsOnPage plan a page → page_end plan a ≡ page.start + page.size
 unfolding page_of
 ends_at plan a page on =
     ap (λ (t : Bool). elim (cond t (page_at a plan.map.now.ranges) None) as (λ _. ℕ) [ None ↦ a | Some p ↦ p.start + p.size ])
-    (below a on.fits)
+    (lt-ltb a (2 ^ 32) on.fits)
     ∙ ap (λ (o : Option Page). elim o as (λ _. ℕ) [ None ↦ a | Some p ↦ p.start + p.size ]) on.is
 
 -- Each address of a page is on it.

@@ -1,5 +1,6 @@
 -- A byte on a page that the image doesn't touch stays, whatever comes.
-use Rattle.std.proofs.Common.{◌≡◌, ℕ, Bool, true, false, List, ◌∷◌, refl, sym, ap, ◌∙◌, subst}
+use Rattle.std.proofs.Common.{◌≡◌, ℕ, false, List, ◌∷◌, refl, sym, ap, ◌∙◌, subst}
+use Rattle.std.proofs.lemmas.Bool.{false_from_ne_true}
 use Rattle.dfuse_host.specs.declared.plan.Plan.{Plan}
 use Rattle.dfuse_host.specs.declared.phase.Phase.{Phase}
 use Rattle.dfuse_host.specs.declared.phase.Phase.TheVariants.{On, Over}
@@ -14,7 +15,7 @@ use Rattle.dfuse_link.specs.Histories.{History, so_far, passes, turns}
 use Rattle.dfuse_link.specs.Promises.{IsFor}
 use Rattle.dfuse_link.specs.Touched.{OthersStay}
 use Rattle.dfuse_link.proofs.Rows.{turn_row}
-use Rattle.dfuse_link.proofs.Sessions.{plan_after}
+use Rattle.dfuse_host.proofs.RunLaws.{plan_after}
 use Rattle.dfuse_link.proofs.Staying.{InPhase, turn_stays, passes_stays}
 use Rattle.dfuse_link.proofs.Passing.{passes_so}
 use Rattle.dfuse_link.proofs.Turns.{IsSo, turn_so}
@@ -34,12 +35,8 @@ record IsKept (chip : Chip) (a : ℕ) (first : Device) (l : Paired) : Type 0 whe
   own : OwnIn chip a l.session.phase l.device.doing
   byte : l.device.memory a ≡ first.memory a
 
-not_true : (t : Bool) → (t ≡ true → ⊥) → t ≡ false
-not_true true h = absurd (h refl)
-not_true false h = refl
-
 pub is_filled : (chip : Chip) (plan : Plan) → IsFor chip plan → is_empty plan.image.now ≡ false
-is_filled chip plan for = not_true (is_empty plan.image.now) for.sound.0.0.0.0.0.0.1
+is_filled chip plan for = false_from_ne_true (is_empty plan.image.now) for.sound.0.0.0.0.0.0.1
 
 in_touches : (plan : Plan) (p : Phase) → TouchesIn plan p → InPhase (Touches plan) p
 in_touches plan (On s) h = h

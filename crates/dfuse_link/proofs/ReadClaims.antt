@@ -1,7 +1,7 @@
 -- A byte that was read back is the image's.
-use Rattle.std.proofs.Common.{◌≡◌, ℕ, ◌+◌, ◌-◌, ◌*◌, ◌/◌, ◌%◌, ◌^◌, ◌<◌, ◌≤◌, ◌&&◌, Bool, true, false, cond, eqb, leb, List, [], length, get_or, take, drop, Option, Some, None, refl, sym, ap, ◌∙◌, subst, arith, length-take, length-drop}
+use Rattle.std.proofs.Common.{◌≡◌, ℕ, ◌+◌, ◌-◌, ◌*◌, ◌/◌, ◌%◌, ◌^◌, ◌<◌, ◌≤◌, Bool, true, false, cond, eqb, leb, List, [], length, get_or, take, drop, Option, Some, None, refl, sym, ap, ◌∙◌, subst, arith, length-take, length-drop}
 use Rattle.std.specs.Str.{bytes_eq}
-use Rattle.std.proofs.lemmas.Bool.{leb-true, eqb-true}
+use Rattle.std.proofs.lemmas.Bool.{leb-true, eqb-true, and_parts}
 use Rattle.std.proofs.lemmas.Slice.Eq.{bytes_eq-Decides}
 use Rattle.dfu_wire.specs.declared.requests.Request.TheVariants as request
 use Rattle.dfuse_host.specs.declared.element.Element.{Element}
@@ -30,10 +30,6 @@ use Rattle.dfuse_link.proofs.SentClaims.{ArrivesBy}
 use Rattle.dfuse_link.proofs.Safe.{SafeAt}
 use Rattle.dfuse_link.proofs.Bytes.{byte_of, byte_at, found_at, same_element, byte_in_part}
 
-and_true : (a b : Bool) → (a && b) ≡ true → (a ≡ true) × (b ≡ true)
-and_true true b h = (refl, h)
-and_true false b h = (h, cc)
-
 -- ---- where the bytes come from
 
 -- What can be read from a base.
@@ -45,9 +41,9 @@ record ReadsFrom (plan : Plan) (base at : ℕ) : Type 0 where
 reads_from : (plan : Plan) (base at : ℕ) → can_read plan base at ≡ true → ReadsFrom plan base at
 unfolding can_read
 reads_from plan base at h =
-    let one = and_true (leb base at) _ h in
-    let two = and_true (eqb ((at - base) % block_size plan) 0) _ one.1 in
-    let three = and_true (leb ((at - base) / block_size plan) 65533) _ two.1 in
+    let one = and_parts (leb base at) _ h in
+    let two = and_parts (eqb ((at - base) % block_size plan) 0) _ one.1 in
+    let three = and_parts (leb ((at - base) / block_size plan) 65533) _ two.1 in
     record {
       low = leb-true base at one.0;
       whole = eqb-true ((at - base) % block_size plan) 0 two.0;

@@ -1,8 +1,9 @@
 -- What a session sends changes only pages of the image.
-use Rattle.std.proofs.Common.{◌≡◌, ℕ, zero, suc, ◌-◌, ◌*◌, ◌/◌, ◌%◌, ◌^◌, ◌<◌, ◌≤◌, Bool, true, false, cond, eqb, ltb, List, [], ◌∷◌, Option, Some, None, refl, sym, ap, ◌∙◌, subst, arith}
+use Rattle.std.proofs.Common.{◌≡◌, ℕ, ◌-◌, ◌%◌, ◌^◌, ◌<◌, ◌≤◌, Bool, true, false, cond, eqb, ltb, List, [], ◌∷◌, Option, Some, None, refl, sym, ap, ◌∙◌, subst, arith}
 use Rattle.std.specs.Option.{option_map}
 use Rattle.std.proofs.lemmas.Bool.{eqb-true}
 use Rattle.std.proofs.lemmas.Bool.Decides.{nat_tests}
+use Rattle.std.proofs.Math.Nat.{div-mul-le_self}
 use Rattle.dfuse_memory.specs.declared.pages.Pages.{Pages}
 use Rattle.dfuse_memory.specs.Lookups.{has, range_at, page_in}
 use Rattle.dfuse_host.specs.declared.plan.Plan.{Plan}
@@ -42,15 +43,10 @@ unfolding range_at
 range_low a q [] e = cc
 range_low a q (p ∷ ps) e = low_by a p q ps (has a p) refl (range_low a q ps) e
 
--- Whole parts of a number are no more than it.
-parts_below : (x n : ℕ) → x / n * n ≤ x
-parts_below x zero = omega arith
-parts_below x (suc n) = omega arith
-
 begins_low : (a : ℕ) (o : Option Pages) → ((q : Pages) → o ≡ Some q → q.start ≤ a) →
     elim (option_map (page_in a) o) as (λ _. ℕ) [ None ↦ a | Some page ↦ page.start ] ≤ a
 begins_low a None low = omega arith
-begins_low a (Some q) low = omega (arith, low q refl, parts_below (a - q.start) q.size)
+begins_low a (Some q) low = omega (arith, low q refl, div-mul-le_self (a - q.start) q.size)
 
 page_by : (a : ℕ) (o : Option Pages) (t : Bool) → ((q : Pages) → o ≡ Some q → q.start ≤ a) →
     elim (cond t (option_map (page_in a) o) None) as (λ _. ℕ) [ None ↦ a | Some page ↦ page.start ] ≤ a

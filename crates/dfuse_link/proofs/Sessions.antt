@@ -1,5 +1,5 @@
 -- What is so of a device and its session, whatever comes.
-use Rattle.std.proofs.Common.{◌≡◌, ℕ, zero, suc, pred, refl, sym, subst}
+use Rattle.std.proofs.Common.{◌≡◌, ℕ, zero, suc, pred, sym, subst}
 use Rattle.dfuse_host.specs.declared.plan.Plan.{Plan}
 use Rattle.dfuse_host.specs.declared.phase.Phase.{Phase}
 use Rattle.dfuse_host.specs.declared.phase.Phase.TheVariants.{On, Over}
@@ -13,35 +13,11 @@ use Rattle.dfuse_host.specs.declared.report.Report.TheVariants as report
 use Rattle.dfuse_host.specs.declared.report.Leaving.TheVariants as leaving
 use Rattle.dfuse_host.specs.Commands.{command_of}
 use Rattle.dfuse_host.specs.Table.{row}
-use Rattle.dfuse_host.specs.Sessions.{dfuse_budgeted, spent_at, resumed, dfuse_restarted, restarted_leaving, restarted_in, dfuse_told, dfuse_after_phase}
+use Rattle.dfuse_host.specs.Sessions.{dfuse_budgeted, spent_at, resumed, dfuse_restarted, restarted_leaving, restarted_in, dfuse_told}
 use Rattle.dfuse_host.proofs.ForCallers.{AnyHeard, by_heard}
 use Rattle.dfuse_link.specs.Chips.{Chip, Device}
 use Rattle.dfuse_link.proofs.Claims.{StandsIn}
 use Rattle.dfuse_link.proofs.SettlingClaims.{at_unsure}
-
--- ---- a session keeps its plan
-
-plan_restarted : (s : Session) (p : Phase) (n : ℕ) → (dfuse_restarted s p n).plan ≡ s.plan
-plan_restarted s p zero = refl
-plan_restarted s p (suc n) = refl
-
-plan_leaving : (s : Session) (p : Place) (at : Step) → (restarted_leaving s p at).plan ≡ s.plan
-plan_leaving s p step.Close = refl
-plan_leaving s p step.CloseProbe = refl
-plan_leaving s p step.ClosePoll = refl
-plan_leaving s p at = plan_restarted s (resumed s.plan work.Leave p at) s.restarts
-
-plan_restart : (s : Session) (w : Work) (p : Place) (at : Step) → (restarted_in s w p at).plan ≡ s.plan
-plan_restart s work.Leave p at = plan_leaving s p at
-plan_restart s w p at = plan_restarted s (resumed s.plan w p at) s.restarts
-
-plan_told : (s : Session) (w : Work) (p : Place) (at : Step) (h : AnyHeard) → (dfuse_told s w p at h).plan ≡ s.plan
-plan_told s w p at h =
-    by_heard (λ x. (dfuse_told s w p at x).plan ≡ s.plan) refl (λ t. refl) (λ t. refl) (λ b. refl) refl refl refl (plan_restart s w p at) h
-
-pub plan_after : (s : Session) (p : Phase) (h : AnyHeard) → (dfuse_after_phase s p h).plan ≡ s.plan
-plan_after s (Over r) h = refl
-plan_after s (On at) h = plan_told s at.work at.place at.step h
 
 -- ---- restarts and the budget
 

@@ -1,5 +1,6 @@
 -- What is so of a device and its session stays so, whatever comes next.
-use Rattle.std.proofs.Common.{◌≡◌, ℕ, ◌≤◌, ◌<◌, ◌^◌, inl, inr, Bool, true, false, Option, refl, sym, ap, ◌∙◌, subst, arith}
+use Rattle.std.proofs.Common.{◌≡◌, ℕ, ◌≤◌, ◌<◌, ◌^◌, inl, inr, true, false, Option, refl, sym, ap, ◌∙◌, subst, arith}
+use Rattle.std.proofs.lemmas.Bool.{true_from_ne_false}
 use Rattle.dfuse_host.specs.declared.plan.Plan.{Plan}
 use Rattle.dfuse_host.specs.declared.phase.Phase.{Phase}
 use Rattle.dfuse_host.specs.declared.phase.Phase.TheVariants.{On, Over}
@@ -23,7 +24,8 @@ use Rattle.dfuse_link.specs.Promises.{IsFor}
 use Rattle.dfuse_link.proofs.Claims.{Stands, StandsIn}
 use Rattle.dfuse_link.proofs.SentClaims.{ArrivesBy}
 use Rattle.dfuse_link.proofs.StepClaims.{sent_claims, waited_claims}
-use Rattle.dfuse_link.proofs.Sessions.{plan_after, told_claims, at_restart, restarted_claims}
+use Rattle.dfuse_host.proofs.RunLaws.{plan_after}
+use Rattle.dfuse_link.proofs.Sessions.{told_claims, at_restart, restarted_claims}
 use Rattle.dfuse_link.proofs.Safe.{SafeAt, KeepsByte, DeedBringsNone, arrives_safe, restarts_safe, deed_none}
 use Rattle.dfuse_link.proofs.Bytes.{byte_at, has_address}
 use Rattle.dfuse_link.proofs.ReadClaims.{read_right}
@@ -43,12 +45,8 @@ pub record IsSo (chip : Chip) (l : Paired) : Type 0 where
 
 -- ---- what a plan says
 
-not_false : (t : Bool) → (t ≡ false → ⊥) → t ≡ true
-not_false true h = refl
-not_false false h = absurd (h refl)
-
 pub is_apart : (chip : Chip) (plan : Plan) → IsFor chip plan → apart_from 0 plan.image.now ≡ true
-is_apart chip plan for = not_false (apart_from 0 plan.image.now) for.sound.0.0.0.0.1
+is_apart chip plan for = true_from_ne_false (apart_from 0 plan.image.now) for.sound.0.0.0.0.1
 
 some_transfer : (chip : Chip) (plan : Plan) → IsFor chip plan → 1 ≤ chip.transfer
 some_transfer chip plan for =

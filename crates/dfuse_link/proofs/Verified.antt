@@ -14,7 +14,7 @@ use Rattle.dfuse_link.specs.Reactions.{StandsAt}
 use Rattle.dfuse_link.specs.Histories.{History, so_far, passes, turns}
 use Rattle.dfuse_link.specs.Promises.{IsFor, VerifiedIsTrue}
 use Rattle.dfuse_link.proofs.Rows.{turn_row}
-use Rattle.dfuse_link.proofs.Sessions.{plan_after}
+use Rattle.dfuse_host.proofs.RunLaws.{plan_after}
 use Rattle.dfuse_link.proofs.Bytes.{all_stands}
 use Rattle.dfuse_link.proofs.Passing.{passes_so}
 use Rattle.dfuse_link.proofs.Turns.{IsSo, is_apart, turn_so}

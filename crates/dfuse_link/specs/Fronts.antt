@@ -19,9 +19,9 @@ use Rattle.dfuse_link.specs.Promises.{IsFor}
 use Rattle.dfuse_link.specs.Touched.{IsTrueMap, CarriesNone}
 
 -- Each byte of the image at such an address stands in the memory.
-abbrev pub ImageStands : Plan → (IsThere : ℕ → Type 0) → (memory : ℕ → ℕ) → Type 0
-ImageStands plan IsThere memory =
-    (a : ℕ) (e : Element) → IsThere a → element_at a plan.image.now ≡ Some e → memory a ≡ slice_index e.bytes.now (a - e.address)
+abbrev pub ImageStands : Plan → (IsSelected : ℕ → Type 0) → (memory : ℕ → ℕ) → Type 0
+ImageStands plan IsSelected memory =
+    (a : ℕ) (e : Element) → IsSelected a → element_at a plan.image.now ≡ Some e → memory a ≡ slice_index e.bytes.now (a - e.address)
 
 -- While a session writes its front, each byte of the image behind the front stands in the memory.
 abbrev pub RestStands : Type 0

@@ -1,18 +1,18 @@
 -- Digits at the front of a text, and what they say.
 use Rattle.std.proofs.Common.{◌≡◌, ℕ, zero, suc, ◌+◌, ◌*◌, ◌^◌, ◌<◌, ◌≤◌, List, [], ◌∷◌, length, take, drop, get_or, refl, ap, ◌∙◌, arith}
 use Rattle.std.proofs.Math.Nat.{pow-succ', pow-le-pow_right}
+use Rattle.std.proofs.lemmas.Bool.{lt-ltb, le-ltb}
 use Rattle.dfuse_memory.specs.Reading.{digit_value, digits_in, digits_number}
-use Rattle.dfuse_memory.proofs.TestLaws.{less, not_less}
 
 -- A digit is counted.
 pub digits_cons : (base b : ℕ) (bs : List ℕ) → digit_value b < base → digits_in base (b ∷ bs) ≡ suc (digits_in base bs)
 unfolding digits_in
-digits_cons base b bs h = rw (less (digit_value b) base h) refl
+digits_cons base b bs h = rw (lt-ltb (digit_value b) base h) refl
 
 -- Any other byte ends the count.
 pub digits_no : (base b : ℕ) (bs : List ℕ) → base ≤ digit_value b → digits_in base (b ∷ bs) ≡ 0
 unfolding digits_in
-digits_no base b bs h = rw (not_less (digit_value b) base h) refl
+digits_no base b bs h = rw (le-ltb (digit_value b) base h) refl
 
 pub digits_none : (base : ℕ) → digits_in base [] ≡ 0
 unfolding digits_in

@@ -1,13 +1,12 @@
 -- A range that was read was spelled.
 use Rattle.std.proofs.Common.{◌≡◌, ◌≢◌, ℕ, ◌+◌, ◌*◌, ◌^◌, ◌≤◌, ◌&&◌, Bool, true, false, cond, eqb, ltb, leb, List, [], ◌∷◌, ◌++◌, refl, sym, ap, ◌∙◌, subst, arith, Some, Result, Ok, Err, append_assoc}
-use Rattle.std.proofs.lemmas.Bool.{eq-eqb, ltb-false, leb-true}
+use Rattle.std.proofs.lemmas.Bool.{eq-eqb, ltb-false, leb-true, and_parts}
 use Rattle.dfuse_memory.specs.declared.fault.MapFault.{MapFault}
 use Rattle.dfuse_memory.specs.declared.fault.MapFault.TheVariants.{BadCount, BadSize, BadType, PastTheEnd}
 use Rattle.dfuse_memory.specs.Reading.{NumberRead, LetterRead, Grouped, ◌>>=◌, or, counting, behind, map_number_at, count_at, unit_bytes, unit_at, size_at, access_of, access_at, ranged, group_at}
 use Rattle.dfuse_memory.specs.Grammar.{IsNumber, IsUnit, IsGroup}
 use Rattle.dfuse_memory.proofs.NumbersRead.{Spelled, number_found}
 use Rattle.dfuse_memory.proofs.Steps.{then_ok, or_ok, counting_ok, behind_found}
-use Rattle.dfuse_memory.proofs.TestLaws.{and_true}
 
 -- A count that was read.
 record Counted (c : NumberRead) (text : List ℕ) : Type 0 where
@@ -115,7 +114,7 @@ lettered_by : (b : ℕ) (bs : List ℕ) (a : LetterRead) (t : Bool) → (leb 97 
     ◌≡◌ {A = Result LetterRead MapFault} (cond t (Ok (record { access = access_of b; rest = bs })) (Err BadType)) (Ok a) →
     Lettered a (b ∷ bs)
 lettered_by b bs a true e h =
-    let both = and_true (leb 97 b) (leb b 103) e in
+    let both = and_parts (leb 97 b) (leb b 103) e in
     let same : ◌≡◌ {A = LetterRead} (record { access = access_of b; rest = bs }) a = cc in record {
       letter = b;
       text_is = ap (λ (m : LetterRead). b ∷ m.rest) same;

@@ -1,6 +1,6 @@
 -- A range that is spelled is read, and what is read is spelled.
-use Rattle.std.proofs.Common.{◌≡◌, ◌≢◌, ℕ, zero, suc, ◌+◌, ◌*◌, ◌^◌, ◌≤◌, ◌&&◌, Bool, true, false, leb, List, [], ◌∷◌, ◌++◌, refl, sym, ap, ◌∙◌, arith, Some, Ok, append_assoc}
-use Rattle.std.proofs.lemmas.Bool.{eq-eqb}
+use Rattle.std.proofs.Common.{◌≡◌, ◌≢◌, ℕ, zero, suc, ◌+◌, ◌*◌, ◌^◌, ◌≤◌, leb, List, [], ◌∷◌, ◌++◌, refl, sym, ap, ◌∙◌, arith, Some, Ok, append_assoc}
+use Rattle.std.proofs.lemmas.Bool.{eq-eqb, le-ltb, ne_eqb, and_from, le-leb}
 use Rattle.std.proofs.lemmas.Bool.Decides.{nat_tests}
 use Rattle.dfuse_memory.specs.declared.pages.Access.{Access}
 use Rattle.dfuse_memory.specs.declared.pages.Pages.{Pages}
@@ -8,7 +8,6 @@ use Rattle.dfuse_memory.specs.Ranges.{IsRange}
 use Rattle.dfuse_memory.specs.Reading.{NumberRead, Grouped, behind, count_at, unit_bytes, unit_at, size_at, access_of, access_at, ranged, group_at, digit_value}
 use Rattle.dfuse_memory.specs.Grammar.{IsNumber, IsUnit, IsGroup}
 use Rattle.dfuse_memory.proofs.NumbersRead.{NoDigitFirst, no_digit, number_read}
-use Rattle.dfuse_memory.proofs.TestLaws.{not_less, differ}
 
 -- ---- what is spelled is read
 
@@ -23,7 +22,7 @@ count_read : (n : ℕ) (ds rest : List ℕ) → IsNumber 10 5 n ds → 1 ≤ n �
     count_at (ds ++ 42 ∷ rest) ≡ Ok (record { value = n; rest = rest })
 unfolding count_at
 count_read n ds rest h some =
-    rw (number_read 10 5 n ds (42 ∷ rest) h (no_digit 10 42 rest (omega arith)), differ n 0 (λ z. omega (arith, z, some)), behind_read 42 rest) refl
+    rw (number_read 10 5 n ds (42 ∷ rest) h (no_digit 10 42 rest (omega arith)), ne_eqb n 0 (λ z. omega (arith, z, some)), behind_read 42 rest) refl
 
 -- A letter from a to g is no unit.
 no_unit : (letter : ℕ) → 97 ≤ letter → unit_bytes letter ≡ 0
@@ -35,7 +34,7 @@ unfolding unit_at
 unit_read times value [] letter rest h a =
     rw (eq-eqb (unit_bytes letter) 0 (no_unit letter a)) (same_said _ _ _ (omega (arith, ap (λ (t : ℕ). t * value) h)))
 unit_read times value (b ∷ []) letter rest h a =
-    rw (differ (unit_bytes b) 0 h.1) (same_said _ _ _ (ap (λ (t : ℕ). t * value) (sym h.0)))
+    rw (ne_eqb (unit_bytes b) 0 h.1) (same_said _ _ _ (ap (λ (t : ℕ). t * value) (sym h.0)))
 unit_read times value (a ∷ b ∷ bs) letter rest h c = absurd h
 
 no_digits : (b : ℕ) → 97 ≤ b → 10 ≤ digit_value b
@@ -53,19 +52,12 @@ size_read : (n times : ℕ) (ds unit : List ℕ) (letter : ℕ) (rest : List ℕ
     size_at (ds ++ (unit ++ letter ∷ rest)) ≡ Ok (record { value = times * n; rest = letter ∷ rest })
 unfolding size_at
 size_read n times ds unit letter rest h u some a =
-    rw (number_read 10 5 n ds (unit ++ letter ∷ rest) h (stops times unit letter rest u a), differ n 0 (λ z. omega (arith, z, some)))
+    rw (number_read 10 5 n ds (unit ++ letter ∷ rest) h (stops times unit letter rest u a), ne_eqb n 0 (λ z. omega (arith, z, some)))
     (ap Ok (unit_read times n unit letter rest u a))
-
-both : (a b : Bool) → a ≡ true → b ≡ true → (a && b) ≡ true
-both true b h k = k
-both false b h k = h
-
-at_most : (a b : ℕ) → a ≤ b → leb a b ≡ true
-at_most a b h = grind (arith, nat_tests)
 
 access_read : (letter : ℕ) (rest : List ℕ) → 97 ≤ letter → letter ≤ 103 → access_at (letter ∷ rest) ≡ Ok (record { access = access_of letter; rest = rest })
 unfolding access_at
-access_read letter rest h k = rw (both (leb 97 letter) (leb letter 103) (at_most 97 letter h) (at_most letter 103 k)) refl
+access_read letter rest h k = rw (and_from (leb 97 letter) (leb letter 103) (le-leb 97 letter h) (le-leb letter 103 k)) refl
 
 some_number : (size times number : ℕ) → size ≡ times * number → 1 ≤ size → 1 ≤ number
 some_number size times zero e h = absurd (omega (arith, e, h))
@@ -79,11 +71,6 @@ same_pages p start size count access a b c d =
     ∙ (ap (λ (v : ℕ). let q : Pages = record { start = p.start; size = p.size; count = v; access = access } in q) (sym c)
     ∙ ap (λ (v : Access). let q : Pages = record { start = p.start; size = p.size; count = p.count; access = v } in q) (sym d)))
 
--- The text of a range, with what stands behind it.
-joined_text : (cs ss us : List ℕ) (letter : ℕ) (rest : List ℕ) →
-    (cs ++ 42 ∷ (ss ++ (us ++ letter ∷ []))) ++ rest ≡ cs ++ 42 ∷ (ss ++ (us ++ letter ∷ rest))
-joined_text cs ss us letter rest = simp append_assoc
-
 same_grouped : (p q : Pages) (rest : List ℕ) → p ≡ q → ◌≡◌ {A = Grouped} (record { pages = p; rest = rest }) (record { pages = q; rest = rest })
 same_grouped p q rest e = cc
 
@@ -91,7 +78,7 @@ ranged_read : (start size : ℕ) (p : Pages) (letter : ℕ) (rest : List ℕ) �
     ranged start p.count size (record { access = access_of letter; rest = rest }) ≡ Ok (record { pages = p; rest = rest })
 ranged_read start size p letter rest s z a sound =
     let times = ap (λ (n : ℕ). p.count * n) z in
-    rw (not_less (2 ^ 32) (start + p.count * size) (omega (arith, sound.ends, s, times)))
+    rw (le-ltb (2 ^ 32) (start + p.count * size) (omega (arith, sound.ends, s, times)))
     (ap Ok (same_grouped _ _ rest (same_pages p start size p.count (access_of letter) s z refl a)))
 
 -- A range that is spelled before something else is read.
@@ -100,7 +87,7 @@ unfolding group_at
 group_read start p group rest g =
     let some = some_number p.size g.times g.number g.size_is g.sound.some_bytes in
     let whole : group ++ rest ≡ g.count_digits ++ 42 ∷ (g.size_digits ++ (g.unit ++ g.letter ∷ rest)) =
-    ap (λ (t : List ℕ). t ++ rest) g.spelled ∙ joined_text g.count_digits g.size_digits g.unit g.letter rest in
+    ap (λ (t : List ℕ). t ++ rest) g.spelled ∙ simp append_assoc in
     rw (
       whole,
       count_read p.count g.count_digits (g.size_digits ++ (g.unit ++ g.letter ∷ rest)) g.count_is g.sound.some_pages,

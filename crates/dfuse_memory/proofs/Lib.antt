@@ -11,4 +11,3 @@ pub mod PlacesFound
 pub mod PlacesRead
 pub mod RangeLaws
 pub mod Steps
-pub mod TestLaws

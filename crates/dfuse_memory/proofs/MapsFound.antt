@@ -2,7 +2,7 @@
 use Rattle.std.proofs.Common.{◌≡◌, ℕ, zero, suc, ◌+◌, ◌<◌, ◌≤◌, ◌&&◌, inl, inr, Bool, true, false, not, cond, eqb, ltb, List, [], ◌∷◌, ◌++◌, length, take, drop, refl, sym, ap, ◌∙◌, subst, arith, Option, Some, None, Result, Ok, Err, IfOk, append_assoc}
 use Rattle.std.specs.Prelude.{replicate}
 use Rattle.std.specs.List.{prefix_len, position}
-use Rattle.std.proofs.lemmas.Bool.{eq-eqb, eqb-true, ltb-true}
+use Rattle.std.proofs.lemmas.Bool.{eq-eqb, eqb-true, ltb-true, and_parts}
 use Rattle.std.proofs.lemmas.List.{append-nil}
 use Rattle.dfuse_memory.specs.declared.pages.Pages.{Pages}
 use Rattle.dfuse_memory.specs.declared.fault.MapFault.{MapFault}
@@ -13,7 +13,6 @@ use Rattle.dfuse_memory.specs.Grammar.{IsMap, AreRanges, last, following, elsewh
 use Rattle.dfuse_memory.proofs.Steps.{then_ok, or_ok, behind_found}
 use Rattle.dfuse_memory.proofs.GroupsFound.{GroupSpelled, group_found}
 use Rattle.dfuse_memory.proofs.PlacesFound.{Leads, address_found, next_found}
-use Rattle.dfuse_memory.proofs.TestLaws.{and_true}
 
 -- ---- ranges
 
@@ -95,7 +94,7 @@ nothing_ends = tt
 
 trimmed_by : (b : ℕ) (bs kept : List ℕ) (t : Bool) → (eqb b 32 && eqb (length kept) 0) ≡ t → Trimmed kept bs → Trimmed (cond t [] (b ∷ kept)) (b ∷ bs)
 trimmed_by b bs kept true e s =
-    let both = and_true (eqb b 32) (eqb (length kept) 0) e in
+    let both = and_parts (eqb b 32) (eqb (length kept) 0) e in
     let none = none_left kept both.1 in record {
       spaces = suc s.spaces;
       bytes_are = ap (λ (k : ℕ). k ∷ bs) (eqb-true b 32 both.0)

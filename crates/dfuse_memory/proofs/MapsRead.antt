@@ -3,6 +3,7 @@ use Rattle.std.proofs.Common.{◌≡◌, ℕ, zero, suc, ◌+◌, ◌≤◌, not
 use Rattle.std.specs.Prelude.{replicate}
 use Rattle.std.specs.List.{prefix_len, position}
 use Rattle.std.proofs.lemmas.List.{append-nil, take_at, drop_at}
+use Rattle.std.proofs.lemmas.Bool.{lt-ltb, ne_eqb}
 use Rattle.dfuse_memory.specs.declared.pages.Pages.{Pages}
 use Rattle.dfuse_memory.specs.Ranges.{end_of_range}
 use Rattle.dfuse_memory.specs.Reading.{MapContent, Named, group_at, next_at, ranges_at, trimmed, is_stroke, cut_at, map_name_at, map_at}
@@ -11,7 +12,6 @@ use Rattle.dfuse_memory.specs.Grammar.{last, following, elsewhere}
 use Rattle.dfuse_memory.proofs.GroupsRead.{behind_read, group_read}
 use Rattle.dfuse_memory.proofs.PlacesRead.{address_read, comma_read, stroke_read, end_read}
 use Rattle.dfuse_memory.proofs.NameLaws.{trimmed_nil, trimmed_cons, first_of, stays, stays_so, goes_off}
-use Rattle.dfuse_memory.proofs.TestLaws.{less, differ}
 
 -- ---- ranges
 
@@ -60,12 +60,12 @@ stroke_place : (xs rest : List ℕ) → HasNoStroke xs → prefix_len (λ (b : �
 unfolding HasNoStroke
 stroke_place [] rest h = refl
 stroke_place (x ∷ xs) rest h =
-    rw (differ x 47 h.0) (omega (arith, stroke_place xs rest h.1))
+    rw (ne_eqb x 47 h.0) (omega (arith, stroke_place xs rest h.1))
 
 position_read : (xs rest : List ℕ) → HasNoStroke xs → position is_stroke (xs ++ 47 ∷ rest) ≡ Some (length xs)
 position_read xs rest h =
     let e = stroke_place xs rest h in
-    let room = less (prefix_len (λ (b : ℕ). not (is_stroke b)) (xs ++ 47 ∷ rest)) (length (xs ++ 47 ∷ rest))
+    let room = lt-ltb (prefix_len (λ (b : ℕ). not (is_stroke b)) (xs ++ 47 ∷ rest)) (length (xs ++ 47 ∷ rest))
     (omega (arith, e, length-append xs (47 ∷ rest))) in
     rw room (ap Some e)
 

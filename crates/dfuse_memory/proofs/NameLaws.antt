@@ -1,9 +1,8 @@
 -- Bytes without the spaces at their end, front by front.
-use Rattle.std.proofs.Common.{◌≡◌, ℕ, zero, suc, ◌<◌, ◌≤◌, ◌&&◌, Bool, true, false, cond, eqb, List, [], ◌∷◌, length, take, get_or, refl, sym, ap, ◌∙◌, arith, length-take}
-use Rattle.std.proofs.lemmas.Bool.{eq-eqb}
+use Rattle.std.proofs.Common.{◌≡◌, ℕ, zero, suc, ◌<◌, ◌≤◌, ◌&&◌, cond, eqb, List, [], ◌∷◌, length, take, get_or, refl, sym, ap, ◌∙◌, arith, length-take}
+use Rattle.std.proofs.lemmas.Bool.{eq-eqb, ne_eqb, and_right, and_left}
 use Rattle.std.proofs.lemmas.List.{take_all}
 use Rattle.dfuse_memory.specs.Reading.{trimmed}
-use Rattle.dfuse_memory.proofs.TestLaws.{differ}
 
 -- A first byte stays before bytes that stay, and before none if it is no space.
 abbrev pub first_of : ℕ → List ℕ → List ℕ
@@ -17,21 +16,13 @@ pub trimmed_nil : trimmed [] ≡ []
 unfolding trimmed
 trimmed_nil = refl
 
-and_no : (a b : Bool) → b ≡ false → (a && b) ≡ false
-and_no true b h = h
-and_no false b h = refl
-
-no_and : (a b : Bool) → a ≡ false → (a && b) ≡ false
-no_and true b h = cc
-no_and false b h = refl
-
 -- It stays before bytes of which there are some.
 pub stays : (b : ℕ) (kept : List ℕ) → 1 ≤ length kept → first_of b kept ≡ b ∷ kept
-stays b kept h = rw (and_no (eqb b 32) (eqb (length kept) 0) (differ (length kept) 0 (λ z. omega (arith, h, z)))) refl
+stays b kept h = rw (and_right (eqb b 32) (eqb (length kept) 0) (ne_eqb (length kept) 0 (λ z. omega (arith, h, z)))) refl
 
 -- It stays if it is no space.
 pub stays_so : (b : ℕ) (kept : List ℕ) → (b ≡ 32 → ⊥) → first_of b kept ≡ b ∷ kept
-stays_so b kept h = rw (no_and (eqb b 32) (eqb (length kept) 0) (differ b 32 h)) refl
+stays_so b kept h = rw (and_left (eqb b 32) (eqb (length kept) 0) (ne_eqb b 32 h)) refl
 
 pub goes_off : (b : ℕ) → b ≡ 32 → first_of b [] ≡ []
 goes_off b h = rw (eq-eqb b 32 h) refl

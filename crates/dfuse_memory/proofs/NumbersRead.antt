@@ -1,11 +1,11 @@
 -- A number that is spelled is read, and what is read is spelled.
 use Rattle.std.proofs.Common.{◌≡◌, ℕ, zero, suc, ◌≤◌, ◌||◌, Bool, true, false, cond, eqb, ltb, List, [], ◌∷◌, ◌++◌, length, take, drop, refl, sym, ap, ◌∙◌, arith, Option, Some, None, length-take}
-use Rattle.std.proofs.lemmas.Bool.{ltb-true, ltb-false}
+use Rattle.std.proofs.lemmas.Bool.{ltb-true, ltb-false, or_parts, le-ltb, ne_eqb, or_from}
 use Rattle.std.proofs.lemmas.List.{take-append-drop, take_at, drop_at}
+use Rattle.dfuse_memory.proofs.Steps.{not_zero}
 use Rattle.dfuse_memory.specs.Reading.{NumberRead, digit_value, digits_in, digits_number, map_number_at}
 use Rattle.dfuse_memory.specs.Grammar.{AreDigits, IsNumber}
 use Rattle.dfuse_memory.proofs.DigitLaws.{digits_cons, digits_no, digits_none}
-use Rattle.dfuse_memory.proofs.TestLaws.{not_less, differ, not_zero, or_false}
 
 -- No digit of a base stands first.
 unfoldable pub NoDigitFirst : (base : ℕ) → List ℕ → Type 0
@@ -23,10 +23,6 @@ counted base [] [] a n = digits_none base
 counted base [] (b ∷ bs) a n = digits_no base b bs n
 counted base (d ∷ ds) rest a n = digits_cons base d (ds ++ rest) a.0 ∙ ap suc (counted base ds rest a.1 n)
 
-passes : (a b : Bool) → a ≡ false → b ≡ false → (a || b) ≡ false
-passes true b h k = h
-passes false b h k = k
-
 same_said : (v w : ℕ) (r s : List ℕ) → v ≡ w → r ≡ s →
     ◌≡◌ {A = Option NumberRead} (Some (record { value = v; rest = r })) (Some (record { value = w; rest = s }))
 same_said v w r s h e = cc
@@ -37,9 +33,9 @@ pub number_read : (base most n : ℕ) (ds rest : List ℕ) → IsNumber base mos
 unfolding map_number_at
 number_read base most n ds rest h stop =
     let k = counted base ds rest h.are_digits stop in
-    let none = differ (digits_in base (ds ++ rest)) 0 (λ z. omega (arith, z, k, h.some)) in
-    let few = not_less most (digits_in base (ds ++ rest)) (omega (arith, k, h.few)) in
-    rw (passes (eqb (digits_in base (ds ++ rest)) 0) (ltb most (digits_in base (ds ++ rest))) none few)
+    let none = ne_eqb (digits_in base (ds ++ rest)) 0 (λ z. omega (arith, z, k, h.some)) in
+    let few = le-ltb most (digits_in base (ds ++ rest)) (omega (arith, k, h.few)) in
+    rw (or_from (eqb (digits_in base (ds ++ rest)) 0) (ltb most (digits_in base (ds ++ rest))) none few)
     (same_said _ _ _ _ (ap (digits_number base 0) (take_at ds rest (digits_in base (ds ++ rest)) (sym k)) ∙ sym h.makes)
     (drop_at ds rest (digits_in base (ds ++ rest)) (sym k)))
 
@@ -85,7 +81,7 @@ number_found base most n text h =
     let k = digits_in base text in
     let said_is : NumberRead = record { value = digits_number base 0 (take k text); rest = drop k text } in
     let u = unless (eqb k 0 || ltb most k) said_is n h in
-    let both = or_false (eqb k 0) (ltb most k) u.0 in
+    let both = or_parts (eqb k 0) (ltb most k) u.0 in
     let long = length-take k text in
     let room = within base text in record {
       digits = take k text;

@@ -8,7 +8,7 @@ use Rattle.dfuse_memory.specs.declared.pages.Pages.{Pages}
 use Rattle.dfuse_memory.specs.declared.pages.Page.{Page}
 use Rattle.dfuse_memory.specs.Ranges.{IsRange, end_of_range}
 use Rattle.dfuse_memory.specs.Lookups.{has, range_at, page_in, end_of_page, OnePage}
-use Rattle.dfuse_memory.proofs.OneRange.{same_range, found, no_range}
+use Rattle.dfuse_memory.proofs.OneRange.{same_range, found, no_range, to_has}
 
 -- A range that is found is one of them, and has the address.
 sound_found : (a : ℕ) (p : Pages) (ranges : List Pages) → All IsRange ranges → range_at a ranges ≡ Some p → IsRange p × (has a p ≡ true)
@@ -37,9 +37,6 @@ page_by (Some p) a page h = (p, refl, cc)
 
 from_has : (a : ℕ) (p : Pages) → has a p ≡ true → (p.start ≤ a) × (a < end_of_range p)
 from_has a p h = grind (arith, nat_tests)
-
-to_has : (a : ℕ) (p : Pages) → p.start ≤ a → a < end_of_range p → has a p ≡ true
-to_has a p h k = grind (arith, nat_tests)
 
 -- Two addresses of a page of one range have it both.
 same_page : (p : Pages) (a b : ℕ) → IsRange p → p.start ≤ a → a < end_of_range p → (page_in a p).start ≤ b → b < end_of_page (page_in a p) →

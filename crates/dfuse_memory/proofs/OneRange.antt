@@ -1,12 +1,11 @@
 -- An address is in one range of a map alone.
 use Rattle.std.proofs.Common.{◌≡◌, ℕ, ◌<◌, ◌≤◌, Bool, true, false, cond, List, [], ◌∷◌, Option, Some, ◌⊎◌, inl, inr, refl, sym, ap, ◌∙◌, subst, arith}
-use Rattle.std.proofs.lemmas.Bool.{cases_lt}
+use Rattle.std.proofs.lemmas.Bool.{cases_lt, and_parts}
 use Rattle.std.proofs.lemmas.Bool.Decides.{nat_tests}
 use Rattle.dfuse_memory.specs.declared.pages.Access.{Access}
 use Rattle.dfuse_memory.specs.declared.pages.Pages.{Pages}
 use Rattle.dfuse_memory.specs.Ranges.{end_of_range, is_apart, is_apart_from, are_apart}
 use Rattle.dfuse_memory.specs.Lookups.{has, range_at, grants, IsGranted, AllGranted}
-use Rattle.dfuse_memory.proofs.TestLaws.{and_true}
 
 -- What a look-up finds here, or behind.
 found_by : (t : Bool) (q p : Pages) (o : Option Pages) → cond t (Some q) o ≡ Some p → ((t ≡ true) × (q ≡ p)) ⊎ ((t ≡ false) × (o ≡ Some p))
@@ -34,7 +33,7 @@ no_range x p h = cc
 apart_one : (x : ℕ) (q p : Pages) (qs : List Pages) → is_apart_from q qs ≡ true → range_at x qs ≡ Some p → is_apart q p ≡ true
 apart_one x q p [] h f = absurd (no_range x p f)
 apart_one x q p (r ∷ rs) h f =
-    let both = and_true (is_apart q r) (is_apart_from q rs) h in
+    let both = and_parts (is_apart q r) (is_apart_from q rs) h in
     elim (found x r p rs f) [ inl w ↦ subst (λ (s : Pages). is_apart q s ≡ true) w.1 both.0 | inr w ↦ apart_one x q p rs both.1 w.1 ]
 
 -- Ranges that are apart don't both have an address.
@@ -46,14 +45,15 @@ pub same_range : (x y : ℕ) (p : Pages) (ranges : List Pages) → are_apart ran
     range_at y ranges ≡ Some p
 same_range x y p [] a f h = absurd (no_range x p f)
 same_range x y p (q ∷ qs) a f h =
-    let both = and_true (is_apart_from q qs) (are_apart qs) a in
+    let both = and_parts (is_apart_from q qs) (are_apart qs) a in
     elim (found x q p qs f) [
       | inl w ↦ here y q qs (subst (λ (s : Pages). has y s ≡ true) (sym w.1) h) ∙ ap Some w.1
       | inr w ↦ behind y q qs (not_both y q p (apart_one x q p qs both.0 w.1) h) ∙ same_range x y p qs both.1 w.1 h
     ]
 
-within : (y : ℕ) (p : Pages) → p.start ≤ y → y < end_of_range p → has y p ≡ true
-within y p h k = grind (arith, nat_tests)
+-- A range has each address from its start on to its end.
+pub to_has : (y : ℕ) (p : Pages) → p.start ≤ y → y < end_of_range p → has y p ≡ true
+to_has y p h k = grind (arith, nat_tests)
 
 -- What is granted up to an address is granted up to the end of the range that has it.
 pub granted_on : (wanted : Access) (start at : ℕ) (p : Pages) (ranges : List Pages) → are_apart ranges ≡ true →
@@ -61,5 +61,5 @@ pub granted_on : (wanted : Access) (start at : ℕ) (p : Pages) (ranges : List P
     AllGranted wanted start (end_of_range p) ranges
 granted_on wanted start at p ranges apart before f from to g = λ a h k. elim (cases_lt a at) [
   | inl w ↦ before a h w
-  | inr w ↦ subst (IsGranted wanted) (sym (same_range at a p ranges apart f (within a p (omega (arith, from, w)) k))) g
+  | inr w ↦ subst (IsGranted wanted) (sym (same_range at a p ranges apart f (to_has a p (omega (arith, from, w)) k))) g
 ]

@@ -1,13 +1,12 @@
 -- An address that was read was spelled.
 use Rattle.std.proofs.Common.{◌≡◌, ℕ, ◌&&◌, ◌||◌, ◌⊎◌, inl, inr, Bool, true, false, cond, eqb, List, [], ◌∷◌, ◌++◌, refl, sym, ap, ◌∙◌, subst, Option, Some, None, Result, Ok, Err, append_assoc}
-use Rattle.std.proofs.lemmas.Bool.{eqb-true}
+use Rattle.std.proofs.lemmas.Bool.{eqb-true, and_parts, or_cases}
 use Rattle.dfuse_memory.specs.declared.fault.MapFault.{MapFault}
 use Rattle.dfuse_memory.specs.declared.fault.MapFault.TheVariants.{BadAddress, Trailing}
 use Rattle.dfuse_memory.specs.Reading.{NumberRead, ◌>>=◌, or, behind, map_number_at, behind_prefix, address_at, place_found, next_at}
 use Rattle.dfuse_memory.specs.Grammar.{IsNumber, IsPrefix, IsAddress}
 use Rattle.dfuse_memory.proofs.NumbersRead.{number_found}
 use Rattle.dfuse_memory.proofs.Steps.{then_ok, or_ok, behind_found}
-use Rattle.dfuse_memory.proofs.TestLaws.{and_true}
 
 -- What stands before the digits is a prefix.
 record Prefixed (rest text : List ℕ) : Type 0 where
@@ -15,16 +14,12 @@ record Prefixed (rest text : List ℕ) : Type 0 where
   text_is : text ≡ prefix ++ rest
   prefix_is : IsPrefix prefix
 
-or_true : (a b : Bool) → (a || b) ≡ true → (a ≡ true) ⊎ (b ≡ true)
-or_true true b h = inl refl
-or_true false b h = inr h
-
 an_x : (b : ℕ) → (eqb b 120 || eqb b 88) ≡ true → (b ≡ 120) ⊎ (b ≡ 88)
-an_x b h = elim (or_true (eqb b 120) (eqb b 88) h) [ inl e ↦ inl (eqb-true b 120 e) | inr e ↦ inr (eqb-true b 88 e) ]
+an_x b h = elim (or_cases (eqb b 120) (eqb b 88) h) [ inl e ↦ inl (eqb-true b 120 e) | inr e ↦ inr (eqb-true b 88 e) ]
 
 prefixed_by : (a b : ℕ) (bs : List ℕ) (t : Bool) → (eqb a 48 && (eqb b 120 || eqb b 88)) ≡ t → Prefixed (cond t bs (a ∷ b ∷ bs)) (a ∷ b ∷ bs)
 prefixed_by a b bs true e =
-    let both = and_true (eqb a 48) (eqb b 120 || eqb b 88) e in
+    let both = and_parts (eqb a 48) (eqb b 120 || eqb b 88) e in
     record { prefix = a ∷ b ∷ []; text_is = refl; prefix_is = (eqb-true a 48 both.0, an_x b both.1) }
 prefixed_by a b bs false e = record { prefix = []; text_is = refl; prefix_is = tt }
 

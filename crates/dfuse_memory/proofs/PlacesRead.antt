@@ -1,10 +1,10 @@
 -- An address that is spelled is read, and what is read is spelled.
 use Rattle.std.proofs.Common.{◌≡◌, ℕ, ◌<◌, ◌≤◌, ◌&&◌, ◌⊎◌, inl, inr, true, false, cond, eqb, List, [], ◌∷◌, ◌++◌, length, refl, ap, ◌∙◌, arith, Some, None, Ok, append_assoc}
+use Rattle.std.proofs.lemmas.Bool.{ne_eqb}
 use Rattle.dfuse_memory.specs.Reading.{behind_prefix, address_at, next_at, digit_value}
 use Rattle.dfuse_memory.specs.Grammar.{AreDigits, IsPrefix, IsAddress}
 use Rattle.dfuse_memory.proofs.NumbersRead.{no_digit, number_read}
 use Rattle.dfuse_memory.proofs.GroupsRead.{behind_read}
-use Rattle.dfuse_memory.proofs.TestLaws.{differ}
 
 -- ---- what is spelled is read
 
@@ -15,7 +15,7 @@ prefixed b rest h = elim h [ inl e ↦ rw e refl | inr e ↦ rw e refl ]
 -- No digit and no stroke is an x.
 plain : (a b : ℕ) (rest : List ℕ) → (b ≡ 120 → ⊥) → (b ≡ 88 → ⊥) → behind_prefix (a ∷ b ∷ rest) ≡ a ∷ b ∷ rest
 unfolding behind_prefix
-plain a b rest h k = rw (differ b 120 h, differ b 88 k) (elim (eqb a 48) as (λ t. cond (t && false) rest (a ∷ b ∷ rest) ≡ a ∷ b ∷ rest) [ true ↦ refl | false ↦ refl ])
+plain a b rest h k = rw (ne_eqb b 120 h, ne_eqb b 88 k) (elim (eqb a 48) as (λ t. cond (t && false) rest (a ∷ b ∷ rest) ≡ a ∷ b ∷ rest) [ true ↦ refl | false ↦ refl ])
 
 not_x : (b : ℕ) → digit_value b < 16 → (b ≡ 120 → ⊥) × (b ≡ 88 → ⊥)
 not_x b h = (λ e. absurd (omega (arith, h, ap digit_value e)), λ e. absurd (omega (arith, h, ap digit_value e)))

@@ -1,9 +1,13 @@
 -- What steps of reading say that came to an end.
-use Rattle.std.proofs.Common.{◌≡◌, ℕ, ◌≤◌, Bool, true, false, cond, eqb, List, [], ◌∷◌, refl, Option, Some, None, Result, Ok, Err}
+use Rattle.std.proofs.Common.{◌≡◌, ℕ, ◌≤◌, Bool, true, false, cond, eqb, List, [], ◌∷◌, refl, Option, Some, None, Result, Ok, Err, zero, suc, arith}
 use Rattle.std.proofs.lemmas.Bool.{eqb-true}
 use Rattle.dfuse_memory.specs.declared.fault.MapFault.{MapFault}
 use Rattle.dfuse_memory.specs.Reading.{NumberRead, ◌>>=◌, or, counting, behind}
-use Rattle.dfuse_memory.proofs.TestLaws.{not_zero}
+
+-- A number that isn't 0 is 1 at least.
+pub not_zero : (n : ℕ) → eqb n 0 ≡ false → 1 ≤ n
+not_zero zero h = absurd (cc)
+not_zero (suc n) h = omega arith
 
 -- Two steps came to an end: the first did, and then the second.
 pub then_ok : {A B : Type 0} (r : Result A MapFault) (f : A → Result B MapFault) (y : B) → (r >>= f) ≡ Ok y → (x : A) × (r ≡ Ok x) × (f x ≡ Ok y)

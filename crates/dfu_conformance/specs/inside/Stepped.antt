@@ -1,10 +1,10 @@
 -- One step of a judge, as it computes.
 use Rattle.std.specs.Prelude.{ℕ, ◌==◌, ◌&&◌, ◌||◌, nat_le, Bool, true, false, zero, suc, List, [], slice_index_or, Option, Some, None, count_ones, if◌then◌else◌}
 use Rattle.std.specs.List.{list_any}
-use Rattle.dfu_conformance.specs.declared.place.Place.{Place}
+use Rattle.dfu_conformance.specs.declared.standard_state.StandardState.{StandardState}
 use Rattle.dfu_conformance.specs.declared.row.Row.{Row}
 use Rattle.dfu_conformance.specs.declared.row.Drift.{Drift}
-use Rattle.dfu_conformance.specs.declared.event.Event.{Event}
+use Rattle.dfu_conformance.specs.declared.event.LogEvent.{LogEvent}
 use Rattle.dfu_conformance.specs.declared.standard.TheConstants.{STANDARD}
 use Rattle.dfu_conformance.specs.declared.marks.TheConstants.{MARKS}
 use Rattle.dfu_conformance.specs.declared.habits.TheConstants.{HABITS}
@@ -13,28 +13,28 @@ use Rattle.dfu_conformance.specs.Fits.{place_number, fits, stays}
 use Rattle.dfu_conformance.specs.Held.{meets, word_has_bit, stands}
 
 -- The row leads a device of these bmAttributes and readings to this place, from where it is held.
-abbrev pub leads : List (List ℕ) → Event → Place → (attributes readings : ℕ) → Row → Bool
+abbrev pub leads : List (List ℕ) → LogEvent → StandardState → (attributes readings : ℕ) → Row → Bool
 leads held e n a r row =
     (place_number row.next == place_number n) && (fits row e && (stands held row.from a r && meets row.when a r))
 
 -- The move leads a device to this place, from where it is held.
-abbrev pub drifts : List (List ℕ) → Place → (attributes readings : ℕ) → Drift → Bool
+abbrev pub drifts : List (List ℕ) → StandardState → (attributes readings : ℕ) → Drift → Bool
 drifts held n a r d = (place_number d.next == place_number n) && (stands held d.from a r && meets d.when a r)
 
 -- A device is held at this place once an event has come, before it moves by itself.
-abbrev pub answered : List (List ℕ) → Event → Place → (attributes readings : ℕ) → Bool
+abbrev pub answered : List (List ℕ) → LogEvent → StandardState → (attributes readings : ℕ) → Bool
 answered held e n a r =
     (((stays e && stands held n a r) || list_any (leads held e n a r) STANDARD) || list_any (leads held e n a r) MARKS)
     || list_any (leads held e n a r) HABITS
 
 -- The same, where the devices held are those of a test.
-abbrev pub drifted : (Place → Bool) → Place → (attributes readings : ℕ) → Bool
+abbrev pub drifted : (StandardState → Bool) → StandardState → (attributes readings : ℕ) → Bool
 drifted held n a r =
     held n || list_any (λ (d : Drift). (place_number d.next == place_number n) && (held d.from && meets d.when a r)) DRIFTS
 
 -- A device is held at this place after an event.
-abbrev pub stepped : List (List ℕ) → Event → Place → (attributes readings : ℕ) → Bool
-stepped held e n a r = drifted (λ (p : Place). answered held e p a r) n a r
+abbrev pub stepped : List (List ℕ) → LogEvent → StandardState → (attributes readings : ℕ) → Bool
+stepped held e n a r = drifted (λ (p : StandardState). answered held e p a r) n a r
 
 -- A test passes at some number below n.
 abbrev pub some_below : (ℕ → Bool) → ℕ → Bool

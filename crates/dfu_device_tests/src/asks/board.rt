@@ -1,8 +1,8 @@
 //! A device that asks, with the memory that its calls take.
 
 use super::chip::Chip;
-use dfu_asks::{Asking, Noted, Piece, Refusal, Reply, Sector, Work};
-use dfu_device::{Answer, Config, Mode};
+use dfu_asks::{Asking, FlashOp, Noted, PendingWrites, Refusal, Reply, Sector};
+use dfu_device::{Answer, Config, DeviceState};
 use std::process::Abort;
 
 /// What is behind the bytes that the device keeps in its memory.
@@ -19,10 +19,10 @@ pub struct Board {
 /// What a board keeps between two calls, but for what it is set up with.
 #[derive(Clone, Copy, PartialEq, Eq, Drop)]
 pub struct Kept {
-    mode: Mode,
+    mode: DeviceState,
     lens: (usize, usize, u32),
     noted: Noted,
-    work: Option<Work>,
+    work: Option<PendingWrites>,
     block: [u8; 1500],
     held: [u8; 256],
 }
@@ -113,7 +113,7 @@ impl Board {
     }
 
     /// The next piece. `bytes` has what it programs.
-    pub fn next(&self, flash: &[u8], bytes: &mut [u8; 256]) -> Option<Piece> {
+    pub fn next(&self, flash: &[u8], bytes: &mut [u8; 256]) -> Option<FlashOp> {
         self.device.next(&self.block, &self.held, flash, bytes)
     }
 

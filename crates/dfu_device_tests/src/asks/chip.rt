@@ -1,7 +1,7 @@
 //! Chips: flash that is written over in place, and NOR flash, in which a program only clears bits, and a byte is programmed
 //! once between two erases.
 
-use dfu_asks::{Mapped, Piece};
+use dfu_asks::{FlashOp, Mapped};
 use dfu_slots::{Medium, SimMedium, Slots, Unit};
 use std::alloc::Global;
 use std::process::Abort;
@@ -121,14 +121,14 @@ impl Chip {
     }
 
     /// Whether a piece lies in the second slot, or in the first one.
-    pub fn is_in(&self, piece: Piece, second: bool) -> bool {
+    pub fn is_in(&self, piece: FlashOp, second: bool) -> bool {
         let from = self.at(second) as u64;
         let to = from.saturating_add(self.at(true) as u64);
         from <= piece.at && piece.at.saturating_add(piece.len as u64) <= to
     }
 
     /// A piece, which programs these bytes, comes to this.
-    pub fn meet(&mut self, rt: &impl Abort, piece: Piece, bytes: &[u8; 256], fate: Fate) {
+    pub fn meet(&mut self, rt: &impl Abort, piece: FlashOp, bytes: &[u8; 256], fate: Fate) {
         for i in 0..piece.len {
             let place = (piece.at as usize).saturating_add(i);
             let (Some(cell), Some(programmed)) = (

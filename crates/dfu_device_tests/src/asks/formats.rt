@@ -1,7 +1,7 @@
 //! Formats whose writes the test carries out.
 
 use super::chip::{Chip, Fate, Kind};
-use dfu_asks::{Formatting, Phase, Progress, Sector};
+use dfu_asks::{FormatProgress, FormatStep, Formatting, Sector};
 use dfu_slots::{FormatFault, Medium, SimMedium, Slots, Unit, WriteFault};
 use std::alloc::Global;
 use std::process::Abort;
@@ -38,7 +38,12 @@ enum Trouble {
 }
 
 /// Formats a chip, with this trouble: what came of it, and how many pieces were asked for.
-fn format(rt: &impl Abort, chip: &mut Chip, image: &[u8], trouble: Trouble) -> (Progress, u32) {
+fn format(
+    rt: &impl Abort,
+    chip: &mut Chip,
+    image: &[u8],
+    trouble: Trouble,
+) -> (FormatProgress, u32) {
     let Some(sector) = Sector::new(chip.kind.sector) else {
         panic!(rt; "no such sector");
     };
@@ -63,10 +68,10 @@ fn format(rt: &impl Abort, chip: &mut Chip, image: &[u8], trouble: Trouble) -> (
         };
         chip.meet(rt, piece, &bytes, fate);
         if trouble == Trouble::Cut(number) {
-            return (Progress::Asks, number);
+            return (FormatProgress::Asks, number);
         }
         match formatting.took(&chip.flash, image, trouble == Trouble::Fails(number)) {
-            Some(Progress::Asks) => {}
+            Some(FormatProgress::Asks) => {}
             Some(progress) => {
                 assert!(rt; formatting.next(&chip.flash, image, &mut bytes).is_none());
                 assert!(rt; formatting.took(&chip.flash, image, false).is_none());
@@ -112,7 +117,7 @@ fn a_format_is_what_was_asked_for(rt: HostRuntime) -> Result<(), Fail> {
                 let image = image_of(rt.alloc(), len)?;
                 let mut chip = used(&rt, rt.alloc(), unit, sector)?;
                 let (progress, pieces) = format(&rt, &mut chip, &image, Trouble::None);
-                assert_eq!(rt; progress, Progress::Formatted);
+                assert_eq!(rt; progress, FormatProgress::Formatted);
                 assert!(rt; has(&rt, rt.alloc(), &chip, &image)?);
                 let programs = (len as u32).div_ceil(256);
                 let erases = if sector == 0 {
@@ -137,22 +142,22 @@ fn each_trouble_of_a_format_is_told(rt: HostRuntime) -> Result<(), Fail> {
             for piece in 0..pieces {
                 let mut chip = used(&rt, rt.alloc(), unit, sector)?;
                 let (progress, _) = format(&rt, &mut chip, &image, Trouble::Fails(piece));
-                assert_eq!(rt; progress, Progress::Broken(WriteFault::Failed));
+                assert_eq!(rt; progress, FormatProgress::Broken(WriteFault::Failed));
                 let (progress, _) = format(&rt, &mut chip, &image, Trouble::None);
-                assert_eq!(rt; progress, Progress::Formatted);
+                assert_eq!(rt; progress, FormatProgress::Formatted);
                 let mut chip = used(&rt, rt.alloc(), unit, sector)?;
                 // Where it changes nothing that stands there is no lie.
                 let (progress, _) = format(&rt, &mut chip, &image, Trouble::Lies(piece));
-                if progress == Progress::Formatted {
+                if progress == FormatProgress::Formatted {
                     assert!(rt; has(&rt, rt.alloc(), &chip, &image)?);
                 } else {
-                    assert_eq!(rt; progress, Progress::Broken(WriteFault::NotVerified));
+                    assert_eq!(rt; progress, FormatProgress::Broken(WriteFault::NotVerified));
                 }
                 let mut chip = used(&rt, rt.alloc(), unit, sector)?;
                 let (progress, _) = format(&rt, &mut chip, &image, Trouble::Cut(piece));
-                assert_eq!(rt; progress, Progress::Asks);
+                assert_eq!(rt; progress, FormatProgress::Asks);
                 let (progress, _) = format(&rt, &mut chip, &image, Trouble::None);
-                assert_eq!(rt; progress, Progress::Formatted);
+                assert_eq!(rt; progress, FormatProgress::Formatted);
                 assert!(rt; has(&rt, rt.alloc(), &chip, &image)?);
             }
         }
@@ -184,15 +189,15 @@ fn a_garbled_format_stays_within_its_flash(rt: HostRuntime) -> Result<(), Fail> 
     };
     let size = chip.flash.len() as u64;
     for phase in [
-        Phase::CloseSecond,
-        Phase::CloseFirst,
-        Phase::Image { from: 0 },
-        Phase::Image { from: 777 },
-        Phase::Image { from: 4096 },
-        Phase::Image { from: u32::MAX },
-        Phase::Header,
-        Phase::Gate,
-        Phase::Ended,
+        FormatStep::CloseSecond,
+        FormatStep::CloseFirst,
+        FormatStep::Image { from: 0 },
+        FormatStep::Image { from: 777 },
+        FormatStep::Image { from: 4096 },
+        FormatStep::Image { from: u32::MAX },
+        FormatStep::Header,
+        FormatStep::Gate,
+        FormatStep::Ended,
     ] {
         for done in [0, 1, 255, 256, 1023, 1024, 1040, 5000, u32::MAX] {
             let mut formatting = Formatting {

@@ -1,10 +1,10 @@
 //! What is noted of the active image after a download, and after one whose commit failed.
 
-use super::CLR_STATUS;
 use super::board::Board;
 use super::chip::{Chip, Fate, KINDS, Kind};
 use super::rows::{idle, install};
 use super::trouble::Trouble;
+use crate::requests::CLR_STATUS;
 use dfu_asks::Noted;
 use dfu_device::Answer;
 use std::process::Abort;

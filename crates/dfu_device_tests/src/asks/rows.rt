@@ -3,7 +3,8 @@
 use super::board::Board;
 use super::chip::{Chip, KINDS};
 use super::trouble::Trouble;
-use super::{DETACH, GET_STATUS, config, dnload};
+use super::{config, dnload};
+use crate::requests::{DETACH, GET_STATUS};
 use dfu_asks::{Refusal, Reply};
 use dfu_device::Answer;
 use std::process::Abort;

@@ -4,7 +4,8 @@ ghost use Rattle.std.specs.Prelude.{◌<◌};
 
 use super::cells::{cell, seen};
 use super::stations::{IMAGE, STATIONS, Station};
-use super::{IDS, carry_out, device_on, functional, play};
+use super::{carry_out, device_on, functional, play};
+use crate::requests::IDS;
 use arrayvec::ArrayVec;
 use dfu_device::{Answer, Config, Device};
 use dfu_slots::SimMedium;

@@ -3,9 +3,10 @@
 ghost use Rattle.std.specs.Prelude.{◌≡◌};
 
 use super::stations::{IMAGE, STATIONS, Station};
-use super::{BLOCK, IDS, device_on, functional, play};
+use super::{BLOCK, device_on, functional, play};
+use crate::requests::IDS;
 use arrayvec::ArrayVec;
-use dfu_device::{Config, Device, Mode};
+use dfu_device::{Config, Device, DeviceState};
 use dfu_slots::{Medium, SimMedium, Slots};
 use dfu_wire::Code;
 use std::alloc::Global;
@@ -64,30 +65,30 @@ fn a_device_goes_on_wherever_it_was_taken_apart(rt: HostRuntime) -> Result<(), F
 /// Where a device may be said to stand on a store of which 4 bytes of 64 were put, the length of its block, and whether it
 /// is a device.
 #[rattlefmt::skip]
-static SAID: [(Mode, usize, bool); 18] = [
-    (Mode::DownloadIdle { written: 4, number: 1 }, 0, true),
-    (Mode::DownloadIdle { written: 5, number: 1 }, 0, false),
-    (Mode::DownloadIdle { written: 3, number: 1 }, 0, false),
-    (Mode::DownloadSyncWritten { written: 4, number: 1 }, 0, true),
-    (Mode::DownloadSyncWritten { written: 0, number: 1 }, 0, false),
-    (Mode::DownloadSync { written: 4, number: 1 }, 60, true),
-    (Mode::DownloadSync { written: 4, number: 1 }, 61, false),
-    (Mode::DownloadSync { written: 4, number: 1 }, 0, false),
-    (Mode::DownloadSync { written: 0, number: 1 }, 64, true),
-    (Mode::DownloadBusy { written: 4, number: 1, passed: 9 }, 1, true),
-    (Mode::DownloadBusy { written: 2, number: 1, passed: 9 }, 1, false),
-    (Mode::ManifestSync { written: 4 }, 0, true),
-    (Mode::ManifestSync { written: 64 }, 0, false),
-    (Mode::Manifest { written: 4, passed: 0 }, 0, true),
-    (Mode::Manifest { written: 0, passed: 0 }, 0, false),
-    (Mode::DfuIdle, 64, true),
-    (Mode::UploadIdle { place: 70, number: 9 }, 0, true),
-    (Mode::Error { code: Code::Ok }, 0, true),
+static SAID: [(DeviceState, usize, bool); 18] = [
+    (DeviceState::DownloadIdle { written: 4, number: 1 }, 0, true),
+    (DeviceState::DownloadIdle { written: 5, number: 1 }, 0, false),
+    (DeviceState::DownloadIdle { written: 3, number: 1 }, 0, false),
+    (DeviceState::DownloadSyncWritten { written: 4, number: 1 }, 0, true),
+    (DeviceState::DownloadSyncWritten { written: 0, number: 1 }, 0, false),
+    (DeviceState::DownloadSync { written: 4, number: 1 }, 60, true),
+    (DeviceState::DownloadSync { written: 4, number: 1 }, 61, false),
+    (DeviceState::DownloadSync { written: 4, number: 1 }, 0, false),
+    (DeviceState::DownloadSync { written: 0, number: 1 }, 64, true),
+    (DeviceState::DownloadBusy { written: 4, number: 1, passed: 9 }, 1, true),
+    (DeviceState::DownloadBusy { written: 2, number: 1, passed: 9 }, 1, false),
+    (DeviceState::ManifestSync { written: 4 }, 0, true),
+    (DeviceState::ManifestSync { written: 64 }, 0, false),
+    (DeviceState::Manifest { written: 4, passed: 0 }, 0, true),
+    (DeviceState::Manifest { written: 0, passed: 0 }, 0, false),
+    (DeviceState::DfuIdle, 64, true),
+    (DeviceState::UploadIdle { place: 70, number: 9 }, 0, true),
+    (DeviceState::Error { code: Code::Ok }, 0, true),
 ];
 
 /// Whether these are a device's, and the store.
 #[rattlefmt::skip]
-fn said(config: Config, slots: Slots<SimMedium>, mode: Mode, len: usize) -> (Slots<SimMedium>, bool) {
+fn said(config: Config, slots: Slots<SimMedium>, mode: DeviceState, len: usize) -> (Slots<SimMedium>, bool) {
     let mut block = ArrayVec::new();
     let bytes = [7; 64];
     let _ = block.try_extend_from_slice(&bytes[..len.min(64)]);
@@ -99,7 +100,7 @@ fn said(config: Config, slots: Slots<SimMedium>, mode: Mode, len: usize) -> (Slo
 
 /// Whether a device of this store can be put there in place, and the store.
 #[rattlefmt::skip]
-fn set(config: Config, slots: Slots<SimMedium>, mode: Mode, len: usize) -> (Slots<SimMedium>, bool) {
+fn set(config: Config, slots: Slots<SimMedium>, mode: DeviceState, len: usize) -> (Slots<SimMedium>, bool) {
     let mut device = Device::start(config, slots);
     let done = device.set_parts(mode, &[7; 64][..len.min(64)]);
     (device.into_parts().0, done)
@@ -110,7 +111,7 @@ fn parts_that_are_no_devices_are_refused(rt: HostRuntime) -> Result<(), Fail> {
     let config = Config::new(IDS, functional(0x07), 1, 5, 10)?;
     let device = device_on(SimMedium::new(rt.alloc(), 192)?, config, &IMAGE)?;
     let (slots, mode, _) = device.into_parts();
-    assert!(rt; mode == Mode::AppIdle && slots.put_end() == 0);
+    assert!(rt; mode == DeviceState::AppIdle && slots.put_end() == 0);
     // nothing is put yet
     let (mut slots, whole) = said(config, slots, SAID[0].0, 0);
     assert!(rt; !whole);
@@ -137,11 +138,11 @@ fn parts_that_are_no_devices_are_refused(rt: HostRuntime) -> Result<(), Fail> {
 fn a_block_of_over_4096_bytes_is_none(rt: HostRuntime) -> Result<(), Fail> {
     let config = Config::new(IDS, functional(0x07), 1, 5, 10)?;
     let mut device = device_on(SimMedium::new(rt.alloc(), 16448)?, config, &IMAGE)?;
-    let sync = Mode::DownloadSync {
+    let sync = DeviceState::DownloadSync {
         written: 0,
         number: 1,
     };
-    assert!(rt; !device.set_parts(sync, &[7; 4097]) && device.parts().0 == Mode::AppIdle);
+    assert!(rt; !device.set_parts(sync, &[7; 4097]) && device.parts().0 == DeviceState::AppIdle);
     assert!(rt; device.set_parts(sync, &[7; 4096]) && device.parts().0 == sync);
     Ok(())
 }

@@ -2,9 +2,8 @@
 
 use super::Cause::{Ask, Reset};
 use super::uploads::TO_DFU_IDLE;
-use super::{
-    CLR_STATUS, DETACH, GET_STATUS, IDS, Row, UPLOAD, device, device_on, functional, play,
-};
+use super::{Row, device, device_on, functional, play};
+use crate::requests::{CLR_STATUS, DETACH, GET_STATUS, IDS, UPLOAD};
 use arrayvec::ArrayVec;
 use dfu_device::{Answer, Config};
 use dfu_slots::SimMedium;

@@ -2,7 +2,8 @@
 
 use super::apart::config_of;
 use super::stations::{IMAGE, STATIONS};
-use super::{Cause, GET_STATUS, Row, device, device_on, functional};
+use super::{Cause, Row, device, device_on, functional};
+use crate::requests::GET_STATUS;
 use dfu_device::{Answer, Device};
 use dfu_slots::SimMedium;
 use std::process::Abort;

@@ -4,9 +4,8 @@ use super::Cause::{Ask, Wait};
 use super::blocks::{CLEARED, WHOLE, WRITTEN};
 use super::restart::restarted;
 use super::uploads::TO_DFU_IDLE;
-use super::{
-    BLOCK, CLOSE, FIRST, GET_STATUS, IDS, Row, UPLOAD, device, device_on, functional, play,
-};
+use super::{BLOCK, CLOSE, FIRST, Row, device, device_on, functional, play};
+use crate::requests::{GET_STATUS, IDS, UPLOAD};
 use dfu_device::{Answer, Config};
 use dfu_slots::{SimMedium, Unit};
 use dfu_wire::State;

@@ -2,7 +2,8 @@
 
 use super::Cause::Ask;
 use super::uploads::TO_DFU_IDLE;
-use super::{GET_STATUS, IDS, Row, device_on, functional, play};
+use super::{Row, device_on, functional, play};
+use crate::requests::{GET_STATUS, IDS};
 use arrayvec::ArrayVec;
 use dfu_device::{Answer, Config, Device};
 use dfu_slots::SimMedium;

@@ -2,10 +2,8 @@
 
 use super::Cause::{Ask, Reset, Wait};
 use super::restart::restarted;
-use super::{
-    ABORT, BLOCK, CLOSE, CLR_STATUS, DETACH, FIRST, GET_STATE, GET_STATUS, IDS, Row, SECOND,
-    UPLOAD, device, functional, play,
-};
+use super::{BLOCK, CLOSE, FIRST, Row, SECOND, device, functional, play};
+use crate::requests::{ABORT, CLR_STATUS, DETACH, GET_STATE, GET_STATUS, IDS, UPLOAD};
 use dfu_device::{Answer, Config, ConfigFault};
 use dfu_wire::{Code, Functional, State};
 use std::test::Fail;

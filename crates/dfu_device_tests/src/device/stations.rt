@@ -3,7 +3,8 @@
 use super::Cause::{Ask, Reset, Wait};
 use super::rows::{NOT_TOLERANT, TOO_SHORT, WILLING};
 use super::uploads::TO_DFU_IDLE;
-use super::{BLOCK, CLOSE, CLR_STATUS, DETACH, FIRST, GET_STATUS, Row, SECOND, UPLOAD};
+use super::{BLOCK, CLOSE, FIRST, Row, SECOND};
+use crate::requests::{CLR_STATUS, DETACH, GET_STATUS, UPLOAD};
 use dfu_device::Answer;
 use dfu_wire::State;
 

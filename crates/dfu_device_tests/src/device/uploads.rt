@@ -1,10 +1,8 @@
 //! Uploads row by row, with bytes worked out by hand.
 
 use super::Cause::{Ask, Reset};
-use super::{
-    ABORT, BLOCK, CLOSE, CLR_STATUS, DETACH, FIRST, GET_STATE, GET_STATUS, IDS, Row, UPLOAD,
-    device, device_on, functional, play,
-};
+use super::{BLOCK, CLOSE, FIRST, Row, device, device_on, functional, play};
+use crate::requests::{ABORT, CLR_STATUS, DETACH, GET_STATE, GET_STATUS, IDS, UPLOAD};
 use dfu_device::{Answer, Config, Device};
 use dfu_slots::SimMedium;
 use dfu_wire::State;

@@ -95,4 +95,12 @@ impl Board {
         self.took(image, due, false);
         Ok(())
     }
+
+    /// These are due one after the other, and each is carried out.
+    pub fn does_each(&mut self, rt: &impl Abort, image: &[u8], dues: &[Due]) -> Result<(), Fail> {
+        for due in dues {
+            self.does(rt, image, *due)?;
+        }
+        Ok(())
+    }
 }

@@ -4,17 +4,22 @@ use crate::install::board::{Board, blank, first, image};
 use dfu_install::{Due, Refusal, took};
 use std::test::Fail;
 
+/// What fills the whole run area, where nothing is in place.
+static WHOLE: [Due; 6] = [
+    Due::Erase(0),
+    Due::Program(0),
+    Due::Program(256),
+    Due::Erase(512),
+    Due::Program(512),
+    Due::Program(768),
+];
+
 #[test]
 fn image_as_large_as_the_area(rt: HostRuntime) -> Result<(), Fail> {
     let bytes = image();
     let image = first(&bytes, 1024);
     let mut board = blank();
-    board.does(&rt, image, Due::Erase(0))?;
-    board.does(&rt, image, Due::Program(0))?;
-    board.does(&rt, image, Due::Program(256))?;
-    board.does(&rt, image, Due::Erase(512))?;
-    board.does(&rt, image, Due::Program(512))?;
-    board.does(&rt, image, Due::Program(768))?;
+    board.does_each(&rt, image, &WHOLE)?;
     board.expects(&rt, image, Due::Start)
 }
 
@@ -27,12 +32,7 @@ fn most_operations(rt: HostRuntime) -> Result<(), Fail> {
     board.run[256] = 0;
     board.last = Some(0);
     board.does(&rt, image, Due::Program(0))?;
-    board.does(&rt, image, Due::Erase(0))?;
-    board.does(&rt, image, Due::Program(0))?;
-    board.does(&rt, image, Due::Program(256))?;
-    board.does(&rt, image, Due::Erase(512))?;
-    board.does(&rt, image, Due::Program(512))?;
-    board.does(&rt, image, Due::Program(768))?;
+    board.does_each(&rt, image, &WHOLE)?;
     board.expects(&rt, image, Due::Start)
 }
 

@@ -8,7 +8,7 @@ use dfu_slots::Unit;
 
 /// Two slots with a sector of 256 bytes each for gate, header and data, programmed in units of 16.
 #[derive(Drop)]
-pub(crate) struct Part {
+pub(crate) struct SimulatedNor {
     bytes: [u8; 1536],
     /// How many units were programmed that were not erased.
     pub(crate) twice: u32,
@@ -16,10 +16,10 @@ pub(crate) struct Part {
     pub(crate) erases: u32,
 }
 
-impl Part {
+impl SimulatedNor {
     // Of no use yet: any bytes stand in it.
-    pub(crate) fn new() -> Part {
-        Part {
+    pub(crate) fn new() -> SimulatedNor {
+        SimulatedNor {
             bytes: [0x5a; 1536],
             twice: 0,
             erases: 0,
@@ -35,7 +35,7 @@ fn write_over(bytes: &mut [u8; 1536], at: usize, new: &[u8])
     bytes[at..at + new.len()].copy_from_slice(new);
 }
 
-impl Flash for Part {
+impl Flash for SimulatedNor {
     ghost use Rattle.dfu_slots.specs.declared.unit.Unit.TheVariants.{U16};
 
     ghost cells = { λ p. p.bytes };

@@ -9,7 +9,7 @@ use Rattle.dfuse_host.specs.declared.place.Place.TheVariants as place
 use Rattle.dfuse_host.specs.declared.step.Step.{Step}
 use Rattle.dfuse_host.specs.declared.step.Step.TheVariants as step
 use Rattle.dfu_host_c.specs.dfuse.ReportNumbers.{more_in, dfuse_report_at, dfuse_report_number}
-use Rattle.dfu_host_c.specs.declared.dfuse.phases.Numbers.{Numbers}
+use Rattle.dfu_host_c.specs.declared.dfuse.phases.EncodedDfusePhase.{EncodedDfusePhase}
 
 -- The work of this number, 0 to 6, at this address and up to that; none if there is none.
 abbrev pub work_at : (number at end : ℕ) → Option Work
@@ -56,7 +56,7 @@ abbrev on : Work → Place → Step → Phase
 on w p s = On (record { work = w; place = p; step = s })
 
 -- The phase of these numbers: of a session that is over, or of one that goes on; none if there is none.
-abbrev pub dfuse_phase_at : Numbers → Option Phase
+abbrev pub dfuse_phase_at : EncodedDfusePhase → Option Phase
 dfuse_phase_at n =
     if n.work == 7 then option_map Over (dfuse_report_at n.report n.more)
     else option_and_then (λ w. option_and_then (λ p. option_map (on w p) (step_at n.step n.more)) (place_at n.place n.pointer))
@@ -141,7 +141,7 @@ ms_in step.CloseProbe = 0
 ms_in step.ClosePoll = 0
 
 -- The numbers that the library writes for a phase: what it does not have is 0.
-abbrev pub dfuse_numbers_in : Phase → Numbers
+abbrev pub dfuse_numbers_in : Phase → EncodedDfusePhase
 dfuse_numbers_in (On s) = record {
   work = work_number s.work;
   at = at_in s.work;

@@ -10,12 +10,12 @@ use Rattle.dfuse_host.specs.declared.plan.Plan.{Plan}
 use Rattle.dfuse_host.specs.declared.session.Session.{Session}
 use Rattle.dfu_host_c.specs.Sessions.{version}
 use Rattle.dfu_host_c.specs.dfuse.PhaseNumbers.{dfuse_numbers_in, dfuse_phase_at}
-use Rattle.dfu_host_c.specs.declared.dfuse.phases.Numbers.{Numbers}
+use Rattle.dfu_host_c.specs.declared.dfuse.phases.EncodedDfusePhase.{EncodedDfusePhase}
 use Rattle.dfu_host_c.specs.declared.dfuse.plan.DfusePlan.{DfusePlan}
 use Rattle.dfu_host_c.specs.declared.dfuse.session.DfuseSession.{DfuseSession}
 
 -- The numbers of a record's phase.
-abbrev pub numbers_of : DfuseSession → Numbers
+abbrev pub numbers_of : DfuseSession → EncodedDfusePhase
 numbers_of r = record {
   work = r.work;
   at = r.at;

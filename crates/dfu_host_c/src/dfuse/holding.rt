@@ -5,17 +5,17 @@ ghost use Rattle.dfuse_memory.specs.Grammar.{IsMap};
 ghost use Rattle.dfuse_memory.specs.Reading.{MapContent};
 ghost use Rattle.dfu_host_c.specs.dfuse.Sessions.{numbers_of, phase_in, dfuse_record_of, session_in};
 
-use crate::dfuse::phases::{Numbers, numbers_of, phase_at};
+use crate::dfuse::phases::{EncodedDfusePhase, numbers_of, phase_at};
 use crate::dfuse::session::DfuseSession;
 use crate::version::VERSION;
 use dfuse_host::{Element, Phase, Plan, Session};
 use dfuse_memory::Map;
 
 /// The numbers of a record's phase.
-fn numbers_in(given: &DfuseSession) -> Numbers
+fn numbers_in(given: &DfuseSession) -> EncodedDfusePhase
     ensures { result ≡ numbers_of given.now }
 {
-    Numbers {
+    EncodedDfusePhase {
         work: given.work,
         at: given.at,
         end: given.end,

@@ -9,7 +9,7 @@ use dfuse_host::{Phase, Place, Standing, Step, Work};
 
 /// A phase as numbers.
 #[derive(Clone, Copy)]
-pub(crate) struct Numbers {
+pub(crate) struct EncodedDfusePhase {
     pub(crate) work: u32,
     pub(crate) at: u64,
     pub(crate) end: u64,
@@ -73,7 +73,7 @@ fn step_at(number: u32, ms: u32) -> Option<Step>
 }
 
 /// The phase of these numbers; none if there is none.
-pub(crate) fn phase_at(n: Numbers) -> Option<Phase>
+pub(crate) fn phase_at(n: EncodedDfusePhase) -> Option<Phase>
     ensures { result ≡ dfuse_phase_at n }
 {
     if n.work == 7 {
@@ -152,7 +152,7 @@ fn step_numbers(step: Step) -> (u32, u32)
 }
 
 /// The numbers of a phase.
-pub(crate) fn numbers_of(phase: Phase) -> Numbers
+pub(crate) fn numbers_of(phase: Phase) -> EncodedDfusePhase
     ensures phase { dfuse_phase_at result ≡ Some phase }
     ensures numbers { result ≡ dfuse_numbers_in phase }
 {
@@ -160,7 +160,7 @@ pub(crate) fn numbers_of(phase: Phase) -> Numbers
         Phase::On(standing) => numbers_on(standing),
         Phase::Over(report) => {
             let (report, more) = report_numbers(report);
-            Numbers {
+            EncodedDfusePhase {
                 work: 7,
                 at: 0,
                 end: 0,
@@ -175,14 +175,14 @@ pub(crate) fn numbers_of(phase: Phase) -> Numbers
 }
 
 /// The numbers of a session that goes on.
-fn numbers_on(standing: Standing) -> Numbers
+fn numbers_on(standing: Standing) -> EncodedDfusePhase
     ensures phase { dfuse_phase_at result ≡ Some (On standing) }
     ensures numbers { result ≡ dfuse_numbers_in (On standing) }
 {
     let (work, at, end) = work_numbers(standing.work);
     let (place, pointer) = place_numbers(standing.place);
     let (step, more) = step_numbers(standing.step);
-    Numbers {
+    EncodedDfusePhase {
         work,
         at,
         end,

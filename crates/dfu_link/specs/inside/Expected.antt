@@ -2,13 +2,13 @@
 use Rattle.std.specs.Prelude.{◌≡◌, ℕ, List, Option, Some, None, Result, OnOk, OnErr, IfErr}
 use Rattle.std.specs.Io.KnownBytes.{Appends}
 use Rattle.dfu_host.specs.declared.limits.Limits.{Limits}
-use Rattle.dfu_sim.specs.Bench.{Bench}
+use Rattle.dfu_sim.specs.LinkView.{LinkView}
 use Rattle.dfu_suffix.specs.Writing.{IsOutInPart}
 use Rattle.dfu_link.specs.Expecting.{Expectation, Meets, still, FailsToPrint}
 use Rattle.dfu_link.specs.Said.{given_bytes}
 use Rattle.dfu_link.specs.ScriptRun.{Point}
 use Rattle.dfu_link.specs.declared.scripting.expectation.Expectation.{Expectation as ExpectationHeld}
-use Rattle.dfu_link.specs.declared.scripting.expectation.Ahead.{Ahead}
+use Rattle.dfu_link.specs.declared.scripting.expectation.ScriptContext.{ScriptContext}
 use Rattle.dfu_link.specs.declared.scripting.fault.ScriptFault.{ScriptFault}
 use Rattle.dfu_link.specs.declared.scripting.fault.ScriptFault.TheVariants.{NonePrinted, NoMemory, Write}
 
@@ -24,11 +24,11 @@ expectation_of None = None
 expectation_of (Some e) = Some (record { number = e.number; text = e.text.items })
 
 -- The bytes that are given, those of a check, these limits, what is expected, and this link.
-abbrev pub point_at : (given : Option (List ℕ)) → (check : List ℕ) → Limits → Option Expectation → Bench → Point
+abbrev pub point_at : (given : Option (List ℕ)) → (check : List ℕ) → Limits → Option Expectation → LinkView → Point
 point_at given check limits next at = record { given = given; check = check; limits = limits; next = next; at = at }
 
 -- What is held for the lines to come, and this link.
-abbrev pub at_point : Ahead → Bench → Point
+abbrev pub at_point : ScriptContext → LinkView → Point
 at_point a at = point_at (given_bytes a.given) a.check.now a.limits (expectation_of a.next) at
 
 -- A text is out, which is as expected, and what is expected after it.

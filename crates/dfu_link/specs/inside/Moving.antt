@@ -2,8 +2,8 @@
 use Rattle.std.specs.Prelude.{◌≡◌, ℕ, ◌+◌, List, [], ◌++◌, Bool, Option, Some, None, Result, IfSome, OnOk, IfErr, replicate}
 use Rattle.std.specs.Io.KnownBytes.{Appends, IsAtEnd}
 use Rattle.dfu_slots.specs.Medium.Fuse.{Whole}
-use Rattle.dfu_device.specs.Shown.{Shown}
-use Rattle.dfu_sim.specs.Bench.{Bench}
+use Rattle.dfu_device.specs.DeviceView.{DeviceView}
+use Rattle.dfu_sim.specs.LinkView.{LinkView}
 use Rattle.dfu_sim.specs.Happening.{Happening, Goes, Pass, unharmed}
 use Rattle.dfu_link.specs.Texts.{image_line}
 use Rattle.dfu_link.specs.Words.{lines_of}
@@ -14,23 +14,25 @@ use Rattle.dfu_link.specs.Falls.{HasBroken, BreaksIn, LineFalls, NextFalls}
 use Rattle.dfu_link.specs.TextLimit.{GoesOver, IsStopped}
 use Rattle.dfu_link.specs.Expecting.{Expectation, Meets}
 use Rattle.dfu_link.specs.inside.Expected.{at_point, Prints}
-use Rattle.dfu_link.specs.declared.scripting.expectation.Ahead.{Ahead}
+use Rattle.dfu_link.specs.declared.scripting.expectation.ScriptContext.{ScriptContext}
 use Rattle.dfu_link.specs.inside.Source.{SourceState, GivesLines, Next, StopsSource}
 use Rattle.dfu_link.specs.declared.scripting.line.EventLine.{EventLine as EventLineRead}
-use Rattle.dfu_link.specs.declared.scripting.held.OfferedFile.{OfferedFile}
-use Rattle.dfu_link.specs.declared.scripting.held.OfferedFile.TheVariants.{Decoded, Given}
+use Rattle.dfu_link.specs.declared.scripting.offered_file.OfferedFile.{OfferedFile}
+use Rattle.dfu_link.specs.declared.scripting.offered_file.OfferedFile.TheVariants.{Decoded, Given}
 use Rattle.dfu_link.specs.declared.scripting.fault.ScriptFault.{ScriptFault}
 use Rattle.dfu_link.specs.declared.scripting.fault.ScriptFault.TheVariants.{NoMemory}
 
 -- Events were played, and what they print is out, as expected.
-pub record HasPlayed (check : List ℕ) (b : Bench) (e : Option Expectation) (events : List Happening) (old : Option (List ℕ)) (b' : Bench) (e' : Option Expectation)
+pub record HasPlayed (check : List ℕ) (b : LinkView) (e : Option Expectation) (events : List Happening) (old : Option (List ℕ))
+    (b' : LinkView) (e' : Option Expectation)
     (new : Option (List ℕ)) : Type 0 where
   pub out : List ℕ
   pub plays : AllCome check b events out b'
   pub prints : Prints e old out e' new
 
 -- How playing events went: with Ok they were played, and with a fault it stopped among them.
-pub record PlaysEvents (check : List ℕ) (b : Bench) (e : Option Expectation) (events : List Happening) (old : Option (List ℕ)) (b' : Bench)
+pub record PlaysEvents (check : List ℕ) (b : LinkView) (e : Option Expectation) (events : List Happening) (old : Option (List ℕ))
+    (b' : LinkView)
     (e' : Option Expectation) (new : Option (List ℕ)) (r : Result Unit ScriptFault) : Type 0 where
   pub ok : OnOk r (HasPlayed check b e events old b' e' new)
   pub fault : IfErr r (λ f. HasBroken check b e events old new f)
@@ -52,7 +54,7 @@ pub record DoesLine (p : Point) (said : Said) (old : Option (List ℕ)) (p' : Po
   pub fault : IfErr r (λ f. HasStopped p said old new f)
 
 -- The host passed so often that nothing was printed of it.
-pub record SilentPasses (check : List ℕ) (b : Bench) (e : Option Expectation) (old : Option (List ℕ)) (b' : Bench)
+pub record SilentPasses (check : List ℕ) (b : LinkView) (e : Option Expectation) (old : Option (List ℕ)) (b' : LinkView)
     (e' : Option Expectation) (new : Option (List ℕ)) : Type 0 where
   pub times : ℕ
   pub plays : AllCome check b (replicate times (Goes Pass unharmed)) [] b'
@@ -60,7 +62,7 @@ pub record SilentPasses (check : List ℕ) (b : Bench) (e : Option Expectation) 
 
 -- The file of an offer; other lines have none.
 abbrev pub file_bytes : Said → List ℕ
-file_bytes (Does (Offer aim file)) = file
+file_bytes (Does (Offer purpose file)) = file
 file_bytes said = []
 
 -- The bytes of a file that is offered, as the code holds it.
@@ -116,26 +118,26 @@ pub record MovesAndFalls (p : Point) (s : SourceState) (old new : Option (List �
   pub falls : FallsHere to at mid new fault
 
 -- A medium of a device that is not armed.
-abbrev pub IsUnarmed : Shown → Type 0
+abbrev pub IsUnarmed : DeviceView → Type 0
 IsUnarmed d = d.slots.medium.fuse ≡ Whole
 
 -- Lines were done until no session was live, and the device is given back; or all lines were done, and last the line of the image is out.
-pub data LinesDone (p : Point) (s : SourceState) (old : Option (List ℕ)) (to : Bench → Point) (s' : SourceState) (new : Option (List ℕ))
-    : Option Shown → Type 0 where
+pub data LinesDone (p : Point) (s : SourceState) (old : Option (List ℕ)) (to : LinkView → Point) (s' : SourceState) (new : Option (List ℕ))
+    : Option DeviceView → Type 0 where
   all_done : Ends p s old new → LinesDone p s old to s' new None
-  gives_back : {d : Shown} → Moves p s old (to (at_rest d)) s' new → LinesDone p s old to s' new (Some d)
+  gives_back : {d : DeviceView} → Moves p s old (to (at_rest d)) s' new → LinesDone p s old to s' new (Some d)
 
 -- A line was done but for its events, whatever the session: it said none, or these are left to play.
-pub data Plainly (d : Shown) (l : Ahead) (k : ℕ) (line : List ℕ) (old : Option (List ℕ))
-    : Option EventLineRead → Ahead → Option (List ℕ) → Type 0 where
-  says_none : {l' : Ahead} {new : Option (List ℕ)}
-      → ((b : Bench) → b.device ≡ d → Steps k (at_point l b) line old (at_point l' b) new) → Plainly d l k line old None l' new
+pub data Plainly (d : DeviceView) (l : ScriptContext) (k : ℕ) (line : List ℕ) (old : Option (List ℕ))
+    : Option EventLineRead → ScriptContext → Option (List ℕ) → Type 0 where
+  says_none : {l' : ScriptContext} {new : Option (List ℕ)}
+      → ((b : LinkView) → b.device ≡ d → Steps k (at_point l b) line old (at_point l' b) new) → Plainly d l k line old None l' new
   says_events : {events : EventLineRead} → line_of (given_bytes l.given) line ≡ Some (said_by events)
       → Plainly d l k line old (Some events) l old
 
 -- A line falls but for its events, whatever the session.
-abbrev pub PlainlyFalls : Shown → Ahead → ℕ → List ℕ → Option (List ℕ) → Option (List ℕ) → ScriptFault → Type 0
-PlainlyFalls d l k line old new fault = (b : Bench) → b.device ≡ d → LineFalls (at_point l b) k line old new fault
+abbrev pub PlainlyFalls : DeviceView → ScriptContext → ℕ → List ℕ → Option (List ℕ) → Option (List ℕ) → ScriptFault → Type 0
+PlainlyFalls d l k line old new fault = (b : LinkView) → b.device ≡ d → LineFalls (at_point l b) k line old new fault
 
 -- Lines that a source gave have set something.
 pub record Prepared (x : Settings) (s : SourceState) (x' : Settings) (s' : SourceState) : Type 0 where
@@ -165,7 +167,7 @@ CannotConfigure x s fault = StopsSetting x s fault
 
 -- There is no memory for the file that is offered.
 abbrev pub FindsNoRoom : Said → ScriptFault → Type 0
-FindsNoRoom (Does (Offer aim file)) fault = fault ≡ NoMemory
+FindsNoRoom (Does (Offer purpose file)) fault = fault ≡ NoMemory
 FindsNoRoom said fault = ⊥
 
 -- There is no memory for the tear that a line brings.

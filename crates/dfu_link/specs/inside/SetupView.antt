@@ -1,4 +1,4 @@
--- What the setup of the code stands for.
+-- What the `ScriptConfig` of the code stands for.
 use Rattle.std.specs.Prelude.{ℕ, List, [], ◌∷◌, Option, Some, None, Vec}
 use Rattle.std.specs.declared.alloc.Global.{Global}
 use Rattle.dfu_link.specs.Said.{given_bytes}
@@ -6,7 +6,7 @@ use Rattle.dfu_link.specs.ScriptRun.{Settings}
 use Rattle.dfu_slots.specs.declared.unit.Unit.{Unit as WriteUnit}
 use Rattle.dfu_slots.specs.Units.{Grain}
 use Rattle.dfu_link.specs.declared.scripting.line.Sector.{Sector}
-use Rattle.dfu_link.specs.declared.scripting.setup.Setup.{Setup}
+use Rattle.dfu_link.specs.declared.scripting.script_config.ScriptConfig.{ScriptConfig}
 
 -- The image at first; where none is set it is the byte 00.
 abbrev pub image_bytes : Option (Vec ℕ Global) → List ℕ
@@ -23,7 +23,7 @@ abbrev pub setup_grain : WriteUnit → Sector → Grain
 setup_grain unit sector = record { unit = unit; sector = sector.bytes }
 
 -- What is set.
-abbrev pub settings_of : Setup → Settings
+abbrev pub settings_of : ScriptConfig → Settings
 settings_of s = record {
   device = record { ids = s.ids; functional = s.functional; least = s.least; busy_ms = s.busy_ms; manifest_ms = s.manifest_ms };
   grain = setup_grain s.unit s.sector;

@@ -23,7 +23,7 @@ pub(crate) struct Expectation {
 /// which an image begins that the program takes, the limits of later sessions, which line is
 /// expected, and where it is noted what is wrong with a line.
 #[derive(Drop)]
-pub(crate) struct Ahead<'g> {
+pub(crate) struct ScriptContext<'g> {
     pub given: Option<&'g [u8]>,
     pub check: &'g [u8],
     pub limits: Limits,

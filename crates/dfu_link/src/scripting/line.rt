@@ -4,7 +4,7 @@ ghost use Rattle.std.specs.Prelude.{◌≡◌, ◌%◌, ◌≤◌};
 
 use crate::scripting::hex_text::HexText;
 use dfu_device::Objection;
-use dfu_sim::{Aim, Fate};
+use dfu_sim::{Fate, Purpose};
 use dfu_slots::Unit;
 use dfu_wire::{Functional, Ids};
 
@@ -70,7 +70,7 @@ pub(crate) enum Offered<'l, 'g> {
 pub(crate) enum EventLine<'l, 'g> {
     /// A file is offered.
     Offer {
-        aim: Aim,
+        purpose: Purpose,
         file: Offered<'l, 'g>,
     },
     /// An upload begins.

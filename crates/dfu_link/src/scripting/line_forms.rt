@@ -13,7 +13,7 @@ use crate::scripting::line::{ConfigLine, EventLine, HarmKind, Line, Room};
 use crate::scripting::values;
 use crate::scripting::words::{text_behind, word_at};
 use crate::scripting::wrong::{Field, LineFault};
-use dfu_sim::{Aim, Fate};
+use dfu_sim::{Fate, Purpose};
 use dfu_wire::{Functional, Ids};
 
 /// `ids VVVV PPPP DDDD`.
@@ -115,13 +115,13 @@ pub(crate) fn limits(line: &[u8]) -> Result<Line<'_, 'static>, LineFault>
 #[tactic(auto, unfolding(crate::specs::Lines::offer_of))]
 pub(crate) fn offer<'l, 'g>(
     given: Option<&'g [u8]>,
-    aim: Aim,
+    purpose: Purpose,
     line: &'l [u8],
 ) -> Result<Line<'l, 'g>, LineFault>
-    ensures { Tells said_of result (offer_of (given_bytes given.entry) aim (words_of line.now)) }
+    ensures { Tells said_of result (offer_of (given_bytes given.entry) purpose (words_of line.now)) }
 {
     let (file, rest) = file_at(given, line, 2, 2)?;
-    ended(Line::Do(EventLine::Offer { aim, file }), 2, rest)
+    ended(Line::Do(EventLine::Offer { purpose, file }), 2, rest)
 }
 
 /// `time MS`.

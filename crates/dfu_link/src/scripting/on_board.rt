@@ -6,9 +6,9 @@ ghost use Rattle.dfu_link.specs.Falls.{Ended};
 ghost use Rattle.dfu_link.specs.Printed.{HasPrinted};
 
 use crate::scripting::fault::ScriptFault;
-use crate::scripting::whole::run_lines;
+use crate::scripting::run_script::run_lines;
 use crate::seen::{Stopped, Until};
-use crate::watch::{Nobody, Trace};
+use crate::tracer::{NoTrace, TraceWriter};
 use dfu_sim::laws::image_shown;
 use std::alloc::Global;
 use std::io::{Read, Write};
@@ -46,7 +46,7 @@ pub fn script_beside_with<R: Read + Drop, W: Write + Drop>(
         inner: writer,
         seen: stopped,
     };
-    let answer = run_lines::<Nobody, Until<'_, R>, Until<'_, W>>(
+    let answer = run_lines::<NoTrace, Until<'_, R>, Until<'_, W>>(
         alloc,
         given,
         Until {
@@ -54,7 +54,7 @@ pub fn script_beside_with<R: Read + Drop, W: Write + Drop>(
             seen: stopped,
         },
         &mut until,
-        &mut Nobody,
+        &mut NoTrace,
         true,
         stopped,
     );
@@ -91,8 +91,8 @@ pub fn script_beside_traced_with<R: Read + Drop, W: Write + Drop, N: Write>(
         inner: writer,
         seen: stopped,
     };
-    let mut told = Trace::new(alloc, trace);
-    let answer = run_lines::<Trace<'_, N>, Until<'_, R>, Until<'_, W>>(
+    let mut trace_writer = TraceWriter::new(alloc, trace);
+    let answer = run_lines::<TraceWriter<'_, N>, Until<'_, R>, Until<'_, W>>(
         alloc,
         given,
         Until {
@@ -100,11 +100,11 @@ pub fn script_beside_traced_with<R: Read + Drop, W: Write + Drop, N: Write>(
             seen: stopped,
         },
         &mut until,
-        &mut told,
+        &mut trace_writer,
         true,
         stopped,
     );
-    let is_traced = !told.is_broken;
+    let is_traced = !trace_writer.is_broken;
     let Until {
         inner: writer,
         seen: _,

@@ -1,7 +1,7 @@
 //! The events of an event line, played.
 
 ghost use Rattle.std.specs.Prelude.{◌≡◌, ℕ, List, Option, [], ◌∷◌, replicate};
-ghost use Rattle.dfu_sim.specs.Bench.{ShowsActive};
+ghost use Rattle.dfu_sim.specs.LinkView.{ShowsActive};
 ghost use Rattle.dfu_sim.specs.Comes.{HasCome};
 ghost use Rattle.dfu_sim.specs.Happening.{Offers, Goes, harmed, fate_of, harm_in, happening};
 ghost use Rattle.dfu_link.specs.ScriptRun.{checked};
@@ -12,13 +12,13 @@ ghost use Rattle.dfu_link.specs.inside.Moving.{PlaysEvents, DoesLine, file_bytes
 
 use crate::beside::Played;
 use crate::scripting::checking::checked;
-use crate::scripting::expectation::{Ahead, Expectation};
+use crate::scripting::expectation::{Expectation, ScriptContext};
 use crate::scripting::fault::ScriptFault;
 use crate::scripting::line::{EventLine, HarmKind};
 use crate::scripting::saying::{is_silent, say_next};
-use crate::watch::Watch;
+use crate::tracer::Tracer;
 use dfu_host::{Limits, Report};
-use dfu_sim::{Aim, Event, Fate, LinkFault, World};
+use dfu_sim::{Event, Fate, LinkFault, Purpose, World};
 use dfu_slots::Faulty;
 use std::io::Write;
 
@@ -41,33 +41,33 @@ fn play<'f, M: Faulty, W: Write>(
 
 /// Lets the host take an action, on the board beside the device too, and shows the link to who watches before and after it. The device's
 /// program refuses an image that does not begin with these bytes, if the action closes it. What is printed of it is still to be written.
-fn take<'f, T: Watch<M>, M: Faulty>(
+fn take<'f, T: Tracer<M>, M: Faulty>(
     world: &mut World<'f, M>,
     fate: Fate<'_>,
     check: &[u8],
     beside: &mut Played<'f, '_>,
-    watch: &mut T,
+    tracer: &mut T,
 ) -> Result<Option<Report>, LinkFault>
     ensures play { HasCome world.old (checked check.now world.old.bench (Goes (fate_of fate.entry) (harm_in fate.entry))) world.new result }
     ensures active { ShowsActive world.new.bench }
 {
     // Once the board differs the run is over, and what it still does isn't told.
-    let look = if beside.is_over() {
+    let before = if beside.is_over() {
         None
     } else {
-        watch.look(world)
+        tracer.snapshot(world)
     };
     let event = checked::<M>(world.device(), check, fate);
     let answer = world.step(event);
-    if let Some(look) = look {
-        watch.tell(&look, fate, world);
+    if let Some(before) = before {
+        tracer.write_action(&before, fate, world);
     }
     beside.meet::<M>(event, answer, world);
     answer
 }
 
 /// Lets the host take so many actions of one fate, and writes what is printed of each.
-fn play_actions<'f, T: Watch<M>, M: Faulty, W: Write>(
+fn play_actions<'f, T: Tracer<M>, M: Faulty, W: Write>(
     world: &mut World<'f, M>,
     fate: Fate<'_>,
     times: u32,
@@ -75,14 +75,14 @@ fn play_actions<'f, T: Watch<M>, M: Faulty, W: Write>(
     beside: &mut Played<'f, '_>,
     next: &mut Option<Expectation>,
     writer: &mut W,
-    watch: &mut T,
+    tracer: &mut T,
 ) -> Result<(), ScriptFault>
     ensures { PlaysEvents check.now world.old.bench (expectation_of next.old)
         (replicate times (Goes (fate_of fate.entry) (harm_in fate.entry)))
         (W.contents writer.old) world.new.bench (expectation_of next.new) (W.contents writer.new) result }
 {
     for turn in 0..times {
-        let answer = take::<T, M>(world, fate, check, beside, watch);
+        let answer = take::<T, M>(world, fate, check, beside, tracer);
         say_next(writer, next, answer, world.uploaded())?;
     }
     Ok(())
@@ -90,20 +90,20 @@ fn play_actions<'f, T: Watch<M>, M: Faulty, W: Write>(
 
 /// Lets the host take actions that pass until something is printed: the report of its session, or a
 /// refusal where none is live.
-fn pass_on<'f, T: Watch<M>, M: Faulty, W: Write>(
+fn pass_on<'f, T: Tracer<M>, M: Faulty, W: Write>(
     world: &mut World<'f, M>,
     check: &[u8],
     beside: &mut Played<'f, '_>,
     next: &mut Option<Expectation>,
     writer: &mut W,
-    watch: &mut T,
+    tracer: &mut T,
 ) -> Result<(), ScriptFault>
     ensures { (given : Option (List ℕ)) (limits : Limits) →
         DoesLine (point_at given check.now limits (expectation_of next.old) world.old.bench) GoesOn (W.contents writer.old)
         (point_at given check.now limits (expectation_of next.new) world.new.bench) (W.contents writer.new) result }
 {
     'passes: loop {
-        let answer = take::<T, M>(world, Fate::Pass, check, beside, watch);
+        let answer = take::<T, M>(world, Fate::Pass, check, beside, tracer);
         say_next(writer, next, answer, world.uploaded())?;
         if !is_silent(answer) {
             return Ok(());
@@ -124,51 +124,51 @@ fn harmed(harm: HarmKind, writes: u32, tear: &[u8]) -> Fate<'_>
 }
 
 /// The offer of a file.
-fn offered<'f>(aim: Aim, file: &'f [u8], limits: Limits) -> Event<'f, 'static>
-    ensures { happening result ≡ Offers aim file.now limits }
+fn offered<'f>(purpose: Purpose, file: &'f [u8], limits: Limits) -> Event<'f, 'static>
+    ensures { happening result ≡ Offers purpose file.now limits }
 {
-    match aim {
-        Aim::Install => Event::Offer { file, limits },
-        Aim::Verify => Event::OfferVerified { file, limits },
+    match purpose {
+        Purpose::Install => Event::Offer { file, limits },
+        Purpose::Verify => Event::OfferVerified { file, limits },
     }
 }
 
 /// Plays the events of a line, and writes what is printed of them.
-pub(crate) fn play_events<'f, T: Watch<M>, M: Faulty, W: Write>(
+pub(crate) fn play_events<'f, T: Tracer<M>, M: Faulty, W: Write>(
     world: &mut World<'f, M>,
     events: EventLine<'_, '_>,
     file: &'f [u8],
     torn: &[u8],
     beside: &mut Played<'f, '_>,
-    ahead: &mut Ahead<'_>,
+    context: &mut ScriptContext<'_>,
     writer: &mut W,
-    watch: &mut T,
+    tracer: &mut T,
 ) -> Result<(), ScriptFault>
     requires file { file.now ≡ file_bytes (said_by events) }
     requires tear { torn.now ≡ tear_bytes events }
-    ensures { DoesLine (at_point ahead.old world.old.bench) (said_by events.entry) (W.contents writer.old)
-        (at_point ahead.new world.new.bench)
+    ensures { DoesLine (at_point context.old world.old.bench) (said_by events.entry) (W.contents writer.old)
+        (at_point context.new world.new.bench)
         (W.contents writer.new) result }
 {
-    let limits = ahead.limits;
-    let check = ahead.check;
-    let next = &mut ahead.next;
+    let limits = context.limits;
+    let check = context.check;
+    let next = &mut context.next;
     match events {
-        EventLine::Offer { aim, .. } => {
-            play::<M, W>(world, offered(aim, file, limits), beside, next, writer)
+        EventLine::Offer { purpose, .. } => {
+            play::<M, W>(world, offered(purpose, file, limits), beside, next, writer)
         }
         EventLine::Upload => play::<M, W>(world, Event::Upload { limits }, beside, next, writer),
         EventLine::Abort => play::<M, W>(world, Event::Abort, beside, next, writer),
         EventLine::Go { fate, times } => {
-            play_actions::<T, M, W>(world, fate, times, check, beside, next, writer, watch)
+            play_actions::<T, M, W>(world, fate, times, check, beside, next, writer, tracer)
         }
         EventLine::GoHarmed { harm, writes, .. } => {
             let fate = harmed(harm, writes, torn);
-            play_actions::<T, M, W>(world, fate, 1, check, beside, next, writer, watch)
+            play_actions::<T, M, W>(world, fate, 1, check, beside, next, writer, tracer)
         }
-        EventLine::GoOn => pass_on::<T, M, W>(world, check, beside, next, writer, watch),
+        EventLine::GoOn => pass_on::<T, M, W>(world, check, beside, next, writer, tracer),
         EventLine::Time(ms) => {
-            watch.pass(ms);
+            tracer.add_time(ms);
             play::<M, W>(world, Event::Time(ms), beside, next, writer)
         }
         EventLine::Reset => play::<M, W>(world, Event::Reset, beside, next, writer),
@@ -178,30 +178,34 @@ pub(crate) fn play_events<'f, T: Watch<M>, M: Faulty, W: Write>(
 }
 
 /// The same while a session is live: an offer is refused whatever its file is.
-pub(crate) fn play_live<'f, T: Watch<M>, M: Faulty, W: Write>(
+pub(crate) fn play_live<'f, T: Tracer<M>, M: Faulty, W: Write>(
     world: &mut World<'f, M>,
     events: EventLine<'_, '_>,
     torn: &[u8],
     beside: &mut Played<'f, '_>,
-    ahead: &mut Ahead<'_>,
+    context: &mut ScriptContext<'_>,
     writer: &mut W,
-    watch: &mut T,
+    tracer: &mut T,
 ) -> Result<(), ScriptFault>
     requires live { IsLive world.old.bench.session }
     requires tear { torn.now ≡ tear_bytes events }
-    ensures { DoesLine (at_point ahead.old world.old.bench) (said_by events.entry) (W.contents writer.old)
-        (at_point ahead.new world.new.bench)
+    ensures { DoesLine (at_point context.old world.old.bench) (said_by events.entry) (W.contents writer.old)
+        (at_point context.new world.new.bench)
         (W.contents writer.new) result }
 {
-    let limits = ahead.limits;
+    let limits = context.limits;
     match events {
-        EventLine::Offer { aim, .. } => {
-            beside.meet::<M>(offered(aim, &[], limits), Err(LinkFault::HostBusy), world);
+        EventLine::Offer { purpose, .. } => {
+            beside.meet::<M>(
+                offered(purpose, &[], limits),
+                Err(LinkFault::HostBusy),
+                world,
+            );
             // Called for its clause `active`, which a refusal's bench needs; what it answers isn't
             // used.
             let _ = world.device();
-            say_next(writer, &mut ahead.next, Err(LinkFault::HostBusy), &[])
+            say_next(writer, &mut context.next, Err(LinkFault::HostBusy), &[])
         }
-        _ => play_events::<T, M, W>(world, events, &[], torn, beside, ahead, writer, watch),
+        _ => play_events::<T, M, W>(world, events, &[], torn, beside, context, writer, tracer),
     }
 }

@@ -13,7 +13,7 @@ use crate::scripting::line_forms::{
 use crate::scripting::words::word_at;
 use crate::scripting::wrong::LineFault;
 use crate::seen::{Reason, Stopped};
-use dfu_sim::Aim;
+use dfu_sim::Purpose;
 
 /// The most bytes of a line, without its 0Ah.
 pub(crate) const MAX_LINE: usize = 65_536;
@@ -34,8 +34,8 @@ fn by_keyword<'l, 'g>(
         Keyword::Capacity => capacity(rest),
         Keyword::Image => image(rest),
         Keyword::Limits => limits(rest),
-        Keyword::Offer => offer(given, Aim::Install, rest),
-        Keyword::Verify => offer(given, Aim::Verify, rest),
+        Keyword::Offer => offer(given, Purpose::Install, rest),
+        Keyword::Verify => offer(given, Purpose::Verify, rest),
         Keyword::Upload => ended(Line::Do(EventLine::Upload), 1, rest),
         Keyword::Abort => ended(Line::Do(EventLine::Abort), 1, rest),
         Keyword::Go => go(rest),

@@ -4,7 +4,7 @@ ghost use Rattle.std.specs.Prelude.{IfSome};
 ghost use Rattle.dfu_link.specs.inside.SetupFaults.{HasRoomFault};
 ghost use Rattle.dfu_link.specs.inside.SetupView.{settings_of};
 
-use crate::scripting::setup::Setup;
+use crate::scripting::script_config::ScriptConfig;
 use crate::scripting::starting::{cuts_sector, first_image};
 use dfu_device::{Config, ConfigFault};
 
@@ -31,7 +31,7 @@ pub enum SetupFault {
 }
 
 /// The fault of what the device is set up with.
-fn device_fault(setup: &Setup<'_>, fault: ConfigFault) -> SetupFault {
+fn device_fault(setup: &ScriptConfig<'_>, fault: ConfigFault) -> SetupFault {
     match fault {
         ConfigFault::BadTransfer => SetupFault::Transfer,
         ConfigFault::BadLeast => SetupFault::Least,
@@ -46,7 +46,7 @@ fn device_fault(setup: &Setup<'_>, fault: ConfigFault) -> SetupFault {
 }
 
 /// The fault of the room for images.
-fn room_fault(setup: &Setup<'_>) -> Option<SetupFault>
+fn room_fault(setup: &ScriptConfig<'_>) -> Option<SetupFault>
     ensures { IfSome result (λ fault. HasRoomFault fault (settings_of setup.now)) }
 {
     let bytes = setup.room.bytes;
@@ -63,7 +63,7 @@ fn room_fault(setup: &Setup<'_>) -> Option<SetupFault>
 }
 
 /// The first fault of what is set, if it has one.
-pub(crate) fn setup_fault(setup: &Setup<'_>) -> Option<SetupFault> {
+pub(crate) fn setup_fault(setup: &ScriptConfig<'_>) -> Option<SetupFault> {
     let config = Config::new(
         setup.ids,
         setup.functional,
@@ -78,7 +78,7 @@ pub(crate) fn setup_fault(setup: &Setup<'_>) -> Option<SetupFault> {
 }
 
 /// The number of the line that says it: of two lines the later one, and 0 if no line sets what is wrong.
-pub(crate) fn line_of_fault(setup: &Setup<'_>, fault: SetupFault) -> u32 {
+pub(crate) fn line_of_fault(setup: &ScriptConfig<'_>, fault: SetupFault) -> u32 {
     let lines = setup.lines;
     match fault {
         SetupFault::Unit => lines.capacity.max(lines.unit),

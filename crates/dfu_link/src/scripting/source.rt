@@ -7,7 +7,7 @@ ghost use Rattle.dfu_link.specs.Words.{is_newline};
 ghost use Rattle.dfu_link.specs.inside.Source.{Next, StopsSource, TakesPiece, source_state};
 
 use crate::scripting::fault::ScriptFault;
-use crate::scripting::pieces::Pieces;
+use crate::scripting::reader::Pieces;
 use crate::scripting::reading::MAX_LINE;
 use std::alloc::Global;
 use std::io::Read;

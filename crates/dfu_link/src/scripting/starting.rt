@@ -12,7 +12,7 @@ ghost use Rattle.dfu_link.specs.inside.Forming.{Formed, FormFalls};
 use crate::scripting::fault::ScriptFault;
 use crate::scripting::hex_text::HexText;
 use crate::scripting::line::{Room, Sector};
-use crate::scripting::setup::Setup;
+use crate::scripting::script_config::ScriptConfig;
 use crate::scripting::setup_fault::{line_of_fault, setup_fault};
 use crate::seen::{Reason, Stopped};
 use dfu_device::{Config, Device};
@@ -34,7 +34,7 @@ pub(crate) fn bytes_of(alloc: Global, text: HexText<'_>) -> Result<Vec<u8>, Scri
 }
 
 /// The image at first.
-pub(crate) fn first_image<'s>(setup: &'s Setup<'_>) -> &'s [u8]
+pub(crate) fn first_image<'s>(setup: &'s ScriptConfig<'_>) -> &'s [u8]
     ensures { result.now ≡ image_bytes setup.now.image }
 {
     match &setup.image {
@@ -92,7 +92,7 @@ fn form(
 }
 
 /// Starts the device, in appIDLE on a formatted medium in memory.
-fn start_device(alloc: Global, setup: &Setup<'_>) -> Result<Device<SimMedium>, ScriptFault>
+fn start_device(alloc: Global, setup: &ScriptConfig<'_>) -> Result<Device<SimMedium>, ScriptFault>
     ensures ok { IfOk result (λ d. DeviceStarts (settings_of setup.now) d) }
     ensures unarmed { IfOk result (λ d. IsUnarmed d) }
     ensures fault { IfErr result (λ f. StartFalls (settings_of setup.now) f) }
@@ -120,7 +120,7 @@ fn start_device(alloc: Global, setup: &Setup<'_>) -> Result<Device<SimMedium>, S
 /// Starts the device, in appIDLE on a formatted medium in memory; why none can be set up like this is noted.
 pub(crate) fn start(
     alloc: Global,
-    setup: &Setup<'_>,
+    setup: &ScriptConfig<'_>,
     stopped: &Stopped,
 ) -> Result<Device<SimMedium>, ScriptFault>
     ensures ok { IfOk result (λ d. DeviceStarts (settings_of setup.now) d) }

@@ -3,7 +3,8 @@
 ghost use Rattle.std.specs.Prelude.{◌≡◌, IfOk};
 ghost use Rattle.dfu_device.specs.Setting.{IsAllowed};
 
-use super::dice::{Dice, event, file_of, tear_of};
+use super::events::{event, file_of, tear_of};
+use crate::dice::Dice;
 use dfu_asks::{Mapped, Sector};
 use dfu_board_sim::{BoardWorld, MemoryBoard};
 use dfu_device::{Config, Device};

@@ -3,8 +3,9 @@
 ghost use Rattle.std.specs.Prelude.{◌<◌};
 
 use super::bench::{Setup, world_on};
-use super::dice::{Dice, event, payload};
+use super::events::{event, payload};
 use super::plain::plain_image;
+use crate::dice::Dice;
 use dfu_device::Device;
 use dfu_host::Report;
 use dfu_link::{Event, World};

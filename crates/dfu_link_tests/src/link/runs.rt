@@ -2,7 +2,7 @@
 
 ghost use Rattle.std.specs.Prelude.{◌≡◌, ℕ, List, IsTrue};
 ghost use Rattle.dfu_host.specs.declared.limits.Limits.{Limits};
-ghost use Rattle.dfu_sim.specs.declared.aim.Aim.{Aim};
+ghost use Rattle.dfu_sim.specs.declared.purpose.Purpose.{Purpose};
 ghost use Rattle.dfu_link.specs.Bytes.{link_of};
 ghost use Rattle.dfu_link.specs.CleanRun.{resting};
 ghost use Rattle.dfu_link.specs.Running.{happenings};
@@ -26,8 +26,8 @@ fn installs<'f, M: Faulty>(
     alloc: Global,
     events: &[Event<'f, '_>],
 ) -> bool
-    ensures { (aim : Aim) (file payload : List ℕ) (limits : Limits) → CanInstall world.old.bench aim file limits payload
-        → happenings events.now ≡ offer_and_passes aim file limits (clean_passes aim world.old.bench.device.config payload)
+    ensures { (purpose : Purpose) (file payload : List ℕ) (limits : Limits) → CanInstall world.old.bench purpose file limits payload
+        → happenings events.now ≡ offer_and_passes purpose file limits (clean_passes purpose world.old.bench.device.config payload)
         → IsTrue result → link_of world.new.bench ≡ resting payload }
 {
     match run(world, alloc, events) {

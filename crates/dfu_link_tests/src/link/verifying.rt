@@ -3,8 +3,8 @@
 use super::bench::{
     AMPLE, Setup, Turn, USUAL, W, go, pass, play, refused, stands, world, world_of,
 };
+use super::installs;
 use super::runs::zeros;
-use super::state_after;
 use dfu_host::{HostFault, Limits, Report};
 use dfu_link::{Event, Fate, LinkFault, OfferFault, World};
 use dfu_slots::SimMedium;
@@ -41,25 +41,12 @@ static VERIFIED: [(Setup, usize, Option<Report>); 8] = [
     (SILENT, 18, Some(Report::Verified)),
 ];
 
-/// The payload is in place after so many passes, and what was read to compare is not kept as an upload.
-fn verifies(
-    rt: &impl Abort,
-    alloc: Global,
-    setup: Setup,
-    passes: usize,
-    last: Option<Report>,
-) -> Result<(), Fail> {
-    let mut world = world(alloc, setup)?;
-    play(rt, &mut world, &[verify(&W), pass(passes)], last);
-    stands(rt, &world, state_after(last), Code::Ok, &[0xff; 4]);
-    assert!(rt; world.uploaded().is_empty());
-    Ok(())
-}
-
+// What was read to compare is not kept as an upload.
 #[test]
 fn each_device_that_uploads_is_verified(rt: HostRuntime) -> Result<(), Fail> {
     for (setup, passes, last) in &VERIFIED {
-        verifies(&rt, rt.alloc(), *setup, *passes, *last)?;
+        let world = installs(&rt, rt.alloc(), *setup, verify(&W), *passes, *last)?;
+        assert!(rt; world.uploaded().is_empty());
     }
     Ok(())
 }

@@ -1,6 +1,6 @@
 -- How a log is judged, a byte at a time.
 use Rattle.std.specs.Prelude.{◌≡◌, ◌≢◌, ℕ, ◌+◌, ◌<◌, List, [], ◌∷◌, ◌++◌, length, Bool, Some, cond}
-use Rattle.dfu_conformance.specs.declared.event.Event.{Event}
+use Rattle.dfu_conformance.specs.declared.event.LogEvent.{LogEvent}
 use Rattle.dfu_conformance.specs.declared.verdict.Departure.{Departure}
 use Rattle.dfu_conformance.specs.declared.log.Line.TheVariants.{Blank, Elsewhere, Came}
 use Rattle.dfu_conformance.specs.Line.{LineSays}
@@ -13,8 +13,8 @@ use Rattle.dfu_output.specs.judge.Texts.{departure_text, is_single}
 pub record LogCourse : Type 0 where
   pub number : ℕ
   pub line : List ℕ
-  pub events : List Event
-  pub since : List Event
+  pub events : List LogEvent
+  pub since : List LogEvent
   pub single : ℕ
   pub out : List ℕ
 
@@ -27,7 +27,7 @@ abbrev pub course_line_ended : LogCourse → LogCourse
 course_line_ended c = record c { number = c.number + 1; line = [] }
 
 -- An event goes on where a device without habits may have answered all since the last departure; it counts where one state is left then.
-abbrev pub going_on : LogCourse → Event → List Bool → LogCourse
+abbrev pub going_on : LogCourse → LogEvent → List Bool → LogCourse
 going_on c e at = record c { events = c.events ++ e ∷ []; since = c.since ++ e ∷ []; single = c.single + cond (is_single at) 1 0 }
 
 -- An event departs where none may have, and its lines are printed; from then on the device may be anywhere.
@@ -35,7 +35,7 @@ abbrev pub departing : LogCourse → Departure → LogCourse
 departing c d = record c { events = c.events ++ d.event ∷ []; since = []; out = c.out ++ departure_text c.number d }
 
 -- What an event at the line that was ended last leads to.
-pub data EventLeads (c : LogCourse) (e : Event) : LogCourse → Type 0 where
+pub data EventLeads (c : LogCourse) (e : LogEvent) : LogCourse → Type 0 where
   goes_on : (at : List Bool) → CanAnswer 0 (c.since ++ e ∷ []) → ArePlacesAfter 0 (c.since ++ e ∷ []) at → EventLeads c e (going_on c e at)
   departs : (d : Departure) → d.event ≡ e → (CanAnswer 0 (c.since ++ e ∷ []) → ⊥) → ArePlacesAfter 0 c.since d.before
       → EventLeads c e (departing c d)
@@ -44,7 +44,7 @@ pub data EventLeads (c : LogCourse) (e : Event) : LogCourse → Type 0 where
 pub data LineEndLeads (interface : ℕ) (c : LogCourse) : LogCourse → Type 0 where
   says_nothing : LineSays interface c.line (Some Blank) → LineEndLeads interface c (course_line_ended c)
   says_elsewhere : LineSays interface c.line (Some Elsewhere) → LineEndLeads interface c (course_line_ended c)
-  says_event : {d : LogCourse} (e : Event) → LineSays interface c.line (Some (Came e)) → EventLeads (course_line_ended c) e d →
+  says_event : {d : LogCourse} (e : LogEvent) → LineSays interface c.line (Some (Came e)) → EventLeads (course_line_ended c) e d →
       LineEndLeads interface c d
 
 -- A text is judged so far: each byte goes to its line, which has at most 262,158, and each 0Ah ends one.

@@ -1,7 +1,7 @@
 -- The lines of a departure from DfuSe, each ended by 0Ah.
 use Rattle.std.specs.Prelude.{ℕ, List, [], ◌∷◌, ◌++◌, codes, if◌then◌else◌}
 use Rattle.dfu_conformance.specs.declared.row.Row.{Row}
-use Rattle.dfu_conformance.specs.declared.event.Event.{Event}
+use Rattle.dfu_conformance.specs.declared.event.LogEvent.{LogEvent}
 use Rattle.dfu_conformance.specs.declared.verdict.Departure.{Departure}
 use Rattle.dfu_conformance.specs.declared.standard.TheConstants.{STANDARD}
 use Rattle.dfu_conformance.specs.declared.habits.TheConstants.{HABITS}
@@ -15,15 +15,15 @@ abbrev pub dfuse_allowed_text : Departure → Row → List ℕ
 dfuse_allowed_text d row = if of_dfuse row.when then allowed_text d row else []
 
 -- The name of what was asked; of a request that is not as section 3 of USB DFU 1.1 has it, `other`.
-abbrev pub event_request_name : Event → List ℕ
+abbrev pub event_request_name : LogEvent → List ℕ
 event_request_name e = if e.is_plain then asked_name e.asked else codes "other"
 
 -- A request may be stalled with no change.
-abbrev pub may_stall_text : Event → List ℕ
+abbrev pub may_stall_text : LogEvent → List ℕ
 may_stall_text e = (codes "allowed any " ++ event_request_name e) ++ (codes " stall unchanged open" ++ 10 ∷ [])
 
 -- That, of a request that doesn't have to be answered.
-abbrev pub stalled_text : Event → List ℕ
+abbrev pub stalled_text : LogEvent → List ℕ
 stalled_text e = if is_told e then [] else may_stall_text e
 
 -- The lines of a departure from DfuSe are the first one, a line for each row of the standard, of a habit and of DfuSe that is for a DfuSe

@@ -1,9 +1,9 @@
 -- The names of what stands in a line of `dfu judge`.
 use Rattle.std.specs.Prelude.{ℕ, List, [], codes}
-use Rattle.dfu_conformance.specs.declared.place.Place.{Place}
-use Rattle.dfu_conformance.specs.declared.place.Place.TheVariants as place
-use Rattle.dfu_conformance.specs.declared.asked.Asked.{Asked}
-use Rattle.dfu_conformance.specs.declared.asked.Asked.TheVariants as asked
+use Rattle.dfu_conformance.specs.declared.standard_state.StandardState.{StandardState}
+use Rattle.dfu_conformance.specs.declared.standard_state.StandardState.TheVariants as place
+use Rattle.dfu_conformance.specs.declared.event_kind.EventKind.{EventKind}
+use Rattle.dfu_conformance.specs.declared.event_kind.EventKind.TheVariants as asked
 use Rattle.dfu_conformance.specs.declared.row.Gives.{Gives}
 use Rattle.dfu_conformance.specs.declared.row.Gives.TheVariants as answer
 use Rattle.dfu_conformance.specs.declared.row.Source.{Source}
@@ -14,7 +14,7 @@ use Rattle.dfu_conformance.specs.declared.row.When.{When}
 use Rattle.dfu_conformance.specs.declared.row.When.TheVariants.{Always, CanDownload, CanUpload, Tolerant, NotTolerant, WillDetach, By}
 
 -- The name of the state of the standard that a place is.
-abbrev pub place_name : Place → List ℕ
+abbrev pub place_name : StandardState → List ℕ
 place_name place.AppIdle = codes "appIDLE"
 place_name place.AppDetach = codes "appDETACH"
 place_name place.DfuIdle = codes "dfuIDLE"
@@ -29,7 +29,7 @@ place_name place.Error = codes "dfuERROR"
 place_name place.Fresh = codes "dfuIDLE"
 
 -- The name of what came to a device.
-abbrev pub asked_name : Asked → List ℕ
+abbrev pub asked_name : EventKind → List ℕ
 asked_name asked.Detach = codes "DETACH"
 asked_name asked.Block = codes "DNLOAD"
 asked_name asked.Close = codes "DNLOAD-0"

@@ -3,11 +3,11 @@ use Rattle.std.specs.Prelude.{ℕ, ◌==◌, ◌&&◌, ◌||◌, Bool, true, fal
 use Rattle.std.specs.Fmt.{decimal}
 use Rattle.std.specs.Int.{bit_at}
 use Rattle.std.specs.List.{filter}
-use Rattle.dfu_conformance.specs.declared.place.Place.{Place}
-use Rattle.dfu_conformance.specs.declared.place.Place.TheVariants.{DfuIdle, Fresh}
+use Rattle.dfu_conformance.specs.declared.standard_state.StandardState.{StandardState}
+use Rattle.dfu_conformance.specs.declared.standard_state.StandardState.TheVariants.{DfuIdle, Fresh}
 use Rattle.dfu_conformance.specs.declared.reading.Reading.{Reading}
 use Rattle.dfu_conformance.specs.declared.row.Row.{Row}
-use Rattle.dfu_conformance.specs.declared.event.Event.{Event}
+use Rattle.dfu_conformance.specs.declared.event.LogEvent.{LogEvent}
 use Rattle.dfu_conformance.specs.declared.verdict.Departure.{Departure}
 use Rattle.dfu_conformance.specs.declared.verdict.Verdict.{Verdict}
 use Rattle.dfu_conformance.specs.declared.verdict.Verdict.TheVariants.{Kept, KeptBy, NotKept}
@@ -23,12 +23,12 @@ each text [] = []
 each text (x ∷ xs) = text x ++ each text xs
 
 -- A device may be in this state, where these are the places at which it may be. It may be in dfuIDLE at two places.
-abbrev pub may_be_in : List Bool → Place → Bool
+abbrev pub may_be_in : List Bool → StandardState → Bool
 may_be_in at DfuIdle = slice_index_or at (place_number DfuIdle) false || slice_index_or at (place_number Fresh) false
 may_be_in at p = slice_index_or at (place_number p) false
 
 -- The name of a state in which a device may be, with a space before it, and nothing for another one.
-abbrev pub spaced_state : List Bool → Place → List ℕ
+abbrev pub spaced_state : List Bool → StandardState → List ℕ
 spaced_state at p = if may_be_in at p then codes " " ++ place_name p else []
 
 -- The states in which a device may be, by number.
@@ -62,7 +62,7 @@ abbrev pub allowed_text : Departure → Row → List ℕ
 allowed_text d row = if allows d row then row_line row else []
 
 -- Of a request that is not as section 3 has it: that it may be stalled with no change.
-abbrev pub unchanged_text : Event → List ℕ
+abbrev pub unchanged_text : LogEvent → List ℕ
 unchanged_text e = if e.is_plain then [] else codes "allowed any other stall unchanged open" ++ 10 ∷ []
 
 -- The first line of a departure is `departs LINE REQUEST in STATE..`, with the number of the line of the log and the states in which the

@@ -8,7 +8,7 @@ ghost use Rattle.dfu_output.specs.judge.Texts.{each};
 use crate::judge::names::asked_name;
 use crate::judge::texts::{departs_line, push_if_allowed};
 use crate::numbers::{field, push};
-use dfu_conformance::{Departure, Event, HABITS, Row, STANDARD};
+use dfu_conformance::{Departure, HABITS, LogEvent, Row, STANDARD};
 use dfuse_conformance::{DFUSE, is_of_dfuse, is_told};
 use std::alloc::{AllocError, Global};
 
@@ -33,7 +33,7 @@ fn push_rows(line: &mut String, departure: &Departure, rows: &[Row]) -> Result<(
 }
 
 /// The name of what was asked; of a request that is not as section 3 has it, `other`.
-fn request_name(event: &Event) -> &'static str
+fn request_name(event: &LogEvent) -> &'static str
     ensures { result.now ≡ event_request_name event.now }
 {
     if event.is_plain {
@@ -44,7 +44,7 @@ fn request_name(event: &Event) -> &'static str
 }
 
 /// Adds that a request may be stalled with no change.
-fn push_may_stall(line: &mut String, event: &Event) -> Result<(), AllocError>
+fn push_may_stall(line: &mut String, event: &LogEvent) -> Result<(), AllocError>
     ensures { OnOk result (string_bytes line.new ≡ string_bytes line.old ++ may_stall_text event.now) }
 {
     field(line, "allowed any ", request_name(event))?;
@@ -53,7 +53,7 @@ fn push_may_stall(line: &mut String, event: &Event) -> Result<(), AllocError>
 }
 
 /// Adds it of a request that doesn't have to be answered.
-fn push_stalled(line: &mut String, event: &Event) -> Result<(), AllocError>
+fn push_stalled(line: &mut String, event: &LogEvent) -> Result<(), AllocError>
     ensures { OnOk result (string_bytes line.new ≡ string_bytes line.old ++ stalled_text event.now) }
 {
     if is_told(event) {

@@ -9,7 +9,7 @@ ghost use Rattle.dfu_output.specs.judge.inside.Going.{EventCame, IsAt, JudgedTex
 use crate::judge::fault::LogFault;
 use crate::judge::lines::LogLines;
 use crate::judge::texts::is_single;
-use dfu_conformance::{Departure, Event, Judge, Line, Verdict};
+use dfu_conformance::{Departure, Judge, Line, LogEvent, Verdict};
 use std::alloc::Global;
 use std::marker::Model;
 
@@ -63,7 +63,7 @@ impl Judging {
     }
 
     /// An event comes.
-    fn come(&mut self, event: &Event) -> Option<Departure>
+    fn come(&mut self, event: &LogEvent) -> Option<Departure>
         requires slack { self.old.events + self.old.lines.room < 1099511627776 }
         ensures came { (text : List ℕ) (c : LogCourse) → IsAt self.old text c → EventCame text c event.now result self.new }
         ensures lines { self.new.lines ≡ self.old.lines }

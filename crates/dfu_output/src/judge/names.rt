@@ -3,21 +3,21 @@
 ghost use Rattle.std.specs.Prelude.{◌≡◌};
 ghost use Rattle.dfu_output.specs.judge.Names.{answer_name, asked_name, place_name, reading_name, source_name, when_name};
 
-use dfu_conformance::{Asked, Gives, Place, Reading, Source, When};
+use dfu_conformance::{EventKind, Gives, Reading, Source, StandardState, When};
 
 /// The states of the standard, by number.
-pub(crate) static STATES: [Place; 11] = [
-    Place::AppIdle,
-    Place::AppDetach,
-    Place::DfuIdle,
-    Place::DownloadSync,
-    Place::DownloadBusy,
-    Place::DownloadIdle,
-    Place::ManifestSync,
-    Place::Manifest,
-    Place::ManifestWaitReset,
-    Place::UploadIdle,
-    Place::Error,
+pub(crate) static STATES: [StandardState; 11] = [
+    StandardState::AppIdle,
+    StandardState::AppDetach,
+    StandardState::DfuIdle,
+    StandardState::DownloadSync,
+    StandardState::DownloadBusy,
+    StandardState::DownloadIdle,
+    StandardState::ManifestSync,
+    StandardState::Manifest,
+    StandardState::ManifestWaitReset,
+    StandardState::UploadIdle,
+    StandardState::Error,
 ];
 
 /// The readings, by number.
@@ -30,40 +30,40 @@ pub(crate) static READINGS: [Reading; 6] = [
     Reading::ErrorWithoutCode,
 ];
 
-pub(crate) fn place_name(place: Place) -> &'static str
+pub(crate) fn place_name(place: StandardState) -> &'static str
     ensures { result.now ≡ place_name place }
 {
     match place {
-        Place::AppIdle => "appIDLE",
-        Place::AppDetach => "appDETACH",
-        Place::DfuIdle => "dfuIDLE",
-        Place::DownloadSync => "dfuDNLOAD-SYNC",
-        Place::DownloadBusy => "dfuDNBUSY",
-        Place::DownloadIdle => "dfuDNLOAD-IDLE",
-        Place::ManifestSync => "dfuMANIFEST-SYNC",
-        Place::Manifest => "dfuMANIFEST",
-        Place::ManifestWaitReset => "dfuMANIFEST-WAIT-RESET",
-        Place::UploadIdle => "dfuUPLOAD-IDLE",
-        Place::Error => "dfuERROR",
-        Place::Fresh => "dfuIDLE",
+        StandardState::AppIdle => "appIDLE",
+        StandardState::AppDetach => "appDETACH",
+        StandardState::DfuIdle => "dfuIDLE",
+        StandardState::DownloadSync => "dfuDNLOAD-SYNC",
+        StandardState::DownloadBusy => "dfuDNBUSY",
+        StandardState::DownloadIdle => "dfuDNLOAD-IDLE",
+        StandardState::ManifestSync => "dfuMANIFEST-SYNC",
+        StandardState::Manifest => "dfuMANIFEST",
+        StandardState::ManifestWaitReset => "dfuMANIFEST-WAIT-RESET",
+        StandardState::UploadIdle => "dfuUPLOAD-IDLE",
+        StandardState::Error => "dfuERROR",
+        StandardState::Fresh => "dfuIDLE",
     }
 }
 
-pub(crate) fn asked_name(asked: Asked) -> &'static str
+pub(crate) fn asked_name(asked: EventKind) -> &'static str
     ensures { result.now ≡ asked_name asked }
 {
     match asked {
-        Asked::Detach => "DETACH",
-        Asked::Block => "DNLOAD",
-        Asked::Close => "DNLOAD-0",
-        Asked::Upload => "UPLOAD",
-        Asked::GetStatus => "GETSTATUS",
-        Asked::ClrStatus => "CLRSTATUS",
-        Asked::GetState => "GETSTATE",
-        Asked::Abort => "ABORT",
-        Asked::Other => "other",
-        Asked::Reset => "reset",
-        Asked::Power => "power",
+        EventKind::Detach => "DETACH",
+        EventKind::Block => "DNLOAD",
+        EventKind::Close => "DNLOAD-0",
+        EventKind::Upload => "UPLOAD",
+        EventKind::GetStatus => "GETSTATUS",
+        EventKind::ClrStatus => "CLRSTATUS",
+        EventKind::GetState => "GETSTATE",
+        EventKind::Abort => "ABORT",
+        EventKind::Other => "other",
+        EventKind::Reset => "reset",
+        EventKind::Power => "power",
     }
 }
 

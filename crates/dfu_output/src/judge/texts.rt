@@ -9,15 +9,15 @@ use crate::judge::names::{
     READINGS, STATES, answer_name, asked_name, place_name, reading_name, source_name, when_name,
 };
 use crate::numbers::{field, made_field, push};
-use dfu_conformance::{Departure, Event, Place, Reading, Row, STANDARD, Verdict};
+use dfu_conformance::{Departure, LogEvent, Reading, Row, STANDARD, StandardState, Verdict};
 use std::alloc::{AllocError, Global};
 
 /// Whether a device may be in this state, where these are the places at which it may be.
-pub(crate) fn may_be_in(at: &[bool; 12], place: Place) -> bool
+pub(crate) fn may_be_in(at: &[bool; 12], place: StandardState) -> bool
     ensures { result ≡ may_be_in at.now place }
 {
     match place {
-        Place::DfuIdle => at[2] || at[11],
+        StandardState::DfuIdle => at[2] || at[11],
         place => at[place.number()],
     }
 }
@@ -43,7 +43,7 @@ pub fn is_single(at: &[bool; 12]) -> bool
 }
 
 /// Adds the name of a state in which a device may be.
-fn push_state(line: &mut String, at: &[bool; 12], place: Place) -> Result<(), AllocError>
+fn push_state(line: &mut String, at: &[bool; 12], place: StandardState) -> Result<(), AllocError>
     ensures { OnOk result (string_bytes line.new ≡ string_bytes line.old ++ spaced_state at.now place) }
 {
     if !may_be_in(at, place) {
@@ -135,7 +135,7 @@ fn push_allowed(line: &mut String, departure: &Departure) -> Result<(), AllocErr
 }
 
 /// Adds, of a request that is not as section 3 has it, that it may be stalled with no change.
-fn push_unchanged(line: &mut String, event: &Event) -> Result<(), AllocError>
+fn push_unchanged(line: &mut String, event: &LogEvent) -> Result<(), AllocError>
     ensures { OnOk result (string_bytes line.new ≡ string_bytes line.old ++ unchanged_text event.now) }
 {
     if event.is_plain {

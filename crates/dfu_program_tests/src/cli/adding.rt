@@ -2,7 +2,7 @@
 
 use crate::cli::acting::{ADD, OLD, calls, ends, holds, machine_over, machine_with, prints};
 use crate::cli::machine::{Kind, Machine};
-use crate::cli::{DIGITS, FOUR_ONES};
+use crate::known_files::{DIGITS, FOUR_ONES};
 use dfu_fs::rights_after;
 use std::alloc::Global;
 use std::process::Abort;

@@ -1,7 +1,7 @@
 //! What the words of a line read and print on the machine in memory, and how they end.
 
-use crate::cli::FOUR_ONES;
 use crate::cli::acting::{calls, ends, machine_with, prints};
+use crate::known_files::FOUR_ONES;
 use std::test::Fail;
 
 /// Words, what is printed, the calls that are made, and the end.

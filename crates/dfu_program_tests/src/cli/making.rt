@@ -2,7 +2,7 @@
 
 use crate::cli::acting::{ADD, OLD, calls, ends, holds, machine_with, prints};
 use crate::cli::machine::Kind;
-use crate::cli::{DIGITS, FOUR_ONES};
+use crate::known_files::{DIGITS, FOUR_ONES};
 use std::test::Fail;
 
 /// Its second line has a space.

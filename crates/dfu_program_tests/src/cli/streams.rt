@@ -1,6 +1,6 @@
 //! Scripts of a reader that fails, to a writer that fails, and with no line.
 
-use crate::cli::readers::{Failing, Refusing};
+use crate::readers::{Failing, Refusing};
 use dfu_cli::run_text;
 use dfu_output::Exit;
 

@@ -1,6 +1,6 @@
 //! The image of a file, whatever its format is.
 
-use dfu_images::{FileFault, Format, ImageFault, LayFault, image_of};
+use dfu_images::{Format, ImageFault, ImageFileFault, LayFault, image_of};
 use std::test::Fail;
 
 /// Two bytes at 08000000h, and one at 08000003h.
@@ -12,26 +12,41 @@ fn images(rt: HostRuntime) -> Result<(), Fail> {
     assert_eq!(rt; image.address, 0x0800_0000);
     assert_eq!(rt; image.bytes.as_slice(), [1, 2, 0xa5, 3].as_slice());
     let image = image_of(rt.alloc(), Format::SRecord, None, b"S1060010AABBCC B8").err();
-    assert_eq!(rt; image, Some(FileFault::Unread(ImageFault::BadDigit(1))));
+    assert_eq!(rt;
+        image,
+        Some(ImageFileFault::Unread(ImageFault::BadDigit(1)))
+    );
     Ok(())
 }
 
 /// A format, a file, and why it makes no image.
-static FAULTS: [(Format, &'static str, FileFault); 6] = [
+static FAULTS: [(Format, &'static str, ImageFileFault); 6] = [
     (
         Format::IntelHex,
         GAPPED,
-        FileFault::Unlaid(LayFault::Gap(0x0800_0002, 0x0800_0003)),
+        ImageFileFault::Unlaid(LayFault::Gap(0x0800_0002, 0x0800_0003)),
     ),
-    (Format::IntelHex, ":00000001FF", FileFault::NoData),
-    (Format::IntelHex, "", FileFault::Unread(ImageFault::NoEnd)),
+    (Format::IntelHex, ":00000001FF", ImageFileFault::NoData),
+    (
+        Format::IntelHex,
+        "",
+        ImageFileFault::Unread(ImageFault::NoEnd),
+    ),
     (
         Format::SRecord,
         GAPPED,
-        FileFault::Unread(ImageFault::NoMark(1)),
+        ImageFileFault::Unread(ImageFault::NoMark(1)),
     ),
-    (Format::Uf2, GAPPED, FileFault::Unread(ImageFault::BadSize)),
-    (Format::Elf, GAPPED, FileFault::Unread(ImageFault::NotElf)),
+    (
+        Format::Uf2,
+        GAPPED,
+        ImageFileFault::Unread(ImageFault::BadSize),
+    ),
+    (
+        Format::Elf,
+        GAPPED,
+        ImageFileFault::Unread(ImageFault::NotElf),
+    ),
 ];
 
 #[test]
@@ -40,7 +55,7 @@ fn faults(rt: HostRuntime) -> Result<(), Fail> {
         let answer = image_of(rt.alloc(), *format, None, file.as_bytes());
         assert_eq!(rt; answer.err(), Some(*fault));
     }
-    let text = format!(in rt.alloc(); "{}", FileFault::Unread(ImageFault::NoMark(1)))?;
+    let text = format!(in rt.alloc(); "{}", ImageFileFault::Unread(ImageFault::NoMark(1)))?;
     assert_eq!(rt; text.as_str(), "line 1: no record begins so");
     Ok(())
 }

@@ -32,86 +32,27 @@ fn file_of(alloc: Global, first: &Fields, second: &Fields) -> Result<Vec<u8>, Fa
 }
 
 /// Two blocks, with what they say.
+#[rattlefmt::skip]
 static ROWS: [(Fields, Fields, &'static str); 17] = [
-    (
-        [0, 0x1000, 2, 0, 2, 0],
-        [0, 0x1002, 1, 1, 2, 0],
-        " 00001000:A0A1A0",
-    ),
-    (
-        [0, 0x1000, 2, 0, 2, 0],
-        [0, 0x1003, 1, 1, 2, 0],
-        " 00001000:A0A1 00001003:A0",
-    ),
-    (
-        [0, 0x1003, 1, 0, 2, 0],
-        [0, 0x1000, 2, 1, 2, 0],
-        " 00001000:A0A1 00001003:A0",
-    ),
-    (
-        [0, 0xffff_ffff, 1, 0, 2, 0],
-        [0, 0, 1, 1, 2, 0],
-        " 00000000:A0 FFFFFFFF:A0",
-    ),
+    ([0, 0x1000, 2, 0, 2, 0], [0, 0x1002, 1, 1, 2, 0], " 00001000:A0A1A0"),
+    ([0, 0x1000, 2, 0, 2, 0], [0, 0x1003, 1, 1, 2, 0], " 00001000:A0A1 00001003:A0"),
+    ([0, 0x1003, 1, 0, 2, 0], [0, 0x1000, 2, 1, 2, 0], " 00001000:A0A1 00001003:A0"),
+    ([0, 0xffff_ffff, 1, 0, 2, 0], [0, 0, 1, 1, 2, 0], " 00000000:A0 FFFFFFFF:A0"),
     // Of one family, or of none; without its flag the field is the size of a file.
-    (
-        [0x2000, 0, 1, 0, 2, 7],
-        [0x2000, 1, 1, 1, 2, 7],
-        " 00000000:A0A0",
-    ),
+    ([0x2000, 0, 1, 0, 2, 7], [0x2000, 1, 1, 1, 2, 7], " 00000000:A0A0"),
     ([0, 0, 1, 0, 2, 7], [0, 1, 1, 1, 2, 8], " 00000000:A0A0"),
-    (
-        [0x2000, 0, 1, 0, 2, 7],
-        [0x2000, 1, 1, 1, 2, 8],
-        "block 1: it is for another family of boards than the first",
-    ),
-    (
-        [0x2000, 0, 1, 0, 2, 7],
-        [0, 1, 1, 1, 2, 7],
-        "block 1: it is for another family of boards than the first",
-    ),
+    ([0x2000, 0, 1, 0, 2, 7], [0x2000, 1, 1, 1, 2, 8], "block 1: it is for another family of boards than the first"),
+    ([0x2000, 0, 1, 0, 2, 7], [0, 1, 1, 1, 2, 7], "block 1: it is for another family of boards than the first"),
     // Not for the main flash; a checksum and tags, which say nothing of the image; no data.
-    (
-        [0xc000, 0, 1, 0, 2, 0],
-        [0x3001, 0, 1, 1, 2, 9],
-        " 00000000:A0",
-    ),
+    ([0xc000, 0, 1, 0, 2, 0], [0x3001, 0, 1, 1, 2, 9], " 00000000:A0"),
     ([0, 0, 1, 0, 2, 0], [0, 0, 0, 1, 2, 0], " 00000000:A0"),
-    (
-        [0, 0, 1, 0, 2, 0],
-        [0x1000, 1, 1, 1, 2, 0],
-        "block 1: it is for a file, and not for flash",
-    ),
-    (
-        [0, 0, 477, 0, 2, 0],
-        [0, 1, 1, 1, 2, 0],
-        "block 0: it can't have so much data",
-    ),
-    (
-        [0, 0, 1, 1, 2, 0],
-        [0, 1, 1, 1, 2, 0],
-        "block 0: it has another number, or another count",
-    ),
-    (
-        [0, 0, 1, 0, 2, 0],
-        [0, 1, 1, 1, 3, 0],
-        "block 1: it has another number, or another count",
-    ),
-    (
-        [0, 0xffff_ffff, 2, 0, 2, 0],
-        [0, 1, 1, 1, 2, 0],
-        "at 0: the data ends behind address FFFFFFFF",
-    ),
-    (
-        [0, 0, 2, 0, 2, 0],
-        [0, 1, 1, 1, 2, 0],
-        "two records have a byte at address 00000001",
-    ),
-    (
-        [1, 0, 477, 0, 2, 0],
-        [0, 1, 1, 1, 2, 0],
-        "block 0: it can't have so much data",
-    ),
+    ([0, 0, 1, 0, 2, 0], [0x1000, 1, 1, 1, 2, 0], "block 1: it is for a file, and not for flash"),
+    ([0, 0, 477, 0, 2, 0], [0, 1, 1, 1, 2, 0], "block 0: it can't have so much data"),
+    ([0, 0, 1, 1, 2, 0], [0, 1, 1, 1, 2, 0], "block 0: it has another number, or another count"),
+    ([0, 0, 1, 0, 2, 0], [0, 1, 1, 1, 3, 0], "block 1: it has another number, or another count"),
+    ([0, 0xffff_ffff, 2, 0, 2, 0], [0, 1, 1, 1, 2, 0], "at 0: the data ends behind address FFFFFFFF"),
+    ([0, 0, 2, 0, 2, 0], [0, 1, 1, 1, 2, 0], "two records have a byte at address 00000001"),
+    ([1, 0, 477, 0, 2, 0], [0, 1, 1, 1, 2, 0], "block 0: it can't have so much data"),
 ];
 
 #[test]

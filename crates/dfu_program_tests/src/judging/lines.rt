@@ -1,7 +1,7 @@
 //! Lines of a log, by hand.
 
 use super::{ACK, POWER, RESET};
-use dfu_conformance::{Answer, Asked, Event, Line, read_line};
+use dfu_conformance::{EventKind, Line, LogEvent, Response, read_line};
 use std::process::Abort;
 
 /// Lines that are none of a log.
@@ -14,7 +14,7 @@ static NO_LINES: [&'static [u8]; 17] = [
 ];
 
 /// A status of six bytes.
-const TOLD: Answer = Answer::Bytes {
+const TOLD: Response = Response::Bytes {
     count: 6,
     first: 15,
     fifth: 4,
@@ -34,12 +34,12 @@ static OTHERS: [(u8, &'static [u8], Line); 7] = [
 
 /// Lines of requests, for an interface: what is asked, whether it is as section 3 has it, wLength, and the answer.
 #[rattlefmt::skip]
-static REQUESTS: [(u8, &'static [u8], Asked, bool, u16, Answer); 5] = [
-    (0, b"A103000000000600 - 0F010203040A", Asked::GetStatus, true, 6, TOLD),
-    (0, b"2101000000000400 a5a5a5a5 ack", Asked::Block, true, 4, ACK),
-    (0, b"2101000000000400 a5a5a5 stall", Asked::Block, false, 4, Answer::Stall),
-    (0, b"2101010000000000 - nothing", Asked::Close, true, 0, Answer::Nothing),
-    (1, b"a103000001000600 - stall", Asked::GetStatus, true, 6, Answer::Stall),
+static REQUESTS: [(u8, &'static [u8], EventKind, bool, u16, Response); 5] = [
+    (0, b"A103000000000600 - 0F010203040A", EventKind::GetStatus, true, 6, TOLD),
+    (0, b"2101000000000400 a5a5a5a5 ack", EventKind::Block, true, 4, ACK),
+    (0, b"2101000000000400 a5a5a5 stall", EventKind::Block, false, 4, Response::Stall),
+    (0, b"2101010000000000 - nothing", EventKind::Close, true, 0, Response::Nothing),
+    (1, b"a103000001000600 - stall", EventKind::GetStatus, true, 6, Response::Stall),
 ];
 
 /// What this line says is what is wanted.
@@ -53,7 +53,7 @@ fn lines_say_what_they_say(rt: HostRuntime) {
         expect(&rt, *interface, line, Some(*wanted));
     }
     for (interface, line, asked, is_plain, length, answer) in &REQUESTS {
-        let event = Event {
+        let event = LogEvent {
             asked: *asked,
             is_plain: *is_plain,
             length: *length,

@@ -2,7 +2,7 @@
 
 use super::{POWER, RESET, bytes};
 use arrayvec::ArrayVec;
-use dfu_conformance::{Answer, Event, Judge, Verdict};
+use dfu_conformance::{Judge, LogEvent, Response, Verdict};
 use dfu_device::{Answer as Said, Config, Device};
 use dfu_slots::{SimMedium, Slots};
 use dfu_wire::{Functional, Ids, Setup};
@@ -92,16 +92,16 @@ fn request(random: &mut Random) -> ([u8; 8], usize) {
 }
 
 /// What is seen of an answer.
-fn seen(said: Said, out: &[u8]) -> Answer {
+fn seen(said: Said, out: &[u8]) -> Response {
     match said {
         Said::Ack => bytes(&[]),
         Said::Bytes => bytes(out),
-        Said::Stall => Answer::Stall,
+        Said::Stall => Response::Stall,
     }
 }
 
 /// One event of a run, or nothing where time passes or a request is not the interface's.
-fn event(device: &mut Device<SimMedium>, random: &mut Random) -> Option<Event> {
+fn event(device: &mut Device<SimMedium>, random: &mut Random) -> Option<LogEvent> {
     match random.next() {
         0..60 => {
             device.elapse(u32::from(random.below(12)));
@@ -129,11 +129,11 @@ fn event(device: &mut Device<SimMedium>, random: &mut Random) -> Option<Event> {
             let said = device.handle(&setup, &BODY[..if body < 16 { body } else { 16 }], &mut out);
             let lost = random.next() < 6;
             let answer = if lost {
-                Answer::Nothing
+                Response::Nothing
             } else {
                 seen(said, out.as_slice())
             };
-            Event::exchange(&Setup::decode(&setup), body, answer)
+            LogEvent::exchange(&Setup::decode(&setup), body, answer)
         }
     }
 }

@@ -3,8 +3,8 @@
 use super::captures::{
     DFU_FLASH, DFU_UTIL, DFU_UTIL_RESET, DFU_UTIL_UPLOAD, UBOOT_DFU_FLASH, UBOOT_DFU_UTIL,
 };
-use super::{ACK, asked};
-use dfu_conformance::{Departure, Judge, Line, Place, STANDARD, Verdict, read_line};
+use super::{ACK, asked, at};
+use dfu_conformance::{Departure, Judge, Line, STANDARD, StandardState, Verdict, read_line};
 use std::process::Abort;
 
 /// A log: its name, its lines, how many departures are told, and the verdict.
@@ -92,17 +92,6 @@ fn captures_have_their_verdicts(rt: HostRuntime) {
     );
 }
 
-/// By place, where a device may be that is at one of these.
-fn at(places: &[Place]) -> [bool; 12] {
-    let mut at = [false; 12];
-    for place in places {
-        if let Some(slot) = at.get_mut(place.number()) {
-            *slot = true;
-        }
-    }
-    at
-}
-
 #[test]
 fn a_departure_says_where_the_device_was_and_what_was_allowed(rt: HostRuntime) {
     let (judge, _, last) = judged(
@@ -115,10 +104,13 @@ fn a_departure_says_where_the_device_was_and_what_was_allowed(rt: HostRuntime) {
     );
     let mut allowed = 0u32;
     if let Some(departure) = last {
-        assert_eq!(rt; departure.before, at(&[Place::AppIdle]));
+        assert_eq!(rt; departure.before, at(&[StandardState::AppIdle]));
         for row in &STANDARD {
             if departure.allows(row) {
-                assert_eq!(rt; (row.from, row.next), (Place::AppIdle, Place::AppIdle));
+                assert_eq!(rt;
+                    (row.from, row.next),
+                    (StandardState::AppIdle, StandardState::AppIdle)
+                );
                 allowed = allowed.saturating_add(1);
             }
         }
@@ -131,7 +123,7 @@ fn a_departure_says_where_the_device_was_and_what_was_allowed(rt: HostRuntime) {
     );
     assert_eq!(rt;
         judge.places(2),
-        at(&[Place::AppIdle]),
+        at(&[StandardState::AppIdle]),
         "one that is mute is in appIDLE"
     );
 }
@@ -151,7 +143,11 @@ fn a_lost_answer_leaves_both_ways_open(rt: HostRuntime) {
     );
     assert_eq!(rt;
         judge.places(0),
-        at(&[Place::DfuIdle, Place::DownloadSync, Place::Error])
+        at(&[
+            StandardState::DfuIdle,
+            StandardState::DownloadSync,
+            StandardState::Error
+        ])
     );
 }
 

@@ -2,7 +2,7 @@
 
 use super::cells::{cell, state_of};
 use super::{POWER, REQUESTS, RESET, asked, bytes, state, status};
-use dfu_conformance::{Answer, Event, Judge, Verdict};
+use dfu_conformance::{Judge, LogEvent, Response, Verdict};
 
 /// A row that is planted: in this state, this request of the list is answered by this letter, and this state is entered, or told.
 #[derive(Clone, Copy)]
@@ -111,7 +111,7 @@ impl Walker {
     }
 
     /// The event of a request.
-    fn ask(&mut self, request: usize) -> Option<Event> {
+    fn ask(&mut self, request: usize) -> Option<LogEvent> {
         let (letter, next) = self.row(request);
         let code = if next == 10 { 14 } else { 0 };
         let answer = match letter {
@@ -121,7 +121,7 @@ impl Walker {
             b'Q' => state(next),
             b'F' => bytes(&[1; 8]),
             b'P' => bytes(&[1; 5]),
-            _ => Answer::Stall,
+            _ => Response::Stall,
         };
         if letter != b'Q' {
             self.enter(next, false);
@@ -133,7 +133,7 @@ impl Walker {
     }
 
     /// One step of the walk: what is seen of it, or nothing where time passes.
-    fn step(&mut self) -> Option<Event> {
+    fn step(&mut self) -> Option<LogEvent> {
         match self.choose() {
             9 => {
                 let next = if self.state == 1 { 2 } else { 0 };

@@ -3,7 +3,7 @@
 use super::cells::{may, may_anyhow};
 use super::{ACK, POWER, REQUESTS, RESET, asked, bytes, state, status};
 use Said::{Ack, Part, Power, Reset, State, Status};
-use dfu_conformance::{Answer, Event, Judge};
+use dfu_conformance::{Judge, LogEvent, Response};
 use std::process::Abort;
 
 /// What is said on a way: a request of the list, and its answer.
@@ -34,7 +34,7 @@ static WAY: [&'static [Said]; 11] = [
 ];
 
 /// The event of what is said.
-fn event(said: Said) -> Option<Event> {
+fn event(said: Said) -> Option<LogEvent> {
     match said {
         Said::Power => Some(POWER),
         Said::Reset => Some(RESET),
@@ -46,7 +46,7 @@ fn event(said: Said) -> Option<Event> {
 }
 
 /// A request of the list, with its answer.
-fn ask(request: usize, answer: Answer) -> Option<Event> {
+fn ask(request: usize, answer: Response) -> Option<LogEvent> {
     match REQUESTS.get(request) {
         Some(setup) => asked(setup, answer),
         None => None,
@@ -67,7 +67,7 @@ fn judge_at(rt: &impl Abort, place: u8) -> Judge {
 }
 
 /// A judge keeps this answer to a request of a device in this state, or not, as is wanted.
-fn expect(rt: &impl Abort, place: u8, request: usize, answer: Answer, wanted: bool) {
+fn expect(rt: &impl Abort, place: u8, request: usize, answer: Response, wanted: bool) {
     let mut judge = judge_at(rt, place);
     let kept = match ask(request, answer) {
         Some(event) => judge.take(&event).is_none(),
@@ -88,8 +88,8 @@ fn each_cell_is_kept_as_it_says(rt: HostRuntime) {
             let acknowledged = may_anyhow(place, request, b'A') || empty;
             expect(&rt, place, request, ACK, acknowledged);
             let stalled = may_anyhow(place, request, b'S');
-            expect(&rt, place, request, Answer::Stall, stalled);
-            expect(&rt, place, request, Answer::Nothing, true);
+            expect(&rt, place, request, Response::Stall, stalled);
+            expect(&rt, place, request, Response::Nothing, true);
         }
     }
 }

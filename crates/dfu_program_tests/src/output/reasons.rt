@@ -1,6 +1,6 @@
 //! Why an answer is given: the lines of reasons, and the fault beside an end.
 
-use crate::output::DIGITS;
+use crate::known_files::DIGITS;
 use dfu_output::{add_with_fault, check_with_fault, reason_line};
 use dfu_suffix::{Findings, SuffixFault};
 use dfu_wire::Ids;

@@ -1,7 +1,8 @@
 //! Readers and writers that fail: what is answered, and what is out.
 
-use crate::output::readers::{Failing, Refusing};
-use crate::output::{DIGITS, DIGITS_IDS, FOUR_ONES};
+use crate::known_files::{DIGITS, FOUR_ONES};
+use crate::output::DIGITS_IDS;
+use crate::readers::{Failing, Refusing};
 use dfu_output::{Exit, add_text, check_text, show_text};
 use std::alloc::Global;
 use std::io::Write;

@@ -10,38 +10,38 @@ use Rattle.dfu_host.specs.declared.seen.Seen.TheVariants as seen
 use Rattle.dfu_host.specs.Host.{HostState, after, started, wants_memory}
 use Rattle.dfu_host.specs.Phases.{Phase, Over, OverUploaded, Heard, NoRoom}
 use Rattle.dfu_host.specs.Table.{deed}
-use Rattle.dfu_sim.specs.declared.aim.Aim.{Aim}
-use Rattle.dfu_sim.specs.declared.back.Back.{Back}
-use Rattle.dfu_sim.specs.declared.course.Course.{Course as GivenCourse}
-use Rattle.dfu_sim.specs.declared.course.Harming.{Harming}
-use Rattle.dfu_sim.specs.declared.course.Harming.TheVariants.{NoWrite, CutsPower, FailsWrite, LiesInWrite}
-use Rattle.dfu_sim.specs.Course.{Course}
+use Rattle.dfu_sim.specs.declared.purpose.Purpose.{Purpose}
+use Rattle.dfu_sim.specs.declared.response.Response.{Response}
+use Rattle.dfu_sim.specs.declared.delivery.Delivery.{Delivery as GivenDelivery}
+use Rattle.dfu_sim.specs.declared.delivery.MediumFault.{MediumFault}
+use Rattle.dfu_sim.specs.declared.delivery.MediumFault.TheVariants.{NoWrite, CutsPower, FailsWrite, LiesInWrite}
+use Rattle.dfu_sim.specs.Delivery.{Delivery}
 use Rattle.dfu_sim.specs.declared.fault.LinkFault.{LinkFault}
 use Rattle.dfu_sim.specs.declared.fault.LinkFault.TheVariants.{NoHost}
 use Rattle.dfu_sim.specs.Happening.{Harm, harmed}
-use Rattle.dfu_sim.specs.Bench.{Session, Nobody, Hosted}
-use Rattle.dfu_sim.specs.Opening.{goal_of_aim}
+use Rattle.dfu_sim.specs.LinkView.{Session, Nobody, Hosted}
+use Rattle.dfu_sim.specs.Opening.{goal_of_purpose}
 use Rattle.dfu_sim.specs.Play.{silent, Took, settled}
 use Rattle.dfu_sim.specs.Bytes.{HearsBack}
 use Rattle.dfu_sim.specs.Refusing.{IsOffered}
 
--- The course that the code goes by.
-abbrev pub course_in : GivenCourse → Course
-course_in g = record { handling = g.handling; refusing = g.refusing; back = g.back; harming = g.harming }
+-- The delivery that the code goes by.
+abbrev pub delivery_in : GivenDelivery → Delivery
+delivery_in g = record { handling = g.handling; refusing = g.refusing; back = g.back; harming = g.harming }
 
 -- How a write is harmed in it.
-abbrev pub harm_at : GivenCourse → Harm
+abbrev pub harm_at : GivenDelivery → Harm
 harm_at g = harmed g.writes g.tear.now
 
 -- What a host sees at the end of a wait or a reset: after a cut, that the device was restarted.
-abbrev pub seen_over : Harming → Seen → Seen
+abbrev pub seen_over : MediumFault → Seen → Seen
 seen_over NoWrite s = s
 seen_over CutsPower s = seen.Restarted
 seen_over FailsWrite s = s
 seen_over LiesInWrite s = s
 
 -- A host took what it heard of what came back. It finds no memory only where its phase wants some.
-pub record HasHeardBack (h : HostState) (b : Back) (out : List ℕ) (h' : HostState) : Type 0 where
+pub record HasHeardBack (h : HostState) (b : Response) (out : List ℕ) (h' : HostState) : Type 0 where
   pub heard : Heard
   pub hears : HearsBack (deed h.task h.phase) b out heard
   pub room : heard ≡ NoRoom → IsTrue (wants_memory h.phase)
@@ -64,7 +64,7 @@ abort_told Nobody = Err NoHost
 abort_told (Hosted h) = Ok None
 
 -- A session begins with a file that is offered for this.
-pub record HasBegun (s : Setting) (aim : Aim) (file : List ℕ) (limits : Limits) (h : HostState) : Type 0 where
+pub record HasBegun (s : Setting) (purpose : Purpose) (file : List ℕ) (limits : Limits) (h : HostState) : Type 0 where
   pub content : Content
-  pub offered : IsOffered s aim file content.payload
-  pub host : h ≡ started s.functional (goal_of_aim aim content.payload) limits
+  pub offered : IsOffered s purpose file content.payload
+  pub host : h ≡ started s.functional (goal_of_purpose purpose content.payload) limits

@@ -1,10 +1,10 @@
 -- One step of a judge of DfuSe, as it computes.
 use Rattle.std.specs.Prelude.{ℕ, ◌==◌, ◌&&◌, ◌||◌, Bool, false, List, slice_index_or}
 use Rattle.std.specs.List.{list_any}
-use Rattle.dfu_conformance.specs.declared.place.Place.{Place}
+use Rattle.dfu_conformance.specs.declared.standard_state.StandardState.{StandardState}
 use Rattle.dfu_conformance.specs.declared.row.Row.{Row}
 use Rattle.dfu_conformance.specs.declared.row.Drift.{Drift}
-use Rattle.dfu_conformance.specs.declared.event.Event.{Event}
+use Rattle.dfu_conformance.specs.declared.event.LogEvent.{LogEvent}
 use Rattle.dfu_conformance.specs.declared.standard.TheConstants.{STANDARD}
 use Rattle.dfu_conformance.specs.declared.marks.TheConstants.{MARKS}
 use Rattle.dfu_conformance.specs.declared.habits.TheConstants.{HABITS}
@@ -16,28 +16,28 @@ use Rattle.dfuse_conformance.specs.Runs.{of_dfuse, rests}
 use Rattle.dfuse_conformance.specs.Verdicts.{may_stand}
 
 -- The row leads a device to this place, from where it may stand.
-abbrev pub leads_to : List Bool → Event → Place → Row → Bool
+abbrev pub leads_to : List Bool → LogEvent → StandardState → Row → Bool
 leads_to at e n row =
     (place_number row.next == place_number n) && (fits row e && (may_stand at row.from && of_dfuse row.when))
 
 -- The move leads a device to this place, from where it may stand.
-abbrev pub moves_to : List Bool → Place → Drift → Bool
+abbrev pub moves_to : List Bool → StandardState → Drift → Bool
 moves_to at n d = (place_number d.next == place_number n) && (may_stand at d.from && of_dfuse d.when)
 
 -- A device may stand at this place once an event has come, before it moves by itself.
-abbrev pub led_or_rests : List Bool → Event → Place → Bool
+abbrev pub led_or_rests : List Bool → LogEvent → StandardState → Bool
 led_or_rests at e n =
     ((((rests e && may_stand at n) || list_any (leads_to at e n) STANDARD) || list_any (leads_to at e n) MARKS)
     || list_any (leads_to at e n) HABITS) || list_any (leads_to at e n) DFUSE
 
 -- The same, if the places are those of a test.
-abbrev pub then_moved : (Place → Bool) → Place → Bool
+abbrev pub then_moved : (StandardState → Bool) → StandardState → Bool
 then_moved held n =
     held n || list_any (λ (d : Drift). (place_number d.next == place_number n) && (held d.from && of_dfuse d.when)) DRIFTS
 
 -- A device may stand at this place after an event.
-abbrev pub after_event : List Bool → Event → Place → Bool
-after_event at e n = then_moved (λ (p : Place). led_or_rests at e p) n
+abbrev pub after_event : List Bool → LogEvent → StandardState → Bool
+after_event at e n = then_moved (λ (p : StandardState). led_or_rests at e p) n
 
 -- A device may stand somewhere.
 unfoldable pub is_somewhere : List Bool → Bool

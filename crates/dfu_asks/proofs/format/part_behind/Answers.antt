@@ -1,7 +1,7 @@
 use Rattle.std.proofs.Common.{◌≡◌, ℕ, ◌+◌, length, refl, sym, ap, subst, arith}
 use Rattle.dfu_slots.specs.Units.{fill_size}
-use Rattle.dfu_asks.specs.declared.phase.Phase.{Phase}
-use Rattle.dfu_asks.specs.declared.phase.Phase.TheVariants as phase
+use Rattle.dfu_asks.specs.declared.format_step.FormatStep.{FormatStep}
+use Rattle.dfu_asks.specs.declared.format_step.FormatStep.TheVariants as format_step
 use Rattle.dfu_asks.proofs.FormatParts.{IsFollowed, image_last, image_next, no_image}
 use Rattle.dfu_asks.proofs.FormatPieces.{no_fill, filled_size, header_total, gate_total, front_total}
 use Rattle.dfu_asks.proofs.format.part_behind.Goals as goal
@@ -11,7 +11,7 @@ returns-then-len-eq0-clause-parts c w size crc image same len =
     let none : c.args.len ≡ 0 = omega (arith, c.if-len-eq0.true) in
     let zero_is : 0 ≡ c.args.len + fill_size c.args.unit c.args.len =
     omega (arith, none, ap (λ (n : ℕ). fill_size c.args.unit n) none, no_fill c.args.unit) in
-    subst (λ (p : Phase). IsFollowed w size image crc p phase.Header) (sym c.in-CloseFirst.is)
+    subst (λ (p : FormatStep). IsFollowed w size image crc p format_step.Header) (sym c.in-CloseFirst.is)
     (no_image w size image crc (filled_size w.unit c.args.unit image c.args.len 0 same len zero_is))
 
 pub returns-then-len-eq0-clause-some : goal.returns-then-len-eq0-clause-some
@@ -27,7 +27,7 @@ returns-else-len-eq0-clause-some c w size crc image same len other =
 
 pub returns-then-next-filled_len-clause-parts : goal.returns-then-next-filled_len-clause-parts
 returns-then-next-filled_len-clause-parts c w size crc image same len =
-    subst (λ (p : Phase). IsFollowed w size image crc p (phase.Image (c.in-Image.from + 4096))) (sym c.in-Image.is)
+    subst (λ (p : FormatStep). IsFollowed w size image crc p (format_step.Image (c.in-Image.from + 4096))) (sym c.in-Image.is)
     (image_next w size image crc c.in-Image.from)
 
 pub returns-then-next-filled_len-clause-some : goal.returns-then-next-filled_len-clause-some
@@ -40,7 +40,7 @@ returns-then-next-filled_len-clause-some c w size crc image same len other =
 
 pub returns-else-next-filled_len-clause-parts : goal.returns-else-next-filled_len-clause-parts
 returns-else-next-filled_len-clause-parts c w size crc image same len =
-    subst (λ (p : Phase). IsFollowed w size image crc p phase.Header) (sym c.in-Image.is)
+    subst (λ (p : FormatStep). IsFollowed w size image crc p format_step.Header) (sym c.in-Image.is)
     (image_last w size image crc c.in-Image.from (omega (
       arith,
       c.if-next-filled_len.false,

@@ -1,6 +1,6 @@
 use Rattle.std.proofs.Common.{◌≡◌, ◌+◌, ◌/◌, List, length, refl, ◌∙◌, subst, arith}
 use Rattle.dfu_slots.specs.Layout.{header}
-use Rattle.dfu_asks.specs.declared.phase.Phase.TheVariants as phase
+use Rattle.dfu_asks.specs.declared.format_step.FormatStep.TheVariants as format_step
 use Rattle.dfu_asks.specs.Steps.{Step, step_writes}
 use Rattle.dfu_asks.specs.Carried.{total, IsPiece}
 use Rattle.dfu_asks.specs.Cuts.{step_of}
@@ -16,7 +16,8 @@ returns-in-CloseSecond-clause-found c = λ yes.
     let s = c.args.cut.now.stock in
     subst (λ (ss : List Step). IsPiece ss c.args.cut.now.rest (step_of c.sequence_piece.new.cut))
     (close_are s c.args.cut.now.front (c.args.size / 2)
-    ∙ part_in f c.args.size s c.requires.unit c.requires.sector phase.CloseSecond c.in-CloseSecond.is) (c.sequence_piece.ensures.found yes)
+    ∙ part_in f c.args.size s c.requires.unit c.requires.sector format_step.CloseSecond c.in-CloseSecond.is)
+    (c.sequence_piece.ensures.found yes)
 
 pub returns-in-CloseFirst-clause-found : goal.returns-in-CloseFirst-clause-found
 returns-in-CloseFirst-clause-found c = λ yes.
@@ -24,7 +25,8 @@ returns-in-CloseFirst-clause-found c = λ yes.
     let s = c.args.cut.now.stock in
     subst (λ (ss : List Step). IsPiece ss c.args.cut.now.rest (step_of c.sequence_piece-in-CloseFirst.new.cut))
     (close_are s c.args.cut.now.front 0
-    ∙ part_in f c.args.size s c.requires.unit c.requires.sector phase.CloseFirst c.in-CloseFirst.is) (c.sequence_piece-in-CloseFirst.ensures.found yes)
+    ∙ part_in f c.args.size s c.requires.unit c.requires.sector format_step.CloseFirst c.in-CloseFirst.is)
+    (c.sequence_piece-in-CloseFirst.ensures.found yes)
 
 pub returns-in-Image-clause-found : goal.returns-in-Image-clause-found
 returns-in-Image-clause-found c = λ yes.
@@ -32,7 +34,8 @@ returns-in-Image-clause-found c = λ yes.
     let s = c.args.cut.now.stock in
     subst (λ (ss : List Step). IsPiece ss c.args.cut.now.rest (step_of c.sequence_piece-in-Image.new.cut))
     (image_are s c.args.cut.now.front c.in-Image.from c.requires.held
-    ∙ part_in f c.args.size s c.requires.unit c.requires.sector (phase.Image c.in-Image.from) c.in-Image.is) (c.sequence_piece-in-Image.ensures.found yes)
+    ∙ part_in f c.args.size s c.requires.unit c.requires.sector (format_step.Image c.in-Image.from) c.in-Image.is)
+    (c.sequence_piece-in-Image.ensures.found yes)
 
 pub returns-in-Image-clause-none : goal.returns-in-Image-clause-none
 returns-in-Image-clause-none c = λ no.
@@ -40,7 +43,8 @@ returns-in-Image-clause-none c = λ no.
     let s = c.args.cut.now.stock in
     let count = subst (λ (ss : List Step). total (step_writes ss) + c.sequence_piece-in-Image.new.cut.rest ≡ c.args.cut.now.rest)
     (image_are s c.args.cut.now.front c.in-Image.from c.requires.held
-    ∙ part_in f c.args.size s c.requires.unit c.requires.sector (phase.Image c.in-Image.from) c.in-Image.is) (c.sequence_piece-in-Image.ensures.behind no) in
+    ∙ part_in f c.args.size s c.requires.unit c.requires.sector (format_step.Image c.in-Image.from) c.in-Image.is)
+    (c.sequence_piece-in-Image.ensures.behind no) in
     omega (arith, count)
 
 pub returns-in-Header-clause-found : goal.returns-in-Header-clause-found
@@ -49,7 +53,7 @@ returns-in-Header-clause-found c = λ yes.
     let s = c.args.cut.now.stock in
     subst (λ (ss : List Step). IsPiece ss c.args.cut.now.rest (step_of c.open_piece.new.cut))
     (first_header s (header 2 0 (length s.block.now) f.register) (length s.block.now) f.register refl
-    ∙ part_in f c.args.size s c.requires.unit c.requires.sector phase.Header c.in-Header.is) (c.open_piece.ensures.found yes)
+    ∙ part_in f c.args.size s c.requires.unit c.requires.sector format_step.Header c.in-Header.is) (c.open_piece.ensures.found yes)
 
 pub returns-in-Header-clause-none : goal.returns-in-Header-clause-none
 returns-in-Header-clause-none c = λ no.
@@ -57,7 +61,7 @@ returns-in-Header-clause-none c = λ no.
     let s = c.args.cut.now.stock in
     let count = subst (λ (ss : List Step). total (step_writes ss) + c.open_piece.new.cut.rest ≡ c.args.cut.now.rest)
     (first_header s (header 2 0 (length s.block.now) f.register) (length s.block.now) f.register refl
-    ∙ part_in f c.args.size s c.requires.unit c.requires.sector phase.Header c.in-Header.is) (c.open_piece.ensures.behind no) in
+    ∙ part_in f c.args.size s c.requires.unit c.requires.sector format_step.Header c.in-Header.is) (c.open_piece.ensures.behind no) in
     omega (arith, count)
 
 pub returns-in-Gate-clause-found : goal.returns-in-Gate-clause-found
@@ -66,7 +70,7 @@ returns-in-Gate-clause-found c = λ yes.
     let s = c.args.cut.now.stock in
     subst (λ (ss : List Step). IsPiece ss c.args.cut.now.rest (step_of c.open_piece-in-Gate.new.cut))
     (first_gate s (header 2 0 (length s.block.now) f.register)
-    ∙ part_in f c.args.size s c.requires.unit c.requires.sector phase.Gate c.in-Gate.is) (c.open_piece-in-Gate.ensures.found yes)
+    ∙ part_in f c.args.size s c.requires.unit c.requires.sector format_step.Gate c.in-Gate.is) (c.open_piece-in-Gate.ensures.found yes)
 
 pub returns-in-Gate-clause-none : goal.returns-in-Gate-clause-none
 returns-in-Gate-clause-none c = λ no.
@@ -74,5 +78,5 @@ returns-in-Gate-clause-none c = λ no.
     let s = c.args.cut.now.stock in
     let count = subst (λ (ss : List Step). total (step_writes ss) + c.open_piece-in-Gate.new.cut.rest ≡ c.args.cut.now.rest)
     (first_gate s (header 2 0 (length s.block.now) f.register)
-    ∙ part_in f c.args.size s c.requires.unit c.requires.sector phase.Gate c.in-Gate.is) (c.open_piece-in-Gate.ensures.behind no) in
+    ∙ part_in f c.args.size s c.requires.unit c.requires.sector format_step.Gate c.in-Gate.is) (c.open_piece-in-Gate.ensures.behind no) in
     omega (arith, count)

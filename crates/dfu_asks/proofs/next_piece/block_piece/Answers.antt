@@ -1,5 +1,5 @@
 use Rattle.std.proofs.Common.{◌≡◌, ◌+◌, ◌≤◌, List, [], ◌∷◌, length, if◌then◌else◌, not, sym, ap, subst, arith}
-use Rattle.dfu_asks.specs.declared.piece.Stock.{Stock}
+use Rattle.dfu_asks.specs.declared.write_inputs.WriteInputs.{WriteInputs}
 use Rattle.dfu_asks.specs.Steps.{Step, step_writes, put_steps, close_step}
 use Rattle.dfu_asks.specs.Carried.{total, IsPiece}
 use Rattle.dfu_asks.specs.Jobs.{grain_for, held_place}
@@ -12,9 +12,9 @@ use Rattle.dfu_asks.proofs.next_piece.block_piece.Goals as goal
 pub sequence_piece-requires : goal.sequence_piece-requires
 sequence_piece-requires c =
     let mid = c.shut_piece.new.cut in
-    let few : length mid.stock.held.now ≤ 256 = subst (λ (s : Stock). length s.held.now ≤ 256) (sym c.shut_piece.ensures.same)
+    let few : length mid.stock.held.now ≤ 256 = subst (λ (s : WriteInputs). length s.held.now ≤ 256) (sym c.shut_piece.ensures.same)
     c.requires.held in
-    let most : length mid.stock.block.now ≤ 4096 = subst (λ (s : Stock). length s.block.now ≤ 4096) (sym c.shut_piece.ensures.same)
+    let most : length mid.stock.block.now ≤ 4096 = subst (λ (s : WriteInputs). length s.block.now ≤ 4096) (sym c.shut_piece.ensures.same)
     c.requires.block in
     put_few mid.stock mid.front c.args.spare mid.stock.put_end few most
 
@@ -23,10 +23,11 @@ returns-clause-found c = λ yes.
     let before = c.args.cut.now in
     let mid = c.shut_piece.new.cut in
     let p = step_of c.sequence_piece.new.cut in
-    let put = λ (s : Stock). put_steps (grain_for s) (held_place (grain_for s) c.args.spare s.put_end s.held.now) s.held.now s.block.now in
+    let put =
+    λ (s : WriteInputs). put_steps (grain_for s) (held_place (grain_for s) c.args.spare s.put_end s.held.now) s.held.now s.block.now in
     let shut = if c.args.close then close_step (grain_for before.stock) c.args.spare ∷ [] else [] in
     piece_behind shut (put before.stock) before.rest mid.rest p (c.shut_piece.ensures.behind (ap not c.if-shut_piece.false))
-    (subst (λ (s : Stock). IsPiece (put s) mid.rest p) c.shut_piece.ensures.same
+    (subst (λ (s : WriteInputs). IsPiece (put s) mid.rest p) c.shut_piece.ensures.same
     (subst (λ (ss : List Step). IsPiece ss mid.rest p) (put_are mid.stock mid.front c.args.spare mid.stock.put_end)
     (c.sequence_piece.ensures.found yes)))
 
@@ -35,10 +36,11 @@ returns-clause-none c = λ no.
     let before = c.args.cut.now in
     let mid = c.shut_piece.new.cut in
     let now = c.sequence_piece.new.cut in
-    let put = λ (s : Stock). put_steps (grain_for s) (held_place (grain_for s) c.args.spare s.put_end s.held.now) s.held.now s.block.now in
+    let put =
+    λ (s : WriteInputs). put_steps (grain_for s) (held_place (grain_for s) c.args.spare s.put_end s.held.now) s.held.now s.block.now in
     let shut = if c.args.close then close_step (grain_for before.stock) c.args.spare ∷ [] else [] in
     let count : total (step_writes (put before.stock)) + now.rest ≡ mid.rest =
-    subst (λ (s : Stock). total (step_writes (put s)) + now.rest ≡ mid.rest) c.shut_piece.ensures.same
+    subst (λ (s : WriteInputs). total (step_writes (put s)) + now.rest ≡ mid.rest) c.shut_piece.ensures.same
     (subst (λ (ss : List Step). total (step_writes ss) + now.rest ≡ mid.rest)
     (put_are mid.stock mid.front c.args.spare mid.stock.put_end) (c.sequence_piece.ensures.behind no)) in
     omega (arith, steps_total shut (put before.stock), c.shut_piece.ensures.behind (ap not c.if-shut_piece.false), count)

@@ -1,7 +1,7 @@
 use Rattle.std.specs.Prelude.{length}
 use Rattle.std.proofs.Common.{refl}
 use Rattle.dfu_device.specs.Rows.{Transfer}
-use Rattle.dfu_device.specs.Lent.{answer_room}
+use Rattle.dfu_device.specs.Borrowed.{answer_room}
 use Rattle.dfu_board.specs.Steps.{board}
 use Rattle.dfu_board.proofs.Served.{on_err, call_step}
 use Rattle.dfu_asks.proofs.Room.{has_room}

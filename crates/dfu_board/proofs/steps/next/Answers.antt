@@ -1,7 +1,7 @@
 use Rattle.std.specs.Prelude.{◌≡◌, List, ℕ, Some}
 use Rattle.std.proofs.Common.{refl}
 use Rattle.dfu_slots.specs.Medium.{Torn}
-use Rattle.dfu_asks.specs.declared.work.Work.{Work}
+use Rattle.dfu_asks.specs.declared.pending_writes.PendingWrites.{PendingWrites}
 use Rattle.dfu_asks.specs.Lent.{lent}
 use Rattle.dfu_asks.specs.Carried.{IsPiece}
 use Rattle.dfu_asks.specs.Asks.{steps_in}
@@ -20,7 +20,8 @@ returns-clause-written c =
     let at = λ (flash : List ℕ). board a c.args.block.now c.args.held.now flash in
     let flash = c.args.flash.now in
     let out = c.next.new.out in
-    on_both (λ p. (w : Work) → a.work ≡ Some w → IsPiece (steps_in l w) w.done (asked p out)) (λ p. (w : Work) × IsLeft l w)
+    on_both (λ p. (w : PendingWrites) → a.work ≡ Some w → IsPiece (steps_in l w) w.done (asked p out))
+    (λ p. (w : PendingWrites) × IsLeft l w)
     (λ p. (now : List ℕ) → Torn flash (asked p out).write.at (asked p out).write.bytes now → Happens (at flash) Write Nothing (at now))
     c.next.result
     (λ p piece due now torn. (

@@ -1,7 +1,7 @@
 use Rattle.std.specs.Prelude.{length}
 use Rattle.std.proofs.Common.{refl}
 use Rattle.dfu_board.specs.Steps.{board}
-use Rattle.dfu_board.proofs.Served.{on_err, told_step}
+use Rattle.dfu_board.proofs.Served.{on_err, took_step}
 use Rattle.dfu_asks.proofs.Room.{has_room}
 use Rattle.dfu_board.proofs.steps.took.Goals as goal
 
@@ -12,6 +12,6 @@ pub returns-clause-step : goal.returns-clause-step
 returns-clause-step c =
     let b = board c.args.asking.now c.args.block.now c.args.held.now c.args.flash.now in
     let b' = board c.took.new.self c.args.block.now c.took.new.held c.args.flash.now in
-    told_step b b' c.args.failed (length c.args.out.now) c.args.out.now c.took.new.out c.took.result refl
+    took_step b b' c.args.failed (length c.args.out.now) c.args.out.now c.took.new.out c.took.result refl
     c.took.ensures.taken c.took.ensures.outcome
     (on_err c.took.result (λ e. λ i. board (e.0 i) c.args.block.now (e.1 i) c.args.flash.now) c.took.ensures.unchanged)

@@ -1,5 +1,5 @@
 use Rattle.std.proofs.Common.{refl, take, length, arith}
-use Rattle.dfu_device.specs.Lent.{answer_room}
+use Rattle.dfu_device.specs.Borrowed.{answer_room}
 use Rattle.dfu_device.specs.Rows.{Transfer}
 use Rattle.dfu_board.specs.Board.{Handle}
 use Rattle.dfu_board.specs.Steps.{board}

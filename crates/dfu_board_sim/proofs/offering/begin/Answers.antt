@@ -7,13 +7,15 @@ returns-in-Err-clause-err c = (c.in-Err.ensures.fault c.in-Err.fault).0 refl
 
 pub returns-in-Ok-open-clause-ok : goal.returns-in-Ok-open-clause-ok
 returns-in-Ok-open-clause-ok c =
-    offer_begins c.args.chip.now.asking.config c.args.aim c.args.file.now c.args.limits c.in-Ok.file c.functional.result c.args.chip.now.ids
+    offer_begins c.args.chip.now.asking.config c.args.purpose c.args.file.now c.args.limits c.in-Ok.file c.functional.result
+    c.args.chip.now.ids
     c.in-Ok-open.host
     c.functional.ensures c.requires
     c.in-Ok.ensures.found c.in-Ok-open.ensures.refused c.in-Ok-open.ensures.started
 
 pub returns-in-Err-open-clause-err : goal.returns-in-Err-open-clause-err
 returns-in-Err-open-clause-err c =
-    offer_bad c.args.chip.now.asking.config c.args.aim c.args.file.now c.in-Ok.file c.functional.result c.args.chip.now.ids c.in-Err-open.fault
+    offer_bad c.args.chip.now.asking.config c.args.purpose c.args.file.now c.in-Ok.file c.functional.result c.args.chip.now.ids
+    c.in-Err-open.fault
     c.functional.ensures c.requires
     c.in-Ok.ensures.found ((c.in-Err-open.ensures.refused c.in-Err-open.fault).0 refl)

@@ -7,15 +7,15 @@ use Rattle.dfu_board_sim.proofs.play.offer.Goals as goal
 
 pub returns-then-is_some-clause-come : goal.returns-then-is_some-clause-come
 returns-then-is_some-clause-come c =
-    busy_comes (board_of c.args.chip.now) c.args.gave.now (Offers c.args.aim c.args.file.now c.args.limits) c.args.host.now (λ k. tt)
+    busy_comes (board_of c.args.chip.now) c.args.gave.now (Offers c.args.purpose c.args.file.now c.args.limits) c.args.host.now (λ k. tt)
     (sym c.is_some.ensures ∙ c.if-is_some.true)
 
 pub returns-in-Ok-clause-come : goal.returns-in-Ok-clause-come
 returns-in-Ok-clause-come c =
-    offer_comes (board_of c.args.chip.now) c.args.gave.now c.args.aim c.args.file.now c.args.limits c.args.host.now c.in-Ok.begun
+    offer_comes (board_of c.args.chip.now) c.args.gave.now c.args.purpose c.args.file.now c.args.limits c.args.host.now c.in-Ok.begun
     (sym c.is_some.ensures ∙ c.if-is_some.false) c.in-Ok.ensures.ok
 
 pub returns-in-Err-clause-come : goal.returns-in-Err-clause-come
 returns-in-Err-clause-come c =
-    idle_refused (board_of c.args.chip.now) c.args.gave.now (Offers c.args.aim c.args.file.now c.args.limits) (BadOffer c.in-Err.fault)
+    idle_refused (board_of c.args.chip.now) c.args.gave.now (Offers c.args.purpose c.args.file.now c.args.limits) (BadOffer c.in-Err.fault)
     c.args.host.now (sym c.is_some.ensures ∙ c.if-is_some.false) (refl, c.in-Err.ensures.err)

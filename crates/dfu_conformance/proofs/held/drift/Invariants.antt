@@ -1,10 +1,10 @@
 use Rattle.std.specs.Prelude.{◌≡◌, ℕ, ◌<◌, ◌||◌, take}
 use Rattle.std.specs.List.{list_any}
-use Rattle.dfu_conformance.specs.declared.place.Place.{Place}
+use Rattle.dfu_conformance.specs.declared.standard_state.StandardState.{StandardState}
 use Rattle.dfu_conformance.specs.Held.{stands}
 use Rattle.dfu_conformance.specs.inside.Stepped.{drifts}
 use Rattle.dfu_conformance.proofs.held.drift.Given as goal
 
 abbrev pub invariant-loop-one : goal.invariant-loop-one
-invariant-loop-one l = (n : Place) (a r : ℕ) → a < 16 → r < 64
+invariant-loop-one l = (n : StandardState) (a r : ℕ) → a < 16 → r < 64
     → stands l.after n a r ≡ (stands l.before n a r || list_any (drifts l.before n a r) (take l.one-index l.moves))

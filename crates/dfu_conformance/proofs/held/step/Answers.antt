@@ -1,7 +1,7 @@
 use Rattle.std.specs.Prelude.{◌≡◌, ◌||◌, Bool}
 use Rattle.std.specs.List.{list_any}
 use Rattle.std.proofs.Common.{ap, ◌∙◌}
-use Rattle.dfu_conformance.specs.declared.place.Place.{Place}
+use Rattle.dfu_conformance.specs.declared.standard_state.StandardState.{StandardState}
 use Rattle.dfu_conformance.specs.declared.standard.TheConstants.{STANDARD}
 use Rattle.dfu_conformance.specs.declared.marks.TheConstants.{MARKS}
 use Rattle.dfu_conformance.specs.declared.habits.TheConstants.{HABITS}
@@ -13,9 +13,9 @@ pub returns : goal.returns
 returns c n a r attributes readings =
     let before = c.args.before.now in
     let e = c.args.event.now in
-    let held : (p : Place) → stands c.pass-2.new.after p a r ≡ answered before e p a r = λ p.
+    let held : (p : StandardState) → stands c.pass-2.new.after p a r ≡ answered before e p a r = λ p.
     c.pass-2.ensures p a r attributes readings
     ∙ ap (λ (b : Bool). b || list_any (leads before e p a r) HABITS) (c.pass_marks.ensures p a r attributes readings
     ∙ ap (λ (b : Bool). b || list_any (leads before e p a r) MARKS) (c.pass.ensures p a r attributes readings
     ∙ ap (λ (b : Bool). b || list_any (leads before e p a r) STANDARD) (c.rest-after.ensures p a r attributes readings))) in
-    c.drift.ensures n a r attributes readings ∙ (λ k. drifted (λ (p : Place). held p k) n a r)
+    c.drift.ensures n a r attributes readings ∙ (λ k. drifted (λ (p : StandardState). held p k) n a r)

@@ -1,16 +1,17 @@
 use Rattle.std.proofs.Common.{◌≡◌, ℕ, List, refl, arith}
-use Rattle.dfu_device.specs.declared.mode.Mode.{Mode}
-use Rattle.dfu_device.specs.declared.mode.Mode.TheVariants as mode
+use Rattle.dfu_device.specs.declared.device_state.DeviceState.{DeviceState}
+use Rattle.dfu_device.specs.declared.device_state.DeviceState.TheVariants as device_state
 use Rattle.dfu_device.specs.Stage.{Profile, poll_of}
-use Rattle.dfu_device.specs.Shown.{profile_of}
+use Rattle.dfu_device.specs.DeviceView.{profile_of}
 use Rattle.dfu_device.specs.Parts.{stage_of}
 use Rattle.dfu_device.proofs.status.poll_ms.Goals as goal
 
 -- In every other state a host has not to wait.
-no_poll : (c : Profile) (m : Mode) (spare block : List ℕ) → ((written number passed : ℕ) → m ≡ mode.DownloadBusy written number passed → ⊥)
-    → ((written passed : ℕ) → m ≡ mode.Manifest written passed → ⊥) → 0 ≡ poll_of c (stage_of m spare block)
-no_poll c (mode.DownloadBusy written number passed) spare block busy manifest = absurd (busy written number passed refl)
-no_poll c (mode.Manifest written passed) spare block busy manifest = absurd (manifest written passed refl)
+no_poll : (c : Profile) (m : DeviceState) (spare block : List ℕ)
+    → ((written number passed : ℕ) → m ≡ device_state.DownloadBusy written number passed → ⊥)
+    → ((written passed : ℕ) → m ≡ device_state.Manifest written passed → ⊥) → 0 ≡ poll_of c (stage_of m spare block)
+no_poll c (device_state.DownloadBusy written number passed) spare block busy manifest = absurd (busy written number passed refl)
+no_poll c (device_state.Manifest written passed) spare block busy manifest = absurd (manifest written passed refl)
 no_poll c m spare block busy manifest = refl
 
 pub returns-in_default : goal.returns-in_default

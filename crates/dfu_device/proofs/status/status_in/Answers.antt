@@ -1,5 +1,5 @@
 use Rattle.dfu_device.specs.Stage.{state_of, code_of, poll_of}
-use Rattle.dfu_device.specs.Shown.{profile_of}
+use Rattle.dfu_device.specs.DeviceView.{profile_of}
 use Rattle.dfu_device.specs.Parts.{stage_of}
 use Rattle.dfu_device.proofs.StatusBytes.{status_answered}
 use Rattle.dfu_device.proofs.status.status_in.Goals as goal

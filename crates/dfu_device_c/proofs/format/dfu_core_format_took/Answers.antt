@@ -1,9 +1,13 @@
-use Rattle.std.proofs.Common.{not, ◌==◌, refl, sym, ap, ◌∙◌, subst, inl, inr, w32, arith}
+use Rattle.std.proofs.Common.{◌≡◌, ◌≢◌, not, ◌==◌, ℤ, Some, refl, sym, ap, ◌∙◌, inl, inr, w32, arith}
 use Rattle.std.proofs.lemmas.Int.{to_z-of_z}
+use Rattle.std.proofs.lemmas.Option.{MatchOption-at_some}
 use Rattle.dfu_asks.specs.declared.sector.Sector.{Sector}
-use Rattle.dfu_asks.specs.declared.progress.Progress.{Progress}
-use Rattle.dfu_asks.specs.declared.progress.Progress.TheVariants as progress
-use Rattle.dfu_asks.specs.Formats.{TookPiece}
+use Rattle.dfu_asks.specs.declared.format_progress.FormatProgress.{FormatProgress}
+use Rattle.dfu_asks.specs.declared.format_progress.FormatProgress.TheVariants as format_progress
+use Rattle.dfu_device_c.specs.declared.record.DfuRecord.{DfuRecord}
+use Rattle.dfu_device_c.specs.Formatting.{IsFormatting}
+use Rattle.dfu_device_c.specs.Formats.{progress_number, GoesFormat}
+use Rattle.dfu_device_c.proofs.format.dfu_core_format_took.Goals.{After-took}
 use Rattle.dfu_device_c.proofs.format.dfu_core_format_took.Goals as goal
 
 pub returns-in_default-formatting_of : goal.returns-in_default-formatting_of
@@ -14,104 +18,67 @@ returns-in_default-formatting_of c = record {
   );
 }
 
-pub returns-in-None : goal.returns-in-None
-returns-in-None c = record {
-  outcome = inr (
-    inr (
-      refl,
-      c.in-Some.ensures.allowed,
-      inr (
-        c.in-Some-formatting_of.formatting,
-        c.in-Some-formatting_of.ensures.some c.args.config.now (record {
-          config_is = c.in-Some.ensures.config;
-          unit_is = c.in-Some.ensures.unit;
-          sector_is = c.in-Some.ensures.sector;
-        }),
-        c.in-None.ensures.taken,
-      ),
-    ),
-    refl,
-  );
+-- The record is the format whose piece it was.
+is_format : (c : After-took) → IsFormatting c.args.config.now c.args.device.now c.in-Some-formatting_of.formatting
+is_format c = c.in-Some-formatting_of.ensures.some c.args.config.now (record {
+  config_is = c.in-Some.ensures.config;
+  unit_is = c.in-Some.ensures.unit;
+  sector_is = c.in-Some.ensures.sector;
+})
+
+-- The piece was taken, and this came of it: the record is what is kept then.
+went : (c : After-took) (came : FormatProgress) (r' : DfuRecord) {n : ℤ} → c.took.result ≡ Some came → n ≡ progress_number came
+    → (came ≡ format_progress.Asks → IsFormatting c.args.config.now r' c.took.new.self) → (came ≢ format_progress.Asks → r'.work ≡ 0)
+    → r' ≡ record c.args.device.now { work = r'.work; spare = r'.spare; sum = r'.sum; done = r'.done; generation = r'.generation }
+    → GoesFormat c.args.config.now c.args.device.now c.args.flash.now c.args.image.now (not (c.args.failed == 0)) n r'
+went c came r' is number_is on over rest = record {
+  config = c.in-Some.ensures.allowed;
+  before = c.in-Some-formatting_of.formatting;
+  is = is_format c;
+  after = c.took.new.self;
+  came = came;
+  number_is = number_is;
+  on = on;
+  over = over;
+  rest = rest;
+  took = λ was mid asks p piece torn. MatchOption-at_some _ _ _ is c.took.ensures.outcome was mid asks p piece torn;
 }
+
+pub returns-in-None : goal.returns-in-None
+returns-in-None c =
+    let is = is_format (goal.at.returns-in-None c).After-took in
+    record {
+      outcome = inr (inr (refl, c.in-Some.ensures.allowed, inr (c.in-Some-formatting_of.formatting, is, c.in-None.ensures.taken)), refl);
+    }
 
 pub returns-in-Some-Asks : goal.returns-in-Some-Asks
 returns-in-Some-Asks c =
-    let f = c.in-Some-formatting_of.formatting in
-    let is = c.in-Some-formatting_of.ensures.some c.args.config.now (record {
-      config_is = c.in-Some.ensures.config;
-      unit_is = c.in-Some.ensures.unit;
-      sector_is = c.in-Some.ensures.sector;
-    }) in
-    let says = c.in-Some-Asks.ensures in
+    let at = (goal.at.returns-in-Some-Asks c).After-took in
+    let is = is_format at in
+    let same = c.in-Some-Asks.ensures.same in
     let kept = c.keep_format.ensures in
     record {
-      outcome = inl (record {
-        config = c.in-Some.ensures.allowed;
-        before = f;
-        is = is;
-        after = c.took.new.self;
-        came = progress.Asks;
-        number_is = refl;
-        on = λ e. record {
-          work = kept.work;
-          unit = says.same.unit ∙ is.unit;
-          sector = ap (λ (s : Sector). s.size) says.same.sector ∙ is.sector;
-          sum = sym kept.sum;
-          phase = kept.phase;
-          done = sym kept.done;
-        };
-        over = λ other. absurd (other refl);
-        rest = kept.others;
-        took = λ was mid asks p piece torn.
-            subst (λ (r : Progress). TookPiece f c.took.new.self c.args.image.now was c.args.flash.now p.write (not (c.args.failed == 0)) r)
-            c.in-Some-Asks.field-0-is (says.outcome was mid asks p piece torn);
-      });
+      outcome = inl (went at format_progress.Asks _ (c.in-Some-Asks.is ∙ ap Some c.in-Some-Asks.field-0-is) refl
+          (λ e. record {
+            work = kept.work;
+            unit = same.unit ∙ is.unit;
+            sector = ap (λ (s : Sector). s.size) same.sector ∙ is.sector;
+            sum = sym kept.sum;
+            phase = kept.phase;
+            done = sym kept.done;
+          })
+          (λ other. absurd (other refl)) kept.others);
     }
 
 pub returns-in-Some-Formatted : goal.returns-in-Some-Formatted
-returns-in-Some-Formatted c =
-    let f = c.in-Some-formatting_of.formatting in
-    record {
-      outcome = inl (record {
-        config = c.in-Some.ensures.allowed;
-        before = f;
-        is = c.in-Some-formatting_of.ensures.some c.args.config.now (record {
-          config_is = c.in-Some.ensures.config;
-          unit_is = c.in-Some.ensures.unit;
-          sector_is = c.in-Some.ensures.sector;
-        });
-        after = c.took.new.self;
-        came = progress.Formatted;
-        number_is = refl;
-        on = λ e. cc;
-        over = λ other. refl;
-        rest = refl;
-        took = λ was mid asks p piece torn.
-            subst (λ (r : Progress). TookPiece f c.took.new.self c.args.image.now was c.args.flash.now p.write (not (c.args.failed == 0)) r)
-            c.in-Some-Formatted.field-0-is (c.in-Some-Formatted.ensures.outcome was mid asks p piece torn);
-      });
-    }
+returns-in-Some-Formatted c = record {
+  outcome = inl (went (goal.at.returns-in-Some-Formatted c).After-took format_progress.Formatted _
+      (c.in-Some-Formatted.is ∙ ap Some c.in-Some-Formatted.field-0-is) refl (λ e. cc) (λ other. refl) refl);
+}
 
 pub returns-in-Some-Broken : goal.returns-in-Some-Broken
-returns-in-Some-Broken c =
-    let f = c.in-Some-formatting_of.formatting in
-    record {
-      outcome = inl (record {
-        config = c.in-Some.ensures.allowed;
-        before = f;
-        is = c.in-Some-formatting_of.ensures.some c.args.config.now (record {
-          config_is = c.in-Some.ensures.config;
-          unit_is = c.in-Some.ensures.unit;
-          sector_is = c.in-Some.ensures.sector;
-        });
-        after = c.took.new.self;
-        came = progress.Broken c.in-Some-Broken.field-0-0;
-        number_is = to_z-of_z w32 _ (omega (arith, c.number_of.type_inv)) ∙ c.number_of.ensures;
-        on = λ e. cc;
-        over = λ other. refl;
-        rest = refl;
-        took = λ was mid asks p piece torn.
-            subst (λ (r : Progress). TookPiece f c.took.new.self c.args.image.now was c.args.flash.now p.write (not (c.args.failed == 0)) r)
-            c.in-Some-Broken.field-0-is (c.in-Some-Broken.ensures.outcome was mid asks p piece torn);
-      });
-    }
+returns-in-Some-Broken c = record {
+  outcome = inl (went (goal.at.returns-in-Some-Broken c).After-took (format_progress.Broken c.in-Some-Broken.field-0-0) _
+      (c.in-Some-Broken.is ∙ ap Some c.in-Some-Broken.field-0-is)
+      (to_z-of_z w32 _ (omega (arith, c.number_of.type_inv)) ∙ c.number_of.ensures) (λ e. cc) (λ other. refl) refl);
+}

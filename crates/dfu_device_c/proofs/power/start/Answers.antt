@@ -1,5 +1,5 @@
 use Rattle.std.proofs.Common.{pos, ℕ, inl, refl, sym, ap, subst}
-use Rattle.dfu_device.specs.declared.mode.Mode.TheVariants as mode
+use Rattle.dfu_device.specs.declared.device_state.DeviceState.TheVariants as device_state
 use Rattle.dfu_device_c.specs.declared.record.DfuRecord.{DfuRecord}
 use Rattle.dfu_device_c.specs.Power.{Powers}
 use Rattle.dfu_device_c.proofs.Powered.{powers, begins}
@@ -18,9 +18,9 @@ returns-in-Some-find c =
     (record { second = c.slot_of-device.ensures; header = refl })
     (ap (λ (b : DfuRecord). record b { mode = 0; slot = c.slot_of-device.result; header = c.in-Some-find.noted.header }) c.blank.ensures) in
     record {
-      app = λ e. inl (subst (λ (n : ℕ). Powers k mode.AppIdle flash (pos 0)
+      app = λ e. inl (subst (λ (n : ℕ). Powers k device_state.AppIdle flash (pos 0)
           (record c.blank.result { mode = n; slot = c.slot_of-device.result; header = c.in-Some-find.noted.header })) (sym e) got);
-      dfu = λ e. inl (subst (λ (n : ℕ). Powers k mode.DfuIdle flash (pos 0)
+      dfu = λ e. inl (subst (λ (n : ℕ). Powers k device_state.DfuIdle flash (pos 0)
           (record c.blank.result { mode = n; slot = c.slot_of-device.result; header = c.in-Some-find.noted.header })) (sym e)
           (begins k flash _ got));
     }

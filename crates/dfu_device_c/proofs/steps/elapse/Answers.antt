@@ -1,14 +1,8 @@
-use Rattle.std.proofs.Common.{ℤ, refl, sym, subst, w32, arith}
+use Rattle.std.proofs.Common.{refl, w32, arith}
 use Rattle.std.proofs.lemmas.Int.{to_z-of_z}
-use Rattle.dfu_device_c.specs.Board.{core_board}
-use Rattle.dfu_device_c.specs.Happens.{Elapsed}
 use Rattle.dfu_device_c.proofs.steps.elapse.Goals as goal
 
 pub returns : goal.returns
 returns c =
-    let b = core_board c.args.config.now c.args.device.now c.args.block.now c.args.flash.now in
-    let b' = core_board c.args.config.now c.dfu_core_elapse.new.device c.dfu_core_elapse.new.block c.args.flash.now in
-    let number = to_z-of_z w32 _ (omega (arith, c.dfu_core_elapse.type_inv)) in
-    record {
-      step = (record { config = refl; flash = refl }, subst (λ (n : ℤ). Elapsed b c.args.ms n b') (sym number) c.dfu_core_elapse.ensures.outcome);
-    }
+    let number = to_z-of_z w32 c.dfu_core_elapse.result (omega (arith, c.dfu_core_elapse.type_inv)) in
+    record { step = (record { config = refl; flash = refl }, rw number c.dfu_core_elapse.ensures.outcome) }

@@ -1,39 +1,38 @@
-use Rattle.std.proofs.Common.{◌==◌, ◌++◌, not, inl, inr, refl, sym, ◌∙◌, ap, subst, w32, arith}
+use Rattle.std.proofs.Common.{◌≡◌, ◌==◌, ◌++◌, not, ℕ, ℤ, List, Ok, inl, inr, refl, sym, ◌∙◌, ap, subst, w32, arith}
 use Rattle.std.proofs.lemmas.Int.{to_z-of_z}
+use Rattle.std.proofs.lemmas.Result.{IfOk-at_ok, IfErr-at_err}
 use Rattle.dfu_slots.specs.Medium.{Torn}
+use Rattle.dfu_slots.specs.Seen.{SlotsState}
 use Rattle.dfu_device.specs.Setting.{Setting}
+use Rattle.dfu_asks.specs.declared.reply.Reply.{Reply}
 use Rattle.dfu_asks.specs.Steps.{Step}
 use Rattle.dfu_asks.specs.Carried.{IsPiece}
-use Rattle.dfu_asks.specs.Lent.{LentAsking, lent}
+use Rattle.dfu_asks.specs.Lent.{LentAsking}
 use Rattle.dfu_asks.specs.Asks.{device_of, steps_in}
 use Rattle.dfu_asks.specs.Calls.{AsksWrites, DeviceTook}
 use Rattle.dfu_asks.specs.Refused.{IsLeft}
-use Rattle.dfu_device_c.specs.Kept.{with_memory}
+use Rattle.dfu_device_c.specs.declared.record.DfuRecord.{DfuRecord}
+use Rattle.dfu_device_c.specs.Kept.{IsSetUp, IsKept, with_memory}
 use Rattle.dfu_device_c.specs.Numbers.{reply_number}
-use Rattle.dfu_device_c.specs.Calls.{Went}
+use Rattle.dfu_device_c.specs.Calls.{Goes, Went}
 use Rattle.dfu_device_c.specs.Writes.{AsksOnSomeFlash, refuses_unfound, refuses_piece}
-use Rattle.dfu_device_c.proofs.Kept.{goes}
-use Rattle.dfu_device_c.proofs.Found.{not_taken, is_found, is_unfound}
-use Rattle.dfu_device_c.proofs.Split.{split_in, has_room, lent_is, unchanged, cut, same_front}
+use Rattle.dfu_device_c.proofs.Found.{not_taken}
+use Rattle.dfu_device_c.proofs.Split.{lent_is, in_memory, IsParted, is_parted, has_room, split_in, split_after, unchanged, same_front, goes}
+use Rattle.dfu_device_c.proofs.writes.dfu_core_took.Goals.{After-took}
 use Rattle.dfu_device_c.proofs.writes.dfu_core_took.Goals as goal
 
 pub split_at_mut-front-requires : goal.split_at_mut-front-requires
-split_at_mut-front-requires c =
-    let found = is_found _ _ _ _ _ c.in-Ok.is c.found.ensures.ok c.found.ensures.config c.found.ensures.room in
-    omega (arith, found.room, c.from.ensures)
+split_at_mut-front-requires c = omega (arith, IfOk-at_ok _ c.in-Ok.is c.found.ensures.room, c.from.ensures)
 
 pub took-requires : goal.took-requires
-took-requires c =
-    let found = is_found _ _ _ _ _ c.in-Ok.is c.found.ensures.ok c.found.ensures.config c.found.ensures.room in
-    let halves = c.split_at_mut-front in
-    has_room c.args.config.now c.args.device.now c.in-Ok.asking c.args.block.now halves.result.0.now halves.result.1.now found.ok
-    halves.ensures.value (omega (arith, halves.ensures.front_len, c.from.ensures)) found.room
+took-requires c = has_room (is_parted _ _ _ _ c.split_at_mut-front.result.0.now _ _ c.in-Ok.is c.found.ensures.ok c.found.ensures.config
+    c.found.ensures.room c.split_at_mut-front.ensures.value (omega (arith, c.split_at_mut-front.ensures.front_len, c.from.ensures)))
 
 pub returns-in-Err : goal.returns-in-Err
 returns-in-Err c = record {
   outcome = inr (inl (
     refuses_unfound c.in-Err.refusal (to_z-of_z w32 _ (omega (arith, c.number.type_inv)) ∙ c.number.ensures)
-        (is_unfound _ _ _ _ _ c.in-Err.is c.found.ensures.err),
+        (IfErr-at_err _ c.in-Err.is c.found.ensures.err),
     refl,
     refl,
     refl,
@@ -42,111 +41,76 @@ returns-in-Err c = record {
   short = λ less. absurd (omega (arith, less, c.if-out-lt6.false));
 }
 
+-- The device that the record is, and the two parts of its memory.
+parted : (c : After-took) → IsParted c.args.config.now c.args.device.now c.in-Ok.asking c.args.block.now
+    c.split_at_mut-front.result.0.now c.split_at_mut-front.result.1.now
+parted c = is_parted _ _ _ _ _ _ _ c.in-Ok.is c.found.ensures.ok c.found.ensures.config c.found.ensures.room
+    c.split_at_mut-front.ensures.value (omega (arith, c.split_at_mut-front.ensures.front_len, c.from.ensures))
+
+-- The piece was taken: whatever is replied, the device is kept.
+went : (c : After-took) (reply : Reply) (r' : DfuRecord) {n : ℤ} → c.took.result ≡ Ok reply → n ≡ reply_number reply →
+    let k = c.args.config.now in
+    let a' = c.took.new.self in
+    let memory = c.split_at_mut-front.result.0.now ++ c.took.new.held in
+    (IsSetUp k a'.config a'.unit a'.sector → IsKept k r' a') → Goes k c.args.device.now c.args.block.now r' memory
+    (λ x y. Went (with_memory c.args.block.now x) c.args.flash.now (not (c.args.failed == 0)) c.args.out.now n
+    (with_memory memory y) c.took.new.out)
+went c reply r' is number_is kept =
+    let p = parted c in
+    let done = c.took.ensures in
+    let after = split_after p _ _ _ done.same refl refl in
+    let taken = IfOk-at_ok _ is done.taken in
+    goes p done.same kept
+    (λ fits. record {
+      block = omega (arith, fits.block, done.block);
+      transfer = omega (arith, fits.transfer, ap (λ (s : Setting). s.functional.transfer) done.same.config);
+    })
+    (record {
+      work = taken.work;
+      left = subst (λ (l : LentAsking). IsLeft l taken.work) (sym (lent_is (split_in p))) taken.is_left;
+      reply = reply;
+      number_is = number_is;
+      took = in_memory (λ l l'. (len : ℕ) (s : SlotsState) (was mid : List ℕ) (asks : AsksWrites l len s was mid) (piece : Step)
+          → IsPiece (steps_in l asks.work) asks.work.done piece → Torn mid piece.write.at piece.write.bytes c.args.flash.now
+          → DeviceTook (device_of l s) len s was piece.write
+          (not (c.args.failed == 0)) c.args.flash.now c.args.out.now l' c.took.new.out reply)
+          (split_in p) after (IfOk-at_ok _ is done.outcome);
+    })
+
 pub returns-in-Ok-Asks : goal.returns-in-Ok-Asks
 returns-in-Ok-Asks c =
-    let found = is_found _ _ _ _ _ c.in-Ok.is c.found.ensures.ok c.found.ensures.config c.found.ensures.room in
-    let r = c.args.device.now in
-    let block = c.args.block.now in
-    let a = c.in-Ok.asking in
-    let a' = c.took.new.self in
-    let halves = c.split_at_mut-front in
-    let front = halves.result.0.now in
-    let held = halves.result.1.now in
-    let memory = front ++ c.took.new.held in
-    let done = c.in-Ok-Asks.ensures in
-    let parts = cut c.args.config.now r a a' block front held front c.took.new.held found.ok done.same halves.ensures.value
-    (omega (arith, halves.ensures.front_len, c.from.ensures)) refl in
+    let at = (goal.at.returns-in-Ok-Asks c).After-took in
     record {
-      outcome = inl (goes c.args.config.now r block c.keep.new.kept memory a a'
-          (λ x y. Went (with_memory block x) c.args.flash.now (not (c.args.failed == 0)) c.args.out.now _
-          (with_memory memory y) c.took.new.out)
-          found.config found.room found.ok done.same (c.keep.ensures c.args.config.now)
-          (λ fits. record {
-            block = omega (arith, fits.block, done.block);
-            transfer = omega (arith, fits.transfer, ap (λ (s : Setting). s.functional.transfer) done.same.config);
-          })
-          (record {
-            work = done.taken.work;
-            left = subst (λ (l : LentAsking). IsLeft l done.taken.work) (sym parts.before) done.taken.is_left;
-            reply = c.in-Ok-Asks.field-0;
-            number_is = sym (ap reply_number c.in-Ok-Asks.field-0-is);
-            took = λ len s was mid. subst (λ (l : LentAsking). (asks : AsksWrites l len s was mid) (p : Step)
-                → IsPiece (steps_in l asks.work) asks.work.done p → Torn mid p.write.at p.write.bytes c.args.flash.now
-                → DeviceTook (device_of l s) len s was p.write (not (c.args.failed == 0)) c.args.flash.now c.args.out.now
-                (with_memory memory a') c.took.new.out c.in-Ok-Asks.field-0) (sym parts.before)
-                (λ asks p piece torn. subst (λ (l : LentAsking). DeviceTook (device_of (lent a front held) s) len s was p.write
-                (not (c.args.failed == 0)) c.args.flash.now c.args.out.now l c.took.new.out c.in-Ok-Asks.field-0) (sym parts.after)
-                (done.outcome len s was mid asks p piece torn));
-          }));
-      block = same_front c.args.config.now block front held c.took.new.held halves.ensures.value
-          (omega (arith, halves.ensures.front_len, c.from.ensures));
+      outcome = inl (went at _ _ c.in-Ok-Asks.is (sym (ap reply_number c.in-Ok-Asks.field-0-is)) (c.keep.ensures c.args.config.now));
+      block = same_front (parted at) c.took.new.held;
       short = λ less. absurd (omega (arith, less, c.if-out-lt6.false));
     }
 
 pub returns-in-Ok-Answered : goal.returns-in-Ok-Answered
 returns-in-Ok-Answered c =
-    let found = is_found _ _ _ _ _ c.in-Ok.is c.found.ensures.ok c.found.ensures.config c.found.ensures.room in
-    let r = c.args.device.now in
-    let block = c.args.block.now in
-    let a = c.in-Ok.asking in
-    let a' = c.took.new.self in
-    let halves = c.split_at_mut-front in
-    let front = halves.result.0.now in
-    let held = halves.result.1.now in
-    let memory = front ++ c.took.new.held in
-    let done = c.in-Ok-Answered.ensures in
-    let parts = cut c.args.config.now r a a' block front held front c.took.new.held found.ok done.same halves.ensures.value
-    (omega (arith, halves.ensures.front_len, c.from.ensures)) refl in
+    let at = (goal.at.returns-in-Ok-Answered c).After-took in
     record {
-      outcome = inl (goes c.args.config.now r block c.keep-in-Ok-Answered.new.kept memory a a'
-          (λ x y. Went (with_memory block x) c.args.flash.now (not (c.args.failed == 0)) c.args.out.now _
-          (with_memory memory y) c.took.new.out)
-          found.config found.room found.ok done.same (c.keep-in-Ok-Answered.ensures c.args.config.now)
-          (λ fits. record {
-            block = omega (arith, fits.block, done.block);
-            transfer = omega (arith, fits.transfer, ap (λ (s : Setting). s.functional.transfer) done.same.config);
-          })
-          (record {
-            work = done.taken.work;
-            left = subst (λ (l : LentAsking). IsLeft l done.taken.work) (sym parts.before) done.taken.is_left;
-            reply = c.in-Ok-Answered.field-0;
-            number_is = to_z-of_z w32 _ (omega (arith, c.number_of.type_inv)) ∙ c.number_of.ensures
-                ∙ sym (ap reply_number c.in-Ok-Answered.field-0-is);
-            took = λ len s was mid. subst (λ (l : LentAsking). (asks : AsksWrites l len s was mid) (p : Step)
-                → IsPiece (steps_in l asks.work) asks.work.done p → Torn mid p.write.at p.write.bytes c.args.flash.now
-                → DeviceTook (device_of l s) len s was p.write (not (c.args.failed == 0)) c.args.flash.now c.args.out.now
-                (with_memory memory a') c.took.new.out c.in-Ok-Answered.field-0) (sym parts.before)
-                (λ asks p piece torn. subst (λ (l : LentAsking). DeviceTook (device_of (lent a front held) s) len s was p.write
-                (not (c.args.failed == 0)) c.args.flash.now c.args.out.now l c.took.new.out c.in-Ok-Answered.field-0) (sym parts.after)
-                (done.outcome len s was mid asks p piece torn));
-          }));
-      block = same_front c.args.config.now block front held c.took.new.held halves.ensures.value
-          (omega (arith, halves.ensures.front_len, c.from.ensures));
+      outcome = inl (went at _ _ c.in-Ok-Answered.is
+          (to_z-of_z w32 _ (omega (arith, c.number_of.type_inv)) ∙ c.number_of.ensures ∙ sym (ap reply_number c.in-Ok-Answered.field-0-is))
+          (c.keep-in-Ok-Answered.ensures c.args.config.now));
+      block = same_front (parted at) c.took.new.held;
       short = λ less. absurd (omega (arith, less, c.if-out-lt6.false));
     }
 
 pub returns-in-Err-took : goal.returns-in-Err-took
 returns-in-Err-took c =
-    let found = is_found _ _ _ _ _ c.in-Ok.is c.found.ensures.ok c.found.ensures.config c.found.ensures.room in
-    let block = c.args.block.now in
-    let a = c.in-Ok.asking in
-    let halves = c.split_at_mut-front in
-    let front = halves.result.0.now in
-    let held = halves.result.1.now in
+    let p = parted (goal.at.returns-in-Err-took c).After-took in
     let done = c.in-Err-took.ensures in
-    let parts = split_in c.args.config.now c.args.device.now a block front held found.ok halves.ensures.value
-    (omega (arith, halves.ensures.front_len, c.from.ensures)) in
     record {
       outcome = inr (inl (
-        refuses_piece a (to_z-of_z w32 _ (omega (arith, c.number-in-Err-took.type_inv)) ∙ c.number-in-Err-took.ensures) found.config found.room
-            found.ok
-            (subst (λ (l : LentAsking). ¬ AsksOnSomeFlash l) (sym (lent_is a block front held parts))
-            (not_taken c.in-Err-took.field-0 (lent a front held) _ (omega (arith, c.if-out-lt6.false)) done.refused)),
+        refuses_piece c.in-Ok.asking (to_z-of_z w32 _ (omega (arith, c.number-in-Err-took.type_inv)) ∙ c.number-in-Err-took.ensures)
+            p.config p.room p.kept
+            (subst (λ (l : LentAsking). ¬ AsksOnSomeFlash l) (sym (lent_is (split_in p)))
+            (not_taken c.in-Err-took.field-0 _ _ (omega (arith, c.if-out-lt6.false)) done.refused)),
         refl,
-        unchanged block front held front c.took.new.held halves.ensures.value refl done.unchanged.1,
+        unchanged p _ _ refl done.unchanged.1,
         done.unchanged.2,
       ));
-      block = same_front c.args.config.now block front held c.took.new.held halves.ensures.value
-          (omega (arith, halves.ensures.front_len, c.from.ensures));
+      block = same_front p c.took.new.held;
       short = λ less. absurd (omega (arith, less, c.if-out-lt6.false));
     }

@@ -93,7 +93,20 @@ pub(crate) const DONE: &'static [Turn] = &[
     (GET_STATUS, READY),
 ];
 
+/// The first page is erased, and then the pointer set.
+pub(crate) const POINTED: &'static [Turn] = &[
+    (ERASE_FIRST, Seen::Ack),
+    (GET_STATUS, BUSY),
+    (Action::Wait(5), Seen::Waited),
+    (GET_STATUS, READY),
+    (POINT_FIRST, Seen::Ack),
+    (GET_STATUS, BUSY),
+    (Action::Wait(5), Seen::Waited),
+    (GET_STATUS, READY),
+];
+
 /// A session, as it was worked out by hand.
+#[derive(Clone, Copy)]
 pub(crate) struct Script {
     pub name: &'static str,
     pub image: &'static [Element<'static>],
@@ -106,6 +119,17 @@ pub(crate) struct Script {
     /// How many actions it has taken.
     pub taken: u32,
 }
+
+/// A session that sends `IMAGE` and leaves, before its first action.
+pub(crate) const USUAL: Script = Script {
+    name: "",
+    image: IMAGE,
+    leaves: true,
+    limits: AMPLE,
+    parts: &[],
+    last: ABORT,
+    taken: 0,
+};
 
 /// A plan for an image, with blocks of 2,048 bytes and a front of 32.
 pub(crate) fn plan_of<'f>(map: &'f Map<'f>, image: &'f [Element<'f>]) -> Plan<'f> {

@@ -1,8 +1,8 @@
 //! What ends a session.
 
 use super::dialogue::{
-    ABORT, AMPLE, CLEARED, DATA, DONE, ERASE_FIRST, GET_STATUS, IMAGE, POINT_FIRST, READ, Script,
-    Turn,
+    ABORT, CLEARED, DATA, DONE, ERASE_FIRST, GET_STATUS, POINT_FIRST, POINTED, READ, Script, Turn,
+    USUAL,
 };
 use dfu_wire::Code;
 use dfuse_host::{Action, Leaving, Limits, Report, Seen};
@@ -12,6 +12,9 @@ const LOST: &'static [Turn] = &[(ABORT, Seen::Nothing)];
 
 const RESTARTED: &'static [Turn] = &[(ABORT, Seen::Restarted)];
 
+/// The first page is to be erased.
+const ERASING: &'static [Turn] = &[(ERASE_FIRST, Seen::Ack)];
+
 /// Fewer bytes are none, and so are more.
 const PARTLY_READ: &'static [Turn] = &[
     (ABORT, Seen::Ack),
@@ -20,140 +23,31 @@ const PARTLY_READ: &'static [Turn] = &[
 ];
 
 /// Sessions that are over.
+#[rattlefmt::skip]
 pub(crate) static ENDED: [Script; 9] = [
-    Script {
-        name: "what is read back is the image",
-        image: IMAGE,
-        leaves: false,
-        limits: AMPLE,
-        parts: &[
-            CLEARED,
-            &[(ERASE_FIRST, Seen::Ack)],
-            DONE,
-            &[(POINT_FIRST, Seen::Ack)],
-            DONE,
-            &[(DATA, Seen::Ack)],
-            DONE,
-            &[(POINT_FIRST, Seen::Ack)],
-            DONE,
-            PARTLY_READ,
-            &[(READ, Seen::Bytes(&[7, 8])), (ABORT, Seen::Ack)],
-        ],
-        last: Action::Done(Report::Verified(Leaving::Stayed)),
-        taken: 23,
-    },
-    Script {
-        name: "what is read back is another byte",
-        image: IMAGE,
-        leaves: false,
-        limits: AMPLE,
-        parts: &[
-            CLEARED,
-            &[(ERASE_FIRST, Seen::Ack)],
-            DONE,
-            &[(POINT_FIRST, Seen::Ack)],
-            DONE,
-            &[(DATA, Seen::Ack)],
-            DONE,
-            &[(POINT_FIRST, Seen::Ack)],
-            DONE,
-            PARTLY_READ,
-            &[(READ, Seen::Bytes(&[7, 0]))],
-        ],
-        last: Action::Done(Report::Different),
-        taken: 22,
-    },
-    Script {
-        name: "an error with the code OK",
-        image: IMAGE,
-        leaves: true,
-        limits: AMPLE,
-        parts: &[
-            CLEARED,
-            &[
-                (ERASE_FIRST, Seen::Ack),
-                (GET_STATUS, Seen::Bytes(&[0, 0, 0, 0, 10, 0])),
-            ],
-        ],
-        last: Action::Done(Report::Refused(Code::Ok)),
-        taken: 4,
-    },
-    Script {
-        name: "an error with errTARGET",
-        image: IMAGE,
-        leaves: true,
-        limits: AMPLE,
-        parts: &[
-            CLEARED,
-            &[
-                (ERASE_FIRST, Seen::Ack),
-                (GET_STATUS, Seen::Bytes(&[1, 0, 0, 0, 10, 0])),
-            ],
-        ],
-        last: Action::Done(Report::Refused(Code::Target)),
-        taken: 4,
-    },
-    Script {
-        name: "an error with errVENDOR",
-        image: IMAGE,
-        leaves: true,
-        limits: AMPLE,
-        parts: &[
-            CLEARED,
-            &[
-                (ERASE_FIRST, Seen::Ack),
-                (GET_STATUS, Seen::Bytes(&[11, 0, 0, 0, 10, 0])),
-            ],
-        ],
-        last: Action::Done(Report::ReadProtected),
-        taken: 4,
-    },
-    Script {
-        name: "no action counts as one",
-        image: IMAGE,
-        leaves: true,
-        limits: Limits {
-            actions: 0,
-            restarts: 0,
-        },
-        parts: &[LOST],
-        last: Action::Done(Report::GaveUp),
-        taken: 1,
-    },
-    Script {
-        name: "one action",
-        image: IMAGE,
-        leaves: true,
-        limits: Limits {
-            actions: 1,
-            restarts: 0,
-        },
-        parts: &[LOST],
-        last: Action::Done(Report::GaveUp),
-        taken: 1,
-    },
-    Script {
-        name: "five actions",
-        image: IMAGE,
-        leaves: true,
-        limits: Limits {
-            actions: 5,
-            restarts: 0,
-        },
-        parts: &[LOST, LOST, LOST, LOST, LOST],
-        last: Action::Done(Report::GaveUp),
-        taken: 5,
-    },
-    Script {
-        name: "a restart too many",
-        image: IMAGE,
-        leaves: true,
-        limits: Limits {
-            actions: 9,
-            restarts: 1,
-        },
-        parts: &[RESTARTED, RESTARTED],
-        last: Action::Done(Report::RestartsSpent),
-        taken: 2,
-    },
+    Script { name: "what is read back is the image", leaves: false,
+        parts: &[CLEARED, POINTED, &[(DATA, Seen::Ack)], DONE, &[(POINT_FIRST, Seen::Ack)], DONE, PARTLY_READ,
+            &[(READ, Seen::Bytes(&[7, 8])), (ABORT, Seen::Ack)]],
+        last: Action::Done(Report::Verified(Leaving::Stayed)), taken: 23, ..USUAL },
+    Script { name: "what is read back is another byte", leaves: false,
+        parts: &[CLEARED, POINTED, &[(DATA, Seen::Ack)], DONE, &[(POINT_FIRST, Seen::Ack)], DONE, PARTLY_READ,
+            &[(READ, Seen::Bytes(&[7, 0]))]],
+        last: Action::Done(Report::Different), taken: 22, ..USUAL },
+    Script { name: "an error with the code OK",
+        parts: &[CLEARED, ERASING, &[(GET_STATUS, Seen::Bytes(&[0, 0, 0, 0, 10, 0]))]],
+        last: Action::Done(Report::Refused(Code::Ok)), taken: 4, ..USUAL },
+    Script { name: "an error with errTARGET",
+        parts: &[CLEARED, ERASING, &[(GET_STATUS, Seen::Bytes(&[1, 0, 0, 0, 10, 0]))]],
+        last: Action::Done(Report::Refused(Code::Target)), taken: 4, ..USUAL },
+    Script { name: "an error with errVENDOR",
+        parts: &[CLEARED, ERASING, &[(GET_STATUS, Seen::Bytes(&[11, 0, 0, 0, 10, 0]))]],
+        last: Action::Done(Report::ReadProtected), taken: 4, ..USUAL },
+    Script { name: "no action counts as one", limits: Limits { actions: 0, restarts: 0 },
+        parts: &[LOST], last: Action::Done(Report::GaveUp), taken: 1, ..USUAL },
+    Script { name: "one action", limits: Limits { actions: 1, restarts: 0 },
+        parts: &[LOST], last: Action::Done(Report::GaveUp), taken: 1, ..USUAL },
+    Script { name: "five actions", limits: Limits { actions: 5, restarts: 0 },
+        parts: &[LOST, LOST, LOST, LOST, LOST], last: Action::Done(Report::GaveUp), taken: 5, ..USUAL },
+    Script { name: "a restart too many", limits: Limits { actions: 9, restarts: 1 },
+        parts: &[RESTARTED, RESTARTED], last: Action::Done(Report::RestartsSpent), taken: 2, ..USUAL },
 ];

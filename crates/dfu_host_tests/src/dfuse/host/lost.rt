@@ -1,8 +1,8 @@
 //! What lost answers, stalls and restarts lead to.
 
 use super::dialogue::{
-    ABORT, AMPLE, BUSY, CLEAR_STATUS, CLEARED, DATA, DONE, ERASE_FIRST, ERROR, GET_STATE,
-    GET_STATUS, IDLE, IMAGE, POINT_FIRST, READ, READY, SYNC, Script,
+    ABORT, BUSY, CLEAR_STATUS, CLEARED, DATA, ERASE_FIRST, ERROR, GET_STATE, GET_STATUS, IDLE,
+    POINT_FIRST, POINTED, READ, READY, SYNC, Script, USUAL,
 };
 use dfuse_host::{Action, Seen};
 
@@ -10,9 +10,6 @@ use dfuse_host::{Action, Seen};
 pub(crate) static LOST: [Script; 4] = [
     Script {
         name: "a command that is lost is asked for and sent again",
-        image: IMAGE,
-        leaves: true,
-        limits: AMPLE,
         parts: &[&[
             (ABORT, Seen::Nothing),
             (ABORT, Seen::Ack),
@@ -37,19 +34,14 @@ pub(crate) static LOST: [Script; 4] = [
         ]],
         last: GET_STATUS,
         taken: 20,
+        ..USUAL
     },
     // At the first question the write may have begun.
     Script {
         name: "a restart in a write erases its page again",
-        image: IMAGE,
-        leaves: true,
-        limits: AMPLE,
         parts: &[
             CLEARED,
-            &[(ERASE_FIRST, Seen::Ack)],
-            DONE,
-            &[(POINT_FIRST, Seen::Ack)],
-            DONE,
+            POINTED,
             &[
                 (DATA, Seen::Ack),
                 (GET_STATUS, Seen::Restarted),
@@ -69,19 +61,14 @@ pub(crate) static LOST: [Script; 4] = [
         ],
         last: GET_STATUS,
         taken: 24,
+        ..USUAL
     },
     // Before the question the write hasn't begun: it is sent again, once the pointer is set again.
     Script {
         name: "the pointer is not known behind a restart",
-        image: IMAGE,
-        leaves: true,
-        limits: AMPLE,
         parts: &[
             CLEARED,
-            &[(ERASE_FIRST, Seen::Ack)],
-            DONE,
-            &[(POINT_FIRST, Seen::Ack)],
-            DONE,
+            POINTED,
             &[
                 (DATA, Seen::Restarted),
                 (ABORT, Seen::Ack),
@@ -101,12 +88,10 @@ pub(crate) static LOST: [Script; 4] = [
         ],
         last: GET_STATUS,
         taken: 24,
+        ..USUAL
     },
     Script {
         name: "what an earlier session left is dropped and waited for",
-        image: IMAGE,
-        leaves: true,
-        limits: AMPLE,
         parts: &[&[
             (ABORT, Seen::Ack),
             (GET_STATE, SYNC),
@@ -123,5 +108,6 @@ pub(crate) static LOST: [Script; 4] = [
         ]],
         last: GET_STATUS,
         taken: 12,
+        ..USUAL
     },
 ];

@@ -1,7 +1,7 @@
 -- A log that is judged, as it stands in memory.
 use Rattle.std.specs.Prelude.{◌≡◌, ℕ, ◌+◌, List, [], ◌++◌, length, Option, Some, None}
 use Rattle.std.specs.Io.KnownBytes.{Appends}
-use Rattle.dfu_conformance.specs.declared.event.Event.{Event}
+use Rattle.dfu_conformance.specs.declared.event.LogEvent.{LogEvent}
 use Rattle.dfu_conformance.specs.declared.verdict.Departure.{Departure}
 use Rattle.dfu_conformance.specs.MayAnswer.{IsHeld, IsHeldPlain}
 use Rattle.dfu_output.specs.judge.Course.{LogCourse, EventLeads, Judges}
@@ -32,7 +32,7 @@ told_text n None = []
 told_text n (Some d) = departure_text n d
 
 -- An event came, with this departure, if any.
-pub record EventCame (text : List ℕ) (c : LogCourse) (event : Event) (departure : Option Departure) (s : JudgingState) : Type 0 where
+pub record EventCame (text : List ℕ) (c : LogCourse) (event : LogEvent) (departure : Option Departure) (s : JudgingState) : Type 0 where
   pub next : LogCourse
   pub comes : EventLeads c event next
   pub at : IsAt s text next

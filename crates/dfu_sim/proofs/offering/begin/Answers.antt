@@ -7,13 +7,13 @@ returns-in-Err-clause-err g c = (c.in-Err.ensures.fault c.in-Err.fault).0 refl
 
 pub returns-in-Ok-open-clause-ok : goal.returns-in-Ok-open-clause-ok
 returns-in-Ok-open-clause-ok g c =
-    offer_begins c.args.device.now.config c.args.aim c.args.file.now c.args.limits c.in-Ok.file c.functional.result c.ids.result
+    offer_begins c.args.device.now.config c.args.purpose c.args.file.now c.args.limits c.in-Ok.file c.functional.result c.ids.result
     c.in-Ok-open.host
     c.functional.ensures c.ids.ensures
     c.in-Ok.ensures.found c.in-Ok-open.ensures.refused c.in-Ok-open.ensures.started
 
 pub returns-in-Err-open-clause-err : goal.returns-in-Err-open-clause-err
 returns-in-Err-open-clause-err g c =
-    offer_bad c.args.device.now.config c.args.aim c.args.file.now c.in-Ok.file c.functional.result c.ids.result c.in-Err-open.fault
+    offer_bad c.args.device.now.config c.args.purpose c.args.file.now c.in-Ok.file c.functional.result c.ids.result c.in-Err-open.fault
     c.functional.ensures c.ids.ensures
     c.in-Ok.ensures.found ((c.in-Err-open.ensures.refused c.in-Err-open.fault).0 refl)

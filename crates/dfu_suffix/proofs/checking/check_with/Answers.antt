@@ -9,7 +9,7 @@ returns-in-Ok-eq0-clause-answer g c =
     let test = c.in-Ok-eq0.field-0-test in
     let over = end_here (g.R.Read.remaining c.loop-turn.reader) (g.R.Read.remaining c.read.new.self) c.in-Ok-eq0.field-0
     c.read.new.buf (omega arith) room c.in-Ok-eq0.ensures.bytes in
-    seen_end _ _ _ _ _ _ _ _ c.loop-turn.invariant over c.judge.ensures.answer c.value-register.ensures
+    seen_end _ _ _ _ _ _ _ _ c.loop-turn.invariant over c.check_register.ensures.answer c.value-register.ensures
 
 pub returns-in-Ok-eq0-clause-findings : goal.returns-in-Ok-eq0-clause-findings
 returns-in-Ok-eq0-clause-findings g c =

@@ -1,10 +1,10 @@
 use Rattle.std.specs.Prelude.{◌≡◌, ◌||◌, take}
 use Rattle.std.specs.List.{list_any}
-use Rattle.dfu_conformance.specs.declared.place.Place.{Place}
+use Rattle.dfu_conformance.specs.declared.standard_state.StandardState.{StandardState}
 use Rattle.dfuse_conformance.specs.Verdicts.{may_stand}
 use Rattle.dfuse_conformance.specs.inside.Stepped.{leads_to}
 use Rattle.dfuse_conformance.proofs.stands.pass.Given as goal
 
 abbrev pub invariant-loop-row : goal.invariant-loop-row
-invariant-loop-row l = (n : Place)
+invariant-loop-row l = (n : StandardState)
     → may_stand l.after n ≡ (may_stand l.initial.after n || list_any (leads_to l.before l.event n) (take l.row-index l.rows))

@@ -1,7 +1,7 @@
 use Rattle.std.specs.Prelude.{◌≡◌, ◌||◌, Bool}
 use Rattle.std.specs.List.{list_any}
 use Rattle.std.proofs.Common.{ap, ◌∙◌}
-use Rattle.dfu_conformance.specs.declared.place.Place.{Place}
+use Rattle.dfu_conformance.specs.declared.standard_state.StandardState.{StandardState}
 use Rattle.dfu_conformance.specs.declared.standard.TheConstants.{STANDARD}
 use Rattle.dfu_conformance.specs.declared.marks.TheConstants.{MARKS}
 use Rattle.dfu_conformance.specs.declared.habits.TheConstants.{HABITS}
@@ -14,10 +14,10 @@ pub returns : goal.returns
 returns c n =
     let before = c.args.before.now in
     let e = c.args.event.now in
-    let held : (p : Place) → may_stand c.pass-4.new.after p ≡ led_or_rests before e p = λ p.
+    let held : (p : StandardState) → may_stand c.pass-4.new.after p ≡ led_or_rests before e p = λ p.
     c.pass-4.ensures p
     ∙ ap (λ (b : Bool). b || list_any (leads_to before e p) DFUSE) (c.pass-3.ensures p
     ∙ ap (λ (b : Bool). b || list_any (leads_to before e p) HABITS) (c.pass-2.ensures p
     ∙ ap (λ (b : Bool). b || list_any (leads_to before e p) MARKS) (c.pass.ensures p
     ∙ ap (λ (b : Bool). b || list_any (leads_to before e p) STANDARD) (c.rest-after.ensures p)))) in
-    c.drift.ensures n ∙ (λ k. then_moved (λ (p : Place). held p k) n)
+    c.drift.ensures n ∙ (λ k. then_moved (λ (p : StandardState). held p k) n)

@@ -1,5 +1,5 @@
 use Rattle.std.proofs.Common.{◌≡◌, ◌<◌, refl, sym, ◌∙◌, subst, arith}
-use Rattle.dfu_asks.specs.declared.work.Work.{Work}
+use Rattle.dfu_asks.specs.declared.pending_writes.PendingWrites.{PendingWrites}
 use Rattle.dfu_asks.specs.Lent.{lent}
 use Rattle.dfu_asks.specs.Carried.{total, carried, IsReached}
 use Rattle.dfu_asks.specs.Asks.{IsWorking, writes_in, steps_in}
@@ -17,10 +17,10 @@ returns-then-len-gt0-clause-outcome c = λ work len s was kept working is reache
     comes_asks (record {
       work = v;
       work_is = c.in-Some.is;
-      working = subst (λ (x : Work). IsWorking l x len s was) same working;
+      working = subst (λ (x : PendingWrites). IsWorking l x len s was) same working;
       left = piece_left l v nx.piece nx.is;
-      flash_is = subst (λ (x : Work). c.args.flash.now ≡ carried was (writes_in l x) x.done) same is;
-      reached = subst (λ (x : Work). IsReached (steps_in l x) x.done) same reached;
+      flash_is = subst (λ (x : PendingWrites). c.args.flash.now ≡ carried was (writes_in l x) x.done) same is;
+      reached = subst (λ (x : PendingWrites). IsReached (steps_in l x) x.done) same reached;
     }) refl refl
 
 pub returns-clause-outcome : goal.returns-clause-outcome
@@ -31,9 +31,9 @@ returns-clause-outcome c = λ work len s was kept working is reached.
     let le = c.look_at-len.ensures.none (omega (arith, c.if-len-gt0.false)) in
     comes_ended c.answer-answer.result.0 c.answer-answer.result.1
     (carried_ended l (lent c.finish.new.self c.args.block.now c.finish.new.held) v len s was c.args.flash.now
-    (subst (λ (x : Work). IsWorking l x len s was) same working)
+    (subst (λ (x : PendingWrites). IsWorking l x len s was) same working)
     c.finish.ensures.notes c.answer-answer.result.0 c.answer-answer.result.1
-    c.args.out.now c.answer-answer.new.out (subst (λ (x : Work). c.args.flash.now ≡ carried was (writes_in l x) x.done) same is)
+    c.args.out.now c.answer-answer.new.out (subst (λ (x : PendingWrites). c.args.flash.now ≡ carried was (writes_in l x) x.done) same is)
     le c.finish.ensures.finished
     (gives_in c.args.self.now.config c.finish.new.self.config c.finish.new.self.mode v.asked c.answer-answer.result.0
     c.answer-answer.result.1 c.args.out.now c.answer-answer.new.out c.finish.ensures.same.config c.answer-answer.ensures))
@@ -44,7 +44,7 @@ returns-then-len-gt0-clause-more c = λ work kept.
     let v = c.in-Some.work in
     let same = same_work v work (sym c.in-Some.is ∙ kept) in
     let nx = c.look_at-len.ensures.next c.if-len-gt0.true in (
-      λ asks. subst (λ (x : Work). x.done < total (writes_in l x)) same (piece_left l v nx.piece nx.is),
+      λ asks. subst (λ (x : PendingWrites). x.done < total (writes_in l x)) same (piece_left l v nx.piece nx.is),
       λ left. refl,
     )
 
@@ -53,4 +53,4 @@ returns-clause-more c = λ work kept.
     let l = lent c.args.self.now c.args.block.now c.args.held.now in
     let same = same_work work c.in-Some.work (sym kept ∙ c.in-Some.is) in
     let le = c.look_at-len.ensures.none (omega (arith, c.if-len-gt0.false)) in
-    (λ asks. cc, λ left. absurd (omega (arith, le, subst (λ (x : Work). x.done < total (writes_in l x)) same left)))
+    (λ asks. cc, λ left. absurd (omega (arith, le, subst (λ (x : PendingWrites). x.done < total (writes_in l x)) same left)))

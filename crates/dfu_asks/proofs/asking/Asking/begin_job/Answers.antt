@@ -1,10 +1,10 @@
 use Rattle.std.proofs.Common.{◌≡◌, ◌==◌, ◌&&◌, true, IsTrue, ℕ, List, length, take, Option, refl, sym, subst}
 use Rattle.std.proofs.lemmas.Bool.{and_parts, eqb-true}
 use Rattle.dfu_slots.specs.Seen.{SlotsState, is_begun}
-use Rattle.dfu_device.specs.declared.mode.Mode.{Mode}
-use Rattle.dfu_device.specs.declared.mode.Mode.TheVariants as mode
+use Rattle.dfu_device.specs.declared.device_state.DeviceState.{DeviceState}
+use Rattle.dfu_device.specs.declared.device_state.DeviceState.TheVariants as device_state
 use Rattle.dfu_device.specs.Parts.{stage_of, is_sound}
-use Rattle.dfu_asks.specs.declared.job.Job.{Job}
+use Rattle.dfu_asks.specs.declared.slot_write.SlotWrite.{SlotWrite}
 use Rattle.dfu_asks.specs.Lent.{lent}
 use Rattle.dfu_asks.specs.Due.{IsDueStage}
 use Rattle.dfu_asks.specs.Asks.{store_in, IsCommitJob, IsJobOf}
@@ -16,8 +16,8 @@ returns-in-DownloadSync-clause-due c = λ block xs ys asked len is due.
     let l = lent c.args.self.now block c.args.held.now in
     let s = store_in l c.args.medium.now.bytes.now in
     let n = c.in-DownloadSync.written in
-    let sound = subst (λ (m : Mode). IsTrue (is_sound m (length l.block) s)) c.in-DownloadSync.is is.sound in
-    subst (λ (m : Mode). IsJobOf m s c.block_job.result.0 c.block_job.result.2 (take c.block_job.result.1 c.args.held.now))
+    let sound = subst (λ (m : DeviceState). IsTrue (is_sound m (length l.block) s)) c.in-DownloadSync.is is.sound in
+    subst (λ (m : DeviceState). IsJobOf m s c.block_job.result.0 c.block_job.result.2 (take c.block_job.result.1 c.args.held.now))
     (sym c.in-DownloadSync.is) (c.block_job.ensures.job block c.args.held.now is (next_in n (length l.block) s sound).before)
 
 pub returns-in-DownloadBusy-clause-due : goal.returns-in-DownloadBusy-clause-due
@@ -26,25 +26,25 @@ returns-in-DownloadBusy-clause-due c = λ block xs ys asked len is due.
     let s = store_in l c.args.medium.now.bytes.now in
     let n = c.in-DownloadBusy.written in
     let job = c.block_job-in-DownloadBusy in
-    let sound = subst (λ (m : Mode). IsTrue (is_sound m (length l.block) s)) c.in-DownloadBusy.is is.sound in
-    subst (λ (m : Mode). IsJobOf m s job.result.0 job.result.2 (take job.result.1 c.args.held.now))
+    let sound = subst (λ (m : DeviceState). IsTrue (is_sound m (length l.block) s)) c.in-DownloadBusy.is is.sound in
+    subst (λ (m : DeviceState). IsJobOf m s job.result.0 job.result.2 (take job.result.1 c.args.held.now))
     (sym c.in-DownloadBusy.is) (job.ensures.job block c.args.held.now is (next_in n (length l.block) s sound).before)
 
 -- A commit that is due is of all that was put.
-of_all : (n : ℕ) (s : SlotsState) (j : Job) (held : List ℕ) → is_begun s && (s.put_end == n) ≡ true
+of_all : (n : ℕ) (s : SlotsState) (j : SlotWrite) (held : List ℕ) → is_begun s && (s.put_end == n) ≡ true
     → IsCommitJob s.put_end s j s.put_end held → IsCommitJob n s j s.put_end held
 of_all n s j held put is =
     subst (λ (k : ℕ). IsCommitJob k s j s.put_end held) (eqb-true _ _ (and_parts (is_begun s) (s.put_end == n) put).1) is
 
-commits : (m : Mode) (b : ℕ) (xs ys : List ℕ) (asked : Option ℕ) (len : ℕ) (s : SlotsState) (j : Job) (held : List ℕ)
-    → ((written number : ℕ) → m ≡ mode.DownloadSync written number → ⊥)
-    → ((written number passed : ℕ) → m ≡ mode.DownloadBusy written number passed → ⊥)
+commits : (m : DeviceState) (b : ℕ) (xs ys : List ℕ) (asked : Option ℕ) (len : ℕ) (s : SlotsState) (j : SlotWrite) (held : List ℕ)
+    → ((written number : ℕ) → m ≡ device_state.DownloadSync written number → ⊥)
+    → ((written number passed : ℕ) → m ≡ device_state.DownloadBusy written number passed → ⊥)
     → IsTrue (is_sound m b s) → IsDueStage (stage_of m xs ys) asked len → IsCommitJob s.put_end s j s.put_end held
     → IsJobOf m s j s.put_end held
-commits (mode.DownloadSync n number) b xs ys asked len s j held sync busy sound due is = absurd (sync n number refl)
-commits (mode.DownloadBusy n number passed) b xs ys asked len s j held sync busy sound due is = absurd (busy n number passed refl)
-commits (mode.ManifestSync n) b xs ys asked len s j held sync busy sound due is = of_all n s j held (all_in n s sound).put is
-commits (mode.Manifest n passed) b xs ys asked len s j held sync busy sound due is = of_all n s j held (all_in n s sound).put is
+commits (device_state.DownloadSync n number) b xs ys asked len s j held sync busy sound due is = absurd (sync n number refl)
+commits (device_state.DownloadBusy n number passed) b xs ys asked len s j held sync busy sound due is = absurd (busy n number passed refl)
+commits (device_state.ManifestSync n) b xs ys asked len s j held sync busy sound due is = of_all n s j held (all_in n s sound).put is
+commits (device_state.Manifest n passed) b xs ys asked len s j held sync busy sound due is = of_all n s j held (all_in n s sound).put is
 commits m b xs ys asked len s j held sync busy sound due is = absurd due
 
 pub returns-in_default : goal.returns-in_default

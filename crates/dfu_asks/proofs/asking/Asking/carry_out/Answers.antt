@@ -5,9 +5,9 @@ use Rattle.dfu_slots.specs.Layout.{header_length}
 use Rattle.dfu_slots.specs.Image.{gate_of, slot_of, active_at}
 use Rattle.dfu_slots.specs.Seen.{image_of, spare_of, room_of}
 use Rattle.dfu_device.specs.declared.answer.Answer.TheVariants as answer
-use Rattle.dfu_device.specs.declared.mode.Mode.TheVariants as mode
+use Rattle.dfu_device.specs.declared.device_state.DeviceState.TheVariants as device_state
 use Rattle.dfu_device.specs.declared.decision.Decision.{Decision}
-use Rattle.dfu_device.specs.Shown.{profile}
+use Rattle.dfu_device.specs.DeviceView.{profile}
 use Rattle.dfu_device.specs.Parts.{shows, is_filled}
 use Rattle.dfu_device.specs.Rows.{Done}
 use Rattle.dfu_device.specs.Decision.{plan_of, IsPossible}
@@ -109,7 +109,7 @@ returns-after-count-from-clause-outcome c = λ kept possible due within.
       }
       | else-count-from x ↦ record {
         last = λ less. absurd (omega (arith, less, x.if-count-from, c.from.ensures));
-        more = λ le. x.self-is ∙ ap (λ (n : ℕ). mode.UploadIdle (place + n) c.in-Sends.number) x.from-else-count-from.ensures;
+        more = λ le. x.self-is ∙ ap (λ (n : ℕ). device_state.UploadIdle (place + n) c.in-Sends.number) x.from-else-count-from.ensures;
       }
     ] in
     let now : LentAsking = record l { mode = m } in

@@ -6,7 +6,7 @@ use Rattle.dfu_slots.specs.Seen.{spare_of, active_slot}
 use Rattle.dfu_asks.specs.Mapped.{mapped}
 use Rattle.dfu_asks.specs.Lent.{lent}
 use Rattle.dfu_asks.specs.Asks.{store_in}
-use Rattle.dfu_asks.specs.declared.job.Job.TheVariants.{Commit}
+use Rattle.dfu_asks.specs.declared.slot_write.SlotWrite.TheVariants.{Commit}
 use Rattle.dfu_asks.proofs.Noting.{noted_spare}
 use Rattle.dfu_asks.proofs.Room.{held_size}
 use Rattle.dfu_device.proofs.Candidates.{put_is}

@@ -4,7 +4,7 @@ use Rattle.dfu_slots.proofs.Seeing.{room_capacity}
 use Rattle.dfu_device.specs.declared.answer.Answer.{Answer}
 use Rattle.dfu_device.specs.declared.answer.Answer.TheVariants as answer
 use Rattle.dfu_device.specs.Table.{Plan, time_plan}
-use Rattle.dfu_device.specs.Shown.{profile, profile_of}
+use Rattle.dfu_device.specs.DeviceView.{profile, profile_of}
 use Rattle.dfu_device.specs.Rows.{Done, Elapses}
 use Rattle.dfu_device.specs.Decision.{profile_in, plan_of, IsPossible}
 use Rattle.dfu_device.proofs.Carried.{filled}

@@ -1,8 +1,5 @@
-use Rattle.std.proofs.Common.{List, subst}
-use Rattle.dfu_asks.specs.Steps.{Step}
-use Rattle.dfu_asks.specs.Carried.{IsPiece}
-use Rattle.dfu_asks.specs.Jobs.{steps_for}
 use Rattle.dfu_asks.specs.Cuts.{step_of}
+use Rattle.dfu_asks.specs.Asks.{steps_in}
 use Rattle.dfu_asks.specs.Lent.{lent}
 use Rattle.dfu_asks.proofs.Calling.{is_true, is_off, none_left}
 use Rattle.dfu_asks.proofs.Cutting.{step_size, found_in, none_in}
@@ -13,12 +10,11 @@ returns-clause-next c = λ some.
     let w = c.args.work.now in
     let yes = is_true c.next_piece.result c.if-not-next_piece.false in
     let cut = c.next_piece.new.cut in
-    let found = found_in w.job c.stock.result w.done c.cut_at-cut.result c.cut_at-cut.ensures.stock c.cut_at-cut.ensures.rest
-    (step_of cut) (c.next_piece.ensures.found yes) in
     let size = step_size _ cut (c.next_piece.ensures.is yes) in
     record {
       piece = step_of cut;
-      is = subst (λ (ss : List Step). IsPiece ss w.done (step_of cut)) (c.stock.ensures.steps w) found;
+      is = found_in w.job c.stock.result (steps_in (lent c.args.self.now c.args.block.now c.args.held.now) w) (c.stock.ensures.steps w)
+          w.done c.cut_at-cut.result c.cut_at-cut.ensures.stock c.cut_at-cut.ensures.rest (step_of cut) (c.next_piece.ensures.found yes);
       size = size;
       within = c.stands.ensures.within;
       there = c.stands.ensures.stands;
@@ -27,6 +23,7 @@ returns-clause-next c = λ some.
 pub returns-then-not-next_piece-clause-none : goal.returns-then-not-next_piece-clause-none
 returns-then-not-next_piece-clause-none c = λ zero.
     let w = c.args.work.now in
-    none_left (lent c.args.self.now c.args.block.now c.args.held.now) w (steps_for w.job c.stock.result) (c.stock.ensures.steps w)
-    (none_in w.job c.stock.result w.done c.cut_at-cut.result c.cut_at-cut.ensures.stock c.cut_at-cut.ensures.rest
+    let a = lent c.args.self.now c.args.block.now c.args.held.now in
+    none_left a w (none_in w.job c.stock.result (steps_in a w) (c.stock.ensures.steps w) w.done c.cut_at-cut.result
+    c.cut_at-cut.ensures.stock c.cut_at-cut.ensures.rest
     (c.next_piece.ensures.none (is_off c.next_piece.result c.if-not-next_piece.true)))

@@ -1,13 +1,12 @@
-use Rattle.std.proofs.Common.{◌≡◌, ⊎_elim, List, length, drop, sym, ◌∙◌, ap, subst, arith}
-use Rattle.dfu_asks.specs.declared.work.Work.{Work}
+use Rattle.std.proofs.Common.{◌≡◌, ⊎_elim, length, drop, sym, ◌∙◌, ap, subst, arith}
+use Rattle.dfu_asks.specs.declared.pending_writes.PendingWrites.{PendingWrites}
 use Rattle.dfu_asks.specs.Lent.{lent}
 use Rattle.dfu_asks.specs.Steps.{Step}
 use Rattle.dfu_asks.specs.Carried.{total, IsPiece, ErasesWhole}
-use Rattle.dfu_asks.specs.Jobs.{steps_for}
 use Rattle.dfu_asks.specs.Cuts.{zeroed, step_of}
 use Rattle.dfu_asks.specs.Asks.{writes_in, steps_in}
 use Rattle.dfu_asks.proofs.Cutting.{step_size, found_in, none_in}
-use Rattle.dfu_asks.proofs.Calling.{same_work, is_true, is_false, is_off, one_piece, piece_left, none_left}
+use Rattle.dfu_asks.proofs.Calling.{same_work, is_true, is_false, is_off, piece_of, one_piece, piece_left, none_left}
 use Rattle.dfu_asks.proofs.Shut.{asks_goes}
 use Rattle.dfu_asks.proofs.Sound.{asks_sound}
 use Rattle.dfu_asks.proofs.asking.Asking.next.Goals as goal
@@ -16,63 +15,51 @@ pub returns-then-not-next_piece-clause-none : goal.returns-then-not-next_piece-c
 returns-then-not-next_piece-clause-none c = λ w p is piece sound.
     let a = lent c.args.self.now c.args.block.now c.args.held.now in
     let v = c.in_ok-work.work in
-    let le = none_left a v (steps_for v.job c.stock.result) (c.stock.ensures.steps v)
-    (none_in v.job c.stock.result v.done c.cut_at-cut.result c.cut_at-cut.ensures.stock c.cut_at-cut.ensures.rest
+    let le = none_left a v (none_in v.job c.stock.result (steps_in a v) (c.stock.ensures.steps v) v.done c.cut_at-cut.result
+    c.cut_at-cut.ensures.stock c.cut_at-cut.ensures.rest
     (c.next_piece.ensures.none (is_off c.next_piece.result c.if-not-next_piece.true))) in
-    let there : IsPiece (steps_in a v) v.done p = subst (λ (x : Work). IsPiece (steps_in a x) x.done p)
-    (same_work w v (sym is ∙ c.in_ok-work.was)) piece in
-    absurd (omega (arith, le, piece_left a v p there))
+    absurd (omega (arith, le, piece_left a v p (piece_of a w v p (same_work w v (sym is ∙ c.in_ok-work.was)) piece)))
 
 pub returns-then-not-next_piece-clause-goes : goal.returns-then-not-next_piece-clause-goes
 returns-then-not-next_piece-clause-goes c = λ len s was k.
     let a = lent c.args.self.now c.args.block.now c.args.held.now in
     let v = c.in_ok-work.work in
-    let le = none_left a v (steps_for v.job c.stock.result) (c.stock.ensures.steps v)
-    (none_in v.job c.stock.result v.done c.cut_at-cut.result c.cut_at-cut.ensures.stock c.cut_at-cut.ensures.rest
+    let le = none_left a v (none_in v.job c.stock.result (steps_in a v) (c.stock.ensures.steps v) v.done c.cut_at-cut.result
+    c.cut_at-cut.ensures.stock c.cut_at-cut.ensures.rest
     (c.next_piece.ensures.none (is_off c.next_piece.result c.if-not-next_piece.true))) in
     let same : k.work ≡ v = same_work k.work v (sym k.work_is ∙ c.in_ok-work.was) in
-    omega (arith, le, k.left, ap (λ (x : Work). x.done) same, ap (λ (x : Work). total (writes_in a x)) same)
+    omega (arith, le, k.left, ap (λ (x : PendingWrites). x.done) same, ap (λ (x : PendingWrites). total (writes_in a x)) same)
 
 pub returns-then-is_spare-clause-piece : goal.returns-then-is_spare-clause-piece
 returns-then-is_spare-clause-piece c = λ w is.
     let a = lent c.args.self.now c.args.block.now c.args.held.now in
     let v = c.in_ok-work.work in
     let yes = is_true c.next_piece.result c.if-not-next_piece.false in
-    let found = found_in v.job c.stock.result v.done c.cut_at-cut.result c.cut_at-cut.ensures.stock c.cut_at-cut.ensures.rest
-    (step_of c.next_piece.new.cut) (c.next_piece.ensures.found yes) in
-    let there : IsPiece (steps_in a v) v.done (step_of c.next_piece.new.cut) =
-    subst (λ (ss : List Step). IsPiece ss v.done (step_of c.next_piece.new.cut)) (c.stock.ensures.steps v) found in
+    let q = step_of c.next_piece.new.cut in
+    let found = found_in v.job c.stock.result (steps_in a v) (c.stock.ensures.steps v) v.done c.cut_at-cut.result
+    c.cut_at-cut.ensures.stock c.cut_at-cut.ensures.rest q (c.next_piece.ensures.found yes) in
     subst (λ (y : Step). IsPiece (steps_in a w) w.done y) (sym c.fill.ensures.step)
-    (subst (λ (x : Work). IsPiece (steps_in a x) x.done (step_of c.next_piece.new.cut))
-    (same_work v w (sym c.in_ok-work.was ∙ is)) there)
+    (piece_of a v w q (same_work v w (sym c.in_ok-work.was ∙ is)) found)
 
 pub returns-then-is_spare-clause-due : goal.returns-then-is_spare-clause-due
 returns-then-is_spare-clause-due c =
     let a = lent c.args.self.now c.args.block.now c.args.held.now in
+    let v = c.in_ok-work.work in
     let yes = is_true c.next_piece.result c.if-not-next_piece.false in
-    let found = found_in c.in_ok-work.work.job c.stock.result c.in_ok-work.work.done c.cut_at-cut.result c.cut_at-cut.ensures.stock
-    c.cut_at-cut.ensures.rest
-    (step_of c.next_piece.new.cut) (c.next_piece.ensures.found yes) in
     let q = step_of c.next_piece.new.cut in
-    let v = c.in_ok-work.work in (
-      v,
-      record {
-        work_is = c.in_ok-work.was;
-        left = piece_left a v q
-            (subst (λ (ss : List Step). IsPiece ss v.done q) (c.stock.ensures.steps v) found);
-      },
-    )
+    let found = found_in v.job c.stock.result (steps_in a v) (c.stock.ensures.steps v) v.done c.cut_at-cut.result
+    c.cut_at-cut.ensures.stock c.cut_at-cut.ensures.rest q (c.next_piece.ensures.found yes) in
+    (v, record { work_is = c.in_ok-work.was; left = piece_left a v q found })
 
 pub returns-then-not-is_sound-clause-none : goal.returns-then-not-is_sound-clause-none
 returns-then-not-is_sound-clause-none c = λ w p is piece sound.
     let a = lent c.args.self.now c.args.block.now c.args.held.now in
     let v = c.in_ok-work.work in
     let yes = is_true c.next_piece.result c.if-not-next_piece.false in
-    let found = found_in v.job c.stock.result v.done c.cut_at-cut.result c.cut_at-cut.ensures.stock c.cut_at-cut.ensures.rest
-    (step_of c.next_piece.new.cut) (c.next_piece.ensures.found yes) in
     let q = step_of c.next_piece.new.cut in
-    let one : p ≡ q = one_piece a v w (steps_for v.job c.stock.result) p q (same_work w v (sym is ∙ c.in_ok-work.was))
-    (c.stock.ensures.steps v) piece found in
+    let found = found_in v.job c.stock.result (steps_in a v) (c.stock.ensures.steps v) v.done c.cut_at-cut.result
+    c.cut_at-cut.ensures.stock c.cut_at-cut.ensures.rest q (c.next_piece.ensures.found yes) in
+    let one : p ≡ q = one_piece a v w p q (same_work w v (sym is ∙ c.in_ok-work.was)) piece found in
     absurd (is_false c.is_sound.result c.if-not-is_sound.true
     ((c.is_sound.ensures (drop c.next_piece.new.cut.from
     (zeroed c.next_piece.new.cut.source c.next_piece.new.cut.stock c.next_piece.new.cut.front))).1
@@ -83,13 +70,10 @@ returns-then-not-is_sound-clause-goes c = λ len s was k.
     let a = lent c.args.self.now c.args.block.now c.args.held.now in
     let v = c.in_ok-work.work in
     let yes = is_true c.next_piece.result c.if-not-next_piece.false in
-    let found = found_in v.job c.stock.result v.done c.cut_at-cut.result c.cut_at-cut.ensures.stock c.cut_at-cut.ensures.rest
-    (step_of c.next_piece.new.cut) (c.next_piece.ensures.found yes) in
     let q = step_of c.next_piece.new.cut in
-    let same : k.work ≡ v = same_work k.work v (sym k.work_is ∙ c.in_ok-work.was) in
-    let there : IsPiece (steps_in a v) v.done q =
-    subst (λ (ss : List Step). IsPiece ss v.done q) (c.stock.ensures.steps v) found in
-    let piece : IsPiece (steps_in a k.work) k.work.done q = subst (λ (x : Work). IsPiece (steps_in a x) x.done q) (sym same) there in
+    let found = found_in v.job c.stock.result (steps_in a v) (c.stock.ensures.steps v) v.done c.cut_at-cut.result
+    c.cut_at-cut.ensures.stock c.cut_at-cut.ensures.rest q (c.next_piece.ensures.found yes) in
+    let piece = piece_of a v k.work q (same_work v k.work (sym c.in_ok-work.was ∙ k.work_is)) found in
     is_false c.is_sound.result c.if-not-is_sound.true
     ((c.is_sound.ensures (drop c.next_piece.new.cut.from
     (zeroed c.next_piece.new.cut.source c.next_piece.new.cut.stock c.next_piece.new.cut.front))).1
@@ -103,11 +87,10 @@ returns-else-is_spare-clause-none c = λ w p is piece sound slot either low high
     let a = lent c.args.self.now c.args.block.now c.args.held.now in
     let v = c.in_ok-work.work in
     let yes = is_true c.next_piece.result c.if-not-next_piece.false in
-    let found = found_in v.job c.stock.result v.done c.cut_at-cut.result c.cut_at-cut.ensures.stock c.cut_at-cut.ensures.rest
-    (step_of c.next_piece.new.cut) (c.next_piece.ensures.found yes) in
     let q = step_of c.next_piece.new.cut in
-    let one : p ≡ q = one_piece a v w (steps_for v.job c.stock.result) p q (same_work w v (sym is ∙ c.in_ok-work.was))
-    (c.stock.ensures.steps v) piece found in
+    let found = found_in v.job c.stock.result (steps_in a v) (c.stock.ensures.steps v) v.done c.cut_at-cut.result
+    c.cut_at-cut.ensures.stock c.cut_at-cut.ensures.rest q (c.next_piece.ensures.found yes) in
+    let one : p ≡ q = one_piece a v w p q (same_work w v (sym is ∙ c.in_ok-work.was)) piece found in
     let place : p.write.at ≡ q.write.at = ap (λ (y : Step). y.write.at) one in
     let size : length p.write.bytes ≡ c.next_piece.new.cut.piece.len =
     ap (λ (y : Step). length y.write.bytes) one ∙ (step_size _ c.next_piece.new.cut (c.next_piece.ensures.is yes)) in
@@ -119,13 +102,10 @@ returns-else-is_spare-clause-goes c = λ len s was k.
     let a = lent c.args.self.now c.args.block.now c.args.held.now in
     let v = c.in_ok-work.work in
     let yes = is_true c.next_piece.result c.if-not-next_piece.false in
-    let found = found_in v.job c.stock.result v.done c.cut_at-cut.result c.cut_at-cut.ensures.stock c.cut_at-cut.ensures.rest
-    (step_of c.next_piece.new.cut) (c.next_piece.ensures.found yes) in
     let q = step_of c.next_piece.new.cut in
-    let same : k.work ≡ v = same_work k.work v (sym k.work_is ∙ c.in_ok-work.was) in
-    let there : IsPiece (steps_in a v) v.done q =
-    subst (λ (ss : List Step). IsPiece ss v.done q) (c.stock.ensures.steps v) found in
-    let piece : IsPiece (steps_in a k.work) k.work.done q = subst (λ (x : Work). IsPiece (steps_in a x) x.done q) (sym same) there in
+    let found = found_in v.job c.stock.result (steps_in a v) (c.stock.ensures.steps v) v.done c.cut_at-cut.result
+    c.cut_at-cut.ensures.stock c.cut_at-cut.ensures.rest q (c.next_piece.ensures.found yes) in
+    let piece = piece_of a v k.work q (same_work v k.work (sym c.in_ok-work.was ∙ k.work_is)) found in
     let g = asks_goes a len s was c.args.flash.now k q piece in
     let no = c.is_spare.ensures.no (is_off c.is_spare.result c.if-is_spare.false) g.slot g.either g.low
     (omega (arith, g.high, (step_size _ c.next_piece.new.cut (c.next_piece.ensures.is yes)))) in

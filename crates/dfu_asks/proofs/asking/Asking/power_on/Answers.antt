@@ -3,7 +3,7 @@ use Rattle.dfu_slots.specs.Seen.{store_on}
 use Rattle.dfu_slots.specs.Store.{IsStore}
 use Rattle.dfu_slots.proofs.Seeing.{fresh_leaves}
 use Rattle.dfu_asks.specs.Mapped.{mapped}
-use Rattle.dfu_asks.proofs.Calling.{idle_sound}
+use Rattle.dfu_asks.proofs.Working.{idle_sound}
 use Rattle.dfu_asks.proofs.asking.Asking.power_on.Goals as goal
 
 pub returns-clause-is : goal.returns-clause-is

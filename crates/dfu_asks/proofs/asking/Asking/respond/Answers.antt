@@ -4,7 +4,7 @@ use Rattle.dfu_slots.specs.Seen.{image_of, spare_of, room_of}
 use Rattle.dfu_slots.proofs.Seeing.{room_capacity}
 use Rattle.dfu_device.specs.declared.answer.Answer.TheVariants as answer
 use Rattle.dfu_device.specs.Table.{Plan}
-use Rattle.dfu_device.specs.Shown.{profile, profile_of}
+use Rattle.dfu_device.specs.DeviceView.{profile, profile_of}
 use Rattle.dfu_device.specs.Rows.{Done, Handles, handled_as, meant, asked_length}
 use Rattle.dfu_device.specs.Decision.{profile_in, plan_of, IsPossible, HasLength}
 use Rattle.dfu_device.proofs.Before.{refused_class, served_class, has_length}

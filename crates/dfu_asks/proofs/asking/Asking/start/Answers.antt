@@ -1,6 +1,6 @@
 use Rattle.std.proofs.Common.{Some, refl, sym}
 use Rattle.dfu_slots.specs.Seen.{spare_of}
-use Rattle.dfu_asks.specs.declared.work.Work.{Work}
+use Rattle.dfu_asks.specs.declared.pending_writes.PendingWrites.{PendingWrites}
 use Rattle.dfu_asks.specs.Lent.{LentAsking, lent}
 use Rattle.dfu_asks.specs.Asks.{store_in, writes_in, steps_in}
 use Rattle.dfu_asks.proofs.Carrying.{carried_none}
@@ -14,7 +14,7 @@ returns-clause-outcome c = λ len is due.
     let l = lent c.args.self.now c.args.block.now c.args.held.now in
     let s = store_in l flash in
     let job = c.begin_job-job.result in
-    let work : Work = record { job = job.0; asked = c.args.asked; done = 0 } in
+    let work : PendingWrites = record { job = job.0; asked = c.args.asked; done = 0 } in
     let now : LentAsking = lent
     (record c.args.self.now { held_len = job.1; put_end = job.2; work = Some work; few = c.begin_job-job.ensures.few })
     c.args.block.now c.args.held.now in

@@ -4,12 +4,12 @@ use Rattle.dfu_slots.specs.declared.fault.WriteFault.TheVariants.{Failed, NotVer
 use Rattle.dfu_slots.specs.Medium.{Write}
 use Rattle.dfu_slots.specs.Seen.{SlotsState}
 use Rattle.dfu_device.specs.declared.answer.Answer.{Answer}
-use Rattle.dfu_device.specs.Shown.{Shown}
+use Rattle.dfu_device.specs.DeviceView.{DeviceView}
 use Rattle.dfu_asks.specs.declared.reply.Reply.TheVariants as reply
 use Rattle.dfu_asks.specs.Lent.{LentAsking, lent}
 use Rattle.dfu_asks.specs.Due.{Fails}
 use Rattle.dfu_asks.specs.Steps.{Step}
-use Rattle.dfu_asks.specs.declared.work.Work.{Work}
+use Rattle.dfu_asks.specs.declared.pending_writes.PendingWrites.{PendingWrites}
 use Rattle.dfu_asks.specs.Carried.{total, carried, IsReached}
 use Rattle.dfu_asks.specs.Asks.{writes_in, steps_in, device_of, IsWorking}
 use Rattle.dfu_asks.specs.Calls.{HasEnded, DeviceTook, took_well, took_failed, took_lied}
@@ -33,7 +33,7 @@ on_flash true stands e = cc
 on_flash false stands e = e
 
 -- The row ends with the fault of a piece that failed, or that does not stand.
-took_badly : (d : Shown) (len : ℕ) (s : SlotsState) (was : List ℕ) (p : Write) (failed : Bool) (flash out : List ℕ) (now : LentAsking)
+took_badly : (d : DeviceView) (len : ℕ) (s : SlotsState) (was : List ℕ) (p : Write) (failed : Bool) (flash out : List ℕ) (now : LentAsking)
     (out' : List ℕ) (x : Answer) (count : ℕ) (fault : WriteFault) → fault ≡ (if failed then Failed else NotVerified)
     → (failed ≡ false → ¬ (slice_range flash p.at (p.at + length p.bytes) ≡ p.bytes))
     → HasEnded flash x count out out' now (λ y sent w'. Fails fault len d y sent w')
@@ -52,7 +52,7 @@ returns-then-not-went_well-clause-outcome c = λ len s was before asks p piece t
     let nx = c.look_at-len.ensures.next (omega (arith, c.if-len-eq0.false)) in
     let same : asks.work ≡ w = same_work asks.work w (sym asks.work_is ∙ c.in-Some.is) in
     let q = nx.piece in
-    let one : p ≡ q = one_piece a w asks.work (steps_in a w) p q same refl piece nx.is in
+    let one : p ≡ q = one_piece a w asks.work p q same piece nx.is in
     let fail = c.fail-answer in
     let now = lent fail.new.self c.args.block.now c.args.held.now in
     took_badly (device_of a s) len s was p.write c.args.failed c.args.flash.now c.args.out.now now fail.new.out
@@ -62,7 +62,7 @@ returns-then-not-went_well-clause-outcome c = λ len s was before asks p piece t
     (nx.there.1
     (subst (λ (y : Step). slice_range c.args.flash.now y.write.at (y.write.at + length y.write.bytes) ≡ y.write.bytes) one st)))
     (piece_failed a len s was before asks p piece c.args.flash.now torn c.fault_of.result now w.asked
-    fail.result.0 fail.result.1 c.args.out.now fail.new.out (ap (λ (x : Work). x.asked) same)
+    fail.result.0 fail.result.1 c.args.out.now fail.new.out (ap (λ (x : PendingWrites). x.asked) same)
     (fail.ensures.broken c.args.block.now c.args.held.now) (fail.ensures.notes c.args.block.now c.args.held.now) fail.ensures.gives)
 
 pub returns-clause-outcome : goal.returns-clause-outcome
@@ -74,8 +74,7 @@ returns-clause-outcome c = λ len s was before asks p piece torn.
     let n = c.look_at-len.result.0 in
     let same : asks.work ≡ w = same_work asks.work w (sym asks.work_is ∙ c.in-Some.is) in
     let q = nx.piece in
-    let one : p ≡ q = one_piece a w asks.work (steps_in a w) p q same
-    refl piece nx.is in
+    let one : p ≡ q = one_piece a w asks.work p q same piece nx.is in
     let on = is_true c.look_at-len.result.1
     (on_flash c.args.failed c.look_at-len.result.1 (sym c.went_well.ensures ∙ c.if-not-went_well.false)) in
     let there : slice_range flash p.write.at (p.write.at + length p.write.bytes) ≡ p.write.bytes =
@@ -84,37 +83,32 @@ returns-clause-outcome c = λ len s was before asks p piece torn.
     let size : length p.write.bytes ≡ n = ap (λ (y : Step). length y.write.bytes) one ∙ nx.size in
     let fits : p.write.at + length p.write.bytes ≤ length flash =
     omega (arith, nx.within on, ap (λ (y : Step). y.write.at) one, size) in
-    let k : IsWorking a w len s was = subst (λ (x : Work). IsWorking a x len s was) same asks.working in
-    let further : Work = record { job = w.job; asked = w.asked; done = w.done + n } in
+    let k : IsWorking a w len s was = subst (λ (x : PendingWrites). IsWorking a x len s was) same asks.working in
+    let further : PendingWrites = record { job = w.job; asked = w.asked; done = w.done + n } in
     let stood : flash ≡ carried was (writes_in a w) (w.done + length p.write.bytes) =
-    subst (λ (x : Work). flash ≡ carried was (writes_in a x) (x.done + length p.write.bytes)) same
+    subst (λ (x : PendingWrites). flash ≡ carried was (writes_in a x) (x.done + length p.write.bytes)) same
     (piece_stands a len s was before asks p piece flash torn fits there) in
     took_well (works c.args.failed c.look_at-len.result.1 (sym c.went_well.ensures ∙ c.if-not-went_well.false)) there
     (c.advance.ensures.outcome further len s was refl
     (record { medium = k.medium; store = k.store; sound = k.sound; due = k.due; noted = k.noted })
     (stood ∙ ap (λ (m : ℕ). carried was (writes_in a w) (w.done + m)) size)
     (subst (λ (m : ℕ). IsReached (steps_in a w) (w.done + m)) size
-    (subst (λ (x : Work). IsReached (steps_in a x) (x.done + length p.write.bytes)) same
+    (subst (λ (x : PendingWrites). IsReached (steps_in a x) (x.done + length p.write.bytes)) same
     (reached_step (steps_in a asks.work) asks.work.done p asks.reached piece))))
 
 pub returns-then-not-went_well-clause-taken : goal.returns-then-not-went_well-clause-taken
 returns-then-not-went_well-clause-taken c =
     let w = c.in-Some.work in
     let nx = c.look_at-len.ensures.next (omega (arith, c.if-len-eq0.false)) in
-    taken_from (lent c.args.self.now c.args.block.now c.args.held.now) w
-    (steps_in (lent c.args.self.now c.args.block.now c.args.held.now) w) (nx.piece) (length c.args.out.now)
-    (omega (arith, c.if-out-lt6.false)) c.in-Some.is
-    refl nx.is
+    taken_from (lent c.args.self.now c.args.block.now c.args.held.now) w nx.piece (length c.args.out.now)
+    (omega (arith, c.if-out-lt6.false)) c.in-Some.is nx.is
 
 pub returns-then-not-went_well-clause-on : goal.returns-then-not-went_well-clause-on
 returns-then-not-went_well-clause-on c = λ w p is piece.
     let a = lent c.args.self.now c.args.block.now c.args.held.now in
     let v = c.in-Some.work in
     let nx = c.look_at-len.ensures.next (omega (arith, c.if-len-eq0.false)) in
-    let one : p ≡ nx.piece =
-    one_piece a v w (steps_in a v) p (nx.piece)
-    (same_work w v (sym is ∙ c.in-Some.is))
-    refl piece nx.is in (
+    let one : p ≡ nx.piece = one_piece a v w p nx.piece (same_work w v (sym is ∙ c.in-Some.is)) piece nx.is in (
       λ asks. cc,
       λ on. absurd (is_false c.look_at-len.result.1
           (not_there c.args.failed c.look_at-len.result.1 (sym c.went_well.ensures ∙ c.if-not-went_well.true) on.well)
@@ -129,14 +123,11 @@ returns-clause-on c = λ w p is piece.
     let v = c.in-Some.work in
     let nx = c.look_at-len.ensures.next (omega (arith, c.if-len-eq0.false)) in
     let same = same_work w v (sym is ∙ c.in-Some.is) in
-    let one : p ≡ nx.piece =
-    one_piece a v w (steps_in a v) p (nx.piece) same
-    refl piece nx.is in
-    let size : length p.write.bytes ≡ c.look_at-len.result.0 =
-    ap (λ (y : Step). length y.write.bytes) one ∙ nx.size in
-    let further : Work = record { job = v.job; asked = v.asked; done = v.done + c.look_at-len.result.0 } in
-    let all : total (writes_in a w) ≡ total (writes_in a v) = ap (λ (x : Work). total (writes_in a x)) same in
-    let done : w.done ≡ v.done = ap (λ (x : Work). x.done) same in (
+    let one : p ≡ nx.piece = one_piece a v w p nx.piece same piece nx.is in
+    let size : length p.write.bytes ≡ c.look_at-len.result.0 = ap (λ (y : Step). length y.write.bytes) one ∙ nx.size in
+    let further : PendingWrites = record { job = v.job; asked = v.asked; done = v.done + c.look_at-len.result.0 } in
+    let all : total (writes_in a w) ≡ total (writes_in a v) = ap (λ (x : PendingWrites). total (writes_in a x)) same in
+    let done : w.done ≡ v.done = ap (λ (x : PendingWrites). x.done) same in (
       λ asks. record {
         well = (works c.args.failed c.look_at-len.result.1 (sym c.went_well.ensures ∙ c.if-not-went_well.false));
         stands = subst (λ (y : Step). slice_range c.args.flash.now y.write.at (y.write.at + length y.write.bytes) ≡ y.write.bytes) (sym one)
@@ -153,11 +144,8 @@ returns-clause-further c = λ asks w p is piece.
     let v = c.in-Some.work in
     let nx = c.look_at-len.ensures.next (omega (arith, c.if-len-eq0.false)) in
     let same = same_work w v (sym is ∙ c.in-Some.is) in
-    let one : p ≡ nx.piece =
-    one_piece a v w (steps_in a v) p (nx.piece) same
-    refl piece nx.is in
-    let size : length p.write.bytes ≡ c.look_at-len.result.0 =
-    ap (λ (y : Step). length y.write.bytes) one ∙ nx.size in
+    let one : p ≡ nx.piece = one_piece a v w p nx.piece same piece nx.is in
+    let size : length p.write.bytes ≡ c.look_at-len.result.0 = ap (λ (y : Step). length y.write.bytes) one ∙ nx.size in
     c.advance.ensures.kept asks
     ∙ (λ i. Some (record { job = (sym same i).job; asked = (sym same i).asked; done = (sym same i).done + sym size i }))
 
@@ -169,13 +157,12 @@ returns-then-len-eq0-clause-refused c =
       omega (arith, c.if-out-lt6.false),
       λ w left.
           let same : w ≡ v = same_work w v (sym left.work_is ∙ c.in-Some.is) in
-          omega (arith, le, left.left, ap (λ (x : Work). x.done) same, ap (λ (x : Work). total (writes_in a x)) same),
+          omega (arith, le, left.left, ap (λ (x : PendingWrites). x.done) same, ap (λ (x : PendingWrites). total (writes_in a x)) same),
     )
 
 pub returns-clause-taken : goal.returns-clause-taken
 returns-clause-taken c =
     let w = c.in-Some.work in
     let nx = c.look_at-len.ensures.next (omega (arith, c.if-len-eq0.false)) in
-    taken_from (lent c.args.self.now c.args.block.now c.args.held.now) w
-    (steps_in (lent c.args.self.now c.args.block.now c.args.held.now) w) (nx.piece) (length c.args.out.now)
-    (omega (arith, c.if-out-lt6.false)) c.in-Some.is refl nx.is
+    taken_from (lent c.args.self.now c.args.block.now c.args.held.now) w nx.piece (length c.args.out.now)
+    (omega (arith, c.if-out-lt6.false)) c.in-Some.is nx.is

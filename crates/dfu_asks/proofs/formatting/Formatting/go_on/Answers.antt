@@ -1,5 +1,5 @@
 use Rattle.std.proofs.Common.{◌/◌, length, refl, subst}
-use Rattle.dfu_asks.specs.declared.phase.Phase.{Phase}
+use Rattle.dfu_asks.specs.declared.format_step.FormatStep.{FormatStep}
 use Rattle.dfu_asks.specs.Phases.{grain_within}
 use Rattle.dfu_asks.proofs.FormatParts.{IsFollowed}
 use Rattle.dfu_asks.proofs.FormatGoing.{way_next, way_done}
@@ -10,7 +10,7 @@ returns-in-Ended-clause-outcome c = λ was flash way ended.
     let f = c.args.self.now in
     let image = c.args.image.now in
     way_done f image was flash way ended
-    (subst (λ (p : Phase). IsFollowed (grain_within f) (length was / 2) image f.register f.phase p) c.in-Ended.is
+    (subst (λ (p : FormatStep). IsFollowed (grain_within f) (length was / 2) image f.register f.phase p) c.in-Ended.is
     (c.part_behind-behind.ensures.parts (grain_within f) (length was / 2) f.register image refl refl))
 
 pub returns-in_default-clause-outcome : goal.returns-in_default-clause-outcome

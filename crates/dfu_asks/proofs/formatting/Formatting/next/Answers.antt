@@ -1,9 +1,8 @@
-use Rattle.std.proofs.Common.{ℕ, length, drop, ◌∙◌, sym, ap, subst, arith}
-use Rattle.dfu_asks.specs.Steps.{Step, step_writes}
-use Rattle.dfu_asks.specs.Carried.{total, IsPiece}
-use Rattle.dfu_asks.specs.declared.piece.Stock.{Stock}
+use Rattle.std.proofs.Common.{length, drop, refl, sym, subst, arith}
+use Rattle.dfu_asks.specs.Steps.{Step}
+use Rattle.dfu_asks.specs.Carried.{IsPiece}
 use Rattle.dfu_asks.specs.Cuts.{zeroed, step_of}
-use Rattle.dfu_asks.specs.Phases.{steps_left, part_left}
+use Rattle.dfu_asks.specs.Phases.{steps_left}
 use Rattle.dfu_asks.proofs.Calling.{is_true, is_false, is_off}
 use Rattle.dfu_asks.proofs.Cutting.{step_size, part_found, part_none}
 use Rattle.dfu_asks.proofs.FormatGoing.{in_left, way_size, way_small, way_sound, way_there}
@@ -12,9 +11,9 @@ use Rattle.dfu_asks.proofs.formatting.Formatting.next.Goals as goal
 pub returns-clause-piece : goal.returns-clause-piece
 returns-clause-piece c =
     let yes = is_true c.due.result c.if-not-due.false in
-    let block = ap (λ (s : Stock). s.block.now) c.cut_at-cut.ensures.stock ∙ c.stock_for.ensures.block in
-    let found = part_found c.args.self.now (length c.args.flash.now) c.args.self.now.done c.args.image.now c.cut_at-cut.result block
-    c.cut_at-cut.ensures.rest (step_of c.due.new.cut) (c.due.ensures.found yes) in
+    let found = part_found c.args.self.now (length c.args.flash.now) (length c.args.flash.now) refl c.args.image.now c.stock_for.result
+    c.stock_for.ensures.block c.cut_at-cut.result c.cut_at-cut.ensures.stock c.cut_at-cut.ensures.rest (step_of c.due.new.cut)
+    (c.due.ensures.found yes) in
     subst (λ (p : Step). IsPiece (steps_left c.args.self.now (length c.args.flash.now) c.args.image.now) c.args.self.now.done p)
     (sym c.fill.ensures.step)
     (in_left c.args.self.now (length c.args.flash.now) c.args.image.now c.args.self.now.done (step_of c.due.new.cut) found)
@@ -25,14 +24,12 @@ returns-then-not-due-clause-goes c = λ was k.
     let image = c.args.image.now in
     let flash = c.args.flash.now in
     let small = way_small f image was flash k.way in
-    let block = ap (λ (s : Stock). s.block.now) c.cut_at-cut.ensures.stock ∙ c.stock_for.ensures.block in
     omega (
       arith,
       k.left,
-      ap (λ (n : ℕ). total (step_writes (part_left f n image))) (way_size f image was flash k.way),
-      (part_none c.args.self.now (length c.args.flash.now) c.args.self.now.done c.args.image.now c.cut_at-cut.result block
-          c.cut_at-cut.ensures.rest (c.due.ensures.none (is_off c.due.result c.if-not-due.true) small.0
-          (omega (arith, ap length block, small.1)))),
+      (part_none f (length flash) (length was) (way_size f image was flash k.way) image c.stock_for.result c.stock_for.ensures.block
+          c.cut_at-cut.result c.cut_at-cut.ensures.stock c.cut_at-cut.ensures.rest small.1
+          (c.due.ensures.none (is_off c.due.result c.if-not-due.true) small.0)),
     )
 
 pub returns-then-not-is_sound-clause-goes : goal.returns-then-not-is_sound-clause-goes
@@ -40,12 +37,9 @@ returns-then-not-is_sound-clause-goes c = λ was k.
     let f = c.args.self.now in
     let image = c.args.image.now in
     let yes = is_true c.due.result c.if-not-due.false in
-    let block = ap (λ (s : Stock). s.block.now) c.cut_at-cut.ensures.stock ∙ c.stock_for.ensures.block in
-    let found = part_found c.args.self.now (length c.args.flash.now) c.args.self.now.done c.args.image.now c.cut_at-cut.result block
-    c.cut_at-cut.ensures.rest (step_of c.due.new.cut) (c.due.ensures.found yes) in
     let q = step_of c.due.new.cut in
-    let part : IsPiece (part_left f (length was) image) f.done q =
-    subst (λ (n : ℕ). IsPiece (part_left f n image) f.done q) (way_size f image was c.args.flash.now k.way) found in
+    let part = part_found f (length c.args.flash.now) (length was) (way_size f image was c.args.flash.now k.way) image c.stock_for.result
+    c.stock_for.ensures.block c.cut_at-cut.result c.cut_at-cut.ensures.stock c.cut_at-cut.ensures.rest q (c.due.ensures.found yes) in
     is_false c.is_sound.result c.if-not-is_sound.true
     ((c.is_sound.ensures (drop c.due.new.cut.from (zeroed c.due.new.cut.source c.due.new.cut.stock c.due.new.cut.front))).1
     (way_sound f image was c.args.flash.now k.way q (in_left f (length was) image f.done q part)))
@@ -55,12 +49,9 @@ returns-then-piece-flash-clause-goes c = λ was k.
     let f = c.args.self.now in
     let image = c.args.image.now in
     let yes = is_true c.due.result c.if-not-due.false in
-    let block = ap (λ (s : Stock). s.block.now) c.cut_at-cut.ensures.stock ∙ c.stock_for.ensures.block in
-    let found = part_found c.args.self.now (length c.args.flash.now) c.args.self.now.done c.args.image.now c.cut_at-cut.result block
-    c.cut_at-cut.ensures.rest (step_of c.due.new.cut) (c.due.ensures.found yes) in
     let q = step_of c.due.new.cut in
-    let part : IsPiece (part_left f (length was) image) f.done q =
-    subst (λ (n : ℕ). IsPiece (part_left f n image) f.done q) (way_size f image was c.args.flash.now k.way) found in
+    let part = part_found f (length c.args.flash.now) (length was) (way_size f image was c.args.flash.now k.way) image c.stock_for.result
+    c.stock_for.ensures.block c.cut_at-cut.result c.cut_at-cut.ensures.stock c.cut_at-cut.ensures.rest q (c.due.ensures.found yes) in
     omega (
       arith,
       c.if-piece-flash.true,

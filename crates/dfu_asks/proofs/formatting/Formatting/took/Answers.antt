@@ -1,8 +1,6 @@
-use Rattle.std.proofs.Common.{◌≡◌, ℕ, ◌+◌, ◌≤◌, length, slice_range, sym, ◌∙◌, ap, subst, arith}
+use Rattle.std.proofs.Common.{◌≡◌, ◌+◌, ◌≤◌, length, slice_range, sym, ◌∙◌, ap, subst, arith}
 use Rattle.dfu_slots.specs.declared.fault.WriteFault.TheVariants.{Failed, NotVerified}
-use Rattle.dfu_asks.specs.Steps.{Step, step_writes}
-use Rattle.dfu_asks.specs.Carried.{total, IsPiece}
-use Rattle.dfu_asks.specs.declared.piece.Stock.{Stock}
+use Rattle.dfu_asks.specs.Steps.{Step}
 use Rattle.dfu_asks.specs.Cuts.{step_of}
 use Rattle.dfu_asks.specs.Phases.{steps_left, part_left}
 use Rattle.dfu_asks.specs.Formats.{format_well, format_failed, format_lied}
@@ -23,13 +21,10 @@ returns-then-not-stands-clause-outcome c = λ was before asks p piece torn.
     let image = c.args.image.now in
     let flash = c.args.flash.now in
     let yes = is_true c.due.result c.if-not-due.false in
-    let block = ap (λ (s : Stock). s.block.now) c.cut_at-cut.ensures.stock ∙ c.stock_for.ensures.block in
-    let found = part_found c.args.self.now (length c.args.flash.now) c.args.self.now.done c.args.image.now c.cut_at-cut.result block
-    c.cut_at-cut.ensures.rest (step_of c.due.new.cut) (c.due.ensures.found yes) in
     let q = step_of c.due.new.cut in
     let size : length flash ≡ length was = torn.size ∙ way_size f image was before asks.way in
-    let part : IsPiece (part_left f (length was) image) f.done q =
-    subst (λ (n : ℕ). IsPiece (part_left f n image) f.done q) size found in
+    let part = part_found f (length flash) (length was) size image c.stock_for.result c.stock_for.ensures.block c.cut_at-cut.result
+    c.cut_at-cut.ensures.stock c.cut_at-cut.ensures.rest q (c.due.ensures.found yes) in
     let one : p ≡ q = piece_one (steps_left f (length was) image) f.done p q piece (in_left f (length was) image f.done q part) in
     format_lied c.if-failed.false
     (λ st. is_false c.stands.result c.if-not-stands.true
@@ -43,14 +38,11 @@ returns-clause-outcome c = λ was before asks p piece torn.
     let image = c.args.image.now in
     let flash = c.args.flash.now in
     let yes = is_true c.due.result c.if-not-due.false in
-    let block = ap (λ (s : Stock). s.block.now) c.cut_at-cut.ensures.stock ∙ c.stock_for.ensures.block in
-    let found = part_found c.args.self.now (length c.args.flash.now) c.args.self.now.done c.args.image.now c.cut_at-cut.result block
-    c.cut_at-cut.ensures.rest (step_of c.due.new.cut) (c.due.ensures.found yes) in
     let q = step_of c.due.new.cut in
     let n = c.due.new.cut.piece.len in
     let size : length flash ≡ length was = torn.size ∙ way_size f image was before asks.way in
-    let part : IsPiece (part_left f (length was) image) f.done q =
-    subst (λ (n : ℕ). IsPiece (part_left f n image) f.done q) size found in
+    let part = part_found f (length flash) (length was) size image c.stock_for.result c.stock_for.ensures.block c.cut_at-cut.result
+    c.cut_at-cut.ensures.stock c.cut_at-cut.ensures.rest q (c.due.ensures.found yes) in
     let one : p ≡ q = piece_one (steps_left f (length was) image) f.done p q piece (in_left f (length was) image f.done q part) in
     let on = is_true c.stands.result c.if-not-stands.false in
     let there : slice_range flash p.write.at (p.write.at + length p.write.bytes) ≡ p.write.bytes =
@@ -71,12 +63,10 @@ returns-then-not-due-clause-taken c = λ was before same asks.
     let image = c.args.image.now in
     let small = way_small f image was before asks.way in
     let size : length c.args.flash.now ≡ length was = sym same ∙ way_size f image was before asks.way in
-    let block = ap (λ (s : Stock). s.block.now) c.cut_at-cut.ensures.stock ∙ c.stock_for.ensures.block in
     omega (
       arith,
       asks.left,
-      ap (λ (n : ℕ). total (step_writes (part_left f n image))) size,
-      (part_none c.args.self.now (length c.args.flash.now) c.args.self.now.done c.args.image.now c.cut_at-cut.result block
-          c.cut_at-cut.ensures.rest (c.due.ensures.none (is_off c.due.result c.if-not-due.true) (omega (arith, small.0, same))
-          (omega (arith, ap length block, small.1)))),
+      (part_none f (length c.args.flash.now) (length was) size image c.stock_for.result c.stock_for.ensures.block c.cut_at-cut.result
+          c.cut_at-cut.ensures.stock c.cut_at-cut.ensures.rest small.1
+          (c.due.ensures.none (is_off c.due.result c.if-not-due.true) (omega (arith, small.0, same)))),
     )

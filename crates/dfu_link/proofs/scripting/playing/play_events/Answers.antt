@@ -1,7 +1,7 @@
 use Rattle.std.proofs.Common.{◌≡◌, ◌∙◌, ℕ, List, [], ◌∷◌, refl, ap}
 use Rattle.dfu_host.specs.declared.limits.Limits.{Limits}
 use Rattle.dfu_sim.specs.Happening.{Happening, Fate, Harm, Offers, Goes, harmed, fate_of, harm_in}
-use Rattle.dfu_sim.specs.declared.aim.Aim.{Aim}
+use Rattle.dfu_sim.specs.declared.purpose.Purpose.{Purpose}
 use Rattle.dfu_link.specs.Said.{Offer, Upload, Abort, Go, Time, Reset, Cut, Refuse, given_bytes, hex_bytes, offered_bytes, harm_fate, said_by, tear_bytes}
 use Rattle.dfu_link.specs.inside.Moving.{file_bytes}
 use Rattle.dfu_link.specs.declared.scripting.line.EventLine.{EventLine}
@@ -10,10 +10,11 @@ use Rattle.dfu_link.proofs.StepLaws.{line_acts}
 use Rattle.dfu_link.proofs.scripting.playing.play_events.Goals as goal
 
 -- An offer of these bytes is the only event.
-same_offer : {event : Happening} {aim : Aim} {file text : List ℕ} {limits : Limits} → event ≡ Offers aim file limits → file ≡ text
-    → event ∷ [] ≡ Offers aim text limits ∷ []
-same_offer {aim = aim} {limits = limits} is same =
-    ap (λ (e : Happening). e ∷ []) (is ∙ ap (λ (f : List ℕ). Offers aim f limits) same)
+same_offer : {event : Happening} {purpose : Purpose} {file text : List ℕ} {limits : Limits} → event ≡ Offers purpose file limits
+    → file ≡ text
+    → event ∷ [] ≡ Offers purpose text limits ∷ []
+same_offer {purpose = purpose} {limits = limits} is same =
+    ap (λ (e : Happening). e ∷ []) (is ∙ ap (λ (f : List ℕ). Offers purpose f limits) same)
 
 -- An action that is harmed so is the only event.
 same_harm : {fate given : Fate} {harm : Harm} {writes : ℕ} {tear text : List ℕ} → fate ≡ given → harm ≡ harmed writes tear → tear ≡ text
@@ -22,9 +23,9 @@ same_harm {given = given} {harm = harm} {writes = writes} is how same = ap (λ (
     ∙ ap (λ (h : Harm). Goes given h ∷ []) (how ∙ ap (λ (t : List ℕ). harmed writes t) same)
 
 pub returns-in-Offer : goal.returns-in-Offer
-returns-in-Offer g c = line_acts (Offer c.in-Offer.aim (offered_bytes c.in-Offer.file)) (ap said_by c.in-Offer.is)
+returns-in-Offer g c = line_acts (Offer c.in-Offer.purpose (offered_bytes c.in-Offer.file)) (ap said_by c.in-Offer.is)
     (same_offer c.offered.ensures (c.requires.file ∙ ap (λ (d : EventLine). file_bytes (said_by d)) c.in-Offer.is))
-    (c.play.ensures c.args.ahead.now.check.now (offer_unchecked c.args.ahead.now.check.now c.args.world.now.bench c.offered.ensures))
+    (c.play.ensures c.args.context.now.check.now (offer_unchecked c.args.context.now.check.now c.args.world.now.bench c.offered.ensures))
 
 pub returns-in-Upload : goal.returns-in-Upload
 returns-in-Upload g c = line_acts Upload (ap said_by c.in-Upload.is) refl (c.play-in-Upload.ensures _ refl)
@@ -43,7 +44,7 @@ returns-in-GoHarmed g c =
     (c.requires.tear ∙ ap tear_bytes c.in-GoHarmed.is)) c.play_actions-in-GoHarmed.ensures
 
 pub returns-in-GoOn : goal.returns-in-GoOn
-returns-in-GoOn g c = rw c.in-GoOn.is (c.pass_on.ensures (given_bytes c.args.ahead.now.given) c.args.ahead.now.limits)
+returns-in-GoOn g c = rw c.in-GoOn.is (c.pass_on.ensures (given_bytes c.args.context.now.given) c.args.context.now.limits)
 
 pub returns-in-Time : goal.returns-in-Time
 returns-in-Time g c = line_acts (Time c.in-Time.ms) (ap said_by c.in-Time.is) refl (c.play-in-Time.ensures _ refl)

@@ -7,5 +7,6 @@ use Rattle.dfu_link.proofs.scripting.playing.play_live.Goals as goal
 pub returns-in-Offer : goal.returns-in-Offer
 returns-in-Offer g c =
     let file = offered_bytes c.in-Offer.file in
-    line_acts (Offer c.in-Offer.aim file) (ap said_by c.in-Offer.is) refl
-    (busy_plays c.args.ahead.now.check.now c.in-Offer.aim file c.args.ahead.now.limits c.requires.live c.device.ensures.active c.say_next.ensures)
+    line_acts (Offer c.in-Offer.purpose file) (ap said_by c.in-Offer.is) refl
+    (busy_plays c.args.context.now.check.now c.in-Offer.purpose file c.args.context.now.limits c.requires.live c.device.ensures.active
+    c.say_next.ensures)

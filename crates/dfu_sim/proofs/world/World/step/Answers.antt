@@ -4,20 +4,20 @@ use Rattle.dfu_sim.proofs.world.World.step.Goals as goal
 
 pub invariant_of-self : goal.invariant_of-self
 invariant_of-self g c = record {
-  steady = come_steady c.self.invariant.steady c.come-told.ensures;
+  steady = come_steady c.self.invariant.steady c.apply_event-told.ensures;
   active = rw c.slots.ensures.slots at c.capacity.ensures.image;
 }
 
 pub returns-clause-legal : goal.returns-clause-legal
 returns-clause-legal g c = rw (← c.self.view_is) (come_follow c.image_shown.ensures c.self.invariant.steady (rw c.slots.ensures.slots at c.capacity.ensures.image)
-    c.come-told.ensures)
+    c.apply_event-told.ensures)
 
 pub returns-clause-sure : goal.returns-clause-sure
-returns-clause-sure g c = rw (← c.self.view_is) (come_sure c.come-told.ensures)
+returns-clause-sure g c = rw (← c.self.view_is) (come_sure c.apply_event-told.ensures)
 
 pub returns-clause-gives : goal.returns-clause-gives
-returns-clause-gives g c = rw (← c.self.view_is) (come_gives c.self.invariant.steady c.come-told.ensures)
+returns-clause-gives g c = rw (← c.self.view_is) (come_gives c.self.invariant.steady c.apply_event-told.ensures)
 
 pub returns-clause-headline : goal.returns-clause-headline
 returns-clause-headline g c = rw (← c.self.view_is) (step_keeps _ _ _ _ (come_follow c.image_shown.ensures c.self.invariant.steady
-    (rw c.slots.ensures.slots at c.capacity.ensures.image) c.come-told.ensures))
+    (rw c.slots.ensures.slots at c.capacity.ensures.image) c.apply_event-told.ensures))

@@ -1,7 +1,6 @@
-use Rattle.std.proofs.Common.{◌≡◌, ℕ, suc, ◌-◌, [], ◌∷◌, Ok, sym, ap, ◌∙◌, subst}
+use Rattle.std.proofs.Common.{◌≡◌, ℕ, ◌-◌, [], ◌∷◌, Ok, sym, ap, ◌∙◌, subst}
 use Rattle.dfuse_file.specs.Reading.{Split, elements_at}
 use Rattle.dfuse_file.specs.Found.{found}
-use Rattle.dfuse_file.proofs.Steps.{positive}
 use Rattle.dfuse_file.proofs.WalkLaws.{none_left, element_taken, element_there}
 use Rattle.dfuse_file.proofs.elements.Elements.next_element.Goals as goal
 
@@ -13,27 +12,18 @@ returns-then-self-eq0 c =
 
 pub invariant_of-self : goal.invariant_of-self
 invariant_of-self c =
-    let b = c.self.inside.rest.now in
-    let n = c.self.inside.left - 1 in
-    let more = positive c.self.inside.left c.if-self-eq0.false in
-    let all = ap (λ (k : ℕ). elements_at k b) (sym more) ∙ c.self.invariant in
-    let t = element_taken n b c.in-Ok.split _ (sym c.take_element.ensures ∙ c.in-Ok.is) all in
-    subst (λ (q : Split). elements_at n q.rest ≡ Ok (found (elements_at n q.rest))) (sym c.split.view_is) t.rest
+    let s = c.self.inside in
+    let t = element_taken s.left s.rest.now c.in-Ok.split _ c.if-self-eq0.false (sym c.take_element.ensures ∙ c.in-Ok.is) c.self.invariant in
+    subst (λ (q : Split). elements_at (s.left - 1) q.rest ≡ Ok (found (elements_at (s.left - 1) q.rest))) (sym c.split.view_is) t.rest
 
 pub returns-in-Ok : goal.returns-in-Ok
 returns-in-Ok c =
-    let b = c.self.inside.rest.now in
-    let n = c.self.inside.left - 1 in
-    let more = positive c.self.inside.left c.if-self-eq0.false in
-    let all = ap (λ (k : ℕ). elements_at k b) (sym more) ∙ c.self.invariant in
-    let t = element_taken n b c.in-Ok.split _ (sym c.take_element.ensures ∙ c.in-Ok.is) all in
-    sym c.self.view_is ∙ (ap (λ (k : ℕ). found (elements_at k b)) more
-    ∙ subst (λ (q : Split). found (elements_at (suc n) b) ≡ q.element ∷ found (elements_at n q.rest)) (sym c.split.view_is) t.is)
+    let s = c.self.inside in
+    let t = element_taken s.left s.rest.now c.in-Ok.split _ c.if-self-eq0.false (sym c.take_element.ensures ∙ c.in-Ok.is) c.self.invariant in
+    sym c.self.view_is
+    ∙ subst (λ (q : Split). found (elements_at s.left s.rest.now) ≡ q.element ∷ found (elements_at (s.left - 1) q.rest)) (sym c.split.view_is) t.is
 
 pub returns-in-Err : goal.returns-in-Err
 returns-in-Err c =
-    let b = c.self.inside.rest.now in
-    let n = c.self.inside.left - 1 in
-    let more = positive c.self.inside.left c.if-self-eq0.false in
-    let all = ap (λ (k : ℕ). elements_at k b) (sym more) ∙ c.self.invariant in
-    absurd (element_there n b c.in-Err.field-0 _ (sym c.take_element.ensures ∙ c.in-Err.is) all)
+    let s = c.self.inside in
+    absurd (element_there s.left s.rest.now c.in-Err.field-0 _ c.if-self-eq0.false (sym c.take_element.ensures ∙ c.in-Err.is) c.self.invariant)

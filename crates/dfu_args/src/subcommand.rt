@@ -1,0 +1,99 @@
+//! What the words of a command line ask for.
+
+/// What is to be done, with the texts of the words or their defaults.
+#[derive(Debug, Drop)]
+pub enum Subcommand {
+    /// Check each file, or standard input where it is `-`.
+    Check {
+        /// Each FILE, one at least.
+        files: Vec<String>,
+        /// Whether each line is to be an object: `--json` was given.
+        json: bool,
+    },
+    /// Write a file and a suffix for it.
+    Add {
+        /// FILE.
+        file: String,
+        /// OUT.
+        to: String,
+        /// idVendor, four hexadecimal digits.
+        vid: String,
+        /// idProduct, four hexadecimal digits.
+        pid: String,
+        /// bcdDevice, four hexadecimal digits.
+        did: String,
+        /// The format of FILE; none without `--format`.
+        format: Option<String>,
+        /// The byte for gaps, two hexadecimal digits; none without `--fill`.
+        fill: Option<String>,
+    },
+    /// Write the payload of a file.
+    Extract {
+        /// FILE.
+        file: String,
+        /// OUT.
+        to: String,
+    },
+    /// Change the identifiers of a file; those without an option stay.
+    Change {
+        /// FILE.
+        file: String,
+        /// idVendor, four hexadecimal digits.
+        vid: Option<String>,
+        /// idProduct, four hexadecimal digits.
+        pid: Option<String>,
+        /// bcdDevice, four hexadecimal digits.
+        did: Option<String>,
+    },
+    /// Show the fields of bytes.
+    Show {
+        /// KIND: `functional`, `status`, `state`, `setup` or `configuration`.
+        kind: String,
+        /// Each HEX, one at least: the bytes, two hexadecimal digits each.
+        hex: Vec<String>,
+        /// Whether each line is to be an object: `--json` was given.
+        json: bool,
+    },
+    /// Run a script, or that of standard input where `script` is `-`.
+    Run {
+        /// SCRIPT.
+        script: String,
+        /// Whether each action is to be told: `--trace` was given.
+        trace: bool,
+        /// Whether each event is to be played on a board beside the device: `--board` was given.
+        board: bool,
+        /// The file that FILE stands for, or standard input where it is `-`; none without `--file`.
+        file: Option<String>,
+    },
+    /// Judge each log or capture, or that of standard input where it is `-`.
+    Judge {
+        /// Each FILE, one at least.
+        files: Vec<String>,
+        /// The number of the DFU interface, in decimal digits.
+        interface: String,
+        /// BUS.DEVICE, or `only`.
+        device: String,
+        /// Whether it is to be a device that speaks DfuSe: `--dfuse` was given.
+        dfuse: bool,
+        /// Whether each line is to be an object: `--json` was given.
+        json: bool,
+    },
+}
+
+/// A job, and how it is to be done.
+#[derive(Debug, Drop)]
+pub struct ParsedArgs {
+    /// What is to be done.
+    pub job: Subcommand,
+    /// Whether the reason of a refusal is wanted: `--explain` was given.
+    pub explain: bool,
+}
+
+/// Why the words are no job.
+#[derive(Debug, Drop)]
+pub enum JobFault {
+    /// The parser refused the words, or they ask for help: its text and its exit status.
+    Words(clap::Error),
+    /// An allocation was refused.
+    NoMemory,
+}

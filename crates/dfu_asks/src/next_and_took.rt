@@ -1,0 +1,192 @@
+//! The writes that are asked for: the next one, and how it went.
+ghost use Rattle.std.specs.Prelude.{◌≡◌, ◌≢◌, ◌+◌, ◌≤◌, ◌<◌, ◌^◌, ◌↔◌, ℕ, List, length, Some, IfOk, IfErr, IfSome, IfNone, OnOk, OnErr, IsTrue, not, ◌&&◌, if◌then◌else◌};
+ghost use Rattle.dfu_slots.specs.declared.fault.WriteFault.TheVariants.{Failed, NotVerified};
+ghost use Rattle.dfu_slots.specs.Medium.{Torn};
+ghost use Rattle.dfu_slots.specs.Image.{Active};
+ghost use Rattle.dfu_slots.specs.Seen.{SlotsState};
+ghost use Rattle.dfu_asks.specs.Mapped.{grain_of, mapped, IsInSpare, IsHeldBack};
+ghost use Rattle.dfu_asks.specs.Steps.{Step};
+ghost use Rattle.dfu_asks.specs.Carried.{IsPiece, ErasesWhole};
+ghost use Rattle.dfu_asks.specs.Jobs.{asked, IsFit};
+ghost use Rattle.dfu_asks.specs.Lent.{lent, HasRoom, IsSetUpAs};
+ghost use Rattle.dfu_asks.specs.Asks.{grain_in, steps_in, device_of};
+ghost use Rattle.dfu_asks.specs.Calls.{AsksWrites, DeviceTook, AsksOn, HasAtMost};
+ghost use Rattle.dfu_asks.specs.Refused.{IsLeft, IsNotTaken, IsTaken};
+ghost use Rattle.dfu_asks.specs.declared.pending_writes.PendingWrites.{PendingWrites};
+
+use crate::cut::{cut_at, fill};
+use crate::next_piece::next_piece;
+use crate::position::behind_edge;
+use crate::{Asking, FlashOp, Mapped, PendingWrites, Refusal, Reply, Sector};
+use dfu_slots::laws::active_image_is_one;
+use dfu_slots::{OPEN_GATE, Unit, WriteFault, check};
+
+// Whether a range lies within the spare slot of this flash.
+fn is_spare(flash: &[u8], unit: Unit, sector: Sector, at: u64, len: u64) -> bool
+    requires small { at + len < 2 ^ 44 }
+    requires some { 0 < len }
+    ensures yes { let m = mapped (grain_of unit sector) flash.now in
+        IsTrue result → (image : List ℕ) → Active m image → IsInSpare m at len }
+    ensures inside { IsTrue result → at + len ≤ length flash.now }
+    ensures no { IsTrue (not result) → IsHeldBack (mapped (grain_of unit sector) flash.now) at len }
+{
+    let half = flash.len() as u64 / 2;
+    let slot = if at < half { 0 } else { half };
+    if at + len > slot + half {
+        return false;
+    }
+    if flash[slot as usize] != OPEN_GATE {
+        return true;
+    }
+    let Some(medium) = Mapped::with_sector(flash, unit, sector) else {
+        return false;
+    };
+    match check(&medium) {
+        Ok(places) => u64::from(places.spare) == slot,
+        Err(_) => {
+            // Called for its clause `refused`.
+            active_image_is_one();
+            false
+        }
+    }
+}
+
+/// Whether a piece programs, or erases one whole sector.
+pub(crate) fn is_sound(sector: Sector, piece: FlashOp) -> bool
+    requires some { 0 < piece.len }
+    requires small { piece.at < 2 ^ 43 }
+    ensures { (bytes : List ℕ) → IsTrue result ↔ ErasesWhole sector.size (asked piece bytes) }
+{
+    if !piece.erases {
+        return true;
+    }
+    let size = sector.size();
+    size > 0 && piece.len == size as usize && behind_edge(size, piece.at) == 0
+}
+
+// Whether a piece did not fail, and stands on the flash.
+fn went_well(failed: bool, stands: bool) -> bool
+    ensures { result ≡ not failed && stands }
+{
+    !failed && stands
+}
+
+// The fault of a piece that failed, or that does not stand on the flash.
+fn fault_of(failed: bool) -> WriteFault
+    ensures { result ≡ (if failed then Failed else NotVerified) }
+{
+    if failed {
+        WriteFault::Failed
+    } else {
+        WriteFault::NotVerified
+    }
+}
+
+impl Asking {
+    /// The next piece that is asked for: at most 256 bytes to be programmed, or one sector to be erased. Whatever is kept, it lies
+    /// within the spare slot of the flash as it stands, if that has an active image. The bytes of a program stand at the front of
+    /// `out` then.
+    ///
+    /// None if no write is due, if its range does not lie so, if the slot's gate is open and no image is active, or if
+    /// what is kept would erase less than a sector. Then `out` is as it was.
+    /// It is Some if a call answered `Asks` and the pieces before this one stand on the flash.
+    pub fn next(
+        &self,
+        block: &[u8],
+        held: &[u8],
+        flash: &[u8],
+        out: &mut [u8; 256],
+    ) -> Option<FlashOp>
+        ensures piece { IfSome result (λ p. (w : PendingWrites) → self.now.work ≡ Some w →
+            IsPiece (steps_in (lent self.now block.now held.now) w) w.done (asked p out.new)) }
+        ensures most { IfSome result (λ p. IsFit self.now.sector.size p out.new) }
+        ensures sector { IfSome result (λ p. ErasesWhole self.now.sector.size (asked p out.new)) }
+        ensures spare { IfSome result (λ p. (image : List ℕ) →
+            Active (mapped (grain_in (lent self.now block.now held.now)) flash.now) image →
+            IsInSpare (mapped (grain_in (lent self.now block.now held.now)) flash.now) p.at p.len) }
+        ensures inside { IfSome result (λ p. p.at + p.len ≤ length flash.now) }
+        ensures due { IfSome result (λ p. (w : PendingWrites) × IsLeft (lent self.now block.now held.now) w) }
+        ensures none { IfNone result ((w : PendingWrites) (p : Step) → self.now.work ≡ Some w →
+            IsPiece (steps_in (lent self.now block.now held.now) w) w.done p →
+            ErasesWhole self.now.sector.size p →
+            IsHeldBack (mapped (grain_in (lent self.now block.now held.now)) flash.now) p.write.at (length p.write.bytes)) }
+        ensures unchanged { IfNone result (out.new ≡ out.old) }
+        ensures goes { IfNone result ((len : ℕ) (s : SlotsState) (was : List ℕ) →
+            ¬ AsksWrites (lent self.now block.now held.now) len s was flash.now) }
+    {
+        let work = self.work?;
+        let mut cut = cut_at(self.stock(block, held), work.done);
+        if !next_piece(work.job, &mut cut) {
+            return None;
+        }
+        let piece = cut.piece;
+        if !is_sound(self.sector, piece) {
+            return None;
+        }
+        if is_spare(flash, self.unit, self.sector, piece.at, piece.len as u64) {
+            fill(&cut, out);
+            Some(piece)
+        } else {
+            None
+        }
+    }
+
+    /// The piece that `next` gave was carried out, or it failed. It is read back on the flash: of an erase the whole sector, as FFh.
+    ///
+    /// It asks for the next piece; or the row has come to its end, and this is its answer.
+    ///
+    /// # Errors
+    ///
+    /// `NoRoom` if the buffer has less than 6 bytes; else `NoDevice` if no write is due. Nothing changed then.
+    pub fn took(
+        &mut self,
+        block: &[u8],
+        held: &mut [u8],
+        flash: &[u8],
+        failed: bool,
+        out: &mut [u8],
+    ) -> Result<Reply, Refusal>
+        requires { HasRoom self.old.unit held.old }
+        ensures outcome { IfOk result
+            (λ r. (len : ℕ) (s : SlotsState) (was before : List ℕ)
+            (asks : AsksWrites (lent self.old block.now held.old) len s was before) (p : Step) →
+            IsPiece (steps_in (lent self.old block.now held.old) asks.work) asks.work.done p →
+            Torn before p.write.at p.write.bytes flash.now →
+            DeviceTook (device_of (lent self.old block.now held.old) s) len s was p.write failed flash.now out.old
+            (lent self.new block.now held.new) out.new r) }
+        ensures on { IfOk result (λ r. (w : PendingWrites) (p : Step) → self.old.work ≡ Some w →
+            IsPiece (steps_in (lent self.old block.now held.old) w) w.done p →
+            (r ≡ Reply.Asks) ↔ AsksOn (lent self.old block.now held.old) w p.write failed flash.now) }
+        ensures further { IfOk result (λ r. r ≡ Reply.Asks → (w : PendingWrites) (p : Step) → self.old.work ≡ Some w →
+            IsPiece (steps_in (lent self.old block.now held.old) w) w.done p →
+            self.new.work ≡ Some (record w { done = w.done + length p.write.bytes })) }
+        ensures refused { IfErr result (λ e. IsNotTaken e (lent self.old block.now held.old) (length out.old)) }
+        ensures taken { OnOk result (IsTaken (lent self.old block.now held.old) (length out.old)) }
+        ensures few { IfOk result (λ r. HasAtMost 6 r) }
+        ensures same { IsSetUpAs self.old self.new }
+        ensures block { self.new.block_len ≡ self.old.block_len }
+        ensures unchanged { OnErr result ((self.new ≡ self.old) × (held.new ≡ held.old) × (out.new ≡ out.old)) }
+    {
+        if out.len() < 6 {
+            return Err(Refusal::NoRoom);
+        }
+        let Some(work) = self.work else {
+            return Err(Refusal::NoDevice);
+        };
+        let (len, stands) = self.look_at(&work, block, held, flash);
+        if len == 0 {
+            return Err(Refusal::NoDevice);
+        }
+        if !went_well(failed, stands) {
+            let (answer, count) = self.fail(fault_of(failed), work.asked, flash, out);
+            return Ok(Reply::Answered(answer, count));
+        }
+        let further = PendingWrites {
+            job: work.job,
+            asked: work.asked,
+            done: work.done + len as u32,
+        };
+        self.work = Some(further);
+        Ok(self.advance(block, held, flash, out))
+    }
+}

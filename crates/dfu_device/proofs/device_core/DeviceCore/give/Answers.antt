@@ -1,0 +1,30 @@
+use Rattle.std.proofs.Common.{◌≡◌, List, ℕ, min, refl, sym, ◌∙◌, ap, subst, arith, take, drop}
+use Rattle.dfu_slots.specs.Seen.{image_of}
+use Rattle.dfu_device.specs.declared.answer.Answer.TheVariants as answer
+use Rattle.dfu_device.specs.Stage.{status_of}
+use Rattle.dfu_device.specs.DeviceView.{profile}
+use Rattle.dfu_device.specs.Rows.{Answers}
+use Rattle.dfu_device.specs.inside.View.{shown}
+use Rattle.dfu_device.proofs.StatusBytes.{front_fits, front_stands}
+use Rattle.dfu_device.proofs.device_core.DeviceCore.give.Goals as goal
+
+pub copy_image-requires-clause-most : goal.copy_image-requires-clause-most
+copy_image-requires-clause-most g c = omega (
+  arith,
+  c.piece_len-count.ensures.count,
+  c.requires.fits answer.Bytes (take c.in-Piece.asked (drop c.in-Piece.place (image_of c.args.self.now.slots)))
+      (rw c.in-Piece.is (refl, refl)),
+)
+
+pub returns-in-Status : goal.returns-in-Status
+returns-in-Status g c =
+    let w = shown c.args.self.now in
+    let sent = c.try_extend_from_slice in
+    let asked = c.in-Status.asked in
+    let bytes = c.status-bytes.result in
+    let count : c.min.result ≡ min asked 6 = c.min.ensures ∙ ap (λ (n : ℕ). min n 6) c.from.ensures in
+    rw c.in-Status.is (subst (λ (l : List ℕ). Answers asked (status_of (profile w) w.stage) answer.Bytes l)
+    (sym (front_stands sent.result asked c.min.result bytes c.args.out.now.items sent.new.self.items count
+    c.status-bytes.ensures.size c.requires.out
+    (sent.ensures.variant.1 (front_fits asked c.min.result bytes c.args.out.now.items count c.requires.out)) sent.ensures.ok))
+    (c.status-bytes.ensures.answers asked))

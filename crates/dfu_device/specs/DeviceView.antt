@@ -1,0 +1,54 @@
+-- What a contract sees of a device.
+use Rattle.std.specs.Prelude.{◌≡◌, ℕ, List, [], length, take}
+use Rattle.dfu_slots.specs.Medium.{MediumState}
+use Rattle.dfu_slots.specs.Seen.{SlotsState, store_on, image_of, spare_of, room_of}
+use Rattle.dfu_device.specs.Stage.{Profile, Stage, InAppIdle, InDownloadSync, InDownloadSyncWritten, InDownloadBusy, InDownloadIdle, InManifestSync, InManifest}
+use Rattle.dfu_device.specs.Setting.{Setting}
+use Rattle.dfu_device.specs.Outcome.{Situation}
+
+-- A device: what it is set up with, its slot store with the medium, and the state with what it keeps.
+pub record DeviceView : Type 0 where
+  pub config : Setting
+  pub slots : SlotsState
+  pub stage : Stage
+
+-- A device that got power: it is in appIDLE, and nothing is put on its medium.
+abbrev pub powered_on : Setting → MediumState → DeviceView
+powered_on config m = record { config = config; slots = store_on m; stage = InAppIdle }
+
+-- The profile of a device that is set up like this, with room for images of so many bytes.
+abbrev pub profile_of : Setting → ℕ → Profile
+profile_of s room = record {
+  can_download = s.functional.can_download;
+  can_upload = s.functional.can_upload;
+  tolerant = s.functional.tolerant;
+  will_detach = s.functional.will_detach;
+  detach_ms = s.functional.detach_ms;
+  transfer = s.functional.transfer;
+  least = s.least;
+  busy = s.busy_ms;
+  manifest = s.manifest_ms;
+  capacity = room;
+}
+
+-- The profile by which a device goes.
+abbrev pub profile : DeviceView → Profile
+profile w = profile_of w.config (room_of w.slots)
+
+-- The active image of a device, and its state with what it keeps.
+abbrev pub situation : DeviceView → Situation
+situation w = record { image = image_of w.slots; stage = w.stage }
+
+-- The bytes taken that are written and not yet put in place; none once manifestation is complete.
+abbrev pub written_in : Stage → List ℕ
+written_in (InDownloadSync before block number) = before
+written_in (InDownloadSyncWritten taken number) = taken
+written_in (InDownloadBusy before block number passed) = before
+written_in (InDownloadIdle taken number) = taken
+written_in (InManifestSync taken) = taken
+written_in (InManifest taken passed) = taken
+written_in stage = []
+
+-- They stand at the front of the spare slot's data.
+abbrev pub IsInSpareSlot : DeviceView → Type 0
+IsInSpareSlot w = take (length (written_in w.stage)) (spare_of w.slots) ≡ written_in w.stage

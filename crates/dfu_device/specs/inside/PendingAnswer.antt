@@ -1,0 +1,57 @@
+-- An answer before its bytes stand in a buffer.
+use Rattle.std.specs.Prelude.{◌≡◌, ℕ, List, ◌++◌, length, take, drop}
+use Rattle.dfu_wire.specs.declared.requests.Request.{Request as Asked}
+use Rattle.dfu_slots.specs.Seen.{image_of}
+use Rattle.dfu_device.specs.declared.answer.Answer.{Answer}
+use Rattle.dfu_device.specs.declared.pending_answer.PendingAnswer.{PendingAnswer}
+use Rattle.dfu_device.specs.declared.pending_answer.PendingAnswer.TheVariants as pending_answer
+use Rattle.dfu_device.specs.declared.reply.Reply.{Reply as ReplyRead}
+use Rattle.dfu_device.specs.declared.reply.Reply.TheVariants as reply
+use Rattle.dfu_device.specs.Stage.{Reply, Ack, Data, StateOf, Stall, state_of, status_of}
+use Rattle.dfu_device.specs.Table.{Plan}
+use Rattle.dfu_device.specs.DeviceView.{DeviceView, profile}
+use Rattle.dfu_device.specs.Rows.{Answers, Done, ServesRequest, Handles}
+
+-- The pending answer of a reply, where so many bytes are asked for.
+abbrev pub pending_answer_of : (asked : ℕ) → ReplyRead → PendingAnswer
+pending_answer_of asked reply.Ack = pending_answer.Ack
+pending_answer_of asked reply.Status = pending_answer.Status asked
+pending_answer_of asked reply.State = pending_answer.State asked
+pending_answer_of asked reply.Stall = pending_answer.Stall
+
+-- The reply that a pending answer is, of a device that has gone on.
+abbrev pub reply_of : PendingAnswer → DeviceView → Reply
+reply_of pending_answer.Ack w = Ack
+reply_of (pending_answer.Status asked) w = status_of (profile w) w.stage
+reply_of (pending_answer.State asked) w = StateOf (state_of w.stage)
+reply_of (pending_answer.Piece place asked) w = Data (take asked (drop place (image_of w.slots)))
+reply_of pending_answer.Stall w = Stall
+
+-- How many bytes of a status or of a state it was asked for.
+abbrev pub asked_of : PendingAnswer → ℕ
+asked_of (pending_answer.Status asked) = asked
+asked_of (pending_answer.State asked) = asked
+asked_of d = 0
+
+-- An answer with its bytes says what the pending answer says.
+abbrev pub AnswersPending : PendingAnswer → DeviceView → Answer → List ℕ → Type 0
+AnswersPending d w a out = Answers (asked_of d) (reply_of d w) a out
+
+-- A plan was carried out, but for its reply, which is drafted.
+abbrev pub DonePending : Plan → ℕ → DeviceView → PendingAnswer → DeviceView → Type 0
+DonePending p len w d w' = (a : Answer) (out : List ℕ) → AnswersPending d w' a out → Done p len w a out w'
+
+-- The row of a request that goes by the table, with its answer drafted.
+abbrev pub ServedPending : Asked → List ℕ → DeviceView → PendingAnswer → DeviceView → Type 0
+ServedPending q body w d w' = (a : Answer) (out : List ℕ) → AnswersPending d w' a out → ServesRequest q body w a out w'
+
+-- The row of a setup with its body, with its answer drafted.
+abbrev pub HandledPending : List ℕ → List ℕ → DeviceView → PendingAnswer → DeviceView → Type 0
+HandledPending setup body w d w' = (a : Answer) (out : List ℕ) → AnswersPending d w' a out → Handles setup body w a out w'
+
+-- The bytes of a pending answer stand at the front of a buffer.
+pub record GavePending (d : PendingAnswer) (w : DeviceView) (a : Answer) (count : ℕ) (out out' : List ℕ) : Type 0 where
+  pub sent : List ℕ
+  pub says : AnswersPending d w a sent
+  pub count_is : count ≡ length sent
+  pub out_is : out' ≡ sent ++ drop count out

@@ -1,0 +1,154 @@
+//! The core of a device.
+
+ghost use Rattle.std.specs.Prelude.{◌≡◌, ◌≢◌, ◌<◌, ◌≤◌, ◌==◌, ◌^◌, length, ℕ, List, IsTrue, [], ◌↔◌, not};
+ghost use Rattle.dfu_slots.specs.Seen.{image_of, room_of};
+ghost use Rattle.dfu_device.specs.Stage.{InAppIdle, InError, state_of, code_of};
+ghost use Rattle.dfu_device.specs.Table.{reset_stage, objection_code, refuse_stage};
+ghost use Rattle.dfu_device.specs.DeviceView.{DeviceView, profile, powered_on};
+ghost use Rattle.dfu_device.specs.Parts.{is_sound};
+ghost use Rattle.dfu_device.specs.Rows.{Handles, Elapses, ClosesDownload};
+ghost use Rattle.dfu_device.specs.Borrowed.{answer_room};
+ghost use Rattle.dfu_device.specs.Decision.{profile_in, HasLength};
+ghost use Rattle.dfu_device.specs.inside.PendingAnswer.{AnswersPending, ServedPending, HandledPending};
+
+use crate::block::Block;
+use crate::device_state::DeviceState;
+use crate::pending_answer::PendingAnswer;
+use crate::profile::Profile;
+use crate::rules::{asked_length, goes_with, is_close};
+use crate::table::decide;
+use crate::time_table::decide_time;
+use crate::{Answer, Config, Objection};
+use dfu_slots::{Medium, Slots};
+use dfu_wire::{Code, Request, Setup, State};
+
+/// The core of a device: what is fixed, the slot store, the state, and the block that is not
+/// written yet.
+#[derive(Drop)]
+pub struct DeviceCore<M: Medium, B: Block> {
+    pub config: Config,
+    pub slots: Slots<M>,
+    pub mode: DeviceState,
+    pub block: B,
+    ghost sound: { IsTrue (is_sound mode (length (B.items block)) slots) },
+    ghost room: { config.functional.transfer ≤ (B.memory block).room },
+}
+
+impl<M: Medium, B: Block> DeviceCore<M, B> {
+    ghost use Rattle.dfu_device.specs.inside.View.{shown};
+
+    /// A core in appIDLE.
+    pub(crate) fn start(config: Config, slots: Slots<M>, block: B) -> DeviceCore<M, B>
+        requires { config.functional.transfer ≤ (B.memory block).room }
+        ensures { shown result ≡ record { config = config; slots = slots; stage = InAppIdle } }
+    {
+        // Called for its clauses, which say that the store is shaped, as the core is to keep it.
+        let _ = slots.capacity();
+        DeviceCore {
+            config,
+            slots,
+            mode: DeviceState::AppIdle,
+            block,
+        }
+    }
+
+    /// The core starts anew in appIDLE, on its medium as it stands.
+    pub(crate) fn restart(&mut self)
+        ensures { shown self.new ≡ powered_on (shown self.old).config (shown self.old).slots.medium }
+    {
+        self.slots.reopen();
+        self.mode = DeviceState::AppIdle;
+    }
+
+    /// The state of the standard.
+    pub(crate) fn state(&self) -> State
+        ensures { result ≡ state_of (shown self.now).stage }
+    {
+        self.mode.state()
+    }
+
+    /// The status code: that of dfuERROR, and OK in every other state.
+    pub(crate) fn code(&self) -> Code
+        ensures { result ≡ code_of (shown self.now).stage }
+    {
+        self.mode.code()
+    }
+
+    /// What the table reads of it.
+    fn profile(&self) -> Profile
+        ensures profile { profile_in result ≡ profile (shown self.now) }
+        ensures capacity { result.capacity ≡ room_of self.now.slots }
+        ensures transfer { result.functional.transfer ≡ self.now.config.functional.transfer }
+    {
+        self.config.profile(u64::from(self.slots.capacity()))
+    }
+
+    /// What a setup with its body comes to: the three rules before the table, then the table.
+    pub(crate) fn pending_answer(&mut self, setup: &[u8; 8], body: &[u8]) -> PendingAnswer
+        ensures row { HandledPending setup.now body.now (shown self.old) result (shown self.new) }
+        ensures fits { (a : Answer) (sent : List ℕ) → AnswersPending result (shown self.new) a sent
+            → length sent ≤ answer_room self.old.config }
+        ensures memory { B.memory self.new.block ≡ B.memory self.old.block }
+    {
+        let setup = Setup::decode(setup);
+        let request = setup.request();
+        match request {
+            Request::NotDfu => PendingAnswer::Stall,
+            request => {
+                if !goes_with(&setup, body) {
+                    return PendingAnswer::Stall;
+                }
+                self.serve(request, body)
+            }
+        }
+    }
+
+    /// A request of the class whose body fits: its row of the table.
+    fn serve(&mut self, request: Request, body: &[u8]) -> PendingAnswer
+        requires fits { HasLength request body.now }
+        ensures row { ServedPending request body.now (shown self.old) result (shown self.new) }
+        ensures memory { B.memory self.new.block ≡ B.memory self.old.block }
+    {
+        let decision = decide(&self.profile(), self.mode, request);
+        self.carry_out(decision, asked_length(request), body)
+    }
+
+    /// So many milliseconds pass.
+    pub(crate) fn elapse(&mut self, ms: u32)
+        ensures row { Elapses ms (shown self.old) (shown self.new) }
+        ensures memory { B.memory self.new.block ≡ B.memory self.old.block }
+    {
+        let decision = decide_time(&self.profile(), self.mode, ms);
+        let _ = self.carry_out(decision, 0, &[]);
+    }
+
+    /// The bus is reset.
+    pub(crate) fn usb_reset(&mut self)
+        ensures row { shown self.new ≡ record (shown self.old) { stage = reset_stage (shown self.old).stage } }
+        ensures memory { B.memory self.new.block ≡ B.memory self.old.block }
+    {
+        self.mode = self.mode.after_reset();
+    }
+
+    /// The program refuses the image that this setup closes, if it closes one.
+    pub(crate) fn refuse_close(&mut self, setup: &[u8; 8], objection: Objection) -> bool
+        ensures closes { IsTrue result ↔ ClosesDownload setup.now (shown self.old) }
+        ensures row { IsTrue result → shown self.new ≡ record (shown self.old) { stage = InError (objection_code objection) } }
+        ensures unchanged { IsTrue (not result) → shown self.new ≡ shown self.old }
+        ensures memory { B.memory self.new.block ≡ B.memory self.old.block }
+    {
+        if !self.mode.may_close(self.config.least()) || !is_close(setup) {
+            return false;
+        }
+        self.mode = DeviceState::after_refused_close(objection);
+        true
+    }
+
+    /// The program refuses the image that was closed.
+    pub(crate) fn refuse(&mut self, objection: Objection)
+        ensures row { shown self.new ≡ record (shown self.old) { stage = refuse_stage objection (shown self.old).stage } }
+        ensures memory { B.memory self.new.block ≡ B.memory self.old.block }
+    {
+        self.mode = self.mode.after_refusal(objection);
+    }
+}

@@ -1,0 +1,118 @@
+//! Where OUT leads: the file that is to be made or replaced.
+
+use std::alloc::{AllocError, Global};
+use std::fs::{self, Metadata};
+use std::io::{self, ErrorKind};
+use std::os::unix::fs::MetadataExt;
+use std::rt::Files;
+
+/// How many symbolic links are followed, as by Linux.
+const MAX_LINKS: u32 = 40;
+
+/// How often OUT is looked at while somebody else replaces it.
+const MAX_LOOKS: u32 = 10;
+
+/// The name of a file, which is no link, and what stands there.
+#[derive(Drop)]
+pub(crate) struct Destination {
+    pub name: String,
+    /// A regular file, or nothing.
+    pub file: Option<Metadata>,
+}
+
+/// The name of another file in the folder of the one with this name.
+pub(crate) fn beside(alloc: Global, name: &str, other: &str) -> Result<String, AllocError> {
+    let mut text = String::new(alloc);
+    if let Some((folder, _)) = name.rsplit_once('/') {
+        text.push_str(folder)?;
+        text.push_str("/")?;
+    }
+    text.push_str(other)?;
+    Ok(text)
+}
+
+/// What a look found; nothing is no fault.
+fn found(look: io::Result<Metadata>) -> io::Result<Option<Metadata>> {
+    match look {
+        Ok(file) => Ok(Some(file)),
+        Err(error) => {
+            if error.kind() == ErrorKind::NotFound {
+                Ok(None)
+            } else {
+                Err(error)
+            }
+        }
+    }
+}
+
+fn is_link(file: &Option<Metadata>) -> bool {
+    match file {
+        Some(file) => file.is_symlink(),
+        None => false,
+    }
+}
+
+/// The name that the link with this name leads to.
+fn next_name<R: Files + AllocGlobal>(rt: &R, link: &str) -> io::Result<String> {
+    let text = fs::read_link(rt, link)?;
+    let next = text.as_path().as_str();
+    if next.starts_with('/') {
+        return Ok(String::from_str(rt.alloc(), next)?);
+    }
+    Ok(beside(rt.alloc(), link, next)?)
+}
+
+/// The place at the end of the links, if OUT is one.
+fn followed<R: Files + AllocGlobal>(rt: &R, out: &str) -> io::Result<Destination> {
+    let mut name = String::from_str(rt.alloc(), out)?;
+    for _ in 0..=MAX_LINKS {
+        let file = found(fs::symlink_metadata(rt, name.as_str()))?;
+        if !is_link(&file) {
+            return Ok(Destination { name, file });
+        }
+        name = next_name(rt, name.as_str())?;
+    }
+    Err(io::Error::from(ErrorKind::FilesystemLoop))
+}
+
+/// Whether what a look found can be OUT's place.
+fn may_be(file: &Option<Metadata>) -> bool {
+    match file {
+        Some(file) => file.is_file(),
+        None => true,
+    }
+}
+
+/// Whether both looks found nothing, or both the same file.
+fn is_same(look: &Option<Metadata>, other: &Option<Metadata>) -> bool {
+    match (look, other) {
+        (None, None) => true,
+        (Some(file), Some(again)) => file.dev() == again.dev() && file.ino() == again.ino(),
+        _ => false,
+    }
+}
+
+/// The place that OUT leads to.
+///
+/// # Errors
+///
+/// It is no regular file, the links go round, or a look fails; or somebody else replaces it again
+/// and again.
+pub(crate) fn place_of<R: Files + AllocGlobal>(rt: &R, out: &str) -> io::Result<Destination> {
+    // The system's own look comes first, since it may refuse to follow a link that someone else
+    // made; the place has to be what that look found. Where it isn't, OUT may have been replaced
+    // between the two, and is looked at anew.
+    for _ in 0..MAX_LOOKS {
+        let seen = found(fs::metadata(rt, out))?;
+        let place = followed(rt, out)?;
+        if !may_be(&seen) || !may_be(&place.file) {
+            let why = "it is no regular file, and leads to none";
+            return Err(io::Error::new(ErrorKind::InvalidInput, why));
+        }
+        if is_same(&seen, &place.file) {
+            return Ok(place);
+        }
+    }
+    let why = "somebody else replaces it again and again";
+    Err(io::Error::new(ErrorKind::InvalidInput, why))
+}

@@ -1,0 +1,108 @@
+//! A new file beside the one that it is to replace.
+
+ghost use Rattle.std.specs.Prelude.{◌≡◌, ◌*◌, true, false, bit_and, bit_or};
+
+use crate::destination::{Destination, beside, place_of};
+use crate::owner::Owned;
+use std::alloc::{AllocError, Global};
+use std::fs::{self, Metadata, OpenFile, OpenOptions, Permissions};
+use std::io::{self, ErrorKind};
+use std::os::unix::fs::{MetadataExt, OpenOptionsExt, PermissionsExt};
+use std::rt::Files;
+
+/// How many names are tried for the part.
+const MAX_PARTS: u32 = 1000;
+
+/// A new file beside the one that it is to replace.
+#[derive(Drop)]
+pub(crate) struct TempFile<F> {
+    name: String,
+    place: Destination,
+    pub file: F,
+}
+
+/// The rights of a new file before the system's mask; where it replaces a file, its own user's
+/// alone until it gets the rights of that.
+fn first_rights(place: &Destination) -> u32 {
+    match place.file {
+        Some(_) => 0o600,
+        None => 0o666,
+    }
+}
+
+/// The name of a part for the file with this name.
+fn part_name(alloc: Global, name: &str, number: u32) -> Result<String, AllocError> {
+    let mut part = beside(alloc, name, ".dfu-part-")?;
+    part.push_str(&number.to_string(alloc)?)?;
+    Ok(part)
+}
+
+/// Makes a file that wasn't there.
+fn new_part<R: Files + AllocGlobal>(rt: &R, place: Destination) -> io::Result<TempFile<R::File>> {
+    let mut how = OpenOptions::new();
+    how.write(true).create_new(true).mode(first_rights(&place));
+    for number in 0..MAX_PARTS {
+        let name = part_name(rt.alloc(), &place.name, number)?;
+        match how.open(rt, name.as_str()) {
+            Ok(file) => return Ok(TempFile { name, place, file }),
+            Err(error) => {
+                if error.kind() != ErrorKind::AlreadyExists {
+                    return Err(error);
+                }
+            }
+        }
+    }
+    let why = "each name from .dfu-part-0 to .dfu-part-999 is taken";
+    Err(io::Error::new(ErrorKind::AlreadyExists, why))
+}
+
+/// The rights that a file has in place of one with this mode: the same; where it has another owner
+/// and group, that group has those of all others. In octal, the masks of the clauses are 777, 707 and 7.
+pub fn rights_after(mode: u32, is_kept: bool) -> u32
+    ensures kept { is_kept ≡ true → result ≡ bit_and mode 511 }
+    ensures given { is_kept ≡ false → result ≡ bit_or (bit_and mode 455) (bit_and mode 7 * 8) }
+{
+    if is_kept {
+        return mode & 0o777;
+    }
+    let others = mode & 0o007;
+    (mode & 0o707) | (others * 8)
+}
+
+/// Gives the new file the owner, the group and the rights of the old one; the owner and the group
+/// as far as the system lets it.
+fn take_rights<F: OpenFile + Owned>(file: &F, old: &Metadata) -> io::Result<()> {
+    let is_kept = file.set_owner(old.uid(), old.gid()).is_ok();
+    let rights = rights_after(old.mode(), is_kept);
+    file.set_permissions(Permissions::from_mode(rights))
+}
+
+/// Takes a part away, as far as the system lets it.
+pub(crate) fn remove<R: Files>(rt: &R, part: &TempFile<R::File>) {
+    let _ = fs::remove_file(rt, part.name.as_str());
+}
+
+/// Makes the part for OUT, which has its rights before it has any byte.
+pub(crate) fn begin<R: Files + AllocGlobal>(rt: &R, out: &str) -> io::Result<TempFile<R::File>>
+where
+    R::File: Owned,
+{
+    let part = new_part(rt, place_of(rt, out)?)?;
+    let ready = match &part.place.file {
+        Some(old) => take_rights(&part.file, old),
+        None => Ok(()),
+    };
+    match ready {
+        Ok(()) => Ok(part),
+        Err(error) => {
+            remove(rt, &part);
+            Err(error)
+        }
+    }
+}
+
+/// Puts the part on the disk, and then in its place.
+pub(crate) fn put<R: Files>(rt: &R, part: &TempFile<R::File>) -> io::Result<()> {
+    part.file.sync_all()?;
+    fs::rename(rt, part.name.as_str(), part.place.name.as_str())
+}

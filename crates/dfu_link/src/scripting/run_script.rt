@@ -1,0 +1,173 @@
+//! Whole scripts.
+
+ghost use Rattle.std.specs.Prelude.{IfOk, IfErr, IfSome};
+ghost use Rattle.dfu_link.specs.Said.{given_bytes};
+ghost use Rattle.dfu_link.specs.Falls.{Ended};
+ghost use Rattle.dfu_link.specs.Printed.{HasPrinted};
+ghost use Rattle.dfu_link.specs.inside.Moving.{LinesConfigured, CannotConfigure};
+ghost use Rattle.dfu_link.specs.inside.SetupView.{settings_of};
+
+use crate::beside::Beside;
+use crate::scripting::expectation::ScriptContext;
+use crate::scripting::fault::ScriptFault;
+use crate::scripting::line::Line;
+use crate::scripting::reading::{note_line, parse};
+use crate::scripting::run_events::run_on;
+use crate::scripting::script_config::{ScriptConfig, beginning, check_in, set, set_limits};
+use crate::scripting::source::Source;
+use crate::scripting::starting::start;
+use crate::seen::Stopped;
+use crate::tracer::{NoTrace, TraceWriter, Tracer};
+use dfu_host::Limits;
+use dfu_sim::laws::image_shown;
+use dfu_slots::SimMedium;
+use std::alloc::Global;
+use std::io::{Read, Write};
+
+/// Does the lines up to the first event line or `show`, and tells whether there is one.
+fn configure<R: Read + Drop>(
+    alloc: Global,
+    setup: &mut ScriptConfig<'_>,
+    source: &mut Source<R>,
+    stopped: &Stopped,
+) -> Result<bool, ScriptFault>
+    ensures ok { IfOk result (λ more. LinesConfigured (settings_of setup.old) source.old (settings_of setup.new) more source.new) }
+    ensures fault { IfErr result (λ f. CannotConfigure (settings_of setup.old) source.old f) }
+{
+    'settings: loop {
+        if !source.next()? {
+            return Ok(false);
+        }
+        match parse(setup.given, source.line()) {
+            None => {
+                note_line(stopped, setup.given, source.line());
+                return Err(ScriptFault::BadLine(source.number()));
+            }
+            Some(Line::Blank) => {}
+            Some(Line::Set(setting)) => set(alloc, setup, setting, source.number())?,
+            Some(Line::Limits { actions, restarts }) => {
+                set_limits(setup, Limits { actions, restarts });
+            }
+            Some(Line::Do(_)) => return Ok(true),
+            Some(Line::Show) => return Ok(true),
+            Some(Line::Expect(_)) => return Ok(true),
+        }
+    }
+}
+
+/// Runs what a reader gives, where FILE stands for these bytes, on a board beside the device too if that is wanted.
+pub(super) fn run_lines<T: Tracer<SimMedium>, R: Read + Drop, W: Write>(
+    alloc: Global,
+    given: Option<&[u8]>,
+    reader: R,
+    writer: &mut W,
+    tracer: &mut T,
+    wants_board: bool,
+    stopped: &Stopped,
+) -> Result<(), ScriptFault>
+    ensures { IfSome (R.remaining reader)
+        (λ text. Ended (given_bytes given.entry) text (W.contents writer.old) (W.contents writer.new) result) }
+{
+    let mut source = Source::new(alloc, reader)?;
+    let mut setup = beginning(given);
+    let more = configure(alloc, &mut setup, &mut source, stopped)?;
+    let device = start(alloc, &setup, stopped)?;
+    let beside = Beside::start(alloc, wants_board, &device, stopped)?;
+    let context = ScriptContext {
+        given: setup.given,
+        check: check_in(&setup),
+        limits: setup.limits,
+        next: None,
+        stopped,
+    };
+    run_on::<T, R, SimMedium, W>(
+        alloc,
+        device,
+        &mut source,
+        more,
+        beside,
+        context,
+        writer,
+        tracer,
+    )
+}
+
+/// Runs a script: reads it line by line, and does each line before the next one is read. Lines that
+/// set set up a device, event lines let events come to a link of that device and a host, and what
+/// is printed of them is written; last comes the line of the device's image.
+///
+/// In `offer` and `verify` the word FILE stands for the bytes that are given, of which nothing is
+/// copied. Where none are it is no word of the language.
+///
+/// What is wrong with the script is noted in `stopped` if it stops at BadLine or BadConfig.
+///
+/// It keeps one line, one piece of 65,536 bytes that was read, and the file of the session that is
+/// live, however long the text is.
+///
+/// # Errors
+///
+/// `ScriptFault` has them. The first one in the order of the lines is answered, and the text of the
+/// lines before it is out whole. TooLarge comes where the byte 16,777,217 comes before the end of a
+/// line, and before the byte of that line that is one too many; no read is made after that byte was
+/// read. Read comes at the first error of the reader, with no second try. With BadConfig nothing is
+/// written; with Write a front of the text.
+pub fn script_with<R: Read + Drop, W: Write>(
+    alloc: Global,
+    given: Option<&[u8]>,
+    reader: R,
+    writer: &mut W,
+    stopped: &Stopped,
+) -> Result<(), ScriptFault>
+    // With Ok what was written is a run of what was read; with a fault, which one comes when, and what is out then.
+    ensures ended { IfSome (R.remaining reader)
+        (λ text. Ended (given_bytes given.entry) text (W.contents writer.old) (W.contents writer.new) result) }
+    // The headline, of all that is printed or as far as the script goes: each image is the factory image or a payload offered so far, and
+    // where `report installed` or `report verified` is printed, the device is in appIDLE and exactly the payload of the last session is
+    // active. Of the language only what a line brings is read.
+    ensures printed { IfSome (R.remaining reader)
+        (λ text. HasPrinted (given_bytes given.entry) text (W.contents writer.old) (W.contents writer.new) result) }
+{
+    // Called for its law, which `printed` needs: no image but the one that is shown is active.
+    image_shown();
+    run_lines::<NoTrace, R, W>(alloc, given, reader, writer, &mut NoTrace, false, stopped)
+}
+
+/// Runs a script as `script_with` does, and writes a line for each action of the host to `trace`, before what
+/// is printed of it: the number of the action, the phase of the host, what it asks for, the fate, what the
+/// device answers, the state of the device before and after, the writes of the medium, and the milliseconds
+/// since the start, once it is over. Such a line begins with `# `, and no line of `script_with` begins with `#`.
+/// It answers beside the result whether each line of the trace is out.
+///
+/// It takes memory for one line of the trace at a time. Where there is none for a line, or `trace` fails, the
+/// script goes on, and no further line is written.
+///
+/// # Errors
+///
+/// Those of `script_with`.
+pub fn script_traced_with<R: Read + Drop, W: Write, N: Write>(
+    alloc: Global,
+    given: Option<&[u8]>,
+    reader: R,
+    writer: &mut W,
+    trace: &mut N,
+    stopped: &Stopped,
+) -> (Result<(), ScriptFault>, bool)
+    ensures ended { IfSome (R.remaining reader)
+        (λ text. Ended (given_bytes given.entry) text (W.contents writer.old) (W.contents writer.new) result.0) }
+    ensures printed { IfSome (R.remaining reader)
+        (λ text. HasPrinted (given_bytes given.entry) text (W.contents writer.old) (W.contents writer.new) result.0) }
+{
+    // Called for its law, which `printed` needs: no image but the one that is shown is active.
+    image_shown();
+    let mut trace_writer = TraceWriter::new(alloc, trace);
+    let answer = run_lines::<TraceWriter<'_, N>, R, W>(
+        alloc,
+        given,
+        reader,
+        writer,
+        &mut trace_writer,
+        false,
+        stopped,
+    );
+    (answer, !trace_writer.is_broken)
+}

@@ -1,0 +1,149 @@
+//! What is set before the first event line or `show`.
+
+ghost use Rattle.std.specs.Prelude.{◌≡◌, OnOk, IfErr};
+ghost use Rattle.dfu_link.specs.Said.{config_line_of, given_bytes};
+ghost use Rattle.dfu_link.specs.ScriptRun.{set, beginning};
+ghost use Rattle.dfu_link.specs.inside.SetupView.{settings_of, check_bytes};
+
+use crate::scripting::fault::ScriptFault;
+use crate::scripting::line::{ConfigLine, Room, Sector};
+use crate::scripting::starting::bytes_of;
+use dfu_host::Limits;
+use dfu_slots::Unit;
+use dfu_wire::{Functional, Ids};
+use std::alloc::Global;
+
+/// The numbers of the lines that set something last, each 0 if none does.
+#[derive(Clone, Copy)]
+pub(crate) struct SetLines {
+    pub device: u32,
+    pub unit: u32,
+    pub sector: u32,
+    pub capacity: u32,
+    pub image: u32,
+}
+
+/// What is set: what `Config::new` takes, the unit in which the medium is written and the sectors in
+/// which it is erased, how many bytes an image may have, the image at first (the byte 00 where there
+/// is none), the bytes with which an image begins that the program takes (any where there are none),
+/// and the limits of sessions. The bytes that FILE stands for are given, and the lines that set are known by their numbers.
+#[derive(Drop)]
+pub(crate) struct ScriptConfig<'g> {
+    pub ids: Ids,
+    pub functional: Functional,
+    pub least: u32,
+    pub busy_ms: u32,
+    pub manifest_ms: u32,
+    pub unit: Unit,
+    pub sector: Sector,
+    pub room: Room,
+    pub image: Option<Vec<u8>>,
+    pub check: Option<Vec<u8>>,
+    pub limits: Limits,
+    pub given: Option<&'g [u8]>,
+    pub lines: SetLines,
+}
+
+/// What holds where no line sets anything else.
+pub(crate) fn beginning(given: Option<&[u8]>) -> ScriptConfig<'_>
+    ensures { settings_of result ≡ beginning (given_bytes given.entry) }
+{
+    ScriptConfig {
+        ids: Ids {
+            device: 0x0100,
+            product: 0x0001,
+            vendor: 0x1209,
+        },
+        functional: Functional {
+            can_download: true,
+            can_upload: true,
+            tolerant: true,
+            will_detach: false,
+            detach_ms: 255,
+            transfer: 8,
+            version: 0x0110,
+        },
+        least: 1,
+        busy_ms: 5,
+        manifest_ms: 10,
+        unit: Unit::Byte,
+        sector: Sector { bytes: 0 },
+        room: Room { bytes: 64 },
+        image: None,
+        check: None,
+        limits: Limits {
+            actions: 1_000_000,
+            restarts: 0,
+        },
+        given,
+        lines: SetLines {
+            device: 0,
+            unit: 0,
+            sector: 0,
+            capacity: 0,
+            image: 0,
+        },
+    }
+}
+
+/// Does what the configuration line with this number says. It takes memory for an image, and for the bytes of a check.
+pub(crate) fn set(
+    alloc: Global,
+    setup: &mut ScriptConfig<'_>,
+    setting: ConfigLine<'_>,
+    number: u32,
+) -> Result<(), ScriptFault>
+    ensures ok { OnOk result (settings_of setup.new ≡ set (settings_of setup.old) (config_line_of setting.entry)) }
+    ensures fault { IfErr result (λ f. f ≡ ScriptFault.NoMemory) }
+{
+    match setting {
+        ConfigLine::Ids(ids) => setup.ids = ids,
+        ConfigLine::Device {
+            functional,
+            least,
+            busy_ms,
+            manifest_ms,
+        } => {
+            setup.functional = functional;
+            setup.least = least;
+            setup.busy_ms = busy_ms;
+            setup.manifest_ms = manifest_ms;
+            setup.lines.device = number;
+        }
+        ConfigLine::Unit(unit) => {
+            setup.unit = unit;
+            setup.lines.unit = number;
+        }
+        ConfigLine::Erase(sector) => {
+            setup.sector = sector;
+            setup.lines.sector = number;
+        }
+        ConfigLine::Capacity(room) => {
+            setup.room = room;
+            setup.lines.capacity = number;
+        }
+        ConfigLine::Image(text) => {
+            setup.image = Some(bytes_of(alloc, text)?);
+            setup.lines.image = number;
+        }
+        ConfigLine::Check(text) => setup.check = Some(bytes_of(alloc, text)?),
+    }
+    Ok(())
+}
+
+/// Sets the limits of sessions.
+pub(crate) fn set_limits(setup: &mut ScriptConfig<'_>, limits: Limits)
+    ensures { settings_of setup.new ≡ record (settings_of setup.old) { limits = limits } }
+{
+    setup.limits = limits;
+}
+
+/// The bytes with which an image begins that the program takes.
+pub(crate) fn check_in<'s>(setup: &'s ScriptConfig<'_>) -> &'s [u8]
+    ensures { result.now ≡ check_bytes setup.now.check }
+{
+    match &setup.check {
+        Some(front) => front,
+        None => &[],
+    }
+}

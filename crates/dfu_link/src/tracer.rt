@@ -1,0 +1,90 @@
+//! The tracer of a run: it writes nothing, or a line for each action. It has no way to change the run,
+//! or what is printed of it.
+
+use dfu_sim::{Fate, World};
+use dfu_slots::{Faulty, SimMedium};
+use dfu_suffix::write_whole;
+use dfu_trace::{Count, Snapshot, step_line, time_of};
+use std::alloc::Global;
+use std::io::Write;
+
+/// A tracer of a run.
+pub(crate) trait Tracer<M: Faulty> {
+    /// A link before an action of its host, if a session is live.
+    fn snapshot<'f>(&self, world: &World<'f, M>) -> Option<Snapshot<'f>>;
+
+    /// Writes the action, whose fate was this, and after which the link stands so.
+    fn write_action(&mut self, before: &Snapshot<'_>, fate: Fate<'_>, world: &World<'_, M>);
+
+    /// So many milliseconds passed between two actions.
+    fn add_time(&mut self, ms: u32);
+}
+
+/// No trace is written.
+#[derive(Drop)]
+pub(crate) struct NoTrace;
+
+impl<M: Faulty> Tracer<M> for NoTrace {
+    fn snapshot<'f>(&self, _: &World<'f, M>) -> Option<Snapshot<'f>> {
+        None
+    }
+
+    fn write_action(&mut self, _: &Snapshot<'_>, _: Fate<'_>, _: &World<'_, M>) {}
+
+    fn add_time(&mut self, _: u32) {}
+}
+
+/// A trace: it writes a line for each action. Once one could not be written no further line is.
+#[derive(Drop)]
+pub(crate) struct TraceWriter<'n, N> {
+    pub writer: &'n mut N,
+    pub is_broken: bool,
+    pub count: Count,
+    pub alloc: Global,
+}
+
+impl<'n, N> TraceWriter<'n, N> {
+    /// A trace of which no line is written yet.
+    pub(crate) fn new(alloc: Global, writer: &'n mut N) -> TraceWriter<'n, N> {
+        TraceWriter {
+            writer,
+            is_broken: false,
+            count: Count { number: 0, ms: 0 },
+            alloc,
+        }
+    }
+}
+
+impl<N: Write> Tracer<SimMedium> for TraceWriter<'_, N> {
+    fn snapshot<'f>(&self, world: &World<'f, SimMedium>) -> Option<Snapshot<'f>> {
+        let (phase, action) = world.asks()?;
+        let device = world.device();
+        Some(Snapshot {
+            phase,
+            action,
+            state: device.state(),
+            writes: device.slots().medium().noted().count,
+        })
+    }
+
+    fn write_action(
+        &mut self,
+        before: &Snapshot<'_>,
+        fate: Fate<'_>,
+        world: &World<'_, SimMedium>,
+    ) {
+        self.count.number = self.count.number.wrapping_add(1);
+        self.add_time(time_of(before.action, fate));
+        if self.is_broken {
+            return;
+        }
+        self.is_broken = match step_line(self.alloc, self.count, before, fate, world) {
+            Ok(line) => write_whole(self.writer, line.as_bytes()).is_err(),
+            Err(_) => true,
+        };
+    }
+
+    fn add_time(&mut self, ms: u32) {
+        self.count.ms = self.count.ms.saturating_add(u64::from(ms));
+    }
+}

@@ -1,0 +1,29 @@
+-- What each fate comes to, as data: what is said of plays computes on it.
+use Rattle.std.specs.Prelude.{Bool, true, false, Option, Some, None}
+use Rattle.dfu_device.specs.declared.objection.Objection.{Objection}
+use Rattle.dfu_sim.specs.declared.delivery.Handled.{Handled}
+use Rattle.dfu_sim.specs.declared.delivery.Handled.TheVariants.{Unseen, Once, Again, Late}
+use Rattle.dfu_sim.specs.declared.delivery.MediumFault.{MediumFault}
+use Rattle.dfu_sim.specs.declared.delivery.MediumFault.TheVariants.{NoWrite, CutsPower, FailsWrite, LiesInWrite}
+use Rattle.dfu_sim.specs.Happening.{Fate, Pass, LostOut, LostBack, Twice, TwiceLostBack, Slip, CutIn, Fail, Lie, Refusing}
+
+-- The delivery of an action: what the device makes of a request, why its program refuses the image that the request closes, if it does,
+-- whether the answer comes back, and which write is harmed.
+pub record Delivery : Type 0 where
+  pub handling : Handled
+  pub refusing : Option Objection
+  pub back : Bool
+  pub harming : MediumFault
+
+-- The delivery of each fate.
+abbrev pub delivery_of : Fate → Delivery
+delivery_of Pass = record { handling = Once; refusing = None; back = true; harming = NoWrite }
+delivery_of LostOut = record { handling = Unseen; refusing = None; back = false; harming = NoWrite }
+delivery_of LostBack = record { handling = Once; refusing = None; back = false; harming = NoWrite }
+delivery_of Twice = record { handling = Again; refusing = None; back = true; harming = NoWrite }
+delivery_of TwiceLostBack = record { handling = Again; refusing = None; back = false; harming = NoWrite }
+delivery_of (Slip ms) = record { handling = Late ms; refusing = None; back = true; harming = NoWrite }
+delivery_of CutIn = record { handling = Once; refusing = None; back = false; harming = CutsPower }
+delivery_of Fail = record { handling = Once; refusing = None; back = true; harming = FailsWrite }
+delivery_of Lie = record { handling = Once; refusing = None; back = true; harming = LiesInWrite }
+delivery_of (Refusing why f) = record (delivery_of f) { refusing = Some why }
