@@ -133,7 +133,7 @@ static _Alignas(4) const uint32_t switch_table_dfu_device_table_decide_2[9] = {
 static _Alignas(4) const uint32_t switch_table_dfu_asks_asking_Asking_is_fit[4] = {
     0, 0xf, 0x3f, 0xff
 };
-static _Alignas(4) const uint8_t switch_table_dfu_device_mode_Mode_state[13] = {
+static _Alignas(4) const uint8_t switch_table_dfu_device_device_state_DeviceState_state[13] = {
     0, 1, 2, 3, 3, 4, 5, 6, 6, 7, 8, 9, 0xa
 };
 static _Alignas(8) const uint64_t switch_table_dfu_asks_asking_Asking_advance[4] = {
@@ -165,9 +165,9 @@ static uint8_t dfu_asks_formatting_Formatting_due(unsigned char *a0, uint64_t a2
 static uint8_t dfu_asks_format_piece_part_piece(unsigned char *a0, uint64_t a1, unsigned char *a2);
 static uint8_t dfu_asks_next_piece_sequence_piece(unsigned char *a0, unsigned char *a1);
 static uint8_t dfu_asks_next_piece_numbered_piece(unsigned char *a0, uint64_t a1, unsigned char *a2);
-static void dfu_asks_located_locate(unsigned char *a0, uint32_t a1, uint64_t a2, uint64_t a3, uint64_t a4);
+static void dfu_asks_position_locate(unsigned char *a0, uint32_t a1, uint64_t a2, uint64_t a3, uint64_t a4);
 static uint8_t dfu_asks_format_piece_open_piece(uint64_t a0, uint32_t a1, unsigned char *a2);
-static uint8_t dfu_asks_asks_is_sound(uint32_t a0, unsigned char *a1);
+static uint8_t dfu_asks_next_and_took_is_sound(uint32_t a0, unsigned char *a1);
 static void dfu_asks_cut_fill(unsigned char *a0, unsigned char *a1);
 static uint8_t dfu_asks_cut_byte_of(unsigned char *a0, uint64_t a1);
 static uint8_t dfu_slots_open_is_sized(unsigned char *a0);
@@ -871,7 +871,7 @@ arm_6:
     r56 = (uint64_t)r25_35_0;
     r17_2 = a2 + 48;
     uint64_t r18_2 = load64(r17_2);
-    dfu_asks_located_locate(r6, r20_0_0_copyload, r25_15_0, r56, r18_2);
+    dfu_asks_position_locate(r6, r20_0_0_copyload, r25_15_0, r56, r18_2);
     uint8_t r21 = *r6;
     r23 = load64(r6 + 8);
     switch (r21) {
@@ -906,8 +906,8 @@ join_4:
     return r21_0_shrunk;
 }
 
-/* dfu_asks::located::locate */
-static void dfu_asks_located_locate(unsigned char *a0, uint32_t a1, uint64_t a2, uint64_t a3, uint64_t a4) {
+/* dfu_asks::position::locate */
+static void dfu_asks_position_locate(unsigned char *a0, uint32_t a1, uint64_t a2, uint64_t a3, uint64_t a4) {
     uint64_t r1, r18, r5_0, r4_0, r7_0_0_0, r7_4_0, r7_7_0;
     if (a1 == 0) goto then_1;
     goto join_3;
@@ -965,8 +965,8 @@ static uint8_t dfu_asks_format_piece_open_piece(uint64_t a0, uint32_t a1, unsign
     return r17;
 }
 
-/* dfu_asks::asks::is_sound */
-static uint8_t dfu_asks_asks_is_sound(uint32_t a0, unsigned char *a1) {
+/* dfu_asks::next_and_took::is_sound */
+static uint8_t dfu_asks_next_and_took_is_sound(uint32_t a0, unsigned char *a1) {
     uint64_t r2_35_0_copyload;
     uint8_t common_ret_op;
     uint8_t r2_0_0_copyload = *a1;
@@ -3254,7 +3254,7 @@ dfu_device_status_poll_ms_exit:;
     }
     trap();
 dfu_device_status_status_in_exit:;
-    uint8_t switch_load = *(PLACE(switch_table_dfu_device_mode_Mode_state) + (size_t)v0);
+    uint8_t switch_load = *(PLACE(switch_table_dfu_device_device_state_DeviceState_state) + (size_t)v0);
     unsigned char *v3 = r1 + 1;
     memset(v3, 0, 5);
     *r1 = r11_0_0;
@@ -3269,7 +3269,7 @@ dfu_device_status_status_in_exit:;
     goto join_6;
 arm_4:;
     uint8_t v5 = a0[36];
-    uint8_t switch_load_2 = *(PLACE(switch_table_dfu_device_mode_Mode_state) + (size_t)v5);
+    uint8_t switch_load_2 = *(PLACE(switch_table_dfu_device_device_state_DeviceState_state) + (size_t)v5);
     *r5_2 = switch_load_2;
     uint64_t a1_a0_2 = (uint64_t)(a2 != 0);
     core_slice_edits_slice_T_copy_from_slice_i8_core_clone_U8Clone(a3, r5_2, a1_a0_2);
@@ -3842,7 +3842,7 @@ int32_t dfu_core_format_next(const struct dfu_config *config, const struct dfu_r
     r42 = r5 + 72;
     r6_4_0_copyload = load64(r5 + 80);
     r6_5_0_copyload = load64(r5 + 88);
-    uint8_t r45 = dfu_asks_asks_is_sound(r6_41_0_copyload, r42);
+    uint8_t r45 = dfu_asks_next_and_took_is_sound(r6_41_0_copyload, r42);
     if (r45 ? (a3 >= (r6_5_0_copyload + r6_4_0_copyload)) : 0) goto arm_8;
 dfu_asks_formatting_Formatting_next_exit_thread:
     common_ret_op = 0xfffffffcU;
@@ -4258,77 +4258,77 @@ arm_5:
         r12_76_0 = v3;
         r12_10_0 = v4;
         r12_13_0 = v5;
-        goto dfu_device_mode_Mode_after_refusal_exit;
+        goto dfu_device_device_state_DeviceState_after_refusal_exit;
     case 1:
         r12_0_0 = v1;
         r12_4_0 = v2;
         r12_76_0 = v3;
         r12_10_0 = v4;
         r12_13_0 = v5;
-        goto dfu_device_mode_Mode_after_refusal_exit;
+        goto dfu_device_device_state_DeviceState_after_refusal_exit;
     case 2:
         r12_0_0 = v1;
         r12_4_0 = v2;
         r12_76_0 = v3;
         r12_10_0 = v4;
         r12_13_0 = v5;
-        goto dfu_device_mode_Mode_after_refusal_exit;
+        goto dfu_device_device_state_DeviceState_after_refusal_exit;
     case 3:
         r12_0_0 = v1;
         r12_4_0 = v2;
         r12_76_0 = v3;
         r12_10_0 = v4;
         r12_13_0 = v5;
-        goto dfu_device_mode_Mode_after_refusal_exit;
+        goto dfu_device_device_state_DeviceState_after_refusal_exit;
     case 4:
         r12_0_0 = v1;
         r12_4_0 = v2;
         r12_76_0 = v3;
         r12_10_0 = v4;
         r12_13_0 = v5;
-        goto dfu_device_mode_Mode_after_refusal_exit;
+        goto dfu_device_device_state_DeviceState_after_refusal_exit;
     case 5:
         r12_0_0 = v1;
         r12_4_0 = v2;
         r12_76_0 = v3;
         r12_10_0 = v4;
         r12_13_0 = v5;
-        goto dfu_device_mode_Mode_after_refusal_exit;
+        goto dfu_device_device_state_DeviceState_after_refusal_exit;
     case 6:
         r12_0_0 = v1;
         r12_4_0 = v2;
         r12_76_0 = v3;
         r12_10_0 = v4;
         r12_13_0 = v5;
-        goto dfu_device_mode_Mode_after_refusal_exit;
+        goto dfu_device_device_state_DeviceState_after_refusal_exit;
     case 8:
         r12_0_0 = v1;
         r12_4_0 = v2;
         r12_76_0 = v3;
         r12_10_0 = v4;
         r12_13_0 = v5;
-        goto dfu_device_mode_Mode_after_refusal_exit;
+        goto dfu_device_device_state_DeviceState_after_refusal_exit;
     case 10:
         r12_0_0 = v1;
         r12_4_0 = v2;
         r12_76_0 = v3;
         r12_10_0 = v4;
         r12_13_0 = v5;
-        goto dfu_device_mode_Mode_after_refusal_exit;
+        goto dfu_device_device_state_DeviceState_after_refusal_exit;
     case 11:
         r12_0_0 = v1;
         r12_4_0 = v2;
         r12_76_0 = v3;
         r12_10_0 = v4;
         r12_13_0 = v5;
-        goto dfu_device_mode_Mode_after_refusal_exit;
+        goto dfu_device_device_state_DeviceState_after_refusal_exit;
     case 12:
         r12_0_0 = v1;
         r12_4_0 = v2;
         r12_76_0 = v3;
         r12_10_0 = v4;
         r12_13_0 = v5;
-        goto dfu_device_mode_Mode_after_refusal_exit;
+        goto dfu_device_device_state_DeviceState_after_refusal_exit;
     default: never();
     }
 arm_1:
@@ -4337,8 +4337,8 @@ arm_1:
     r12_76_0 = 0;
     r12_10_0 = 0;
     r12_13_0 = 0;
-    goto dfu_device_mode_Mode_after_refusal_exit;
-dfu_device_mode_Mode_after_refusal_exit:
+    goto dfu_device_device_state_DeviceState_after_refusal_exit;
+dfu_device_device_state_DeviceState_after_refusal_exit:
     *r10 = r12_0_0;
     r10[1] = r12_4_0;
     store32(r10 + 4, r12_76_0);
@@ -5069,12 +5069,12 @@ join_7:
     r69 = r10 + 72;
     r11_4_0_copyload = load64(r10 + 80);
     r11_5_0_copyload = load64(r10 + 88);
-    uint8_t r72 = dfu_asks_asks_is_sound(r6_0_0_copyload, r69);
+    uint8_t r72 = dfu_asks_next_and_took_is_sound(r6_0_0_copyload, r69);
     if (!r72) goto dfu_asks_asking_Asking_next_exit_thread;
     memset(r17_2, 0, 12);
     uint64_t r2514 = a5 >> 1;
     r2514_2 = (uint64_t)((r11_4_0_copyload < r2514) ? 0 : r2514);
-    if ((r2514_2 + r2514) < (r11_5_0_copyload + r11_4_0_copyload)) goto dfu_asks_asks_is_spare_exit_thread;
+    if ((r2514_2 + r2514) < (r11_5_0_copyload + r11_4_0_copyload)) goto dfu_asks_next_and_took_is_spare_exit_thread;
     uint8_t r51 = r13[(size_t)r2514_2];
     if (r51 == 165) goto arm_10;
     goto arm_8;
@@ -5086,10 +5086,10 @@ arm_10:
     store32(r7 + 20, r6_0_0_copyload);
     dfu_slots_open_check(r17_2, r7);
     uint8_t r71 = *r17_2;
-    if (r71 == 0) goto dfu_asks_asks_is_spare_exit;
-dfu_asks_asks_is_spare_exit_thread:
+    if (r71 == 0) goto dfu_asks_next_and_took_is_spare_exit;
+dfu_asks_next_and_took_is_spare_exit_thread:
     goto dfu_asks_asking_Asking_next_exit_thread35;
-dfu_asks_asks_is_spare_exit:;
+dfu_asks_next_and_took_is_spare_exit:;
     uint32_t r8_2_0_copyload = load32(r17_2 + 8);
     if (r2514_2 == (uint64_t)r8_2_0_copyload) goto arm_8;
     goto dfu_asks_asking_Asking_next_exit_thread35;

@@ -208,7 +208,7 @@ static void dfu_host_c_beginning_read_both(unsigned char *a0, unsigned char *a1,
 static void dfu_wire_functionals_Functional_decode(unsigned char *a0, unsigned char *a1, uint64_t a2);
 static void dfu_host_refusing_payload_for(unsigned char *a0, unsigned char *a1, unsigned char *a2, unsigned char *a3);
 static void dfu_host_c_beginning_start(unsigned char *a0, unsigned char *a1);
-static void dfu_host_session_Session_told(unsigned char *a0, unsigned char *a1, uint8_t a2);
+static void dfu_host_session_Session_on_result(unsigned char *a0, unsigned char *a1, uint8_t a2);
 static void dfu_wire_statuses_Status_decode(unsigned char *a0, unsigned char *a1, uint64_t a2);
 static uint8_t core_slice_scan_any_in_ends(unsigned char *a0, uint64_t a1, uint64_t a2);
 static uint64_t core_slice_scan_skip_groups(unsigned char *a0, uint64_t a1, uint64_t a2, uint64_t a3);
@@ -2321,8 +2321,8 @@ static void dfu_host_c_beginning_start(unsigned char *a0, unsigned char *a1) {
     return;
 }
 
-/* dfu_host::session::Session::told */
-static void dfu_host_session_Session_told(unsigned char *a0, unsigned char *a1, uint8_t a2) {
+/* dfu_host::session::Session::on_result */
+static void dfu_host_session_Session_on_result(unsigned char *a0, unsigned char *a1, uint8_t a2) {
     _Alignas(8) unsigned char r17_2[32];
     unsigned char *const r0 = r17_2;
     unsigned char *const r5 = r17_2;
@@ -7032,14 +7032,14 @@ arm_1:
     store64(r16, r3_11_0_0);
     store64(r16 + 8, r3_20_0_0);
     store64(r16 + 16, r3_20_10_0);
-    dfu_host_session_Session_told(r7, r16, 0);
+    dfu_host_session_Session_on_result(r7, r16, 0);
     r14_0 = r0_4_0_pn;
     goto dfu_host_c_steps_step_exit;
 arm_2_2:
     store64(r18, r3_11_0_0);
     store64(r18 + 8, r3_20_0_0);
     store64(r18 + 16, r3_20_10_0);
-    dfu_host_session_Session_told(r7, r18, 1);
+    dfu_host_session_Session_on_result(r7, r18, 1);
     r14_0 = r30;
 dfu_host_c_steps_step_exit:
     dfu_host_c_holding_record_of(r0, r7, r14_0);
