@@ -48,13 +48,13 @@ unread_text (fault.TooLarge at) = codes "TooLarge " ++ decimal at
 unread_text (fault.TooManyElements at) = codes "TooManyElements " ++ decimal at
 unread_text (fault.Overlaps address) = codes "Overlaps " ++ hex 8 address
 
--- Why elements make no piece, by its name; of a gap with its addresses.
+-- Why elements don't make one piece, by the name of the fault; a gap with its addresses.
 unfoldable pub unlaid_text : LayFault → List ℕ
 unlaid_text lay.NoMemory = codes "NoMemory"
 unlaid_text (lay.Gap from to) = codes "Gap " ++ hex 8 from ++ (codes " " ++ hex 8 to)
 unlaid_text lay.TooLarge = codes "TooLarge"
 
--- Why a file makes no image, by its name.
+-- Why there is no image of a file, by the name of the fault.
 abbrev pub fault_text : ImageFileFault → List ℕ
 fault_text (Unread fault) = unread_text fault
 fault_text NoData = codes "NoData"

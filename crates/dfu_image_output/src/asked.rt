@@ -1,46 +1,32 @@
 //! What `--format` and `--fill` ask for.
 
 ghost use Rattle.std.specs.Prelude.{◌≡◌, ◌≤◌, codes, None, Some};
-ghost use Rattle.dfu_images.specs.Digits.{hex_value};
 ghost use Rattle.dfu_image_output.specs.Asked.{IsNoFormat, fill_in};
 
-use dfu_images::Format;
+use dfu_images::{Format, hex_digit};
 
 /// How FILE is taken.
 #[derive(Clone, Copy, Debug, PartialEq, Eq)]
 pub enum FormatChoice {
-    /// Without a word: as it is, with a reason where it looks like a file of a format.
+    /// Without a word: as it is, with a reason if it looks like a file of a format.
     Unsaid,
     /// As it is.
     Raw,
-    /// As a file of the format that its first bytes look like, and as it is if they look like none.
+    /// As a file of the format that its first bytes look like, and as it is if they look like no format.
     Auto,
     /// As a file of this format.
     As(Format),
 }
 
-/// The value of a digit, or 16.
-fn digit(byte: u8) -> u8
-    ensures value { result ≡ hex_value byte }
-    ensures small { result ≤ 16 }
-{
-    match byte {
-        b'0'..=b'9' => byte - b'0',
-        b'a'..=b'f' => byte - b'a' + 10,
-        b'A'..=b'F' => byte - b'A' + 10,
-        _ => 16,
-    }
-}
-
-/// The byte that two hexadecimal digits of either case are.
+/// The byte in two hexadecimal digits of either case.
 #[tactic(auto, using(std::proofs::lemmas::Bool::Decides::nat_tests))]
 pub fn fill_in(word: &str) -> Option<u8>
     ensures { result ≡ fill_in word.now }
 {
     match word.as_bytes() {
         [high, low] => {
-            let high = digit(*high);
-            let low = digit(*low);
+            let high = hex_digit(*high);
+            let low = hex_digit(*low);
             if high < 16 && low < 16 {
                 Some(16 * high + low)
             } else {
@@ -51,7 +37,7 @@ pub fn fill_in(word: &str) -> Option<u8>
     }
 }
 
-/// How the word of `--format` has FILE taken.
+/// How FILE is taken by the word of `--format`.
 pub fn format_in(word: &str) -> Option<FormatChoice>
     ensures raw { word.now ≡ codes "raw" → result ≡ Some FormatChoice.Raw }
     ensures auto { word.now ≡ codes "auto" → result ≡ Some FormatChoice.Auto }

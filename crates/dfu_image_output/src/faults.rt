@@ -4,12 +4,12 @@ ghost use Rattle.std.specs.Prelude.{◌≡◌, IfOk};
 ghost use Rattle.std.specs.String.{string_bytes};
 ghost use Rattle.dfu_image_output.specs.ImageLines.{fault_text, refused_line, unlaid_text, unread_text};
 
-use crate::numbers::{addressed, ended, numbered};
+use crate::numbers::{addressed, numbered};
 use dfu_images::{ImageFault, ImageFileFault, LayFault};
 use dfu_output::{made_field, push};
 use std::alloc::{AllocError, Global};
 
-/// A fault of a file by its name, with what it names.
+/// A fault of a file by its name, with its line, block, segment or address.
 #[tactic(auto, unfolding(crate::specs::ImageLines::unread_text))]
 fn unread_text(alloc: Global, fault: ImageFault) -> Result<String, AllocError>
     ensures { IfOk result (λ t. string_bytes t ≡ unread_text fault) }
@@ -37,11 +37,11 @@ fn unread_text(alloc: Global, fault: ImageFault) -> Result<String, AllocError>
         ImageFault::PastTheEnd(at) => numbered(alloc, "PastTheEnd ", at),
         ImageFault::TooLarge(at) => numbered(alloc, "TooLarge ", at),
         ImageFault::TooManyElements(at) => numbered(alloc, "TooManyElements ", at),
-        ImageFault::Overlaps(address) => addressed(alloc, "Overlaps ", address),
+        ImageFault::Overlaps(address) => addressed(alloc, "Overlaps ", address as u64),
     }
 }
 
-/// Why elements make no piece, by its name.
+/// Why elements don't make one piece, by the name of the fault.
 #[tactic(auto, unfolding(crate::specs::ImageLines::unlaid_text))]
 fn unlaid_text(alloc: Global, fault: LayFault) -> Result<String, AllocError>
     ensures { IfOk result (λ t. string_bytes t ≡ unlaid_text fault) }
@@ -49,7 +49,7 @@ fn unlaid_text(alloc: Global, fault: LayFault) -> Result<String, AllocError>
     match fault {
         LayFault::NoMemory => String::from_str(alloc, "NoMemory"),
         LayFault::Gap(from, to) => {
-            let mut text = ended(alloc, "Gap ", from)?;
+            let mut text = addressed(alloc, "Gap ", from)?;
             made_field(&mut text, " ", format!(in alloc; "{to:08x}")?)?;
             Ok(text)
         }
@@ -57,7 +57,7 @@ fn unlaid_text(alloc: Global, fault: LayFault) -> Result<String, AllocError>
     }
 }
 
-/// Why a file makes no image, by its name.
+/// Why there is no image of a file, by the name of the fault.
 fn fault_text(alloc: Global, fault: ImageFileFault) -> Result<String, AllocError>
     ensures { IfOk result (λ t. string_bytes t ≡ fault_text fault) }
 {
@@ -68,7 +68,7 @@ fn fault_text(alloc: Global, fault: ImageFileFault) -> Result<String, AllocError
     }
 }
 
-/// The line for a file that makes no image: `refused NAME`, and behind some names a number or addresses in eight hexadecimal digits.
+/// The line for a file that makes no image: `refused NAME`, and after some names a number or addresses in eight hexadecimal digits.
 ///
 /// # Errors
 ///

@@ -1,4 +1,4 @@
-//! Names with what they name.
+//! Labels with numbers.
 
 ghost use Rattle.std.specs.Prelude.{◌≡◌, ◌++◌, IfOk};
 ghost use Rattle.std.specs.Fmt.{decimal};
@@ -18,19 +18,9 @@ pub(crate) fn numbered(alloc: Global, label: &str, number: usize) -> Result<Stri
     Ok(text)
 }
 
-/// A label and an address in eight hexadecimal digits.
-#[inline(never)]
-pub(crate) fn addressed(alloc: Global, label: &str, address: u32) -> Result<String, AllocError>
-    ensures { IfOk result (λ t. string_bytes t ≡ label.now ++ hex 8 address) }
-{
-    let mut text = String::new(alloc);
-    made_field(&mut text, label, format!(in alloc; "{address:08x}")?)?;
-    Ok(text)
-}
-
 /// A label and an address, up to 2^32, in eight hexadecimal digits or nine.
 #[inline(never)]
-pub(crate) fn ended(alloc: Global, label: &str, address: u64) -> Result<String, AllocError>
+pub(crate) fn addressed(alloc: Global, label: &str, address: u64) -> Result<String, AllocError>
     ensures { IfOk result (λ t. string_bytes t ≡ label.now ++ hex 8 address) }
 {
     let mut text = String::new(alloc);

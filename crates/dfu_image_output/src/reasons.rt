@@ -4,7 +4,7 @@ use crate::lines::format_name;
 use dfu_images::{Format, ImageFault, ImageFileFault, LayFault};
 use std::alloc::{AllocError, Global};
 
-/// What to do about a file that makes no image; nothing where the reason says it.
+/// What to do about a file that makes no image; nothing if the reason says it.
 fn advice(fault: ImageFileFault) -> &'static str {
     match fault {
         ImageFileFault::Unread(ImageFault::NoMemory) | ImageFileFault::Unlaid(LayFault::NoMemory) =>
@@ -24,7 +24,7 @@ pub fn why(alloc: Global, fault: ImageFileFault) -> Result<String, AllocError> {
     format!(in alloc; "{fault}{advice}")
 }
 
-/// What a file was taken as that looks like one of a format.
+/// How a file was taken that looks like one of a format.
 pub fn looks_like(alloc: Global, format: Format) -> Result<String, AllocError> {
     let name = format_name(format);
     format!(in alloc;

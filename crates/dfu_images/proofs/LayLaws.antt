@@ -6,7 +6,7 @@ use Rattle.dfu_images.specs.declared.laying.LayFault.TheVariants as fault
 use Rattle.dfu_images.specs.Elements.{Piece, end_of_piece, AreApart}
 use Rattle.dfu_images.specs.Laying.{filled_part, in_front, followed, laid, lowest, FailsToLay}
 
--- What is left to lay, behind bytes that were laid, makes all.
+-- What is left to lay, after bytes that were laid, makes all.
 pub record LaysOn (whole : Result (List ℕ) LayFault) (fill : Option ℕ) (bytes : List ℕ) (end : ℕ) (left : List Piece) : Type 0 where
   pub so_far : in_front bytes (laid fill (length bytes) end left) ≡ whole
   pub apart : AreApart end left
@@ -77,7 +77,7 @@ pub lays_all : (whole : Result (List ℕ) LayFault) (fill : Option ℕ) (bytes :
 lays_all whole fill bytes end left e w =
     sym w.so_far ∙ (ap (in_front bytes) (ap (laid fill (length bytes) end) e ∙ laid_nil fill (length bytes) end) ∙ ap Ok (append-nil bytes))
 
--- Elements begin at the lowest address or behind it.
+-- Elements begin at the lowest address or after it.
 pub from_lowest : (all : List Piece) (end : ℕ) → end ≡ lowest all → AreApart 0 all → AreApart end all
 unfolding AreApart
 from_lowest [] end e h = tt

@@ -1,4 +1,4 @@
--- A text is its first line, and the lines behind it.
+-- A text is its first line, and the lines after it.
 use Rattle.std.proofs.Common.{◌≡◌, ℕ, zero, suc, ◌+◌, ◌<◌, ◌≤◌, Bool, true, false, cond, eqb, ltb, List, [], ◌∷◌, length, take, drop, refl, sym, ap, ◌∙◌, arith, Option, Some, None, MatchOption}
 use Rattle.std.proofs.lemmas.Bool.{ltb-true, ltb-false}
 use Rattle.std.specs.List.{position, position_or_len}
@@ -55,7 +55,7 @@ none_by : (t : Bool) (k : ℕ) → cond t (Some k) None ≡ None → t ≡ false
 none_by true k h = cc
 none_by false k h = refl
 
--- The first line, and those behind its feed.
+-- The first line, and those after its feed.
 pub lines_at : (text : List ℕ) (n j : ℕ) → j ≡ suc n → position is_feed text ≡ Some n → lines text ≡ take n text ∷ lines (drop j text)
 lines_at text n j e h =
     let s = cond_some (ltb (position_or_len is_feed text) (length text)) (position_or_len is_feed text) n h in
@@ -67,7 +67,7 @@ pub lines_last : (text : List ℕ) → position is_feed text ≡ None → lines 
 lines_last text h =
     only_line text (ltb-false (position_or_len is_feed text) (length text) (none_by (ltb (position_or_len is_feed text) (length text)) (position_or_len is_feed text) h))
 
--- There is a first line, whatever follows it.
+-- There is always a first line.
 pub some_first : {A : Type 0} (o : Option A) (f : A → List (List ℕ)) (all : List (List ℕ)) (line : List ℕ) →
     MatchOption o (all ≡ line ∷ []) (λ rest. all ≡ line ∷ f rest) → (more : List (List ℕ)) × (all ≡ line ∷ more)
 some_first None f all line h = ([], h)

@@ -27,7 +27,7 @@ pub pairs_two : (a b : ℕ) (bs : List ℕ) → hex_value a < 16 → hex_value b
 unfolding pairs
 pairs_two a b bs h k = rw (and_from (ltb (hex_value a) 16) (ltb (hex_value b) 16) (lt-ltb (hex_value a) 16 h) (lt-ltb (hex_value b) 16 k)) refl
 
--- Anything else is none.
+-- Anything else is not a pair.
 pairs_high : (a b : ℕ) (bs : List ℕ) → 16 ≤ hex_value a → pairs (a ∷ b ∷ bs) ≡ None
 unfolding pairs
 pairs_high a b bs h = rw (and_left (ltb (hex_value a) 16) (ltb (hex_value b) 16) (le-ltb (hex_value a) 16 h)) refl
@@ -49,7 +49,7 @@ pub spelled_all : (xs front : List ℕ) (i : ℕ) → length xs ≤ i → joined
 spelled_all xs front i h so_far =
     sym so_far ∙ ap (joined front) (ap pairs (drop_all i xs h) ∙ pairs_nil) ∙ ap Some (append-nil front)
 
--- A digit is left alone.
+-- Only one digit is left.
 pub spelled_odd : (xs front : List ℕ) (i : ℕ) → i + 1 ≡ length xs → joined front (pairs (drop i xs)) ≡ pairs xs → pairs xs ≡ None
 spelled_odd xs front i h so_far =
     sym so_far ∙ ap (joined front) (ap pairs (drop_one xs i h) ∙ pairs_one (get_or xs i 0))

@@ -1,4 +1,4 @@
--- Where an element goes among others, and that none shares an address.
+-- Where an element goes among others, and that no two share an address.
 use Rattle.std.proofs.Common.{◌≡◌, ℕ, zero, suc, ◌+◌, ◌<◌, ◌≤◌, Bool, true, false, cond, ltb, List, [], ◌∷◌, length, drop, get_or, refl, sym, ap, ◌∙◌, arith, Some, None}
 use Rattle.std.proofs.lemmas.Bool.{ltb-false, lt-ltb, le-ltb}
 use Rattle.dfu_images.specs.Elements.{Piece, end_of_piece, element_place, shared, AreApart}
@@ -37,7 +37,7 @@ place_stop a [] i d h l = absurd (omega (arith, h))
 place_stop a (p ∷ ps) zero d h l = place_here a p ps l
 place_stop a (p ∷ ps) (suc i) d h l = place_stop a ps i d (omega (arith, h)) l
 
--- Or behind all.
+-- Or after all.
 pub place_end : (a : ℕ) (ps : List Piece) (i : ℕ) → length ps ≤ i → element_place a (drop i ps) ≡ 0
 place_end a [] zero h = place_none a
 place_end a [] (suc i) h = place_none a
@@ -55,7 +55,7 @@ shared_cons : (end : ℕ) (p : Piece) (ps : List Piece) →
 unfolding shared
 shared_cons end p ps = refl
 
--- Elements of which none begins before the one before it ends.
+-- Elements, each of which begins at the end of the one before it or later.
 pub apart_if : (end : ℕ) (ps : List Piece) → shared end ps ≡ None → AreApart end ps
 unfolding AreApart
 apart_if end [] h = tt

@@ -22,7 +22,7 @@ pub line_done : {S : Type 0} (is : S → Bool) (read : ℕ → S → List ℕ �
 line_done {S = S} is read at s t line kept more all whole e k h so_far =
     sym (ap (lines_read is read at s) e ∙ (first_line is read at s line more ∙ ap (λ (r : Result S ImageFault). r >>= λ (t : S). lines_read is read (at + 1) t more) (ap (read at s) (sym k) ∙ h))) ∙ so_far
 
--- A line has a fault: it is that of all.
+-- The fault of a line is the fault of all.
 pub line_fault : {S : Type 0} (is : S → Bool) (read : ℕ → S → List ℕ → Result S ImageFault) (fault : ImageFault) (at : ℕ) (s : S) (line kept : List ℕ) (more all : List (List ℕ)) (whole : Result S ImageFault) → all ≡ line ∷ more →
     kept ≡ bare line → FailsToRead fault (read at s kept) → lines_read is read at s all ≡ whole → FailsToRead fault whole
 line_fault {S = S} is read fault at s line kept more all whole e k h so_far =
@@ -59,7 +59,7 @@ part_done {S = S} size read left n index s t bytes part behind whole e p b h so_
     ∙ ap (λ (r : Result S ImageFault). r >>= λ (t : S). parts_read size read n (index + 1) t (drop size bytes)) (ap (read index s) (sym p) ∙ h)) in
     ap (parts_read size read n (index + 1) t) b ∙ (sym all ∙ so_far)
 
--- A part has a fault: it is that of all.
+-- The fault of a part is the fault of all.
 pub part_fault : {S : Type 0} (size : ℕ) (read : ℕ → S → List ℕ → Result S ImageFault) (fault : ImageFault) (left n index : ℕ) (s : S)
     (bytes part : List ℕ) (whole : Result S ImageFault) → left ≡ suc n → part ≡ take size bytes → FailsToRead fault (read index s part) →
     parts_read size read left index s bytes ≡ whole → FailsToRead fault whole

@@ -4,7 +4,7 @@ use Rattle.dfu_images.specs.declared.fault.ImageFault.{ImageFault}
 use Rattle.dfu_images.specs.declared.fault.ImageFault.TheVariants.{BadDigit, BadLength}
 use Rattle.dfu_images.specs.Reading.{or}
 
--- The value of a digit of either case; 16 for a byte that is none.
+-- The value of a digit of either case; 16 for a byte that is not a digit.
 abbrev pub hex_value : ℕ → ℕ
 hex_value b =
     if nat_le 48 b && nat_le b 57 then b - 48
@@ -12,12 +12,12 @@ hex_value b =
     else if nat_le 65 b && nat_le b 70 then b - 55
     else 16
 
--- A byte before others, if there are any others to put it before.
+-- A byte before others, if the others are there.
 abbrev pub before : ℕ → Option (List ℕ) → Option (List ℕ)
 before b None = None
 before b (Some bs) = Some (b ∷ bs)
 
--- The bytes that digits spell, two for each, the high one first.
+-- The bytes that digits spell, two digits for each, the high one first.
 unfoldable pub pairs : List ℕ → Option (List ℕ)
 pairs [] = Some []
 pairs (a ∷ []) = None

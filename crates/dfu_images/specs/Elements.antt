@@ -11,7 +11,7 @@ pub record Piece : Type 0 where
   pub address : ℕ
   pub bytes : List ℕ
 
--- The address behind the last byte.
+-- The address after the last byte.
 abbrev pub end_of_piece : Piece → ℕ
 end_of_piece p = p.address + length p.bytes
 
@@ -75,7 +75,7 @@ unless_shared all (Some address) = Err (Overlaps address)
 unfoldable pub gathered : Gathering → Result (List Piece) ImageFault
 gathered g = let all = completed g.complete g.growing in unless_shared all (shared 0 all)
 
--- Elements by address, each of which begins at this one or behind it, and at the end of the one before or behind that.
+-- Elements by address, each of which begins at this one or after it, and at the end of the one before or after that.
 unfoldable pub AreApart : (from : ℕ) → List Piece → Type 0
 AreApart from [] = Unit {0}
 AreApart from (p ∷ ps) = (from ≤ p.address) × AreApart (end_of_piece p) ps

@@ -24,7 +24,7 @@ segment_read file index g header =
 abbrev pub has_headers : List ℕ → Bool
 has_headers file = (le16 file 42 == 32) && not (nat_lt (length file) (le32 file 28 + 32 * le16 file 44))
 
--- The elements that a file has, or its first fault. One without program headers has none.
+-- The elements that a file has, or its first fault. A file without program headers has no elements.
 unfoldable pub elf_elements_of : List ℕ → Result (List Piece) ImageFault
 elf_elements_of file =
     if not (is_elf file) then Err NotElf

@@ -62,7 +62,7 @@ hex_meant at s r =
     else if (r.kind == 3) || (r.kind == 5) then if length r.content == 4 then Ok s else Err (BadLength at)
     else Err (BadType at)
 
--- A line: a record, or nothing. Behind the end record there is nothing.
+-- A line: a record, or nothing. After the end record there is nothing.
 unfoldable pub hex_line_read : (at : ℕ) → HexState → List ℕ → Result HexState ImageFault
 hex_line_read at s line =
     if length line == 0 then Ok s

@@ -7,7 +7,7 @@ use Rattle.dfu_images.specs.declared.laying.LayFault.TheVariants.{NoMemory, Gap,
 use Rattle.std.specs.Prelude.{◌≡◌}
 use Rattle.dfu_images.specs.Elements.{Piece, end_of_piece}
 
--- The bytes of an element, behind what fills the gap before it. Without a filling there may be no gap; all have 16,777,216 bytes at most.
+-- The bytes of an element, after what fills the gap before it. Without a filling there may be no gap; all have 16,777,216 bytes at most.
 unfoldable pub filled_part : (fill : Option ℕ) → (count end : ℕ) → Piece → Result (List ℕ) LayFault
 filled_part fill count end p =
     if not (is_some fill) && nat_lt end p.address then Err (Gap end p.address)
@@ -19,12 +19,12 @@ abbrev pub in_front : List ℕ → Result (List ℕ) LayFault → Result (List �
 in_front front (Err fault) = Err fault
 in_front front (Ok bytes) = Ok (front ++ bytes)
 
--- What comes of a part: it stands before what comes of the others.
+-- What comes of a part: it precedes what comes of the others.
 abbrev pub followed : Result (List ℕ) LayFault → (List ℕ → Result (List ℕ) LayFault) → Result (List ℕ) LayFault
 followed (Err fault) more = Err fault
 followed (Ok front) more = in_front front (more front)
 
--- The bytes of elements from an address on, behind so many others.
+-- The bytes of elements from an address on, after so many others.
 unfoldable pub laid : (fill : Option ℕ) → (count end : ℕ) → List Piece → Result (List ℕ) LayFault
 laid fill count end [] = Ok []
 laid fill count end (p ∷ ps) = followed (filled_part fill count end p) (λ front. laid fill (count + length front) (end_of_piece p) ps)

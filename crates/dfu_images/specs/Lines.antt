@@ -9,7 +9,7 @@ abbrev pub before_lines : ℕ → List (List ℕ) → List (List ℕ)
 before_lines b [] = (b ∷ []) ∷ []
 before_lines b (line ∷ lines) = (b ∷ line) ∷ lines
 
--- What stands between line feeds, which may be nothing.
+-- What is between line feeds, which may be nothing.
 unfoldable pub lines : List ℕ → List (List ℕ)
 lines [] = [] ∷ []
 lines (b ∷ bs) = if b == 10 then [] ∷ lines bs else before_lines b (lines bs)
@@ -22,7 +22,7 @@ is_feed b = b == 10
 unfoldable pub bare : List ℕ → List ℕ
 bare line = if slice_index line (length line - 1) == 13 then take (length line - 1) line else line
 
--- Lines, the first of which has this number, are read one after the other, up to the end record and whatever may follow it.
+-- Lines, the first of which has this number, are read one after the other, up to the end record and what may follow it.
 unfoldable pub lines_read : {S : Type 0} → (is_ended : S → Bool) → (read : ℕ → S → List ℕ → Result S ImageFault) → (at : ℕ) → S → List (List ℕ) →
     Result S ImageFault
 lines_read is_ended read at s [] = if is_ended s then Ok s else Err NoEnd

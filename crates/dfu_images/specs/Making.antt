@@ -1,4 +1,4 @@
--- One piece of a file, whatever its format is.
+-- One piece of a file of any format.
 use Rattle.std.specs.Prelude.{◌≡◌, ◌<◌, ℕ, List, [], length, Option, Result, Ok, Err}
 use Rattle.dfu_images.specs.declared.fault.ImageFault.{ImageFault}
 use Rattle.dfu_images.specs.declared.format.Format.{Format}
@@ -26,7 +26,7 @@ abbrev pub LiesAs : Option ℕ → Result (List Piece) ImageFault → Image → 
 LiesAs fill read image = (ps : List Piece) × (read ≡ Ok ps) × (0 < length ps) × (image.address ≡ lowest ps)
     × (laid fill 0 (lowest ps) ps ≡ Ok image.bytes.items)
 
--- What comes of what is read of a file: its fault; or that there are no bytes; or its elements as one piece; or why they make none.
+-- What comes of what is read of a file: its fault; or that there are no bytes; or its elements as one piece; or why they do not make one.
 abbrev pub MakesImage : Option ℕ → Result (List Piece) ImageFault → Result Image ImageFileFault → Type 0
 MakesImage fill read (Ok image) = LiesAs fill read image
 MakesImage fill read (Err (Unread fault)) = FailsToRead fault read

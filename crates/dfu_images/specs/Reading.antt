@@ -3,13 +3,13 @@ use Rattle.std.specs.Prelude.{◌≡◌, ℕ, zero, suc, ◌+◌, List, take, dr
 use Rattle.dfu_images.specs.declared.fault.ImageFault.{ImageFault}
 use Rattle.dfu_images.specs.declared.fault.ImageFault.TheVariants.{NoMemory}
 
--- One step of reading after another: the first fault is that of all.
+-- One step of reading after another: the first fault is the answer.
 infixl 10 ◌>>=◌
 abbrev pub ◌>>=◌ : {A B : Type 0} → Result A ImageFault → (A → Result B ImageFault) → Result B ImageFault
 (Err fault) >>= f = Err fault
 (Ok x) >>= f = f x
 
--- What there is, or this fault.
+-- The value if there is one, or else this fault.
 abbrev pub or : {A : Type 0} → ImageFault → Option A → Result A ImageFault
 or fault None = Err fault
 or fault (Some x) = Ok x

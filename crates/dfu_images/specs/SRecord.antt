@@ -37,7 +37,7 @@ pub record SRecordLine : Type 0 where
   pub address : ℕ
   pub content : List ℕ
 
--- A record of a count, an address, data, and a checksum by which all bytes together make 255; the count is of all behind it.
+-- A record of a count, an address, data, and a checksum by which all bytes together make 255; the count is of all bytes after it.
 unfoldable pub srec_framed : (at : ℕ) → Typed → Result SRecordLine ImageFault
 srec_framed at t =
     if not (length t.bytes == slice_index t.bytes 0 + 1) || nat_lt (length t.bytes) (width t.kind + 2) then Err (BadLength at)
@@ -48,7 +48,7 @@ srec_framed at t =
       content = take (length t.bytes - (width t.kind + 2)) (drop (width t.kind + 1) t.bytes);
     })
 
--- What was read up to a line: the elements, how many records of data, whether a count or an end record came behind the last of them, and
+-- What was read up to a line: the elements, how many records of data, whether a count or an end record came after the last of them, and
 -- whether the end record was read.
 pub record SRecordState : Type 0 where
   pub gathering : Gathering
@@ -79,7 +79,7 @@ srec_meant at s r =
     else if r.kind == 4 then Err (BadType at)
     else srec_closed at s r
 
--- A line: a record, or nothing. Behind the end record there is nothing.
+-- A line: a record, or nothing. After the end record there is nothing.
 unfoldable pub srec_line_read : (at : ℕ) → SRecordState → List ℕ → Result SRecordState ImageFault
 srec_line_read at s line =
     if length line == 0 then Ok s
@@ -90,7 +90,7 @@ srec_line_read at s line =
 abbrev pub srec_start : SRecordState
 srec_start = record { gathering = nothing; count = 0; is_whole = false; is_ended = false }
 
--- A count or an end record came behind all data.
+-- A count or an end record came after all data.
 abbrev pub is_whole : SRecordState → Bool
 is_whole s = s.is_whole
 

@@ -7,8 +7,8 @@ use crate::fault::ImageFault;
 use crate::limits::MAX_RECORD;
 use arrayvec::ArrayVec;
 
-/// The value of a digit, or 16.
-fn hex(byte: u8) -> u8
+/// The value of a hexadecimal digit of either case, 0 to 15, or 16 if the byte is not one.
+pub fn hex_digit(byte: u8) -> u8
     ensures value { result ≡ hex_value byte }
     ensures small { result ≤ 16 }
 {
@@ -20,7 +20,7 @@ fn hex(byte: u8) -> u8
     }
 }
 
-/// The bytes that digits spell, two for each.
+/// The bytes that digits spell, two digits for each.
 fn pairs(digits: &[u8]) -> Option<ArrayVec<u8, MAX_RECORD>>
     requires { length digits.now ≤ 520 }
     ensures { MatchOption result (pairs digits.now ≡ None) (λ bytes. pairs digits.now ≡ Some bytes.items) }
@@ -31,8 +31,8 @@ fn pairs(digits: &[u8]) -> Option<ArrayVec<u8, MAX_RECORD>>
         if at + 1 == digits.len() {
             return None;
         }
-        let high = hex(digits[at]);
-        let low = hex(digits[at + 1]);
+        let high = hex_digit(digits[at]);
+        let low = hex_digit(digits[at + 1]);
         if high == 16 || low == 16 {
             return None;
         }

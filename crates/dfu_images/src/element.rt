@@ -5,7 +5,7 @@ ghost use Rattle.dfu_images.specs.Elements.{end_of_piece};
 
 use std::marker::Model;
 
-/// Bytes that stand one behind the other, and the address of the first. There is a byte at least, and the last has an address of 32 bits.
+/// Bytes that follow one another, and the address of the first. There is at least one byte, and the last has an address of 32 bits.
 #[derive(Drop)]
 pub struct Element {
     address: u32,
@@ -50,7 +50,7 @@ impl Element {
         &self.bytes
     }
 
-    /// The address behind the last byte, up to 2^32.
+    /// The address after the last byte, up to 2^32.
     pub fn end(&self) -> u64
         ensures value { result ≡ end_of_piece self.now }
         ensures fits { result ≤ 2 ^ 32 }

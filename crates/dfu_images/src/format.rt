@@ -16,7 +16,7 @@ pub enum Format {
     Elf,
 }
 
-/// The format that the first four bytes of a file are of, if any.
+/// The format that the first four bytes of a file look like, if any.
 #[tactic(auto, using(std::proofs::lemmas::Bool::Decides::nat_tests))]
 pub fn format_of(bytes: &[u8]) -> Option<Format>
     ensures { result ≡ format_of bytes.now }

@@ -60,7 +60,7 @@ fn placed(mut elements: Vec<Element>, element: Element) -> Result<Vec<Element>, 
     }
 }
 
-/// The elements once the last one, which has no byte at first, is complete.
+/// The elements with the last one, which has no byte at first, complete.
 #[tactic(auto, using(std::proofs::lemmas::Bool::Decides::nat_tests), unfolding(crate::specs::Elements::completed))]
 fn completed(
     elements: Vec<Element>,
@@ -76,7 +76,7 @@ fn completed(
     placed(elements, Element::new(address, bytes))
 }
 
-/// Bytes begin an element.
+/// An element that begins with these bytes.
 #[tactic(auto, using(std::proofs::lemmas::Bool::Decides::nat_tests), unfolding(crate::specs::Elements::begun))]
 fn begun(
     alloc: Global,

@@ -1,8 +1,8 @@
 //! Intel HEX, records 00 to 05.
 //!
 //! A line ends with a line feed, or a carriage return and a line feed, and the last one needs neither; empty lines are passed over.
-//! Digits have either case. There is one end record, and behind it only empty lines. The data of a record may go on behind the 65,536
-//! bytes of its base, as some tools write it. Where a program begins says nothing of the image.
+//! Digits have either case. There is one end record, and only empty lines follow it. The data of a record may go on past the 65,536
+//! bytes of its base, as some tools write it. The address at which a program begins says nothing of the image.
 
 ghost use Rattle.std.specs.Prelude.{◌≡◌, ◌+◌, ◌≤◌, ◌<◌, ◌^◌, length, IfOk, MatchResult, Ok, Err};
 ghost use Rattle.dfu_images.specs.Reading.{Gives, FailsToRead};
@@ -47,7 +47,7 @@ impl<'t> Model for Record<'t> {
     ghost view = { λ r. record { offset = r.offset; kind = r.kind; content = r.content.now } };
 }
 
-/// A record, of its bytes.
+/// A record, from its bytes.
 #[tactic(auto, using(std::proofs::lemmas::Bool::Decides::nat_tests), unfolding(crate::specs::IntelHex::hex_framed))]
 fn framed(at: usize, bytes: &[u8]) -> Result<Record<'_>, ImageFault>
     requires { length bytes.now ≤ 260 }

@@ -9,7 +9,7 @@ use crate::limits::MAX_IMAGE;
 use std::alloc::Global;
 use thiserror::Error;
 
-/// Why elements make no image.
+/// Why elements do not make an image.
 #[derive(Clone, Copy, Debug, PartialEq, Eq, Error)]
 pub enum LayFault {
     /// An allocation was refused.
@@ -18,12 +18,12 @@ pub enum LayFault {
     /// Nothing has these addresses, from the first up to before the second, and there is nothing to fill them with.
     #[error("nothing is at {0:08x} to before {1:08x}, and no filling is given")]
     Gap(u64, u32),
-    /// With what fills the gaps there are over 16,777,216 bytes.
+    /// With the filling of the gaps there are over 16,777,216 bytes.
     #[error("from the lowest to the highest address there are over 16,777,216 bytes")]
     TooLarge,
 }
 
-/// Puts an element behind bytes that end at this address.
+/// Puts an element after bytes that end at this address.
 #[tactic(auto, using(std::proofs::lemmas::Bool::Decides::nat_tests), unfolding(crate::specs::Laying::filled_part))]
 fn with_part(
     mut bytes: Vec<u8>,
@@ -67,7 +67,7 @@ pub fn lowest(elements: &[Element]) -> u32
 ///
 /// # Errors
 ///
-/// The first from the front: Gap if nothing is to fill it, or TooLarge. NoMemory where an allocation was refused.
+/// The first from the front: Gap if nothing is to fill it, or TooLarge. NoMemory if an allocation was refused.
 pub fn lay(alloc: Global, elements: &[Element], fill: Option<u8>) -> Result<Vec<u8>, LayFault>
     requires { AreApart 0 elements.now }
     ensures value { Lays result (laid fill 0 (lowest elements.now) elements.now) }

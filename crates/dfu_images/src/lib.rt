@@ -1,6 +1,6 @@
 //! Images in the files that builds produce: their bytes, by address.
 //!
-//! Bytes that begin where those of the record before end belong to its element; others begin one. So two elements may touch, if the file
+//! Bytes that begin where those of the record before end belong to its element; others begin one. So two elements may touch if the file
 //! has them apart. A file has up to 16,777,216 bytes of data and 1,024 elements. Overlaps are looked for once all is read.
 #![tactic(auto)]
 
@@ -20,6 +20,7 @@ pub mod srec;
 mod srec_line;
 pub mod uf2;
 
+pub use digits::hex_digit;
 pub use element::Element;
 pub use fault::ImageFault;
 pub use format::{Format, format_of};

@@ -4,7 +4,7 @@ ghost use Rattle.std.specs.Prelude.{◌≡◌, ◌≤◌, ◌<◌, [], ◌∷◌
 ghost use Rattle.std.specs.List.{position};
 ghost use Rattle.dfu_images.specs.Lines.{lines, is_feed, bare};
 
-/// Where the first line feed stands.
+/// Where the first line feed is.
 fn feed_in(text: &[u8]) -> Option<usize>
     ensures value { result ≡ position is_feed text.now }
     ensures within { IfSome result (λ at. at < length text.now) }
@@ -12,7 +12,7 @@ fn feed_in(text: &[u8]) -> Option<usize>
     text.iter().position(|byte| *byte == b'\n')
 }
 
-/// The first line, and what stands behind its line feed, if it has one.
+/// The first line, and what follows its line feed, if it has one.
 pub(crate) fn take_line(text: &[u8]) -> (&[u8], Option<&[u8]>)
     ensures value { MatchOption result.1 (lines text.now ≡ result.0.now ∷ []) (λ rest. lines text.now ≡ result.0.now ∷ lines rest.now) }
     ensures shorter { IfSome result.1 (λ rest. length rest.now < length text.now) }

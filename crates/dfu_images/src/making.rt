@@ -1,4 +1,4 @@
-//! One piece of a file, whatever its format is.
+//! One piece of a file of any format.
 
 ghost use Rattle.std.specs.Prelude.{IfOk, length, ◌≤◌};
 ghost use Rattle.dfu_images.specs.Elements.{AreApart, Lists};
@@ -21,7 +21,7 @@ pub struct Image {
     pub bytes: Vec<u8>,
 }
 
-/// Why a file makes no image.
+/// Why there is no image of a file.
 #[derive(Clone, Copy, Debug, PartialEq, Eq, Error)]
 pub enum ImageFileFault {
     /// It can't be read.
@@ -30,7 +30,7 @@ pub enum ImageFileFault {
     /// It has no byte for any address.
     #[error("it has no bytes for an image")]
     NoData,
-    /// Its elements make no piece.
+    /// Its elements don't make one piece.
     #[error("{0}")]
     Unlaid(LayFault),
 }
@@ -52,7 +52,7 @@ fn elements_in(alloc: Global, format: Format, file: &[u8]) -> Result<Vec<Element
 ///
 /// # Errors
 ///
-/// Unread with the first fault of the file; NoData if it has no bytes; Unlaid with why its elements make no piece.
+/// Unread with the first fault of the file; NoData if it has no bytes; Unlaid, with the reason, if its elements don't make one piece.
 pub fn image_of(
     alloc: Global,
     format: Format,

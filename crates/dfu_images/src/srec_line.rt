@@ -88,7 +88,7 @@ impl<'t> Model for Record<'t> {
     ghost invariant = { λ r. r.address < 2 ^ 32 };
 }
 
-/// A record, of its type and bytes.
+/// A record, from its type and bytes.
 #[tactic(auto, using(std::proofs::lemmas::Bool::Decides::nat_tests), unfolding(crate::specs::SRecord::srec_framed))]
 pub(crate) fn framed(at: usize, typed: &Typed) -> Result<Record<'_>, ImageFault>
     ensures { result ≡ srec_framed at typed.now }

@@ -39,7 +39,7 @@ pub makes_all : (given : Option (List ℕ)) (bytes : List ℕ) (ids : Ids) (r : 
 makes_all None bytes ids r h m = tt
 makes_all (Some all) bytes ids r h m = subst (λ (xs : List ℕ). Makes xs ids r) h.0 m
 
--- Where the test said no, the bytes have no suffix.
+-- If the test said no, the bytes have no suffix.
 pub none_yet : (said : Bool) (xs ys : List ℕ) → ((said ≡ true) ↔ HasSuffix xs) → said ≡ false → xs ≡ ys → HasSuffix ys → ⊥
 none_yet said xs ys told off same has =
     let both = told.1 (subst HasSuffix (sym same) has) in

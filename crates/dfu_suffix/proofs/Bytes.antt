@@ -14,7 +14,7 @@ AreBytes-take (suc n) [] f k = f k
 AreBytes-take (suc n) (x ∷ xs) f zero = f zero
 AreBytes-take (suc n) (x ∷ xs) f (suc k) = AreBytes-take n xs (λ i. f (suc i)) k
 
--- Two lists of bytes, one behind the other, are one of bytes.
+-- Two lists of bytes, one after the other, are a list of bytes.
 pub AreBytes-append : (xs ys : List ℕ) → AreBytes xs → AreBytes ys → AreBytes (xs ++ ys)
 AreBytes-append [] ys f g k = g k
 AreBytes-append (x ∷ xs) ys f g zero = f zero

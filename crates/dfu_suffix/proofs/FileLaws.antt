@@ -30,7 +30,7 @@ unfolding reading
 reading_found b c f h =
     let p = content_is (find (has_fault b) fault_order) (content_of b) c h in
     let s = sound b p.0 in
-    subst (λ (d : Content). Found b d) p.1 (extra_of b, found b s f, sym (length_extra b s))
+    subst (λ (d : Content). Found b d) p.1 (extra_of b, found b s f, sym (length_extra b s.formed))
 
 -- What holds for each value that an answer may be holds for the one that it is.
 pub if_ok : {T E : Type 0} (r : Result T E) (P : T → Type 0) → ((x : T) → r ≡ Ok x → P x) → IfOk r P

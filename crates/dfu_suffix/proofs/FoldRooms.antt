@@ -13,7 +13,7 @@ use Rattle.dfu_suffix.proofs.FoldSteps.{fold_step, folded}
 residue_at : (room : List ℕ) (i k : ℕ) → k < 1968 → get_or (take 1968 (drop i room)) k 0 ≡ get_or room (i + k) 0
 residue_at room i k h = get_or-take 1968 (drop i room) k 0 h ∙ get_or-drop i room k 0
 
--- A byte was set behind the residue.
+-- A byte was set after the residue.
 residue_step : (room : List ℕ) (i c : ℕ) → i + 1968 < length room →
     take 1968 (drop (i + 1) (set room (i + 1968) c)) ≡ drop 1 (take 1968 (drop i room)) ++ c ∷ []
 residue_step room i c h =
@@ -24,7 +24,7 @@ residue_step room i c h =
     ∙ (take_more_set (drop (i + 1) room) 1967 c fits
     ∙ ap (λ (ys : List ℕ). ys ++ c ∷ []) (ap (take 1967) (sym (drop-drop 1 i room)) ∙ sym (drop-take 1 1967 (drop i room)))))
 
--- The byte that comes behind the residue at a place of the room.
+-- The byte that comes after the residue at a place of the room.
 abbrev pub folded_at : ℕ → List ℕ → ℕ → ℕ
 folded_at m room i =
     bit_xor (bit_xor (bit_xor (bit_xor (bit_xor (bit_xor m (get_or room i 0)) (get_or room (i + 720) 0)) (get_or room (i + 848) 0))
@@ -57,7 +57,7 @@ folded_same m room i =
     let e5 = residue_at room i 1920 (omega arith) in
     cc
 
--- What a turn of folding keeps: the room has only bytes, and the residue at this place stands for the register so far.
+-- What a turn of folding keeps: the room has only bytes, and the residue at this place represents the register so far.
 pub record Folds (start : ℕ) (bytes room : List ℕ) (i : ℕ) : Type 0 where
   pub long : length room ≡ 6064
   pub each : AreBytes room

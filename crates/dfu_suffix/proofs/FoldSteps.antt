@@ -1,4 +1,4 @@
--- A residue stands for the same register, where a byte goes and its combination comes.
+-- A residue represents the same register if a byte goes and its combination comes.
 use Rattle.std.proofs.Common.{◌≡◌, ℕ, suc, ◌+◌, ◌<◌, ◌≤◌, List, [], ◌∷◌, ◌++◌, length, take, drop, get_or, bit_xor, refl, sym, ap, ◌∙◌, arith}
 use Rattle.std.specs.Int.Bits.{xor_assoc, xor_self, xor_zero_l, xor_zero_r}
 use Rattle.std.proofs.lemmas.List.{length-take-le, take-append-le}
@@ -47,7 +47,7 @@ without_first b xs f =
     sym (ap (λ (y : ℕ). bit_xor y z) first
     ∙ (xor_assoc (from_zero xs) z z ∙ (ap (bit_xor (from_zero xs)) (xor_self z) ∙ xor_zero_r (from_zero xs))))
 
--- Where the first byte goes and another comes, the register over the first n bytes goes on by the byte behind them.
+-- If the first byte goes and another comes, the register over the first n bytes goes on by the byte after them.
 front_step : (n b c : ℕ) (xs : List ℕ) → n ≤ length xs → AreBytes (b ∷ xs) →
     from_zero (take n (xs ++ c ∷ []))
     ≡ shifts 8 (bit_xor (bit_xor (from_zero (take n (b ∷ xs))) (get_or (b ∷ xs) n 0)) (shifts (eights n) b))
@@ -117,7 +117,7 @@ step m b c xs long f small fits is =
     ∙ (ap (bit_xor (bit_xor (stands_for t) (bit_xor m b))) gone ∙ left)) in
     stepped ∙ (combined_shifts 8 each start taps ∙ (ap (shifts 8) all ∙ sym (bits_step 8 (stands_for t) m small)))
 
--- Where the first byte of a residue goes and that one comes, the residue stands for the register after the byte of the input.
+-- If the first byte of a residue goes and that one comes, the residue represents the register after the byte of the input.
 pub fold_step : (m c : ℕ) (t : List ℕ) → length t ≡ 1968 → AreBytes t → m < 256 → c < 256 → c ≡ folded m t →
     stands_for (drop 1 t ++ c ∷ []) ≡ after_bits (stands_for t) (low_bits 8 m)
 fold_step m c [] long f small fits is = absurd (omega arith)

@@ -17,7 +17,7 @@ gathered_all limit old new turn bytes k e =
     if_some old (λ all. (bytes ≡ all) × (length all ≤ limit)) (λ all o. let same =
     consumed_all old new bytes all k.given e o in (same, subst (λ (xs : List ℕ). length xs ≤ limit) same k.small))
 
--- Once a piece more was given, and put behind the others, so many are gathered.
+-- Once one more piece was given and added to the others, so many are gathered.
 pub gathered_more : (limit : ℕ) (old mid new : Option (List ℕ)) (turn : ℕ) (bytes more both : List ℕ) →
     Gathered limit old mid turn bytes → Consumes mid new more → 0 < length more → length bytes + length more ≤ limit →
     both ≡ bytes ++ more → Gathered limit old new (turn + 1) both
@@ -27,7 +27,7 @@ gathered_more limit old mid new turn bytes more both k given some small e = subs
   turns = omega (arith, length-append bytes more, k.turns);
 })
 
--- Where a piece more is over the limit, so is all that the reader gives.
+-- If one more piece is over the limit, so is all that the reader gives.
 pub gathered_over : (limit : ℕ) (old mid new : Option (List ℕ)) (turn : ℕ) (bytes more : List ℕ) →
     Gathered limit old mid turn bytes → Consumes mid new more → limit < length bytes + length more →
     IfSome old (λ all. limit < length all)

@@ -33,7 +33,7 @@ abbrev pub summed : List ℕ → Result Content SuffixFault → Result Summary S
 summed bytes (Ok c) = Ok (summary_in bytes c)
 summed bytes (Err f) = Err f
 
--- What reading answers, by what the last 16 bytes told and whether dwCRC is right.
+-- What reading answers, by what the last 16 bytes said and whether dwCRC is right.
 abbrev pub read_by : Bool → Result Summary SuffixFault → Content → Result Content SuffixFault
 read_by intact (Ok said) c = cond intact (Ok c) (Err BadCrc)
 read_by intact (Err fault) c = Err fault
@@ -53,7 +53,7 @@ flow false false false false false said c = refl
 abbrev pub is_intact : List ℕ → Bool
 is_intact s = eqb (little_number 4 (drop 12 (tail_of s))) (register (take (length s - 4) s))
 
--- Reading bytes that are not too many answers what their last 16 told, unless dwCRC is wrong.
+-- Reading bytes that are not too many answers what their last 16 said, unless dwCRC is wrong.
 pub reading_told : (s : List ℕ) → length s ≤ 16777216 →
     reading s ≡ read_by (is_intact s) (tail_summary (tail_of s) (length s)) (content_of s)
 unfolding reading tail_summary
@@ -74,7 +74,7 @@ same_test true false h = sym (h.0 refl)
 same_test false true h = h.1 refl
 same_test false false h = refl
 
--- So are the tests of numbers that are alike together.
+-- Two tests whether numbers are equal are the same if they hold together.
 by_zero : (a b c d : ℕ) → ((a ≡ b) ↔ (c ≡ d)) → eqb a b ≡ eqb c d
 by_zero a b c d h = same_test (eqb a b) (eqb c d) (λ e. eq-eqb c d (h.0 (eqb-true a b e)), λ e. eq-eqb a b (h.1 (eqb-true c d e)))
 
@@ -84,7 +84,7 @@ pub said_same : (p q s t d x y : ℕ) (i : Ids) → p ≡ q → s ≡ t → x �
     (record { payload = q; suffix = t; ids = i; dfu = d; crc = y })
 said_same p q s t d x y i h0 h1 h2 = cc
 
--- Where two summaries are the same, what was told is the one, unless it is a fault.
+-- If two summaries are the same, what was said is that one, unless it is a fault.
 told_is : (t1 t2 t3 t4 : Bool) (a b : Summary) → a ≡ b →
     IfOk (cond t1 (Err TooShort) (cond t2 (Err NoSignature) (cond t3 (Err BadLength) (cond t4 (Err DfuSe) (Ok a))))) (λ x. x ≡ b)
 told_is true t2 t3 t4 a b e = tt
@@ -93,24 +93,24 @@ told_is false false true t4 a b e = tt
 told_is false false false true a b e = tt
 told_is false false false false a b e = e
 
--- Where the register tells whether dwCRC is right, judging what was told is reading it.
+-- If the register says whether dwCRC is right, judging what was said is reading it.
 sealed_is_read : (x : Result Summary SuffixFault) (intact : Bool) (s : List ℕ) (c : Content) →
     IfOk x (λ y. y ≡ summary_in s c) → sealed intact x ≡ summed s (read_by intact x c)
 sealed_is_read (Ok y) true s c e = ap Ok e
 sealed_is_read (Ok y) false s c e = refl
 sealed_is_read (Err f) intact s c e = refl
 
--- Where the first test holds, the first answer counts.
+-- If the first test holds, the first answer counts.
 at_once : {X : Type 0} (t : Bool) (x y : X) → t ≡ true → cond t x y ≡ x
 at_once true x y e = refl
 at_once false x y e = cc
 
--- Under 16 bytes there is no more to tell.
+-- Under 16 bytes there is nothing more to say.
 too_short : (t : List ℕ) (n : ℕ) → ltb n 16 ≡ true → tail_summary t n ≡ Err TooShort
 unfolding tail_summary
 too_short t n e = at_once (ltb n 16) (Err TooShort) _ e
 
--- What the last 16 bytes told sums up what they say.
+-- What the last 16 bytes said sums up what they say.
 sums_up : (s : List ℕ) → 16 ≤ length s → IfOk (tail_summary (tail_of s) (length s)) (λ y. y ≡ summary_in s (content_of s))
 unfolding tail_summary
 sums_up s long =
@@ -125,7 +125,7 @@ sums_up s long =
     told_is (ltb n 16) (not (is_signed t)) (ltb (get_or t 11 0) 16 || ltb n (get_or t 11 0))
     (eqb (little_number 2 (drop 6 t)) 0x011A) (told_by t n) (summary_in s c) same
 
--- The register over all bytes is 0 exactly where dwCRC is right.
+-- The register over all bytes is 0 exactly if dwCRC is right.
 zero_intact : (s : List ℕ) → AreBytes s → 16 ≤ length s → eqb (register s) 0 ≡ is_intact s
 zero_intact s f long =
     let n = length s in
@@ -135,7 +135,7 @@ zero_intact s f long =
     let law = last_four s f (omega arith) in
     by_zero (register s) 0 last due (λ z. ap (little_number 4) moved ∙ law.0 z, λ z. law.1 (sym (ap (little_number 4) moved) ∙ z))
 
--- The last 16 bytes tell what the window tells, also where they are fewer.
+-- The last 16 bytes say what the window says, also if there are fewer.
 told_window : (s : List ℕ) (short : Bool) → ltb (length s) 16 ≡ short →
     tail_summary (window_of s) (length s) ≡ tail_summary (tail_of s) (length s)
 told_window s true e = too_short (window_of s) (length s) e ∙ sym (too_short (tail_of s) (length s) e)
@@ -175,7 +175,7 @@ unfolding reading
 read_is_filed s f small =
     summed_filed s (find (has_fault s) fault_order) ∙ ap (filed s) (sym (judged_tail s f small (ltb (length s) 16) refl))
 
--- Reading is what the last 16 bytes told, with the bytes before the suffix, unless the register over all bytes isn't 0.
+-- Reading is what the last 16 bytes said, with the bytes before the suffix, unless the register over all bytes isn't 0.
 pub told_is_read : (s t : List ℕ) (due : ℕ) (intact : Bool) (r x : Result Summary SuffixFault) → AreBytes s → length s ≤ 16777216 →
     t ≡ tail_of s → r ≡ tail_summary t (length s) → r ≡ x → due ≡ register s → eqb due 0 ≡ intact → filed s (sealed intact x) ≡ reading s
 told_is_read s t due intact r x f small tail answer is register_is zero =

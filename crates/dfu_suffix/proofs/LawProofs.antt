@@ -41,7 +41,7 @@ by_last_four s f h =
           ∙ (register-append front last ∙ ap (after_bits (register front)) (sym bits)),
     )
 
--- The register over four bytes or more is 0 exactly where the last four are the register over those before.
+-- The register over four bytes or more is 0 exactly if the last four are the register over those before.
 pub last_four : LastFour
 last_four s f h =
     let front = take (length s - 4) s in

@@ -13,6 +13,7 @@ use Rattle.dfu_suffix.specs.Register.{register}
 use Rattle.dfu_suffix.specs.Laws.{AreBytes}
 use Rattle.dfu_suffix.specs.Grammar.{IsFile, fields_before_crc, before_crc, tail_of, is_signed, has_fault, fault_order}
 use Rattle.dfu_suffix.specs.inside.Reading.{content_of}
+use Rattle.dfu_suffix.proofs.OneReading.{IsSpelled}
 use Rattle.dfu_suffix.specs.declared.fault.SuffixFault.TheVariants.{TooShort, NoSignature, BadLength, DfuSe, BadCrc, TooLarge}
 
 -- ---- numbers and their bytes
@@ -69,8 +70,8 @@ and_true : (a b : Bool) → (a && b) ≡ true → (a ≡ true) × (b ≡ true)
 and_true true b h = (refl, h)
 and_true false b h = (h, cc)
 
--- Bytes with no fault have none of the conditions of a fault.
-pub record Sound (b : List ℕ) : Type 0 where
+-- Bytes are formed like a file if their last 16 have the letters UFD, and a bLength of at least 16 that is within them.
+pub record Formed (b : List ℕ) : Type 0 where
   pub small : length b ≤ 16777216
   pub long : 16 ≤ length b
   pub letter_u : get_or (tail_of b) 8 0 ≡ 0x55
@@ -78,10 +79,42 @@ pub record Sound (b : List ℕ) : Type 0 where
   pub letter_d : get_or (tail_of b) 10 0 ≡ 0x44
   pub whole : 16 ≤ get_or (tail_of b) 11 0
   pub within : get_or (tail_of b) 11 0 ≤ length b
-  pub not_dfuse : little_number 2 (drop 6 (tail_of b)) ≢ 0x011A
-  pub crc : little_number 4 (drop 12 (tail_of b)) ≡ register (take (length b - 4) b)
 
--- Bytes for which no fault is found are such.
+-- Bytes without the first four faults are formed like a file.
+pub formed : (b : List ℕ) → has_fault b TooLarge ≡ false → has_fault b TooShort ≡ false → has_fault b NoSignature ≡ false →
+    has_fault b BadLength ≡ false → Formed b
+formed b large short unsigned bad =
+    let t = tail_of b in
+    let s0 = and_true (eqb (get_or t 8 0) 0x55) (eqb (get_or t 9 0) 0x46 && eqb (get_or t 10 0) 0x44) (not-false (is_signed t) unsigned) in
+    let s1 = and_true (eqb (get_or t 9 0) 0x46) (eqb (get_or t 10 0) 0x44) s0.1 in
+    let l = or_false (ltb (get_or t 11 0) 16) (ltb (length b) (get_or t 11 0)) bad in
+    record {
+      small = ltb-false 16777216 (length b) large;
+      long = ltb-false (length b) 16 short;
+      letter_u = eqb-true (get_or t 8 0) 0x55 s0.0;
+      letter_f = eqb-true (get_or t 9 0) 0x46 s1.0;
+      letter_d = eqb-true (get_or t 10 0) 0x44 s1.1;
+      whole = ltb-false (get_or t 11 0) 16 l.0;
+      within = ltb-false (length b) (get_or t 11 0) l.1;
+    }
+
+-- Bytes are intact if their dwCRC is the register over all bytes before it.
+abbrev pub IsIntact : List ℕ → Type 0
+IsIntact b = little_number 4 (drop 12 (tail_of b)) ≡ register (take (length b - 4) b)
+
+-- Bytes without the fault BadCrc are intact.
+pub intact : (b : List ℕ) → has_fault b BadCrc ≡ false → IsIntact b
+intact b h =
+    let crc = little_number 4 (drop 12 (tail_of b)) in
+    eqb-true crc (register (take (length b - 4) b)) (not-false (eqb crc (register (take (length b - 4) b))) h)
+
+-- Bytes with no fault are formed like a file, intact, and not a DfuSe file.
+pub record Sound (b : List ℕ) : Type 0 where
+  pub formed : Formed b
+  pub not_dfuse : little_number 2 (drop 6 (tail_of b)) ≢ 0x011A
+  pub crc : IsIntact b
+
+-- Bytes for which no fault is found are sound.
 pub sound : (b : List ℕ) → find (has_fault b) fault_order ≡ None → Sound b
 sound b h =
     let p0 = passed (has_fault b TooLarge) TooLarge (find (has_fault b) (TooShort ∷ NoSignature ∷ BadLength ∷ DfuSe ∷ BadCrc ∷ [])) h in
@@ -90,22 +123,10 @@ sound b h =
     let p3 = passed (has_fault b BadLength) BadLength (find (has_fault b) (DfuSe ∷ BadCrc ∷ [])) p2.1 in
     let p4 = passed (has_fault b DfuSe) DfuSe (find (has_fault b) (BadCrc ∷ [])) p3.1 in
     let p5 = passed (has_fault b BadCrc) BadCrc (find (has_fault b) []) p4.1 in
-    let t = tail_of b in
-    let signed = not-false (is_signed t) p2.0 in
-    let s0 = and_true (eqb (get_or t 8 0) 0x55) (eqb (get_or t 9 0) 0x46 && eqb (get_or t 10 0) 0x44) signed in
-    let s1 = and_true (eqb (get_or t 9 0) 0x46) (eqb (get_or t 10 0) 0x44) s0.1 in
-    let l = or_false (ltb (get_or t 11 0) 16) (ltb (length b) (get_or t 11 0)) p3.0 in
     record {
-      small = ltb-false 16777216 (length b) p0.0;
-      long = ltb-false (length b) 16 p1.0;
-      letter_u = eqb-true (get_or t 8 0) 0x55 s0.0;
-      letter_f = eqb-true (get_or t 9 0) 0x46 s1.0;
-      letter_d = eqb-true (get_or t 10 0) 0x44 s1.1;
-      whole = ltb-false (get_or t 11 0) 16 l.0;
-      within = ltb-false (length b) (get_or t 11 0) l.1;
-      not_dfuse = λ e. let yes = eq-eqb (little_number 2 (drop 6 t)) 0x011A e in cc;
-      crc = eqb-true (little_number 4 (drop 12 t)) (register (take (length b - 4) b))
-          (not-false (eqb (little_number 4 (drop 12 t)) (register (take (length b - 4) b))) p5.0);
+      formed = formed b p0.0 p1.0 p2.0 p3.0;
+      not_dfuse = λ e. let yes = eq-eqb (little_number 2 (drop 6 (tail_of b))) 0x011A e in cc;
+      crc = intact b p5.0;
     }
 
 -- These are the extra bytes of a suffix that is longer than 16.
@@ -116,7 +137,7 @@ length_tail : (b : List ℕ) → 16 ≤ length b → length (tail_of b) ≡ 16
 length_tail b h = length-drop (length b - 16) b ∙ omega arith
 
 -- With the extra bytes a suffix is as long as bLength says.
-pub length_extra : (b : List ℕ) → Sound b → 16 + length (extra_of b) ≡ get_or (tail_of b) 11 0
+pub length_extra : (b : List ℕ) → Formed b → 16 + length (extra_of b) ≡ get_or (tail_of b) 11 0
 length_extra b s =
     let l = get_or (tail_of b) 11 0 in
     let w = s.whole in
@@ -125,8 +146,8 @@ length_extra b s =
     let d = length-drop (length b - l) b in
     omega arith
 
--- The bytes in front of the last 16.
-front_parts : (b : List ℕ) → Sound b → take (length b - get_or (tail_of b) 11 0) b ++ (extra_of b ++ tail_of b) ≡ b
+-- The bytes before the last 16.
+front_parts : (b : List ℕ) → Formed b → take (length b - get_or (tail_of b) 11 0) b ++ (extra_of b ++ tail_of b) ≡ b
 front_parts b s =
     let l = get_or (tail_of b) 11 0 in
     let w = s.whole in
@@ -150,7 +171,7 @@ tail_cells : (t : List ℕ) → length t ≡ 16 → t ≡ fields t ++ crc_bytes 
 tail_cells t h = drop_cells 16 0 t (sym h)
 
 -- What was read from the fields, written again.
-fields_again : (b : List ℕ) → Sound b → AreBytes b → fields_before_crc (content_of b).ids (content_of b).dfu (extra_of b)
+fields_again : (b : List ℕ) → Formed b → AreBytes b → fields_before_crc (content_of b).ids (content_of b).dfu (extra_of b)
     ≡ fields (tail_of b)
 fields_again b s f =
     let t = tail_of b in
@@ -175,9 +196,18 @@ crc_again t f =
     (omega (arith, f 12)) (omega (arith, f 13)) (omega (arith, f 14)) (omega (arith, f 15)) in
     four ∙ cc
 
--- Bytes that have no fault are a file of the grammar, with what is read from their end.
-pub found : (b : List ℕ) → Sound b → AreBytes b → IsFile (content_of b).payload (content_of b).ids (content_of b).dfu (extra_of b) b
-found b s f =
+-- A number of two of the last 16 bytes fits.
+pub field_fits : (b : List ℕ) (i : ℕ) → AreBytes b → little_number 2 (drop i (tail_of b)) < 2 ^ 16
+field_fits b i f = number_fits (drop i (tail_of b)) (AreBytes-drop (tail_of b) i (AreBytes-drop b (length b - 16) f))
+
+-- The extra bytes are at most 239.
+pub extra_fits : (b : List ℕ) → Formed b → AreBytes b → length (extra_of b) ≤ 239
+extra_fits b s f = omega (arith, length_extra b s, AreBytes-drop b (length b - 16) f 11)
+
+-- Bytes that are formed like a file and intact are what was read from their end, written again.
+pub spelled : (b : List ℕ) → Formed b → IsIntact b → AreBytes b →
+    IsSpelled (content_of b).payload (content_of b).ids (content_of b).dfu (extra_of b) b
+spelled b s right f =
     let t = tail_of b in
     let ft : AreBytes t = AreBytes-drop b (length b - 16) f in
     let payload = take (length b - get_or t 11 0) b in
@@ -190,14 +220,18 @@ found b s f =
     let len : length front ≡ length b - 4 = omega (arith, ap length whole, length-append front (crc_bytes t)) in
     let cut : take (length b - 4) b ≡ front = ap (take (length b - 4)) whole ∙ take_at front (crc_bytes t) (length b - 4) len in
     let crc : to_le_bytes w32 (register before) ≡ crc_bytes t =
-    ap (λ (xs : List ℕ). to_le_bytes w32 (register xs)) (same ∙ sym cut) ∙ (ap (to_le_bytes w32) (sym s.crc) ∙ crc_again t ft) in
-    record {
-      spelled = whole ∙ (ap (λ (xs : List ℕ). xs ++ crc_bytes t) (sym same) ∙ ap (λ (xs : List ℕ). before ++ xs) (sym crc));
-      extra_fits = omega (arith, length_extra b s, ft 11);
-      device_fits = number_fits (drop 0 t) (AreBytes-drop t 0 ft);
-      product_fits = number_fits (drop 2 t) (AreBytes-drop t 2 ft);
-      vendor_fits = number_fits (drop 4 t) (AreBytes-drop t 4 ft);
-      dfu_fits = number_fits (drop 6 t) (AreBytes-drop t 6 ft);
-      not_dfuse = s.not_dfuse;
-      small = s.small;
-    }
+    ap (λ (xs : List ℕ). to_le_bytes w32 (register xs)) (same ∙ sym cut) ∙ (ap (to_le_bytes w32) (sym right) ∙ crc_again t ft) in
+    whole ∙ (ap (λ (xs : List ℕ). xs ++ crc_bytes t) (sym same) ∙ ap (λ (xs : List ℕ). before ++ xs) (sym crc))
+
+-- Bytes that have no fault are a file of the grammar, with what is read from their end.
+pub found : (b : List ℕ) → Sound b → AreBytes b → IsFile (content_of b).payload (content_of b).ids (content_of b).dfu (extra_of b) b
+found b s f = record {
+  spelled = spelled b s.formed s.crc f;
+  extra_fits = extra_fits b s.formed f;
+  device_fits = field_fits b 0 f;
+  product_fits = field_fits b 2 f;
+  vendor_fits = field_fits b 4 f;
+  dfu_fits = field_fits b 6 f;
+  not_dfuse = s.not_dfuse;
+  small = s.formed.small;
+}

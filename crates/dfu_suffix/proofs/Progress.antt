@@ -9,7 +9,7 @@ use Rattle.dfu_suffix.specs.Writing.{IsOutInPart}
 abbrev pub Progress : Option (List ℕ) → Option (List ℕ) → List ℕ → List ℕ → Type 0
 Progress old new text rest = (front : List ℕ) × (text ≡ front ++ rest) × Appends old new front
 
--- Once the first bytes of the rest are out too, the bytes behind them are left.
+-- Once the first bytes of the rest are written too, the bytes after them are left.
 pub progress_more : (old mid new : Option (List ℕ)) (text rest : List ℕ) (n : ℕ) →
     Progress old mid text rest → Appends mid new (take n rest) → Progress old new text (drop n rest)
 progress_more old mid new text rest n p k = (
@@ -19,7 +19,7 @@ progress_more old mid new text rest n p k = (
   Appends-trans old mid new p.0 (take n rest) p.2 k,
 )
 
--- Where something is left, and nothing more came out, a front of the text is out, and not all of it.
+-- If something is left, and no more was written, a front of the text is written, and not all of it.
 pub progress_stopped : (old mid new : Option (List ℕ)) (text rest : List ℕ) →
     Progress old mid text rest → 0 < length rest → Appends mid new [] → IsOutInPart old new text
 progress_stopped old mid new text rest p some k = record {
@@ -30,6 +30,6 @@ progress_stopped old mid new text rest p some k = record {
   told = subst (λ (zs : List ℕ). Appends old new zs) (append-nil p.0) (Appends-trans old mid new p.0 [] p.2 k);
 }
 
--- Where nothing changed, nothing came out.
+-- If nothing changed, nothing was written.
 pub keeps_nothing : (mid new : Option (List ℕ)) → Keeps mid new → Appends mid new []
 keeps_nothing mid new k = Appends-kept mid mid new [] (Appends-nil mid) k

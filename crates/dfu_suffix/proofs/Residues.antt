@@ -24,7 +24,7 @@ front_more n k r s xs first second =
     ∙ (ap (λ (z : ℕ). after_bits z (bits_of (take k (drop n xs)))) first
     ∙ (sym (after-append 0 (take n xs) (take k (drop n xs))) ∙ ap from_zero (sym (in_parts n k xs))))
 
--- The registers over what lies before each tap, and over the whole, are what the residue stands for.
+-- The registers over what lies before each tap, and over the whole, are what the residue represents.
 pub registers : (r1 r2 r3 r4 r5 r6 : ℕ) (room : List ℕ) → r1 ≡ after_bits 0 (bits_of (take 720 room)) →
     r2 ≡ after_bits r1 (bits_of (take 128 (drop 720 room))) → r3 ≡ after_bits r2 (bits_of (take 336 (drop 848 room))) →
     r4 ≡ after_bits r3 (bits_of (take 96 (drop 1184 room))) → r5 ≡ after_bits r4 (bits_of (take 640 (drop 1280 room))) →
@@ -53,7 +53,7 @@ after_zeros (suc n) r =
     ∙ (ap (λ (z : ℕ). after_bits (shifts 8 z) (bits_of (replicate n 0))) (xor_zero_r r)
     ∙ (after_zeros n (shifts 8 r) ∙ sym (shifts_add 8 (eights n) r)))
 
--- Four bytes, as a number, and n bytes 0 behind them.
+-- Four bytes, as a number, and n bytes 0 after them.
 front_zeros : (n m r : ℕ) (xs : List ℕ) → Four r xs → n ≤ m →
     from_zero (take (4 + n) (xs ++ replicate m 0)) ≡ shifts (32 + eights n) r
 front_zeros n m r xs q h =
@@ -83,7 +83,7 @@ register_bytes r xs h e =
       small = h;
     })
 
--- A register in four bytes, and bytes 0 behind them, stands for the register.
+-- A register in four bytes, followed by bytes 0, represents the register.
 pub begun : (m r : ℕ) (xs room : List ℕ) → Four r xs → 1964 ≤ m → room ≡ xs ++ replicate m 0 →
     stands_for (take 1968 room) ≡ r
 unfolding stands_for combined

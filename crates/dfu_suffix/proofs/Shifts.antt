@@ -71,7 +71,7 @@ shift_even t =
     let half : t * 2 / 2 ≡ t = omega arith in
     ap (λ (z : ℕ). cond (eqb z 0) (t * 2 / 2) (bit_xor (t * 2 / 2) 0xEDB8_8320)) low ∙ half
 
--- Where the bits that are shifted out are 0, nothing else happens.
+-- If the bits that are shifted out are 0, nothing else happens.
 pub shifts_whole : (n h : ℕ) → shifts n (h * 2 ^ n) ≡ h
 unfolding shifts
 shifts_whole zero h = omega arith
@@ -133,7 +133,7 @@ unfolding shifts
 zero-shifts zero = refl
 zero-shifts (suc n) = zero-shifts n
 
--- The low bits of a number are had in two parts.
+-- The low bits of a number in two parts.
 pub low_bits-add : (m n x : ℕ) → low_bits (m + n) x ≡ low_bits m x ++ low_bits n (x / 2 ^ m)
 unfolding low_bits
 low_bits-add zero n x =
@@ -157,7 +157,7 @@ low_bits_same (suc n) b y =
     ap (λ (z : ℕ). z ∷ low_bits n ((b + 2 ^ suc n * y) / 2)) low ∙ ap (λ (bs : List ℕ). b % 2 ∷ bs) (ap (low_bits n) high
     ∙ low_bits_same n (b / 2) y)
 
--- So many bits have n bytes.
+-- n bytes have this many bits.
 abbrev pub eights : ℕ → ℕ
 eights zero = 0
 eights (suc n) = 8 + eights n
@@ -206,7 +206,7 @@ unfolding shifts
 shifts-zero zero s h e = e
 shifts-zero (suc n) s h e = shift-zero s h (shifts-zero n (shift s) (shift-fits s h) e)
 
--- Four bytes more make the register 0 exactly where they are the register.
+-- Four more bytes make the register 0 exactly if they are the register.
 pub four_more : (r x : ℕ) → r < 2 ^ 32 → x < 2 ^ 32 → (after_bits r (low_bits 32 x) ≡ 0) ↔ (x ≡ r)
 four_more r x p q =
     let step : shifts 32 (bit_xor r x) ≡ after_bits r (low_bits 32 x) = sym (bits_step 32 r x q) in (

@@ -1,4 +1,4 @@
--- What stands in the small table, and what a byte does by it.
+-- What the small table holds, and what a byte does by it.
 use Rattle.std.proofs.Common.{◌≡◌, ℕ, ◌/◌, ◌%◌, ◌^◌, ◌<◌, true, get_or, bit_and, bit_xor, refl, sym, ap, ◌∙◌, arith}
 use Rattle.std.proofs.lemmas.Nat.{and_mask}
 use Rattle.dfu_suffix.proofs.Shifts.{bits_step, shifts_add, shifts_low}

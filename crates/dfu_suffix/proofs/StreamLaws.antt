@@ -31,7 +31,7 @@ pub record Kept (old new : Option (List ℕ)) (turn crc count : ℕ) (window see
 abbrev pub Seen : Option (List ℕ) → Option (List ℕ) → ℕ → ℕ → ℕ → List ℕ → Type 0
 Seen old new turn crc count window = (seen : List ℕ) × Kept old new turn crc count window seen
 
--- Once a piece more was given, so many bytes were.
+-- Once one more piece was given, there are so many bytes.
 pub seen_more : (old mid new : Option (List ℕ)) (turn crc count crc' count' : ℕ) (window window' more : List ℕ) →
     Seen old mid turn crc count window → Consumes mid new more → AreBytes more → 0 < length more →
     ((before : List ℕ) → crc ≡ register before → crc' ≡ register (before ++ more)) →
@@ -90,7 +90,7 @@ over_limit old mid new turn crc count window more all (seen, k) given over o =
       consumed_length old new (seen ++ more) all (Consumes-trans old mid new seen more k.given given) o,
     )
 
--- Where a piece more is over the limit, TooLarge is the answer.
+-- If one more piece is over the limit, TooLarge is the answer.
 pub seen_over : (old mid new : Option (List ℕ)) (turn crc count : ℕ) (window more : List ℕ) →
     Seen old mid turn crc count window → Consumes mid new more → 16777216 < count + length more →
     IfSome old (λ all. UnlessRead {T = Summary} (Err TooLarge) (Checks all (Err TooLarge)))
@@ -98,7 +98,7 @@ seen_over old mid new turn crc count window more s given over =
     if_some old (λ all. UnlessRead {T = Summary} (Err TooLarge) (Checks all (Err TooLarge))) (λ all o.
     checks_large all (over_limit old mid new turn crc count window more all s given over o))
 
--- Where a piece more is over the limit, there are no findings to show.
+-- If one more piece is over the limit, there are no findings to show.
 pub none_found : (old mid new : Option (List ℕ)) (turn crc count : ℕ) (window more : List ℕ) (f : Findings) →
     Seen old mid turn crc count window → Consumes mid new more → 16777216 < count + length more →
     IfSome old (λ all. UnlessRead {T = Summary} (Err TooLarge) (FindsFile all f))

@@ -1,5 +1,5 @@
--- What stands in the table, and what a byte does.
-use Rattle.std.proofs.Common.{inl, inr, append-nil, subst, fold, ◌≡◌, ℕ, zero, suc, ◌+◌, ◌/◌, ◌%◌, ◌^◌, ◌<◌, ◌≤◌, Bool, true, false, cond, eqb, List, [], ◌∷◌, ◌++◌, length, take, drop, get_or, bit_and, bit_xor, refl, sym, ap, ◌∙◌, arith}
+-- What the tables hold, and what a byte does.
+use Rattle.std.proofs.Common.{inl, inr, append-nil, subst, fold, ◌≡◌, ℕ, zero, suc, ◌+◌, ◌*◌, ◌/◌, ◌%◌, ◌^◌, ◌<◌, ◌≤◌, Bool, true, false, cond, eqb, List, [], ◌∷◌, ◌++◌, length, take, drop, get_or, slice_index_or, bit_and, bit_xor, refl, sym, ap, ◌∙◌, arith}
 use Rattle.std.proofs.lemmas.Bool.{eqb-true}
 use Rattle.std.proofs.lemmas.Nat.{and_mask, xor_comm}
 use Rattle.std.proofs.Math.Nat.{eq-or-lt_of_le}
@@ -12,14 +12,8 @@ use Rattle.dfu_suffix.proofs.Fours.{four_small}
 use Rattle.dfu_suffix.specs.Laws.{AreBytes}
 use Rattle.byteorder.specs.Endian.{little_number}
 use Rattle.dfu_suffix.specs.Register.{after_bit, after_bits, low_bits, bits_of, register, shifts}
-use Rattle.dfu_suffix.specs.declared.table.bits_8.TheConstants.{AFTER_8}
-use Rattle.dfu_suffix.specs.declared.table.bits_16.TheConstants.{AFTER_16}
-use Rattle.dfu_suffix.specs.declared.table.bits_24.TheConstants.{AFTER_24}
-use Rattle.dfu_suffix.specs.declared.table.bits_32.TheConstants.{AFTER_32}
-use Rattle.dfu_suffix.specs.declared.table.bits_40.TheConstants.{AFTER_40}
-use Rattle.dfu_suffix.specs.declared.table.bits_48.TheConstants.{AFTER_48}
-use Rattle.dfu_suffix.specs.declared.table.bits_56.TheConstants.{AFTER_56}
-use Rattle.dfu_suffix.specs.declared.table.bits_64.TheConstants.{AFTER_64}
+use Rattle.dfu_suffix.specs.declared.table.to_32.TheConstants.{AFTER_8, AFTER_16, AFTER_24, AFTER_32}
+use Rattle.dfu_suffix.specs.declared.table.to_64.TheConstants.{AFTER_40, AFTER_48, AFTER_56, AFTER_64}
 
 -- Whether n numbers of a list, from place i on, are those of another after k bits 0.
 abbrev pub right_from : ℕ → (ℕ → ℕ) → List ℕ → ℕ → ℕ → Bool
@@ -31,7 +25,7 @@ both : (a b : Bool) → cond a b false ≡ true → (a ≡ true) × (b ≡ true)
 both true b h = (refl, h)
 both false b h = (h, cc)
 
--- Where they are, each of them is.
+-- If they are, each of them is.
 pub right_at : (k : ℕ) (earlier : ℕ → ℕ) (xs : List ℕ) (i n j : ℕ) → right_from k earlier xs i n ≡ true → i ≤ j → j < i + n →
     get_or xs j 0 ≡ shifts k (earlier j)
 right_at k earlier xs i zero j h p q = absurd (omega arith)
@@ -46,62 +40,49 @@ right_at k earlier xs i (suc n) j h p q =
 abbrev pub Holds : ℕ → List ℕ → Type 0
 Holds k xs = (j : ℕ) → j < 256 → get_or xs j 0 ≡ shifts k j
 
-holds_8 : (xs : List ℕ) → right_from 8 (λ j. j) xs 0 256 ≡ true → Holds 8 xs
-holds_8 xs h j l = right_at 8 (λ j. j) xs 0 256 j h (omega arith) (omega arith)
+-- In a list of tables, each one has what 8 bits 0 make of the numbers in the one before it.
+abbrev chained : (ℕ → ℕ) → List (List ℕ) → Bool
+chained earlier [] = true
+chained earlier (xs ∷ tables) = cond (right_from 8 earlier xs 0 256) (chained (λ j. get_or xs j 0) tables) false
 
--- A table from the one for 8 bits fewer.
-holds_more : (k : ℕ) (ys xs : List ℕ) → Holds k ys → right_from 8 (λ j. get_or ys j 0) xs 0 256 ≡ true → Holds (k + 8) xs
-holds_more k ys xs earlier h j l =
-    right_at 8 (λ j. get_or ys j 0) xs 0 256 j h (omega arith) (omega arith)
-    ∙ (ap (shifts 8) (earlier j l) ∙ sym (shifts_add k 8 j))
+holds_more : (k : ℕ) (earlier : ℕ → ℕ) (xs : List ℕ) → ((j : ℕ) → j < 256 → earlier j ≡ shifts k j) →
+    right_from 8 earlier xs 0 256 ≡ true → Holds (k + 8) xs
+holds_more k earlier xs start h j l =
+    right_at 8 earlier xs 0 256 j h (omega arith) (omega arith) ∙ (ap (shifts 8) (start j l) ∙ sym (shifts_add k 8 j))
+
+-- So the table at place i has what 8 · (i + 1) bits 0 more make.
+chained_at : (k i : ℕ) (earlier : ℕ → ℕ) (tables : List (List ℕ)) → ((j : ℕ) → j < 256 → earlier j ≡ shifts k j) →
+    chained earlier tables ≡ true → i < length tables → Holds (k + 8 * (i + 1)) (slice_index_or tables i [])
+chained_at k i earlier [] start h p = absurd (omega arith)
+chained_at k zero earlier (xs ∷ tables) start h p =
+    holds_more k earlier xs start (both (right_from 8 earlier xs 0 256) (chained (λ j. get_or xs j 0) tables) h).0
+chained_at k (suc i) earlier (xs ∷ tables) start h p =
+    let here = both (right_from 8 earlier xs 0 256) (chained (λ j. get_or xs j 0) tables) h in
+    let more : (k + 8) + 8 * (i + 1) ≡ k + 8 * (suc i + 1) = omega arith in
+    subst (λ (n : ℕ). Holds n (slice_index_or tables i [])) more
+    (chained_at (k + 8) i (λ j. get_or xs j 0) tables (holds_more k earlier xs start here.0) here.1 (omega arith))
 
 -- The entry for the low byte of a number.
 pub entry_at : (k : ℕ) (xs : List ℕ) (x : ℕ) → Holds k xs → get_or xs (bit_and x 255) 0 ≡ shifts k (x % 256)
 entry_at k xs x h = ap (λ (i : ℕ). get_or xs i 0) (and_mask x 8) ∙ h (x % 256) (omega arith)
 
--- The table for 8 bits holds what they make of each byte, by the definition.
-pub right_8 : Holds 8 AFTER_8
-unfolding shifts
-right_8 = holds_8 AFTER_8 refl
+abbrev tables : List (List ℕ)
+tables = AFTER_8 ∷ AFTER_16 ∷ AFTER_24 ∷ AFTER_32 ∷ AFTER_40 ∷ AFTER_48 ∷ AFTER_56 ∷ AFTER_64 ∷ []
 
--- The table for 16 bits holds what they make of each byte.
-pub right_16 : Holds 16 AFTER_16
+tables_chained : chained (λ j. j) tables ≡ true
 unfolding shifts
-right_16 = holds_more 8 AFTER_8 AFTER_16 right_8 refl
+tables_chained = refl
 
--- The table for 24 bits holds what they make of each byte.
-pub right_24 : Holds 24 AFTER_24
+-- Each of the eight tables holds what 8, 16, .. 64 bits 0 make of each byte.
+pub right_table : (i : ℕ) → i < 8 → Holds (8 * (i + 1)) (slice_index_or tables i [])
 unfolding shifts
-right_24 = holds_more 16 AFTER_16 AFTER_24 right_16 refl
-
--- The table for 32 bits holds what they make of each byte.
-pub right_32 : Holds 32 AFTER_32
-unfolding shifts
-right_32 = holds_more 24 AFTER_24 AFTER_32 right_24 refl
-
--- The table for 40 bits holds what they make of each byte.
-pub right_40 : Holds 40 AFTER_40
-unfolding shifts
-right_40 = holds_more 32 AFTER_32 AFTER_40 right_32 refl
-
--- The table for 48 bits holds what they make of each byte.
-pub right_48 : Holds 48 AFTER_48
-unfolding shifts
-right_48 = holds_more 40 AFTER_40 AFTER_48 right_40 refl
-
--- The table for 56 bits holds what they make of each byte.
-pub right_56 : Holds 56 AFTER_56
-unfolding shifts
-right_56 = holds_more 48 AFTER_48 AFTER_56 right_48 refl
-
--- The table for 64 bits holds what they make of each byte.
-pub right_64 : Holds 64 AFTER_64
-unfolding shifts
-right_64 = holds_more 56 AFTER_56 AFTER_64 right_56 refl
+right_table i h =
+    let none : 0 + 8 * (i + 1) ≡ 8 * (i + 1) = omega arith in
+    subst (λ (n : ℕ). Holds n (slice_index_or tables i [])) none (chained_at 0 i (λ j. j) tables (λ j l. refl) tables_chained h)
 
 -- What a byte does, by the table.
 pub table_step : (r b : ℕ) → b < 256 → after_bits r (low_bits 8 b) ≡ bit_xor (r / 2 ^ 8) (get_or AFTER_8 (bit_and (bit_xor r b) 255) 0)
-table_step r b h = byte_step r b h ∙ ap (bit_xor (r / 256)) (sym (entry_at 8 AFTER_8 (bit_xor r b) right_8))
+table_step r b h = byte_step r b h ∙ ap (bit_xor (r / 256)) (sym (entry_at 8 AFTER_8 (bit_xor r b) (right_table 0 (omega arith))))
 
 -- Bytes in two parts.
 pub after-append : (r : ℕ) (xs ys : List ℕ) → after_bits r (bits_of (xs ++ ys)) ≡ after_bits (after_bits r (bits_of xs)) (bits_of ys)
@@ -118,7 +99,7 @@ in_two n r t u xs ys zs front back first second =
     second ∙ (ap (λ (z : ℕ). after_bits z (bits_of ys)) first
     ∙ (sym (after-append r xs ys) ∙ ap (λ (ts : List ℕ). after_bits r (bits_of ts)) joined))
 
--- One byte alone.
+-- Only one byte.
 pub after_one : (r b : ℕ) → after_bits r (bits_of (b ∷ [])) ≡ after_bits r (low_bits 8 b)
 unfolding bits_of
 after_one r b = ap (after_bits r) (append-nil (low_bits 8 b))
@@ -130,6 +111,17 @@ pub after_more : (r : ℕ) (bytes : List ℕ) (i : ℕ) → i < length bytes →
 after_more r bytes i h =
     ap (λ (xs : List ℕ). after_bits r (bits_of xs)) (take_more bytes i 0 h)
     ∙ (after-append r (take i bytes) (get_or bytes i 0 ∷ []) ∙ after_one (after_bits r (bits_of (take i bytes))) (get_or bytes i 0))
+
+-- A register after the first i bytes, and then after the next one, is the register after the first i + 1 bytes.
+pub byte_more : (start r t : ℕ) (bytes : List ℕ) (i : ℕ) → i < length bytes → r ≡ after_bits start (bits_of (take i bytes)) →
+    t ≡ after_bits r (low_bits 8 (get_or bytes i 0)) → t ≡ after_bits start (bits_of (take (i + 1) bytes))
+byte_more start r t bytes i h before here =
+    here ∙ (ap (λ (z : ℕ). after_bits z (low_bits 8 (get_or bytes i 0))) before ∙ sym (after_more start bytes i h))
+
+-- No bytes leave the register.
+pub no_bytes : (r : ℕ) → r ≡ after_bits r (bits_of [])
+unfolding after_bits bits_of
+no_bytes r = refl
 
 -- The register over two lists is that over the first, with the bits of the second.
 pub register-append : (xs ys : List ℕ) → register (xs ++ ys) ≡ after_bits (register xs) (bits_of ys)

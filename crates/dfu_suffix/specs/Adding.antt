@@ -12,7 +12,7 @@ use Rattle.dfu_suffix.specs.declared.fault.SuffixFault.TheVariants.{AlreadySuffi
 abbrev pub HasSuffix : List ℕ → Type 0
 HasSuffix bytes = HasReading bytes ⊎ First DfuSe bytes
 
--- The bytes are to get a suffix: with it they are within the limit of a file, and they have none yet.
+-- The bytes are to get a suffix: with it they are within the limit of a file, and they have no suffix yet.
 abbrev pub NeedsSuffix : List ℕ → Type 0
 NeedsSuffix bytes = (length bytes ≤ 16777200) × (HasSuffix bytes → ⊥)
 
@@ -20,7 +20,7 @@ NeedsSuffix bytes = (length bytes ≤ 16777200) × (HasSuffix bytes → ⊥)
 abbrev pub IsAdded : List ℕ → Ids → List ℕ → Type 0
 IsAdded payload ids text = IsFile payload ids 0x0100 [] text
 
--- At Ok the file is out whole, and its length is the answer; at Write a part from its start is out; TooLarge and
+-- At Ok the whole file is written, and its length is the answer; at Write a part from its start; TooLarge and
 -- AlreadySuffixed say what is wrong with the bytes; Read and NoMemory say nothing of them.
 abbrev pub Adds : List ℕ → Ids → Option (List ℕ) → Option (List ℕ) → Result ℕ SuffixFault → Type 0
 Adds all ids old new (Ok n) = NeedsSuffix all × (text : List ℕ) × IsAdded all ids text × Appends old new text × (n ≡ length text)

@@ -19,7 +19,7 @@ summary_of payload ids dfu extra = record {
   crc = register (before_crc payload ids dfu extra);
 }
 
--- What is accepted is a file of the grammar, with its summary; each file of the grammar is accepted; all else has a
+-- What is accepted is a file of the grammar, with its summary; each file of the grammar is accepted; any other has a
 -- first fault, which is the answer.
 pub record Checks (bytes : List ℕ) (answer : Result Summary SuffixFault) : Type 0 where
   pub found : IfOk answer (λ s. (payload : List ℕ) × (extra : List ℕ) × IsFile payload s.ids s.dfu extra bytes

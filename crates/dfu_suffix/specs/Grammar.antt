@@ -41,11 +41,11 @@ pub record IsFile (payload : List ℕ) (ids : Ids) (dfu : ℕ) (extra : List ℕ
 abbrev pub tail_of : List ℕ → List ℕ
 tail_of bytes = drop (length bytes - 16) bytes
 
--- A tail is signed where it has the letters UFD in their place.
+-- A tail is signed if it has the letters UFD in their place.
 abbrev pub is_signed : List ℕ → Bool
 is_signed tail = (slice_index tail 8 == 0x55) && ((slice_index tail 9 == 0x46) && (slice_index tail 10 == 0x44))
 
--- Each fault of a file has its condition on the bytes, and the other faults have none.
+-- Each fault of a file has its condition on the bytes, and the other faults have no condition.
 abbrev pub has_fault : List ℕ → SuffixFault → Bool
 has_fault bytes TooLarge = nat_lt 16777216 (length bytes)
 has_fault bytes TooShort = nat_lt (length bytes) 16

@@ -10,7 +10,7 @@ use Rattle.dfu_suffix.specs.declared.fault.SuffixFault.{SuffixFault}
 abbrev pub AreBytes : List ℕ → Type 0
 AreBytes bytes = (k : ℕ) → slice_index bytes k < 256
 
--- The bytes are some file of the grammar.
+-- The bytes are a file of the grammar.
 abbrev pub HasReading : List ℕ → Type 0
 HasReading bytes = (payload : List ℕ) × (ids : Ids) × (dfu : ℕ) × (extra : List ℕ) × IsFile payload ids dfu extra bytes
 
@@ -19,7 +19,7 @@ abbrev pub EachFileOrFault : Type 0
 EachFileOrFault = (bytes : List ℕ) → AreBytes bytes → (HasReading bytes ⊎ ((fault : SuffixFault) × First fault bytes))
     × ((fault : SuffixFault) → HasReading bytes → First fault bytes → ⊥)
 
--- The register over four bytes or more is 0 exactly where the last four are the register over those before.
+-- The register over four bytes or more is 0 exactly if the last four are the register over those before.
 abbrev pub LastFour : Type 0
 LastFour = (bytes : List ℕ) → AreBytes bytes → 4 ≤ length bytes → (register bytes ≡ 0)
     ↔ (little_number 4 (drop (length bytes - 4) bytes) ≡ register (take (length bytes - 4) bytes))

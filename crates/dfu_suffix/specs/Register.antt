@@ -2,7 +2,7 @@
 use Rattle.std.specs.Prelude.{ℕ, zero, suc, ◌/◌, ◌%◌, ◌==◌, List, [], ◌∷◌, bit_xor, if◌then◌else◌, fold}
 use Rattle.std.specs.List.{flat_map}
 
--- One more bit halves the register, and where the register's lowest bit and the new one differ, combines the half
+-- One more bit halves the register, and if the register's lowest bit and the new one differ, combines the half
 -- with EDB88320h.
 abbrev pub after_bit : ℕ → ℕ → ℕ
 after_bit r bit = if r % 2 == bit then r / 2 else bit_xor (r / 2) 0xEDB8_8320

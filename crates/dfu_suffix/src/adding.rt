@@ -53,26 +53,26 @@ fn file_of<R: Read + Drop>(alloc: Global, reader: R, ids: Ids) -> Result<Vec<u8>
 /// Writes all that a reader gives and then a suffix of 16 bytes, with these identifiers and
 /// bcdDFU 0100h (USB DFU 1.1, appendix B). It answers the number of bytes written, at most
 /// 16,777,216. It gathers the whole file in memory before it writes the first byte, and it doesn't
-/// flush: the writer stays the caller's, who can go on with it.
+/// flush: the writer stays the caller's.
 ///
 /// # Errors
 ///
 /// TooLarge once byte 16,777,201 was read, and no read is made after that; Read at the first error
-/// of the reader, with no second try; AlreadySuffixed exactly where `read` would answer Ok or DfuSe
-/// for the bytes; NoMemory where an allocation was refused, while the bytes are gathered or, after
-/// AlreadySuffixed was looked for, for the suffix. After these nothing is out. After Write the
-/// start of the file is out, and not the whole; it comes at the first error of the writer, with no
-/// second try, and where the writer takes nothing of what is left.
+/// of the reader, with no second try; AlreadySuffixed exactly if `read` would answer Ok or DfuSe
+/// for the bytes; NoMemory if an allocation was refused, while the bytes are gathered or, after
+/// the check for AlreadySuffixed, for the suffix. After these nothing is written. After Write
+/// only the start of the file is written; it comes at the first error of the writer, with no
+/// second try, and if the writer takes nothing of what is left.
 pub fn add<R: Read + Drop, W: Write>(
     alloc: Global,
     reader: R,
     ids: Ids,
     writer: &mut W,
 ) -> Result<u32, SuffixFault>
-    // What the answer says of all that the reader gives, however it cuts it: at Ok a file of the
-    // grammar with that payload and these identifiers is out, and at Write a part from its start.
+    // What the answer says of all that the reader gives, in whatever pieces: at Ok a file of the
+    // grammar with that payload and these identifiers is written, and at Write a part from its start.
     ensures answer { IfSome (R.remaining reader) (λ all. Adds all ids (W.contents writer.old) (W.contents writer.new) result) }
-    // After a fault other than Write nothing is out.
+    // After a fault other than Write nothing is written.
     ensures kept { KeepsAtFault (W.contents writer.old) (W.contents writer.new) result }
 {
     let text = file_of(alloc, reader, ids)?;

@@ -14,7 +14,7 @@ use crate::window::slide;
 use std::io::Read;
 
 /// Checks all that a reader gives, as `read` of those bytes. Of these it keeps the register over
-/// them, their count and the last 16, and takes no memory, however many they are. It reads up to
+/// them, their count and the last 16, and takes no memory, for any number of bytes. It reads up to
 /// 65,536 bytes at a time, into a buffer on the stack.
 ///
 /// # Errors
@@ -23,9 +23,9 @@ use std::io::Read;
 /// of the reader, with no second try; else the fault that `read` answers for the bytes.
 pub fn check<R: Read + Drop>(reader: R) -> Result<Summary, SuffixFault>
     // An answer other than Read is Ok exactly for a file of the grammar, with its summary, and
-    // else the first fault of the bytes, however the reader cuts them.
+    // else the first fault of the bytes, in whatever pieces they come.
     ensures answer { IfSome (R.remaining reader) (λ all. UnlessRead result (Checks all result)) }
-    // It is never that memory ran out, whatever the reader is.
+    // The fault is never NoMemory, for any reader.
     ensures memory { result ≢ Err NoMemory }
 {
     let mut findings = Findings::new();
@@ -44,9 +44,9 @@ pub fn check_with<R: Read + Drop>(
 ) -> Result<Summary, SuffixFault>
     // The answer is that of `check`.
     ensures answer { IfSome (R.remaining reader) (λ all. UnlessRead result (Checks all result)) }
-    // Unless it is Read, the findings are those of all bytes, if these are from 16 to 16,777,216.
+    // Unless it is Read, the findings are those of all bytes, if there are 16 to 16,777,216 of them.
     ensures findings { IfSome (R.remaining reader) (λ all. UnlessRead result (FindsFile all findings.new)) }
-    // It is never that memory ran out, whatever the reader is.
+    // The fault is never NoMemory, for any reader.
     ensures memory { result ≢ Err NoMemory }
 {
     let mut crc = Crc::new();

@@ -7,8 +7,8 @@ use crate::{folding, small};
 use byteorder::{ByteOrder, LittleEndian};
 use std::marker::Model;
 
-/// The register over the bytes so far: reflected CRC-32 with the polynomial EDB88320h, begun at
-/// FFFFFFFFh and with no final complement. Its complement is the usual CRC-32.
+/// The register over the bytes so far: reflected CRC-32 with the polynomial EDB88320h, which begins at
+/// FFFFFFFFh and has no final complement. Its complement is the usual CRC-32.
 #[derive(Clone, Copy, Debug, PartialEq, Eq)]
 pub struct Crc {
     register: u32,
@@ -45,9 +45,9 @@ impl Crc {
         };
     }
 
-    /// Takes more bytes, as `update` does, in about half as many instructions where there are 65,536 of them:
-    /// 4,096 and more are folded first, for which it has 6,064 bytes on the stack. Fewer are taken as `update`
-    /// takes them.
+    /// Takes more bytes, as `update` does, in about half as many instructions if there are 65,536 of them:
+    /// 4,096 and more are folded first, for which it has 6,064 bytes on the stack. Fewer are handled as `update`
+    /// does.
     pub fn update_long(&mut self, bytes: &[u8])
         ensures bits { self.new ≡ after_bits self.old (bits_of bytes.now) }
         ensures more { (before : List ℕ) → self.old ≡ register before → self.new ≡ register (before ++ bytes.now) }
@@ -80,7 +80,7 @@ impl Crc {
 ghost use Rattle.byteorder.specs.Endian.{little_number};
 ghost use Rattle.dfu_suffix.specs.Register.{after_bits, bits_of, low_bits, shifts};
 
-// What stands in a table for the lowest byte of a number.
+// The entry of a table for the lowest byte of a number.
 #[inline(always)]
 fn entry(table: &[u32; 256], number: u32) -> u32
     ensures { result ≡ slice_index table.now (bit_and number 255) }
@@ -88,7 +88,7 @@ fn entry(table: &[u32; 256], number: u32) -> u32
     table[(number & 0xff) as usize]
 }
 
-// The register after one byte more.
+// The register after one more byte.
 #[inline(always)]
 fn after_byte(register: u32, byte: u8) -> u32
     ensures { result ≡ after_bits register (low_bits 8 byte) }
@@ -96,7 +96,7 @@ fn after_byte(register: u32, byte: u8) -> u32
     (register >> 8) ^ entry(&TABLES[7], register ^ u32::from(byte))
 }
 
-// What stands in a table for a byte.
+// The entry of a table for a byte.
 #[inline(always)]
 fn byte_entry(table: &[u32; 256], byte: u8) -> u32
     ensures { result ≡ slice_index table.now byte }
@@ -127,7 +127,7 @@ fn after_64_zeros(number: u32) -> u32
         ^ entry(&TABLES[3], number >> 24)
 }
 
-// The register after eight bytes more. Only the first four bytes wait for the register, as one number;
+// The register after eight more bytes. Only the first four bytes wait for the register, as one number;
 // the others are loaded each by itself, which takes fewer instructions than to cut them out of a word.
 #[inline(always)]
 fn after_eight(register: u32, bytes: &[u8]) -> u32
@@ -150,7 +150,7 @@ fn after_each(start: u32, bytes: &[u8]) -> u32
     register
 }
 
-// The register after sixteen bytes more.
+// The register after sixteen more bytes.
 #[inline(always)]
 fn after_sixteen(register: u32, bytes: &[u8]) -> u32
     requires { length bytes.now ≡ 16 }
@@ -160,7 +160,7 @@ fn after_sixteen(register: u32, bytes: &[u8]) -> u32
     after_eight(after_eight(register, first), second)
 }
 
-// The register after a few bytes more: the first eight at once where there are so many.
+// The register after a few more bytes: the first eight at once if there are that many.
 fn after_few(register: u32, bytes: &[u8]) -> u32
     ensures { result ≡ after_bits register (bits_of bytes.now) }
 {

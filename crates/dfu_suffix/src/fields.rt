@@ -11,7 +11,7 @@ use crate::limits::MIN_SUFFIX;
 use byteorder::{ByteOrder, LittleEndian};
 use dfu_wire::Ids;
 
-/// The last 16 bytes, or all of them, where there are fewer.
+/// The last 16 bytes, or all of them if there are fewer.
 pub(crate) fn tail(bytes: &[u8]) -> &[u8]
     ensures value { result.now ≡ tail_of bytes.now }
     ensures len { 16 ≤ length bytes.now → length result.now ≡ 16 }
@@ -58,7 +58,7 @@ pub(crate) fn ids_of(tail: &[u8]) -> Ids
     }
 }
 
-/// The register over all bytes. It is the same by either table.
+/// The register over all bytes, which is the same by either table.
 #[inline(always)]
 pub(crate) fn register_over(bytes: &[u8], by_small_table: bool) -> u32
     ensures { result ≡ register bytes.now }

@@ -1,4 +1,4 @@
-//! What a check finds of a file, be it accepted or not.
+//! What a check finds in a file, accepted or not.
 
 ghost use Rattle.std.specs.Prelude.{◌≡◌, length, drop, slice_index, bit_xor};
 ghost use Rattle.byteorder.specs.Endian.{little_number};
@@ -7,7 +7,7 @@ ghost use Rattle.dfu_suffix.specs.Register.{shifts};
 use crate::fields::u32_at;
 use crate::undoing::before_four;
 
-/// What `check_with` finds of a file of 16 to 16,777,216 bytes: its length, two fields of its suffix (USB DFU 1.1,
+/// What `check_with` finds in a file of 16 to 16,777,216 bytes: its length, two fields of its suffix (USB DFU 1.1,
 /// appendix B) as they are written, and the register that dwCRC has to be.
 #[derive(Clone, Copy, Debug, PartialEq, Eq)]
 pub struct Findings {

@@ -1,7 +1,7 @@
-//! The register of many bytes: they are folded onto the last 1,968 of them, so that the tables are asked for these alone.
+//! The register of many bytes: they are folded onto the last 1,968 of them, so that only these go through the tables.
 //!
 //! Seven shifts of a number below 2^32, by 0, 720, 848, 1184, 1280, 1920 and 1968 bytes, combine to 0
-//! (proofs/Spread.antt). So a byte may be taken away, where the bytes that come 48, 688, 784, 1120, 1248 and 1968 places
+//! (proofs/Spread.antt). So a byte may be taken away if the bytes that come 48, 688, 784, 1120, 1248 and 1968 places
 //! later are each combined with it: the register stays the same. These places are multiples of sixteen, so that
 //! sixteen bytes go at once.
 
@@ -14,10 +14,10 @@ use crate::crc;
 /// How many bytes at least are worth folding; as many are folded at a time.
 const PIECE: usize = 4096;
 
-/// The bytes of a residue, 1,968, and of a piece behind it.
+/// The bytes of a residue, 1,968, and of a piece after it.
 const ROOM: usize = 6064;
 
-// A residue at the front of a room, which stands for the register.
+// A residue at the front of a room, which represents the register.
 fn residue_for(register: u32) -> [u8; ROOM]
     ensures { stands_for (take 1968 result) ≡ register }
 {
@@ -26,7 +26,7 @@ fn residue_for(register: u32) -> [u8; ROOM]
     room
 }
 
-// Folds more bytes into the residue: it then stands for the register after them.
+// Folds more bytes into the residue: it then represents the register after them.
 fn fold(room: &mut [u8; ROOM], bytes: &[u8])
     requires { length bytes.now ≤ 4096 }
     ensures { stands_for (take 1968 room.new) ≡ after_bits (stands_for (take 1968 room.old)) (bits_of bytes.now) }
@@ -43,7 +43,7 @@ fn fold(room: &mut [u8; ROOM], bytes: &[u8])
     room.copy_within(bytes.len()..bytes.len() + 1968, 0);
 }
 
-// The register that the residue stands for.
+// The register that the residue represents.
 fn register_of(room: &[u8; ROOM]) -> u32
     ensures { result ≡ stands_for (take 1968 room.now) }
 {
@@ -71,7 +71,7 @@ fn after_many(start: u32, bytes: &[u8]) -> u32
     register_of(&room)
 }
 
-/// The register after more bytes, folded where they are many.
+/// The register after more bytes, folded if there are many.
 pub(crate) fn after_bytes(start: u32, bytes: &[u8]) -> u32
     ensures { result ≡ after_bits start (bits_of bytes.now) }
 {

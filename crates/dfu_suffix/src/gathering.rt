@@ -7,7 +7,7 @@ use crate::limits::{MAX_READS, PIECE};
 use std::alloc::Global;
 use std::io::Read;
 
-/// Why not all that a reader gives was gathered.
+/// Why what a reader gives was not all gathered.
 #[derive(Clone, Copy, Debug, PartialEq, Eq)]
 pub enum GatherFault {
     /// The reader gives more bytes than the limit.
@@ -23,7 +23,7 @@ pub enum GatherFault {
 /// # Errors
 ///
 /// TooLarge once the byte past the limit was read, and no read is made after that; Read at the
-/// first error of the reader, with no second try; NoMemory where an allocation was refused.
+/// first error of the reader, with no second try; NoMemory if an allocation was refused.
 pub fn gather<R: Read + Drop>(
     alloc: Global,
     mut reader: R,
@@ -32,7 +32,7 @@ pub fn gather<R: Read + Drop>(
     requires { limit ≤ 16777216 }
     // At Ok these are all the bytes that the reader gives, and at TooLarge they are over the limit.
     ensures all { IfSome (R.remaining reader) (λ all. Gathers limit all result) }
-    // They are within the limit, whatever the reader is.
+    // They are within the limit, for any reader.
     ensures len { IfOk result (λ v. length v.items ≤ limit) }
 {
     let mut bytes = Vec::new(alloc);

@@ -9,7 +9,7 @@ pub fn one_reading()
     ensures one { OneReading }
 {}
 
-/// The register over four bytes or more is 0 exactly where the last four are the register over
+/// The register over four bytes or more is 0 exactly if the last four are the register over
 /// those before.
 pub fn last_four()
     ensures { LastFour }

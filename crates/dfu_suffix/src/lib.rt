@@ -1,7 +1,7 @@
 //! The DFU file: a payload and its suffix (USB DFU 1.1, appendix B).
 //!
 //! `read` and `read_small` take a whole file apart, `check` does it for all that a reader gives, `add` writes a
-//! file of a payload, and `Crc` is the register behind the suffix's dwCRC. `gather` and `write_whole`
+//! file of a payload, and `Crc` is the register that the suffix's dwCRC holds. `gather` and `write_whole`
 //! are the loops over streams that the crates above share. The crate opens no file and prints
 //! nothing.
 #![tactic(auto)]

@@ -47,7 +47,7 @@ fn crc_over(payload: &[u8], fields: &[u8]) -> u32
     crc.value()
 }
 
-/// Makes a file of its payload. Where an allocation is refused, the text is of no more use.
+/// Makes a file of its payload. If an allocation is refused, the text is of no more use.
 pub(crate) fn append_suffix(text: &mut Vec<u8>, ids: Ids) -> Result<(), AllocError>
     ensures { OnOk result (text.new.items ≡ text.old.items ++ added_suffix text.old.items ids) }
 {

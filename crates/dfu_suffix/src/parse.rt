@@ -33,7 +33,7 @@ fn parse(bytes: &[u8], by_small_table: bool) -> Result<File<'_>, SuffixFault>
     }
 }
 
-// Reads a whole file, as `read` and `read_small` say it.
+// Reads a whole file, as `read` and `read_small` say.
 #[inline(always)]
 fn read_by(bytes: &[u8], by_small_table: bool) -> Result<File<'_>, SuffixFault>
     ensures found { IfOk result (λ f. (extra : List ℕ) × IsFile f.payload f.ids f.dfu extra bytes.now × (f.suffix ≡ 16 + length extra)) }
@@ -50,8 +50,8 @@ fn read_by(bytes: &[u8], by_small_table: bool) -> Result<File<'_>, SuffixFault>
 /// # Errors
 ///
 /// The first of these that holds: TooLarge over 16,777,216 bytes, TooShort under 16, NoSignature
-/// where the last 16 bytes lack 'UFD', BadLength where bLength is under 16 or over the file's
-/// length, DfuSe where bcdDFU is 011Ah, BadCrc where dwCRC isn't the register over the bytes
+/// if the last 16 bytes lack 'UFD', BadLength if bLength is under 16 or over the file's
+/// length, DfuSe if bcdDFU is 011Ah, BadCrc if dwCRC isn't the register over the bytes
 /// before it.
 pub fn read(bytes: &[u8]) -> Result<File<'_>, SuffixFault>
     // What is read is a file of the grammar.
@@ -59,7 +59,7 @@ pub fn read(bytes: &[u8]) -> Result<File<'_>, SuffixFault>
     // Each file of the grammar is read.
     ensures only { (payload : List ℕ) (ids : Ids) (dfu : ℕ) (extra : List ℕ) → IsFile payload ids dfu extra bytes.now
         → result ≡ Ok (record { payload = payload; ids = ids; dfu = dfu; suffix = 16 + length extra }) }
-    // All else has a first fault, which is the answer.
+    // Any other bytes have a first fault, which is the answer.
     ensures fault { (fault : SuffixFault) → (result ≡ Err fault) ↔ First fault bytes.now }
 {
     read_by(bytes, false)

@@ -1,4 +1,4 @@
-//! The register of USB DFU 1.1, appendix B, four bits at a time: for what has no room for the tables.
+//! The register of USB DFU 1.1, appendix B, four bits at a time: for a program that has no room for the tables.
 
 ghost use Rattle.std.specs.Prelude.{◌≡◌};
 ghost use Rattle.dfu_suffix.specs.Register.{after_bits, bits_of, low_bits, shifts};
@@ -32,7 +32,7 @@ fn after_4_zeros(number: u32) -> u32
     (number >> 4) ^ AFTER_4[(number & 0xf) as usize]
 }
 
-// The register after one byte more.
+// The register after one more byte.
 #[inline(always)]
 fn after_byte(register: u32, byte: u8) -> u32
     ensures { result ≡ after_bits register (low_bits 8 byte) }

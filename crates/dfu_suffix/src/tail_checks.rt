@@ -41,7 +41,7 @@ pub(crate) fn parse_tail(tail: &[u8], count: u32) -> Result<Summary, SuffixFault
 }
 
 /// The summary of a file of `count` bytes, or its first fault but TooLarge, by its last 16 bytes and
-/// the register over all of it. That register is 0 exactly where dwCRC is right.
+/// the register over all of it. That register is 0 exactly if dwCRC is right.
 pub(crate) fn check_register(tail: &[u8], count: u32, register: u32) -> Result<Summary, SuffixFault>
     requires { length tail.now ≡ 16 }
     ensures answer { result ≡ register_checked tail.now count register }

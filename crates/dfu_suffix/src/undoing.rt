@@ -3,7 +3,7 @@
 ghost use Rattle.std.specs.Prelude.{◌≡◌, bit_xor};
 ghost use Rattle.dfu_suffix.specs.Register.{shift, shifts};
 
-/// The number that one bit 0 shifts to this one. The highest bit tells whether the bit that was shifted out was 1.
+/// The number that one bit 0 shifts to this one. The highest bit says whether the bit that was shifted out was 1.
 fn unshifted(register: u32) -> u32
     ensures { shift result ≡ register }
 {

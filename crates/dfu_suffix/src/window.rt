@@ -2,7 +2,7 @@
 
 ghost use Rattle.std.specs.Prelude.{◌≡◌, ◌<◌, ◌++◌, ℕ, length, drop, slice_index};
 
-/// Slides a window of 16 over more bytes: the last 16 of it and them.
+/// Slides a window of 16 bytes over more: it becomes the last 16 of both.
 pub(crate) fn slide(window: &mut [u8; 16], more: &[u8])
     ensures last { window.new ≡ drop (length more.now) (window.old ++ more.now) }
     ensures bytes { (k : ℕ) → slice_index more.now k < 256 }

@@ -12,11 +12,11 @@ pub struct OutputError;
 ///
 /// # Errors
 ///
-/// OutputError at the first error of the writer, with no second try, and where it takes nothing of
+/// OutputError at the first error of the writer, with no second try, and if it takes nothing of
 /// what is left.
 #[inline(never)]
 pub fn write_whole<W: Write>(writer: &mut W, text: &[u8]) -> Result<(), OutputError>
-    // At Ok the text is out, and at a fault a front of it, not all of it.
+    // At Ok the whole text is written, and at a fault only a front of it.
     ensures { WritesWhole (W.contents writer.old) (W.contents writer.new) text.now result }
 {
     let mut rest = text;

@@ -40,7 +40,7 @@ functional_of attributes detach transfer version = record {
   version = version;
 }
 
--- Bytes that are no descriptor have this first fault: there are none at all, then the first byte is
+-- Bytes that are not a descriptor have this first fault: there are no bytes, then the first byte is
 -- neither 7 nor 9, then they are fewer than it says, or more, or of another type.
 abbrev pub FirstFunctionalFault : WireFault → List ℕ → Type 0
 FirstFunctionalFault fault.Short b =

@@ -33,7 +33,7 @@ Asks s request.OtherClass = IsForUs s × ((r : Request) → IsNamed s r → ⊥)
 Asks s request.NotDfu = IsForUs s → ⊥
 Asks s r = IsNamed s r
 
--- The request is none of the seven.
+-- The request is not one of the seven.
 abbrev pub IsUnnamed : Request → Type 0
 IsUnnamed r = (r ≡ request.OtherClass) ⊎ (r ≡ request.NotDfu)
 
@@ -49,7 +49,7 @@ request_name request.Abort = codes "ABORT"
 request_name request.OtherClass = codes "other-class"
 request_name request.NotDfu = codes "not-dfu"
 
--- The setup's value is 0 where the request gives it no meaning.
+-- The setup's value is 0 if the request gives it no meaning.
 abbrev pub IsPlain : Setup → Request → Type 0
 IsPlain s (request.GetStatus len) = s.value ≡ 0
 IsPlain s request.ClrStatus = s.value ≡ 0

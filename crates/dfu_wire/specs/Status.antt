@@ -7,7 +7,7 @@ use Rattle.dfu_wire.specs.declared.fault.WireFault.TheVariants as fault
 use Rattle.dfu_wire.specs.State.{state_byte}
 use Rattle.dfu_wire.specs.Code.{code_byte}
 
--- A status tells a code, a poll time in milliseconds, and the state that the device enters after this
+-- A status says a code, a poll time in milliseconds, and the state that the device enters after this
 -- answer.
 pub record StatusFields : Type 0 where
   pub code : Code

@@ -15,7 +15,7 @@ pub(crate) fn two_bytes(number: u16) -> [u8; 2]
     bytes
 }
 
-/// The number whose two bytes stand at this place, the low byte first.
+/// The number in the two bytes at this place, the low byte first.
 pub(crate) fn number_at(bytes: &[u8], at: usize) -> u16
     requires { at + 2 ≤ length bytes.now }
     ensures { result ≡ slice_index bytes.now at + 256 * slice_index bytes.now (at + 1) }

@@ -5,7 +5,7 @@ ghost use Rattle.dfu_wire.specs.Code.{code_byte, code_name};
 
 use crate::WireFault;
 
-/// A status code, as bStatus tells it.
+/// A status code, as bStatus says it.
 #[derive(Clone, Copy, Debug, PartialEq, Eq)]
 pub enum Code {
     /// 00h: all is well.
@@ -26,7 +26,7 @@ pub enum Code {
     Verify,
     /// 08h: a block lies past the room for an image.
     Address,
-    /// 09h: the end of the image came before the device had all of it.
+    /// 09h: the image ended before the device had all of it.
     NotDone,
     /// 0Ah: the application is broken, so that the device stays in upgrade mode.
     Firmware,
@@ -43,7 +43,7 @@ pub enum Code {
 }
 
 impl Code {
-    /// The code of this number; `UnknownCode` where it is over 15.
+    /// The code of this number; `UnknownCode` if it is over 15.
     pub fn from_byte(byte: u8) -> Result<Code, WireFault>
         ensures ok { IfOk result (λ c. code_byte c ≡ byte) }
         ensures only { (c : Code) → code_byte c ≡ byte → result ≡ Ok c }

@@ -1,19 +1,19 @@
-//! Why bytes or numbers are no value of the wire.
+//! Why bytes or numbers are not a value of the wire.
 
 ghost use Rattle.std.specs.Prelude.{◌≡◌};
 ghost use Rattle.dfu_wire.specs.FaultName.{wire_fault_name};
 
 use thiserror::Error;
 
-/// Why bytes or numbers are no value of the wire. Each reader says in which order it looks.
+/// Why bytes or numbers are not a value of the wire. Each reader says in which order it looks.
 #[derive(Clone, Copy, Debug, PartialEq, Eq, Error)]
 pub enum WireFault {
-    /// There are fewer bytes than the value has: none of a functional descriptor, or fewer than its
-    /// first byte says (where that is 7 or 9), and under 6 of a status.
+    /// There are fewer bytes than the value has: no bytes of a functional descriptor, or fewer than its
+    /// first byte says (if that is 7 or 9), and under 6 of a status.
     #[error("too few bytes")]
     Short,
     /// There are more bytes than the value has: more than the first byte of a functional descriptor
-    /// says (where that is 7 or 9), and over 6 of a status.
+    /// says (if that is 7 or 9), and over 6 of a status.
     #[error("too many bytes")]
     Long,
     /// The first byte of a functional descriptor, bLength, is neither 7 nor 9.

@@ -26,7 +26,7 @@ const TYPE: u8 = 0x21;
 /// | 2 | bmAttributes: bits 0 to 3 | the four flags, in their order here |
 /// | 3, 4 | wDetachTimeOut, milliseconds | `detach_ms` |
 /// | 5, 6 | wTransferSize, bytes | `transfer` |
-/// | 7, 8 | bcdDFUVersion, as 0110h; 0100h where there are 7 bytes | `version` |
+/// | 7, 8 | bcdDFUVersion, as 0110h; 0100h if there are 7 bytes | `version` |
 ///
 /// Bits 4 to 7 of bmAttributes are reserved: ignored on reading, and written as 0. Bit 3 is read the
 /// same of either version, though DFU 1.0 reserved it.
@@ -103,7 +103,7 @@ impl Functional {
         Ok(Functional::of_attributes(bytes[2], number_at(bytes, 3), number_at(bytes, 5), version))
     }
 
-    /// Writes the descriptor as that of DFU 1.1, in 9 bytes whatever its version is, with the
+    /// Writes the descriptor as DFU 1.1 has it, in 9 bytes for every version, with the
     /// reserved bits 0. `decode` of the result is the descriptor again.
     pub fn encode(&self) -> [u8; 9]
         ensures length { length result ≡ 9 }

@@ -6,7 +6,7 @@ ghost use Rattle.dfu_wire.specs.OneRequest.{OneRequest};
 ghost use Rattle.dfu_wire.specs.OneSetup.{OneSetup};
 ghost use Rattle.dfu_wire.specs.OneStatus.{OneStatus, NoStatusFault, OneStatusFault};
 
-/// No bytes are two functional descriptors, none are a descriptor and have a fault, and none have
+/// No bytes are two functional descriptors, or a descriptor with a fault, and none have
 /// two first faults.
 pub fn one_functional()
     ensures one { OneFunctional }
@@ -20,7 +20,7 @@ pub fn one_setup()
     ensures request { OneRequest }
 {}
 
-/// No bytes are two statuses, none are a status and have a fault, and none have two first faults.
+/// No bytes are two statuses, or a status with a fault, and none have two first faults.
 pub fn one_status()
     ensures one { OneStatus }
     ensures no_fault { NoStatusFault }

@@ -2,7 +2,7 @@
 //! in the form of DFU 1.0), the setups of the seven requests, the answer to GETSTATUS, the states and
 //! the status codes, and the identifiers of a device.
 //!
-//! No call takes memory, and none but the readers and `Status::new` can refuse.
+//! No call takes memory, and only the readers and `Status::new` can refuse.
 #![tactic(auto)]
 
 mod bytes;

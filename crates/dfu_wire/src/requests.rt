@@ -7,7 +7,7 @@ ghost use Rattle.dfu_wire.specs.declared.setups.Setup.{Setup};
 use crate::Setup;
 use crate::setups::{IN, OUT};
 
-/// What a setup asks for: one of the seven requests, or none of them.
+/// What a setup asks for: one of the seven requests, or another.
 ///
 /// | Request | Kind | Number | Value | Length |
 /// |---|---|---|---|---|
@@ -26,11 +26,11 @@ pub enum Request {
     Dnload { block: u16, length: u16 },
     /// Send block `block` of the image, at most `length` bytes.
     Upload { block: u16, length: u16 },
-    /// Tell the status in 6 bytes, of which at most `length` are sent.
+    /// Send the status in 6 bytes, of which at most `length` are sent.
     GetStatus { length: u16 },
     /// Leave the state dfuERROR.
     ClrStatus,
-    /// Tell the state in 1 byte, of which at most `length` are sent.
+    /// Send the state in 1 byte, of which at most `length` are sent.
     GetState { length: u16 },
     /// Give up what is under way, and be ready again.
     Abort,
@@ -43,8 +43,8 @@ pub enum Request {
 impl Request {
     ghost use Rattle.dfu_wire.specs.declared.requests.Request.{Request};
 
-    /// The setup that asks for this, with index 0, and value 0 where the table has none. It is
-    /// `None` for `OtherClass` and `NotDfu` alone. `Setup::request` of the result is the request
+    /// The setup that asks for this, with index 0, and value 0 if the table has none. It is
+    /// `None` only for `OtherClass` and `NotDfu`. `Setup::request` of the result is the request
     /// again.
     pub fn setup(&self) -> Option<Setup>
         ensures some { IfSome result (λ s. Asks s self.now × IsPlain s self.now) }
@@ -70,7 +70,7 @@ impl Request {
         })
     }
 
-    /// The name of the request in the standard, as `DETACH`; `other-class` and `not-dfu` of the two that are none of the seven.
+    /// The name of the request in the standard, as `DETACH`; `other-class` and `not-dfu` for the two that are not one of the seven.
     pub fn name(self) -> &'static str
         ensures { result.now ≡ request_name self }
     {

@@ -76,8 +76,8 @@ impl Setup {
 
     /// What the setup asks for:
     ///
-    /// - `NotDfu` where the kind is neither 21h nor A1h, or the index is not 0;
-    /// - else `OtherClass` where the kind and the number of the request are no pair of the table at
+    /// - `NotDfu` if the kind is neither 21h nor A1h, or the index is not 0;
+    /// - else `OtherClass` if the kind and the number of the request are not a pair of the table at
     ///   [`Request`], or the length of a DETACH, CLRSTATUS or ABORT is not 0;
     /// - else the request of the table. The value of a GETSTATUS, CLRSTATUS, GETSTATE or ABORT is
     ///   ignored.

@@ -5,7 +5,7 @@ ghost use Rattle.dfu_wire.specs.State.{state_byte, state_name};
 
 use crate::WireFault;
 
-/// A state of a device, as bState tells it.
+/// A state of a device, as bState says it.
 #[derive(Clone, Copy, Debug, PartialEq, Eq)]
 pub enum State {
     /// 0: the application runs.
@@ -33,7 +33,7 @@ pub enum State {
 }
 
 impl State {
-    /// The state of this number; `UnknownState` where it is over 10.
+    /// The state of this number; `UnknownState` if it is over 10.
     pub fn from_byte(byte: u8) -> Result<State, WireFault>
         ensures ok { IfOk result (λ s. state_byte s ≡ byte) }
         ensures only { (s : State) → state_byte s ≡ byte → result ≡ Ok s }

@@ -42,7 +42,7 @@ impl Model for Status {
 }
 
 impl Status {
-    /// A status of these fields; `PollTooLong` where the poll time is over 16,777,215.
+    /// A status of these fields; `PollTooLong` if the poll time is over 16,777,215.
     pub fn new(code: Code, poll_ms: u32, state: State) -> Result<Status, WireFault>
         ensures ok { IfOk result (λ s.
             s ≡ record { code = code; poll_ms = poll_ms; state = state }) }

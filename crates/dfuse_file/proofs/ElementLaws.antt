@@ -12,13 +12,13 @@ use Rattle.dfuse_file.specs.Grammar.{four, spelled_elements, ElementFits, Elemen
 use Rattle.dfuse_file.proofs.Steps.{bound, passed, skip, same_ok, not_zero, zero_not}
 use Rattle.dfuse_file.proofs.Fields.{cut, number_fits, number_is}
 
--- The bytes begin with an element, and others stand behind it.
+-- The bytes begin with an element, and others follow it.
 pub record Begins (b : List ℕ) (s : Split) : Type 0 where
   pub spelled : b ≡ four s.element.address ++ (four (length s.element.bytes) ++ (s.element.bytes ++ s.rest))
   pub fits : ElementFits s.element
   pub bytes : AreBytes s.rest
 
--- What is taken off stood there.
+-- What is taken off was there.
 pub element_found : (b : List ℕ) (s : Split) → AreBytes b → front_element b ≡ Ok s → Begins b s
 unfolding front_element
 element_found b s f h =
@@ -71,15 +71,21 @@ element_read e rest h =
     (le-ltb (2 ^ 32) (number_at 0 b + number_at 4 b) (omega (arith, address, size, h.within)))
     (ap Ok (split_same _ _ _ _ _ _ address got left)))))
 
--- The bytes are these elements, so many, and nothing else.
-pub record AreElements (count : ℕ) (b : List ℕ) (es : List Piece) : Type 0 where
-  pub spelled : b ≡ spelled_elements es
-  pub number : length es ≡ count
-  pub fit : ElementsFit es
+-- The bytes are so many of a kind, spelled one after the other, each of which fits.
+pub record AreAll {A : Type 0} (spelled_as : List A → List ℕ) (Fit : List A → Type 0) (count : ℕ) (b : List ℕ) (xs : List A) : Type 0 where
+  pub spelled : b ≡ spelled_as xs
+  pub number : length xs ≡ count
+  pub fit : Fit xs
 
-no_elements : (es : List Piece) → ◌≡◌ {A = Result (List Piece) FileFault} (Ok []) (Ok es) → AreElements 0 [] es
-unfolding spelled_elements ElementsFit
-no_elements es h = subst (λ (z : List Piece). AreElements 0 [] z) (same_ok [] es h) (record { spelled = refl; number = refl; fit = tt })
+-- No bytes are no elements of a kind.
+pub none_of : {A : Type 0} (spelled_as : List A → List ℕ) (Fit : List A → Type 0) (xs : List A) → [] ≡ spelled_as [] → Fit [] →
+    ◌≡◌ {A = Result (List A) FileFault} (Ok []) (Ok xs) → AreAll spelled_as Fit 0 [] xs
+none_of spelled_as Fit xs spelled fit h =
+    subst (λ zs. AreAll spelled_as Fit 0 [] zs) (same_ok [] xs h) (record { spelled = spelled; number = refl; fit = fit })
+
+-- The bytes are these elements, so many, and nothing else.
+abbrev pub AreElements : ℕ → List ℕ → List Piece → Type 0
+AreElements count b es = AreAll spelled_elements ElementsFit count b es
 
 one_more : (n : ℕ) (b : List ℕ) (s : Split) (es : List Piece) → Begins b s → AreElements n s.rest es → AreElements (suc n) b (s.element ∷ es)
 unfolding spelled_elements ElementsFit
@@ -89,10 +95,10 @@ one_more n b s es h r = record {
   fit = (h.fits, r.fit);
 }
 
--- What was read stood there.
+-- What was read was there.
 pub elements_found : (count : ℕ) (b : List ℕ) (es : List Piece) → AreBytes b → elements_at count b ≡ Ok es → AreElements count b es
-unfolding elements_at
-elements_found zero [] es f h = no_elements es h
+unfolding elements_at spelled_elements ElementsFit
+elements_found zero [] es f h = none_of spelled_elements ElementsFit es refl tt h
 elements_found zero (x ∷ b) es f h = cc
 elements_found (suc n) b es f h =
     let p = bound (front_element b) _ es h in

@@ -9,7 +9,7 @@ use Rattle.dfu_suffix.specs.Laws.{AreBytes}
 use Rattle.dfuse_file.specs.Reading.{number_at}
 use Rattle.dfuse_file.specs.Grammar.{four}
 
--- Six bytes stand before the others, each in its place.
+-- Six bytes precede the others, each in its place.
 pub six_cut : (b : List ℕ) → 6 ≤ length b →
     b ≡ get_or b 0 0 ∷ get_or b 1 0 ∷ get_or b 2 0 ∷ get_or b 3 0 ∷ get_or b 4 0 ∷ get_or b 5 0 ∷ drop 6 b
 six_cut b long =
@@ -21,7 +21,7 @@ six_cut b long =
     let c5 : drop 5 b ≡ get_or b 5 0 ∷ drop 6 b = drop-cons b 5 0 (omega (arith, long)) in
     cc
 
--- From a place on there are the four bytes of the number there, and what is behind them.
+-- From a place on there are the four bytes of the number there, and what follows them.
 pub cut : (place next : ℕ) (b : List ℕ) → AreBytes b → next ≡ place + 4 → next ≤ length b → drop place b ≡ four (number_at place b) ++ drop next b
 cut place next b f e h =
     let xs = drop place b in

@@ -16,7 +16,7 @@ use Rattle.dfuse_file.proofs.TargetLaws.{targets_found, targets_read}
 use Rattle.dfuse_file.proofs.SuffixLaws.{Ends, suffix_found}
 use Rattle.dfuse_file.proofs.SuffixReads.{suffix_read}
 
--- Letters that are told one by one are those of DfuSe, with the version.
+-- Letters that are compared one by one are DfuSe, with the version.
 opening_is : (b : List ℕ) → 6 ≤ length b → is_prefixed b ≡ true → get_or b 5 0 ≡ 1 → b ≡ opening ++ drop 6 b
 opening_is b long h v =
     let s0 = and_parts (eqb (get_or b 0 0) 68) (eqb (get_or b 1 0) 102 && (eqb (get_or b 2 0) 117 && (eqb (get_or b 3 0) 83
@@ -36,7 +36,7 @@ opening_is b long h v =
 either : (n a b : ℕ) → (eqb n a || eqb n b) ≡ true → (n ≡ a) ⊎ (n ≡ b)
 either n a b h = elim (or_cases (eqb n a) (eqb n b) h) [ inl e ↦ inl (eqb-true n a e) | inr e ↦ inr (eqb-true n b e) ]
 
--- What was read stood there.
+-- What was read was there.
 body_found : (whole : ℕ) (b : List ℕ) (ts : List Target) → AreBytes b → body_at whole b ≡ Ok ts → IsBody ts whole b
 unfolding body_at
 body_found whole b ts f h =

@@ -11,7 +11,7 @@ use Rattle.dfuse_file.specs.Reading.{Target}
 use Rattle.dfuse_file.specs.declared.image.ImageFault.TheVariants.{NoSuchSetting, TooManyElements}
 use Rattle.dfuse_file.specs.Images.{all_for, one_setting, has_setting, elements_for, image_fault}
 
--- An element behind those that are there.
+-- An element after those that are there.
 pub one_behind : (room : List Element) (count : ℕ) (e : Element) (p : Piece) → count < length room → piece_of e ≡ p →
     map piece_of (take (count + 1) (set room count e)) ≡ map piece_of (take count room) ++ p ∷ []
 one_behind room count e p h is =
@@ -49,7 +49,7 @@ same_for s t ts old is h = ap (all_for s) is ∙ (for_both s t ts ∙ ap (λ (b 
 pub other_for : (s : ℕ) (t : Target) (ts old : List Target) → old ≡ t ∷ ts → t.setting ≢ s → all_for s old ≡ false
 other_for s t ts old is h = ap (all_for s) is ∙ (for_both s t ts ∙ ap (λ (b : Bool). b && all_for s ts) (ne_eqb t.setting s h))
 
--- None is of another setting, if there are none.
+-- No element is of another setting if there are none.
 pub none_for : (s : ℕ) → all_for s [] ≡ true
 unfolding all_for
 none_for s = refl
@@ -81,7 +81,7 @@ has_this s t ts old is h = ap (has_setting s) is ∙ (has_both s t ts ∙ ap (λ
 pub has_other : (s : ℕ) (t : Target) (ts old : List Target) → old ≡ t ∷ ts → t.setting ≢ s → has_setting s old ≡ has_setting s ts
 has_other s t ts old is h = ap (has_setting s) is ∙ (has_both s t ts ∙ ap (λ (b : Bool). b || has_setting s ts) (ne_eqb t.setting s h))
 
--- The elements of a target of this setting stand before those of the others.
+-- The elements of a target of this setting precede those of the others.
 pub elements_this : (s : ℕ) (t : Target) (ts old : List Target) → old ≡ t ∷ ts → t.setting ≡ s → elements_for s old ≡ t.elements ++ elements_for s ts
 elements_this s t ts old is h = ap (elements_for s) is ∙ (for_cons s t ts
     ∙ ap (λ (b : Bool). cond b (t.elements ++ elements_for s ts) (elements_for s ts)) (eq-eqb t.setting s h))
@@ -91,7 +91,7 @@ pub elements_other : (s : ℕ) (t : Target) (ts old : List Target) → old ≡ t
 elements_other s t ts old is h = ap (elements_for s) is ∙ (for_cons s t ts
     ∙ ap (λ (b : Bool). cond b (t.elements ++ elements_for s ts) (elements_for s ts)) (ne_eqb t.setting s h))
 
--- Without targets there is none of this setting.
+-- Without targets there are no elements of this setting.
 pub has_none : (s : ℕ) → has_setting s [] ≡ false
 unfolding has_setting
 has_none s = refl
@@ -145,7 +145,7 @@ or_nothing : (a b : Bool) → b ≡ false → (a || b) ≡ a
 or_nothing true b h = refl
 or_nothing false b h = h
 
--- A target of the setting, whose elements were put behind.
+-- A target of the setting, whose elements were added.
 pub past_this : (s : ℕ) (room next : List Element) (count n : ℕ) (has : Bool) (left all ts : List Target) (t : Target) → Looked s room count has left all →
     left ≡ t ∷ ts → t.setting ≡ s → n ≡ count + length t.elements → map piece_of (take n next) ≡ map piece_of (take count room) ++ t.elements →
     Looked s next n true ts all

@@ -1,4 +1,4 @@
--- What stands before a suffix.
+-- What precedes a suffix.
 use Rattle.std.proofs.Common.{◌≡◌, ◌-◌, ℕ, List, length, take, get_or, Option, Some, None, Ok, ap, ◌∙◌}
 use Rattle.dfu_suffix.specs.Grammar.{tail_of}
 use Rattle.dfu_suffix.specs.declared.fault.SuffixFault.{SuffixFault}
@@ -11,7 +11,7 @@ pub by_fault : (o : Option SuffixFault) (f : SuffixFault) (r : Option RawFault) 
 unfolding payload_by
 by_fault o f r b e h = ap (λ (p : Option SuffixFault). payload_by p b) e ∙ ap (whole_or b) h
 
--- By none.
+-- By no fault.
 pub by_none : (o : Option SuffixFault) (b payload : List ℕ) → o ≡ None → take (length b - get_or (tail_of b) 11 0) b ≡ payload → payload_by o b ≡ Ok payload
 unfolding payload_by
 by_none o b payload e h = ap (λ (p : Option SuffixFault). payload_by p b) e ∙ ap Ok h

@@ -12,9 +12,9 @@ use Rattle.dfuse_file.specs.Reading.{Target, Heading, ◌>>=◌, number_at, elem
 use Rattle.dfuse_file.specs.Grammar.{four, spelled_elements, ElementsFit, target_letters, spelled_targets, TargetsFit}
 use Rattle.dfuse_file.proofs.Steps.{bound, passed, skip, same_ok}
 use Rattle.dfuse_file.proofs.Fields.{cut, number_fits, number_is, six_cut}
-use Rattle.dfuse_file.proofs.ElementLaws.{elements_found, elements_read}
+use Rattle.dfuse_file.proofs.ElementLaws.{AreAll, none_of, elements_found, elements_read}
 
--- A target is spelled so, with what stands behind it.
+-- A target is spelled so, with what follows it.
 abbrev spelled_heading : Heading → List ℕ
 spelled_heading h =
     target_letters ++ (h.setting ∷ (four h.named ++ (h.name ++ (four (length h.content) ++ (four h.count ++ (h.content ++ h.rest))))))
@@ -30,7 +30,7 @@ record Heads (b : List ℕ) (h : Heading) : Type 0 where
   pub content_bytes : AreBytes h.content
   pub rest_bytes : AreBytes h.rest
 
--- Letters that are told one by one are those of Target.
+-- Letters that are compared one by one are Target.
 letters_are : (b : List ℕ) → 6 ≤ length b → is_target b ≡ true → b ≡ target_letters ++ drop 6 b
 letters_are b long h =
     let s0 = and_parts (eqb (get_or b 0 0) 84) (eqb (get_or b 1 0) 97 && (eqb (get_or b 2 0) 114 && (eqb (get_or b 3 0) 103
@@ -49,7 +49,7 @@ letters_are b long h =
     let cells = six_cut b long in
     cc
 
--- What is taken off stood there.
+-- What is taken off was there.
 heading_found : (b : List ℕ) (h : Heading) → AreBytes b → heading_at b ≡ Ok h → Heads b h
 unfolding heading_at
 heading_found b h f e =
@@ -128,14 +128,8 @@ heading_read h fits =
     (ap Ok (heading_same _ _ _ _ _ _ _ _ _ _ _ _ refl named name count content rest))))
 
 -- The bytes are these targets, so many, and nothing else.
-pub record AreTargets (count : ℕ) (b : List ℕ) (ts : List Target) : Type 0 where
-  pub spelled : b ≡ spelled_targets ts
-  pub number : length ts ≡ count
-  pub fit : TargetsFit ts
-
-no_targets : (ts : List Target) → ◌≡◌ {A = Result (List Target) FileFault} (Ok []) (Ok ts) → AreTargets 0 [] ts
-unfolding spelled_targets TargetsFit
-no_targets ts h = subst (λ (z : List Target). AreTargets 0 [] z) (same_ok [] ts h) (record { spelled = refl; number = refl; fit = tt })
+abbrev pub AreTargets : ℕ → List ℕ → List Target → Type 0
+AreTargets count b ts = AreAll spelled_targets TargetsFit count b ts
 
 -- A target with its elements is spelled as its heading is.
 one_spelled : (h : Heading) (es : List Piece) (ts : List Target) → h.content ≡ spelled_elements es → length es ≡ h.count → h.rest ≡ spelled_targets ts →
@@ -162,10 +156,10 @@ one_more n b h es ts heads content count fit r = record {
   );
 }
 
--- What was read stood there.
+-- What was read was there.
 pub targets_found : (count : ℕ) (b : List ℕ) (ts : List Target) → AreBytes b → targets_at count b ≡ Ok ts → AreTargets count b ts
-unfolding targets_at
-targets_found zero [] ts f h = no_targets ts h
+unfolding targets_at spelled_targets TargetsFit
+targets_found zero [] ts f h = none_of spelled_targets TargetsFit ts refl tt h
 targets_found zero (x ∷ b) ts f h = cc
 targets_found (suc n) b ts f e =
     let p = bound (heading_at b) _ ts e in
@@ -178,7 +172,7 @@ targets_found (suc n) b ts f e =
     subst (λ (z : List Target). AreTargets (suc n) b z) (same_ok _ ts r.2)
     (one_more n b h q.0 r.0 heads elements.spelled elements.number elements.fit more)
 
--- The heading of a target with others behind it.
+-- The heading of a target with others after it.
 abbrev heading_of : Target → List ℕ → Heading
 heading_of t rest = record {
   setting = t.setting;

@@ -1,19 +1,38 @@
 -- Elements and targets, taken off one by one.
-use Rattle.std.proofs.Common.{◌≡◌, ℕ, zero, suc, true, false, eqb, List, [], ◌∷◌, length, Result, Ok, Err, refl, sym, ap, ◌∙◌, subst, arith, ◌-◌, ◌≢◌}
-use Rattle.std.proofs.lemmas.Bool.{eqb-true}
+use Rattle.std.proofs.Common.{◌≡◌, ◌==◌, if◌then◌else◌, eqb, ◌<◌, ◌≤◌, ◌+◌, ℕ, zero, suc, List, [], ◌∷◌, length, Result, Ok, Err, refl, sym, ap, ◌∙◌, subst, arith, ◌-◌, ◌≢◌}
+use Rattle.std.proofs.lemmas.Bool.{cond-false}
 use Rattle.dfu_images.specs.Elements.{Piece}
 use Rattle.dfuse_file.specs.declared.fault.FileFault.{FileFault}
 use Rattle.dfuse_file.specs.declared.fault.FileFault.TheVariants.{BadTargetSize, Trailing}
 use Rattle.dfuse_file.specs.Reading.{Split, Target, Heading, ◌>>=◌, front_element, before_elements, elements_at, heading_at, target_of, before_targets, targets_at}
 use Rattle.dfuse_file.specs.Found.{found, fault_only}
-use Rattle.dfuse_file.proofs.Steps.{bound, same_ok, positive}
+use Rattle.dfuse_file.proofs.Steps.{bound, same_ok, not_zero, positive}
 
--- A list without a length is empty.
-pub empty : {A : Type 0} (xs : List A) → eqb (length xs) 0 ≡ true → xs ≡ []
-empty [] h = refl
-empty (x ∷ xs) h = absurd (omega (arith, eqb-true (length (x ∷ xs)) 0 h))
+-- ---- a walk that counts, and asks the same of what is left as of all
+
+-- Before the count is reached, what is asked of all is what is asked of the rest, one of which comes next.
+pub walked : {A : Type 0} (ask : ℕ → List ℕ → A) (count counter : ℕ) (all b : List ℕ) (x : A) → counter < count →
+    ask count all ≡ ask (count - counter) b → ask (suc (count - (counter + 1))) b ≡ x → ask count all ≡ x
+walked ask count counter all b x more so_far here =
+    let left : count - counter ≡ suc (count - (counter + 1)) = omega arith in
+    so_far ∙ (ap (λ (k : ℕ). ask k b) left ∙ here)
+
+-- At the count, it is what is asked with nothing left to count.
+pub walked_out : {A : Type 0} (ask : ℕ → List ℕ → A) (count counter : ℕ) (all b : List ℕ) (x : A) → count ≤ counter →
+    ask count all ≡ ask (count - counter) b → ask 0 b ≡ x → ask count all ≡ x
+walked_out ask count counter all b x end so_far here =
+    let left : count - counter ≡ 0 = omega arith in
+    so_far ∙ (ap (λ (k : ℕ). ask k b) left ∙ here)
 
 -- ---- whether there was a fault
+
+-- Whether so many elements have a fault.
+abbrev pub elements_asked : ℕ → List ℕ → Result Unit FileFault
+elements_asked count b = fault_only (elements_at count b)
+
+-- Whether so many targets have a fault.
+abbrev pub targets_asked : ℕ → List ℕ → Result Unit FileFault
+targets_asked count b = fault_only (targets_at count b)
 
 checked_before : (e : Piece) (r : Result (List Piece) FileFault) → fault_only (before_elements e r) ≡ fault_only r
 checked_before e (Ok es) = refl
@@ -27,22 +46,16 @@ element_further n b s h =
     ap (λ (r : Result Split FileFault). fault_only (r >>= λ s. before_elements s.element (elements_at n s.rest))) h
     ∙ checked_before s.element (elements_at n s.rest)
 
--- The fault of the first element is that of all.
+-- The fault of the first element is the fault of all.
 pub element_fault : (n : ℕ) (b : List ℕ) (fault : FileFault) → front_element b ≡ Err fault → fault_only (elements_at (suc n) b) ≡ Err fault
 unfolding elements_at
 element_fault n b fault h = ap (λ (r : Result Split FileFault). fault_only (r >>= λ s. before_elements s.element (elements_at n s.rest))) h
 
--- No elements are no bytes.
-pub elements_done : (b : List ℕ) → eqb (length b) 0 ≡ true → fault_only (elements_at 0 b) ≡ Ok tt
+-- No elements are no bytes, and more bytes are a fault.
+pub elements_end : (b : List ℕ) → elements_asked 0 b ≡ (if length b == 0 then Ok tt else Err BadTargetSize)
 unfolding elements_at
-elements_done [] h = refl
-elements_done (x ∷ b) h = absurd (omega (arith, eqb-true (length (x ∷ b)) 0 h))
-
--- More bytes are a fault.
-pub elements_left : (b : List ℕ) → eqb (length b) 0 ≡ false → fault_only (elements_at 0 b) ≡ Err BadTargetSize
-unfolding elements_at
-elements_left [] h = cc
-elements_left (x ∷ b) h = refl
+elements_end [] = refl
+elements_end (x ∷ b) = sym (cond-false (eqb (length (x ∷ b)) 0) (Ok tt) (Err BadTargetSize) (not_zero (length (x ∷ b)) (omega arith)))
 
 checked_before_target : (t : Target) (r : Result (List Target) FileFault) → fault_only (before_targets t r) ≡ fault_only r
 checked_before_target t (Ok ts) = refl
@@ -68,14 +81,14 @@ target_further n b h e c =
     (r >>= λ h. elements_at h.count h.content >>= λ es. before_targets (target_of h es) (targets_at n h.rest))) e
     ∙ checked_behind h n (elements_at h.count h.content) (targets_at n h.rest) c
 
--- The fault of the first heading is that of all.
+-- The fault of the first heading is the fault of all.
 pub heading_fault : (n : ℕ) (b : List ℕ) (fault : FileFault) → heading_at b ≡ Err fault → fault_only (targets_at (suc n) b) ≡ Err fault
 unfolding targets_at
 heading_fault n b fault e =
     ap (λ (r : Result Heading FileFault). fault_only
     (r >>= λ h. elements_at h.count h.content >>= λ es. before_targets (target_of h es) (targets_at n h.rest))) e
 
--- So is that of the first elements.
+-- So is the fault of the first elements.
 pub target_fault : (n : ℕ) (b : List ℕ) (h : Heading) (fault : FileFault) → heading_at b ≡ Ok h →
     fault_only (elements_at h.count h.content) ≡ Err fault →
     fault_only (targets_at (suc n) b) ≡ Err fault
@@ -85,21 +98,15 @@ target_fault n b h fault e c =
     (r >>= λ h. elements_at h.count h.content >>= λ es. before_targets (target_of h es) (targets_at n h.rest))) e
     ∙ checked_fault h (elements_at h.count h.content) (targets_at n h.rest) fault c
 
--- No targets are no bytes.
-pub targets_done : (b : List ℕ) → eqb (length b) 0 ≡ true → fault_only (targets_at 0 b) ≡ Ok tt
+-- No targets are no bytes, and more bytes are a fault.
+pub targets_end : (b : List ℕ) → targets_asked 0 b ≡ (if length b == 0 then Ok tt else Err Trailing)
 unfolding targets_at
-targets_done [] h = refl
-targets_done (x ∷ b) h = absurd (omega (arith, eqb-true (length (x ∷ b)) 0 h))
-
--- More bytes are a fault.
-pub targets_left : (b : List ℕ) → eqb (length b) 0 ≡ false → fault_only (targets_at 0 b) ≡ Err Trailing
-unfolding targets_at
-targets_left [] h = cc
-targets_left (x ∷ b) h = refl
+targets_end [] = refl
+targets_end (x ∷ b) = sym (cond-false (eqb (length (x ∷ b)) 0) (Ok tt) (Err Trailing) (not_zero (length (x ∷ b)) (omega arith)))
 
 -- ---- what was found
 
--- None is left of none.
+-- No element is left if there were none.
 pub none_left : (b : List ℕ) → found (elements_at 0 b) ≡ []
 unfolding elements_at
 none_left [] = refl
@@ -139,7 +146,7 @@ element_there (suc n) b fault xs some h e =
     let one = p.1 in
     cc
 
--- Of no target none is left.
+-- No target is left if there were none.
 pub no_target_left : (b : List ℕ) → found (targets_at 0 b) ≡ []
 unfolding targets_at
 no_target_left [] = refl
@@ -182,7 +189,7 @@ target_there (suc n) b fault xs some h e =
     let one = p.1 in
     cc
 
--- So many were found as were told.
+-- As many elements were found as the count says.
 pub elements_number : (n : ℕ) (b : List ℕ) (xs : List Piece) → elements_at n b ≡ Ok xs → length xs ≡ n
 unfolding elements_at
 elements_number zero [] xs h = ap length (sym (same_ok [] xs h))
@@ -193,7 +200,7 @@ elements_number (suc n) b xs h =
     let more = elements_number n p.0.rest q.0 q.1 in
     ap length (sym (same_ok _ xs q.2)) ∙ omega (arith, more)
 
--- As many targets were found as were told.
+-- As many targets were found as the count says.
 pub targets_number : (n : ℕ) (b : List ℕ) (xs : List Target) → targets_at n b ≡ Ok xs → length xs ≡ n
 unfolding targets_at
 targets_number zero [] xs h = ap length (sym (same_ok [] xs h))

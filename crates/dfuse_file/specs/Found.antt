@@ -1,4 +1,4 @@
--- What of a reading is handed out.
+-- The part of a reading that is handed out.
 use Rattle.std.specs.Prelude.{List, [], Result, Ok, Err}
 use Rattle.dfu_images.specs.Elements.{Piece}
 use Rattle.dfuse_host.specs.declared.element.Element.{Element}

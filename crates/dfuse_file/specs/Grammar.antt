@@ -11,18 +11,18 @@ use Rattle.dfuse_file.specs.Reading.{Target, DfuseContent, file_at}
 abbrev pub four : ℕ → List ℕ
 four n = to_le_bytes w32 n
 
--- Elements stand one behind the other, each as its address, the number of its bytes, and these.
+-- Elements follow one another, each as its address, the number of its bytes, and these.
 unfoldable pub spelled_elements : List Piece → List ℕ
 spelled_elements [] = []
 spelled_elements (e ∷ es) = four e.address ++ (four (length e.bytes) ++ (e.bytes ++ spelled_elements es))
 
--- An element has a byte, and ends by the last address of 32 bits.
+-- An element has at least one byte, and ends by the last address of 32 bits.
 pub record ElementFits (e : Piece) : Type 0 where
   pub some : 1 ≤ length e.bytes
   pub size_fits : length e.bytes < 2 ^ 32
   pub within : e.address + length e.bytes ≤ 2 ^ 32
 
--- Each of these elements does.
+-- Each of these elements fits so.
 unfoldable pub ElementsFit : List Piece → Type 0
 ElementsFit [] = Unit {0}
 ElementsFit (e ∷ es) = ElementFits e × ElementsFit es
@@ -31,7 +31,7 @@ ElementsFit (e ∷ es) = ElementFits e × ElementsFit es
 abbrev pub target_letters : List ℕ
 target_letters = 84 ∷ 97 ∷ 114 ∷ 103 ∷ 101 ∷ 116 ∷ []
 
--- Targets stand one behind the other, each as the letters, the setting, the name, the size of its elements, their number, and these.
+-- Targets follow one another, each as the letters, the setting, the name, the size of its elements, their number, and these.
 unfoldable pub spelled_targets : List Target → List ℕ
 spelled_targets [] = []
 spelled_targets (t ∷ ts) =
@@ -47,7 +47,7 @@ pub record TargetFits (t : Target) : Type 0 where
   pub count_fits : length t.elements < 2 ^ 32
   pub elements_fit : ElementsFit t.elements
 
--- The parts of each of these targets do.
+-- The parts of each of these targets fit.
 unfoldable pub TargetsFit : List Target → Type 0
 TargetsFit [] = Unit {0}
 TargetsFit (t ∷ ts) = TargetFits t × TargetsFit ts
@@ -79,6 +79,6 @@ pub record IsDfuSe (f : DfuseContent) (bytes : List ℕ) : Type 0 where
   pub small : length bytes ≤ 16777216
   pub body : IsBody f.targets (length bytes) payload
 
--- This is the first fault of bytes that are no DfuSe file.
+-- This is the first fault of bytes that are not a DfuSe file.
 abbrev pub FirstFileFault : FileFault → List ℕ → Type 0
 FirstFileFault fault bytes = file_at bytes ≡ Err fault

@@ -48,7 +48,7 @@ pub record IsImage (wanted : List Piece) (count : ℕ) (room : List Element) : T
   pub same : IsPermutation wanted (map piece_of (take count room))
   pub sorted : ascends_from 0 (take count room) ≡ true
 
--- Behind the first places of what was there come these elements, and so many are there then; or there is no room for them.
+-- These elements follow the first places of what was there, and so many are there then; or there is no room for them.
 abbrev pub ListsBehind : (from : ℕ) → List Piece → (old : List Element) → Option ℕ → (new : List Element) → Type 0
 ListsBehind from wanted old (Some count) new =
     (count ≡ from + length wanted) × (count ≤ length new) × (map piece_of (take count new) ≡ map piece_of (take from old) ++ wanted)

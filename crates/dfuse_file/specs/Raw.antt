@@ -16,12 +16,12 @@ raw_refusal suffix.BadCrc = Some BadCrc
 raw_refusal suffix.DfuSe = Some HasAddresses
 raw_refusal other = None
 
--- All of a file, unless it is refused.
+-- The whole file, unless it is refused.
 abbrev pub whole_or : List ℕ → Option RawFault → Result (List ℕ) RawFault
 whole_or bytes None = Ok bytes
 whole_or bytes (Some fault) = Err fault
 
--- What stands before a suffix, by the first fault of dfu_suffix. A file that is too short for one, or isn't signed, has none.
+-- What precedes a suffix, by the first fault of dfu_suffix. A file that is too short for one, or isn't signed, has no suffix.
 unfoldable pub payload_by : Option SuffixFault → List ℕ → Result (List ℕ) RawFault
 payload_by None bytes = Ok (take (length bytes - slice_index (tail_of bytes) 11) bytes)
 payload_by (Some fault) bytes = whole_or bytes (raw_refusal fault)
@@ -38,7 +38,7 @@ placed_at address bytes =
     else if nat_lt (2 ^ 32) (address + length bytes) then Err AddressPastTheEnd
     else Ok (record { address = address; bytes = bytes })
 
--- What was said, at an address.
+-- The bytes that were read, at an address.
 abbrev pub raw_by : (address : ℕ) → Result (List ℕ) RawFault → Result Piece RawFault
 raw_by address (Err fault) = Err fault
 raw_by address (Ok bytes) = placed_at address bytes

@@ -10,7 +10,7 @@ use Rattle.dfu_suffix.specs.declared.fault.SuffixFault.TheVariants as suffix
 use Rattle.dfuse_file.specs.declared.fault.FileFault.{FileFault}
 use Rattle.dfuse_file.specs.declared.fault.FileFault.TheVariants.{TooLarge, TooShort, NoSignature, BadLength, NotDfuSe, BadCrc, NoPrefix, BadVersion, BadImageSize, NoTargets, NoTarget, BadTargetSize, ElementPastTheTarget, EmptyElement, AddressPastTheEnd, Trailing}
 
--- One step of reading after another: the first fault is that of all.
+-- One step of reading after another: the first fault is the answer.
 infixl 10 ◌>>=◌
 abbrev pub ◌>>=◌ : {A B : Type 0} → Result A FileFault → (A → Result B FileFault) → Result B FileFault
 (Err fault) >>= f = Err fault
@@ -22,7 +22,7 @@ number_at place bytes = from_le_bytes w32 (take 4 (drop place bytes))
 
 -- ---- an element
 
--- An element, and the bytes behind it.
+-- An element, and the bytes after it.
 pub record Split : Type 0 where
   pub element : Piece
   pub rest : List ℕ
@@ -43,7 +43,7 @@ front_element bytes =
 abbrev pub before_elements : Piece → Result (List Piece) FileFault → Result (List Piece) FileFault
 before_elements element more = more >>= λ elements. Ok (element ∷ elements)
 
--- So many elements, and nothing behind them.
+-- So many elements, and nothing after them.
 unfoldable pub elements_at : (count : ℕ) → List ℕ → Result (List Piece) FileFault
 elements_at zero [] = Ok []
 elements_at zero (b ∷ bytes) = Err BadTargetSize
@@ -63,7 +63,7 @@ abbrev pub is_target : List ℕ → Bool
 is_target b = (slice_index b 0 == 84) && ((slice_index b 1 == 97) && ((slice_index b 2 == 114) && ((slice_index b 3 == 103)
     && ((slice_index b 4 == 101) && (slice_index b 5 == 116)))))
 
--- What a target says before its elements, the bytes of these, and the bytes behind it.
+-- What a target says before its elements, the bytes of these, and the bytes after the target.
 pub record Heading : Type 0 where
   pub setting : ℕ
   pub named : ℕ
@@ -95,7 +95,7 @@ target_of h elements = record { setting = h.setting; named = h.named; name = h.n
 abbrev pub before_targets : Target → Result (List Target) FileFault → Result (List Target) FileFault
 before_targets target more = more >>= λ targets. Ok (target ∷ targets)
 
--- So many targets, each with its elements, and nothing behind them.
+-- So many targets, each with its elements, and nothing after them.
 unfoldable pub targets_at : (count : ℕ) → List ℕ → Result (List Target) FileFault
 targets_at zero [] = Ok []
 targets_at zero (b ∷ bytes) = Err Trailing
@@ -111,7 +111,7 @@ abbrev pub is_prefixed : List ℕ → Bool
 is_prefixed b = (slice_index b 0 == 68) && ((slice_index b 1 == 102) && ((slice_index b 2 == 117) && ((slice_index b 3 == 83)
     && (slice_index b 4 == 101))))
 
--- The targets of the bytes before the suffix: behind the letters, the version, the size and the number of targets. ST's tools give the size
+-- The targets of the bytes before the suffix: after the letters, the version, the size and the number of targets. ST's tools give the size
 -- without the suffix, and dfu-util's with it.
 unfoldable pub body_at : (whole : ℕ) → List ℕ → Result (List Target) FileFault
 body_at whole bytes =
@@ -145,7 +145,7 @@ abbrev pub is_dfuse : SuffixFault → Bool
 is_dfuse suffix.DfuSe = true
 is_dfuse other = false
 
--- Why a file with another fault is no DfuSe file; if its CRC is wrong, it is of another version.
+-- Why a file with another fault is not a DfuSe file; if its CRC is wrong, it is of another version.
 abbrev pub refusal : SuffixFault → FileFault
 refusal suffix.TooLarge = TooLarge
 refusal suffix.TooShort = TooShort

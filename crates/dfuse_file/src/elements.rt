@@ -1,6 +1,6 @@
-//! Elements, one behind the other.
+//! Elements, one after the other.
 
-ghost use Rattle.std.specs.Prelude.{◌≡◌, [], ◌∷◌, length, MatchOption, Ok};
+ghost use Rattle.std.specs.Prelude.{◌≡◌, ◌==◌, if◌then◌else◌, [], ◌∷◌, length, MatchOption, Ok, Err};
 ghost use Rattle.dfuse_file.specs.Reading.{front_element, elements_at};
 ghost use Rattle.dfuse_file.specs.Found.{piece_of, fault_only};
 
@@ -9,7 +9,7 @@ use crate::numbers::number_at;
 use dfuse_host::Element;
 use std::marker::Model;
 
-/// An element, and the bytes behind it.
+/// An element, and the bytes after it.
 #[derive(Drop)]
 struct Split<'f> {
     element: Element<'f>,
@@ -55,6 +55,13 @@ fn take_element(bytes: &[u8]) -> Result<Split<'_>, FileFault>
     })
 }
 
+/// Checks that no bytes are left; this fault if some are.
+pub(crate) fn check_end(rest: &[u8], fault: FileFault) -> Result<(), FileFault>
+    ensures { result ≡ (if length rest.now == 0 then Ok tt else Err fault) }
+{
+    if rest.is_empty() { Ok(()) } else { Err(fault) }
+}
+
 /// Checks that the bytes are so many elements, and nothing else.
 pub(crate) fn check_elements(count: u32, bytes: &[u8]) -> Result<(), FileFault>
     ensures { result ≡ fault_only (elements_at count bytes.now) }
@@ -66,11 +73,7 @@ pub(crate) fn check_elements(count: u32, bytes: &[u8]) -> Result<(), FileFault>
             Err(fault) => return Err(fault),
         }
     }
-    if rest.is_empty() {
-        Ok(())
-    } else {
-        Err(FileFault::BadTargetSize)
-    }
+    check_end(rest, FileFault::BadTargetSize)
 }
 
 /// The elements of a target, in the order of the file.

@@ -30,7 +30,7 @@ pub enum FileFault {
     /// The version isn't 1.
     #[error("the file is of another version of DfuSe")]
     BadVersion,
-    /// The size in the prefix is neither that of the file nor that without the suffix.
+    /// The size in the prefix is not that of the file, with or without the suffix.
     #[error("the file has another size than it says")]
     BadImageSize,
     /// The number of targets is 0.
@@ -48,10 +48,10 @@ pub enum FileFault {
     /// The size of an element is 0.
     #[error("an element has no bytes")]
     EmptyElement,
-    /// An element ends behind address FFFFFFFFh.
+    /// An element ends past address FFFFFFFFh.
     #[error("an element ends behind the last address")]
     AddressPastTheEnd,
-    /// There are more bytes behind the last target.
+    /// There are more bytes after the last target.
     #[error("the file has more bytes behind its last target")]
     Trailing,
 }

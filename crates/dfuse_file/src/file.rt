@@ -79,7 +79,7 @@ fn read_file(bytes: &[u8]) -> Result<File<'_>, FileFault>
 }
 
 /// Reads a DfuSe file. The size in its prefix may count the suffix, as dfu-util's tools have it, or not, as ST's. A file with a wrong
-/// dwCRC is refused as such, whatever else it has.
+/// dwCRC is refused for that, whatever else is in it.
 ///
 /// # Errors
 ///
@@ -89,7 +89,7 @@ pub fn read(bytes: &[u8]) -> Result<File<'_>, FileFault>
     ensures found { IfOk result (λ f. IsDfuSe f bytes.now) }
     // Each file of the grammar is read.
     ensures only { (f : DfuseContent) → IsDfuSe f bytes.now → result ≡ Ok f }
-    // All else has a first fault, which is the answer.
+    // Any other bytes have a first fault, which is the answer.
     ensures fault { (fault : FileFault) → (result ≡ Err fault) ↔ FirstFileFault fault bytes.now }
 {
     read_file(bytes)

@@ -8,7 +8,7 @@ use crate::marks::is_target;
 use crate::numbers::number_at;
 use std::marker::Model;
 
-/// What a target says before its elements, the bytes of these, and the bytes behind it.
+/// What a target says before its elements, the bytes of these, and the bytes after the target.
 #[derive(Drop)]
 pub(crate) struct Heading<'f> {
     pub setting: u8,

@@ -41,8 +41,8 @@ fn sort(count: usize, room: &mut [Element<'_>])
 }
 
 impl<'f> File<'f> {
-    /// Puts the elements of all targets of an alternate setting into the front of `room`, in the order of the file: how many they are. A
-    /// session wants them by their addresses.
+    /// Puts the elements of all targets of an alternate setting into the front of `room`, in the order of the file. It answers how many
+    /// there are. A session wants them by their addresses.
     ///
     /// # Errors
     ///
@@ -71,7 +71,7 @@ impl<'f> File<'f> {
         Ok(count)
     }
 
-    /// The same, by their addresses. Whether they overlap is not looked at: a session refuses that.
+    /// The same, by their addresses. It does not look whether they overlap: a session refuses that.
     ///
     /// # Errors
     ///

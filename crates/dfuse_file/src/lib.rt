@@ -1,4 +1,4 @@
-//! DfuSe files (ST's UM0391): what is to stand where in a device's memory, as elements of an address and bytes.
+//! DfuSe files (ST's UM0391): what goes where in a device's memory, as elements of an address and bytes.
 //!
 //! `read` takes a whole file apart. `File::image` lists the elements of one alternate setting by their addresses, as `dfuse_host` wants
 //! them; `read_raw` makes one of a file without addresses, and `list` takes those that `dfu_images` reads. The crate takes no memory and

@@ -8,7 +8,7 @@ use crate::elements::Elements;
 use dfu_images as images;
 use dfuse_host::Element;
 
-/// Puts elements into `room` behind the first `from`: how many are there then, or None if they don't fit.
+/// Puts elements into `room` after the first `from`, and answers how many there are then, or None if they don't fit.
 pub(crate) fn put<'f>(
     elements: Elements<'f>,
     from: usize,

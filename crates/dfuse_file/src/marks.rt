@@ -1,4 +1,4 @@
-//! The letters by which the parts of a file are known.
+//! The letters that mark the parts of a file.
 
 ghost use Rattle.std.specs.Prelude.{◌≡◌, ◌≤◌, length};
 ghost use Rattle.dfuse_file.specs.Reading.{is_target, is_prefixed};

@@ -28,7 +28,7 @@ pub enum RawFault {
     /// There are no bytes before the suffix, if there is one.
     #[error("the file is empty")]
     Empty,
-    /// The last byte would have an address behind FFFFFFFFh.
+    /// The last byte would have an address past FFFFFFFFh.
     #[error("the file ends behind the last address")]
     AddressPastTheEnd,
 }
@@ -46,7 +46,7 @@ fn refusal(fault: SuffixFault) -> Option<RawFault>
     }
 }
 
-/// What stands before a suffix; a file without one has nothing else.
+/// What precedes a suffix; a file without one has nothing else.
 fn payload_of(bytes: &[u8]) -> Result<&[u8], RawFault>
     ensures { MatchResult result (λ payload. payload_by (find (has_fault bytes.now) fault_order) bytes.now ≡ Ok payload.now)
         (λ fault. payload_by (find (has_fault bytes.now) fault_order) bytes.now ≡ Err fault) }
@@ -68,7 +68,7 @@ fn has_prefix(bytes: &[u8]) -> bool
     bytes.len() >= 5 && is_prefixed(bytes)
 }
 
-/// Bytes at an address.
+/// An element of bytes at an address.
 #[tactic(auto, using(std::proofs::lemmas::Bool::Decides::nat_tests), unfolding(crate::specs::Raw::placed_at))]
 fn placed_at(address: u32, bytes: &[u8]) -> Result<Element<'_>, RawFault>
     ensures { MatchResult result (λ e. placed_at address bytes.now ≡ Ok (piece_of e)) (λ fault. placed_at address bytes.now ≡ Err fault) }
@@ -85,7 +85,7 @@ fn placed_at(address: u32, bytes: &[u8]) -> Result<Element<'_>, RawFault>
     Ok(Element { address, bytes })
 }
 
-/// Reads a file without addresses, which is to stand at this one. Its suffix (USB DFU 1.1, appendix B), if it has one, is left out. A file
+/// Reads a file without addresses, which goes to this one. Its suffix (USB DFU 1.1, appendix B), if it has one, is left out. A file
 /// with a damaged suffix, or that begins as a DfuSe file, is refused: it would be written whole.
 ///
 /// # Errors

@@ -85,7 +85,7 @@ fn is_dfuse(fault: SuffixFault) -> bool
     }
 }
 
-/// Why a file with another fault is no DfuSe file.
+/// Why a file with another fault is not a DfuSe file.
 fn refusal(fault: SuffixFault) -> FileFault
     ensures { result ≡ refusal fault }
 {
@@ -98,7 +98,7 @@ fn refusal(fault: SuffixFault) -> FileFault
     }
 }
 
-/// What stands before a suffix with bcdDFU 011Ah.
+/// What precedes a suffix with bcdDFU 011Ah.
 fn read_signed(bytes: &[u8]) -> Result<Suffixed<'_>, FileFault>
     requires { 16 ≤ length bytes.now }
     ensures { result ≡ signed_by bytes.now }
@@ -110,7 +110,7 @@ fn read_signed(bytes: &[u8]) -> Result<Suffixed<'_>, FileFault>
     }
 }
 
-/// Reads the suffix, by the small table: a file is read once, and a library for C has none of the large ones.
+/// Reads the suffix, by the small table: a file is read once, and a library for C has no large ones.
 pub(crate) fn read_suffix(bytes: &[u8]) -> Result<Suffixed<'_>, FileFault>
     ensures { result ≡ suffix_at bytes.now }
 {

@@ -1,21 +1,21 @@
-//! Targets, one behind the other.
+//! Targets, one after the other.
 
 ghost use Rattle.std.specs.Prelude.{◌≡◌, [], ◌∷◌, length, MatchOption};
 ghost use Rattle.dfuse_file.specs.Reading.{targets_at};
 ghost use Rattle.dfuse_file.specs.Found.{fault_only};
 ghost use Rattle.dfuse_file.specs.Images.{handed_out};
 
-use crate::elements::{Elements, check_elements};
+use crate::elements::{Elements, check_elements, check_end};
 use crate::fault::FileFault;
 use crate::headings::take_heading;
 use std::marker::Model;
 
-/// What is to stand in the memory of an alternate setting.
+/// What goes into the memory of an alternate setting.
 #[derive(Drop)]
 pub struct Target<'f> {
     /// The alternate setting.
     pub setting: u8,
-    /// Whether the target has a name: not if this is 0.
+    /// Whether the target has a name: 0 if it has none.
     pub named: u32,
     /// The 255 bytes for its name, which ends at the first 0.
     pub name: &'f [u8],
@@ -37,11 +37,7 @@ pub(crate) fn check_targets(count: u8, bytes: &[u8]) -> Result<(), FileFault>
             },
         }
     }
-    if rest.is_empty() {
-        Ok(())
-    } else {
-        Err(FileFault::Trailing)
-    }
+    check_end(rest, FileFault::Trailing)
 }
 
 /// The targets of a file, in its order.

@@ -33,13 +33,13 @@ digits_more base (x ∷ xs) (suc i) j e h d =
     let same = ap (digits_in base) there in
     omega (arith, more, same, e)
 
--- Here none stands.
+-- There is no digit here.
 pub digits_stop : (base : ℕ) (xs : List ℕ) (i : ℕ) → i < length xs → base ≤ digit_value (get_or xs i 0) → digits_in base (drop i xs) ≡ 0
 digits_stop base [] i h d = absurd (omega (arith, h))
 digits_stop base (x ∷ xs) zero h d = digits_no base x xs d
 digits_stop base (x ∷ xs) (suc i) h d = digits_stop base xs i (omega (arith, h)) d
 
--- Nor behind the end.
+-- Nor past the end.
 pub digits_end : (base : ℕ) (xs : List ℕ) (i : ℕ) → length xs ≤ i → digits_in base (drop i xs) ≡ 0
 digits_end base [] zero h = digits_none base
 digits_end base [] (suc i) h = digits_none base

@@ -47,7 +47,7 @@ count_found c text h =
       some = subst (λ (v : ℕ). 1 ≤ v) value n.some;
     }
 
--- A unit that was read, or none.
+-- A unit that was read, or no unit.
 record Measured (value : ℕ) (s : NumberRead) (text : List ℕ) : Type 0 where
   times : ℕ
   unit : List ℕ

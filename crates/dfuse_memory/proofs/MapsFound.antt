@@ -112,13 +112,13 @@ unfolding trimmed
 trimmed_found [] = record { spaces = 0; bytes_are = refl; no_space = nothing_ends }
 trimmed_found (b ∷ bs) = trimmed_by b bs (trimmed bs) (eqb b 32 && eqb (length (trimmed bs)) 0) refl (trimmed_found bs)
 
--- The front of what has no stroke has none.
+-- The front of a text without a stroke has none.
 no_stroke_front : (xs ys : List ℕ) → HasNoStroke (xs ++ ys) → HasNoStroke xs
 unfolding HasNoStroke
 no_stroke_front [] ys h = tt
 no_stroke_front (x ∷ xs) ys h = (h.0, no_stroke_front xs ys h.1)
 
--- Where the first stroke stands.
+-- Where the first stroke is.
 record Stroke (n : ℕ) (text : List ℕ) : Type 0 where
   text_is : text ≡ take n text ++ 47 ∷ drop (n + 1) text
   no_stroke : HasNoStroke (take n text)

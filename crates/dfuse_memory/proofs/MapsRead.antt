@@ -55,7 +55,7 @@ unfolding HasNoStroke
 no_stroke_spaces zero = tt
 no_stroke_spaces (suc n) = (λ e. absurd (omega (arith, e)), no_stroke_spaces n)
 
--- Before the first stroke stands what has none.
+-- What precedes the first stroke has no stroke.
 stroke_place : (xs rest : List ℕ) → HasNoStroke xs → prefix_len (λ (b : ℕ). not (is_stroke b)) (xs ++ 47 ∷ rest) ≡ length xs
 unfolding HasNoStroke
 stroke_place [] rest h = refl

@@ -4,7 +4,7 @@ use Rattle.std.proofs.lemmas.Bool.{eq-eqb, ne_eqb, and_right, and_left}
 use Rattle.std.proofs.lemmas.List.{take_all}
 use Rattle.dfuse_memory.specs.Reading.{trimmed}
 
--- A first byte stays before bytes that stay, and before none if it is no space.
+-- A first byte stays before bytes that stay, and before no bytes if it is not a space.
 abbrev pub first_of : ℕ → List ℕ → List ℕ
 first_of b kept = cond (eqb b 32 && eqb (length kept) 0) [] (b ∷ kept)
 

@@ -7,7 +7,7 @@ use Rattle.dfuse_memory.specs.Reading.{NumberRead, digit_value, digits_in, digit
 use Rattle.dfuse_memory.specs.Grammar.{AreDigits, IsNumber}
 use Rattle.dfuse_memory.proofs.DigitLaws.{digits_cons, digits_no, digits_none}
 
--- No digit of a base stands first.
+-- The first byte is not a digit of a base.
 unfoldable pub NoDigitFirst : (base : ℕ) → List ℕ → Type 0
 NoDigitFirst base [] = Unit {0}
 NoDigitFirst base (b ∷ bs) = base ≤ digit_value b
@@ -16,7 +16,7 @@ pub no_digit : (base b : ℕ) (bs : List ℕ) → base ≤ digit_value b → NoD
 unfolding NoDigitFirst
 no_digit base b bs h = h
 
--- All digits that stand before something else are counted.
+-- All digits before something else are counted.
 counted : (base : ℕ) (ds rest : List ℕ) → AreDigits base ds → NoDigitFirst base rest → digits_in base (ds ++ rest) ≡ length ds
 unfolding AreDigits NoDigitFirst
 counted base [] [] a n = digits_none base

@@ -1,4 +1,4 @@
--- An address is in one range of a map alone.
+-- An address is in only one range of a map.
 use Rattle.std.proofs.Common.{◌≡◌, ℕ, ◌<◌, ◌≤◌, Bool, true, false, cond, List, [], ◌∷◌, Option, Some, ◌⊎◌, inl, inr, refl, sym, ap, ◌∙◌, subst, arith}
 use Rattle.std.proofs.lemmas.Bool.{cases_lt, and_parts}
 use Rattle.std.proofs.lemmas.Bool.Decides.{nat_tests}
@@ -7,7 +7,7 @@ use Rattle.dfuse_memory.specs.declared.pages.Pages.{Pages}
 use Rattle.dfuse_memory.specs.Ranges.{end_of_range, is_apart, is_apart_from, are_apart}
 use Rattle.dfuse_memory.specs.Lookups.{has, range_at, grants, IsGranted, AllGranted}
 
--- What a look-up finds here, or behind.
+-- What a look-up finds here, or further on.
 found_by : (t : Bool) (q p : Pages) (o : Option Pages) → cond t (Some q) o ≡ Some p → ((t ≡ true) × (q ≡ p)) ⊎ ((t ≡ false) × (o ≡ Some p))
 found_by true q p o h = inl (refl, cc)
 found_by false q p o h = inr (refl, h)

@@ -8,7 +8,7 @@ use Rattle.dfuse_memory.specs.Grammar.{IsNumber, IsPrefix, IsAddress}
 use Rattle.dfuse_memory.proofs.NumbersRead.{number_found}
 use Rattle.dfuse_memory.proofs.Steps.{then_ok, or_ok, behind_found}
 
--- What stands before the digits is a prefix.
+-- What precedes the digits is a prefix.
 record Prefixed (rest text : List ℕ) : Type 0 where
   prefix : List ℕ
   text_is : text ≡ prefix ++ rest
@@ -59,7 +59,7 @@ address_found n text h =
       };
     }
 
--- What stands behind a range, and where the next one begins.
+-- What follows a range, and where the next one begins.
 unfoldable pub Leads : (end : ℕ) → Option NumberRead → List ℕ → Type 0
 Leads end None text = text ≡ []
 Leads end (Some p) text = ((text ≡ 44 ∷ p.rest) × (p.value ≡ end)) ⊎ ((more : List ℕ) × (text ≡ 47 ∷ more) × AddressSpelled p more)

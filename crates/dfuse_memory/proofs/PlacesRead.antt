@@ -26,7 +26,7 @@ unprefixed [] rest a h = absurd (omega (arith, h))
 unprefixed (d ∷ []) rest a h = plain d 47 rest (λ e. absurd (omega (arith, e))) (λ e. absurd (omega (arith, e)))
 unprefixed (d ∷ e ∷ ds) rest a h = plain d e (ds ++ 47 ∷ rest) (not_x e a.1.0).0 (not_x e a.1.0).1
 
--- Behind a prefix stand the digits.
+-- The digits follow a prefix.
 digits_behind : (prefix ds rest : List ℕ) → IsPrefix prefix → AreDigits 16 ds → 1 ≤ length ds → behind_prefix (prefix ++ (ds ++ 47 ∷ rest)) ≡ ds ++ 47 ∷ rest
 digits_behind [] ds rest p a h = unprefixed ds rest a h
 digits_behind (x ∷ []) ds rest p a h = absurd p

@@ -9,7 +9,7 @@ use Rattle.dfuse_memory.specs.Ranges.{IsRange, end_of_range}
 use Rattle.dfuse_memory.specs.Reading.{NumberRead, Grouped, ◌>>=◌, going, group_at, next_at, ranges_at}
 use Rattle.dfuse_memory.specs.inside.Listing.{ranges_joined}
 
--- What is left to read, behind the ranges that were read, makes all that is to be read.
+-- What is left to read, after the ranges that were read, makes all that is to be read.
 pub record Goes (whole : Result (List Pages) MapFault) (before : List Pages) (start : ℕ) (text : List ℕ) : Type 0 where
   pub most : ℕ
   pub room : length before + most ≡ 32
@@ -68,7 +68,7 @@ behind_by : (most : ℕ) (whole : Result (List Pages) MapFault) (before : List P
 behind_by zero whole before start text g fault z w e f = absurd (omega (arith, z))
 behind_by (suc n) whole before start text g fault z w e f = sym w ∙ ap (ranges_joined before) (next_fault n start text g fault e f)
 
--- What stands behind a range has a fault.
+-- What follows a range has a fault.
 pub goes_behind : (whole : Result (List Pages) MapFault) (before : List Pages) (start : ℕ) (text : List ℕ) (g : Grouped) (fault : MapFault) →
     Goes whole before start text → length before < 32 → group_at start text ≡ Ok g → next_at (end_of_range g.pages) g.rest ≡ Err fault →
     whole ≡ Err fault
@@ -123,7 +123,7 @@ one_sound p s (suc k) d h = absurd (omega (arith, h))
 pub sound_more : (before : List Pages) (p : Pages) → All IsRange before → IsRange p → All IsRange (before ++ p ∷ [])
 sound_more before p h s = All-append IsRange before (p ∷ []) h (one_sound p s)
 
--- What is next behind a range, by its parts.
+-- What comes next after a range, by its parts.
 pub next_by : (g : Grouped) (q : Pages) (r : List ℕ) (end : ℕ) (n m : Result (Option NumberRead) MapFault) →
     ◌≡◌ {A = Grouped} g (record { pages = q; rest = r }) → end ≡ end_of_range q → n ≡ next_at end r → n ≡ m →
     next_at (end_of_range g.pages) g.rest ≡ m

@@ -34,7 +34,7 @@ behind_by b c cs rest true e h =
     cc
 behind_by b c cs rest false e h = cc
 
--- A byte that was taken stood there.
+-- A byte that was taken was there.
 pub behind_found : (b : ℕ) (text rest : List ℕ) → behind b text ≡ Some rest → text ≡ b ∷ rest
 unfolding behind
 behind_found b [] rest h = cc

@@ -1,4 +1,4 @@
--- The grammar of a memory map, built from the front: `@NAME/ADDRESS/COUNT*SIZE LETTER`, with more ranges behind `,` or behind `/ADDRESS/`.
+-- The grammar of a memory map, built from the front: `@NAME/ADDRESS/COUNT*SIZE LETTER`, with more ranges after `,` or after `/ADDRESS/`.
 use Rattle.std.specs.Prelude.{◌≡◌, ◌≢◌, ℕ, ◌*◌, ◌<◌, ◌≤◌, true, ◌⊎◌, List, [], ◌∷◌, ◌++◌, length, replicate}
 use Rattle.dfuse_memory.specs.declared.pages.Pages.{Pages}
 use Rattle.dfuse_memory.specs.declared.fault.MapFault.{MapFault}
@@ -18,7 +18,7 @@ pub record IsNumber (base most n : ℕ) (digits : List ℕ) : Type 0 where
   pub few : length digits ≤ most
   pub makes : n ≡ digits_number base 0 digits
 
--- A unit has so many bytes: K 1,024, M 1,048,576, and B, the space, and none at all 1.
+-- A unit has so many bytes: K 1,024, M 1,048,576, and B, the space, or no unit 1.
 abbrev pub IsUnit : (times : ℕ) → List ℕ → Type 0
 IsUnit times [] = times ≡ 1
 IsUnit times (b ∷ []) = (times ≡ unit_bytes b) × (unit_bytes b ≢ 0)
@@ -43,7 +43,7 @@ pub record IsGroup (start : ℕ) (p : Pages) (text : List ℕ) : Type 0 where
   pub starts : p.start ≡ start
   pub sound : IsRange p
 
--- What may stand before an address: `0x`, `0X` or nothing.
+-- What may precede an address: `0x`, `0X` or nothing.
 abbrev pub IsPrefix : List ℕ → Type 0
 IsPrefix [] = Unit {0}
 IsPrefix (a ∷ []) = ⊥
@@ -58,7 +58,7 @@ pub record IsAddress (address : ℕ) (text : List ℕ) : Type 0 where
   pub prefix_is : IsPrefix prefix
   pub number_is : IsNumber 16 8 address digits
 
--- Ranges, of which the first begins at this address. Behind `,` one begins where the one before ends; behind `/` stands its address, and `/`.
+-- Ranges, of which the first begins at this address. After `,` one begins where the one before ends; after `/` come its address and `/`.
 pub data AreRanges : (start : ℕ) → List Pages → List ℕ → Type 0 where
   last : {start : ℕ} {p : Pages} {text : List ℕ} → IsGroup start p text → AreRanges start (p ∷ []) text
   following : {start : ℕ} {p : Pages} {ps : List Pages} {group more : List ℕ} →
@@ -72,7 +72,7 @@ unfoldable pub HasNoStroke : List ℕ → Type 0
 HasNoStroke [] = Unit {0}
 HasNoStroke (b ∷ bs) = (b ≢ 47) × HasNoStroke bs
 
--- There is no last byte, or it is no space.
+-- There is no last byte, or it is not a space.
 unfoldable pub EndsInNoSpace : List ℕ → Type 0
 EndsInNoSpace [] = Unit {0}
 EndsInNoSpace (b ∷ []) = b ≢ 32
@@ -92,6 +92,6 @@ pub record IsMap (m : MapContent) (text : List ℕ) : Type 0 where
   pub few : length m.ranges ≤ 32
   pub apart : are_apart m.ranges ≡ true
 
--- This is the first fault of a string that is no map.
+-- This is the first fault of a string that is not a map.
 abbrev pub FirstMapFault : MapFault → List ℕ → Type 0
 FirstMapFault fault text = map_at text ≡ Err fault

@@ -28,7 +28,7 @@ page_in address p = record {
 abbrev pub page_at : ℕ → List Pages → Option Page
 page_at address ranges = option_map (page_in address) (range_at address ranges)
 
--- The address behind the last byte of a page.
+-- The address after the last byte of a page.
 abbrev pub end_of_page : Page → ℕ
 end_of_page p = p.start + p.size
 
@@ -43,7 +43,7 @@ abbrev pub IsGranted : Access → Option Pages → Type 0
 IsGranted wanted None = ⊥
 IsGranted wanted (Some p) = grants p.access wanted ≡ true
 
--- Each address from the one to before the other is in a range that grants what is wanted.
+-- Each address from the first up to before the second is in a range that grants what is wanted.
 abbrev pub AllGranted : Access → (start end : ℕ) → List Pages → Type 0
 AllGranted wanted start end ranges = (a : ℕ) → start ≤ a → a < end → IsGranted wanted (range_at a ranges)
 

@@ -2,11 +2,11 @@
 use Rattle.std.specs.Prelude.{ℕ, ◌+◌, ◌*◌, ◌^◌, ◌≤◌, ◌&&◌, ◌||◌, nat_le, Bool, true, List, [], ◌∷◌}
 use Rattle.dfuse_memory.specs.declared.pages.Pages.{Pages}
 
--- The address behind the last byte of a range.
+-- The address after the last byte of a range.
 abbrev pub end_of_range : Pages → ℕ
 end_of_range p = p.start + p.count * p.size
 
--- A range has a page, each page a byte, and the last byte an address.
+-- A range has at least one page, each page at least one byte, and the last byte an address of 32 bits.
 pub record IsRange (p : Pages) : Type 0 where
   pub some_pages : 1 ≤ p.count
   pub some_bytes : 1 ≤ p.size

@@ -7,23 +7,23 @@ use Rattle.dfuse_memory.specs.declared.pages.Pages.{Pages}
 use Rattle.dfuse_memory.specs.declared.fault.MapFault.{MapFault}
 use Rattle.dfuse_memory.specs.declared.fault.MapFault.TheVariants.{NoMap, BadAddress, BadCount, BadSize, BadType, PastTheEnd, TooManyRanges, Trailing, Overlaps}
 
--- One step of reading after another: the first fault is that of all.
+-- One step of reading after another: the first fault is the answer.
 infixl 10 ◌>>=◌
 abbrev pub ◌>>=◌ : {A B : Type 0} → Result A MapFault → (A → Result B MapFault) → Result B MapFault
 (Err fault) >>= f = Err fault
 (Ok x) >>= f = f x
 
--- What there is, or this fault.
+-- The value if there is one, or else this fault.
 abbrev pub or : {A : Type 0} → MapFault → Option A → Result A MapFault
 or fault None = Err fault
 or fault (Some x) = Ok x
 
--- A number, and the text behind it.
+-- A number, and the text after it.
 pub record NumberRead : Type 0 where
   pub value : ℕ
   pub rest : List ℕ
 
--- The value of a digit of either case; 16 for a byte that is none.
+-- The value of a digit of either case; 16 for a byte that is not a digit.
 abbrev pub digit_value : ℕ → ℕ
 digit_value b =
     if nat_le 48 b && nat_le b 57 then b - 48
@@ -31,23 +31,23 @@ digit_value b =
     else if nat_le 65 b && nat_le b 70 then b - 55
     else 16
 
--- How many digits of a base stand at the front.
+-- How many digits of a base are at the front.
 unfoldable pub digits_in : (base : ℕ) → List ℕ → ℕ
 digits_in base [] = 0
 digits_in base (b ∷ bs) = if nat_lt (digit_value b) base then suc (digits_in base bs) else 0
 
--- The number that these digits make behind those that make n.
+-- The number that these digits make after those that make n.
 unfoldable pub digits_number : (base n : ℕ) → List ℕ → ℕ
 digits_number base n [] = n
 digits_number base n (b ∷ bs) = digits_number base (base * n + digit_value b) bs
 
--- The number at the front: one digit at least, and so many at most, of all that stand there.
+-- The number at the front: one digit at least, and so many at most, of all that are there.
 unfoldable pub map_number_at : (base most : ℕ) → List ℕ → Option NumberRead
 map_number_at base most text =
     if digits_in base text == 0 || nat_lt most (digits_in base text) then None
     else Some (record { value = digits_number base 0 (take (digits_in base text) text); rest = drop (digits_in base text) text })
 
--- What stands behind this byte, if the text begins with it.
+-- What follows this byte, if the text begins with it.
 unfoldable pub behind : ℕ → List ℕ → Option (List ℕ)
 behind byte [] = None
 behind byte (b ∷ bs) = if b == byte then Some bs else None
@@ -66,7 +66,7 @@ count_at text =
 abbrev pub unit_bytes : ℕ → ℕ
 unit_bytes b = if b == 75 then 1024 else if b == 77 then 1048576 else if b == 66 || b == 32 then 1 else 0
 
--- A size in the unit that stands at the front; bytes, if none does.
+-- A size in the unit at the front; in bytes, if there is no unit.
 unfoldable pub unit_at : ℕ → List ℕ → NumberRead
 unit_at value [] = record { value = value; rest = [] }
 unit_at value (b ∷ bs) = if unit_bytes b == 0 then record { value = value; rest = b ∷ bs } else record
@@ -76,7 +76,7 @@ unit_at value (b ∷ bs) = if unit_bytes b == 0 then record { value = value; res
 unfoldable pub size_at : List ℕ → Result NumberRead MapFault
 size_at text = or BadSize (map_number_at 10 5 text) >>= counting BadSize >>= λ n. Ok (unit_at n.value n.rest)
 
--- What may be done with pages, and the text behind the letter that says it.
+-- What may be done with pages, and the text after the letter that says it.
 pub record LetterRead : Type 0 where
   pub access : Access
   pub rest : List ℕ
@@ -94,7 +94,7 @@ unfoldable pub access_at : List ℕ → Result LetterRead MapFault
 access_at [] = Err BadType
 access_at (b ∷ bs) = if nat_le 97 b && nat_le b 103 then Ok (record { access = access_of b; rest = bs }) else Err BadType
 
--- A range, and the text behind it.
+-- A range, and the text after it.
 pub record Grouped : Type 0 where
   pub pages : Pages
   pub rest : List ℕ
@@ -109,7 +109,7 @@ ranged start count size a =
 unfoldable pub group_at : (start : ℕ) → List ℕ → Result Grouped MapFault
 group_at start text = count_at text >>= λ c. size_at c.rest >>= λ s. access_at s.rest >>= ranged start c.value s.value
 
--- A text behind `0x` or `0X`, which it may lack.
+-- The text after `0x` or `0X`, which may be missing.
 unfoldable pub behind_prefix : List ℕ → List ℕ
 behind_prefix [] = []
 behind_prefix (a ∷ []) = a ∷ []
@@ -125,7 +125,7 @@ address_at text =
 abbrev pub place_found : Result NumberRead MapFault → Result (Option NumberRead) MapFault
 place_found place = place >>= λ p. Ok (Some p)
 
--- Where the next range begins, behind one that ends at this address: there behind `,`, and at an address of its own behind `/`; nowhere at
+-- Where the next range begins, after one that ends at this address: there after `,`, and at an address of its own after `/`; nowhere at
 -- the end of the text.
 unfoldable pub next_at : (end : ℕ) → List ℕ → Result (Option NumberRead) MapFault
 next_at end [] = Ok None
@@ -147,7 +147,7 @@ ranges_at (suc n) start text =
     >>= λ g. next_at (end_of_range g.pages) g.rest
     >>= λ next. going g.pages next (λ place. ranges_at n place.value place.rest)
 
--- A name, and the text behind it.
+-- A name, and the text after it.
 pub record Named : Type 0 where
   pub name : List ℕ
   pub rest : List ℕ
@@ -166,7 +166,7 @@ abbrev pub cut_at : List ℕ → Option ℕ → Option Named
 cut_at text None = None
 cut_at text (Some n) = Some (record { name = trimmed (take n text); rest = drop (n + 1) text })
 
--- The name behind `@`.
+-- The name after `@`.
 unfoldable pub map_name_at : List ℕ → Result Named MapFault
 map_name_at text = or NoMap (behind 64 text) >>= λ behind. or NoMap (cut_at behind (position is_stroke behind))
 

@@ -18,7 +18,7 @@ fn digit_value(byte: u8) -> u64
     }
 }
 
-/// How many digits in this base stand at the front.
+/// How many digits in this base are at the front.
 fn digits_in(base: u64, text: &[u8]) -> usize
     ensures value { result ≡ digits_in base text.now }
     ensures within { result ≤ length text.now }
@@ -47,7 +47,7 @@ fn said(base: u64, digits: &[u8]) -> u64
     value
 }
 
-/// The number that stands at the front, in this base and in at most so many digits. All digits there belong to it.
+/// The number at the front, in this base and in at most so many digits. All digits there belong to it.
 #[tactic(auto, unfolding(crate::specs::Reading::map_number_at))]
 pub(crate) fn take_number(base: u64, most: usize, text: &[u8]) -> Option<Number<'_>>
     requires base { base ≤ 16 }

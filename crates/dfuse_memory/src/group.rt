@@ -11,7 +11,7 @@ use crate::pages::{Access, Pages};
 use crate::text::{Number, behind, front};
 use std::marker::Model;
 
-/// What may be done with pages, and the text behind the letter that says it.
+/// What may be done with pages, and the text after the letter that says it.
 #[derive(Drop)]
 struct Allowed<'t> {
     access: Access,
@@ -27,7 +27,7 @@ impl<'t> Model for Allowed<'t> {
     ghost view = { λ a. record { access = a.access; rest = a.rest.now } };
 }
 
-/// A range, and the text behind it.
+/// A range, and the text after it.
 #[derive(Drop)]
 pub(crate) struct Group<'t> {
     pub pages: Pages,
@@ -56,7 +56,7 @@ fn unit_of(byte: u8) -> u64
     }
 }
 
-/// A size in the unit that stands at the front; bytes, if none does.
+/// A size in the unit at the front; in bytes, if there is no unit.
 #[tactic(auto, using(std::proofs::lemmas::Bool::Decides::nat_tests), unfolding(crate::specs::Reading::unit_at))]
 fn take_unit(value: u64, text: &[u8]) -> Number<'_>
     requires some { 1 ≤ value }
@@ -104,7 +104,7 @@ fn take_size(text: &[u8]) -> Result<Number<'_>, MapFault>
     }
 }
 
-/// What the bits of a letter say, from `a`, which has the lowest bit alone.
+/// What the bits of a letter say, from `a`, which has only the lowest bit.
 fn access_of(letter: u8) -> Access
     requires { 97 ≤ letter }
     ensures { result ≡ access_of letter }
@@ -138,18 +138,9 @@ pub(crate) fn take_group(start: u64, text: &[u8]) -> Result<Group<'_>, MapFault>
     ensures value { result ≡ group_at start text.now }
     ensures sound { IfOk result (λ g. IsRange g.pages) }
 {
-    let count = match take_count(text) {
-        Ok(number) => number,
-        Err(fault) => return Err(fault),
-    };
-    let size = match take_size(count.rest) {
-        Ok(number) => number,
-        Err(fault) => return Err(fault),
-    };
-    let allowed = match take_access(size.rest) {
-        Ok(allowed) => allowed,
-        Err(fault) => return Err(fault),
-    };
+    let count = take_count(text)?;
+    let size = take_size(count.rest)?;
+    let allowed = take_access(size.rest)?;
     if start + count.value * size.value > ADDRESSES {
         return Err(MapFault::PastTheEnd);
     }

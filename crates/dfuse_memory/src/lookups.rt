@@ -62,7 +62,7 @@ pub(crate) fn page_at(address: u64, ranges: &[Pages]) -> Option<Page>
     }
 }
 
-/// Whether each address from the one to before the other is in a range that grants what is wanted.
+/// Whether each address from the first up to before the second is in a range that grants what is wanted.
 pub(crate) fn all_granted(wanted: Access, start: u64, end: u64, ranges: &[Pages]) -> bool
     requires sound { All IsRange ranges.now }
     requires apart { are_apart ranges.now ≡ true }

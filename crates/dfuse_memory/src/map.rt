@@ -44,18 +44,9 @@ impl<'t> Model for Map<'t> {
 fn read_map(text: &[u8]) -> Result<Map<'_>, MapFault>
     ensures { result ≡ map_at text.now }
 {
-    let named = match take_name(text) {
-        Ok(named) => named,
-        Err(fault) => return Err(fault),
-    };
-    let place = match take_address(named.rest) {
-        Ok(place) => place,
-        Err(fault) => return Err(fault),
-    };
-    let ranges = match take_ranges(place.value, place.rest) {
-        Ok(ranges) => ranges,
-        Err(fault) => return Err(fault),
-    };
+    let named = take_name(text)?;
+    let place = take_address(named.rest)?;
+    let ranges = take_ranges(place.value, place.rest)?;
     if !are_apart(&ranges) {
         return Err(MapFault::Overlaps);
     }
@@ -70,13 +61,13 @@ impl<'t> Map<'t> {
     ///
     /// # Errors
     ///
-    /// The fault of the first place at which the string goes on as no map does, or Overlaps.
+    /// The fault of the first place at which the string is not a map, or Overlaps.
     pub fn read(text: &'t [u8]) -> Result<Map<'t>, MapFault>
         // What is read is a map.
         ensures found { IfOk result (λ m. IsMap m text.now) }
         // Each map is read.
         ensures only { (m : MapContent) → IsMap m text.now → result ≡ Ok m }
-        // All else has a first fault, which is the answer.
+        // Any other string has a first fault, which is the answer.
         ensures fault { (fault : MapFault) → (result ≡ Err fault) ↔ FirstMapFault fault text.now }
     {
         read_map(text)
@@ -114,7 +105,7 @@ impl<'t> Map<'t> {
         lookups::page_at(address as u64, &self.ranges)
     }
 
-    /// Whether each address from the one to before the other lies in a range that grants what is wanted.
+    /// Whether each address from the first up to before the second lies in a range that grants what is wanted.
     pub fn grants(&self, wanted: Access, start: u64, end: u64) -> bool
         ensures { IsTrue result ↔ AllGranted wanted start end self.now.ranges }
     {

@@ -8,7 +8,7 @@ use crate::fault::MapFault;
 use crate::text::behind;
 use std::marker::Model;
 
-/// A name, and the text behind it.
+/// A name, and the text after it.
 #[derive(Drop)]
 pub(crate) struct Named<'t> {
     pub name: &'t [u8],
@@ -39,7 +39,7 @@ fn trimmed(bytes: &[u8]) -> &[u8]
     kept
 }
 
-/// Where the first `/` stands.
+/// Where the first `/` is.
 fn stroke_in(text: &[u8]) -> Option<usize>
     ensures value { result ≡ position is_stroke text.now }
     ensures within { IfSome result (λ at. at < length text.now) }

@@ -22,7 +22,7 @@ impl Access {
     }
 }
 
-/// Pages of one size, one behind the other.
+/// Pages of one size, one after the other.
 #[derive(Clone, Copy, Debug, Default, PartialEq, Eq)]
 pub struct Pages {
     /// The address of the first byte.

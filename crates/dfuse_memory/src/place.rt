@@ -7,7 +7,7 @@ use crate::digits::take_number;
 use crate::fault::MapFault;
 use crate::text::{Number, behind, front};
 
-/// A text behind `0x` or `0X`, which it may lack.
+/// The text after `0x` or `0X`, which may be missing.
 #[tactic(auto, using(std::proofs::lemmas::Bool::Decides::nat_tests), unfolding(crate::specs::Reading::behind_prefix))]
 fn behind_prefix(text: &[u8]) -> &[u8]
     ensures { result.now ≡ behind_prefix text.now }
@@ -39,7 +39,7 @@ pub(crate) fn take_address(text: &[u8]) -> Result<Number<'_>, MapFault>
     }
 }
 
-/// Takes what leads to the next range, behind one that ends at this address.
+/// Takes what leads to the next range, after one that ends at this address.
 #[tactic(auto, using(std::proofs::lemmas::Bool::Decides::nat_tests), unfolding(crate::specs::Reading::next_at))]
 pub(crate) fn take_next(end: u64, text: &[u8]) -> Result<Option<Number<'_>>, MapFault>
     requires { end < 2 ^ 33 }

@@ -1,4 +1,4 @@
-//! Ranges, one behind the other.
+//! Ranges, one after the other.
 
 ghost use Rattle.std.specs.Prelude.{◌≡◌, ◌<◌, ◌≤◌, ◌^◌, IfOk};
 ghost use Rattle.std.specs.List.{All};
@@ -13,7 +13,7 @@ use crate::pages::Pages;
 use crate::place::take_next;
 use arrayvec::ArrayVec;
 
-/// The address behind the last byte of a range.
+/// The address after the last byte of a range.
 pub(crate) fn end_of(pages: &Pages) -> u64
     requires { IsRange pages.now }
     ensures value { result ≡ end_of_range pages.now }

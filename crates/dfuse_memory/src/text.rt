@@ -1,11 +1,11 @@
-//! Text, taken off the front.
+//! Pieces taken off the front of a text.
 
 ghost use Rattle.std.specs.Prelude.{◌≡◌, [], ◌∷◌, Some, None, IfSome, MatchOption};
 ghost use Rattle.dfuse_memory.specs.Reading.{behind};
 
 use std::marker::Model;
 
-/// A number, and the text behind it.
+/// A number, and the text after it.
 #[derive(Drop)]
 pub(crate) struct Number<'t> {
     pub value: u64,
@@ -20,7 +20,7 @@ impl<'t> Model for Number<'t> {
     ghost view = { λ n. record { value = n.value; rest = n.rest.now } };
 }
 
-/// The first byte, and what stands behind it.
+/// The first byte, and what follows it.
 pub(crate) fn front(text: &[u8]) -> Option<(u8, &[u8])>
     ensures none { result ≡ None → text.now ≡ [] }
     ensures some { IfSome result (λ f. text.now ≡ f.0 ∷ f.1.now) }
@@ -33,7 +33,7 @@ pub(crate) fn front(text: &[u8]) -> Option<(u8, &[u8])>
     Some((byte, rest))
 }
 
-/// What stands behind this byte, if the text begins with it.
+/// What follows this byte, if the text begins with it.
 #[tactic(auto, using(std::proofs::lemmas::Bool::Decides::nat_tests), unfolding(crate::specs::Reading::behind))]
 pub(crate) fn behind(byte: u8, text: &[u8]) -> Option<&[u8]>
     ensures { MatchOption result (behind byte text.now ≡ None) (λ rest. behind byte text.now ≡ Some rest.now) }

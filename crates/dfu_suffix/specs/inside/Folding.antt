@@ -1,16 +1,16 @@
--- What a residue of 1,968 bytes stands for, onto which all bytes so far were folded.
+-- What a residue of 1,968 bytes represents, onto which all bytes so far were folded.
 use Rattle.std.specs.Prelude.{ℕ, List, [], ◌∷◌, take, bit_xor}
 use Rattle.dfu_suffix.specs.Register.{after_bits, bits_of}
 
--- A number is combined with that of each place in turn.
+-- A number is combined with the number of each place in turn.
 unfoldable pub combined : (ℕ → ℕ) → ℕ → List ℕ → ℕ
 combined at number [] = number
 combined at number (place ∷ places) = combined at (bit_xor number (at place)) places
 
--- The places of a residue, beside its first one, whose bytes a further byte is combined with.
+-- The places of a residue, besides its first one, whose bytes are combined with a further byte.
 abbrev pub taps : List ℕ
 taps = 720 ∷ 848 ∷ 1184 ∷ 1280 ∷ 1920 ∷ []
 
--- A residue stands for the register from 0 over all of it, combined with those over what lies before each tap.
+-- A residue represents the register from 0 over all of it, combined with those over what lies before each tap.
 unfoldable pub stands_for : List ℕ → ℕ
 stands_for residue = combined (λ n. after_bits 0 (bits_of (take n residue))) (after_bits 0 (bits_of residue)) taps

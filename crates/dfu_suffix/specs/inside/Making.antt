@@ -19,7 +19,7 @@ added_fields ids = fields_before_crc ids 0x0100 []
 abbrev pub added_suffix : List ℕ → Ids → List ℕ
 added_suffix payload ids = added_fields ids ++ to_le_bytes w32 (register (payload ++ added_fields ids))
 
--- At Ok the file was made in memory; TooLarge and AlreadySuffixed say why there is none to make; Read and NoMemory
+-- At Ok the file was made in memory; TooLarge and AlreadySuffixed say why no file is made; Read and NoMemory
 -- say nothing of the bytes.
 abbrev pub Makes : List ℕ → Ids → Result (Vec ℕ Global) SuffixFault → Type 0
 Makes all ids (Ok v) = NeedsSuffix all × IsAdded all ids v.items

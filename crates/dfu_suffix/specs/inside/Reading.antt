@@ -1,4 +1,4 @@
--- What reading from the end finds. The grammar says what it is worth.
+-- What reading from the end finds. The grammar says what it means.
 use Rattle.std.specs.Prelude.{ℕ, ◌-◌, List, length, take, drop, slice_index, find, Option, Some, None, Result, Ok, Err}
 use Rattle.byteorder.specs.Endian.{little_number}
 use Rattle.dfu_suffix.specs.Grammar.{Content, tail_of, has_fault, fault_order}
@@ -22,7 +22,7 @@ content_of bytes = record {
   suffix = slice_index (tail_of bytes) 11;
 }
 
--- The answer is the fault, where there is one, and else the content.
+-- The answer is the fault if there is one, and else the content.
 abbrev pub content_or : Option SuffixFault → Content → Result Content SuffixFault
 content_or (Some fault) content = Err fault
 content_or None content = Ok content

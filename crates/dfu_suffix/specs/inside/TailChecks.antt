@@ -1,4 +1,4 @@
--- What the last 16 bytes of a file answer. The grammar and `Checks` say what it is worth.
+-- What the last 16 bytes of a file answer. The grammar and `Checks` say what it means.
 use Rattle.std.specs.Prelude.{ℕ, ◌-◌, ◌==◌, ◌||◌, Bool, not, nat_lt, if◌then◌else◌, List, drop, slice_index, Result, Ok, Err}
 use Rattle.byteorder.specs.Endian.{little_number}
 use Rattle.dfu_suffix.specs.Grammar.{is_signed}
@@ -26,7 +26,7 @@ tail_summary tail count =
     else if little_number 2 (drop 6 tail) == 0x011A then Err DfuSe
     else Ok (told_by tail count)
 
--- What was told stands, unless it is no fault and the register isn't intact: then the fault is BadCrc.
+-- The answer stays, unless it is not a fault and the register isn't intact: then the fault is BadCrc.
 abbrev pub sealed : {T : Type 0} → Bool → Result T SuffixFault → Result T SuffixFault
 sealed intact (Ok said) = if intact then Ok said else Err BadCrc
 sealed intact (Err fault) = Err fault

@@ -1,4 +1,4 @@
--- What the loop over ranges has.
+-- What the loop over ranges keeps.
 use Rattle.std.specs.Prelude.{◌≡◌, List, ◌++◌, Result, Ok, Err}
 use Rattle.arrayvec.specs.ArrayVec.{ArrayVec}
 use Rattle.dfuse_memory.specs.declared.pages.Pages.{Pages}

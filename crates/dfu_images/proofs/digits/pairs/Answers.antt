@@ -14,9 +14,9 @@ returns-then-high-eq16 c =
     let j : i + 1 < length xs = omega arith in
     elim c.then-high-eq16.either [
       | inl high ↦ spelled_high xs c.loop-at.bytes.items i (i + 1) (i + 2) (omega arith) (omega arith) j
-          (omega (arith, high, c.hex-high.ensures.value)) c.loop-at.invariant.so_far
+          (omega (arith, high, c.hex_digit-high.ensures.value)) c.loop-at.invariant.so_far
       | inr low ↦ spelled_low xs c.loop-at.bytes.items i (i + 1) (i + 2) (omega arith) (omega arith) j
-          (omega (arith, low.1, c.hex-low.ensures.value)) c.loop-at.invariant.so_far
+          (omega (arith, low.1, c.hex_digit-low.ensures.value)) c.loop-at.invariant.so_far
     ]
 
 pub loop-at-preserved : goal.loop-at-preserved
@@ -24,10 +24,10 @@ loop-at-preserved c =
     let xs = c.args.digits.now in
     let i = c.loop-at.at in
     let j : i + 1 < length xs = omega arith in
-    let high : hex_value (get_or xs i 0) < 16 = omega (arith, c.hex-high.ensures.value, c.hex-high.ensures.small, c.if-high-eq16.false) in
-    let low : hex_value (get_or xs (i + 1) 0) < 16 = omega (arith, c.hex-low.ensures.value, c.hex-low.ensures.small, c.if-low-eq16.false) in
-    let more = spelled_more xs c.loop-at.bytes.items i (i + 1) (i + 2) (16 * c.hex-high.result + c.hex-low.result) (omega arith) (omega arith) j high low
-    (omega (arith, c.hex-high.ensures.value, c.hex-low.ensures.value)) c.loop-at.invariant.so_far in
+    let high : hex_value (get_or xs i 0) < 16 = omega (arith, c.hex_digit-high.ensures.value, c.hex_digit-high.ensures.small, c.if-high-eq16.false) in
+    let low : hex_value (get_or xs (i + 1) 0) < 16 = omega (arith, c.hex_digit-low.ensures.value, c.hex_digit-low.ensures.small, c.if-low-eq16.false) in
+    let more = spelled_more xs c.loop-at.bytes.items i (i + 1) (i + 2) (16 * c.hex_digit-high.result + c.hex_digit-low.result) (omega arith) (omega arith) j high low
+    (omega (arith, c.hex_digit-high.ensures.value, c.hex_digit-low.ensures.value)) c.loop-at.invariant.so_far in
     record {
       within = omega arith;
       halves = omega (arith, c.push.ensures.len, c.loop-at.invariant.halves);

@@ -1,5 +1,5 @@
 use Rattle.std.proofs.Common.{◌≡◌, ap, ◌∙◌, sym, bit_xor, bit_and, get_or, ◌/◌, arith}
-use Rattle.dfu_suffix.specs.declared.table.bits_8.TheConstants.{AFTER_8}
+use Rattle.dfu_suffix.specs.declared.table.to_32.TheConstants.{AFTER_8}
 use Rattle.dfu_suffix.proofs.Tables.{table_step}
 use Rattle.dfu_suffix.proofs.crc.after_byte.Goals as goal
 

@@ -3,7 +3,7 @@ use Rattle.dfu_suffix.specs.Register.{after_bits, bits_of}
 use Rattle.dfu_suffix.specs.inside.Folding.{stands_for}
 use Rattle.dfu_suffix.proofs.folding.after_many.Given as goal
 
--- The rest gives what all of it gives from the start, from the register that the residue stands for.
+-- The rest gives what all of it gives from the start, from the register that the residue represents.
 abbrev pub invariant-loop-rest : goal.invariant-loop-rest
 invariant-loop-rest l = after_bits (stands_for (take 1968 l.room)) (bits_of l.rest) ≡ after_bits l.start (bits_of l.bytes)
 

@@ -3,6 +3,6 @@ use Rattle.dfu_suffix.proofs.FoldRooms.{Folds}
 use Rattle.std.proofs.Common.{take}
 use Rattle.dfu_suffix.proofs.folding.fold.Given as goal
 
--- The residue at this place stands for the register after the bytes before it.
+-- The residue at this place represents the register after the bytes before it.
 abbrev pub invariant-loop-place : goal.invariant-loop-place
 invariant-loop-place l = Folds (stands_for (take 1968 l.fn.room)) l.bytes l.room l.place
