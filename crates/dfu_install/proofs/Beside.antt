@@ -1,4 +1,4 @@
--- What stands beside the image is left as it was.
+-- What lies outside the image is left as it was.
 use Rattle.std.proofs.Common.{◌≡◌, inl, inr, ◌≤◌, ◌%◌, ℕ, List, [], ◌∷◌, length, Option, slice_index, ◌∙◌, ap, refl, arith}
 use Rattle.std.proofs.Math.Nat.{mod-le}
 use Rattle.dfu_install.specs.Area.{start_of}
@@ -10,7 +10,7 @@ use Rattle.dfu_install.specs.declared.due.Due.TheVariants.{Refuse, Erase, Progra
 use Rattle.dfu_install.proofs.Starts.{whole_in, start_is_whole, start_fits}
 use Rattle.dfu_install.proofs.Nexts.{next_is_inside}
 
--- An operation ends where the sectors of the image do, or before.
+-- An operation ends at the end of the image's sectors, or before.
 pub ends_with_image : (image run : List ℕ) (sector edge : ℕ) (last : Option ℕ) (due : Due) → Does image run sector last due
     → edge % sector ≡ 0 → length image ≤ edge → end_of_operation sector due ≤ edge
 ends_with_image image run sector edge last (Erase at) (ready, (d, e)) whole le =

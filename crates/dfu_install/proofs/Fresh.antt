@@ -16,7 +16,7 @@ pub record IsFreshFrom (run : List ℕ) (sector last : ℕ) (since : List Due) :
   pub after : (piece : ℕ) → last < piece → start_of sector last ≡ start_of sector piece → IsFresh sector piece since
   pub here : AreBlank run last (last + 256) → IsFresh sector last since
 
--- That is kept, as long as it is known where the last operation went.
+-- That is kept, as long as the place of the last operation is known.
 abbrev pub KeepsFresh : ℕ → List ℕ → Option ℕ → List Due → Type 0
 KeepsFresh sector run None since = Unit {0}
 KeepsFresh sector run (Some last) since = IsFreshFrom run sector last since

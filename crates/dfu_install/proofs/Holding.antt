@@ -8,7 +8,7 @@ use Rattle.dfu_install.specs.declared.due.Due.TheVariants.{Refuse, Erase, Progra
 use Rattle.dfu_install.specs.declared.due.Refusal.TheVariants.{WrongSize, NoImage, TooLarge}
 use Rattle.dfu_install.proofs.Nexts.{next_is_inside, next_differs}
 
--- Each byte of the image stands there.
+-- Each byte of the image is there.
 pub held_is_same : (image run : List ℕ) → Holds run image → (i : ℕ) → i < length image → slice_index run i ≡ slice_index image i
 held_is_same image run held i lt = sym (get_or-take (length image) run i 0 lt) ∙ ap (λ (l : List ℕ). slice_index l i) held
 

@@ -8,7 +8,7 @@ use Rattle.dfu_install.specs.Operations.{LeavesOthers}
 use Rattle.dfu_install.proofs.Starts.{whole_in, start_is_whole, start_is_near, start_keeps, part_fits, edge_is_whole}
 use Rattle.dfu_install.proofs.Tidy.{IsTidy, IsToErase, HasLeft, Costs}
 
--- What is known where a piece is programmed: it is in the sector of the last operation, and all between is done.
+-- What is known when a piece is programmed: it is in the sector of the last operation, and all between is done.
 pub record IsInside (image run : List ℕ) (sector last piece at : ℕ) : Type 0 where
   pub ready : IsReady image run sector
   pub after : last ≤ piece
@@ -43,7 +43,7 @@ is_inside image run sector last piece at ready p =
       differs = f.3;
     }
 
--- The piece ends where its sector does, or before.
+-- The piece ends at the end of its sector, or before.
 pub piece_fits : (image run : List ℕ) (sector last piece at : ℕ) → IsInside image run sector last piece at
     → piece + 256 ≤ start_of sector piece + sector
 piece_fits image run sector last piece at p =

@@ -27,7 +27,7 @@ IsAllowedDue image run sector last (Program at) = (at % 256 ≡ 0) × (at + 256 
 IsAllowedDue image run sector last Start = Holds run image × (0 < length image)
 IsAllowedDue image run sector last (Refuse refusal) = Unit {0}
 
--- Whatever stands there, only what is allowed is due.
+-- Whatever is there, only what is allowed is due.
 abbrev pub DoesOnlyAllowed : Type 0
 DoesOnlyAllowed = (image run : List ℕ) (sector : ℕ) (last : Option ℕ) (due : Due) → Does image run sector last due →
     IsAllowedDue image run sector last due

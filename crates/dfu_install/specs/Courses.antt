@@ -7,7 +7,7 @@ use Rattle.dfu_install.specs.Next.{Does}
 use Rattle.dfu_install.specs.Took.{TookDue}
 use Rattle.dfu_install.specs.Operations.{from_of, end_of_operation, LeavesOthers}
 
--- The image that is to be started, the run area as it stands, where the last operation went, and the operations since the power came,
+-- The image that is to be started, the run area as it is, where the last operation went, and the operations since the power came,
 -- the last one first.
 pub record Moment : Type 0 where
   pub image : List ℕ

@@ -20,7 +20,7 @@ AllWork image sector run last [] = Unit {0}
 AllWork image sector run last (due ∷ rest) =
     (run' : List ℕ) × ((last' : Option ℕ) × (CarriesOut image run run' sector last last' due × AllWork image sector run' last' rest))
 
--- Of an image in n sectors of k pieces there are at most n * (1 + k) + k, whatever stood there.
+-- For an image in n sectors of k pieces there are at most n * (1 + k) + k, whatever was there.
 abbrev pub FewOperations : Type 0
 FewOperations = (image run : List ℕ) (n k : ℕ) (last : Option ℕ) (dues : List Due) → length image ≤ n * (256 * k) →
     AllWork image (256 * k) run last dues → length dues ≤ n * (1 + k) + k

@@ -52,7 +52,7 @@ fn mend(image: &[u8], run: &[u8], sector: u32, last: Option<u32>, at: u32) -> Du
 
 /// What is due next, so that the run area comes to hold the image.
 ///
-/// `image` has the bytes of the image, `run` those of the run area as they stand, in sectors of `sector` bytes. `last` is what `took`
+/// `image` has the bytes of the image, `run` those of the run area as they are, in sectors of `sector` bytes. `last` is what `took`
 /// returned for the last operation, and None after each loss of power; whatever it is, Start comes only if the run area holds the whole
 /// image, and no operation lies outside the sectors of the image.
 ///

@@ -3,7 +3,7 @@ ghost use Rattle.dfu_install.specs.Allowed.{DoesOnlyAllowed};
 ghost use Rattle.dfu_install.specs.Courses.{StartsOnlyWhole, LeavesWhatIsBeside, ProgramsOnlyFresh};
 ghost use Rattle.dfu_install.specs.Working.{FewOperations, HeldIsStarted};
 
-/// Whatever stands there, each operation lies in the run area and has something to mend: an erase is of a whole sector that differs, a
+/// Whatever is there, each operation lies in the run area and has something to mend: an erase is of a whole sector that differs, a
 /// program of a piece that differs and is blank, in the sector of the last operation.
 pub fn does_only_allowed()
     ensures { DoesOnlyAllowed }

@@ -1,11 +1,11 @@
--- What the numbers of a program in C stand for.
+-- What the numbers of a program in C mean.
 use Rattle.std.specs.Prelude.{ℕ, ℤ, negsuc, ◌==◌, if◌then◌else◌, Option, Some, None}
 use Rattle.dfu_install.specs.declared.due.Due.{Due}
 use Rattle.dfu_install.specs.declared.due.Due.TheVariants.{Erase, Program, Start}
 use Rattle.dfu_install.specs.declared.due.Refusal.{Refusal}
 use Rattle.dfu_install.specs.declared.due.Refusal.TheVariants.{WrongSize, NoImage, TooLarge}
 
--- The place that a number stands for: DFU_NOWHERE for none.
+-- The place that a number means: DFU_NOWHERE for none.
 abbrev pub last_of : ℕ → Option ℕ
 last_of number = if number == 4294967295 then None else Some number
 
@@ -14,7 +14,7 @@ abbrev pub number_of_place : Option ℕ → ℕ
 number_of_place None = 4294967295
 number_of_place (Some at) = at
 
--- The operation that a kind and a place stand for; of another kind none, as the start.
+-- The operation that a kind and a place describe; for another kind none, which the start has too.
 abbrev pub due_of_kind : ℕ → ℕ → Due
 due_of_kind kind at = if kind == 1 then Erase at else if kind == 2 then Program at else Start
 

@@ -1,4 +1,4 @@
--- How a program in C is told what is due.
+-- How a program in C gets what is due.
 use Rattle.std.specs.Prelude.{◌≡◌, ℕ, ℤ, pos, List}
 use Rattle.dfu_install.specs.declared.due.Due.{Due}
 use Rattle.dfu_install.specs.declared.due.Due.TheVariants.{Refuse, Erase, Program, Start}
@@ -6,7 +6,7 @@ use Rattle.dfu_install.specs.Area.{program_piece}
 use Rattle.dfu_install_c.specs.declared.ask.DfuAsk.{DfuAsk}
 use Rattle.dfu_install_c.specs.Calls.{INSTALL_ASKS, install_refusal_number}
 
--- An operation is told by DFU_ASKS, and stands in what is asked for; the start by 0, and a refusal by its number, and nothing changes.
+-- An operation gives DFU_ASKS, and is written into what is asked for. The start gives 0, a refusal its number, and nothing changes.
 abbrev pub TellsDue : List ℕ → ℕ → Due → ℤ → DfuAsk → DfuAsk → Type 0
 TellsDue image sector (Refuse refusal) result before after = (result ≡ install_refusal_number refusal) × (after ≡ before)
 TellsDue image sector Start result before after = (result ≡ pos 0) × (after ≡ before)

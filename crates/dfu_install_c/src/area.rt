@@ -12,7 +12,7 @@ pub struct DfuRunArea {
     pub last: u32,
 }
 
-/// The place that a number stands for: FFFFFFFFh for none.
+/// The place that a number means: FFFFFFFFh for none.
 pub(crate) fn last_of(number: u32) -> Option<u32>
     ensures { result ≡ last_of number }
 {

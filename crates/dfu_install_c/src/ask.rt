@@ -24,7 +24,7 @@ pub(crate) const ERASE: u32 = 1;
 /// DFU_PROGRAM.
 pub(crate) const PROGRAM: u32 = 2;
 
-/// The operation that it stands for; of another kind none, as the start.
+/// The operation that it describes; for another kind none, which the start has too.
 pub(crate) fn due_of(ask: &DfuAsk) -> Due
     ensures { result ≡ due_of_kind ask.now.kind ask.now.at }
 {

@@ -42,7 +42,7 @@ begin_stays : {T : Type 0} (s now : SlotsState) (has : HasImage s.medium) (resul
 begin_stays s now has result fault changes =
     after_call s now Begin result (begin_refuses s result fault) changes (stays_after s now has) (stays_same s now has)
 
--- Nothing is held then, and the puts end at 0, whatever it answered.
+-- Nothing is held then, and the puts end at 0, whatever it returned.
 begin_fresh : {T : Type 0} (s now : SlotsState) (result : Result T PutFault) → OnErr result (IsBroken result)
     → Changes s Begin result now → now ≡ store_on now.medium
 begin_fresh s now (Ok x) fault worked = fresh_is now.medium now.held now.put_end worked.held_is worked.end_is

@@ -1,4 +1,4 @@
--- What every call leaves that changes a store.
+-- What every call that changes a store leaves.
 use Rattle.std.proofs.Common.{◌≡◌, ◌⊎◌, inl, inr, ⊎_elim, true, false, ℕ, ◌+◌, ◌≤◌, ◌<◌, List, length, Result, Ok, Err, OnOk, OnErr, IsErrOf, ◌↔◌, refl, sym, ◌∙◌, subst, arith}
 use Rattle.std.proofs.lemmas.Bool.{cases_lt, true_from_ne_false, true≢false}
 use Rattle.dfu_slots.specs.declared.fault.PutFault.{PutFault}
@@ -37,7 +37,7 @@ module _ {T : Type 0} (s : SlotsState) (result : Result T PutFault) (not_begun :
   not_begun_is : IsErrOf result NotBegun ↔ (is_begun s ≡ false)
   not_begun_is = (λ e. open_not_begun s (not_begun.0 e), λ off. not_begun.1 (not_begun_open s off))
 
-  -- A `put` is refused where the spare is open, and else where it ends past the capacity.
+  -- A `put` is refused if the spare is open, and else if it ends past the capacity.
   pub put_refuses : (at : ℕ) (new : List ℕ)
       → (IsErrOf result TooLarge ↔ ((¬ IsOpen (spare_slot s)) × (capacity_of s.medium < at + length new)))
       → Refuses s (Put at new) result
@@ -49,14 +49,14 @@ module _ {T : Type 0} (s : SlotsState) (result : Result T PutFault) (not_begun :
     );
   }
 
-  -- A `commit` is refused where the spare is open, and never for its length, since what was put lies within the capacity.
+  -- A `commit` is refused if the spare is open, and never for its length, since what was put lies within the capacity.
   pub commit_refuses : IsStore s → (len : ℕ) → len ≤ s.put_end → ¬ IsErrOf result TooLarge → Refuses s (Commit len) result
   commit_refuses store len le never = record {
     not_begun = not_begun_is;
     too_large = (λ e. absurd (never e), λ large. absurd (omega (arith, le, puts_room store, large.1)));
   }
 
--- A call came where the store was ready and had the room.
+-- A call was made when the store was ready and had the room.
 pub record Came (s now : SlotsState) (kind : Call) : Type 0 where
   pub ready : is_ready s kind ≡ true
   pub fits : reach kind ≤ room_of s
@@ -73,7 +73,7 @@ module _ {T : Type 0} (s now : SlotsState) (kind : Call) (result : Result T PutF
     ends = ends;
   }
 
--- A call came, or it was refused and left all as it was.
+-- A call was carried out, or it was refused and changed nothing.
 pub came_or_not : {T : Type 0} (s now : SlotsState) (kind : Call) (result : Result T PutFault) → Refuses s kind result
     → Changes s kind result now → Came s now kind ⊎ (now ≡ s)
 came_or_not {T} s now kind (Ok x) refuses worked =
@@ -84,7 +84,7 @@ came_or_not {T} s now kind (Err NotVerified) refuses failed =
     inl (came {T = T} s now kind (Err NotVerified) refuses (λ e. cc) (λ e. cc) (inr (WriteNotVerified, failed.writes)))
 came_or_not s now kind (Err _) refuses same = inr same
 
--- What is left by a call that came is left, where it is left by one that was refused.
+-- What a call that was carried out leaves is left in all cases, if one that was refused leaves it too.
 pub after_call : {T P : Type 0} (s now : SlotsState) (kind : Call) (result : Result T PutFault) → Refuses s kind result
     → Changes s kind result now → (Came s now kind → P) → (now ≡ s → P) → P
 after_call s now kind result refuses changes coming refused = ⊎_elim coming refused (came_or_not s now kind result refuses changes)
@@ -96,7 +96,7 @@ after_ok {T} s now kind (Ok x) refuses worked leaves =
     leaves (came {T = T} s now kind (Ok x) refuses (λ e. cc) (λ e. cc) (inl worked.writes)) worked
 after_ok s now kind (Err e) refuses changes leaves = tt
 
--- A fact that holds whatever was answered holds after Ok.
+-- A fact that holds whatever was returned holds after Ok.
 pub on_ok_of : {T E P : Type 0} (result : Result T E) → P → OnOk result P
 on_ok_of (Ok x) p = p
 on_ok_of (Err e) p = tt
@@ -106,7 +106,7 @@ pub on_err_of : {T E P : Type 0} (result : Result T E) → P → OnErr result P
 on_err_of (Ok x) p = tt
 on_err_of (Err e) p = p
 
--- What is left whatever was answered.
+-- What is left whatever was returned.
 
 did_all : (s now : SlotsState) (kind : Call) → CallWorked s kind now → DidCall s kind AllWorked now
 did_all s now kind worked = record {
@@ -150,7 +150,7 @@ failed_fresh s now kind result changes broken =
     let f = broken_by s now kind result changes broken in
     fresh_is now.medium now.held now.put_end f.1.held_is f.1.end_is
 
--- It is a store, where it is one after a call whose writes all worked.
+-- It is a store, if it is one after a call whose writes all worked.
 pub call_store : {T : Type 0} (s now : SlotsState) (kind : Call) (result : Result T PutFault) → Changes s kind result now → IsStore s
     → HasImage now.medium → OnOk result (IsStore now) → IsStore now
 call_store s now kind (Ok x) worked store has after = after
@@ -160,7 +160,7 @@ call_store s now kind (Err NotVerified) failed store has after =
     (fresh_leaves has failed.held_is failed.end_is).store
 call_store s now kind (Err _) same store has after = subst IsStore (sym same) store
 
--- What the three calls have in common, of a store that has the room that it had.
+-- What the three calls have in common, if the store has the room that it had.
 pub call_leaves : {T : Type 0} (s now : SlotsState) (kind : Call) (result : Result T PutFault) → Refuses s kind result
     → Changes s kind result now → IsStore now → room_of now ≡ room_of s → CallLeaves s kind result now
 call_leaves s now kind result refuses changes store room = record {

@@ -52,7 +52,7 @@ module _ (s now : SlotsState) (store : IsStore s) (len : ℕ) (le : len ≤ s.pu
   room_after : room_of now ≡ room_of s
   room_after = room_from s now same_after
 
-  -- An image that stands on the medium now is its active one.
+  -- An image that is on the medium now is its active one.
   active_now : (at spare : ℕ) (image : List ℕ) → ActiveAt g now.medium.bytes at spare image → Active now.medium image
   active_now at spare image stands = active_on at spare image same_after has.active.sized.whole stands
 
@@ -77,7 +77,7 @@ module _ (s now : SlotsState) (store : IsStore s) (len : ℕ) (le : len ≤ s.pu
 
 module _ {T : Type 0} (s now : SlotsState) (store : IsStore s) (len : ℕ) (le : len ≤ s.put_end) (result : Result T PutFault)
     (refuses : Refuses s (Commit len) result) (changes : Changes s (Commit len) result now) where
-  -- The old image or the new one is active, whatever it answered.
+  -- The old image or the new one is active, whatever it returned.
   commit_either : Active now.medium store.has_image.image ⊎ Active now.medium (take len (spare_of s))
   commit_either = after_call s now (Commit len) result refuses changes (either_after s now store len le)
       (λ same. inl (subst (λ (x : SlotsState). Active x.medium store.has_image.image) (sym same) store.has_image.active))

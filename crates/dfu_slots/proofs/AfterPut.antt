@@ -91,7 +91,7 @@ module _ (s now : SlotsState) (store : IsStore s) (at : ℕ) (new : List ℕ) (h
         ∙ part_more s.medium.grain.unit s.put_end (length new)
         ∙ ap (λ (n : ℕ). n % unit_size s.medium.grain.unit) (ap (λ (n : ℕ). n + length new) (sym here) ∙ sym worked.end_is)
 
-    -- Where the bytes held now belong.
+    -- Where the bytes held back now belong.
     held_now : held_at now ≡ held_at s + whole
     held_now = omega (
       arith,
@@ -145,7 +145,7 @@ module _ (s now : SlotsState) (store : IsStore s) (at : ℕ) (new : List ℕ) (h
       part = part_is ∙ ap (λ (w : Grain). now.put_end % unit_size w.unit) (sym grain);
     }
 
-    -- The whole units stand behind what stood there.
+    -- The whole units follow what was there.
     data_begins : take (held_at s + whole) (spare_slot now).data_bytes ≡ take (held_at s) (spare_slot s).data_bytes ++ take whole all
     data_begins =
         let a = store.has_image.active in

@@ -14,7 +14,7 @@ use Rattle.dfu_slots.proofs.Edges.{sized_edge}
 use Rattle.dfu_slots.proofs.Anew.{erases_inside}
 use Rattle.dfu_slots.proofs.SizedOn.{anew_is, erases_same}
 
--- Where a sector begins, nothing is asked.
+-- If a sector begins, nothing is asked.
 pub edge_ahead : (m : MediumState) (at : ℕ) → IsEdge m.grain.sector at → IsAhead m at
 edge_ahead m at edge some p low high none = absurd (none at (omega arith) low (edge some))
 
@@ -33,7 +33,7 @@ erased_byte old at n p fits low high =
     ∙ ap (λ (l : List ℕ). get_or l (p - at) 0) range ∙ get_or-replicate n (p - at) 255 0 (omega (arith, low, high))
 
 module _ (sector : ℕ) (some : 0 < sector) where
-  -- After the erase of the sector that begins there, the bytes behind its first one are erased up to the next sector.
+  -- After the erase of the sector that begins there, the bytes after its first one are erased up to the next sector.
   one_erased : (old : List ℕ) (at : ℕ) → at + sector ≤ length old → at % sector ≡ 0
       → IsErased sector (written old at (replicate sector 255)) (at + 1) (at + 1)
   one_erased old at fits begins p low high none =
@@ -42,7 +42,7 @@ module _ (sector : ℕ) (some : 0 < sector) where
       (λ past. absurd (none (at + sector) (omega (arith, some)) past (add-mod_right at sector ∙ begins)))
       (cases_lt p (at + sector))
 
-  -- Where no sector begins, the byte is erased, and so are those behind it up to the next sector.
+  -- If no sector begins, the byte is erased, and so are those after it up to the next sector.
   next_erased : (bytes : List ℕ) (at : ℕ) → at % sector ≢ 0 → IsErased sector bytes at at → IsErased sector bytes (at + 1) (at + 1)
   next_erased bytes at inner erased p low high none =
       erased p (omega (arith, low)) high (λ q from to. by_place q from to (cases_lt at q))
@@ -56,11 +56,11 @@ module _ (sector : ℕ) (some : 0 < sector) where
       erased at (omega arith) fits
       (λ q from to. let e : at ≡ q = omega (arith, from, to) in subst (λ (k : ℕ). k % sector ≢ 0) e inner)
 
-  -- What the erase of a sector that begins there leaves, or nothing where none does.
+  -- What the erase of a sector that begins there leaves, or nothing if none does.
   abbrev First : MediumState → ℕ → MediumState → Type 0
   First s at mid = (length mid.bytes ≡ length s.bytes) × (slice_index mid.bytes at ≡ 255) × IsErased sector mid.bytes (at + 1) (at + 1)
 
-  -- After the erases of the sectors that begin in a range all its bytes are erased, and those behind it up to the next sector.
+  -- After the erases of the sectors that begin in a range all its bytes are erased, and those after it up to the next sector.
   pub erases_ahead : (at n : ℕ) (s e : MediumState) → at + n ≤ length s.bytes → length s.bytes % sector ≡ 0
       → AllWrites s (erases sector at n) e → IsErased sector s.bytes at at → IsErased sector e.bytes at (at + n)
   erases_ahead at zero s e fits end same erased =
@@ -116,7 +116,7 @@ erases_writable m e at n sized some fits all ahead other p low high =
     (omega (arith, high, fits, (erases_same m e at n sized some fits all).size))
     (λ q from to. absurd (omega (arith, from, to, high)))
 
--- Behind a write the bytes are erased up to the next sector.
+-- After a write the bytes that follow it are erased up to the next sector.
 pub anew_ahead : (m now : MediumState) (at : ℕ) (bytes : List ℕ) → IsSized m → at + length bytes ≤ length m.bytes
     → AllWrites m (write_anew m.grain.sector at bytes) now → IsAhead m at → IsAhead now (at + length bytes)
 anew_ahead m now at bytes sized fits all ahead other p low high none =
@@ -135,7 +135,7 @@ anew_ahead m now at bytes sized fits all ahead other p low high none =
     (omega (arith, low)) (omega (arith, high, ap length is, torn.size))
     (subst (λ (w : Grain). (q : ℕ) → at + length bytes ≤ q → q ≤ p → q % w.sector ≢ 0) grain none)
 
--- So they are behind some bytes, or none.
+-- So they are after some bytes, or none.
 pub some_ahead : (m now : MediumState) (at : ℕ) (bytes : List ℕ) → IsSized m → at + length bytes ≤ length m.bytes
     → AllWrites m (write_some m.grain.sector at bytes) now → IsAhead m at → IsAhead now (at + length bytes)
 some_ahead m now at bytes sized fits all ahead =

@@ -1,4 +1,4 @@
--- Writes with the erases before them: where they lie, and what they leave.
+-- Writes with the erases before them: where they are, and what they leave.
 use Rattle.std.proofs.Common.{◌≡◌, ◌≢◌, inl, ⊎_elim, ◌==◌, Bool, true, false, if◌then◌else◌, ℕ, zero, suc, ◌+◌, ◌%◌, ◌≤◌, List, [], ◌∷◌, ◌++◌, length, slice_range, refl, sym, ◌∙◌, ap, subst, arith}
 use Rattle.std.proofs.lemmas.List.{nil_from_length, length-replicate}
 use Rattle.std.proofs.lemmas.Bool.{eqb-true, eqb-false}
@@ -10,7 +10,7 @@ use Rattle.dfu_slots.proofs.Series.{AllInside, all_keep, all_parts, all_unless, 
 use Rattle.dfu_slots.proofs.Within.{written_nil}
 use Rattle.dfu_slots.proofs.Sectors.{IsEdge, edge_next}
 
--- The erases of sectors that begin in a range lie in it, where it ends with a sector.
+-- The erases of sectors that begin in a range lie in it, if it ends with a sector.
 pub erases_inside : (sector from to : ℕ) → to % sector ≡ 0 → (at n : ℕ) → from ≤ at → at + n ≤ to → AllInside from to (erases sector at n)
 erases_inside sector from to edge at zero low high = tt
 erases_inside sector from to edge at (suc n) low high =
@@ -35,7 +35,7 @@ before_inside sector from to at n edge low high = by_test (sector == 0) refl
         let some : sector ≢ 0 = eqb-false _ _ is in
         erases_inside sector from to (edge (omega (arith, some))) at n low high
 
--- A write with its erases lies within a range where its bytes do, and that ends with a sector.
+-- A write with its erases lies within a range if its bytes do and the range ends with a sector.
 pub anew_inside : (sector from to at : ℕ) (bytes : List ℕ) → IsEdge sector to → from ≤ at → at + length bytes ≤ to
     → AllInside from to (write_anew sector at bytes)
 anew_inside sector from to at bytes edge low high =
@@ -48,11 +48,11 @@ pub some_inside : (sector from to at : ℕ) (bytes : List ℕ) → IsEdge sector
 some_inside sector from to at bytes edge low high =
     inside_if from to (length bytes == 0) [] (write_anew sector at bytes) tt (anew_inside sector from to at bytes edge low high)
 
--- These bytes stand there, and nothing changed in front of them, nor from another place on.
+-- These bytes are there, and nothing changed before them, nor from another place on.
 abbrev pub Left : ℕ → ℕ → List ℕ → List ℕ → List ℕ → Type 0
 Left at to bytes old now = KeepsOutside at to old now × Stand now at bytes
 
--- What was left there one behind the other was left as a whole.
+-- Bytes that were left one after the other were left as a whole.
 pub left_join : (at to n : ℕ) (a c old mid now : List ℕ) → n ≡ length a → at + length a + length c ≤ to → to ≤ length old
     → Left at to a old mid → Left (at + n) to c mid now → Left at to (a ++ c) old now
 left_join at to n a c old mid now size fits room (first, stands) (second, more) = (
@@ -71,7 +71,7 @@ pub record WrittenAnew (at to : ℕ) (bytes old now : List ℕ) : Type 0 where
 
 module _ (sector to at : ℕ) (bytes : List ℕ) (edge : IsEdge sector to) (high : at + length bytes ≤ to) (s now : MediumState)
     (room : to ≤ length s.bytes) where
-  -- A write with its erases changes nothing in front of its place, nor behind the sector in which it ends.
+  -- A write with its erases changes nothing before its place, nor after the sector in which it ends.
   pub anew_written : AllWrites s (write_anew sector at bytes) now → WrittenAnew at to bytes s.bytes now.bytes
   anew_written all =
       let parts = all_parts (before sector at (length bytes)) (record { at = at; bytes = bytes } ∷ []) s now all in
@@ -83,7 +83,7 @@ module _ (sector to at : ℕ) (bytes : List ℕ) (edge : IsEdge sector to) (high
         keeps = all_keep at to (write_anew sector at bytes) s now room (anew_inside sector at to at bytes edge (omega arith) high) all;
       }
 
-  -- So its bytes stand there.
+  -- So its bytes are there.
   pub anew_leaves : AllWrites s (write_anew sector at bytes) now → Left at to bytes s.bytes now.bytes
   anew_leaves all =
       let w = anew_written all in (
@@ -92,7 +92,7 @@ module _ (sector to at : ℕ) (bytes : List ℕ) (edge : IsEdge sector to) (high
             ∙ written_range w.left at bytes (omega (arith, w.erased.size, high, room)),
       )
 
-  -- The same of some bytes, or of none.
+  -- The same for some bytes, or of none.
   pub some_leaves : AllWrites s (write_some sector at bytes) now → Left at to bytes s.bytes now.bytes
   some_leaves all = (
     all_keep at to (write_some sector at bytes) s now room (some_inside sector at to at bytes edge (omega arith) high) all,

@@ -15,7 +15,7 @@ use Rattle.dfu_slots.proofs.Newest.{places_are, place_end}
 use Rattle.dfu_slots.proofs.Kept.{gate_change}
 use Rattle.dfu_slots.proofs.Series.{AllInside, Ends, SameSize, ends_keep, ends_same, ends_if, all_if, inside_if}
 
--- Where the active slot stays, the spare does.
+-- If the active slot stays, so does the spare.
 pub same_spare : (g : ℕ) (old now : List ℕ) (mine other : ℕ) (image : List ℕ) → ActiveAt g old mine other image
     → ActiveAt g now mine other image → spare_at g now ≡ spare_at g old
 same_spare g old now mine other image a b = sym (places_are g now mine other image b).1 ∙ (places_are g old mine other image a).1
@@ -92,7 +92,7 @@ module _ (w : Grain) (s now : MediumState) (mine other : ℕ) (image : List ℕ)
     pub begin_same : SameSize s now
     begin_same = ends_same other (other + g) (begin_writes w old) s now (omega (arith, end, a.sized.room)) inside ends
 
-    -- The active image stands where it stood.
+    -- The active image is where it was.
     pub begin_keeps : ActiveAt g now.bytes mine other image
     begin_keeps =
         ⊎_elim

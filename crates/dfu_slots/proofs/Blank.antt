@@ -10,7 +10,7 @@ use Rattle.dfu_slots.proofs.Written.{was_written, not_written}
 blanks : (n : ℕ) → length (replicate {A = ℕ} n 255) ≡ n
 blanks n = length-replicate {A = ℕ} n 255
 
--- What is blank has FFh standing there, and the other way round.
+-- What is blank has the bytes FFh, and the other way round.
 pub blank_stand : (m : List ℕ) (at n : ℕ) → IsBlank m at n → Stand m at (replicate n 255)
 blank_stand m at n blank = ap (λ (k : ℕ). slice_range m at (at + k)) (blanks n) ∙ blank
 
@@ -21,7 +21,7 @@ module _ (m : List ℕ) (at a b : ℕ) (room : at + a + b ≤ length m) where
   fits : at + length (replicate {A = ℕ} a 255) + length (replicate {A = ℕ} b 255) ≤ length m
   fits = omega (arith, blanks a, blanks b, room)
 
-  -- Two blank pieces, one behind the other, are one.
+  -- Two blank pieces, one after the other, are one.
   pub blank_more : IsBlank m at a → IsBlank m (at + a) b → IsBlank m at (a + b)
   blank_more first second = stand_blank m at (a + b) (subst (λ (l : List ℕ). Stand m at l) (replicate-append-replicate a b 255)
       (both_stand m at (replicate a 255) (replicate b 255) fits (blank_stand m at a first)
@@ -30,7 +30,7 @@ module _ (m : List ℕ) (at a b : ℕ) (room : at + a + b ≤ length m) where
   joined : IsBlank m at (a + b) → Stand m at (replicate a 255 ++ replicate b 255)
   joined whole = subst (λ (l : List ℕ). Stand m at l) (sym (replicate-append-replicate a b 255)) (blank_stand m at (a + b) whole)
 
-  -- Of what is blank each piece is.
+  -- Each piece of what is blank is blank.
   pub blank_front : IsBlank m at (a + b) → IsBlank m at a
   blank_front whole = stand_blank m at a (front_stands m at (replicate a 255) (replicate b 255) fits (joined whole))
 
@@ -42,7 +42,7 @@ module _ (m : List ℕ) (at a b : ℕ) (room : at + a + b ≤ length m) where
 pub front_blank : (n most : ℕ) → n ≤ most → take n (replicate {A = ℕ} most 255) ≡ replicate n 255
 front_blank n most le = take-replicate n most 255 le
 
--- Some bytes of the array stand there exactly where so many are blank.
+-- Some bytes of the array are there exactly if so many are blank.
 pub piece_blank : (m : List ℕ) (at n : ℕ) (piece : List ℕ) → piece ≡ replicate n 255 → Stand m at piece → IsBlank m at n
 piece_blank m at n piece is stands = stand_blank m at n (subst (λ (l : List ℕ). Stand m at l) is stands)
 

@@ -26,7 +26,7 @@ back_op [] n o is = absurd (none-some o is)
 back_op (p ∷ os) zero o is = ap (λ (q : Op). q ∷ os) (same_Some _ _ is)
 back_op (p ∷ os) (suc n) o is = back_op os n o is
 
--- Where there is none of this number, all come before it.
+-- If there is none with this number, all come before it.
 front_all : (os : List Op) (n : ℕ) → op_at os n ≡ None → take n os ≡ os
 front_all [] zero is = refl
 front_all [] (suc n) is = refl

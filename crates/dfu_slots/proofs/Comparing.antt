@@ -1,4 +1,4 @@
--- What the code finds where it compares the header of a slot.
+-- What the code finds when it compares the header of a slot.
 use Rattle.std.proofs.Common.{◌≡◌, ◌↔◌, Bool, true, false, ◌&&◌, nat_le, IsTrue, ℕ, ◌*◌, ◌+◌, ◌≤◌, ◌<◌, List, length, take, drop, refl, sym, ◌∙◌, ap, subst, arith}
 use Rattle.std.specs.Int.{w32, from_le_bytes}
 use Rattle.std.specs.Str.{bytes_eq}
@@ -32,7 +32,7 @@ module _ (g : ℕ) (bytes : List ℕ) (at : ℕ) (end : at + slot_size bytes ≤
   unfolding is_intact
   intact_large large = sym (and_left (nat_le (header_length s) (length s.data_bytes)) _ (lt-leb _ _ (omega (arith, large, told, room_is))))
 
-  -- Else the header decides, as it is told with the register.
+  -- Else the header decides, compared with the register.
   pub intact_told : len ≤ capacity g bytes → (same : Bool) (crc : ℕ) → crc ≡ register (take len s.data_bytes)
       → IsTrue same ↔ IsItsHeader shown 2 crc → same ≡ is_intact s
   unfolding is_intact

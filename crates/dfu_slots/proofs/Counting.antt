@@ -8,7 +8,7 @@ use Rattle.dfu_suffix.specs.Register.{register}
 use Rattle.dfu_slots.specs.Layout.{Slot, OPEN, IsOpen, generation, header_version, header_length, header, HasHeader}
 use Rattle.dfu_slots.specs.Image.{Counts, is_intact, counts}
 
--- The length that stands in a well-formed header is that of its image.
+-- The length in a well-formed header is that of its image.
 pub header_length_is : (s : Slot) (len : ℕ) → HasHeader s len → len < 2 ^ 32 → header_length s ≡ len
 header_length_is s len has fits = ⊎_elim
     (λ e. ap (λ (h : List ℕ). from_le_bytes w32 (take 4 (drop 4 h))) e ∙ from_le_bytes-to_le_bytes_4 len fits)
@@ -23,7 +23,7 @@ header_two s gen len is fits = record {
   fits = fits;
 }
 
--- A well-formed header depends on the header and the data alone.
+-- A well-formed header depends only on the header and the data.
 pub header_same : (s t : Slot) (len : ℕ) → s.header ≡ t.header → s.data_bytes ≡ t.data_bytes → HasHeader s len → HasHeader t len
 header_same s t len head body has = record {
   well_formed = ⊎_elim
@@ -33,7 +33,7 @@ header_same s t len head body has = record {
   fits = omega (arith, ap length body, has.fits);
 }
 
--- An open slot counts where one with the same header and the same data does.
+-- An open slot counts if one with the same header and the same data does.
 pub counts_same : (s t : Slot) → s.header ≡ t.header → s.data_bytes ≡ t.data_bytes → IsOpen t → Counts s → Counts t
 counts_same s t head body is_open c = record {
   is_open = is_open;
@@ -42,7 +42,7 @@ counts_same s t head body is_open c = record {
       (header_same s t (header_length s) head body (c.intact (ap (λ (h : List ℕ). slice_index h 1) head ∙ two)));
 }
 
--- In a header of version 2 that is well formed stands the register of the image.
+-- A well-formed header of version 2 has the register of the image.
 pub two_well_formed : (s : Slot) (len : ℕ) → header_version s ≡ 2 → HasHeader s len
     → s.header ≡ header 2 (generation s) len (register (take len s.data_bytes))
 two_well_formed s len two has = ⊎_elim
@@ -95,13 +95,13 @@ counts_not s test c = both_ways (counts s) test (counts_true s c)
 pub counts_false : (s : Slot) → ¬ Counts s → counts s ≡ false
 counts_false s off = ⊎_elim (λ on. absurd (off (counts_from s on))) (λ same. same) (cases_Bool (counts s))
 
--- Where both of two slots are found not to count, neither does.
+-- If both of two slots are found not to count, neither does.
 pub neither_counts : (x y : Slot) (p q : Bool) → p ≡ counts x → q ≡ counts y → (not p && not q) ≡ true → (¬ Counts x) × (¬ Counts y)
 neither_counts x y p q a b e =
     let parts = and_parts (not p) (not q) e in
     (counts_not x (sym a ∙ not-true p parts.0), counts_not y (sym b ∙ not-true q parts.1))
 
--- Where not both are, not both do not count.
+-- If not both are, it is false that neither counts.
 pub some_counts : (x y : Slot) (p q : Bool) → p ≡ counts x → q ≡ counts y → (not p && not q) ≡ false
     → ¬ ((¬ Counts x) × (¬ Counts y))
 some_counts x y p q a b e none =

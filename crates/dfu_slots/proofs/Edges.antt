@@ -35,7 +35,7 @@ module _ (w : Grain) (bytes : List ℕ) (sized : HasTwoSlots (gate_room w) bytes
         ⊎_elim (λ p. subst (λ (n : ℕ). IsEdge w.sector n) (sym p.1) half_edge)
         (λ p. subst (λ (n : ℕ). IsEdge w.sector n) (sym p.1) (edge_zero w.sector)) places
 
-    -- And the header of a slot, behind its gate.
+    -- And the header of a slot, after its gate.
     pub header_edge : IsEdge w.sector (other + g)
     header_edge = edge_add w.sector other g place_edge gate_edge
 
@@ -45,7 +45,7 @@ module _ (w : Grain) (bytes : List ℕ) (sized : HasTwoSlots (gate_room w) bytes
         let e : other + g + g ≡ other + 2 * g = omega arith in
         subst (λ (n : ℕ). IsEdge w.sector n) e (edge_add w.sector (other + g) g header_edge gate_edge)
 
-    -- And what stands behind the slot.
+    -- And what follows the slot.
     pub end_edge : IsEdge w.sector (other + slot_size bytes)
     end_edge = edge_add w.sector other (slot_size bytes) place_edge half_edge
 

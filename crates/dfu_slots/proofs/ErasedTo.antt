@@ -13,7 +13,7 @@ use Rattle.dfu_slots.proofs.Torn.{written_torn}
 use Rattle.dfu_slots.proofs.Series.{all_append, broken_later}
 use Rattle.dfu_slots.proofs.Sectors.{mod_next, edge_add, edge_next}
 
--- Where no sector begins, none is erased.
+-- If no sector begins, none is erased.
 erases_on : (sector at n : ℕ) → 0 < at % sector → erases sector at (suc n) ≡ erases sector (at + 1) n
 erases_on sector at n inner = ap (λ (l : List Write). l ++ erases sector (at + 1) n)
     (cond-false (at % sector == 0) (erase_write sector at ∷ []) [] (ne_eqb (at % sector) 0 (λ e. omega (arith, inner, e))))
@@ -33,7 +33,7 @@ erases_skip sector (suc (suc d)) at (suc n) some inner is =
     erases_on sector at n inner ∙ erases_skip sector (suc d) (at + 1) n some (omega (arith, next)) (omega (arith, next, is))
     ∙ (λ i. erases sector (e i) (f i))
 
--- Where one begins, it is erased first.
+-- If one begins, it is erased first.
 pub erases_step : (sector at n : ℕ) → 1 < sector → at % sector ≡ 0 → 0 < n
     → erases sector at n ≡ erase_write sector at ∷ erases sector (at + sector) (n - sector)
 erases_step sector at zero some begins more = absurd (omega (arith, more))
@@ -75,7 +75,7 @@ module _ (s : MediumState) (at n : ℕ) (sized : IsSized s) (some : 0 < s.grain.
         size = refl;
       }
 
-  -- Or it begins where the one ends in which the place lies.
+  -- Or it begins at the end of the sector in which the place lies.
   pub erased_later : 0 < at % sector → ErasedTo s s sector at n (at + (sector - at % sector))
   erased_later inner =
       let d = sector - at % sector in

@@ -1,4 +1,4 @@
--- Bytes at the front of a buffer, with zeros behind them.
+-- Bytes at the front of a buffer, with zeros after them.
 use Rattle.std.proofs.Common.{◌≡◌, ℕ, ◌+◌, ◌-◌, ◌≤◌, List, ◌++◌, length, take, drop, replicate, sym, ◌∙◌, ap, arith}
 use Rattle.std.proofs.lemmas.List.{drop-replicate, take-replicate}
 use Rattle.dfu_slots.proofs.Within.{take_past}

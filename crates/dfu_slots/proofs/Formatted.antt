@@ -37,7 +37,7 @@ pieces_short sector n at to bytes s mid now short left more =
     subst (λ (m : MediumState). Left at to bytes s.bytes m.bytes) (sym same)
     (left.0, subst (λ (l : List ℕ). Stand mid.bytes at l) equal left.1)
 
--- A piece, and others behind it.
+-- A piece, and others after it.
 pieces_long : (n at to : ℕ) (bytes s mid now : List ℕ) → 4096 ≤ length bytes → length bytes ≤ suc n → at + length bytes ≤ to → to ≤ length s
     → Left at to (take 4096 bytes) s mid
     → (length (drop 4096 bytes) ≤ n → at + 4096 + length (drop 4096 bytes) ≤ to → to ≤ length mid
@@ -51,7 +51,7 @@ pieces_long n at to bytes s mid now long le fits room left others =
     (left_join at to 4096 (take 4096 bytes) (drop 4096 bytes) s mid now (omega (arith, front, long))
     (omega (arith, front, back, fits, long)) room left more)
 
--- The pieces stand there, and nothing changes in front of them, nor behind the sector in which they end.
+-- The pieces are there, and nothing changes before them, nor after the sector in which they end.
 pub pieces_stand : (sector to : ℕ) → IsEdge sector to → (n at : ℕ) (bytes : List ℕ) (s now : MediumState) → length bytes ≤ n
     → at + length bytes ≤ to → to ≤ length s.bytes → AllWrites s (piece_writes sector n at bytes) now
     → Left at to bytes s.bytes now.bytes
@@ -70,7 +70,7 @@ pieces_stand sector to edge (suc n) at (b ∷ bs) s now le fits room all =
     (λ few lies kept. pieces_stand sector to edge n (at + 4096) (drop 4096 (b ∷ bs)) parts.0 now few lies kept parts.1.second))
     (cases_lt (length (b ∷ bs)) 4096)
 
--- Where the first slot has the image, and its gate is open and the other one's closed, the image is active.
+-- If the first slot has the image, and its gate is open and the other one's closed, the image is active.
 module _ (g : ℕ) (wide : 16 ≤ g) (now image units : List ℕ) (sized : HasTwoSlots g now) (room : 2 * g + length units ≤ slot_size now)
     (front : take (length image) units ≡ image) (least : length image ≤ length units)
     (shut : slice_index now (slot_size now) ≢ OPEN) (first_gate : slice_index now 0 ≡ OPEN)

@@ -1,4 +1,4 @@
--- What tells a header is what stands in it beside its generation and its length.
+-- What identifies a header are its bytes besides its generation and its length.
 use Rattle.std.proofs.Common.{◌≡◌, ℕ, zero, suc, ◌<◌, ◌^◌, List, [], ◌∷◌, ◌++◌, length, get_or, take, drop, refl, sym, ◌∙◌, ap, subst, arith}
 use Rattle.std.specs.Int.{w32, from_le_bytes}
 use Rattle.std.proofs.lemmas.Nat.{le_bytes_4, from_le_bytes-to_le_bytes_4}
@@ -23,7 +23,7 @@ four_small a b c d p q r s (suc (suc zero)) = r
 four_small a b c d p q r s (suc (suc (suc zero))) = s
 four_small a b c d p q r s (suc (suc (suc (suc i)))) = omega arith
 
--- The parts of a header but for its generation and its length.
+-- The parts of a header except its generation and its length.
 pub record Told (h : List ℕ) (version register : ℕ) : Type 0 where
   pub version_is : get_or h 1 0 ≡ version
   pub third : get_or h 2 0 ≡ 0
@@ -48,7 +48,7 @@ told_listed f small version register t =
     let zeros = sym (le_bytes_4 (f 12 ∷ f 13 ∷ f 14 ∷ f 15 ∷ []) 0 refl (four 12) (sym t.rest)) in
     λ i. f 0 ∷ t.version_is i ∷ t.third i ∷ t.fourth i ∷ len i ++ crc i ++ zeros i
 
--- Bytes with these parts are a header exactly where there are sixteen.
+-- Bytes with these parts are a header exactly if there are sixteen.
 pub told_header : (h : List ℕ) → length h ≡ 16 → ((i : ℕ) → get_or h i 0 < 256) → (version register : ℕ) → Told h version register
     → IsItsHeader h version register
 told_header h long small version register told =

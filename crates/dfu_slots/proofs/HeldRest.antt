@@ -1,4 +1,4 @@
--- What of the puts is held back.
+-- Which bytes of the puts are held back.
 use Rattle.std.proofs.Common.{◌≡◌, ◌≢◌, ℕ, ◌+◌, ◌-◌, ◌%◌, ◌≤◌, ◌<◌, min, List, ◌++◌, length, take, drop, ⊎_elim, sym, ◌∙◌, ap, arith, length-append}
 use Rattle.std.proofs.lemmas.Bool.{cases_lt}
 use Rattle.std.proofs.lemmas.List.{append-nil, drop_at, length-take-le, take-append-le, take-take}
@@ -10,7 +10,7 @@ use Rattle.dfu_slots.proofs.Torn.{drop_past}
 use Rattle.dfu_slots.proofs.Within.{take_past}
 use Rattle.dfu_slots.proofs.Multiples.{part_le, multiple_part, unit_more}
 
--- Where a unit is full, the end of the block is held back.
+-- If a unit is full, the end of the block is held back.
 pub rest_left : (u : WriteUnit) (held bytes : List ℕ) (n size : ℕ) → n ≡ length held → size ≡ unit_size u → length held < unit_size u
     → (n + length bytes) % size ≢ n + length bytes
     → drop (length bytes - (n + length bytes) % size) bytes ≡ put_rest u held bytes

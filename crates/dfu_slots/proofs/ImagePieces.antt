@@ -24,7 +24,7 @@ can_after same can = record {
   fits = omega (arith, can.fits, same.size, ap gate_room same.grain);
 }
 
--- The units of an image that a medium gets.
+-- The units of an image that are written to a medium.
 abbrev pub units_of : MediumState → List ℕ → List ℕ
 units_of m image = filled m.grain.unit image
 

@@ -7,12 +7,12 @@ use Rattle.dfu_slots.proofs.Stands.{ActiveAt}
 use Rattle.dfu_slots.proofs.Counting.{counts_same}
 use Rattle.dfu_slots.proofs.Parts.{gate_outside, header_outside, data_outside, slot_outside, size_kept, sized_kept}
 
--- The slot at one place stays the newest beside what stands at the other one now.
+-- The slot at one place stays the newest beside what is at the other one now.
 abbrev pub StaysNewest : ℕ → List ℕ → List ℕ → ℕ → ℕ → Type 0
 StaysNewest g old now mine other = (¬ Counts (slot g now other))
     ⊎ (generation (slot g old mine) ≡ next_generation (generation (slot g now other)))
 
--- What is changed in the spare slot alone leaves the active slot.
+-- A change of only the spare slot leaves the active slot.
 pub mine_kept : (g : ℕ) → 16 ≤ g → (old now : List ℕ) (mine other : ℕ) (image : List ℕ) (from to : ℕ)
     → ActiveAt g old mine other image → KeepsOutside from to old now → other ≤ from → to ≤ other + slot_size old
     → ◌≡◌ {A = Slot} (slot g now mine) (slot g old mine)
@@ -20,7 +20,7 @@ mine_kept g wide old now mine other image from to a keeps above below =
     slot_outside g from to old now mine keeps wide (omega (arith, a.sized.room))
     (⊎_elim (λ p. inl (omega (arith, p.0, p.1))) (λ p. inr (omega (arith, p.0, p.1))) a.places)
 
--- Whatever stands in the spare slot now, the active one stays, if the spare does not count or is one generation behind.
+-- Whatever is in the spare slot now, the active one stays, if the spare does not count or is one generation behind.
 pub active_kept : (g : ℕ) → 16 ≤ g → (old now : List ℕ) (mine other : ℕ) (image : List ℕ) (from to : ℕ)
     → ActiveAt g old mine other image → KeepsOutside from to old now → other ≤ from → to ≤ other + slot_size old
     → StaysNewest g old now mine other
@@ -38,7 +38,7 @@ active_kept g wide old now mine other image from to a keeps above below newer =
 
 module _ (g : ℕ) (wide : 16 ≤ g) (old now : List ℕ) (mine other : ℕ) (image : List ℕ) (from to : ℕ) (a : ActiveAt g old mine other image)
     (keeps : KeepsOutside from to old now) where
-  -- A change of the spare's gate keeps it, where that gate is open: the spare counts no more than it did.
+  -- A change of the spare's gate keeps it, if that gate is open: the spare counts no more than it did.
   pub gate_change : IsOpen (slot g old other) → other ≤ from → to ≤ other + g → ActiveAt g now mine other image
   gate_change was_open above below =
       let head = header_outside g from to old now other keeps (inr below) in
@@ -48,7 +48,7 @@ module _ (g : ℕ) (wide : 16 ≤ g) (old now : List ℕ) (mine other : ℕ) (im
       (λ newer. inr (newer ∙ ap (λ (h : List ℕ). next_generation (slice_index h 0)) (sym head)))
       a.newest.newer)
 
-  -- So does a change behind its gate, where that is closed.
+  -- So does a change after its gate, if that is closed.
   pub closed_change : ¬ IsOpen (slot g old other) → other < from → to ≤ other + slot_size old → ActiveAt g now mine other image
   closed_change shut above below =
       let gate = gate_outside g from to old now other keeps (inl above) in

@@ -46,7 +46,7 @@ pub multiple_part : (u : WriteUnit) (n : ℕ) → IsMultiple u (whole_part u n)
 multiple_part Byte n = omega arith
 multiple_part _ n = omega arith
 
--- Of no bytes nothing is left over.
+-- No bytes leave nothing over.
 pub zero_part : (u : WriteUnit) → 0 % unit_size u ≡ 0
 zero_part u = multiple_zero u
 

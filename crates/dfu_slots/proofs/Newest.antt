@@ -29,7 +29,7 @@ newest_from mine other test =
 turns : (g h : ℕ) → g ≡ next_generation h → h ≡ next_generation g → ⊥
 turns g h a b = omega arith
 
--- Of two slots one alone is the newest.
+-- Only one of two slots is the newest.
 pub other_test : (mine other : Slot) → IsNewest mine other → is_newest other mine ≡ false
 other_test mine other a =
     ⊎_elim
@@ -37,7 +37,7 @@ other_test mine other a =
     (λ newer. and_right (counts other) _ (or_from _ _ (not_from_true _ (counts_true mine a.counts)) (ne_eqb _ _ (λ e. turns _ _ newer e))))
     a.newer
 
--- Where the active slot stands.
+-- Where the active slot begins.
 pub places_newest : (g : ℕ) (bytes : List ℕ) (mine other : ℕ) → ArePlaces bytes mine other
     → IsNewest (slot g bytes mine) (slot g bytes other) → (mine ≡ active_at g bytes) × (other ≡ spare_at g bytes)
 places_newest g bytes mine other places newest =

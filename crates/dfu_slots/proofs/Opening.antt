@@ -78,17 +78,17 @@ module _ (m : MediumState) where
     test_there : (b : Bool) → is_newest (slot_of m p) (slot_of m q) ≡ b → tested ≡ b
     test_there b test = sym (λ i. is_newest (slot_of m (at_active i)) (slot_of m (at_spare i))) ∙ test
 
-    -- Where the test finds no newest slot, and one slot counts, both do, and neither follows the other.
+    -- If the test finds no newest slot, and one slot counts, both do, and neither follows the other.
     pub two_images_there : is_newest (slot_of m p) (slot_of m q) ≡ false → ¬ ((¬ FirstCounts m) × (¬ SecondCounts m)) → FirstCounts m
         × SecondCounts m × (¬ HasNewest m)
     two_images_there test some = two_images (test_there false test) some
 
-    -- Where it finds the newest slot, and that one has a well-formed header, the medium has an active image.
+    -- If it finds the newest slot, and that one has a well-formed header, the medium has an active image.
     pub has_image_there : (len : ℕ) → IsSized m → is_newest (slot_of m p) (slot_of m q) ≡ true → HasHeader (slot_of m p) len → HasImage m
     has_image_there len sized test head = has_image len sized (test_there true test)
         (subst (λ (r : ℕ). HasHeader (slot_of m r) len) at_active head)
 
-    -- Where that slot has no well-formed header, the medium has a bad header.
+    -- If that slot has no well-formed header, the medium has a bad header.
     pub bad_header_there : is_newest (slot_of m p) (slot_of m q) ≡ true → ((len : ℕ) → ¬ HasHeader (slot_of m p) len) → HasBadHeader m
     bad_header_there test none = record {
       newest = record {

@@ -15,7 +15,7 @@ pub length-header_unit : (g gen len crc : ℕ) → 16 ≤ g → length (header_u
 length-header_unit g gen len crc wide = omega
     (arith, length-append (header 2 gen len crc) (replicate (g - 16) 0), length-replicate {A = ℕ} (g - 16) 0)
 
--- The byte behind the gate unit is the generation.
+-- The byte after the gate unit is the generation.
 pub generation_at : (g : ℕ) (bytes : List ℕ) (at : ℕ) → slice_index bytes (at + g) ≡ generation (slot g bytes at)
 generation_at g bytes at =
     let e : at + g ≡ at + g + 0 = omega arith in
@@ -31,7 +31,7 @@ data_length g bytes at end room = omega (
       (omega (arith, length-drop (at + 2 * g) bytes, end)),
 )
 
--- Sixteen bytes that are read behind the gate unit, and are a header of version 1 that fits, are a well-formed header of the slot.
+-- Sixteen bytes that are read after the gate unit, and are a header of version 1 that fits, are a well-formed header of the slot.
 pub header_from : (g : ℕ) (bytes : List ℕ) (at len : ℕ) (out : List ℕ) → out ≡ (slot g bytes at).header
     → out ≡ header 1 (get_or out 0 0) len 0 → len ≤ capacity g bytes
     → at + slot_size bytes ≤ length bytes → 2 * g ≤ slot_size bytes → HasHeader (slot g bytes at) len
@@ -53,7 +53,7 @@ sized_kept g old now same sized = record {
 }
 
 module _ (g from to : ℕ) (old now : List ℕ) (p : ℕ) (keeps : KeepsOutside from to old now) where
-  -- The parts of a slot that stand outside a change are as they were.
+  -- The parts of a slot that lie outside a change are as they were.
   pub gate_outside : (p < from) ⊎ (to ≤ p) → (slot g now p).gate ≡ (slot g old p).gate
   gate_outside apart = byte_outside from to old now p keeps apart
 
@@ -67,7 +67,7 @@ module _ (g from to : ℕ) (old now : List ℕ) (p : ℕ) (keeps : KeepsOutside 
       ap (λ (s : ℕ). slice_range now (p + 2 * g) (p + s)) (size_kept from to old now keeps)
       ∙ range_outside from to old now (p + 2 * g) (p + slot_size old) keeps apart
 
-  -- And so is a slot that stands outside it.
+  -- And so is a slot that lies outside it.
   pub slot_outside : 16 ≤ g → 2 * g ≤ slot_size old → (p + slot_size old ≤ from) ⊎ (to ≤ p) → slot g now p ≡ slot g old p
   slot_outside wide room apart =
       let gate : (slot g now p).gate ≡ (slot g old p).gate = gate_outside (⊎_elim (λ le. inl (omega arith)) (λ le. inr le) apart) in

@@ -68,7 +68,7 @@ module _ (w : Grain) (held bytes : List ℕ) where
 
   module _ (s now : MediumState) (to at : ℕ) (edge : IsEdge w.sector to) (high : at + length all ≤ to) (room : to ≤ length s.bytes)
       (came : AllWrites s (put_writes w at held bytes) now) where
-    -- All whole units stand there then, and in front of them nothing changes.
+    -- All whole units are there then, and nothing before them changes.
     pub put_left : Left at to (take whole all) s.bytes now.bytes
     put_left =
         let parts = all_parts (write_some w.sector at (take head all)) (write_some w.sector (at + head) back) s now came in
@@ -81,7 +81,7 @@ module _ (w : Grain) (held bytes : List ℕ) where
         (left_join at to head (take head all) back s.bytes mid.bytes now.bytes (sym front_length)
         (omega (arith, high, front_length, back_length, head_le, whole_le)) room first second)
 
-  -- On a medium without sectors they are together one write of all whole units.
+  -- On a medium without sectors they are one write of all whole units.
   pub put_written : (s now : MediumState) (at : ℕ) → w.sector ≡ 0 → at + length all ≤ length s.bytes
       → AllWrites s (put_writes w at held bytes) now → now.bytes ≡ written s.bytes at (take whole all)
   put_written s now at none fits came =
@@ -97,7 +97,7 @@ module _ (w : Grain) (held bytes : List ℕ) where
       (omega (arith, fits, front_length, back_length, head_le, whole_le))
       ∙ ap (λ (l : List ℕ). written s.bytes at l) front_is
 
-  -- With what is held back behind them, all bytes stand there.
+  -- With what is held back after them, all bytes are there.
   pub put_joined : (d : List ℕ) (k : ℕ) → k + length all ≤ length d
       → written (written d k (take whole all)) (k + whole) (put_rest u held bytes) ≡ written d k all
   put_joined d k fits =
@@ -105,6 +105,6 @@ module _ (w : Grain) (held bytes : List ℕ) where
       ∙ written_written d k (take whole all) (drop whole all) (omega (arith, fits, whole_length, rest_length, whole_le))
       ∙ ap (λ (l : List ℕ). written d k l) (take-append-drop whole all)
 
-  -- And that is the bytes put behind the held ones.
+  -- And those are the bytes put after the held ones.
   pub put_behind : (d : List ℕ) (k : ℕ) → k + length all ≤ length d → written d k all ≡ written (written d k held) (k + length held) bytes
   put_behind d k fits = sym (written_written d k held bytes (omega (arith, fits, length-append held bytes)))

@@ -1,4 +1,4 @@
--- The bytes behind a `put` are erased up to the next sector.
+-- The bytes after a `put` are erased up to the next sector.
 use Rattle.std.proofs.Common.{◌≡◌, ℕ, ◌+◌, ◌≤◌, List, ◌++◌, length, take, drop, sym, subst, arith}
 use Rattle.dfu_slots.specs.Units.{Grain, whole_part}
 use Rattle.dfu_slots.specs.Medium.{MediumState, AllWrites, IsAhead}

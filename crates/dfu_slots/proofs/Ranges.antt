@@ -37,7 +37,7 @@ pub range_before : (l more : List ℕ) (i j : ℕ) → j ≤ length l → slice_
 range_before l more i j le =
     between_is (l ++ more) i j ∙ ap (λ (x : List ℕ). drop i x) (take-append-le j l more le) ∙ sym (between_is l i j)
 
--- A range of what is held and the block, that lies in the block.
+-- A range of the held bytes and the block that lies in the block.
 pub block_range : (held block : List ℕ) (skip n : ℕ) → length held ≤ skip → skip + n ≤ length held + length block
     → slice_range ((held ++ block) ++ replicate 256 0) skip (skip + n)
     ≡ slice_range block (skip - length held) (skip - length held + n)

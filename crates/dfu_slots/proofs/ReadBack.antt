@@ -9,7 +9,7 @@ pub record AreSameTo (read piece : List ℕ) (at : ℕ) : Type 0 where
   pub within : at ≤ length piece
   pub same : take at read ≡ take at piece
 
--- Exactly these bytes stand from there on.
+-- Exactly these bytes are there from this place on.
 abbrev pub Stand : List ℕ → ℕ → List ℕ → Type 0
 Stand m at bytes = slice_range m at (at + length bytes) ≡ bytes
 
@@ -17,11 +17,11 @@ Stand m at bytes = slice_range m at (at + length bytes) ≡ bytes
 pub range_is : (m : List ℕ) (at n : ℕ) → slice_range m at (at + n) ≡ take n (drop at m)
 range_is m at n = let e : at + n - at ≡ n = omega arith in ap (λ (k : ℕ). take k (drop at m)) e
 
--- No bytes stand anywhere.
+-- No bytes are anywhere.
 pub none_stand : (m : List ℕ) (at : ℕ) → Stand m at []
 none_stand m at = range_is m at 0
 
--- Two pieces stand there one behind the other.
+-- Two pieces are there one after the other.
 range_two : (m : List ℕ) (at a b : ℕ) → slice_range m at (at + (a + b)) ≡ slice_range m at (at + a) ++ slice_range m (at + a) (at + a + b)
 range_two m at a b =
     range_is m at (a + b) ∙ take-add a b (drop at m)
@@ -37,23 +37,23 @@ module _ (m : List ℕ) (at : ℕ) (xs ys : List ℕ) (room : at + length xs + l
       ≡ slice_range m at (at + length xs) ++ slice_range m (at + length xs) (at + length xs + length ys)
   whole_is = ap (λ (n : ℕ). slice_range m at (at + n)) (length-append xs ys) ∙ range_two m at (length xs) (length ys)
 
-  -- The bytes stand there where both parts do.
+  -- The bytes are there if both parts are.
   pub both_stand : Stand m at xs → Stand m (at + length xs) ys → Stand m at (xs ++ ys)
   both_stand a b = whole_is ∙ (λ i. a i ++ b i)
 
-  -- Then the first part does.
+  -- Then the first part is.
   pub front_stands : Stand m at (xs ++ ys) → Stand m at xs
   front_stands s =
       sym (take_at (slice_range m at (at + length xs)) (slice_range m (at + length xs) (at + length xs + length ys)) (length xs) size)
       ∙ ap (λ (l : List ℕ). take (length xs) l) (sym whole_is ∙ s) ∙ take_at xs ys (length xs) refl
 
-  -- And so does the second.
+  -- And so is the second.
   pub back_stands : Stand m at (xs ++ ys) → Stand m (at + length xs) ys
   back_stands s =
       sym (drop_at (slice_range m at (at + length xs)) (slice_range m (at + length xs) (at + length xs + length ys)) (length xs) size)
       ∙ ap (λ (l : List ℕ). drop (length xs) l) (sym whole_is ∙ s) ∙ drop_at xs ys (length xs) refl
 
--- So many bytes of the medium lie ahead, and all bytes stand where they should exactly where the rest of them does.
+-- So many bytes of the medium lie ahead, and all bytes are where they should be exactly if the rest of them is.
 pub record ReadBack (m : List ℕ) (at : ℕ) (bytes : List ℕ) (ahead : ℕ) (rest : List ℕ) : Type 0 where
   pub within : ahead ≤ length m
   pub room : length rest ≤ ahead
@@ -81,7 +81,7 @@ module _ {m : List ℕ} {at : ℕ} {bytes : List ℕ} {ahead : ℕ} {rest : List
   fits : length m - ahead + length piece + length next ≤ length m
   fits = omega (arith, sizes, far.within, far.room)
 
-  -- A piece that stands there: the rest behind it decides.
+  -- A piece that is there: the rest after it decides.
   pub piece_back : Stand m (length m - ahead) piece → ReadBack m at bytes (ahead - length piece) next
   piece_back stands =
       let on : length m - (ahead - length piece) ≡ length m - ahead + length piece = omega (arith, sizes, far.within, far.room) in
@@ -96,16 +96,16 @@ module _ {m : List ℕ} {at : ℕ} {bytes : List ℕ} {ahead : ℕ} {rest : List
         );
       }
 
-  -- A piece that does not stand there: the bytes do not.
+  -- A piece that is not there: the bytes are not.
   pub piece_missing : ¬ Stand m (length m - ahead) piece → ¬ Stand m at bytes
   piece_missing none s = none (front_stands m (length m - ahead) piece next fits
       (subst (λ (l : List ℕ). Stand m (length m - ahead) l) parts (far.same.0 s)))
 
--- What is cut in two is both parts, one behind the other.
+-- What is cut in two is both parts, one after the other.
 pub cut_is : {rest front back : List ℕ} (n : ℕ) → front ≡ take n rest → back ≡ drop n rest → rest ≡ front ++ back
 cut_is {rest} n a b = sym ((λ i. a i ++ b i) ∙ take-append-drop n rest)
 
--- What was read is what stands there.
+-- What was read is what is there.
 pub read_there : (m piece : List ℕ) {place from n : ℕ} {read : List ℕ} → from ≡ place → n ≡ length piece
     → read ≡ slice_range m from (from + n) → slice_range m place (place + length piece) ≡ read
 read_there m piece here size is = sym (is ∙ (λ i. slice_range m (here i) (here i + size i)))

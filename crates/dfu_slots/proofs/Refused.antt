@@ -25,7 +25,7 @@ no_fault BadHeader m (sized, bad) has =
     ∙ sym (places_newest (gate_of m) m.bytes bad.newest.at bad.newest.other bad.newest.places bad.newest.newest).0 in
     bad.none (length has.image) (subst (λ (q : ℕ). HasHeader (slot_of m q) (length has.image)) same a.header_is)
 
--- What `open` answers an error to has no active image.
+-- A medium for which `open` returns an error has no active image.
 pub refused : {T M : Type 0} (m : MediumState) (result : Result T (OpenFault × M)) → IfErr result (λ e. IsOpenFault e.0 m)
     → OnErr result (¬ HasImage m)
 refused m (Ok x) h = tt

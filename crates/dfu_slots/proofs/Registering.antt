@@ -8,7 +8,7 @@ pub record SoFar (bytes : List ℕ) (len at crc : ℕ) : Type 0 where
   pub within : at ≤ len
   pub register_is : crc ≡ register (take at bytes)
 
--- A front goes on with the range behind it.
+-- A front goes on with the range after it.
 front_on : (bytes : List ℕ) (at n : ℕ) → take at bytes ++ slice_range bytes at (at + n) ≡ take (at + n) bytes
 front_on bytes at n =
     let e : at + n - at ≡ n = omega arith in
@@ -23,7 +23,7 @@ piece_on bytes len at n m next piece fits size is more = record {
       (ap (λ (l : List ℕ). take at bytes ++ l) (is ∙ ap (λ (k : ℕ). slice_range bytes at (at + k)) size) ∙ front_on bytes at n);
 }
 
--- The whole front is in the register where the pieces have come to its end.
+-- The whole front is in the register when the pieces have come to its end.
 pub front_done : (bytes : List ℕ) (len at crc : ℕ) → len ≤ at → SoFar bytes len at crc → crc ≡ register (take len bytes)
 front_done bytes len at crc end so =
     let e : at ≡ len = omega (arith, end, so.within) in

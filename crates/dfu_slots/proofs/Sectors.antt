@@ -7,7 +7,7 @@ use Rattle.dfu_slots.specs.declared.unit.Unit.{Unit as WriteUnit}
 use Rattle.dfu_slots.specs.declared.unit.Unit.TheVariants.{Byte}
 use Rattle.dfu_slots.specs.Units.{Grain, gate_size, gate_room, IsMultiple, IsWhole}
 
--- Where there are sectors, one begins there.
+-- If there are sectors, one begins there.
 abbrev pub IsEdge : ℕ → ℕ → Type 0
 IsEdge sector at = 0 < sector → at % sector ≡ 0
 
@@ -55,15 +55,15 @@ multiple_pages Byte n e = omega (arith, e)
 multiple_pages _ n e = omega (arith, e)
 
 module _ (w : Grain) (n : ℕ) (whole : IsWhole w n) where
-  -- Where there are sectors, the gate has one.
+  -- If there are sectors, the gate has one.
   pub room_sector : 0 < w.sector → gate_room w ≡ w.sector
   room_sector some = omega (arith, gate_most w.unit, whole.pages, some)
 
-  -- So a sector begins behind it.
+  -- So a sector begins after it.
   pub room_edge : IsEdge w.sector (gate_room w)
   room_edge some = ap (λ (k : ℕ). k % w.sector) (room_sector some) ∙ mod_self w.sector
 
-  -- The place behind it is whole in the unit.
+  -- The place after it is whole in the unit.
   pub room_multiple : IsMultiple w.unit (gate_room w)
   room_multiple = by_sector (cases_eq w.sector 0)
     where

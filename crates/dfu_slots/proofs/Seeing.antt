@@ -37,20 +37,20 @@ image_is s image active =
 pub image_active : (s : SlotsState) → HasImage s.medium → Active s.medium (image_of s)
 image_active s has = subst (λ (l : List ℕ). Active s.medium l) (image_is s has.image has.active) has.active
 
--- An image that stands on a medium of the same size is active there.
+-- An image on a medium of the same size is active there.
 pub active_on : {m n : MediumState} (at spare : ℕ) (image : List ℕ) → SameSize m n → IsWhole m.grain (capacity_of m)
     → ActiveAt (gate_of m) n.bytes at spare image → Active n image
 active_on {m} {n} at spare image same whole stands = active_from n at spare image (whole_after same whole)
     (subst (λ (w : Grain). ActiveAt (gate_room w) n.bytes at spare image) (sym same.grain) stands)
 
--- The image stays where the store is opened anew.
+-- The image stays if the store is opened anew.
 pub reopened_image : (s : SlotsState) → image_of (store_on s.medium) ≡ image_of s
 unfolding image_of
 reopened_image s = refl
 
 -- What is put.
 
--- Where nothing is held, the spare's data is that of the medium.
+-- If nothing is held, the spare's data is that of the medium.
 pub spare_fresh : (m : MediumState) → spare_of (store_on m) ≡ (spare (gate_of m) m.bytes).data_bytes
 unfolding spare_of
 spare_fresh m = written_nil (spare (gate_of m) m.bytes).data_bytes 0
@@ -121,14 +121,14 @@ shaped {s} store =
     (and_from (nat_le (room_of s) (2 ^ 24)) _ (le-leb _ _ (omega (arith, room_capacity s, store.has_image.active.sized.bound)))
     (le-leb _ _ (image_fits s store)))
 
--- A store on which nothing was put yet is a store, and is seen as its medium alone.
+-- A store on which nothing was put yet is a store, and all that is seen of it is its medium.
 pub record IsFresh (x : SlotsState) : Type 0 where
   pub active : Active x.medium (image_of x)
   pub shape : is_shaped x ≡ true
   pub fresh : x ≡ store_on x.medium
   pub store : IsStore x
 
--- A medium with an active image makes such a store, where nothing is held and the puts end at 0.
+-- A medium with an active image makes such a store, if nothing is held and the puts end at 0.
 pub fresh_leaves : {m : MediumState} {held : List ℕ} {put_end : ℕ} → HasImage m → held ≡ [] → put_end ≡ 0
     → IsFresh (store_of m held put_end)
 fresh_leaves {m} {held} {put_end} has none zero_is =
@@ -163,14 +163,14 @@ pub not_begun_open : (s : SlotsState) → is_begun s ≡ false → IsOpen (spare
 unfolding is_begun
 not_begun_open s off = eqb-true _ _ (not-false _ off)
 
--- Whether a store was begun depends on the gate of its spare alone.
+-- Whether a store was begun depends only on the gate of its spare.
 pub begun_from_gate : (s now : SlotsState) → (spare_slot now).gate ≡ (spare_slot s).gate → is_begun now ≡ is_begun s
 unfolding is_begun
 begun_from_gate s now same = ap (λ (g : ℕ). not (g == OPEN)) same
 
 -- Another fuse on the medium.
 
--- Where the medium has another fuse, a store that was seen as `v` is as it was.
+-- If the medium has another fuse, a store that was seen as `v` is as it was.
 pub fuse_leaves : {s v : SlotsState} → s ≡ v → IsStore s → (m : MediumState) (fuse : Fuse) → m ≡ record s.medium { fuse = fuse }
     → FuseLeaves v fuse (store_of m s.held s.put_end)
 fuse_leaves {s} {v} view store m fuse is =

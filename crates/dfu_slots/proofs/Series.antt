@@ -178,13 +178,13 @@ pub all_unless : (s now : MediumState) (b : Bool) (ws : List Write) → AllWrite
 all_unless s now true ws same = inl (refl, same)
 all_unless s now false ws all = inr (refl, all)
 
--- A list that a test chooses lies within a range where both do.
+-- A list that a test chooses lies within a range if both do.
 pub inside_if : (from to : ℕ) (b : Bool) (ws vs : List Write) → AllInside from to ws → AllInside from to vs
     → AllInside from to (if b then ws else vs)
 inside_if from to true ws vs a b = a
 inside_if from to false ws vs a b = b
 
--- Two lists lie within a range where each does.
+-- Two lists lie within a range if each does.
 pub inside_append : (from to : ℕ) (ws vs : List Write) → AllInside from to ws → AllInside from to vs → AllInside from to (ws ++ vs)
 inside_append from to [] vs a b = b
 inside_append from to (w ∷ ws) vs (low, high, a) b = (low, high, inside_append from to ws vs a b)

@@ -1,5 +1,5 @@
 -- Writes that keep the size of a medium.
-use Rattle.std.proofs.Common.{◌≡◌, ◌≢◌, ◌==◌, ℕ, ◌+◌, ◌≤◌, ◌<◌, List, [], ◌∷◌, ◌++◌, length, ap, arith}
+use Rattle.std.proofs.Common.{◌≡◌, ◌≢◌, ◌==◌, false, ◌∙◌, ℕ, ◌+◌, ◌≤◌, ◌<◌, List, [], ◌∷◌, ◌++◌, length, ap, arith}
 use Rattle.std.proofs.lemmas.Bool.{cond-false, ne_eqb}
 use Rattle.dfu_slots.specs.Medium.{MediumState, Write, AllWrites}
 use Rattle.dfu_slots.specs.Image.{IsSized}
@@ -25,3 +25,8 @@ pub anew_is : (sector at : ℕ) (bytes : List ℕ) → sector ≢ 0
     → write_anew sector at bytes ≡ erases sector at (length bytes) ++ record { at = at; bytes = bytes } ∷ []
 anew_is sector at bytes some = ap (λ (ws : List Write). ws ++ record { at = at; bytes = bytes } ∷ [])
     (cond-false (sector == 0) [] (erases sector at (length bytes)) (ne_eqb sector 0 some))
+
+-- So are the writes of `write_some`, if there are bytes.
+pub some_is : (sector at : ℕ) (bytes : List ℕ) → (length bytes == 0) ≡ false → sector ≢ 0
+    → write_some sector at bytes ≡ erases sector at (length bytes) ++ record { at = at; bytes = bytes } ∷ []
+some_is sector at bytes filled some = cond-false (length bytes == 0) [] (write_anew sector at bytes) filled ∙ anew_is sector at bytes some

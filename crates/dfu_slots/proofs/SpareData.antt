@@ -16,7 +16,7 @@ use Rattle.dfu_slots.proofs.Anew.{Left}
 use Rattle.dfu_slots.proofs.Within.{written_within}
 use Rattle.dfu_slots.proofs.Begun.{same_spare}
 
--- What writes in the spare's data leave: nothing changes elsewhere, the active image stands where it stood, and the spare and its gate too.
+-- What writes in the spare's data leave: nothing changes elsewhere, and the active image, the spare and its gate are where they were.
 pub record DataLeaves (g : ℕ) (s now : MediumState) (mine other : ℕ) (image : List ℕ) : Type 0 where
   pub kept : KeepsOutside (other + 2 * g) (other + slot_size s.bytes) s.bytes now.bytes
   pub same : SameSize s now
@@ -48,7 +48,7 @@ data_leaves g wide s now mine other image a shut ws inside ends =
       gate = ap (λ (q : ℕ). slice_index now.bytes q) (stays ∙ sym place) ∙ gate_at ∙ ap (λ (q : ℕ). slice_index s.bytes q) place;
     }
 
--- Bytes that were written at a place of a slot's data stand there in it.
+-- The data of a slot has the bytes that were written at a place of it, at that place.
 pub data_at_written : (g : ℕ) (old now : List ℕ) (p k : ℕ) (new : List ℕ) → p + slot_size old ≤ length old
     → 2 * g + k + length new ≤ slot_size old → now ≡ written old (p + 2 * g + k) new
     → (slot g now p).data_bytes ≡ written (slot g old p).data_bytes k new
@@ -58,7 +58,7 @@ data_at_written g old now p k new end fits is =
     (λ i. slice_range (is i) (p + 2 * g) (p + size i))
     ∙ written_within old (p + 2 * g) (p + slot_size old) k new (omega (arith, fits)) end
 
--- So they do in the spare's data.
+-- So does the spare's data.
 pub data_written : (g : ℕ) (old now : List ℕ) → HasTwoSlots g old → spare_at g now ≡ spare_at g old
     → (k : ℕ) (new : List ℕ) → k + length new ≤ capacity g old → now ≡ written old (spare_at g old + 2 * g + k) new
     → (spare g now).data_bytes ≡ written (spare g old).data_bytes k new
@@ -66,7 +66,7 @@ data_written g old now sized same k new fits is =
     ap (λ (q : ℕ). (slot g now q).data_bytes) same
     ∙ data_at_written g old now (spare_at g old) k new (spare_end g old sized) (omega (arith, fits, sized.room)) is
 
--- Where bytes were written at a place of a slot's data, and nothing in front of it, they stand behind what stood there.
+-- If bytes were written at a place of a slot's data, and nothing before it, they follow what was there.
 pub data_front : (g : ℕ) (old now : List ℕ) (p k : ℕ) (new : List ℕ) (to : ℕ) → 2 * g + k + length new ≤ slot_size old
     → Left (p + 2 * g + k) to new old now
     → take (k + length new) (slot g now p).data_bytes ≡ take k (slot g old p).data_bytes ++ new

@@ -1,4 +1,4 @@
--- What stands on a medium, by its bytes and by how many bytes a gate unit has.
+-- What is on a medium, by its bytes and by how many bytes a gate unit has.
 use Rattle.std.proofs.Common.{◌≡◌, ℕ, ◌*◌, ◌^◌, ◌≤◌, ◌<◌, List, length, take}
 use Rattle.dfu_slots.specs.Units.{IsWhole}
 use Rattle.dfu_slots.specs.Medium.{MediumState}
@@ -23,7 +23,7 @@ pub record ActiveAt (g : ℕ) (bytes : List ℕ) (at spare : ℕ) (image : List 
 pub two_slots : (m : MediumState) → IsSized m → HasTwoSlots (gate_of m) m.bytes
 two_slots m sized = record { even = sized.even; room = sized.room; bound = sized.bound }
 
--- An active image stands at its place.
+-- An active image is at its place.
 pub standing : {m : MediumState} {image : List ℕ} (a : Active m image) → ActiveAt (gate_of m) m.bytes a.at a.spare image
 standing {m} a = record {
   sized = two_slots m a.sized;
@@ -33,7 +33,7 @@ standing {m} a = record {
   image_is = a.image_is;
 }
 
--- An image that stands on a medium, with whole units of data in a slot, is the active one.
+-- An image that is on a medium, with whole units of data in a slot, is the active one.
 pub active_from : (m : MediumState) (at spare : ℕ) (image : List ℕ) → IsWhole m.grain (capacity_of m)
     → ActiveAt (gate_of m) m.bytes at spare image → Active m image
 active_from m at spare image whole stands = record {

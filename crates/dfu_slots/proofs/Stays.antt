@@ -1,4 +1,4 @@
--- The active slot and its image stay, and what a store is seen as then.
+-- The active slot and its image stay, and what is seen of the store then.
 use Rattle.std.proofs.Common.{◌≡◌, ℕ, length, refl, sym, ◌∙◌, ap, subst}
 use Rattle.dfu_slots.specs.Units.{gate_room, Grain}
 use Rattle.dfu_slots.specs.Medium.{MediumState, Fuse}
@@ -33,12 +33,12 @@ module _ (s now : SlotsState) (has : HasImage s.medium) (stays : Stays s now has
   pub stays_room : room_of now ≡ room_of s
   stays_room = room_from s now stays.same
 
--- The slots of two media stand at the same places, and the same one is active.
+-- The slots of two media are at the same places, and the same one is active.
 pub record SamePlaces (m n : MediumState) : Type 0 where
   pub active : active_at (gate_of n) n.bytes ≡ active_at (gate_of m) m.bytes
   pub spare : spare_at (gate_of n) n.bytes ≡ spare_at (gate_of m) m.bytes
 
--- They do where the image stays.
+-- They are, if the image stays.
 pub stays_places : (s now : SlotsState) (has : HasImage s.medium) → Stays s now has → SamePlaces s.medium now.medium
 stays_places s now has stays =
     let a = has.active in
@@ -80,6 +80,6 @@ stays_same s now has same = record {
   same = record { grain = ap (λ (x : SlotsState). x.medium.grain) same; size = ap (λ (x : SlotsState). length x.medium.bytes) same };
 }
 
--- The spare slot, where the unit is the same.
+-- The spare slot, if the unit is the same.
 pub spare_there : (m n : MediumState) → n.grain ≡ m.grain → ◌≡◌ {A = Slot} (spare (gate_of n) n.bytes) (spare (gate_of m) n.bytes)
 spare_there m n grain = ap (λ (w : Grain). spare (gate_room w) n.bytes) grain

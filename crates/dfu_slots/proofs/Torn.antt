@@ -1,4 +1,4 @@
--- What stands outside the range of a write stays.
+-- What is outside the range of a write stays.
 use Rattle.std.proofs.Common.{◌≡◌, ◌⊎◌, inl, inr, ℕ, ◌+◌, ◌-◌, ◌≤◌, ◌<◌, List, ◌∷◌, ◌++◌, length, get_or, take, drop, slice_index, slice_range, sym, ◌∙◌, ap, subst, arith, length-append, length-drop}
 use Rattle.std.proofs.lemmas.List.{take-take, drop-drop, get_or-take, get_or-drop, take_at, drop_at, append_assoc, length-take-le, length-take}
 use Rattle.std.proofs.lemmas.Slice.{between_is}
@@ -89,7 +89,7 @@ module _ (old : List ℕ) (at : ℕ) (new : List ℕ) (fits : at + length new �
         (omega (arith, length-append (take at old) new, front));
   }
 
-  -- And its bytes stand in its range.
+  -- And its bytes are in its range.
   pub written_range : slice_range (written old at new) at (at + length new) ≡ new
   written_range =
       ap (λ (l : List ℕ). take (at + length new - at) (drop at l)) (append_assoc (take at old) new (drop (at + length new) old))

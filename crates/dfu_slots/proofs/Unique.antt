@@ -36,7 +36,7 @@ module _ {m : MediumState} {p : ℕ} {image : List ℕ} (here : p ≡ active_at 
   pub active_fits : length image ≤ capacity_of m
   active_fits = omega (arith, active_header.fits, room_is)
 
-  -- The length that a header of that slot tells is that of the active image.
+  -- The length in a header of that slot is that of the active image.
   pub active_len_is : (len : ℕ) → HasHeader (slot_of m p) len → len ≡ length image
   active_len_is len head =
       sym (header_length_is (slot_of m p) len head (omega (arith, head.fits, room_is, sized.bound)))
@@ -53,7 +53,7 @@ module _ {m : MediumState} {p : ℕ} {image : List ℕ} (here : p ≡ active_at 
       between_is whole i j ∙ ap (λ (l : List ℕ). drop i l)
       (sym (take-take j (length image) whole le) ∙ ap (λ (l : List ℕ). take j l) (sym image_at)) ∙ sym (between_is image i j)
 
-  -- The active image stands on the medium behind the gate unit and the header unit of that slot.
+  -- The active image is on the medium after the gate unit and the header unit of that slot.
   pub image_there : slice_range m.bytes (p + 2 * g) (p + 2 * g + length image) ≡ image
   image_there =
       let from = p + 2 * g in

@@ -1,4 +1,4 @@
--- What gates and headers alone tell of the active slot.
+-- What gates and headers by themselves show about the active slot.
 use Rattle.std.proofs.Common.{◌≡◌, inl, inr, ⊎_elim, Bool, true, false, not, ℕ, zero, suc, ◌+◌, ◌*◌, ◌≤◌, ◌<◌, ◌↔◌, ◌==◌, List, ◌∷◌, ◌++◌, length, get_or, take, drop, replicate, slice_index, refl, sym, ◌∙◌, ap, subst, arith, eq-eqb}
 use Rattle.std.specs.Int.{w32, to_le_bytes, from_le_bytes, bytes_low_first, byte_at}
 use Rattle.std.proofs.lemmas.Nat.{le_bytes_4, mod_below}
@@ -18,7 +18,7 @@ byte_small : (i n : ℕ) → byte_at i n < 256
 byte_small zero n = mod_below n 256 (omega arith)
 byte_small (suc i) n = mod_below _ 256 (omega arith)
 
--- So is each of its lowest bytes, wherever it stands.
+-- So is each of its lowest bytes, wherever it is.
 low_small : (i k n j : ℕ) → get_or (bytes_low_first i k n) j 0 < 256
 low_small i zero n j = omega arith
 low_small i (suc k) n zero = byte_small i n
@@ -28,7 +28,7 @@ low_small i (suc k) n (suc j) = low_small (suc i) k n j
 bytes_again : (n : ℕ) → to_le_bytes w32 (from_le_bytes w32 (to_le_bytes w32 n)) ≡ to_le_bytes w32 n
 bytes_again n = le_bytes_4 (to_le_bytes w32 n) (from_le_bytes w32 (to_le_bytes w32 n)) refl (low_small 0 4 n) refl
 
--- A header of version 2 with any number in place of the register is one with the register that stands in it.
+-- A header of version 2 with any number in place of the register is one with the register in it.
 with_its_register : (s : Slot) (crc : ℕ) → s.header ≡ header 2 (generation s) (header_length s) crc
     → s.header ≡ header 2 (generation s) (header_length s) (header_register s)
 with_its_register s crc e =
@@ -48,7 +48,7 @@ counts_may s c = record {
   };
 }
 
--- The newest of two slots by gates and headers alone is the newest.
+-- The newest of two slots by only gates and headers is the newest.
 newest_read : (mine other : Slot) → IsNewestUnread mine other → IsNewest mine other
 newest_read mine other u = record {
   counts = record {
@@ -65,20 +65,20 @@ named_places : (first : Bool) (bytes : List ℕ) → ArePlaces bytes (slot_place
 named_places true bytes = inl (refl, refl)
 named_places false bytes = inr (refl, refl)
 
--- Where the named slot is the newest, it is the first exactly where the test takes the first for the active one.
+-- If the named slot is the newest, it is the first exactly if the test takes the first for the active one.
 named_first : (g : ℕ) (bytes : List ℕ) (first : Bool)
     → IsNewest (slot g bytes (slot_place first bytes)) (slot g bytes (slot_place (not first) bytes)) → first ≡ first_is_active g bytes
 named_first g bytes true newest = sym (newest_test _ _ newest)
 named_first g bytes false newest = sym (other_test _ _ newest)
 
--- What is found of a named slot that is the active one.
+-- What is found about a named slot that is the active one.
 pub record IsNamed (m : MediumState) (first : Bool) : Type 0 where
   pub has_image : HasImage m
   pub active_there : slot_place first m.bytes ≡ active_at (gate_of m) m.bytes
   pub spare_there : slot_place (not first) m.bytes ≡ spare_at (gate_of m) m.bytes
   pub first_is : first ≡ first_is_active (gate_of m) m.bytes
 
--- Where gates and headers alone tell that the named slot is the active one, it is.
+-- If gates and headers by themselves show that the named slot is the active one, it is.
 pub named_is : {m : MediumState} {first : Bool} → IsActiveUnread m first → IsNamed m first
 named_is {m} {first} u =
     let mine = slot_place first m.bytes in
@@ -93,7 +93,7 @@ named_is {m} {first} u =
       first_is = named_first (gate_of m) m.bytes first newest;
     }
 
--- They tell so at the place of the named slot and that of the other one.
+-- They show it at the place of the named slot and that of the other one.
 pub unread_there : (m : MediumState) (first : Bool) {p q : ℕ} → p ≡ slot_place first m.bytes →
     q ≡ slot_place (not first) m.bytes → IsSized m
     → IsNewestUnread (slot_of m p) (slot_of m q) → IsActiveUnread m first
@@ -103,7 +103,7 @@ unread_there m first {p} here there sized newest = record {
       (subst (λ (x : ℕ). IsNewestUnread (slot_of m p) (slot_of m x)) there newest);
 }
 
--- The active slot stands at 0 exactly where it is the first one.
+-- The active slot begins at 0 exactly if it is the first one.
 pub first_told : (g : ℕ) (bytes : List ℕ) (p : ℕ) → p ≡ active_at g bytes → 0 < slot_size bytes → (p == 0) ≡ first_is_active g bytes
 first_told g bytes p here some = elim (cases_Bool (first_is_active g bytes)) [
   | inl first ↦ eq-eqb p 0 (here ∙ cond-true (first_is_active g bytes) 0 (slot_size bytes) first) ∙ sym first
@@ -111,7 +111,7 @@ first_told g bytes p here some = elim (cases_Bool (first_is_active g bytes)) [
       ∙ sym second
 ]
 
--- A header that was read is well formed where the slot's header is.
+-- A header that was read is well formed if the slot's header is.
 pub formed_told : (g : ℕ) (bytes : List ℕ) (at : ℕ) → at + slot_size bytes ≤ length bytes → 2 * g ≤ slot_size bytes → (found : List ℕ)
     → found ≡ (slot g bytes at).header → (room : ℕ) → room ≡ capacity g bytes → (version crc : ℕ) → {T : Type 0}
     → T ↔ ((found ≡ header version (get_or found 0 0) (from_le_bytes w32 (take 4 (drop 4 found))) crc)

@@ -1,4 +1,4 @@
--- What the calls answer and leave.
+-- What the calls return and leave.
 use Rattle.std.specs.Prelude.{◌≡◌, ◌≤◌, ◌<◌, ℕ, List, length, Result, Ok, Err}
 use Rattle.dfu_slots.specs.Medium.{MediumState}
 use Rattle.dfu_slots.specs.Layout.{slot_size, ArePlaces, HasHeader}
@@ -13,7 +13,7 @@ use Rattle.dfu_slots.specs.declared.fault.PutFault.TheVariants.{TooLarge, Failed
 use Rattle.dfu_slots.specs.declared.fault.WriteFault.{WriteFault}
 use Rattle.dfu_slots.specs.declared.fault.WriteFault.TheVariants.{Failed as WriteFailed, NotVerified as WriteNotVerified}
 
--- A call was broken off by a write that failed, or that was not there when it was read back.
+-- A call was broken off by a write that failed, or whose bytes were not there when they were read back.
 abbrev pub IsBroken : {T : Type 0} → Result T PutFault → Type 0
 IsBroken (Ok _) = ⊥
 IsBroken (Err Failed) = Unit {0}
@@ -21,12 +21,12 @@ IsBroken (Err NotVerified) = Unit {0}
 IsBroken (Err TooLarge) = ⊥
 IsBroken (Err NotBegun) = ⊥
 
--- The fault of the write that broke a call off.
+-- The fault of the write at which a call was broken off.
 abbrev pub fault_of : PutFault → WriteFault
 fault_of NotVerified = WriteNotVerified
 fault_of fault = WriteFailed
 
--- How the writes of a call ended that was not refused.
+-- How the writes of a call that was not refused ended.
 abbrev pub ending_of : {T : Type 0} → Result T PutFault → Ending
 ending_of (Ok _) = AllWorked
 ending_of (Err fault) = BrokenBy (fault_of fault)
@@ -44,7 +44,7 @@ pub record CanFormat (m : MediumState) (image : List ℕ) : Type 0 where
   pub sized : IsSized m
   pub fits : length image ≤ capacity_of m
 
--- This is the first thing that is wrong with a medium and an image, and nothing is wrong with them where a write failed.
+-- This is the first thing that is wrong with a medium and an image, and nothing is wrong with them if a write failed.
 abbrev pub IsFormatFault : FormatFault → MediumState → List ℕ → Type 0
 IsFormatFault NotSized m image = ¬ IsSized m
 IsFormatFault ImageTooLarge m image = IsSized m × (capacity_of m < length image)

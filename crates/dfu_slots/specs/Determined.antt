@@ -17,7 +17,7 @@ pub all_known : (ws : List Write) (s x : MediumState) → IsKnown s.fuse → All
 all_known [] s x k same = subst IsKnown (sym (ap (λ (m : MediumState). m.fuse) same)) k
 all_known (w ∷ ws) s x k (p, a, more) = all_known ws p x (known_next w s p k a) more
 
--- The same writes from the same medium, where all work, leave the same medium.
+-- The same writes from the same medium, if all work, leave the same medium.
 pub all_same_end : (ws : List Write) (s t x y : MediumState) → Same s t → AllWrites s ws x → AllWrites t ws y → Same x y
 all_same_end [] s t x y same a b = record {
   bytes = ap (λ (m : MediumState). m.bytes) a ∙ same.bytes ∙ sym (ap (λ (m : MediumState). m.bytes) b);
@@ -58,7 +58,7 @@ broken_same_end f (w ∷ ws) s t x y same k (inr (p, a, more)) (inr (q, b, rest)
 
 -- Calls.
 
--- Two stores stand on the same medium, hold the same bytes back, and their puts end at the same place.
+-- Two stores are on the same medium, hold the same bytes back, and their puts end at the same place.
 pub record SameStore (a b : SlotsState) : Type 0 where
   pub medium : Same a.medium b.medium
   pub held : a.held ≡ b.held
@@ -107,7 +107,7 @@ module _ (s t x y : SlotsState) (call : Call) (same : SameStore s t) where
   call_broken : (f : WriteFault) → CallFailed f t call y → BrokenWrites f t.medium (writes_of s call) y.medium
   call_broken f b = subst (λ (ws : List Write). BrokenWrites f t.medium ws y.medium) (sym (writes_same s t call same)) b.writes
 
-  -- Where its writes work on both, the call leaves the same store.
+  -- If its writes work on both, the call leaves the same store.
   worked_same : CallWorked s call x → CallWorked t call y → SameStore x y
   worked_same a b = record {
     medium = all_same_end (writes_of s call) s.medium t.medium x.medium y.medium same.medium a.writes (call_all b);

@@ -6,7 +6,7 @@ use Rattle.dfu_slots.specs.Units.{gate_room, IsWhole}
 use Rattle.dfu_slots.specs.Medium.{MediumState, Fuse}
 use Rattle.dfu_slots.specs.Layout.{Slot, slot, slot_size, capacity, OPEN, generation, next_generation, header_version, header_length, header, HasHeader}
 
--- How many bytes the gate and the header of a slot have each for themselves.
+-- How many bytes the gate and the header of a slot take up each.
 abbrev pub gate_of : MediumState → ℕ
 gate_of m = gate_room m.grain
 
@@ -25,7 +25,7 @@ pub record IsSized (m : MediumState) : Type 0 where
   pub bound : capacity (gate_room m.grain) m.bytes ≤ 2 ^ 24
   pub whole : IsWhole m.grain (capacity (gate_room m.grain) m.bytes)
 
--- A slot counts where its gate is open and its header, if that is of version 2, is well formed with the length in it.
+-- A slot counts if its gate is open and its header, if that is of version 2, is well formed with the length in it.
 pub record Counts (s : Slot) : Type 0 where
   pub is_open : s.gate ≡ OPEN
   pub intact : header_version s ≡ 2 → HasHeader s (header_length s)
@@ -62,7 +62,7 @@ active_fused m fuse image active = record {
   image_is = active.image_is;
 }
 
--- Nor does it whether there is one.
+-- Nor does it matter for whether there is one.
 pub has_image_fused : (m : MediumState) (fuse : Fuse) → HasImage m → HasImage (record m { fuse = fuse })
 has_image_fused m fuse has = record { image = has.image; active = active_fused m fuse has.image has.active }
 
@@ -86,14 +86,14 @@ is_newest mine other = counts mine && (not (counts other) || (generation mine ==
 abbrev pub first_is_active : ℕ → List ℕ → Bool
 first_is_active g bytes = is_newest (slot g bytes 0) (slot g bytes (slot_size bytes))
 
--- Where the active slot stands.
+-- Where the active slot begins.
 abbrev pub active_at : ℕ → List ℕ → ℕ
 active_at g bytes = if first_is_active g bytes then 0 else slot_size bytes
 
--- Where the spare slot stands.
+-- Where the spare slot begins.
 abbrev pub spare_at : ℕ → List ℕ → ℕ
 spare_at g bytes = if first_is_active g bytes then slot_size bytes else 0
 
--- What stands in the spare slot.
+-- What is in the spare slot.
 abbrev pub spare : ℕ → List ℕ → Slot
 spare g bytes = slot g bytes (spare_at g bytes)

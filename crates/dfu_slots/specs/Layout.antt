@@ -1,5 +1,5 @@
--- Where the two slots of a medium stand, and what stands in them.
--- The gate and the header have `g` bytes each for themselves, at least 16.
+-- Where the two slots of a medium are, and what is in them.
+-- The gate and the header take up `g` bytes each, at least 16.
 use Rattle.std.specs.Prelude.{◌≡◌, ◌⊎◌, ℕ, ◌+◌, ◌-◌, ◌*◌, ◌/◌, ◌%◌, ◌≤◌, List, ◌∷◌, ◌++◌, length, take, drop, replicate, slice_index, slice_range}
 use Rattle.std.specs.Int.{w32, to_le_bytes, from_le_bytes}
 use Rattle.dfu_suffix.specs.Register.{register}
@@ -16,7 +16,7 @@ capacity g bytes = slot_size bytes - 2 * g
 abbrev pub ArePlaces : List ℕ → ℕ → ℕ → Type 0
 ArePlaces bytes at other = ((at ≡ 0) × (other ≡ slot_size bytes)) ⊎ ((at ≡ slot_size bytes) × (other ≡ 0))
 
--- What stands in a slot: the gate, the 16 bytes of the header, the data.
+-- What is in a slot: the gate, the 16 bytes of the header, the data.
 pub record Slot : Type 0 where
   pub gate : ℕ
   pub header : List ℕ
@@ -50,7 +50,7 @@ next_generation gen = (gen + 1) % 256
 abbrev pub header_version : Slot → ℕ
 header_version s = slice_index s.header 1
 
--- The length that stands in a slot's header.
+-- The length in a slot's header.
 abbrev pub header_length : Slot → ℕ
 header_length s = from_le_bytes w32 (take 4 (drop 4 s.header))
 

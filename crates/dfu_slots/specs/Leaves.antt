@@ -1,4 +1,4 @@
--- What each call that changes a store leaves, whatever it answers.
+-- What each call that changes a store leaves, whatever it returns.
 use Rattle.std.specs.Prelude.{◌≡◌, ◌⊎◌, ◌↔◌, ℕ, ◌+◌, ◌≤◌, ◌<◌, Bool, true, false, List, ◌++◌, length, take, Result, OnOk, OnErr, IsErrOf}
 use Rattle.dfu_slots.specs.declared.fault.PutFault.{PutFault}
 use Rattle.dfu_slots.specs.declared.fault.PutFault.TheVariants.{TooLarge, NotBegun}
@@ -23,19 +23,19 @@ reach (Commit len) = len
 
 -- When a call is refused: NotBegun is looked for first, and then TooLarge.
 pub record Refuses {T : Type 0} (s : SlotsState) (kind : Call) (result : Result T PutFault) : Type 0 where
-  -- NotBegun comes exactly where the spare's gate is not as the call needs it.
+  -- NotBegun comes exactly if the spare's gate is not as the call needs it.
   pub not_begun : IsErrOf result NotBegun ↔ (is_ready s kind ≡ false)
-  -- TooLarge comes exactly where the gate is as it should be, and the call goes past the room.
+  -- TooLarge comes exactly if the gate is as it should be, and the call goes past the room.
   pub too_large : IsErrOf result TooLarge ↔ ((is_ready s kind ≡ true) × (room_of s < reach kind))
 
 -- What `begin`, `put` and `commit` all leave.
 pub record CallLeaves {T : Type 0} (old : SlotsState) (kind : Call) (result : Result T PutFault) (now : SlotsState) : Type 0 where
   pub refuses : Refuses old kind result
-  -- A call that is not refused made all its writes, or was broken off by the fault that it answers.
+  -- A call that is not refused made all its writes, or was broken off by the fault that it returns.
   pub call : is_ready old kind ≡ true → reach kind ≤ room_of old → DidCall old kind (ending_of result) now
-  -- Its answer tells which writes it made; a refusal changes nothing.
+  -- Its result shows which writes it made; a refusal changes nothing.
   pub writes : Changes old kind result now
-  -- Failed and NotVerified come only where the medium's count of failures rose, or stands at its last value.
+  -- Failed and NotVerified come only if the medium's count of failures rose, or is at its last value.
   pub rose : IsBroken result → Rose old.medium.failures now.medium.failures
   -- After them nothing is held back, and the puts end at 0.
   pub failed : IsBroken result → now ≡ store_on now.medium
@@ -48,14 +48,14 @@ pub record CallLeaves {T : Type 0} (old : SlotsState) (kind : Call) (result : Re
 -- What `begin` leaves.
 pub record BeginLeaves {T : Type 0} (old : SlotsState) (result : Result T PutFault) (now : SlotsState) : Type 0 where
   pub common : CallLeaves old Begin result now
-  -- It answers no other error than Failed and NotVerified.
+  -- It returns no other error than Failed and NotVerified.
   pub fault : OnErr result (IsBroken result)
   -- The active image stays.
   pub image : image_of now ≡ image_of old
-  -- Whatever it answers, nothing is held back, and the puts end at 0.
+  -- Whatever it returns, nothing is held back, and the puts end at 0.
   pub fresh : now ≡ store_on now.medium
   pub end : now.put_end ≡ 0
-  -- Ok leaves the spare's gate closed, and its data as it stands on the medium.
+  -- Ok leaves the spare's gate closed, and its data as it is on the medium.
   pub shut : OnOk result (is_begun now ≡ true)
   pub spare : OnOk result (spare_of now ≡ (spare_slot old).data_bytes)
 
@@ -65,7 +65,7 @@ pub record PutLeaves {T : Type 0} (old : SlotsState) (at : ℕ) (bytes : List �
   pub common : CallLeaves old (Put at bytes) result now
   -- The active image stays.
   pub image : image_of now ≡ image_of old
-  -- Ok leaves exactly the bytes at their place in the spare's data, behind what was put before, and the puts end behind them.
+  -- Ok leaves exactly the bytes at their place in the spare's data, after what was put before, and the puts end after them.
   pub front : OnOk result (take (at + length bytes) (spare_of now) ≡ take at (spare_of old) ++ bytes)
   -- On a medium without sectors it leaves the rest of the data as it was.
   pub spare : OnOk result (old.medium.grain.sector ≡ 0 → spare_of now ≡ written (spare_of old) at bytes)

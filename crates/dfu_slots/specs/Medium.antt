@@ -6,14 +6,14 @@ use Rattle.dfu_slots.specs.declared.fault.WriteFault.TheVariants.{Failed, NotVer
 
 -- What the next writes of a medium will do.
 pub data Fuse : Type 0 where
-  -- Nothing is known: any write may fail.
+  -- The fuse is unknown: any write may fail.
   Unknown : Fuse
   -- No write fails.
   Whole : Fuse
   -- So many writes work, and then one fails and leaves the front of this tear;
   -- with `stop` every later one fails too, else none.
   Armed : (writes : ℕ) (tear : List ℕ) (stop : Bool) → Fuse
-  -- So many writes work, and then one lies: it answers Ok and leaves the front of this tear. The later ones work.
+  -- So many writes work, and then one lies: it returns Ok and leaves the front of this tear. The later ones work.
   Lying : (writes : ℕ) (tear : List ℕ) → Fuse
   -- Every write fails and leaves nothing.
   Stopped : Fuse
@@ -26,11 +26,11 @@ pub record MediumState : Type 0 where
   pub grain : Grain
   pub tag : List ℕ
 
--- A medium of so many bytes FFh, which no write has failed on, and none will.
+-- A medium of so many bytes FFh, on which no write has failed, and none will.
 abbrev pub blank_medium : Grain → ℕ → MediumState
 blank_medium grain len = record { bytes = replicate len 255; failures = 0; fuse = Whole; grain = grain; tag = [] }
 
--- These bytes stand in place of those from `at` on.
+-- These bytes take the place of those from `at` on.
 abbrev pub written : List ℕ → ℕ → List ℕ → List ℕ
 written old at new = take at old ++ new ++ drop (at + length new) old
 
@@ -38,11 +38,11 @@ written old at new = take at old ++ new ++ drop (at + length new) old
 abbrev pub IsBlank : List ℕ → ℕ → ℕ → Type 0
 IsBlank bytes at n = slice_range bytes at (at + n) ≡ replicate n 255
 
--- From there on all bytes are erased up to the first sector that begins at the second place or behind it.
+-- From there on all bytes are erased up to the first sector that begins at the second place or after it.
 abbrev pub IsErased : ℕ → List ℕ → ℕ → ℕ → Type 0
 IsErased sector bytes at to = (p : ℕ) → at ≤ p → p < length bytes → ((q : ℕ) → to ≤ q → q ≤ p → q % sector ≢ 0) → slice_index bytes p ≡ 255
 
--- A medium without sectors may be written anywhere; else the bytes from there on have to be erased, up to the next sector's begin.
+-- A medium without sectors may be written anywhere; else the bytes from there on have to be erased, up to the beginning of the next sector.
 abbrev pub IsAhead : MediumState → ℕ → Type 0
 IsAhead m at = 0 < m.grain.sector → IsErased m.grain.sector m.bytes at at
 
@@ -50,21 +50,21 @@ IsAhead m at = 0 < m.grain.sector → IsErased m.grain.sector m.bytes at at
 abbrev pub IsWritable : MediumState → ℕ → ℕ → Type 0
 IsWritable m at n = 0 < m.grain.sector → (p : ℕ) → at ≤ p → p < at + n → slice_index m.bytes p ≡ 255
 
--- From `from` to `to` anything may stand now, and elsewhere the old bytes do.
+-- From `from` to `to` there may be any bytes now, and elsewhere there are the old ones.
 pub record KeepsOutside (from to : ℕ) (old now : List ℕ) : Type 0 where
   pub size : length now ≡ length old
   pub before : take from now ≡ take from old
   pub after : drop to now ≡ drop to old
 
--- A write was torn: anything stands in its range, and the old bytes elsewhere.
+-- A write was torn: its range has any bytes, and elsewhere there are the old ones.
 abbrev pub Torn : List ℕ → ℕ → List ℕ → List ℕ → Type 0
 Torn old at new left = KeepsOutside at (at + length new) old left
 
--- The count of failures rose, or stood at its last value and still does.
+-- The count of failures rose, or was at its last value and still is.
 abbrev pub Rose : ℕ → ℕ → Type 0
 Rose before now = max before (min (before + 1) (2 ^ 64 - 1)) ≤ now
 
--- The front of a tear stands at the front of the write's range.
+-- The front of a tear is at the front of the write's range.
 abbrev pub torn_by : List ℕ → ℕ → List ℕ → List ℕ → List ℕ
 torn_by old at new tear = written old at (take (length new) tear)
 
@@ -77,7 +77,7 @@ MayWork (Lying writes tear) old at new next = ((more : ℕ) × (writes ≡ more 
     ⊎ ((writes ≡ 0) × (torn_by old at new tear ≡ written old at new) × (next ≡ Whole))
 MayWork Stopped old at new next = ⊥
 
--- A write may fail with this fuse, or answer Ok and leave other bytes than its own; it leaves these bytes and that fuse.
+-- A write may fail with this fuse, or return Ok and leave other bytes than its own; it leaves these bytes and that fuse.
 abbrev pub MayFail : Fuse → WriteFault → List ℕ → ℕ → List ℕ → List ℕ → Fuse → Type 0
 MayFail Unknown fault old at new left next = next ≡ Unknown
 MayFail Whole fault old at new left next = ⊥
@@ -90,7 +90,7 @@ MayFail (Lying writes tear) NotVerified old at new left next =
 MayFail Stopped Failed old at new left next = (left ≡ old) × (next ≡ Stopped)
 MayFail Stopped NotVerified old at new left next = ⊥
 
--- A write worked: it answered Ok, and exactly its bytes stand there.
+-- A write worked: it returned Ok, and exactly its bytes are there.
 pub record WroteBytes (old : MediumState) (at : ℕ) (new : List ℕ) (now : MediumState) : Type 0 where
   pub bytes : now.bytes ≡ written old.bytes at new
   pub failures : old.failures ≤ now.failures
@@ -98,7 +98,7 @@ pub record WroteBytes (old : MediumState) (at : ℕ) (new : List ℕ) (now : Med
   pub grain : now.grain ≡ old.grain
   pub tag : now.tag ≡ old.tag
 
--- A write answered Failed, or it lied: it was torn, and the count rose.
+-- A write returned Failed, or it lied: it was torn, and the count rose.
 pub record FailedWrite (fault : WriteFault) (old : MediumState) (at : ℕ) (new : List ℕ) (now : MediumState) : Type 0 where
   pub bytes : Torn old.bytes at new now.bytes
   pub failures : Rose old.failures now.failures
@@ -106,7 +106,7 @@ pub record FailedWrite (fault : WriteFault) (old : MediumState) (at : ℕ) (new 
   pub grain : now.grain ≡ old.grain
   pub tag : now.tag ≡ old.tag
 
--- A write that answered Ok worked, or it lied.
+-- A write that returned Ok worked, or it lied.
 abbrev pub WroteOrLied : MediumState → ℕ → List ℕ → MediumState → Type 0
 WroteOrLied old at new now = WroteBytes old at new now ⊎ FailedWrite NotVerified old at new now
 

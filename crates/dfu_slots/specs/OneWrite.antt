@@ -82,7 +82,7 @@ module _ (old : List ℕ) (at : ℕ) (new : List ℕ) where
   not_both Stopped g h w l k a b = a
 
 module _ (w : Write) (s t x y : MediumState) (same : Same s t) where
-  -- Where the fuse is known on one, it is on the other.
+  -- If the fuse is known on one, it is on the other.
   known_on : IsKnown s.fuse → IsKnown t.fuse
   known_on k = subst IsKnown same.fuse k
 

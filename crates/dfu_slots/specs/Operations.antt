@@ -12,7 +12,7 @@ use Rattle.dfu_slots.specs.Medium.{Write}
 use Rattle.dfu_slots.specs.Layout.{OPEN}
 use Rattle.dfu_slots.specs.Writes.{erase_write, write_some}
 
--- The bytes of a source, where these are held back, this is the block, and this the header.
+-- The bytes of a source, given the bytes held back, the block and the header.
 abbrev pub source_of : Source → List ℕ → List ℕ → List ℕ → List ℕ
 source_of Joined held block header = held ++ block
 source_of Held held block header = held
@@ -49,7 +49,7 @@ op_place (Program at source skip len) = at
 abbrev pub close_ops : Grain → ℕ → List Op
 close_ops grain slot = (if grain.sector == 0 then Program slot Closed 0 (gate_size grain.unit) else Erase slot) ∷ []
 
--- Where what is held back belongs, of a slot that begins there.
+-- Where the bytes held back belong in a slot that begins there.
 abbrev pub held_from : Grain → ℕ → ℕ → ℕ → ℕ
 held_from grain slot end held = slot + 2 * gate_room grain + (end - held)
 

@@ -7,7 +7,7 @@ use Rattle.dfu_slots.specs.Layout.{Slot, slot, OPEN, capacity, header_length}
 use Rattle.dfu_slots.specs.Image.{gate_of, active_at, spare_at, spare}
 use Rattle.dfu_slots.specs.Writes.{begin_writes, put_writes, put_rest, part_writes, commit_writes, format_writes}
 
--- A slot store: the medium that it stands on, the bytes put that are held back, and where the puts since `begin` end.
+-- A slot store: its medium, the bytes put that are held back, and where the puts since `begin` end.
 pub record SlotsState : Type 0 where
   pub medium : MediumState
   pub held : List ℕ
@@ -25,15 +25,15 @@ store_on m = store_of m [] 0
 abbrev pub fused : SlotsState → Fuse → SlotsState
 fused s fuse = record s { medium = record s.medium { fuse = fuse } }
 
--- The store after its power was off: it stands over the same bytes, with this fuse, and what was put is forgotten.
+-- The store after its power was off: it has the same bytes, this fuse, and what was put is forgotten.
 abbrev pub store_restarted : SlotsState → Fuse → SlotsState
 store_restarted s fuse = store_on (record s.medium { fuse = fuse })
 
--- What stands in the active slot.
+-- What is in the active slot.
 abbrev pub active_slot : SlotsState → Slot
 active_slot s = slot (gate_of s.medium) s.medium.bytes (active_at (gate_of s.medium) s.medium.bytes)
 
--- What stands in the spare slot.
+-- What is in the spare slot.
 abbrev pub spare_slot : SlotsState → Slot
 spare_slot s = spare (gate_of s.medium) s.medium.bytes
 
@@ -116,7 +116,7 @@ abbrev pub Calls : SlotsState → Call → Ending → SlotsState → Type 0
 Calls old call AllWorked now = CallWorked old call now
 Calls old call (BrokenBy fault) now = CallFailed fault old call now
 
--- A call ended like this, and the count of failures rose where it was broken off.
+-- A call ended like this, and the count of failures rose if it was broken off.
 pub record DidCall (s : SlotsState) (call : Call) (ending : Ending) (now : SlotsState) : Type 0 where
   pub calls : Calls s call ending now
   pub count : s.medium.failures ≤ now.medium.failures

@@ -5,7 +5,7 @@ use Rattle.dfu_slots.specs.Medium.{IsAhead}
 use Rattle.dfu_slots.specs.Image.{capacity_of, HasImage}
 use Rattle.dfu_slots.specs.Seen.{SlotsState, held_at, data_place}
 
--- The puts end within a slot's data, what makes no whole unit of them is held, and behind the rest the sector is erased.
+-- The puts end within a slot's data, what makes no whole unit is held back, and after the rest the sector is erased.
 pub record HasPuts (s : SlotsState) : Type 0 where
   pub fits : s.put_end ≤ capacity_of s.medium
   pub part : length s.held ≡ s.put_end % unit_size s.medium.grain.unit

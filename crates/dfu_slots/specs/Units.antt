@@ -19,15 +19,15 @@ pub record Grain : Type 0 where
 abbrev pub in_place : WriteUnit → Grain
 in_place unit = record { unit = unit; sector = 0 }
 
--- The gate unit of a slot has 16 bytes, or as many as a unit where that is more; so has its header unit.
+-- The gate unit of a slot has 16 bytes, or as many as a unit if that is more; so has its header unit.
 abbrev pub gate_size : WriteUnit → ℕ
 gate_size unit = max 16 (unit_size unit)
 
--- So many bytes the gate of a slot has for itself, and its header as many: 16, a unit or a sector, whichever is most.
+-- So many bytes the gate of a slot takes up, and its header as many: 16, a unit or a sector, whichever is most.
 abbrev pub gate_room : Grain → ℕ
 gate_room grain = max (max 16 (unit_size grain.unit)) grain.sector
 
--- A place or a length is whole in a unit where it is a multiple of the unit's size.
+-- A place or a length is whole in a unit if it is a multiple of the unit's size.
 abbrev pub IsMultiple : WriteUnit → ℕ → Type 0
 IsMultiple unit n = n % unit_size unit ≡ 0
 

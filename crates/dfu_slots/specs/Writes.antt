@@ -21,7 +21,7 @@ abbrev pub write_anew : ℕ → ℕ → List ℕ → List Write
 write_anew sector at bytes =
     (if sector == 0 then [] else erases sector at (length bytes)) ++ record { at = at; bytes = bytes } ∷ []
 
--- So are these bytes, and no bytes in no write.
+-- So are these bytes, but no bytes mean no write.
 abbrev pub write_some : ℕ → ℕ → List ℕ → List Write
 write_some sector at bytes = if length bytes == 0 then [] else write_anew sector at bytes
 
@@ -29,17 +29,17 @@ write_some sector at bytes = if length bytes == 0 then [] else write_anew sector
 abbrev pub closed_gate : Grain → List ℕ
 closed_gate grain = if grain.sector == 0 then gate_unit (gate_size grain.unit) 0 else replicate grain.sector 255
 
--- `begin` closes the spare's gate where it is open.
+-- `begin` closes the spare's gate if it is open.
 abbrev pub begin_writes : Grain → List ℕ → List Write
 begin_writes grain bytes =
     let g = gate_room grain in
     if (spare g bytes).gate == OPEN then record { at = spare_at g bytes; bytes = closed_gate grain } ∷ [] else []
 
--- The unit that the held bytes begin is written by itself where `put` makes it full; so many bytes this write has.
+-- The unit that the held bytes begin is written by itself if `put` makes it full; so many bytes this write has.
 abbrev pub head_size : WriteUnit → List ℕ → List ℕ → ℕ
 head_size unit held bytes = if length held == 0 then 0 else min (unit_size unit) (whole_part unit (length (held ++ bytes)))
 
--- `put` writes the unit that the held bytes begin, where it is full now, and then all further whole units in one write.
+-- `put` writes the unit that the held bytes begin, if it is full now, and then all further whole units in one write.
 abbrev pub put_writes : Grain → ℕ → List ℕ → List ℕ → List Write
 put_writes grain at held bytes =
     let all = held ++ bytes in
@@ -51,7 +51,7 @@ put_writes grain at held bytes =
 abbrev pub put_rest : WriteUnit → List ℕ → List ℕ → List ℕ
 put_rest unit held bytes = let all = held ++ bytes in drop (whole_part unit (length all)) all
 
--- `commit` first writes the held bytes, filled up with zeros to a unit, and nothing where none are held.
+-- `commit` first writes the held bytes, filled up with zeros to a unit, and nothing if none are held.
 abbrev pub part_writes : Grain → ℕ → List ℕ → List Write
 part_writes grain at held = write_some grain.sector at (filled grain.unit held)
 

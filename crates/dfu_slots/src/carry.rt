@@ -27,7 +27,7 @@ fn byte_in(front: &[u8], back: &[u8], at: usize) -> u8
     if behind < back.len() { back[behind] } else { 0 }
 }
 
-/// The byte at this place of a source, where these are held back, this is the block, and this the header.
+/// The byte at this place of a source, given the bytes held back, the block and the header.
 pub fn byte_of(source: Source, held: &[u8], block: &[u8], header: &[u8; 16], at: usize) -> u8
     requires { at < length (source_of source held.now block.now header.now) + 256 }
     ensures { result ≡ slice_index (source_of source held.now block.now header.now ++ replicate 256 0) at }
@@ -84,7 +84,7 @@ fn write_gathered<M: Medium>(
     write_some(medium, at, &unit[..len])
 }
 
-// Writes bytes of what is held back and the block, with the erases before: those of the block alone where they lie.
+// Writes bytes of what is held back and the block, with the erases before: straight from the block if all of them lie there.
 fn write_joined<M: Medium>(
     medium: &mut M,
     at: u32,

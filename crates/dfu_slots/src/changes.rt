@@ -14,7 +14,7 @@ impl<M: Medium> Slots<M> {
     ///
     /// # Errors
     ///
-    /// `Failed` where the write failed; `NotVerified` where it answered Ok and other bytes were read back.
+    /// `Failed` if the write failed; `NotVerified` if it returned Ok and other bytes were read back.
     pub fn begin(&mut self) -> Result<(), PutFault>
         ensures { BeginLeaves self.old result self.new }
     {
@@ -24,7 +24,7 @@ impl<M: Medium> Slots<M> {
     /// Puts up to 4,096 bytes into the data of the spare slot, at `at`, where the puts before end (`put_end`).
     ///
     /// The bytes go to the medium as far as they make whole units, in at most two writes: first the unit that
-    /// bytes held back have begun, where it is full now, and then all further whole units in one. The rest,
+    /// bytes held back have begun, if it is full now, and then all further whole units in one. The rest,
     /// less than a unit, is held back until a later `put` or `commit`. On a medium that is written in bytes it
     /// is one write, and none for no bytes. Before each write it erases the sectors that begin in its range.
     ///
@@ -32,8 +32,8 @@ impl<M: Medium> Slots<M> {
     ///
     /// # Errors
     ///
-    /// `NotBegun` where the spare's gate reads open; `TooLarge` where the bytes end past the capacity;
-    /// `Failed` where a write failed, and `NotVerified` where one answered Ok and other bytes were read back. They are
+    /// `NotBegun` if the spare's gate reads open; `TooLarge` if the bytes end past the capacity;
+    /// `Failed` if a write failed, and `NotVerified` if one returned Ok and other bytes were read back. They are
     /// looked for in this order. The first two change nothing; after the others what was put is forgotten, and `put_end` is 0.
     pub fn put(&mut self, at: u32, bytes: &[u8]) -> Result<(), PutFault>
         requires place { at ≡ self.old.put_end }
@@ -48,13 +48,13 @@ impl<M: Medium> Slots<M> {
     /// with sectors the header's and the gate's are erased before each is written.
     ///
     /// After `Failed` and `NotVerified` the active image is the old one or the whole new one; `active_len` and
-    /// `read_active` tell which.
+    /// `read_active` show which.
     ///
     /// # Errors
     ///
-    /// `NotBegun` where the spare's gate reads open, with nothing changed; `Failed` where a write failed, and `NotVerified`
-    /// where one answered Ok and other bytes were read back. `TooLarge` does not come: what was put lies within the
-    /// capacity. But for `NotBegun`, what was put is forgotten, and `put_end` is 0.
+    /// `NotBegun` if the spare's gate reads open, with nothing changed; `Failed` if a write failed, and `NotVerified`
+    /// if one returned Ok and other bytes were read back. `TooLarge` does not come: what was put lies within the
+    /// capacity. Except after `NotBegun`, what was put is forgotten, and `put_end` is 0.
     pub fn commit(&mut self, len: u32) -> Result<(), PutFault>
         requires { len ≤ self.old.put_end }
         ensures { CommitLeaves self.old len result self.new }

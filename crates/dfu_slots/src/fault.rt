@@ -19,7 +19,7 @@ pub enum FormatFault {
 
 /// Why `open` gave the medium back, unchanged. It looks for them in this order.
 ///
-/// A slot counts where its gate is open and, if its header is of version 2, that header is well formed: its zero
+/// A slot counts if its gate is open and, if its header is of version 2, that header is well formed: its zero
 /// bytes are 0, its length is at most C, and its register is that of so many bytes from the front of the slot's data.
 #[derive(Clone, Copy, Debug, PartialEq, Eq, Drop, Error)]
 pub enum OpenFault {
@@ -33,8 +33,8 @@ pub enum OpenFault {
     /// Both slots count, and neither generation is the other's plus 1 modulo 256.
     #[error("two slots of the medium have an image, and neither follows the other")]
     TwoImages,
-    /// The active slot's header is of another version than 1 and 2; or it is of version 1 and has a byte other
-    /// than 0 where zero is due, or a length over C.
+    /// The active slot's header is neither of version 1 nor of version 2; or it is of version 1 and has a byte other
+    /// than 0 where a zero belongs, or a length over C.
     #[error("the header of the active slot is not well formed")]
     BadHeader,
 }
@@ -42,9 +42,9 @@ pub enum OpenFault {
 /// How a write of the store went wrong.
 #[derive(Clone, Copy, Debug, PartialEq, Eq, Drop)]
 pub enum WriteFault {
-    /// The medium answered that it failed.
+    /// The medium reported that it failed.
     Failed,
-    /// The medium answered that it worked, and other bytes stand there.
+    /// The medium reported success, and other bytes are there.
     NotVerified,
 }
 
@@ -52,19 +52,19 @@ pub enum WriteFault {
 #[derive(Clone, Copy, Debug, PartialEq, Eq, Drop, Error)]
 pub enum PutFault {
     /// What was to be put ends past the capacity, and the spare's gate is closed.
-    /// Nothing was written. Only `put` answers it: what was put lies within the capacity.
+    /// Nothing was written. Only `put` returns it: what was put lies within the capacity.
     #[error("the image is longer than a slot's data")]
     TooLarge,
     /// A write to the medium failed. The active image is as it was; after `commit`
     /// it is that one or the whole new one. What was put is forgotten, and `put_end` is 0.
     #[error("a write to the medium failed")]
     Failed,
-    /// A write to the medium answered that it worked, and other bytes were read back. The medium's count of failures rose.
+    /// The medium reported success of a write, and other bytes were read back. The medium's count of failures rose.
     /// All else is as after `Failed`.
     #[error("a write to the medium is not there")]
     NotVerified,
     /// The spare's gate reads open, so it may hold the image before this one: `begin` comes first.
-    /// Nothing was written. It is looked for before `TooLarge`, and `begin` never answers it.
+    /// Nothing was written. It is looked for before `TooLarge`, and `begin` never returns it.
     #[error("the spare slot was not begun")]
     NotBegun,
 }

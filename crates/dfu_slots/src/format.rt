@@ -1,4 +1,4 @@
-//! Formatting a medium: an image goes into the first slot, whatever stood on the medium.
+//! Formatting a medium: an image goes into the first slot, whatever was on the medium.
 ghost use Rattle.std.specs.Prelude.{◌≤◌, ◌+◌, ◌++◌, [], length, take, replicate};
 ghost use Rattle.dfu_slots.specs.inside.Carry.{MayWrite, MayWritePiece};
 ghost use Rattle.dfu_slots.specs.inside.Series.{Series};
@@ -18,7 +18,7 @@ use crate::sequence::{PIECE, Sequence};
 use crate::writes::write_some;
 use crate::{Medium, WriteFault};
 
-// Writes these bytes and zeros after them: at most 4,096 together, of which at most 256 are zeros.
+// Writes these bytes and zeros after them: at most 4,096 together, at most 256 of them zeros.
 #[inline(never)]
 fn write_padded<M: Medium>(
     medium: &mut M,
@@ -59,7 +59,7 @@ fn write_part<M: Medium>(
     write_some(medium, at, &image[skip..skip + len])
 }
 
-// Carries out the operation of the piece of an image that begins there in it.
+// Carries out the operation of the piece that begins there in an image.
 fn write_piece<M: Medium>(medium: &mut M, image: &[u8], from: u32) -> Result<(), WriteFault>
     requires { MayWritePiece (M.state medium.old) image.now from }
     ensures { let was = M.state medium.old in

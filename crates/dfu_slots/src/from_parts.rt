@@ -1,17 +1,18 @@
-//! A store is taken apart, and put together again: for a caller who keeps its parts between two calls.
+//! A store is taken apart, and put together again: for a caller that keeps its parts between two calls.
 ghost use Rattle.std.specs.Prelude.{◌≡◌, ◌+◌, ◌≤◌, ◌↔◌, ℕ, List, length, IsOk, IfOk, IfErr, IsTrue};
 ghost use Rattle.dfu_slots.specs.Layout.{slot_size};
-ghost use Rattle.dfu_slots.specs.Image.{gate_of, capacity_of, spare_at, IsSized};
+ghost use Rattle.dfu_slots.specs.Image.{gate_of, capacity_of, active_at, spare_at, IsSized, HasImage};
 ghost use Rattle.dfu_slots.specs.Medium.{IsAhead};
 ghost use Rattle.dfu_slots.specs.Seen.{store_of};
 ghost use Rattle.dfu_slots.specs.Store.{HasPuts, IsStore};
 
+use crate::places::Places;
 use crate::puts::Puts;
 use crate::read::{byte_at, capacity_of, data_at};
 use crate::{Medium, Slots, open};
 use arrayvec::ArrayVec;
 
-// Whether the bytes from there on are erased up to the sector that begins next, where there are sectors.
+// Whether the bytes from there on are erased up to the sector that begins next, if there are sectors.
 fn is_ahead<M: Medium>(medium: &M, at: u32) -> bool
     requires { at ≤ length (M.state medium.now).bytes }
     ensures { IsTrue result ↔ IsAhead (M.state medium.now) at }
@@ -34,7 +35,7 @@ fn is_ahead<M: Medium>(medium: &M, at: u32) -> bool
     true
 }
 
-/// Whether as many bytes are held back, `held`, as puts that end there leave, and the sector is erased behind what was written.
+/// Whether as many bytes are held back, `held`, as puts that end there leave, and the sector is erased after what was written.
 /// The spare begins at `spare`.
 pub fn has_puts<M: Medium>(medium: &M, held: usize, end: u32, spare: u32) -> bool
     requires sized { IsSized (M.state medium.now) }
@@ -48,6 +49,31 @@ pub fn has_puts<M: Medium>(medium: &M, held: usize, end: u32, spare: u32) -> boo
         return false;
     }
     is_ahead(medium, data_at(medium, spare) + (end - held as u32))
+}
+
+/// Puts a store together of its parts, if the puts are as they should be, or else hands the medium back as it was. The slots of
+/// the medium, which has an active image, are at `places`.
+pub(crate) fn put_together<M: Medium>(
+    medium: M,
+    held: ArrayVec<u8, 256>,
+    end: u32,
+    places: Places,
+) -> Result<Slots<M>, M>
+    requires image { HasImage (M.state medium) }
+    requires active { places.active ≡ active_at (gate_of (M.state medium)) (M.state medium).bytes }
+    requires spare { places.spare ≡ spare_at (gate_of (M.state medium)) (M.state medium).bytes }
+    ensures puts { IsOk result ↔ HasPuts (store_of (M.state medium) held.items end) }
+    ensures store { IfOk result (λ slots. slots ≡ store_of (M.state medium) held.items end) }
+    ensures err { IfErr result (λ m. m ≡ medium) }
+{
+    if !has_puts(&medium, held.len(), end, places.spare) {
+        return Err(medium);
+    }
+    Ok(Slots {
+        medium,
+        puts: Puts { held, end },
+        places,
+    })
 }
 
 impl<M: Medium> Slots<M> {
@@ -75,30 +101,22 @@ impl<M: Medium> Slots<M> {
         self.puts.held.as_slice()
     }
 
-    /// Puts a store together of a medium, the bytes held back, and where the puts end. They are a store's exactly where
+    /// Puts a store together of a medium, the bytes held back, and where the puts end. They are a store's exactly if
     /// the medium has an active image, the end is at most the capacity, as many bytes are held back as the end is
-    /// over a multiple of the unit, and, with sectors, those behind what was written are FFh up to the next sector. Of each open slot of
+    /// over a multiple of the unit, and, with sectors, those after what was written are FFh up to the next sector. Of each open slot of
     /// version 2 it reads the whole image. It writes nothing.
     ///
     /// # Errors
     ///
-    /// The medium as it was, exactly where they are not.
+    /// The unchanged medium, exactly if they are not.
     pub fn from_parts(medium: M, held: ArrayVec<u8, 256>, end: u32) -> Result<Slots<M>, M>
         ensures parts { IsOk result ↔ IsStore (store_of (M.state medium) held.items end) }
         ensures store { IfOk result (λ slots. slots ≡ store_of (M.state medium) held.items end) }
         ensures err { IfErr result (λ m. m ≡ medium) }
     {
-        let places = match open::check(&medium) {
-            Ok(places) => places,
-            Err(_) => return Err(medium),
-        };
-        if !has_puts(&medium, held.len(), end, places.spare) {
-            return Err(medium);
+        match open::check(&medium) {
+            Ok(places) => put_together(medium, held, end, places),
+            Err(_) => Err(medium),
         }
-        Ok(Slots {
-            medium,
-            puts: Puts { held, end },
-            places,
-        })
     }
 }

@@ -1,4 +1,4 @@
-//! What stands in a header that was read.
+//! What is in a header that was read.
 ghost use Rattle.std.specs.Prelude.{◌≡◌, ◌≤◌, ◌↔◌, get_or, take, drop, IsTrue};
 ghost use Rattle.std.specs.Int.{w32, from_le_bytes};
 ghost use Rattle.dfu_slots.specs.Layout.{header};
@@ -17,7 +17,7 @@ pub(crate) fn register_in(header: &[u8; 16]) -> u32
     u32::from_le_bytes([header[8], header[9], header[10], header[11]])
 }
 
-// The last four bytes, of which each header has zeros.
+// The last four bytes, which are zeros in every header.
 fn rest_in(header: &[u8; 16]) -> u32
     ensures { result ≡ from_le_bytes w32 (take 4 (drop 12 header.now)) }
 {

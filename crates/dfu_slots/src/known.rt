@@ -1,17 +1,16 @@
-//! Which slot is active is known beforehand: for a caller who keeps it between two calls. No image is read.
+//! Which slot is active is known beforehand: for a caller that keeps it between two calls. No image is read.
 ghost use Rattle.std.specs.Prelude.{◌≡◌, ◌+◌, ◌≤◌, ◌↔◌, length, not, IsTrue, IsOk, IfOk, IfErr, OnOk, IsSome, IfSome, OnSome};
 ghost use Rattle.dfu_slots.specs.Layout.{slot_size};
 ghost use Rattle.dfu_slots.specs.Image.{gate_of, IsSized, slot_of, first_is_active, active_at, spare_at, HasImage};
 ghost use Rattle.dfu_slots.specs.Seen.{store_of};
 ghost use Rattle.dfu_slots.specs.Store.{HasPuts, IsStore};
-ghost use Rattle.dfu_slots.specs.Known.{CountsUnread, MayCount, IsNewestUnread, slot_place, IsActiveUnread};
+ghost use Rattle.dfu_slots.specs.Known.{CountsUnread, MayCount, IsNewestUnread, IsActiveUnread};
 
-use crate::from_parts::has_puts;
+use crate::from_parts::put_together;
 use crate::header::{is_formed, register_in};
 use crate::layout::{OLD_VERSION, VERSION};
 use crate::open::is_sized;
-use crate::places::Places;
-use crate::puts::Puts;
+use crate::places::{Places, places_of};
 use crate::read::{capacity_of, generation, header_of, is_open};
 use crate::{Medium, Slots};
 use arrayvec::ArrayVec;
@@ -22,10 +21,7 @@ fn counts_unread<M: Medium>(medium: &M, at: u32) -> bool
     requires within { at + slot_size (M.state medium.now).bytes ≤ length (M.state medium.now).bytes }
     ensures { IsTrue result ↔ CountsUnread (slot_of (M.state medium.now) at) }
 {
-    if !is_open(medium, at) {
-        return false;
-    }
-    is_formed(&header_of(medium, at), capacity_of(medium), OLD_VERSION, 0)
+    is_open(medium, at) && is_formed(&header_of(medium, at), capacity_of(medium), OLD_VERSION, 0)
 }
 
 // Whether the slot that begins there is open, and its header, if that is of version 2, well formed but for the register.
@@ -58,26 +54,7 @@ fn is_newest_unread<M: Medium>(medium: &M, mine: u32, other: u32) -> bool
         || !may_count(medium, other)
 }
 
-// Where the slots stand, if the first one or else the second one is active.
-fn places_of<M: Medium>(medium: &M, first: bool) -> Places
-    ensures active { result.active ≡ slot_place first (M.state medium.now).bytes }
-    ensures spare { result.spare ≡ slot_place (not first) (M.state medium.now).bytes }
-{
-    let second = medium.len() / 2;
-    if first {
-        Places {
-            active: 0,
-            spare: second,
-        }
-    } else {
-        Places {
-            active: second,
-            spare: 0,
-        }
-    }
-}
-
-// Where the slots stand, if the named one is the active one by gates and headers alone.
+// Where the slots are, if gates and headers show that the named one is active.
 fn find_known<M: Medium>(medium: &M, first: bool) -> Option<Places>
     ensures known { IsSome result ↔ IsActiveUnread (M.state medium.now) first }
     ensures has_image { OnSome result (HasImage (M.state medium.now)) }
@@ -105,15 +82,15 @@ impl<M: Medium> Slots<M> {
     }
 
     /// Puts a store together of a medium, the bytes held back, where the puts end, and which slot is active: the first or
-    /// the second one. It does what `from_parts` does, reads the gates and headers alone, and writes nothing.
+    /// the second one. It does what `from_parts` does, reads only the gates and headers, and writes nothing.
     ///
-    /// It is Ok exactly where the parts are a store's, and gates and headers alone tell that the named slot is active:
+    /// It is Ok exactly if the parts are a store's, and gates and headers show that the named slot is active:
     /// it is open, with a well-formed header of version 1, and the other slot is closed, or has a header of version 2
     /// that no register makes well formed, or is one generation behind.
     ///
     /// # Errors
     ///
-    /// The medium as it was, exactly where it is not so. The parts may be a store's even then: `from_parts` tells.
+    /// The unchanged medium, exactly if it is not so. The parts may be a store's even then: `from_parts` decides it.
     pub fn from_known(
         medium: M,
         held: ArrayVec<u8, 256>,
@@ -127,17 +104,9 @@ impl<M: Medium> Slots<M> {
         ensures first { OnOk result (first ≡ first_is_active (gate_of (M.state medium)) (M.state medium).bytes) }
         ensures err { IfErr result (λ m. m ≡ medium) }
     {
-        let places = match find_known(&medium, first) {
-            Some(places) => places,
-            None => return Err(medium),
-        };
-        if !has_puts(&medium, held.len(), end, places.spare) {
-            return Err(medium);
+        match find_known(&medium, first) {
+            Some(places) => put_together(medium, held, end, places),
+            None => Err(medium),
         }
-        Ok(Slots {
-            medium,
-            puts: Puts { held, end },
-            places,
-        })
     }
 }

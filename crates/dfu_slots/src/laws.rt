@@ -1,5 +1,5 @@
 //! Laws of the slot store. Each is the contract of a function with an empty body, which is proved and
-//! not to be called for what it does. A function above calls one for its law alone, as dfu_link does.
+//! not to be called for what it does. A function above calls one only for its law, as dfu_link does.
 
 ghost use Rattle.std.specs.Prelude.{◌≡◌, ◌≤◌, ◌+◌, ◌*◌, ℕ, List, [], ◌∷◌, ◌++◌, length, take, drop};
 ghost use Rattle.dfu_slots.specs.declared.unit.Unit.{Unit as WriteUnit};
@@ -52,7 +52,7 @@ pub fn operations_are_the_writes()
 {}
 
 /// A medium whose fuse is whole (as `SimMedium::new` and `disarm` leave it) fails no write and no call, and lies in none,
-/// whatever they are, and stays so. Of a medium whose fuse is unknown nothing is said.
+/// whatever they are, and stays so. It says nothing about a medium whose fuse is unknown.
 pub fn unarmed_never_fails()
     ensures writes { (writes : List Write) (old now : MediumState) →
         old.fuse ≡ Whole → (fault : WriteFault) → ¬ BrokenWrites fault old writes now }
@@ -64,7 +64,7 @@ pub fn unarmed_never_fails()
         old.medium.fuse ≡ Whole → Called old calls AllWorked now → now.medium.fuse ≡ Whole }
 {}
 
-/// From the same store the same calls end alike, where the fuse is known: all their writes work on both or they are broken off by the
+/// From the same store the same calls end alike, if the fuse is known: all their writes work on both or they are broken off by the
 /// same fault, and leave the same store (the same bytes, fuse and grain, the same bytes held back, the same end of the puts).
 pub fn same_bytes_same_end()
     ensures outcome { (calls : List Call) (e d : Ending) (a b x y : SlotsState) →

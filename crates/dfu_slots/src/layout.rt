@@ -29,14 +29,14 @@ pub(crate) fn gate_size(unit: Unit) -> u32
     HEADER_SIZE.max(unit.size())
 }
 
-/// The version of a header that is written. In it stands the register over the image.
+/// The version of a header that is written. It has the register over the image.
 pub const VERSION: u8 = 2;
 
 /// The version of a header without a register, which is read and never written.
 pub const OLD_VERSION: u8 = 1;
 
 /// A header: generation, version, two zeros, the length, the register over the image, both in little-endian order,
-/// and four zeros. In version 1 zeros stand in place of the register.
+/// and four zeros. In version 1 zeros are in the place of the register.
 pub fn make_header(version: u8, generation: u8, len: u32, register: u32) -> [u8; 16]
     ensures { result ≡ header version generation len register }
 {
@@ -47,7 +47,7 @@ pub fn make_header(version: u8, generation: u8, len: u32, register: u32) -> [u8;
     ]
 }
 
-/// How many bytes the gate of a slot has for itself, and as many its header: a unit of at least 16, or a sector.
+/// How many bytes the gate of a slot takes up, and its header as many: a unit of at least 16, or a sector.
 pub(crate) fn gate_room(unit: Unit, sector: u32) -> u32
     ensures { result ≡ gate_room (record { unit = unit; sector = sector }) }
 {

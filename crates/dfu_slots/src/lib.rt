@@ -28,7 +28,7 @@ mod steps;
 mod unit;
 mod writes;
 
-// For a caller who reads a medium by itself, and knows which slot is active.
+// For a caller that reads a medium by itself, and knows which slot is active.
 pub use carry::byte_of;
 pub use fault::{FormatFault, OpenFault, PutFault, WriteFault};
 pub use from_parts::has_puts;

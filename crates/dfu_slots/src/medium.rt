@@ -16,11 +16,11 @@ pub struct Failed;
 /// Bytes that can be read, and written in units of 1, 16, 64 or 256 bytes: over older bytes, as FRAM, MRAM and EEPROM
 /// are, or once after an erase, as NOR flash is.
 ///
-/// A write must leave every byte outside its range as it was, also where it is torn, and an erase every byte outside its
-/// sector. So erasing within `write` is sound only where `unit` is a multiple of the part's erase unit. A part with larger
+/// A write must leave every byte outside its range as it was, also if it is torn, and an erase every byte outside its
+/// sector. So erasing within `write` is sound only if `unit` is a multiple of the part's erase unit. A part with larger
 /// sectors says so by `sector`: the store erases each before it writes in it, and writes no unit twice between two erases.
 pub trait Medium: Drop {
-    /// The bytes now, how often a write has failed, what is known of the next writes, the grain (unit and sector), and a tag
+    /// The bytes now, how often a write has failed, what is known about the next writes, the grain (unit and sector), and a tag
     /// that is always the same: what the tag says is for the implementer to choose.
     ghost state: { Self → MediumState };
 
@@ -28,7 +28,7 @@ pub trait Medium: Drop {
     fn len(&self) -> u32
         ensures { result ≡ length (state self.now).bytes };
 
-    /// In which unit it is written, always the same. It is read byte by byte.
+    /// The unit in which it is written, always the same. It is read byte by byte.
     fn unit(&self) -> Unit
         ensures { result ≡ (state self.now).grain.unit };
 
@@ -38,7 +38,7 @@ pub trait Medium: Drop {
         ensures { result ≡ (state self.now).grain.sector };
 
     /// Whether the register over its images goes by a table of 64 bytes, in over four times as many instructions, and not
-    /// by those of 8,192 bytes. It is the same register. A program all of whose media answer the constant `true` links
+    /// by those of 8,192 bytes. It is the same register. If all media of a program return the constant `true`, it links
     /// without the large tables.
     fn has_small_tables(&self) -> bool {
         false
@@ -49,13 +49,13 @@ pub trait Medium: Drop {
         requires { at + length out.old ≤ length (state self.now).bytes }
         ensures { out.new ≡ slice_range (state self.now).bytes at (at + length out.old) };
 
-    /// Writes over the bytes from `at` on, whatever stood there: on a medium with sectors all are FFh, and none was written since
+    /// Writes over the bytes from `at` on, whatever they were: on a medium with sectors all are FFh, and none was written since
     /// its sector was erased. The range must lie within the length, and `at` and the number of bytes must be multiples of the
     /// unit's size.
     ///
-    /// After Ok exactly `bytes` stand there; or the part lied: any bytes may stand there, and the count of failures rose.
-    /// After `Failed` any bytes may stand there, and the count rose (at its last value, 2^64 - 1, it stays; a medium
-    /// may say that it stands there always). All other bytes are as they were, also when the power goes within the write.
+    /// After Ok the range has exactly `bytes`; or the part lied: the range may have any bytes, and the count of failures rose.
+    /// After `Failed` the range may have any bytes, and the count rose (at its last value, 2^64 - 1, it stays; a medium
+    /// may say that its count is always there). All other bytes are as they were, also if the power fails during the write.
     fn write(&mut self, at: u32, bytes: &[u8]) -> Result<(), Failed>
         requires within { at + length bytes.now ≤ length (state self.old).bytes }
         requires place { IsMultiple (state self.old).grain.unit at }
@@ -65,7 +65,7 @@ pub trait Medium: Drop {
         ensures failed { OnErr result (FailedWrite WriteFault.Failed (state self.old) at bytes.now (state self.new)) };
 
     /// Erases the sector that begins at `at`: it writes FFh over it, and may fail or lie as `write` may. The sector must lie
-    /// within the length. Where there are no sectors, `at` is 0, and it changes no byte.
+    /// within the length. If there are no sectors, `at` is 0, and it changes no byte.
     fn erase(&mut self, at: u32) -> Result<(), Failed>
         requires within { at + (state self.old).grain.sector ≤ length (state self.old).bytes }
         requires place { at % (state self.old).grain.sector ≡ 0 }
@@ -75,7 +75,7 @@ pub trait Medium: Drop {
             FailedWrite WriteFault.Failed (state self.old) at (replicate (state self.old).grain.sector 255) (state self.new)) };
 }
 
-/// A medium that can be told which write is to fail or to lie, and what that write leaves.
+/// A medium that can be set to fail or to lie at a write, and what that write leaves.
 pub trait Faulty: Medium {
     /// The next `writes` writes work; the one after them fails and leaves the first bytes of `tear`
     /// at the front of its range, and the old bytes in the rest of it. Of `tear` at most 4,096 bytes are kept.
@@ -85,7 +85,7 @@ pub trait Faulty: Medium {
     fn arm(&mut self, writes: u32, tear: &[u8], stop: bool)
         ensures { Self.state self.new ≡ record (Self.state self.old) { fuse = Armed writes (take 4096 tear.now) stop } };
 
-    /// The next `writes` writes work; the one after them lies: it answers Ok, and leaves the first bytes of `tear` at the
+    /// The next `writes` writes work; the one after them lies: it returns Ok, and leaves the first bytes of `tear` at the
     /// front of its range, and the old bytes in the rest of it. Of `tear` at most 4,096 bytes are kept. Later writes work.
     ///
     /// It replaces an earlier `arm` or `arm_lie`, and changes no byte.

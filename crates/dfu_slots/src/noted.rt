@@ -8,7 +8,7 @@ use arrayvec::ArrayVec;
 pub enum WriteEnd {
     Worked,
     Failed,
-    /// The medium was armed to lie in it: it answered that it worked, whatever it left.
+    /// The medium was armed to lie in it: it reported success, whatever it left.
     Lied,
 }
 
@@ -60,7 +60,7 @@ impl LastWrites {
     }
 }
 
-/// How a write ended that answered so, by whether it was to lie.
+/// How a write with this result ended, by whether it was set to lie.
 pub(crate) fn ended(lies: bool, answer: Result<(), Failed>) -> WriteEnd {
     match answer {
         Ok(()) if lies => WriteEnd::Lied,

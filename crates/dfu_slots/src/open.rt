@@ -39,7 +39,7 @@ pub fn is_sized<M: Medium>(medium: &M) -> bool
         && is_whole(medium.unit(), sector, len / 2 - gates)
 }
 
-/// Where the slots of a medium stand that has an active image, or else the first fault of it.
+/// Where the slots of a medium with an active image are, or else its first fault.
 pub fn check<M: Medium>(medium: &M) -> Result<Places, OpenFault>
     ensures ok { OnOk result (HasImage (M.state medium.now)) }
     ensures active { IfOk result (λ p. p.active ≡ active_at (gate_of (M.state medium.now)) (M.state medium.now).bytes) }

@@ -23,7 +23,7 @@ pub enum Op {
         /// Where it begins.
         at: u64,
     },
-    /// Bytes are written, with an erase before of each sector that begins in their range. No bytes are written in no write.
+    /// Bytes are written, with an erase before of each sector that begins in their range. No bytes mean no write.
     Program {
         /// Where the first of them goes.
         at: u64,

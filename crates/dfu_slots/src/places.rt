@@ -1,12 +1,13 @@
-//! Where the active slot and the spare one stand.
+//! Where the active slot and the spare one are.
 ghost use Rattle.std.specs.Prelude.{◌≡◌, ◌+◌, ◌≤◌, ◌&&◌, not, length};
 ghost use Rattle.dfu_slots.specs.Layout.{slot_size};
 ghost use Rattle.dfu_slots.specs.Image.{gate_of, IsSized, slot_of, counts, is_newest, active_at, spare_at};
+ghost use Rattle.dfu_slots.specs.Known.{slot_place};
 
 use crate::Medium;
 use crate::read::{counts, generation};
 
-/// Where the active slot stands, and where the spare one does.
+/// Where the active slot and the spare one begin.
 #[derive(Clone, Copy, Drop)]
 pub struct Places {
     /// Where the active slot begins.
@@ -22,7 +23,7 @@ pub struct Counted {
     pub second: bool,
 }
 
-/// Which of the two slots count. Of an open slot of version 2 the whole image is read, once, for its register.
+/// Which of the two slots count. The whole image of an open slot of version 2 is read once, for its register.
 pub(crate) fn count_slots<M: Medium>(medium: &M) -> Counted
     requires { IsSized (M.state medium.now) }
     ensures first { result.first ≡ counts (slot_of (M.state medium.now) 0) }
@@ -60,16 +61,13 @@ fn is_newest<M: Medium>(
         && (!other_counts || generation(medium, mine) == generation(medium, other).wrapping_add(1))
 }
 
-/// Where the two slots stand; where neither is the newest, as if the second were.
-pub(crate) fn find_places<M: Medium>(medium: &M, counted: Counted) -> Places
-    requires sized { IsSized (M.state medium.now) }
-    requires first { counted.first ≡ counts (slot_of (M.state medium.now) 0) }
-    requires second { counted.second ≡ counts (slot_of (M.state medium.now) (slot_size (M.state medium.now).bytes)) }
-    ensures active { result.active ≡ active_at (gate_of (M.state medium.now)) (M.state medium.now).bytes }
-    ensures spare { result.spare ≡ spare_at (gate_of (M.state medium.now)) (M.state medium.now).bytes }
+/// Where the slots are, if the first one or else the second one is active.
+pub(crate) fn places_of<M: Medium>(medium: &M, first: bool) -> Places
+    ensures active { result.active ≡ slot_place first (M.state medium.now).bytes }
+    ensures spare { result.spare ≡ slot_place (not first) (M.state medium.now).bytes }
 {
     let second = medium.len() / 2;
-    if is_newest(medium, 0, second, counted.first, counted.second) {
+    if first {
         Places {
             active: 0,
             spare: second,
@@ -80,6 +78,19 @@ pub(crate) fn find_places<M: Medium>(medium: &M, counted: Counted) -> Places
             spare: 0,
         }
     }
+}
+
+/// Where the two slots are; if neither is the newest, as if the second were.
+pub(crate) fn find_places<M: Medium>(medium: &M, counted: Counted) -> Places
+    requires sized { IsSized (M.state medium.now) }
+    requires first { counted.first ≡ counts (slot_of (M.state medium.now) 0) }
+    requires second { counted.second ≡ counts (slot_of (M.state medium.now) (slot_size (M.state medium.now).bytes)) }
+    ensures active { result.active ≡ active_at (gate_of (M.state medium.now)) (M.state medium.now).bytes }
+    ensures spare { result.spare ≡ spare_at (gate_of (M.state medium.now)) (M.state medium.now).bytes }
+{
+    let second = medium.len() / 2;
+    let first = is_newest(medium, 0, second, counted.first, counted.second);
+    places_of(medium, first)
 }
 
 /// Whether the slot that was found to be the active one is the newest.
@@ -99,7 +110,7 @@ pub(crate) fn has_newest<M: Medium>(medium: &M, places: Places, counted: Counted
     }
 }
 
-/// Looks where the two slots stand.
+/// Finds which of the two slots is active.
 pub(crate) fn look<M: Medium>(medium: &M) -> Places
     requires { IsSized (M.state medium.now) }
     ensures active { result.active ≡ active_at (gate_of (M.state medium.now)) (M.state medium.now).bytes }

@@ -12,7 +12,7 @@ use crate::sequence::Sequence;
 use crate::{Medium, Unit, WriteFault};
 use arrayvec::ArrayVec;
 
-/// The puts since `begin`, of which the whole units are written and the rest is held back.
+/// The puts since `begin`. Their whole units are written, and the rest is held back.
 #[derive(Drop)]
 pub struct Puts {
     /// The bytes held back, fewer than a unit has.
@@ -67,8 +67,8 @@ pub(crate) fn hold_rest(held: &mut ArrayVec<u8, 256>, unit: Unit, bytes: &[u8])
     hold(held, &bytes[bytes.len() - rest..]);
 }
 
-/// Puts these bytes after those that are held, in the data of the slot that begins there, in which the puts end there: it writes
-/// the unit that the held bytes begin, where it is full now, and then all further whole units in one write, and holds the rest back.
+/// Puts these bytes after those that are held, in the data of the slot that begins there, at the end of the puts. It writes the unit
+/// that the held bytes begin, if it is full now, and then all further whole units in one write, and holds the rest back.
 pub(crate) fn put_units<M: Medium>(
     medium: &mut M,
     held: &mut ArrayVec<u8, 256>,

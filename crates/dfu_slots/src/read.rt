@@ -20,7 +20,7 @@ use crate::register::register_of;
 // How many bytes are read back at a time.
 const PIECE: usize = 256;
 
-/// The byte that stands there.
+/// The byte at this place.
 pub(crate) fn byte_at<M: Medium>(medium: &M, at: u32) -> u8
     requires { at < length (M.state medium.now).bytes }
     ensures { result ≡ slice_index (M.state medium.now).bytes at }
@@ -45,7 +45,7 @@ fn are_same(read: &[u8], piece: &[u8]) -> bool
     true
 }
 
-/// Whether exactly these bytes stand there. It reads them in pieces.
+/// Whether exactly these bytes are there. It reads them in pieces.
 pub(crate) fn stands_at<M: Medium>(medium: &M, at: u32, bytes: &[u8]) -> bool
     requires within { at + length bytes.now ≤ length (M.state medium.now).bytes }
     ensures { IsTrue result ↔ (slice_range (M.state medium.now).bytes at (at + length bytes.now) ≡ bytes.now) }
@@ -67,7 +67,7 @@ pub(crate) fn stands_at<M: Medium>(medium: &M, at: u32, bytes: &[u8]) -> bool
     true
 }
 
-/// How many bytes the gate of a slot has for itself, and as many its header: a unit of at least 16, or a sector.
+/// How many bytes the gate of a slot takes up, and its header as many: a unit of at least 16, or a sector.
 pub fn gate_of<M: Medium>(medium: &M) -> u32
     ensures { result ≡ gate_of (M.state medium.now) }
 {
@@ -133,7 +133,7 @@ pub fn generation<M: Medium>(medium: &M, at: u32) -> u8
     byte_at(medium, at + gate_of(medium))
 }
 
-/// The length in the header of a slot that counts, if that is a well-formed header of an image that fits. One of
+/// The length in the header of a slot that counts, if that is a well-formed header of an image that fits. A header of
 /// version 2 is, or the slot would not count.
 pub(crate) fn header_len<M: Medium>(medium: &M, at: u32) -> Option<u32>
     requires sized { IsSized (M.state medium.now) }
@@ -163,7 +163,7 @@ pub fn data_at<M: Medium>(medium: &M, slot_at: u32) -> u32
     slot_at + 2 * gate_of(medium)
 }
 
-/// Reads from the data of the slot that begins there.
+/// Reads bytes of the data of the slot that begins there, from `at` on.
 pub fn read_data<M: Medium>(medium: &M, slot_at: u32, at: u32, out: &mut [u8])
     requires sized { IsSized (M.state medium.now) }
     requires slot { slot_at + slot_size (M.state medium.now).bytes ≤ length (M.state medium.now).bytes }

@@ -53,7 +53,7 @@ pub(crate) fn register_of<M: Medium>(medium: &M, slot_at: u32, len: u32) -> u32
     crc_of(medium, slot_at, len).value()
 }
 
-/// The register over the first `len` bytes of what was put into the slot that begins there: so many of them stand in its data, and
+/// The register over the first `len` bytes of what was put into the slot that begins there: so many of them are in its data, and
 /// these are held back.
 pub(crate) fn register_of_put<M: Medium>(
     medium: &M,

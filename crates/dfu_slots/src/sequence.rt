@@ -1,4 +1,4 @@
-//! The operations of each change of a medium: whoever carries them out in their order has made its writes.
+//! The operations of each change of a medium: carried out in their order, they make its writes.
 ghost use Rattle.std.specs.Prelude.{◌≡◌, ◌^◌, ◌<◌, IfSome};
 ghost use Rattle.dfu_slots.specs.Operations.{op_at, op_place, held_from, close_ops, put_ops, commit_ops, image_ops, operations};
 
@@ -46,7 +46,7 @@ pub enum Sequence {
     },
 }
 
-// Where what is held back belongs, of a slot that begins there.
+// Where the bytes held back belong in a slot that begins there.
 fn held_from(unit: Unit, sector: u32, slot: u32, end: u32, held: u16) -> u64
     ensures value { result ≡ held_from (record { unit = unit; sector = sector }) slot end held }
     ensures small { result < 2 ^ 36 }
@@ -75,7 +75,7 @@ fn close_op(unit: Unit, sector: u32, slot: u32, index: usize) -> Option<Op>
     Some(Op::Erase { at })
 }
 
-// The operations of a put, of which the first byte goes there.
+// The operations of a put whose first byte goes there.
 fn put_op(unit: Unit, at: u64, held: u16, block: u16, index: usize) -> Option<Op>
     requires { at < 2 ^ 36 }
     ensures value { result ≡ op_at (put_ops unit at held block) index }
@@ -102,7 +102,7 @@ fn put_op(unit: Unit, at: u64, held: u16, block: u16, index: usize) -> Option<Op
     }
 }
 
-// The operations of a commit, of which what is held back goes there.
+// The operations of a commit whose held bytes go there.
 fn commit_op(unit: Unit, sector: u32, slot: u32, at: u64, held: u16, index: usize) -> Option<Op>
     requires { at < 2 ^ 36 }
     ensures value { result ≡ op_at (commit_ops (record { unit = unit; sector = sector }) slot at held) index }
@@ -150,7 +150,7 @@ fn image_op(unit: Unit, sector: u32, from: u32, image: u32, index: usize) -> Opt
 }
 
 impl Sequence {
-    /// The operation of this number, from 0 on, on a medium of this unit and of sectors of so many bytes, 0 if it has none. None
+    /// The operation of this number, from 0 on, on a medium with this unit and with sectors of so many bytes, 0 for none. `None`
     /// after the last one. A sequence has at most 3.
     pub fn operation(self, unit: Unit, sector: u32, index: usize) -> Option<Op>
         ensures value { result ≡ op_at (operations (record { unit = unit; sector = sector }) self) index }

@@ -1,5 +1,5 @@
 //! A medium in memory.
-ghost use Rattle.std.specs.Prelude.{◌≡◌, ◌+◌, ◌≤◌, length, take, if◌then◌else◌, IfOk, OnOk, OnErr};
+ghost use Rattle.std.specs.Prelude.{◌≡◌, ◌+◌, ◌-◌, ◌≤◌, ◌<◌, length, take, if◌then◌else◌, IfOk, OnOk, OnErr};
 ghost use Rattle.dfu_slots.specs.Units.{Grain, in_place, IsMultiple};
 ghost use Rattle.dfu_slots.specs.Medium.{WroteOrLied, FailedWrite, blank_medium, written};
 ghost use Rattle.dfu_slots.specs.inside.Sim.{sim_state};
@@ -52,7 +52,7 @@ impl SimFuse {
     }
 }
 
-/// A medium in memory that can be told to fail or to lie.
+/// A medium in memory that can be set to fail or to lie.
 #[derive(Drop)]
 pub struct SimMedium {
     bytes: Vec<u8>,
@@ -81,7 +81,7 @@ impl SimMedium {
     ///
     /// # Errors
     ///
-    /// `NoMemory` where there is no memory for the bytes.
+    /// `NoMemory` if there is no memory for the bytes.
     pub fn new(alloc: Global, len: u32) -> Result<SimMedium, NoMemory>
         ensures { IfOk result (λ medium. medium ≡ blank_medium (in_place (Unit.Byte)) len) }
     {
@@ -92,7 +92,7 @@ impl SimMedium {
     ///
     /// # Errors
     ///
-    /// `NoMemory` where there is no memory for the bytes.
+    /// `NoMemory` if there is no memory for the bytes.
     pub fn with_unit(alloc: Global, len: u32, unit: Unit) -> Result<SimMedium, NoMemory>
         requires { IsMultiple unit len }
         ensures { IfOk result (λ medium. medium ≡ blank_medium (in_place unit) len) }
@@ -105,7 +105,7 @@ impl SimMedium {
     ///
     /// # Errors
     ///
-    /// `NoMemory` where there is no memory for the bytes and a sector more.
+    /// `NoMemory` if there is no memory for the bytes and a sector more.
     pub fn with_sectors(
         alloc: Global,
         len: u32,
@@ -149,6 +149,17 @@ fn write_over(bytes: &mut Vec<u8>, at: usize, new: &[u8])
     bytes[at..at + new.len()].copy_from_slice(new);
 }
 
+// Writes these bytes there, as one of the writes that the fuse lets work.
+fn write_counted(bytes: &mut Vec<u8>, fuse: &mut SimFuse, at: usize, new: &[u8])
+    requires within { at + length new.now ≤ length bytes.old.items }
+    requires some { 0 < fuse.old.writes }
+    ensures bytes { bytes.new.items ≡ written bytes.old.items at new.now }
+    ensures fuse { fuse.new ≡ record fuse.old { writes = fuse.old.writes - 1 } }
+{
+    fuse.writes -= 1;
+    write_over(bytes, at, new);
+}
+
 // Writes as much of `tear` as a write of `len` bytes at `at` has room for.
 fn tear_front(bytes: &mut Vec<u8>, at: usize, tear: &[u8], len: usize)
     requires { at + len ≤ length bytes.old.items }
@@ -189,8 +200,7 @@ fn change(bytes: &mut Vec<u8>, fuse: &mut SimFuse, at: usize, new: &[u8]) -> Res
             Ok(())
         }
         Mode::Armed if fuse.writes > 0 => {
-            fuse.writes -= 1;
-            write_over(bytes, at, new);
+            write_counted(bytes, fuse, at, new);
             Ok(())
         }
         Mode::Armed => {
@@ -200,8 +210,7 @@ fn change(bytes: &mut Vec<u8>, fuse: &mut SimFuse, at: usize, new: &[u8]) -> Res
             Err(Failed)
         }
         Mode::Lying if fuse.writes > 0 => {
-            fuse.writes -= 1;
-            write_over(bytes, at, new);
+            write_counted(bytes, fuse, at, new);
             Ok(())
         }
         Mode::Lying => {

@@ -38,14 +38,14 @@ impl<M: Medium> Model for Slots<M> {
 }
 
 impl<M: Medium> Slots<M> {
-    /// Writes an image into the first slot, and makes it the active one, whatever stood on the medium.
+    /// Writes an image into the first slot, and makes it the active one, whatever was on the medium.
     ///
     /// # Errors
     ///
-    /// `WrongSize` where the medium's length is not 2 * (2 * G + C) with C from 1 to 16,777,216 and whole in
-    /// the unit and the sector, G being the most of 16, the unit's size and the sector's, or where the sector is not 0, nor a
-    /// multiple of 256 up to 131,072; `TooLarge` where the image has more than C bytes;
-    /// `Failed` where a write failed, or other bytes were read back. They are looked for in this order. The first two hand
+    /// `WrongSize` if the medium's length is not 2 * (2 * G + C) with C from 1 to 16,777,216 and whole in
+    /// the unit and the sector, G being the most of 16, the unit's size and the sector's, or if the sector is not 0, nor a
+    /// multiple of 256 up to 131,072; `TooLarge` if the image has more than C bytes;
+    /// `Failed` if a write failed, or other bytes were read back. They are looked for in this order. The first two hand
     /// the medium back unchanged.
     pub fn format(medium: M, image: &[u8]) -> Result<Slots<M>, (FormatFault, M)>
         ensures writes { IfOk result (λ slots.
@@ -88,7 +88,7 @@ impl<M: Medium> Slots<M> {
     ///
     /// # Errors
     ///
-    /// The first fault of the medium, in the order of `OpenFault`, with the medium as it was.
+    /// The first fault of the medium, in the order of `OpenFault`, with the unchanged medium.
     pub fn open(medium: M) -> Result<Slots<M>, (OpenFault, M)>
         ensures ok { IfOk result (λ slots. slots.medium ≡ M.state medium) }
         ensures opens { IsOk result ↔ HasImage (M.state medium) }
@@ -122,7 +122,7 @@ impl<M: Medium> Slots<M> {
         capacity_of(&self.medium)
     }
 
-    /// Where the puts since `begin` end: 0 where there are none, at most the capacity. Nothing is held back at 0.
+    /// Where the puts since `begin` end: 0 if there are none, at most the capacity. Nothing is held back at 0.
     pub fn put_end(&self) -> u32
         ensures value { result ≡ self.now.put_end }
         ensures room { result ≤ room_of self.now }
@@ -151,7 +151,7 @@ impl<M: Medium> Slots<M> {
         }
     }
 
-    /// Where the first byte of the active image stands on the medium: a program may run it there. It holds until the next `commit`.
+    /// Where the first byte of the active image is on the medium: a program may run it there. It holds until the next `commit`.
     pub fn image_at(&self) -> u32
         ensures value { let m = self.now.medium in result ≡ active_at (gate_of m) m.bytes + 2 * gate_of m }
         ensures within { result + length (image_of self.now) ≤ length self.now.medium.bytes }
@@ -184,7 +184,7 @@ impl<M: Medium> Slots<M> {
         }
     }
 
-    /// The medium as it stands, to be read. Bytes that are held back are not on it.
+    /// The medium, to be read. Bytes that are held back are not on it.
     pub fn medium(&self) -> &M
         ensures medium { M.state result.now ≡ self.now.medium }
         ensures active { Active self.now.medium (image_of self.now) }
@@ -192,7 +192,7 @@ impl<M: Medium> Slots<M> {
         &self.medium
     }
 
-    /// Hands the medium back as it is. Bytes that are held back do not come to it.
+    /// Hands the medium back. Bytes that are held back are not written to it.
     pub fn into_medium(self) -> M
         ensures medium { M.state result ≡ self.medium }
         ensures has_image { HasImage (M.state result) }

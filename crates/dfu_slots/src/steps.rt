@@ -1,4 +1,4 @@
-//! The steps behind the calls that change a medium: each works on the medium and on what was put.
+//! The steps of the calls that change a medium: each works on the medium and on what was put.
 ghost use Rattle.std.specs.Prelude.{◌≡◌, ◌+◌, ◌≤◌, ◌<◌, ◌↔◌, length, IsErrOf, OnErr};
 ghost use Rattle.dfu_slots.specs.inside.Series.{Series};
 ghost use Rattle.dfu_slots.specs.Layout.{IsOpen};
@@ -16,7 +16,7 @@ use crate::read::{capacity_of, generation, is_open};
 use crate::register::register_of_put;
 use crate::{Medium, PutFault, WriteFault};
 
-// Closes the spare's gate, where it reads open.
+// Closes the spare's gate, if it reads open.
 fn close_spare<M: Medium>(medium: &mut M, places: Places) -> Result<(), WriteFault>
     requires sized { IsSized (M.state medium.old) }
     requires spare { places.spare ≡ spare_at (gate_of (M.state medium.old)) (M.state medium.old).bytes }
@@ -29,7 +29,7 @@ fn close_spare<M: Medium>(medium: &mut M, places: Places) -> Result<(), WriteFau
     Ok(())
 }
 
-/// Closes the spare's gate, where it reads open, and forgets what was put.
+/// Closes the spare's gate, if it reads open, and forgets what was put.
 pub(crate) fn begin<M: Medium>(
     medium: &mut M,
     puts: &mut Puts,
@@ -49,7 +49,7 @@ pub(crate) fn begin<M: Medium>(
     }
 }
 
-/// Puts these bytes behind those that were put, as far as they make whole units, and holds the rest back.
+/// Puts these bytes after those that were put, as far as they make whole units, and holds the rest back.
 pub(crate) fn put<M: Medium>(
     medium: &mut M,
     puts: &mut Puts,
@@ -91,7 +91,7 @@ pub(crate) fn put<M: Medium>(
     }
 }
 
-// Writes what is held, then the spare's header, and then, in a write of its own, opens its gate.
+// Writes the bytes held back, then the spare's header, and then, in a write of its own, opens its gate.
 fn open_spare<M: Medium>(
     medium: &mut M,
     places: Places,

@@ -1,10 +1,10 @@
-//! The one function through which the store writes, and the writes that are made of it.
+//! The one function through which the store writes, and the writes that are made by it.
 ghost use Rattle.std.specs.Prelude.{◌+◌, ◌≤◌, length, OnOk, IfErr};
 ghost use Rattle.dfu_slots.specs.Units.{IsMultiple};
 ghost use Rattle.dfu_slots.specs.Medium.{WroteBytes, FailedWrite, IsAhead, IsWritable};
 ghost use Rattle.dfu_slots.specs.inside.Series.{Series};
 ghost use Rattle.dfu_slots.specs.Image.{IsSized};
-ghost use Rattle.dfu_slots.specs.Writes.{write_anew, write_some};
+ghost use Rattle.dfu_slots.specs.Writes.{write_some};
 
 use crate::erasing::erase_within;
 use crate::read::stands_at;
@@ -30,27 +30,7 @@ pub(crate) fn write<M: Medium>(medium: &mut M, at: u32, bytes: &[u8]) -> Result<
     }
 }
 
-/// Writes these bytes there. On a medium with sectors it erases those before that begin in their range.
-pub(crate) fn write_anew<M: Medium>(medium: &mut M, at: u32, bytes: &[u8]) -> Result<(), WriteFault>
-    requires sized { IsSized (M.state medium.old) }
-    requires ahead { IsAhead (M.state medium.old) at }
-    requires within { at + length bytes.now ≤ length (M.state medium.old).bytes }
-    requires place { IsMultiple (M.state medium.old).grain.unit at }
-    requires whole { IsMultiple (M.state medium.old).grain.unit (length bytes.now) }
-    ensures { let was = M.state medium.old in
-        Series was (write_anew was.grain.sector at bytes.now) result (M.state medium.new) }
-{
-    let _end = medium.len();
-    if medium.sector() == 0 {
-        return write(medium, at, bytes);
-    }
-    match erase_within(medium, at, bytes.len() as u32) {
-        Err(fault) => Err(fault),
-        Ok(()) => write(medium, at, bytes),
-    }
-}
-
-/// Writes these bytes there, with the erases before, and writes nothing for no bytes.
+/// Writes these bytes there, and nothing for no bytes. On a medium with sectors it erases those before that begin in their range.
 pub(crate) fn write_some<M: Medium>(medium: &mut M, at: u32, bytes: &[u8]) -> Result<(), WriteFault>
     requires sized { IsSized (M.state medium.old) }
     requires ahead { IsAhead (M.state medium.old) at }
@@ -63,5 +43,12 @@ pub(crate) fn write_some<M: Medium>(medium: &mut M, at: u32, bytes: &[u8]) -> Re
     if bytes.is_empty() {
         return Ok(());
     }
-    write_anew(medium, at, bytes)
+    let _end = medium.len();
+    if medium.sector() == 0 {
+        return write(medium, at, bytes);
+    }
+    match erase_within(medium, at, bytes.len() as u32) {
+        Err(fault) => Err(fault),
+        Ok(()) => write(medium, at, bytes),
+    }
 }

@@ -11,7 +11,7 @@ use Rattle.dfu_trial.specs.Calls.{IsSettled, IsStanding, MediumTakes, MarkIsWith
 use Rattle.dfu_trial.specs.declared.standing.Settled.{Settled}
 use Rattle.dfu_trial.specs.declared.standing.Trial.{Trial}
 use Rattle.dfu_trial.specs.declared.standing.Standing.TheVariants.{OnTrial}
-use Rattle.dfu_trial.specs.declared.operation.Operation.TheVariants.{Close}
+use Rattle.dfu_trial.specs.declared.operation.Operation.TheVariants.{Mark, Close}
 use Rattle.dfu_trial.proofs.Places.{mark_in, slot_in, mark_taken, close_taken}
 use Rattle.dfu_trial.proofs.Counting.{next_unset}
 
@@ -30,11 +30,16 @@ module _ (m : MediumState) (tries : ℕ) (t : Trial) (are : AreTries m.grain tri
     pub start_in : mark_at m.grain t.slot (t.starts + 1) + mark_size m.grain ≤ length m.bytes
     start_in = mark_in m tries t.slot (t.starts + 1) stands.0.sized are (omega (arith, lt)) trial_in
 
-    pub start_taken : MediumTakes m (sets m.grain t.slot (t.starts + 1))
-    start_taken = mark_taken m t.slot t.base stands.0.sized stands.0.places tries (t.starts + 1) are (omega (arith, lt)) next_is
-
-    pub start_within : MarkIsWithin m (sets m.grain t.slot (t.starts + 1))
-    start_within = (start_in, gate_most m.grain.unit)
+    -- The medium takes it, and it lies within the medium.
+    pub start_taken : (at len : ℕ) → at ≡ mark_at m.grain t.slot (t.starts + 1) → len ≡ mark_size m.grain
+        → MediumTakes m (Mark at len) × MarkIsWithin m (Mark at len)
+    start_taken at len at_is len_is =
+        let next = mark_at m.grain t.slot (t.starts + 1) in
+        subst (λ (k : ℕ). MediumTakes m (Mark k len) × MarkIsWithin m (Mark k len)) (sym at_is)
+        (subst (λ (n : ℕ). MediumTakes m (Mark next n) × MarkIsWithin m (Mark next n)) (sym len_is) (
+          mark_taken m t.slot t.base stands.0.sized stands.0.places tries (t.starts + 1) are (omega (arith, lt)) next_is,
+          (start_in, gate_most m.grain.unit),
+        ))
 
   -- The confirmation.
   pub confirm_in : mark_at m.grain t.slot 0 + mark_size m.grain ≤ length m.bytes

@@ -36,7 +36,7 @@ module _ (m : MediumState) (p q : ℕ) (has : HasImage m) (active : p ≡ active
       let at = places_are (gate_of m) m.bytes a.at a.spare has.image (standing a) in
       subst (λ (x : ℕ). IsFilled (slot_of m x)) (at.0 ∙ sym active) (active_filled m has.image a)
 
-  -- An image on trial stands in the first, and the second is filled.
+  -- An image on trial is in the first, and the second is filled.
   pub trial_there : (t : HasTrial m) → (t.at ≡ p) × (t.base ≡ q)
   trial_there t =
       let at = places_newest (gate_of m) m.bytes t.at t.base t.trial.places t.trial.newest in (at.0 ∙ sym active, at.1 ∙ sym spare)

@@ -32,7 +32,7 @@ trusted_has m tries (Tried base image runs) are =
     let trial = are.1.0 in
     record { image = image_at m t.slot; active = active_there m t.slot t.base trial.sized trial.places trial.newest trial.mine }
 
--- An image that was confirmed stands alone at first.
+-- An image that was confirmed is the only one at first.
 pub trusted_first : (m : MediumState) (tries : ℕ) (s : Settled) → IsStanding m tries (standing.Settled s) → s.is_confirmed ≡ true
     → AreTrusted m tries (Alone (image_at m s.slot))
 trusted_first m tries s stands confirmed = (s, stands, confirmed, refl)
@@ -56,7 +56,7 @@ abbrev Next : MediumState → ℕ → Trust → TrialEvent → MediumState → T
 Next m tries trust event now = (next : Trust) × MayBecome tries trust event now next × AreTrusted now tries next
 
 module _ (m now : MediumState) (tries : ℕ) (are : AreTries m.grain tries) where
-  -- The confirmed image alone.
+  -- Only the confirmed image.
   module _ (base : List ℕ) (has : AreTrusted m tries (Alone base)) where
     abbrev s : Settled
     s = has.0
@@ -213,7 +213,7 @@ module _ (m now : MediumState) (tries : ℕ) (are : AreTries m.grain tries) wher
         let left = uploads_leave (nat_lt t.starts tries) refl carried in
         (left.0, (left.1, given_trusted now tries left.0 given left.2 by), left.2)
 
-    -- A download is none while an image is on trial.
+    -- There is no download while an image is on trial.
     tried_downloads : (new : List ℕ) → IsDownload m tries new now → ⊥
     tried_downloads new d = d.stands.none (record { at = t.slot; base = t.base; trial = has.1.0 })
 

@@ -12,7 +12,7 @@ use Rattle.dfu_slots.proofs.Parts.{slot_outside, data_length}
 use Rattle.dfu_trial.specs.Trial.{IsFilled, image_at}
 use Rattle.dfu_trial.proofs.Places.{turned, slot_in}
 
--- The length that stands in a well-formed header is that of its image.
+-- The length in a well-formed header is that of its image.
 length_is : (s : Slot) (len : ℕ) → HasHeader s len → len < 2 ^ 32 → header_length s ≡ len
 length_is s len has fits =
     let read : List ℕ → ℕ = λ h. from_le_bytes w32 (take 4 (drop 4 h)) in
@@ -71,7 +71,7 @@ module _ (m now : MediumState) (size : length now.bytes ≡ length m.bytes) wher
     whole = subst (λ (k : ℕ). IsWhole m.grain (k - 2 * gate_of m)) (sym half) sized.whole;
   }
 
-  -- Its slots stand at the same places.
+  -- Its slots are at the same places.
   pub places_left : (p q : ℕ) → ArePlaces m.bytes p q → ArePlaces now.bytes p q
   places_left p q there = subst (λ (k : ℕ). ((p ≡ 0) × (q ≡ k)) ⊎ ((p ≡ k) × (q ≡ 0))) (sym half) there
 

@@ -1,4 +1,4 @@
--- The images of a medium stand in one way.
+-- The images of a medium have one standing.
 use Rattle.std.proofs.Common.{◌≡◌, ℕ, sym, ◌∙◌, ap}
 use Rattle.dfu_slots.specs.Medium.{MediumState}
 use Rattle.dfu_slots.specs.Image.{gate_of}

@@ -1,4 +1,4 @@
--- What the calls answer.
+-- What the calls return.
 use Rattle.std.specs.Prelude.{◌≡◌, ℕ, ◌+◌, ◌*◌, ◌≤◌, ◌<◌, ◌==◌, nat_lt, ◌%◌, Option, Some, None, length, slice_range, if◌then◌else◌}
 use Rattle.dfu_slots.specs.Units.{Grain, gate_room, IsMultiple}
 use Rattle.dfu_slots.specs.Medium.{MediumState, IsWritable}
@@ -29,7 +29,7 @@ pub record IsSettled (m : MediumState) (s : Settled) : Type 0 where
   pub none : ¬ HasTrial m
   pub confirmed : s.is_confirmed ≡ is_set m s.slot 0
 
--- The images of a medium stand so, with so many tries.
+-- The images of a medium have this standing, with so many tries.
 abbrev pub IsStanding : MediumState → ℕ → Standing → Type 0
 IsStanding m tries (standing.Settled s) = IsSettled m s
 IsStanding m tries (standing.OnTrial t) = IsOnTrial m t.slot t.base × (t.starts ≡ starts m tries t.slot)

@@ -11,7 +11,7 @@ use Rattle.dfu_trial.specs.declared.standing.Standing.{Standing}
 use Rattle.dfu_trial.specs.declared.standing.Standing.TheVariants as standing
 use Rattle.dfu_trial.specs.declared.standing.Standing.TheVariants.{OnTrial}
 
--- An operation was carried out, and worked, failed, lied or was cut: any bytes stand in its range, and the old ones elsewhere.
+-- An operation was carried out, and worked, failed, lied or was cut: its range has any bytes, and elsewhere there are the old ones.
 abbrev pub Carried : MediumState → Operation → MediumState → Type 0
 Carried m (Mark at len) now = KeepsOutside at (at + len) m.bytes now.bytes × (now.grain ≡ m.grain)
 Carried m (Close at) now = KeepsOutside at (at + m.grain.sector) m.bytes now.bytes × (now.grain ≡ m.grain)

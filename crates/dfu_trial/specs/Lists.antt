@@ -25,7 +25,7 @@ pub data TrialEvent : Type 0 where
   Ends : TrialEvent
   -- An upload begins, and gives this image; None if it is stalled, since the trial that was to end goes on.
   Uploads : (given : Option (List ℕ)) → TrialEvent
-  -- A download of this image goes on, to whatever point.
+  -- A download of this image goes on, up to any point.
   Downloads : (image : List ℕ) → TrialEvent
 
 -- One thing that came, and the medium after it.
@@ -56,7 +56,7 @@ NewPlaced now tries slot spare image = IsNewest (slot_of now slot) (slot_of now 
     ⊎ (IsNewest (slot_of now spare) (slot_of now slot) × IsFilled (slot_of now spare) × (image_at now spare ≡ image)
     × ((i : ℕ) → i ≤ tries → is_set now spare i ≡ false))
 
--- A download, while nothing is on trial: it changes the spare slot alone.
+-- A download, while nothing is on trial: it changes only the spare slot.
 pub record IsDownload (m : MediumState) (tries : ℕ) (image : List ℕ) (now : MediumState) : Type 0 where
   pub settled : Settled
   pub stands : IsSettled m settled
@@ -66,7 +66,7 @@ pub record IsDownload (m : MediumState) (tries : ℕ) (image : List ℕ) (now : 
   pub grain : now.grain ≡ m.grain
   pub put : NewPlaced now tries settled.slot spare image
 
--- This came to a medium with so many tries, by what `look` told of it.
+-- This came to a medium with so many tries, by what `look` returned for it.
 abbrev pub TrialGoes : ℕ → MediumState → TrialEvent → MediumState → Type 0
 TrialGoes tries m (Starts ran) now = (s : Standing) × IsStanding m tries s × CarriedIf m (trial_start m.grain tries s).operation now
     × RanBy (trial_start m.grain tries s) now ran
@@ -104,7 +104,7 @@ MayStart tries (Tried base image runs) now (Some slot) next =
     ((image_at now slot ≡ image) × (runs < tries) × (next ≡ Tried base image (runs + 1)))
     ⊎ ((image_at now slot ≡ base) × IsOnOrBack base image runs next)
 
--- What an upload gives is the confirmed image if nothing is on trial, or that on trial, of which a start is left.
+-- What an upload gives is the confirmed image if nothing is on trial, or that on trial, which has a start left.
 abbrev pub MayGive : ℕ → Option (List ℕ) → Trust → Type 0
 MayGive tries None next = Unit {0}
 MayGive tries (Some image) (Alone base) = image ≡ base

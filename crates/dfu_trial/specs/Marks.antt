@@ -1,4 +1,4 @@
--- Marks in the sector of a slot's header, behind the header: the slot store never reads them, and erases them with each new header.
+-- Marks in the sector of a slot's header, after the header: the slot store never reads them, and erases them with each new header.
 use Rattle.std.specs.Prelude.{ℕ, zero, suc, ◌+◌, ◌*◌, ◌≤◌, ◌<◌, ◌==◌, Bool, not, List, slice_range, if◌then◌else◌}
 use Rattle.std.specs.List.{list_all}
 use Rattle.dfu_slots.specs.Units.{Grain, gate_size, gate_room}

@@ -8,7 +8,7 @@ ghost use Rattle.dfu_trial.specs.Laws.{HasBooted};
 use crate::look;
 use dfu_slots::{Medium, OpenFault};
 
-/// Looks what starts, carries out what is asked before, and tells where the slot begins that runs. Whatever became of the operation, some
+/// Looks what starts, carries out what is asked before, and returns where the slot begins that runs. Whatever became of the operation, some
 /// image is active afterwards, and one of the two runs.
 ///
 /// # Errors
@@ -26,7 +26,7 @@ pub fn boot<M: Medium>(medium: &mut M, tries: u32) -> Result<u32, OpenFault>
     match starting.operation {
         None => Ok(starting.slot),
         Some(operation) => {
-            // Whatever it answers, the mark is read back.
+            // Whatever it returns, the mark is read back.
             let _ = operation.carry_out(medium);
             Ok(starting.runs(medium))
         }

@@ -14,7 +14,7 @@ ghost use Rattle.dfu_trial.specs.declared.standing.Standing.TheVariants.{OnTrial
 ghost use Rattle.dfu_trial.specs.declared.operation.Operation.TheVariants.{Close};
 
 /// A start, whatever becomes of what it asks for: if nothing is on trial the active image runs. On trial, with a start left, the image on
-/// trial runs and one start more is recorded at least, or the confirmed image runs and the trial is as it was. Without one the confirmed
+/// trial runs and at least one more start is recorded, or the confirmed image runs and the trial is as it was. Without one the confirmed
 /// image runs, and is back, or the trial is as it was. Some image is active afterwards.
 pub fn a_start_runs_one_of_two()
     ensures starts { (m now : MediumState) (tries : ℕ) (s : Standing) → AreTries m.grain tries → IsStanding m tries s →

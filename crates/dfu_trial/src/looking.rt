@@ -33,8 +33,8 @@ fn comes_back<M: Medium>(medium: &M, places: Places) -> bool
     }
 }
 
-/// Tells how the images of a medium stand. It reads the images as `check` of dfu_slots does, and that in the spare slot once more if only
-/// its data is left to tell.
+/// Finds the standing of a medium's images. It reads the images as `check` of dfu_slots does, and that in the spare slot once more if only
+/// its data can still decide.
 ///
 /// # Errors
 ///

@@ -16,7 +16,7 @@ pub(crate) fn mark_size<M: Medium>(medium: &M) -> u32
     medium.unit().size().max(16)
 }
 
-/// Where that mark of the slot stands that begins there.
+/// Where that mark is, of the slot that begins there.
 pub(crate) fn mark_at<M: Medium>(medium: &M, at: u32, i: u32) -> u32
     requires { mark_at (M.state medium.now).grain at i ≤ length (M.state medium.now).bytes }
     ensures { result ≡ mark_at (M.state medium.now).grain at i }

@@ -14,7 +14,7 @@ pub enum Operation {
 }
 
 impl Operation {
-    /// Carries it out on a medium. Nothing is read back: the next look at the medium tells what became of it.
+    /// Carries it out on a medium. Nothing is read back: the next look at the medium shows what became of it.
     ///
     /// # Errors
     ///

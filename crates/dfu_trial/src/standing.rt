@@ -1,4 +1,4 @@
-//! How the images of a medium stand.
+//! The standing of the images of a medium.
 
 /// Nothing is on trial.
 #[derive(Clone, Copy, Debug, PartialEq, Eq, Drop)]
@@ -20,7 +20,7 @@ pub struct Trial {
     pub starts: u32,
 }
 
-/// How the images of a medium stand.
+/// The standing of the images of a medium.
 #[derive(Clone, Copy, Debug, PartialEq, Eq, Drop)]
 pub enum Standing {
     /// Nothing is on trial: the active image runs.

@@ -19,8 +19,8 @@ pub struct Starting {
 }
 
 impl Standing {
-    /// Tells what starts, and what is carried out before: on trial the mark of the next start; without one left the gate is closed of
-    /// the slot on trial. `Starting::runs` tells then what runs.
+    /// What starts, and what is carried out before. On trial that is the mark of the next start; without a start left the gate is closed of
+    /// the slot on trial. After it `Starting::runs` gives what runs.
     pub fn start<M: Medium>(self, medium: &M, tries: u32) -> Starting
         requires tries { AreTries (M.state medium.now).grain tries }
         requires stands { IsStanding (M.state medium.now) tries self }

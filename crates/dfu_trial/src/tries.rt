@@ -21,11 +21,11 @@ pub enum TriesFault {
     TooMany,
 }
 
-/// Tells whether an image of this medium can have so many tries: 2 or more, of which the marks fit in a sector.
+/// Whether an image of this medium can have so many tries: 2 or more, whose marks fit in a sector.
 ///
 /// # Errors
 ///
-/// The first of the faults that is there.
+/// The first fault that there is, in the order of `TriesFault`.
 pub fn check_tries<M: Medium>(medium: &M, tries: u32) -> Result<(), TriesFault>
     ensures ok { OnOk result (AreTries (M.state medium.now).grain tries) }
     ensures fault { IfErr result (λ fault. IsTriesFault fault (M.state medium.now).grain tries) }

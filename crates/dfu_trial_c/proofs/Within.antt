@@ -13,7 +13,7 @@ use Rattle.dfu_trial.proofs.Places.{turned, slot_in}
 use Rattle.dfu_trial.proofs.Asked.{active_in, trial_in}
 
 -- The slots of what starts end within the medium.
-abbrev AreWithin : MediumState → Starting → Type 0
+abbrev pub AreWithin : MediumState → Starting → Type 0
 AreWithin m s = (s.slot + slot_size m.bytes ≤ length m.bytes) × (s.otherwise + slot_size m.bytes ≤ length m.bytes)
 
 module _ (m : MediumState) (tries : ℕ) (are : AreTries m.grain tries) where

@@ -1,4 +1,4 @@
--- What a program in C is told of a trial.
+-- What a program in C gets to know about a trial.
 use Rattle.std.specs.Prelude.{◌≡◌, ℕ, ℤ, pos, ◌-◌, ◌+◌, ◌==◌, Bool, nat_le, ◌&&◌, List, length, replicate, slice_range, Option, Some, None, if◌then◌else◌}
 use Rattle.dfu_slots.specs.Medium.{MediumState}
 use Rattle.dfu_slots.specs.Layout.{header_length}
@@ -12,15 +12,15 @@ use Rattle.dfu_trial.specs.declared.standing.Standing.TheVariants.{Settled, OnTr
 use Rattle.dfu_trial.specs.declared.starting.Starting.{Starting}
 use Rattle.dfu_trial_c.specs.declared.ask.DfuAsk.{DfuAsk}
 use Rattle.dfu_trial_c.specs.declared.place.DfuPlace.{DfuPlace}
-use Rattle.dfu_trial_c.specs.declared.standing.DfuStanding.{DfuStanding}
-use Rattle.dfu_trial_c.specs.declared.starting.DfuStarting.{DfuStarting}
+use Rattle.dfu_trial_c.specs.declared.told.DfuStanding.{DfuStanding}
+use Rattle.dfu_trial_c.specs.declared.told.DfuStarting.{DfuStarting}
 use Rattle.dfu_trial_c.specs.Numbers.{TRIAL_ASKS}
 
--- Where the image in the slot that begins there begins, and how long its header says that it is.
+-- Where the image begins in the slot that begins there, and its length by its header.
 abbrev pub image_in : MediumState → ℕ → DfuPlace
 image_in m slot = record { at = image_place m.grain slot; length = header_length (slot_of m slot) }
 
--- How the images stand.
+-- The record of a standing.
 abbrev pub standing_told : MediumState → ℕ → Standing → DfuStanding
 standing_told m tries (Settled s) = record {
   active = image_in m s.slot;
@@ -41,7 +41,7 @@ standing_told m tries (OnTrial t) = record {
 abbrev pub starting_told : MediumState → Starting → DfuStarting
 starting_told m s = record { run = image_in m s.slot; otherwise = image_in m s.otherwise }
 
--- An operation is told by DFU_ASKS, and stands in what is asked for: zeros are programmed, or a sector of so many bytes is erased. If
+-- An operation gives DFU_ASKS, and is written into what is asked for: zeros are programmed, or a sector of so many bytes is erased. If
 -- there is none the number is 0, and nothing changes.
 abbrev pub IsTrialAsked : ℕ → Option Operation → ℤ → DfuAsk → DfuAsk → Type 0
 IsTrialAsked sector None result before after = (result ≡ pos 0) × (after ≡ before)

@@ -7,8 +7,8 @@ use Rattle.dfu_trial.specs.declared.confirming.Confirmation.TheVariants as confi
 use Rattle.dfu_trial_c.specs.declared.ask.DfuAsk.{DfuAsk}
 use Rattle.dfu_trial_c.specs.declared.refusal.Refusal.{Refusal}
 use Rattle.dfu_trial_c.specs.declared.tries.DfuTries.{DfuTries}
-use Rattle.dfu_trial_c.specs.declared.standing.DfuStanding.{DfuStanding}
-use Rattle.dfu_trial_c.specs.declared.starting.DfuStarting.{DfuStarting}
+use Rattle.dfu_trial_c.specs.declared.told.DfuStanding.{DfuStanding}
+use Rattle.dfu_trial_c.specs.declared.told.DfuStarting.{DfuStarting}
 use Rattle.dfu_trial_c.specs.Tries.{tries_grain, flash_state, HasStanding, IsTrialRefused}
 use Rattle.dfu_trial_c.specs.Told.{standing_told, starting_told, IsTrialAsked}
 use Rattle.dfu_trial_c.specs.Numbers.{ELSEWHERE, trial_number}
@@ -17,40 +17,40 @@ use Rattle.dfu_trial_c.specs.Numbers.{ELSEWHERE, trial_number}
 abbrev pub RefusesTrial : DfuTries → List ℕ → ℤ → Type 0
 RefusesTrial t flash result = (why : Refusal) × IsTrialRefused why t flash × (result ≡ trial_number why)
 
--- It is told how the images stand.
+-- The call gives the standing of the images.
 pub record ToldStanding (t : DfuTries) (flash : List ℕ) (result : ℤ) (told : DfuStanding) : Type 0 where
   pub standing : Standing
   pub stands : HasStanding t flash standing
   pub number_is : result ≡ pos 0
   pub told_is : told ≡ standing_told (flash_state t flash) t.tries standing
 
--- It is told what starts, and asked for the operation that comes before.
+-- The call gives what starts, and asks for the operation that comes before.
 pub record ToldStart (t : DfuTries) (flash : List ℕ) (result : ℤ) (before after : DfuAsk) (told : DfuStarting) : Type 0 where
   pub standing : Standing
   pub stands : HasStanding t flash standing
   pub asks : IsTrialAsked t.sector (trial_start (tries_grain t) t.tries standing).operation result before after
   pub told_is : told ≡ starting_told (flash_state t flash) (trial_start (tries_grain t) t.tries standing)
 
--- A confirmation is told by the operation that is asked for, by 0 if the image is confirmed, and by DFU_ELSEWHERE; if none is asked for
+-- A confirmation gives the operation that is asked for, 0 if the image is confirmed, and else DFU_ELSEWHERE; if none is asked for
 -- nothing changes.
 abbrev pub IsConfirmTold : ℕ → Confirmation → ℤ → DfuAsk → DfuAsk → Type 0
 IsConfirmTold sector (confirm.By operation) result before after = IsTrialAsked sector (Some operation) result before after
 IsConfirmTold sector confirm.Confirmed result before after = (result ≡ pos 0) × (after ≡ before)
 IsConfirmTold sector confirm.Elsewhere result before after = (result ≡ ELSEWHERE) × (after ≡ before)
 
--- It is told how the image at this place is confirmed.
+-- The call gives how the image at this place is confirmed.
 pub record ToldConfirm (t : DfuTries) (flash : List ℕ) (at : ℕ) (result : ℤ) (before after : DfuAsk) : Type 0 where
   pub standing : Standing
   pub stands : HasStanding t flash standing
   pub told : IsConfirmTold t.sector (confirm_of (tries_grain t) standing at) result before after
 
--- It is told how a trial ends.
+-- The call gives how a trial ends.
 pub record ToldEnd (t : DfuTries) (flash : List ℕ) (result : ℤ) (before after : DfuAsk) : Type 0 where
   pub standing : Standing
   pub stands : HasStanding t flash standing
   pub asks : IsTrialAsked t.sector (end_of_trial standing) result before after
 
--- It is told what comes before an upload.
+-- The call gives what comes before an upload.
 pub record ToldUpload (t : DfuTries) (flash : List ℕ) (result : ℤ) (before after : DfuAsk) : Type 0 where
   pub standing : Standing
   pub stands : HasStanding t flash standing

@@ -31,13 +31,13 @@ pub record IsTriesPart (t : DfuTries) : Type 0 where
   pub pages : t.sector % 256 ≡ 0
   pub bound : t.sector ≤ 2 ^ 17
 
--- The flash can have so many tries, and its images stand so.
+-- The flash can have so many tries, and its images have this standing.
 pub record HasStanding (t : DfuTries) (flash : List ℕ) (s : Standing) : Type 0 where
   pub part : IsTriesPart t
   pub tries : AreTries (tries_grain t) t.tries
   pub stands : IsStanding (flash_state t flash) t.tries s
 
--- By this a call is refused: no unit has that size, or there are no such sectors; or else so many tries are refused; or else the flash
+-- Why a call is refused: no unit has that size, or there are no such sectors; or else so many tries are refused; or else the flash
 -- has no active image, or 2^32 bytes or more.
 abbrev pub IsTrialRefused : Refusal → DfuTries → List ℕ → Type 0
 IsTrialRefused NoConfig t flash = ¬ IsTriesPart t

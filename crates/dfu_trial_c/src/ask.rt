@@ -25,7 +25,7 @@ const ERASE: u32 = 1;
 /// DFU_PROGRAM.
 pub(crate) const PROGRAM: u32 = 2;
 
-/// Tells an operation, if there is one.
+/// Writes an operation, if there is one, into what is asked for.
 pub(crate) fn tell(operation: Option<Operation>, sector: u32, ask: &mut DfuAsk) -> i32
     ensures { IsTrialAsked sector operation result ask.old ask.new }
 {

@@ -5,13 +5,11 @@ ghost use Rattle.dfu_trial_c.specs.TrialCalls.{RefusesTrial, ToldStanding, ToldS
 use crate::ask::{DfuAsk, tell};
 use crate::flash::looked;
 use crate::numbers::ELSEWHERE;
-use crate::standing::DfuStanding;
-use crate::starting::DfuStarting;
+use crate::told::{DfuStanding, DfuStarting, standing_told, starting_told};
 use crate::tries::DfuTries;
-use crate::{standing, starting};
 use dfu_trial::Confirmation;
 
-/// How the images of the flash stand: 0, and `told` has it.
+/// The standing of the images of the flash: 0, and `told` has it.
 ///
 /// Refused, in this order: -2 if no unit has that size or there are no such sectors; -16 without sectors, -17 with fewer than two tries,
 /// -18 if a sector has no room for so many; -3 if the flash has no active image, or 2^32 bytes or more.
@@ -22,14 +20,14 @@ pub extern "C" fn dfu_core_trial_look(tries: &DfuTries, flash: &[u8], told: &mut
 {
     match looked(tries, flash) {
         Ok(looked) => {
-            *told = standing::tell(&looked.medium, tries.tries, looked.standing);
+            *told = standing_told(&looked.medium, tries.tries, looked.standing);
             0
         }
         Err(refusal) => refusal.number(),
     }
 }
 
-/// What starts: 0, and `told.run` runs; or -11, and `ask` has the operation that comes before. `dfu_core_trial_runs` tells then what runs.
+/// What starts: 0, and `told.run` runs; or -11, and `ask` has the operation that comes before. Then `dfu_core_trial_runs` gives what runs.
 ///
 /// Refused as `dfu_core_trial_look`.
 #[unsafe(no_mangle)]
@@ -45,7 +43,7 @@ pub extern "C" fn dfu_core_trial_start(
     match looked(tries, flash) {
         Ok(looked) => {
             let starts = looked.standing.start(&looked.medium, tries.tries);
-            *told = starting::tell(&looked.medium, starts);
+            *told = starting_told(&looked.medium, starts);
             tell(starts.operation, tries.sector, ask)
         }
         Err(refusal) => refusal.number(),

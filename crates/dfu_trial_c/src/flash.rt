@@ -10,7 +10,7 @@ use dfu_asks::Mapped;
 use dfu_slots::laws::active_image_is_one;
 use dfu_trial::{Standing, check_tries, look};
 
-/// A flash, and how its images stand.
+/// A flash, and the standing of its images.
 #[derive(Drop)]
 pub(crate) struct Flash<'f> {
     pub(crate) medium: Mapped<'f>,
@@ -44,7 +44,7 @@ fn refused(tries: &DfuTries) -> Option<Refusal>
     }
 }
 
-/// Looks how the images of the flash stand, or why there are none.
+/// Looks for the standing of the images of the flash, or for the reason why there is none.
 pub(crate) fn looked<'f>(tries: &DfuTries, flash: &'f [u8]) -> Result<Flash<'f>, Refusal>
     ensures state { IfOk result (λ l. mapped (mapped_grain l.medium.unit l.medium.sector) l.medium.bytes.now
         ≡ flash_state tries.now flash.now) }

@@ -8,6 +8,5 @@ mod numbers;
 mod place;
 mod refusal;
 mod running;
-mod standing;
-mod starting;
+mod told;
 mod tries;

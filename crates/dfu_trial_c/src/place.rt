@@ -1,4 +1,4 @@
-//! Where an image stands in flash.
+//! Where an image is in flash.
 ghost use Rattle.std.specs.Prelude.{◌≡◌, ◌+◌, ◌≤◌, length};
 ghost use Rattle.dfu_slots.specs.Layout.{slot_size};
 ghost use Rattle.dfu_slots.specs.Image.{IsSized};
@@ -6,7 +6,7 @@ ghost use Rattle.dfu_trial_c.specs.Told.{image_in};
 
 use dfu_slots::{Medium, data_at, header_of, length_in};
 
-/// Where an image stands in its flash: `struct dfu_place`.
+/// Where an image is in its flash: `struct dfu_place`.
 #[repr(C)]
 #[derive(Clone, Copy, Drop)]
 pub struct DfuPlace {
@@ -16,7 +16,7 @@ pub struct DfuPlace {
     pub length: u32,
 }
 
-/// Where the image stands in the slot that begins there.
+/// Where the image is in the slot that begins there.
 pub(crate) fn image_in<M: Medium>(medium: &M, slot: u32) -> DfuPlace
     requires sized { IsSized (M.state medium.now) }
     requires within { slot + slot_size (M.state medium.now).bytes ≤ length (M.state medium.now).bytes }

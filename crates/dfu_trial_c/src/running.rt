@@ -6,7 +6,7 @@ ghost use Rattle.dfu_trial_c.specs.Told.{is_there, run_told};
 
 use crate::ask::{DfuAsk, PROGRAM};
 use crate::place::DfuPlace;
-use crate::starting::DfuStarting;
+use crate::told::DfuStarting;
 
 // Whether all bytes are FFh.
 fn is_blank(bytes: &[u8]) -> bool

@@ -1,4 +1,4 @@
--- What is asked of a medium before operations are carried out on it.
+-- What must hold of a medium before operations are carried out on it.
 use Rattle.std.specs.Prelude.{◌≡◌, ℕ, ◌+◌, ◌*◌, ◌%◌, ◌≤◌, ◌<◌, List, [], ◌∷◌, length}
 use Rattle.dfu_slots.specs.declared.operation.Op.{Op}
 use Rattle.dfu_slots.specs.declared.operation.Op.TheVariants.{Erase, Program}
@@ -34,7 +34,7 @@ MayCarryAll m held block header [] = Unit {0}
 MayCarryAll m held block header (o ∷ os) = MayCarry m held block o
     × ((now : MediumState) → AllWrites m (op_writes m.grain.sector held block header o) now → MayCarryAll now held block header os)
 
--- A piece of an image, from there on in it, may be written into the data of the first slot.
+-- The piece of an image that begins there in it may be written into the data of the first slot.
 pub record MayWritePiece (m : MediumState) (image : List ℕ) (from : ℕ) : Type 0 where
   pub can : CanFormat m image
   pub more : from < length image + fill_size m.grain.unit (length image)

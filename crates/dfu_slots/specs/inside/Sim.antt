@@ -1,4 +1,4 @@
--- What the medium in memory stands for.
+-- What the medium in memory represents.
 use Rattle.std.specs.Prelude.{ℕ, Bool, List, []}
 use Rattle.dfu_slots.specs.Units.{Grain}
 use Rattle.dfu_slots.specs.Medium.{MediumState, Fuse}
@@ -7,7 +7,7 @@ use Rattle.dfu_slots.specs.declared.sim.Mode.{Mode}
 use Rattle.dfu_slots.specs.declared.sim.SimFuse.{SimFuse}
 use Rattle.dfu_slots.specs.declared.sim.Mode.TheVariants.{Whole, Armed, Lying, Stopped}
 
--- The fuse that these fields of the medium in memory stand for.
+-- The fuse that these fields of the medium in memory represent.
 abbrev pub fuse_of_fields : Mode → ℕ → List ℕ → Bool → Fuse
 fuse_of_fields Whole writes tear stop = WholeFuse
 fuse_of_fields Armed writes tear stop = ArmedFuse writes tear stop

@@ -1,12 +1,12 @@
-use Rattle.std.proofs.Common.{◌≢◌, ◌<◌, List, [], ◌∷◌, length, sym, ◌∙◌, subst, arith}
+use Rattle.std.proofs.Common.{◌≡◌, ◌≢◌, ◌==◌, ◌<◌, false, List, [], ◌∷◌, length, sym, ◌∙◌, subst, arith}
 use Rattle.dfu_slots.specs.Units.{Grain, IsMultiple}
 use Rattle.dfu_slots.specs.Medium.{Write, BrokenWrites}
 use Rattle.dfu_slots.specs.Writes.{erases}
 use Rattle.dfu_slots.specs.inside.Series.{Series}
 use Rattle.dfu_slots.proofs.Series.{broken_first, series_after, series_one}
-use Rattle.dfu_slots.proofs.SizedOn.{erases_same, anew_is}
+use Rattle.dfu_slots.proofs.SizedOn.{erases_same, some_is}
 use Rattle.dfu_slots.proofs.Ahead.{erases_writable}
-use Rattle.dfu_slots.proofs.writes.write_anew.Goals as goal
+use Rattle.dfu_slots.proofs.writes.write_some.Goals as goal
 
 pub write-requires-in-Ok : goal.write-requires-in-Ok
 write-requires-in-Ok g c =
@@ -30,7 +30,8 @@ returns-in-Err g c =
     let at = c.args.at in
     let bytes = c.args.bytes.now in
     let some : m.grain.sector ≢ 0 = λ e. c.if-sector-eq0.false (c.sector.ensures ∙ e) in
-    subst (λ (ws : List Write). BrokenWrites c.in-Err.fault m ws now) (sym (anew_is m.grain.sector at bytes some))
+    let filled : (length bytes == 0) ≡ false = sym c.is_empty.ensures ∙ c.if-is_empty.false in
+    subst (λ (ws : List Write). BrokenWrites c.in-Err.fault m ws now) (sym (some_is m.grain.sector at bytes filled some))
     (broken_first c.in-Err.fault (erases m.grain.sector at (length bytes)) (record { at = at; bytes = bytes } ∷ []) m now c.in-Err.ensures)
 
 pub returns-in-Ok : goal.returns-in-Ok
@@ -41,6 +42,7 @@ returns-in-Ok g c =
     let at = c.args.at in
     let bytes = c.args.bytes.now in
     let some : m.grain.sector ≢ 0 = λ e. c.if-sector-eq0.false (c.sector.ensures ∙ e) in
-    subst (λ (ws : List Write). Series m ws c.write-in-Ok.result now) (sym (anew_is m.grain.sector at bytes some))
+    let filled : (length bytes == 0) ≡ false = sym c.is_empty.ensures ∙ c.if-is_empty.false in
+    subst (λ (ws : List Write). Series m ws c.write-in-Ok.result now) (sym (some_is m.grain.sector at bytes filled some))
     (series_after (erases m.grain.sector at (length bytes)) (record { at = at; bytes = bytes } ∷ []) m mid now c.write-in-Ok.result
     c.in-Ok.ensures (series_one mid now at bytes c.write-in-Ok.result c.write-in-Ok.ensures.ok c.write-in-Ok.ensures.failed))

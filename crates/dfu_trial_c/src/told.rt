@@ -1,14 +1,16 @@
-//! How the images of a flash stand, for a program in C.
-ghost use Rattle.std.specs.Prelude.{◌≡◌};
+//! What a program in C gets to know of a trial: the standing of the images, and what starts.
+ghost use Rattle.std.specs.Prelude.{◌≡◌, ◌+◌, ◌≤◌, length};
+ghost use Rattle.dfu_slots.specs.Layout.{slot_size};
+ghost use Rattle.dfu_slots.specs.Image.{IsSized};
 ghost use Rattle.dfu_trial.specs.Marks.{AreTries};
 ghost use Rattle.dfu_trial.specs.Calls.{IsStanding};
-ghost use Rattle.dfu_trial_c.specs.Told.{standing_told};
+ghost use Rattle.dfu_trial_c.specs.Told.{standing_told, starting_told};
 
 use crate::place::{DfuPlace, image_in};
 use dfu_slots::Medium;
-use dfu_trial::Standing;
+use dfu_trial::{Standing, Starting};
 
-/// How the images of a flash stand: `struct dfu_standing`.
+/// The standing of the images of a flash: `struct dfu_standing`.
 #[repr(C)]
 #[derive(Drop)]
 pub struct DfuStanding {
@@ -24,8 +26,8 @@ pub struct DfuStanding {
     pub is_confirmed: u32,
 }
 
-/// Tells how the images stand.
-pub(crate) fn tell<M: Medium>(medium: &M, tries: u32, standing: Standing) -> DfuStanding
+/// The record of a standing.
+pub(crate) fn standing_told<M: Medium>(medium: &M, tries: u32, standing: Standing) -> DfuStanding
     requires tries { AreTries (M.state medium.now).grain tries }
     requires stands { IsStanding (M.state medium.now) tries standing }
     ensures { result ≡ standing_told (M.state medium.now) tries standing }
@@ -48,5 +50,28 @@ pub(crate) fn tell<M: Medium>(medium: &M, tries: u32, standing: Standing) -> Dfu
             left: tries - trial.starts,
             is_confirmed: 0,
         },
+    }
+}
+
+/// What starts once the operation before it was carried out or failed: `struct dfu_starting`.
+#[repr(C)]
+#[derive(Drop)]
+pub struct DfuStarting {
+    /// What runs.
+    pub run: DfuPlace,
+    /// What runs if the operation is a mark, and it does not read set.
+    pub otherwise: DfuPlace,
+}
+
+/// The record of what starts.
+pub(crate) fn starting_told<M: Medium>(medium: &M, starting: Starting) -> DfuStarting
+    requires sized { IsSized (M.state medium.now) }
+    requires run { starting.slot + slot_size (M.state medium.now).bytes ≤ length (M.state medium.now).bytes }
+    requires otherwise { starting.otherwise + slot_size (M.state medium.now).bytes ≤ length (M.state medium.now).bytes }
+    ensures { result ≡ starting_told (M.state medium.now) starting }
+{
+    DfuStarting {
+        run: image_in(medium, starting.slot),
+        otherwise: image_in(medium, starting.otherwise),
     }
 }
