@@ -1,6 +1,7 @@
 -- What a call of a device that asks leaves.
 use Rattle.std.proofs.Common.{◌≡◌, inl, inr, ◌&&◌, Bool, true, false, not, IsTrue, ℕ, ◌+◌, ◌≤◌, ◌<◌, List, ◌++◌, length, drop, slice_range, Option, Some, None, is_some, refl, sym, ◌∙◌, ap, subst, arith}
 use Rattle.std.proofs.lemmas.Grind.{common_steps}
+use Rattle.dfu_slots.specs.declared.unit.Unit.{Unit as WriteUnit}
 use Rattle.dfu_slots.specs.declared.fault.WriteFault.{WriteFault}
 use Rattle.dfu_slots.specs.declared.fault.WriteFault.TheVariants.{NotVerified}
 use Rattle.dfu_slots.specs.Medium.{MediumState, Write, Torn, FailedWrite}
@@ -20,9 +21,12 @@ use Rattle.dfu_asks.specs.declared.slot_write.SlotWrite.{SlotWrite}
 use Rattle.dfu_asks.specs.declared.pending_writes.PendingWrites.{PendingWrites}
 use Rattle.dfu_asks.specs.Lent.{LentAsking}
 use Rattle.dfu_asks.specs.declared.reply.Reply.{Reply}
+use Rattle.dfu_asks.specs.declared.reply.Reply.TheVariants as reply
+use Rattle.dfu_asks.specs.declared.sector.Sector.{Sector}
 use Rattle.dfu_asks.specs.Mapped.{mapped}
 use Rattle.dfu_asks.specs.Steps.{Step, step_writes}
 use Rattle.dfu_asks.specs.Carried.{total, carried, IsPiece}
+use Rattle.dfu_asks.specs.Cuts.{IsNextPiece}
 use Rattle.dfu_asks.specs.Due.{IsDueRow, IsDueStage, IsSure, IsSureOrDue, Fails}
 use Rattle.dfu_asks.specs.declared.noted.Noted.{Noted}
 use Rattle.dfu_asks.specs.Noted.{IsNoted}
@@ -37,7 +41,7 @@ use Rattle.dfu_asks.proofs.Inside.{working_within}
 use Rattle.dfu_asks.proofs.Ended.{broken_ended}
 use Rattle.dfu_asks.proofs.Quiet.{due_row}
 
--- Nothing is due where no work is kept.
+-- Nothing is due if no work is kept.
 pub no_work : (w : Option PendingWrites) → is_some w ≡ false → w ≡ None
 no_work (Some w) e = cc
 no_work None e = refl
@@ -56,7 +60,12 @@ is_false b e t = grind (arith, common_steps)
 pub is_off : (b : Bool) → b ≡ false → IsTrue (not b)
 is_off b e = grind (arith, common_steps)
 
--- The store is as it was where all but the mode and the block is.
+-- Flash that is mapped in the unit and the sectors of a device is the device's medium.
+pub mapped_as : {u u' : WriteUnit} {s s' : Sector} (flash : List ℕ) → u' ≡ u → s' ≡ s
+    → mapped (record { unit = u'; sector = s'.size }) flash ≡ mapped (record { unit = u; sector = s.size }) flash
+mapped_as flash unit sector = λ i. mapped (record { unit = unit i; sector = (sector i).size }) flash
+
+-- The store is unchanged if only the mode and the block changed.
 pub rest_store : (a mid : LentAsking) (flash : List ℕ) → IsRest a mid → store_in mid flash ≡ store_in a flash
 rest_store a mid flash r = λ i. store_of (mapped (record { unit = r.unit i; sector = (r.sector i).size }) flash) (r.held i) (r.end i)
 
@@ -85,7 +94,7 @@ begins a m b s flash xs ys j asked len mode_is block medium store sound noted du
   noted = noted;
 }
 
--- What comes of it is what the call answers, where the row that is due is the call's.
+-- What comes of it is what the call answers, if the row that is due is the call's.
 pub called_from : (a : LentAsking) (flash out : List ℕ) (Row : Answer → List ℕ → DeviceView → Type 0) (now : LentAsking) (out' : List ℕ)
     (r : Reply)
     (d : DeviceView) (len : ℕ) → d ≡ device_in a flash → DueComes d len d.slots flash flash out now out' r → IsDueRow len (device_in a flash) Row
@@ -183,6 +192,18 @@ module _ (a now : LentAsking) (flash : List ℕ) (rest : IsRest a now) (is : IsD
     is = kept_is;
   }
 
+-- A call that only changes the mode and the block has come to its end with this answer.
+pub mode_ended : (a : LentAsking) (m : DeviceState) (block flash : List ℕ) → IsDevice a flash
+    → IsTrue (is_filled m (length block) (store_in a flash)) → a.work ≡ None → (x : Answer) (count : ℕ) (out out' sent : List ℕ)
+    (Row : Answer → List ℕ → DeviceView → Type 0) → count ≡ length sent → out' ≡ sent ++ drop count out
+    → Row x sent (shows a.config (store_in a flash) m block)
+    → DeviceCalled a flash out Row (record a { mode = m; block = block }) out' (reply.Answered x count)
+mode_ended a m block flash is filled none x count out out' sent Row count_is out_is row =
+    called_ended x count
+    (kept_ended a (record a { mode = m; block = block }) flash
+    (record { config = refl; unit = refl; sector = refl; held = refl; end = refl; noted = refl; work = refl }) is filled none x count out
+    out' sent Row count_is out_is row)
+
 -- How a piece went.
 
 -- A piece of a work is one of the same work.
@@ -193,6 +214,12 @@ piece_of a x w p same piece = subst (λ (y : PendingWrites). IsPiece (steps_in a
 pub one_piece : (a : LentAsking) (w x : PendingWrites) (p q : Step) → x ≡ w → IsPiece (steps_in a x) x.done p
     → IsPiece (steps_in a w) w.done q → p ≡ q
 one_piece a w x p q same first second = piece_one (steps_in a w) w.done p q (piece_of a x w p same first) second
+
+-- The piece that was asked for has as many bytes as the one that is looked at.
+pub next_size : (a : LentAsking) (w x : PendingWrites) (p : Step) (flash : List ℕ) (n : ℕ) (there : Bool) → x ≡ w
+    → IsPiece (steps_in a x) x.done p → IsNextPiece (steps_in a w) w.done flash n there → length p.write.bytes ≡ n
+next_size a w x p flash n there same piece next =
+    ap (λ (y : Step). length y.write.bytes) (one_piece a w x p next.piece same piece next.is) ∙ next.size
 
 -- The writes of the steps of a work are its writes.
 pub writes_are : (a : LentAsking) (w : PendingWrites) → step_writes (steps_in a w) ≡ writes_in a w
@@ -211,7 +238,7 @@ piece_left a w p piece = omega (
   ap total (writes_are a w),
 )
 
--- Where no step of it is left, none of its bytes is.
+-- If no step of it is left, none of its bytes is.
 pub none_left : (a : LentAsking) (w : PendingWrites) → total (step_writes (steps_in a w)) ≤ w.done → total (writes_in a w) ≤ w.done
 none_left a w le = omega (arith, ap total (writes_are a w), le)
 
@@ -226,7 +253,7 @@ module _ (a : LentAsking) (len : ℕ) (s : SlotsState) (was before : List ℕ) (
   torn_there : Torn (carried was (writes_in a asks.work) asks.work.done) p.write.at p.write.bytes flash
   torn_there = subst (λ (l : List ℕ). Torn l p.write.at p.write.bytes flash) asks.flash_is torn
 
-  -- It failed, or other bytes stand there: the row with that fault.
+  -- It failed, or other bytes are there: the row with that fault.
   pub piece_failed : (fault : WriteFault) (now : LentAsking) (asked : Option ℕ) (x : Answer) (count : ℕ) (out out' : List ℕ)
       → asks.work.asked ≡ asked → IsBrokenOff fault a now → NotesAfter a.mode flash a now
       → GivesAnswer (λ y sent. IsAnswered a.config now.mode asked y sent) x count out out'
@@ -238,7 +265,7 @@ module _ (a : LentAsking) (len : ℕ) (s : SlotsState) (was before : List ℕ) (
       (bit_in a asks.work p piece) torn_there) off
       (subst (λ (y : Option ℕ). GivesAnswer (λ z sent. IsAnswered a.config now.mode y z sent) x count out out') (sym same) gives)
 
-  -- It stands there: the series stands one piece further.
+  -- It is there: the series is one piece further.
   pub piece_stands : p.write.at + length p.write.bytes ≤ length flash
       → slice_range flash p.write.at (p.write.at + length p.write.bytes) ≡ p.write.bytes
       → flash ≡ carried was (writes_in a asks.work) (asks.work.done + length p.write.bytes)

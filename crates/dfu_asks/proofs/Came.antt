@@ -1,4 +1,4 @@
--- What each call of a slot store leaves, by its writes alone.
+-- What each call of a slot store leaves, by its writes only.
 use Rattle.std.proofs.Common.{◌≡◌, ℕ, ◌+◌, ◌≤◌, ◌<◌, List, length, true, Result, Ok, Err, IsErrOf, refl, sym, arith}
 use Rattle.dfu_slots.specs.declared.fault.PutFault.{PutFault}
 use Rattle.dfu_slots.specs.declared.fault.PutFault.TheVariants.{Failed as PutFailed, NotVerified as PutNotVerified, NotBegun, TooLarge}
@@ -19,7 +19,7 @@ use Rattle.dfu_slots.proofs.AfterCommit.{commit_leaves}
 abbrev pub done : Result (Unit {0}) PutFault
 done = Ok tt
 
--- The answer of a call of which a write had this fault.
+-- The answer of a call in which a write had this fault.
 abbrev pub broken : WriteFault → Result (Unit {0}) PutFault
 broken Failed = Err PutFailed
 broken NotVerified = Err PutNotVerified

@@ -10,7 +10,7 @@ use Rattle.dfu_asks.specs.Mapped.{mapped}
 use Rattle.dfu_asks.specs.Carried.{total, carried, AreWithin}
 use Rattle.dfu_asks.proofs.Bits.{IsBit, IsBitOf}
 
--- Of a series of which nothing is carried out nothing shows.
+-- If nothing of a series is carried out, nothing of it shows.
 pub carried_none : (ws : List Write) (m : List ℕ) → carried m ws 0 ≡ m
 carried_none [] m = refl
 carried_none (w ∷ ws) m =
@@ -29,7 +29,7 @@ inside_after : (ws : List Write) (m : List ℕ) (at : ℕ) (new : List ℕ) → 
     → AreWithin ws (length (written m at new))
 inside_after ws m at new fits inside = subst (λ (n : ℕ). AreWithin ws n) (sym (kept_size m at new fits)) inside
 
--- The next piece of a write, behind what is carried out of it.
+-- The next piece of a write, after what is carried out of it.
 part_carried : (m : List ℕ) (w : Write) (n : ℕ) (p : Write) → w.at + length w.bytes ≤ length m → IsBit w n p
     → written m w.at (take (n + length p.bytes) w.bytes) ≡ written (written m w.at (take n w.bytes)) p.at p.bytes
 part_carried m w n p fits part =
@@ -50,7 +50,7 @@ part_carried m w n p fits part =
     there : length (take n w.bytes) ≡ n → w.at + length (take n w.bytes) ≡ p.at
     there front = ap (λ (x : ℕ). w.at + x) front ∙ sym part.place
 
--- Behind a piece that is carried out the series stands one piece further.
+-- After a piece that is carried out the series is one piece further.
 pub step_carried : (ws : List Write) (m : List ℕ) (n : ℕ) (p : Write) → AreWithin ws (length m) → IsBitOf ws n p
     → carried m ws (n + length p.bytes) ≡ written (carried m ws n) p.at p.bytes
 step_carried [] m n p inside none = absurd none
@@ -89,7 +89,7 @@ module _ (u : Grain) where
             (sym first) (all_carried ws mid (n - length w.bytes) (omega (arith, le))),
       )
 
-  -- Whatever becomes of a piece, the series was broken off in the write that the piece is of.
+  -- Whichever bytes a piece leaves, the series was broken off in the write that the piece is part of.
   pub broken_carried : (fault : WriteFault) (ws : List Write) (m now : List ℕ) (n : ℕ) (p : Write) → AreWithin ws (length m)
       → IsBitOf ws n p → Torn (carried m ws n) p.at p.bytes now → BrokenWrites fault (mapped u m) ws (mapped u now)
   broken_carried fault [] m now n p inside none torn = absurd none

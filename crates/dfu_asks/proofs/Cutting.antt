@@ -1,4 +1,4 @@
--- Pieces that are cut of bytes where they lie.
+-- Pieces that are cut out of bytes in place.
 use Rattle.std.proofs.Common.{◌≡◌, ◌==◌, Bool, true, false, if◌then◌else◌, ℕ, ◌+◌, ◌-◌, ◌^◌, ◌≤◌, ◌<◌, min, List, [], ◌∷◌, ◌++◌, length, take, drop, replicate, slice_range, get_or, refl, sym, ◌∙◌, ap, subst, arith, length-append}
 use Rattle.std.proofs.lemmas.Bool.{eq-eqb}
 use Rattle.std.proofs.lemmas.Grind.{same_number_lists}
@@ -13,6 +13,9 @@ use Rattle.dfu_asks.specs.declared.cut.Cut.{Cut}
 use Rattle.dfu_asks.specs.Steps.{Step, step_writes, marked, program, anew_steps, close_step}
 use Rattle.dfu_asks.specs.Jobs.{asked, IsFit, steps_for}
 use Rattle.dfu_asks.specs.declared.formatting.Formatting.{Formatting}
+use Rattle.dfu_asks.specs.declared.pending_writes.PendingWrites.{PendingWrites}
+use Rattle.dfu_asks.specs.Lent.{LentAsking}
+use Rattle.dfu_asks.specs.Asks.{steps_in}
 use Rattle.dfu_asks.specs.Phases.{part_left}
 use Rattle.dfu_asks.specs.Cuts.{source_bytes, zeroed, step_of, IsCut}
 use Rattle.dfu_asks.specs.Carried.{total, IsPart, IsPiece}
@@ -24,17 +27,21 @@ size_by : (b : Bool) (n : ℕ) (ys : List ℕ) → (b ≡ false → n ≤ length
 size_by true n ys within = length-replicate n 255
 size_by false n ys within = length-take-le n ys (within refl)
 
+-- A cut that programs has all its bytes in its source and the zeros.
+has_bytes : (sector : ℕ) (c : Cut) → IsCut sector c → c.piece.erases ≡ false
+    → c.piece.len ≤ length (drop c.from (zeroed c.source c.stock c.front))
+has_bytes sector c is e = omega (
+  arith,
+  length-drop c.from (zeroed c.source c.stock c.front),
+  length-append (source_bytes c.source c.stock c.front) (replicate 256 0),
+  length-replicate {A = ℕ} 256 0,
+  is.within e,
+)
+
+-- The step of a cut has as many bytes as its piece.
 pub step_size : (sector : ℕ) (c : Cut) → IsCut sector c → length (step_of c).write.bytes ≡ c.piece.len
 step_size sector c is =
-    let all = zeroed c.source c.stock c.front in
-    size_by c.piece.erases c.piece.len (drop c.from all)
-    (λ e. omega (
-      arith,
-      length-drop c.from all,
-      length-append (source_bytes c.source c.stock c.front) (replicate 256 0),
-      length-replicate {A = ℕ} 256 0,
-      is.within e,
-    ))
+    size_by c.piece.erases c.piece.len (drop c.from (zeroed c.source c.stock c.front)) (has_bytes sector c is)
 
 -- Bytes that are those of a step one by one are the step's.
 same_by : (b : Bool) (n : ℕ) (xs ys : List ℕ) → (b ≡ false → n ≤ length xs) → (b ≡ false → n ≤ length ys)
@@ -49,20 +56,12 @@ same_by false n xs ys some more each =
 pub filled_with : (sector : ℕ) (c : Cut) (out : List ℕ) → IsCut sector c → length out ≡ 256
     → ((k : ℕ) → k < min c.piece.len 256 → get_or out k 0 ≡ get_or (step_of c).write.bytes k 0) → asked c.piece out ≡ step_of c
 filled_with sector c out is size each =
-    let all = zeroed c.source c.stock c.front in
-    let bytes = same_by c.piece.erases c.piece.len out (drop c.from all)
-    (λ e. omega (arith, size, is.programs e))
-    (λ e. omega (
-      arith,
-      length-drop c.from all,
-      length-append (source_bytes c.source c.stock c.front) (replicate 256 0),
-      length-replicate {A = ℕ} 256 0,
-      is.within e,
-    ))
+    let bytes = same_by c.piece.erases c.piece.len out (drop c.from (zeroed c.source c.stock c.front))
+    (λ e. omega (arith, size, is.programs e)) (has_bytes sector c is)
     (λ k lt e. each k (omega (arith, lt, is.programs e))) in
     λ i. record { erases = c.piece.erases; write = record { at = c.piece.at; bytes = bytes i } }
 
--- A cut is fit to be asked for, once its bytes stand in a buffer.
+-- A cut is fit to be asked for, once its bytes are in a buffer.
 pub fit_of : (sector : ℕ) (c : Cut) (out : List ℕ) → IsCut sector c → asked c.piece out ≡ step_of c → IsFit sector c.piece out
 fit_of sector c out is same = record {
   some = is.some;
@@ -111,12 +110,18 @@ module _ (job : SlotWrite) (s : WriteInputs) (ss : List Step) (steps : steps_for
   begun_with : steps_for job first.stock ≡ ss
   begun_with = ap (λ (x : WriteInputs). steps_for job x) stock ∙ steps
 
-  pub found_in : (p : Step) → IsPiece (steps_for job first.stock) first.rest p → IsPiece ss done p
+  found_in : (p : Step) → IsPiece (steps_for job first.stock) first.rest p → IsPiece ss done p
   found_in p piece =
       subst (λ (n : ℕ). IsPiece ss n p) rest (subst (λ (xs : List Step). IsPiece xs first.rest p) begun_with piece)
 
   pub none_in : total (step_writes (steps_for job first.stock)) ≤ first.rest → total (step_writes ss) ≤ done
   none_in le = omega (arith, le, rest, ap (λ (xs : List Step). total (step_writes xs)) begun_with)
+
+-- A piece that a search for this work found is one of the work.
+pub piece_found : (a : LentAsking) (v : PendingWrites) (s : WriteInputs) → ((w : PendingWrites) → steps_for w.job s ≡ steps_in a w)
+    → (first : Cut) → first.stock ≡ s → first.rest ≡ v.done → (p : Step) → IsPiece (steps_for v.job first.stock) first.rest p
+    → IsPiece (steps_in a v) v.done p
+piece_found a v s steps first stock rest p found = found_in v.job s (steps_in a v) (steps v) v.done first stock rest p found
 
 -- And of a search in a part of a format, on as many bytes of flash as there were.
 module _ (f : Formatting) (now size : ℕ) (same : now ≡ size) (image : List ℕ) (s : WriteInputs) (block : s.block.now ≡ image) (first : Cut)

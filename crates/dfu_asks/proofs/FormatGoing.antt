@@ -31,6 +31,9 @@ use Rattle.dfu_asks.proofs.Inside.{within_range}
 use Rattle.dfu_asks.proofs.Sound.{AreSound, sound_append, anew_sound, close_sound, sound_piece}
 use Rattle.dfu_asks.proofs.FormatParts.{image_next, format_writes_are}
 use Rattle.dfu_asks.proofs.FormatInside.{format_inside, formatted}
+use Rattle.dfu_asks.proofs.Cutting.{part_found}
+use Rattle.dfu_asks.specs.declared.cut.Cut.{Cut}
+use Rattle.dfu_asks.specs.declared.write_inputs.WriteInputs.{WriteInputs}
 
 -- A part has its own steps in front.
 left_parts : (w : Grain) (size : ℕ) (image : List ℕ) (crc : ℕ) (this : FormatStep) → (next : List Step)
@@ -129,6 +132,12 @@ module _ (f : Formatting) (image was flash : List ℕ) (way : FormatUnderWay f i
   pub way_small : (length flash < 2 ^ 32) × (length image ≤ 2 ^ 24)
   way_small = (omega (arith, way_size, sized_small m way.can.sized), omega (arith, way.can.fits, way.can.sized.bound))
 
+  -- The piece that a search in its part found is one of what is left.
+  pub way_piece : (s : WriteInputs) → s.block.now ≡ image → (first : Cut) → first.stock ≡ s → first.rest ≡ f.done → (p : Step)
+      → IsPiece (part_left f (length flash) first.stock.block.now) first.rest p → IsPiece left f.done p
+  way_piece s block first stock rest p found =
+      in_left f (length was) image f.done p (part_found f (length flash) (length was) way_size image s block first stock rest p found)
+
   module _ (p : Step) (piece : IsPiece left f.done p) where
     in_series : IsPiece steps before p
     in_series = subst (λ (ss : List Step). IsPiece ss before p) (sym way.series)
@@ -156,12 +165,12 @@ module _ (f : Formatting) (image was flash : List ℕ) (way : FormatUnderWay f i
       there : Torn (carried was writes before) p.write.at p.write.bytes now
       there = subst (λ (l : List ℕ). Torn l p.write.at p.write.bytes now) way.flash_is torn
 
-      -- Where it fails, or other bytes stand there, the format is broken off by it.
+      -- If it fails, or other bytes are there, the format is broken off by it.
       pub way_broken : (fault : WriteFault) → BrokenWrites fault m (format_series m image) (flash_of f now)
       way_broken fault = subst (λ (ws : List Write). BrokenWrites fault m ws (flash_of f now)) (format_writes_are m image)
           (broken_carried (grain_within f) fault writes was now before p.write way_within bit there)
 
-      -- Where it stands the format stands one piece further.
+      -- If it is there the format is one piece further.
       pub way_further : p.write.at + length p.write.bytes ≤ length now
           → slice_range now p.write.at (p.write.at + length p.write.bytes) ≡ p.write.bytes → (n : ℕ) → n ≡ f.done + length p.write.bytes
           → FormatUnderWay (record f { done = n }) image was now
@@ -183,7 +192,7 @@ module _ (f : Formatting) (image was flash : List ℕ) (way : FormatUnderWay f i
           }
 
   module _ (ended : f.done ≡ total (step_writes part)) where
-    -- A part is carried out, and another one comes behind it.
+    -- A part is carried out, and another one follows it.
     pub way_next : (next : FormatStep) → left ≡ part ++ steps_from (grain_within f) (length was / 2) image f.register next
         → FormatUnderWay (record f { phase = next; done = 0 }) image was flash
     way_next next follows =

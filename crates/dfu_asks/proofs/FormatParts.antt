@@ -1,4 +1,4 @@
--- The parts of a format, one behind the other.
+-- The parts of a format, one after the other.
 use Rattle.std.proofs.Common.{◌≡◌, ℕ, zero, suc, ◌+◌, ◌*◌, ◌≤◌, ◌<◌, List, [], ◌∷◌, ◌++◌, length, take, drop, refl, sym, ◌∙◌, ap, arith}
 use Rattle.std.proofs.lemmas.List.{take_all, drop_all, drop-drop, length-drop, append-nil, append_assoc}
 use Rattle.dfu_suffix.specs.Register.{register}
@@ -33,7 +33,7 @@ pieces_enough sector (suc n) (suc m) at (x ∷ xs) a b =
 front_some : (x : ℕ) (xs : List ℕ) → 0 < length (take 4096 (x ∷ xs))
 front_some x xs = omega arith
 
--- The first 4096 bytes, and those behind them.
+-- The first 4096 bytes, and those after them.
 pieces_parts : (sector n at : ℕ) (bytes : List ℕ) → length bytes ≤ n
     → piece_steps sector n at bytes ≡ some_steps sector at (take 4096 bytes) ++ piece_steps sector n (at + 4096) (drop 4096 bytes)
 pieces_parts sector n at [] le =
@@ -47,7 +47,7 @@ pieces_parts sector (suc n) at (x ∷ xs) le =
     (λ i. sym (anew_are sector at (take 4096 (x ∷ xs)) (front_some x xs)) i
     ++ pieces_enough sector n (suc n) (at + 4096) (drop 4096 (x ∷ xs)) (omega (arith, back, le)) (omega (arith, back, le)) i)
 
--- The next 4096 bytes of an image, and what is left of it behind them.
+-- The next 4096 bytes of an image, and what is left of it after them.
 pub image_parts : (w : Grain) (image : List ℕ) (from : ℕ) → image_steps w image from
     ≡ some_steps w.sector (2 * gate_room w + from) (take 4096 (drop from (filled w.unit image))) ++ image_steps w image (from + 4096)
 image_parts w image from =
@@ -94,7 +94,7 @@ format_writes_are m image =
     (writes_append (image_steps w image 0) (open_steps w 0 0 (length image) (register image))
     ∙ (λ i. image_writes_are w image i ++ open_writes_are w 0 0 (length image) (register image) i))
 
--- What a part has in front of the parts behind it.
+-- What a part has before the parts that follow it.
 abbrev pub IsFollowed : Grain → ℕ → List ℕ → ℕ → FormatStep → FormatStep → Type 0
 IsFollowed w size image crc this next =
     steps_from w size image crc this ≡ part_steps w size image crc this ++ steps_from w size image crc next
@@ -118,6 +118,6 @@ module _ (w : Grain) (size : ℕ) (image : List ℕ) (crc : ℕ) where
       let first = some_steps w.sector (2 * gate_room w + from) (take 4096 (drop from (filled w.unit image))) in
       ap (λ (ss : List Step). ss ++ opening) (image_parts w image from) ∙ append_assoc first (image_steps w image (from + 4096)) opening
 
-  -- Behind the gates comes the header, where there is no image.
+  -- After the gates comes the header, if there is no image.
   pub no_image : length (filled w.unit image) ≡ 0 → IsFollowed w size image crc format_step.CloseFirst format_step.Header
   no_image none = ap (λ (ss : List Step). close_step w 0 ∷ ss ++ opening) (image_over w image 0 (omega (arith, none)))

@@ -1,4 +1,4 @@
--- The pieces of a format, and what is behind each of its parts.
+-- The pieces of a format, and what follows each of its parts.
 use Rattle.std.proofs.Common.{◌≡◌, ℕ, ◌+◌, ◌-◌, ◌*◌, ◌<◌, min, true, List, [], ◌∷◌, length, take, drop, refl, sym, ◌∙◌, subst, arith}
 use Rattle.std.proofs.lemmas.List.{length-take, length-drop}
 use Rattle.dfu_slots.specs.declared.unit.Unit.{Unit as WriteUnit}
@@ -53,7 +53,7 @@ module _ (w : Grain) (image : List ℕ) (from : ℕ) where
   pub front_size : length front ≡ min 4096 (length units - from)
   front_size = omega (arith, length-take 4096 (drop from units), length-drop from units)
 
-  -- Where some are left, they are some.
+  -- If some are left, they are some.
   pub front_total : from < length units → 0 < total (step_writes (some_steps w.sector (2 * gate_room w + from) front))
   front_total left =
       let some : 0 < length front = omega (arith, left, front_size) in

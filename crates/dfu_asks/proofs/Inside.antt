@@ -67,7 +67,7 @@ module _ (s : SlotsState) (store : IsStore s) (w : Grain) (grain : s.medium.grai
   pub place_edge : IsEdge w.sector place
   place_edge = subst (λ (x : Grain). IsEdge x.sector place) grain (spare_edge s.medium store.has_image.active.sized)
 
-  -- What stands behind it does too.
+  -- What follows it does too.
   pub to_edge : IsEdge w.sector to
   to_edge =
       let sized = store.has_image.active.sized in
@@ -78,7 +78,7 @@ module _ (s : SlotsState) (store : IsStore s) (w : Grain) (grain : s.medium.grai
   room_there : 2 * g + room_of s ≡ slot_size s.medium.bytes
   room_there = omega (arith, room_capacity s, store.has_image.active.sized.room)
 
-  -- What is put lies behind the first byte of the spare slot, which is its gate.
+  -- What is put lies after the first byte of the spare slot, which is its gate.
   pub put_beyond : (n : ℕ) (b : List ℕ) (held : List ℕ) → length held ≤ n → n + length b ≤ room_of s
       → AllInside (place + 1) to (put_writes w (held_place w place n held) held b)
   put_beyond n b held le room =

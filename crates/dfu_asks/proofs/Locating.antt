@@ -15,7 +15,7 @@ use Rattle.dfu_asks.specs.Position.{LeadsToErase, LeadsTo, LeadsInto}
 use Rattle.dfu_asks.proofs.Steps.{before, writes_append, writes_marked, marked_append}
 use Rattle.dfu_asks.proofs.Pieces.{total_append, piece_front, piece_behind}
 
--- The sectors that begin before a place are behind, a sector begins there, and so many bytes are left of those carried out.
+-- The sectors that begin before a place are passed, a sector begins there, and so many bytes are left of those carried out.
 pub record Walked (sector at n done place rest : ℕ) : Type 0 where
   pub front : List Write
   pub pieces : erases sector at n ≡ front ++ erases sector place (at + n - place)
@@ -25,7 +25,7 @@ pub record Walked (sector at n done place rest : ℕ) : Type 0 where
   pub high : place ≤ at + n + sector
 
 module _ (sector at n done : ℕ) (large : 1 < sector) where
-  -- None is behind before the first sector, which may begin at once.
+  -- No sector is passed before the first one, which may begin at once.
   here : at % sector ≡ 0 → Walked sector at n done at done
   here begins =
       let all : n ≡ at + n - at = omega arith in
@@ -38,7 +38,7 @@ module _ (sector at n done : ℕ) (large : 1 < sector) where
         high = omega arith;
       }
 
-  -- Or it begins where the one ends in which the place lies.
+  -- Or it begins at the end of the one that the place lies in.
   later : at % sector ≢ 0 → Walked sector at n done (at + (sector - at % sector)) done
   later inner =
       let d = sector - at % sector in
@@ -126,7 +126,7 @@ module _ (sector at n done : ℕ) (large : 1 < sector) where
         to.pieces ∙ ap (λ (k : ℕ). to.front ++ erases sector place k) none ∙ append-nil to.front in
         (omega (arith, ap total all, to.count), omega (arith, to.count, to.span, to.high))
 
--- The write itself, behind its erases.
+-- The write itself, after its erases.
 
 some_are : (sector at : ℕ) (bytes : List ℕ) → length bytes ≢ 0 → some_steps sector at bytes ≡ anew_steps sector at bytes
 some_are sector at bytes some = cond-false (length bytes == 0) [] (anew_steps sector at bytes) (ne_eqb (length bytes) 0 some)
@@ -155,7 +155,7 @@ module _ (sector at n done rest : ℕ) (count : total (if sector == 0 then [] el
     count,
   )
 
-  -- What is left behind the erases leads into the write, or behind it.
+  -- What is left after the erases leads into the write, or past it.
   pub within_leads : (r : Position) → LeadsInto n rest r → LeadsTo sector at n done r
   within_leads (position.Erase place len) none = absurd none
   within_leads (position.Program from) (same, lt) = (
@@ -215,7 +215,7 @@ erase_leads sector at n done place len some (piece, least, end, small, most) = (
   most,
 )
 
--- So is what is found of the erases, but where they are all behind.
+-- So is what is found of the erases, unless they are all passed.
 pub found_leads : (sector at n done : ℕ) (r : Position) → 0 < sector → LeadsToErase sector at n done r
     → ((rest : ℕ) → r ≡ position.Behind rest → ⊥) → LeadsTo sector at n done r
 found_leads sector at n done (position.Erase place len) some leads other = erase_leads sector at n done place len some leads

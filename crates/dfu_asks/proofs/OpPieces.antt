@@ -15,7 +15,7 @@ use Rattle.dfu_asks.proofs.Pieces.{piece_front, piece_behind}
 use Rattle.dfu_asks.proofs.JobPieces.{steps_total}
 
 module _ (s : WriteInputs) (front : List ℕ) where
-  -- The steps of the operation of a number, where there is one.
+  -- The steps of the operation of a number, if there is one.
   pub steps_some : (os : List Op) (n : ℕ) (o : Op) → op_at os n ≡ Some o → steps_at s front os n ≡ op_steps s front o
   steps_some [] n o is = absurd (none-some o is)
   steps_some (p ∷ os) zero o is = ap (λ (q : Op). op_steps s front q) (same_Some _ _ is)

@@ -1,4 +1,4 @@
--- A series of which a front is carried out.
+-- A series whose front is carried out.
 use Rattle.std.proofs.Common.{◌≡◌, inl, inr, ℕ, ◌+◌, ◌-◌, ◌≤◌, ◌<◌, List, [], ◌∷◌, ◌++◌, length, take, slice_index, refl, sym, ◌∙◌, ap, subst, arith}
 use Rattle.std.proofs.lemmas.List.{length-take}
 use Rattle.dfu_slots.specs.Medium.{Write, written}
@@ -28,7 +28,7 @@ carried_size (w ∷ ws) m n (high, inside) =
     let size = (written_torn m w.at front (omega (arith, length-take n w.bytes, high))).size in
     carried_size ws (written m w.at front) (n - length w.bytes) (subst (λ (k : ℕ). AreWithin ws k) (sym size) inside) ∙ size
 
--- A last write of which nothing is carried out.
+-- A last write with nothing carried out.
 pub carried_last : (ws : List Write) (v : Write) (m : List ℕ) (n : ℕ) → n ≤ total ws → carried m (ws ++ v ∷ []) n ≡ carried m ws n
 carried_last [] v m n le =
     let none : n ≡ 0 = omega (arith, le) in

@@ -29,7 +29,7 @@ pub range_of_front : (l : List ℕ) (h i j : ℕ) → j ≤ h → slice_range (t
 range_of_front l h i j le =
     between_is (take h l) i j ∙ ap (λ (x : List ℕ). drop i x) (take-take j h l le) ∙ sym (between_is l i j)
 
--- A range of what stands behind a place is one further on of the whole.
+-- A range of what follows a place is a range further on of the whole.
 pub range_behind : (l : List ℕ) (h i k : ℕ) → slice_range (drop h l) i (i + k) ≡ slice_range l (h + i) (h + i + k)
 range_behind l h i k =
     let a : i + k - i ≡ h + i + k - (h + i) = omega arith in
@@ -69,7 +69,7 @@ piece_some [] n p absent = absurd absent
 piece_some (s ∷ ss) n p (inl part) = part.some
 piece_some (s ∷ ss) n p (inr (past, piece)) = piece_some ss (n - length s.write.bytes) p piece
 
--- A series of which nothing is carried out.
+-- A series with nothing carried out.
 pub reached_none : (ss : List Step) → IsReached ss 0
 reached_none [] = refl
 reached_none (s ∷ ss) = elim (cases_eq (length s.write.bytes) 0) [

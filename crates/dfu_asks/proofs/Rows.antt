@@ -188,7 +188,7 @@ module _ (s : SlotsState) (store : IsStore s) (shape : is_shaped s ≡ true) (n 
         else writes_of s (Put n block)) m) e all))
   ]
 
-  -- Where one of them had a fault, the block was broken off by it.
+  -- If one of them had a fault, the block was broken off by it.
   pub block_broken : (fault : WriteFault) → BrokenWrites fault s.medium (block_series s n block) m
       → BlockBroken fault s n block (store_on m)
   block_broken fault all = elim (cases_eq n 0) [
@@ -235,7 +235,7 @@ module _ (s : SlotsState) (store : IsStore s) (shape : is_shaped s ≡ true) (n 
         room = l.common.room;
       }
 
-  -- Where one of them had a fault, it was broken off by it.
+  -- If one of them had a fault, it was broken off by it.
   pub commit_off : (fault : WriteFault) → BrokenWrites fault s.medium (writes_of s (Commit n)) m → CommitBroken fault s n (store_on m)
   commit_off fault all =
       let l = commit_broken s (store_on m) store n upto can fault (record { writes = all; held_is = refl; end_is = refl }) in

@@ -56,7 +56,7 @@ pub count_is : (image : List ℕ) (place size count : ℕ) → count ≡ min siz
     → count ≡ length (take size (drop place image))
 count_is image place size count is = omega (arith, is, length-drop place image, length-take size (drop place image))
 
--- Where a device goes once these bytes are sent.
+-- The mode of a device once these bytes are sent.
 pub record IsAfter (count size place number : ℕ) (m : DeviceState) : Type 0 where
   pub last : count < size → m ≡ device_state.DfuIdle
   pub more : size ≤ count → m ≡ device_state.UploadIdle (place + size) number
@@ -151,7 +151,7 @@ pub time_within : (d : Decision) (image : List ℕ) (room : ℕ) → IsSilent d 
 time_within (decision.Sends place size number) image room silent = absurd silent
 time_within d image room silent = tt
 
--- Nothing that is put is asked for where a device goes then.
+-- The mode that a device enters then asks for nothing that is put.
 pub after_filled : (count size place number : ℕ) (m : DeviceState) (block : ℕ) (s : SlotsState) → IsAfter count size place number m
     → IsTrue (is_filled m block s)
 after_filled count size place number m block s after = elim (cases_lt count size) [

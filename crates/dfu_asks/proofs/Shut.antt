@@ -42,7 +42,7 @@ take_first : (n x : ℕ) (xs : List ℕ) → 0 < n → take n (x ∷ xs) ≡ x �
 take_first zero x xs lt = absurd (omega (arith, lt))
 take_first (suc n) x xs lt = let e : n ≡ suc n - 1 = omega arith in ap (λ (k : ℕ). x ∷ take k xs) e
 
--- Where a byte or more is written, the first one stands there.
+-- If a byte or more is written, the first one is there.
 first_byte : (m : List ℕ) (at n x : ℕ) (bytes xs : List ℕ) → bytes ≡ x ∷ xs → 0 < n → at + length bytes ≤ length m
     → slice_index (written m at (take n bytes)) at ≡ x
 first_byte m at n x bytes xs is some room =
@@ -102,7 +102,7 @@ module _ (s : SlotsState) (store : IsStore s) (w : Grain) (grain : s.medium.grai
   abbrev pub IsShut : List ℕ → Type 0
   IsShut now = (now ≡ m) ⊎ (slice_index now place ≢ OPEN)
 
-  -- Writes behind the gate leave it closed.
+  -- Writes after the gate leave it closed.
   stays_off : (ws : List Write) (n : ℕ) → is_begun s ≡ true → AllInside (place + 1) to ws → slice_index (carried m ws n) place ≢ OPEN
   stays_off ws n begun inside e =
       begun_closed s begun (sym (carried_byte ws m n place to (end_there s store w grain) inside) ∙ e)
@@ -245,7 +245,7 @@ pub record Goes (a : LentAsking) (flash : List ℕ) (p : Step) : Type 0 where
   pub shut : (slice_index flash slot ≢ OPEN)
       ⊎ (HasImage (mapped (grain_in a) flash) × (spare_at (gate_of (mapped (grain_in a) flash)) flash ≡ slot))
 
--- So it does where a device asks.
+-- So it does if a device asks.
 pub asks_goes : (a : LentAsking) (len : ℕ) (s : SlotsState) (was flash : List ℕ) (k : AsksWrites a len s was flash) (p : Step)
     → IsPiece (steps_in a k.work) k.work.done p → Goes a flash p
 asks_goes a len s was flash k p piece =

@@ -31,7 +31,7 @@ use Rattle.dfu_asks.specs.Due.{Works, Fails}
 use Rattle.dfu_asks.specs.Asks.{IsBlockJob, IsCommitJob, IsDue, capped, is_block, done_mode, failed_mode, IsAnswered}
 use Rattle.dfu_asks.proofs.Rows.{block_written, block_broken, commit_done, commit_off}
 
--- A block that is due has bytes and finds room, behind what was put.
+-- A block that is due has bytes, and there is room for them after what was put.
 pub record IsNext (s : SlotsState) (n b : ℕ) : Type 0 where
   pub shape : is_shaped s ≡ true
   pub some : 0 < b
@@ -132,7 +132,7 @@ pub record Ends (c : Setting) (s : SlotsState) (m : DeviceState) (b : List ℕ) 
 abbrev pub Stays : DeviceState → SlotsState → SlotsState → Type 0
 Stays m s now = is_block m ≡ true → active_at (gate_of now.medium) now.medium.bytes ≡ active_at (gate_of s.medium) s.medium.bytes
 
--- A store is sound where nothing is put.
+-- A store is sound if nothing is put.
 pub idle_sound : (s : SlotsState) → IsStore s → IsTrue (is_shaped s && true)
 idle_sound s store = both (is_shaped s) (shaped store)
   where
@@ -203,7 +203,7 @@ module _ (c : Setting) (w : Grain) (b held : List ℕ) (end : ℕ) (j : SlotWrit
       (subst (λ (ws : List Write). BrokenWrites fault (mapped w m) ws (mapped w flash))
       (series_of_commit s n j w end held b unit_is whole.put job) all))
 
-  -- A block, once all of it is written, leaves the device in a mode behind it.
+  -- A block, once all of it is written, leaves the device in a mode that follows it.
   block_ends : (d to : DeviceState) (n number : ℕ) (stage : List ℕ → Stage) (Says : Type 0)
       → (to ≡ device_state.DownloadSyncWritten (capped n (length b)) number) ⊎ (to ≡ device_state.DownloadIdle (capped n (length b)) number)
       → ((spare : List ℕ) → stage_of to spare b ≡ stage (take (capped n (length b)) spare)) → IsNext s n (length b)

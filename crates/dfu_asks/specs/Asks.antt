@@ -48,7 +48,7 @@ pub record IsDevice (a : LentAsking) (flash : List ℕ) : Type 0 where
   pub sound : IsTrue (is_sound a.mode (length a.block) (store_in a flash))
   pub noted : IsNoted a.noted (mapped (grain_in a) flash)
 
--- The job of a block behind n bytes, where the puts end here and this is held back.
+-- The job of a block after n bytes, with this end of the puts and these bytes held back.
 pub record IsBlockJob (n : ℕ) (s : SlotsState) (j : SlotWrite) (end : ℕ) (held : List ℕ) : Type 0 where
   pub job_is : j ≡ slot_write.Block (spare_at (gate_of s.medium) s.medium.bytes) ((n == 0) && not (is_begun s))
   pub end_is : end ≡ n
@@ -89,7 +89,7 @@ pub record IsWorking (a : LentAsking) (w : PendingWrites) (len : ℕ) (s : Slots
 abbrev pub device_of : LentAsking → SlotsState → DeviceView
 device_of a s = shows a.config s a.mode a.block
 
--- Where it goes once all is written; a sum of bytes stops at the largest number.
+-- Its next mode once all is written; a sum of bytes stops at the largest number.
 abbrev pub capped : ℕ → ℕ → ℕ
 capped a b = min (a + b) (2 ^ 32 - 1)
 
@@ -107,7 +107,7 @@ is_block (device_state.DownloadSync written number) = true
 is_block (device_state.DownloadBusy written number passed) = true
 is_block m = false
 
--- Where it goes where a write had this fault.
+-- Its next mode if a write had this fault.
 abbrev pub failed_mode : WriteFault → DeviceState → DeviceState
 failed_mode fault m = if is_block m then device_state.Error (write_code fault) else device_state.Error (commit_code fault)
 
@@ -133,7 +133,7 @@ pub record IsBrokenOff (fault : WriteFault) (a a' : LentAsking) : Type 0 where
   pub end : a'.put_end ≡ 0
   pub work : a'.work ≡ None
 
--- What is noted after a row in this mode, on this flash: after a commit what stands on it, and after a block what was noted.
+-- What is noted after a row in this mode, on this flash: after a commit what the flash has, and after a block what was noted.
 pub record NotesAfter (m : DeviceState) (flash : List ℕ) (a a' : LentAsking) : Type 0 where
   pub of_block : is_block m ≡ true → a'.noted ≡ a.noted
   pub of_commit : is_block m ≡ false → HasImage (mapped (grain_in a') flash) → IsNoted a'.noted (mapped (grain_in a') flash)
@@ -148,7 +148,7 @@ abbrev pub IsAnswered : Setting → DeviceState → Option ℕ → Answer → Li
 IsAnswered c m None a out = IsReply c m reply.Ack 0 a out
 IsAnswered c m (Some len) a out = IsReply c m reply.Status len a out
 
--- The bytes of an answer, at most six, stand at the front of a buffer.
+-- The bytes of an answer, at most six, are at the front of a buffer.
 pub record GivesAnswer (Says : Answer → List ℕ → Type 0) (a : Answer) (count : ℕ) (out out' : List ℕ) : Type 0 where
   pub sent : List ℕ
   pub says : Says a sent

@@ -13,7 +13,7 @@ use Rattle.dfu_asks.specs.Carried.{total, carried, IsReached}
 use Rattle.dfu_asks.specs.Due.{IsDueRow, Works, Fails}
 use Rattle.dfu_asks.specs.Asks.{store_in, device_in, device_of, IsDevice, IsWorking, writes_in, steps_in}
 
--- The bytes of an answer stand at the front of a buffer, and the rest of it is as it was.
+-- The bytes of an answer are at the front of a buffer, and the rest of it is unchanged.
 pub record Gave (a : Answer) (count : ℕ) (out out' : List ℕ) (Row : Answer → List ℕ → Type 0) : Type 0 where
   pub sent : List ℕ
   pub count_is : count ≡ length sent
@@ -57,23 +57,23 @@ pub data DeviceCalled (a : LentAsking) (flash out : List ℕ) (Row : Answer → 
   called_asks : (len : ℕ) → AsksWrites now len (store_in a flash) flash flash → device_of now (store_in a flash) ≡ device_in a flash
       → IsDueRow len (device_in a flash) Row → out' ≡ out → DeviceCalled a flash out Row now out' reply.Asks
 
--- The program says how a piece went, which was to be written where these bytes stood.
+-- The program reports how a piece went that was to be written over these bytes.
 pub data DeviceTook (d : DeviceView) (len : ℕ) (s : SlotsState) (was : List ℕ) (p : Write) (failed : Bool) (flash out : List ℕ)
     (now : LentAsking)
     (out' : List ℕ) (r : Reply) : Type 0 where
-  -- It stands there: the device asks on, or the row came to its end.
+  -- It is there: the device asks on, or the row came to its end.
   took_well : failed ≡ false → slice_range flash p.at (p.at + length p.bytes) ≡ p.bytes → DueComes d len s was flash out now out' r
       → DeviceTook d len s was p failed flash out now out' r
   -- The write failed: the row with that fault.
   took_failed : (x : Answer) (count : ℕ) → failed ≡ true → r ≡ reply.Answered x count
       → HasEnded flash x count out out' now (λ y sent w'. Fails Failed len d y sent w')
       → DeviceTook d len s was p failed flash out now out' r
-  -- Other bytes stand there: the row with that fault.
+  -- Other bytes are there: the row with that fault.
   took_lied : (x : Answer) (count : ℕ) → failed ≡ false → ¬ (slice_range flash p.at (p.at + length p.bytes) ≡ p.bytes)
       → r ≡ reply.Answered x count → HasEnded flash x count out out' now (λ y sent w'. Fails NotVerified len d y sent w')
       → DeviceTook d len s was p failed flash out now out' r
 
--- A piece of this work stands there, and it was not the last one.
+-- A piece of this work is there, and it was not the last one.
 pub record AsksOn (a : LentAsking) (w : PendingWrites) (p : Write) (failed : Bool) (flash : List ℕ) : Type 0 where
   pub well : failed ≡ false
   pub stands : slice_range flash p.at (p.at + length p.bytes) ≡ p.bytes

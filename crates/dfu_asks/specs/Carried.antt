@@ -27,7 +27,7 @@ abbrev pub IsPiece : List Step → ℕ → Step → Type 0
 IsPiece [] n p = ⊥
 IsPiece (s ∷ ss) n p = IsPart s n p ⊎ ((length s.write.bytes ≤ n) × IsPiece ss (n - length s.write.bytes) p)
 
--- So many bytes of a series are carried out in whole pieces: of the step that they end in none where it erases, else a multiple of 256.
+-- So many bytes of a series are carried out in whole pieces: of the step that they end in none if it erases, else a multiple of 256.
 abbrev pub IsReached : List Step → ℕ → Type 0
 IsReached [] n = n ≡ 0
 IsReached (s ∷ ss) n = ((n < length s.write.bytes) × (n % 256 ≡ 0) × (s.erases ≡ true → n ≡ 0))

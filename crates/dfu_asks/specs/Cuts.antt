@@ -1,4 +1,4 @@
--- The piece that is found, and its bytes where they lie.
+-- The piece that is found, and its bytes in place.
 use Rattle.std.specs.Prelude.{◌≡◌, ◌↔◌, Bool, IsTrue, ℕ, ◌+◌, ◌^◌, ◌≤◌, ◌<◌, true, false, List, ◌++◌, length, drop, replicate, slice_range}
 use Rattle.dfu_asks.specs.declared.write_inputs.WriteInputs.{WriteInputs}
 use Rattle.dfu_asks.specs.declared.cut.Cut.{Cut}
@@ -24,7 +24,7 @@ range_in source s front skip n = slice_range (zeroed source s front) skip (skip 
 abbrev pub step_of : Cut → Step
 step_of c = asked c.piece (drop c.from (zeroed c.source c.stock c.front))
 
--- After so many bytes of these steps a piece comes, which has so many bytes; and whether they stand on this flash.
+-- After so many bytes of these steps comes a piece with so many bytes; and whether they are on this flash.
 pub record IsNextPiece (steps : List Step) (done : ℕ) (flash : List ℕ) (n : ℕ) (stands : Bool) : Type 0 where
   pub piece : Step
   pub is : IsPiece steps done piece

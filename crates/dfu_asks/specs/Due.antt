@@ -38,7 +38,7 @@ FailsOut fault (Commits taken reply stage bad) len w a out w' =
 abbrev pub Works : ℕ → DeviceView → Answer → List ℕ → DeviceView → Type 0
 Works len w a out w' = WorksOut (due_plan (profile w) w.stage) len w a out w'
 
--- And what comes of it where a write has this fault.
+-- And what comes of it if a write has this fault.
 abbrev pub Fails : WriteFault → ℕ → DeviceView → Answer → List ℕ → DeviceView → Type 0
 Fails fault len w a out w' = FailsOut fault (due_plan (profile w) w.stage) len w a out w'
 

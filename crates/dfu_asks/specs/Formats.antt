@@ -39,22 +39,22 @@ pub record HasFormatted (m : MediumState) (image : List ℕ) (now : MediumState)
   pub writes : AllWrites m (format_series m image) now
   pub active : Active now image
 
--- What comes of a format of which the pieces so far are carried out: it asks, further on; or it came to its end.
+-- What comes of a format once its pieces so far are carried out: it asks for the next one, or it came to its end.
 abbrev pub FormatComesTo : Grain → Formatting → (image was flash : List ℕ) → FormatProgress → Type 0
 FormatComesTo grain f image was flash Asks = AsksFormat f image was flash
 FormatComesTo grain f image was flash Formatted = HasFormatted (mapped grain was) image (mapped grain flash)
 FormatComesTo grain f image was flash (Broken fault) = ⊥
 
--- The program says how a piece of a format went, which was to be written where these bytes stood.
+-- The program reports how a piece of a format went that was to be written over these bytes.
 pub data TookPiece (f f' : Formatting) (image was flash : List ℕ) (p : Write) (failed : Bool) : FormatProgress → Type 0 where
-  -- It stands there: the format asks on, or it is done.
+  -- It is there: the format asks on, or it is done.
   format_well : (r : FormatProgress) → failed ≡ false → slice_range flash p.at (p.at + length p.bytes) ≡ p.bytes
       → FormatComesTo (grain_within f) f' image was flash r
       → TookPiece f f' image was flash p failed r
   -- The write failed: the format was broken off by it.
   format_failed : failed ≡ true → BrokenWrites Failed (flash_of f was) (format_series (flash_of f was) image) (flash_of f flash)
       → TookPiece f f' image was flash p failed (Broken Failed)
-  -- Other bytes stand there.
+  -- Other bytes are there.
   format_lied : failed ≡ false → ¬ (slice_range flash p.at (p.at + length p.bytes) ≡ p.bytes)
       → BrokenWrites NotVerified (flash_of f was) (format_series (flash_of f was) image) (flash_of f flash)
       → TookPiece f f' image was flash p failed (Broken NotVerified)

@@ -10,11 +10,11 @@ use Rattle.dfu_asks.specs.declared.slot_write.SlotWrite.TheVariants.{Block, Comm
 use Rattle.dfu_asks.specs.declared.flash_op.FlashOp.{FlashOp}
 use Rattle.dfu_asks.specs.declared.write_inputs.WriteInputs.{WriteInputs}
 
--- Where what is held back belongs, of a slot that begins here.
+-- The place of what is held back, in a slot that begins here.
 abbrev pub held_place : Grain → ℕ → ℕ → List ℕ → ℕ
 held_place grain spare end held = spare + 2 * gate_room grain + (end - length held)
 
--- The writes of a job over a medium of this grain, where the puts end here, these bytes are held back, and this is the block.
+-- The writes of a job over a medium of this grain, with this end of the puts, these bytes held back, and this block.
 abbrev pub job_writes : SlotWrite → Grain → ℕ → List ℕ → List ℕ → List Write
 job_writes (Block spare close) grain end held block =
     (if close then record { at = spare; bytes = closed_gate grain } ∷ [] else [])
@@ -29,14 +29,14 @@ job_steps (Block spare close) grain end held block =
 job_steps (Commit spare gen crc) grain end held block =
     some_steps grain.sector (held_place grain spare end held) (filled grain.unit held) ++ open_steps grain spare gen end crc
 
--- The step that a piece asks for, if its bytes stand at the front of these.
+-- The step that a piece asks for, if its bytes are at the front of these.
 abbrev pub asked : FlashOp → List ℕ → Step
 asked p bytes = record {
   erases = p.erases;
   write = record { at = p.at; bytes = if p.erases then replicate p.len 255 else take p.len bytes };
 }
 
--- It has some bytes: a program at most 256, which stand at the front of these, and an erase no more than a sector.
+-- It has some bytes: a program at most 256, which are at the front of these, and an erase no more than a sector.
 pub record IsFit (sector : ℕ) (p : FlashOp) (bytes : List ℕ) : Type 0 where
   pub some : 0 < p.len
   pub programs : p.erases ≡ false → p.len ≤ 256

@@ -1,5 +1,5 @@
--- Flash that is mapped into memory: it is read there, and its owner alone writes it.
-use Rattle.std.specs.Prelude.{◌≡◌, ◌≢◌, ◌⊎◌, ◌+◌, ◌-◌, ◌^◌, ◌≤◌, ℕ, List, [], slice_index}
+-- Flash that is mapped into memory: it is read there, and only its owner writes it.
+use Rattle.std.specs.Prelude.{◌≡◌, ◌≢◌, ◌⊎◌, ◌+◌, ◌-◌, ◌^◌, ◌≤◌, ◌<◌, ℕ, List, [], slice_index}
 use Rattle.dfu_slots.specs.declared.unit.Unit.{Unit as WriteUnit}
 use Rattle.dfu_slots.specs.Units.{Grain}
 use Rattle.dfu_slots.specs.Medium.{MediumState}
@@ -20,6 +20,10 @@ mapped grain bytes = record { bytes = bytes; failures = 2 ^ 64 - 1; fuse = Unkno
 pub record IsInSpare (m : MediumState) (at len : ℕ) : Type 0 where
   pub from : spare_at (gate_of m) m.bytes ≤ at
   pub to : at + len ≤ spare_at (gate_of m) m.bytes + slot_size m.bytes
+
+-- Of two slots of this size, a place lies in the one that begins here.
+abbrev pub IsSlotOf : ℕ → ℕ → ℕ → Type 0
+IsSlotOf at size slot = ((at < size) × (slot ≡ 0)) ⊎ ((size ≤ at) × (slot ≡ size))
 
 -- A range is not asked for: whichever slot it lies in has an open gate, and is not the spare of an active image.
 abbrev pub IsHeldBack : MediumState → ℕ → ℕ → Type 0

@@ -6,7 +6,7 @@ use Rattle.dfu_slots.specs.Image.{gate_of, slot_of, capacity_of, active_at, IsSi
 use Rattle.dfu_asks.specs.declared.noted.Noted.{Noted}
 use Rattle.dfu_asks.specs.declared.view.View.{View}
 
--- Where the slot begins that is noted.
+-- Where the noted slot begins.
 abbrev pub noted_at : Noted → List ℕ → ℕ
 noted_at n bytes = if n.second then slot_size bytes else 0
 

@@ -38,7 +38,7 @@ steps_from grain size image crc Ended = []
 abbrev pub format_steps : MediumState → List ℕ → List Step
 format_steps m image = steps_from m.grain (slot_size m.bytes) image (register image) CloseSecond
 
--- The steps of this part alone.
+-- The steps of this part only.
 abbrev pub part_steps : Grain → ℕ → List ℕ → ℕ → FormatStep → List Step
 part_steps grain size image crc CloseSecond = close_step grain size ∷ []
 part_steps grain size image crc CloseFirst = close_step grain 0 ∷ []

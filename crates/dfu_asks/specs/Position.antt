@@ -1,4 +1,4 @@
--- Where so many bytes of a write and of the erases before it lead.
+-- The position after so many bytes of a write and of the erases before it.
 use Rattle.std.specs.Prelude.{◌≡◌, ℕ, ◌+◌, ◌*◌, ◌^◌, ◌≤◌, ◌<◌, true, List, length}
 use Rattle.dfu_slots.specs.Writes.{erases}
 use Rattle.dfu_asks.specs.declared.position.Position.{Position}
@@ -13,7 +13,7 @@ LeadsToErase sector at n done (Erase place len) = IsPiece (marked true (erases s
 LeadsToErase sector at n done (Program from) = ⊥
 LeadsToErase sector at n done (Behind rest) = (total (erases sector at n) + rest ≡ done) × (done ≤ rest + n + sector)
 
--- Behind so many bytes of a write of n bytes there: what is left of an erase before it, a place in it, or it is behind.
+-- After so many bytes of a write of n bytes there: what is left of an erase before it, a place in it, or it is passed.
 abbrev pub LeadsTo : ℕ → ℕ → ℕ → ℕ → Position → Type 0
 LeadsTo sector at n done (Erase place len) =
     ((bytes : List ℕ) → length bytes ≡ n → IsPiece (some_steps sector at bytes) done (erase_step place len))
@@ -25,7 +25,7 @@ LeadsTo sector at n done (Behind rest) =
     ((bytes : List ℕ) → length bytes ≡ n → total (step_writes (some_steps sector at bytes)) + rest ≡ done)
     × (done ≤ rest + 2 * n + sector)
 
--- So many bytes of a write of n bytes lead into it, or behind it.
+-- So many bytes of a write of n bytes lead into it, or past it.
 abbrev pub LeadsInto : ℕ → ℕ → Position → Type 0
 LeadsInto n done (Erase place len) = ⊥
 LeadsInto n done (Program from) = (from ≡ done) × (from < n)

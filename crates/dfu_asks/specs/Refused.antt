@@ -20,11 +20,11 @@ pub record IsKeptOn (a : Asking) (block held flash : List ℕ) : Type 0 where
   pub fits : Fits a (length block)
   pub is : IsDevice (lent a block held) flash
 
--- The noted header stands in an open slot of this flash.
+-- The noted header is in an open slot of this flash.
 abbrev pub IsThere : Asking → List ℕ → Type 0
 IsThere a flash = NotedStands a.noted (mapped (grain_of a.unit a.sector) flash)
 
--- A call with a buffer of so many bytes, of which it needs so many, is refused for this. The causes are looked for in this order.
+-- A call with a buffer of so many bytes, of which it needs so many, is refused for this. The causes are checked in this order.
 abbrev pub IsRefusedCall : Refusal → Asking → (block held flash : List ℕ) → (need room : ℕ) → Type 0
 IsRefusedCall refusal.Asked a block held flash need room = IsSome a.work
 IsRefusedCall refusal.NoRoom a block held flash need room = (a.work ≡ None) × (room < need)
@@ -32,7 +32,7 @@ IsRefusedCall refusal.NoMedium a block held flash need room = (a.work ≡ None) 
 IsRefusedCall refusal.NoDevice a block held flash need room = (a.work ≡ None) × (need ≤ room) × IsThere a flash ×
     ¬ IsKeptOn a block held flash
 
--- What is true of each call that is not refused, whatever is kept.
+-- What is true of each call that is not refused, also if what is kept was damaged.
 pub record IsServed (a : Asking) (block flash : List ℕ) (need room : ℕ) : Type 0 where
   pub work : a.work ≡ None
   pub enough : need ≤ room

@@ -9,11 +9,11 @@ use Rattle.dfu_slots.specs.Store.{IsStore}
 use Rattle.dfu_device.specs.Parts.{is_put}
 use Rattle.dfu_device.specs.Rows.{block_calls}
 
--- What is held back before a block that comes behind so many bytes: nothing before the first one.
+-- What is held back before a block that comes after so many bytes: nothing before the first one.
 abbrev pub held_before : SlotsState → ℕ → List ℕ
 held_before s n = if n == 0 then [] else s.held
 
--- The writes of a block behind so many bytes; before the first one the spare is closed.
+-- The writes of a block after so many bytes; before the first one the spare is closed.
 abbrev pub block_series : SlotsState → ℕ → List ℕ → List Write
 block_series s n block =
     if n == 0 then writes_of s Begin ++ put_writes s.medium.grain (data_place s 0) [] block else writes_of s (Put n block)
@@ -22,7 +22,7 @@ block_series s n block =
 abbrev pub block_store : SlotsState → ℕ → List ℕ → MediumState → SlotsState
 block_store s n block m = store_of m (put_rest s.medium.grain.unit (held_before s n) block) (n + length block)
 
--- The block was written behind so many bytes: the calls of its row worked, and the image stays where it is.
+-- The block was written after so many bytes: the calls of its row worked, and the image stays in place.
 pub record BlockWritten (s : SlotsState) (n : ℕ) (block : List ℕ) (now : SlotsState) : Type 0 where
   pub calls : Called s (block_calls (take n (spare_of s)) block) AllWorked now
   pub store : IsStore now
@@ -32,7 +32,7 @@ pub record BlockWritten (s : SlotsState) (n : ℕ) (block : List ℕ) (now : Slo
   pub put : is_put (n + length block) now ≡ true
   pub spare : take (n + length block) (spare_of now) ≡ take n (spare_of s) ++ block
 
--- A write of the block had this fault: the calls of its row were broken off by it, and the image stays where it is.
+-- A write of the block had this fault: the calls of its row were broken off by it, and the image stays in place.
 pub record BlockBroken (fault : WriteFault) (s : SlotsState) (n : ℕ) (block : List ℕ) (now : SlotsState) : Type 0 where
   pub calls : Called s (block_calls (take n (spare_of s)) block) (BrokenBy fault) now
   pub store : IsStore now

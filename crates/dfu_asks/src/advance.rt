@@ -41,7 +41,7 @@ impl Asking {
         }
     }
 
-    /// How many bytes the next piece of this work has, and whether they stand on this flash; or 0, and none is left.
+    /// How many bytes the next piece of this work has, and whether they are on this flash; or 0 if no piece is left.
     pub(crate) fn look_at(
         &self,
         work: &PendingWrites,
@@ -85,7 +85,7 @@ impl Asking {
         let Some(work) = self.work else {
             return Reply::Answered(Answer::Ack, 0);
         };
-        // (Without a flash it tells whether a piece is left.)
+        // (Without a flash it says whether a piece is left.)
         let (len, _) = self.look_at(&work, block, held, &[]);
         if len > 0 {
             return Reply::Asks;

@@ -6,17 +6,17 @@ use crate::{Noted, PendingWrites, Sector};
 use dfu_device::{Config, DeviceState};
 use dfu_slots::Unit;
 
-/// A device that asks for its writes: what is kept of it between two calls. Its flash is mapped, and handed in at each call. So is
+/// A device that asks for its writes, as it is kept between two calls. Its flash is mapped, and passed in at each call. So are
 /// the memory of the block that is not written, and that of the bytes put that are held back, fewer than a unit has.
 #[derive(Clone, Copy, Drop)]
 pub struct Asking {
     /// What it is set up with.
     pub config: Config,
-    /// In which unit the flash is written.
+    /// The unit in which the flash is written.
     pub unit: Unit,
-    /// In which sectors it is erased before, if in any.
+    /// The sectors in which it is erased before, if any.
     pub sector: Sector,
-    /// Where it stands.
+    /// Its state, with what it keeps there.
     pub mode: DeviceState,
     /// How many bytes at the front of its memory are the block that is not written.
     pub block_len: usize,

@@ -22,8 +22,8 @@ use dfu_slots::Unit;
 use dfu_wire::{Code, Request, Setup, State};
 
 impl Asking {
-    /// A device that gets power: in appIDLE, with no block, on flash that it reads. That is written in this unit, and erased in sectors
-    /// before, or if there are none written over in place. It reads the images, to see which is active.
+    /// A device that is powered on: in appIDLE, with no block, on flash that it reads. The flash is written in this unit, and erased in
+    /// sectors before, or if there are none written over in place. It reads the images, to see which is active.
     ///
     /// None exactly if the flash has no active image, or 2^32 bytes or more.
     pub fn power_on(config: Config, unit: Unit, sector: Sector, flash: &[u8]) -> Option<Asking>
@@ -62,7 +62,7 @@ impl Asking {
         self.mode.code()
     }
 
-    // What is seen of the flash, if what is kept goes with it.
+    // The view of the flash, if what is kept goes with it.
     fn see<'f>(&self, room: usize, flash: &'f [u8]) -> Result<(Mapped<'f>, View), Refusal>
         ensures medium { IfOk result (λ r. (r.0.unit ≡ self.now.unit) × (r.0.sector ≡ self.now.sector) × (r.0.bytes.now ≡ flash.now)) }
         ensures view { IfOk result (λ r. IsView r.1 self.now.noted (mapped (grain_of self.now.unit self.now.sector) flash.now)) }
@@ -135,9 +135,9 @@ impl Asking {
     /// # Errors
     ///
     /// `Asked` if writes are due; `NoRoom` if the buffer has less room than an answer may need, which is 6 bytes or the transfer
-    /// size, whichever is more; `NoMedium` if the noted header does not stand in an open slot of the flash; `NoDevice` if what is kept
-    /// is none of a device on it, or the block's memory has less room than the transfer size. They are looked for in this order, and
-    /// nothing changed then.
+    /// size, whichever is more; `NoMedium` if the noted header is not in an open slot of the flash; `NoDevice` if what is kept
+    /// is not a device on it, or the block's memory has less room than the transfer size. They are checked in this order, and
+    /// nothing changes then.
     pub fn handle(
         &mut self,
         block: &mut [u8],
@@ -171,7 +171,7 @@ impl Asking {
         Ok(self.respond(block, held, &medium, &view, setup, body, out))
     }
 
-    /// So many milliseconds pass, as `Device::elapse`; or the row writes, and its writes are asked for now.
+    /// This many milliseconds pass, as `Device::elapse`; or the row writes, and its writes are asked for now.
     ///
     /// # Errors
     ///

@@ -1,4 +1,4 @@
-//! Where an image is in the flash of a device that asks, that was taken and is not in place yet.
+//! Where a received image that is not in place yet is in the flash of a device that asks.
 ghost use Rattle.std.specs.Prelude.{◌≡◌, ◌+◌, ◌≤◌, ℕ, List, length, IfOk, IfErr, IfSome, IfNone, None};
 ghost use Rattle.dfu_device.specs.Candidate.{candidate_in, IsCandidate};
 ghost use Rattle.dfu_asks.specs.Lent.{lent};
@@ -11,12 +11,12 @@ use dfu_device::Candidate;
 use dfu_slots::{Medium, data_at};
 
 impl Asking {
-    /// Where the image is that was taken, as `Device::candidate`. The bytes after those in the flash are the `held_len` ones that are held
+    /// Where the received image is, as `Device::candidate`. The bytes after those in the flash are the `held_len` ones that are held
     /// back.
     ///
     /// # Errors
     ///
-    /// As `elapse`, but that the memory of the block is not looked at.
+    /// As `elapse`, except that the memory of the block is not checked.
     pub fn candidate(&self, flash: &[u8]) -> Result<Option<Candidate>, Refusal>
         ensures some { (block held : List ℕ) → IsKeptOn self.now block held flash.now →
             IfOk result (λ r. IfSome r (λ c. IsCandidate (device_in (lent self.now block held) flash.now) c)) }

@@ -30,7 +30,7 @@ fn wanted(asked: Option<u16>) -> u16
     }
 }
 
-// Puts the first of some bytes at the front of a buffer, at most `asked`, and answers how many they are.
+// Puts the first of some bytes at the front of a buffer, at most `asked`, and returns their number.
 fn put_front(bytes: &[u8], asked: u16, out: &mut [u8]) -> usize
     requires few { length bytes.now ≤ 6 }
     requires room { 6 ≤ length out.old }
@@ -43,7 +43,7 @@ fn put_front(bytes: &[u8], asked: u16, out: &mut [u8]) -> usize
     count
 }
 
-// Puts the bytes of the active image at the front of a buffer, from `place` on, at most `size`; and answers how many they are.
+// Puts the bytes of the active image at the front of a buffer, from `place` on, at most `size`, and returns their number.
 fn put_image(medium: &Mapped<'_>, view: &View, place: u32, size: u16, out: &mut [u8]) -> usize
     requires view { (n : Noted) × IsView view.now n (mapped (grain_of medium.now.unit medium.now.sector) medium.now.bytes.now) }
     ensures count { result ≡ min (view.now.len - place) (min size (length out.old)) }
@@ -127,7 +127,7 @@ impl Asking {
                 Reply::Answered(answer, count)
             }
             Decision::Holds { mode } => {
-                // The body of a block finds room.
+                // There is room for the body of a block.
                 let len = body.len().min(block.len()).min(4096);
                 block[..len].copy_from_slice(&body[..len]);
                 self.block_len = len;

@@ -1,4 +1,4 @@
-//! The piece that is found, and its bytes where they lie.
+//! The piece that is found, and its bytes in place.
 ghost use Rattle.std.specs.Prelude.{◌≡◌, ◌+◌, ◌^◌, ◌<◌, ◌≤◌, ◌++◌, ◌↔◌, ℕ, false, length, replicate, slice_index, slice_range, IsTrue};
 ghost use Rattle.dfu_asks.specs.Jobs.{asked, IsFit};
 ghost use Rattle.dfu_asks.specs.Cuts.{step_of, IsCut};
@@ -24,7 +24,7 @@ pub(crate) struct Cut<'a> {
     pub(crate) from: usize,
 }
 
-/// The search behind so many bytes of writes that are made of this.
+/// The search after so many bytes of writes that are made of this.
 pub(crate) fn cut_at<'a>(stock: WriteInputs<'a>, done: u32) -> Cut<'a>
     ensures stock { result.stock ≡ stock.entry }
     ensures rest { result.rest ≡ done }
@@ -43,7 +43,7 @@ pub(crate) fn cut_at<'a>(stock: WriteInputs<'a>, done: u32) -> Cut<'a>
     }
 }
 
-// The byte so far behind the first one of a piece.
+// The byte at this distance from the first one of a piece.
 fn byte_of(cut: &Cut<'_>, i: usize) -> u8
     requires cut { (sector : ℕ) × IsCut sector cut.now }
     requires within { i < cut.now.piece.len }
@@ -88,7 +88,7 @@ fn are_those(bytes: &[u8], cut: &Cut<'_>) -> bool
     true
 }
 
-/// Whether the bytes of a piece stand on flash: of an erase FFh.
+/// Whether the bytes of a piece are on the flash; after an erase they are FFh.
 pub(crate) fn stands(flash: &[u8], cut: &Cut<'_>) -> bool
     requires cut { (sector : ℕ) × IsCut sector cut.now }
     requires large { cut.now.piece.len < 2 ^ 32 }

@@ -22,7 +22,7 @@ fn is_block(mode: DeviceState) -> bool
     }
 }
 
-// Where a device goes from a mode once all is written, with a block of so many bytes.
+// The next mode of a device once all is written, with a block of so many bytes.
 fn done_mode(config: Config, mode: DeviceState, len: u32) -> DeviceState
     ensures { result ≡ done_mode config mode len }
 {
@@ -51,7 +51,7 @@ fn done_mode(config: Config, mode: DeviceState, len: u32) -> DeviceState
     }
 }
 
-// Where a device goes from a mode in which a write had this fault.
+// The next mode of a device after a write had this fault.
 fn failed_mode(mode: DeviceState, fault: WriteFault) -> DeviceState
     ensures { result ≡ failed_mode fault mode }
 {
@@ -63,7 +63,7 @@ fn failed_mode(mode: DeviceState, fault: WriteFault) -> DeviceState
     DeviceState::Error { code }
 }
 
-// Keeps what makes no whole unit of the bytes held and a block after them, and answers how many bytes that are.
+// Keeps those of the bytes held and a block after them that make no whole unit, and returns their number.
 fn keep_rest(unit: Unit, held: &mut [u8], held_len: usize, block: &[u8]) -> usize
     requires few { held_len ≤ 256 }
     requires held { held_len ≤ length held.old }

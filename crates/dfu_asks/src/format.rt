@@ -51,7 +51,7 @@ fn fault_of(flash: &[u8], unit: Unit, sector: Sector, image: &[u8]) -> Option<Fo
     None
 }
 
-// The part behind this one of a format of an image of so many bytes.
+// The part after this one of a format of an image of so many bytes.
 fn part_behind(phase: FormatStep, unit: Unit, len: usize) -> FormatStep
     requires { len ≤ 2 ^ 24 }
     ensures parts { (w : Grain) (size crc : ℕ) (image : List ℕ) → w.unit ≡ unit → length image ≡ len →
@@ -83,12 +83,12 @@ fn part_behind(phase: FormatStep, unit: Unit, len: usize) -> FormatStep
 }
 
 impl Formatting {
-    /// Begins a format that puts this image into the first slot of a flash and makes it the active one, whatever stood there.
+    /// Begins a format that puts this image into the first slot of a flash and makes it the active one, whatever the flash had.
     ///
     /// # Errors
     ///
     /// `WrongSize` if the flash is not two slots, as `Slots::format` has it, or has 2^32 bytes or more; `TooLarge` if the image
-    /// has more bytes than a slot's data. They are looked for in this order.
+    /// has more bytes than a slot's data. They are checked in this order.
     pub fn start(
         flash: &[u8],
         unit: Unit,
@@ -131,11 +131,13 @@ impl Formatting {
         part_piece(self, flash.len(), cut)
     }
 
-    /// The next piece that is asked for: at most 256 bytes to be programmed, or one sector to be erased. Whatever is kept, it lies
-    /// within the flash. The bytes of a program stand at the front of `out` then. The image is the one that the format began with.
+    /// The next piece that is asked for: at most 256 bytes to be programmed, or one sector to be erased. It lies
+    /// within the flash, also if what is kept was damaged. The bytes of a program are at the front of `out` then. The image is the one
+    /// that the format began with.
     ///
-    /// None if no write is due, or its range does not lie so, or what is kept would erase less than a sector. Then `out` is as it was.
-    /// It is Some if `start` or `took` asked, and the pieces before this one stand on the flash.
+    /// None if no write is due, or its range is not within the flash, or what is kept would erase less than a sector. Then `out` does
+    /// not change.
+    /// It is Some if `start` or `took` asked, and the pieces before this one are on the flash.
     pub fn next(&self, flash: &[u8], image: &[u8], out: &mut [u8; 256]) -> Option<FlashOp>
         ensures piece { IfSome result (λ p. IsPiece (steps_left self.now (length flash.now) image.now) self.now.done (asked p out.new)) }
         ensures most { IfSome result (λ p. IsFit self.now.sector.size p out.new) }
@@ -159,9 +161,9 @@ impl Formatting {
         Some(piece)
     }
 
-    /// The piece that `next` gave was carried out, or it failed. It is read back on the flash: of an erase the whole sector, as FFh.
+    /// The piece that `next` gave was carried out, or it failed. It is read back on the flash; after an erase the whole sector is FFh.
     ///
-    /// None if no write is due. Nothing changed then.
+    /// None if no write is due. Nothing changes then.
     pub fn took(&mut self, flash: &[u8], image: &[u8], failed: bool) -> Option<FormatProgress>
         ensures outcome { IfSome result (λ r. (was before : List ℕ) → AsksFormat self.old image.now was before → (p : Step) →
             IsPiece (steps_left self.old (length was) image.now) self.old.done p → Torn before p.write.at p.write.bytes flash.now →
@@ -205,7 +207,7 @@ impl Formatting {
         self.go_on(image)
     }
 
-    // A part is carried out: goes on with the one behind it, if there is one.
+    // A part is carried out: goes on with the one after it, if there is one.
     fn go_on(&mut self, image: &[u8]) -> FormatProgress
         requires { length image.now ≤ 2 ^ 24 }
         ensures outcome { (was flash : List ℕ) → FormatUnderWay self.old image.now was flash →

@@ -27,7 +27,7 @@ pub(crate) fn filled_len(unit: Unit, len: usize) -> usize
     len + (size - len % size) % size
 }
 
-/// What the writes of a format are made of: the image stands in place of the block.
+/// What the writes of a format are made of: the image takes the place of the block.
 pub(crate) fn stock_for<'a>(formatting: &Formatting, image: &'a [u8]) -> WriteInputs<'a>
     ensures unit { result.unit ≡ formatting.now.unit }
     ensures sector { result.sector ≡ formatting.now.sector }

@@ -9,6 +9,6 @@ pub enum FormatProgress {
     Asks,
     /// All is written: the image is the active one.
     Formatted,
-    /// A write failed, or other bytes stand there: the format has ended, and begins again with `start`.
+    /// A write failed, or other bytes were read back: the format has ended, and begins again with `start`.
     Broken(WriteFault),
 }

@@ -9,7 +9,7 @@ pub enum FormatStep {
     CloseFirst,
     /// The image is written into the first slot, up to 4096 bytes of it from `from` on.
     Image {
-        /// So many bytes of the image stand before them.
+        /// So many bytes of the image precede them.
         from: u32,
     },
     /// The header of the first slot is written.

@@ -3,13 +3,13 @@
 use crate::{FormatStep, Sector};
 use dfu_slots::Unit;
 
-/// A format that asks for its writes: what is kept of it between two calls. Its flash is mapped, and handed in at each call with
+/// A format that asks for its writes, as it is kept between two calls. Its flash is mapped, and passed in at each call with
 /// the image.
 #[derive(Clone, Copy, Debug, PartialEq, Eq, Drop)]
 pub struct Formatting {
-    /// In which unit the flash is written.
+    /// The unit in which the flash is written.
     pub unit: Unit,
-    /// In which sectors it is erased before, if in any.
+    /// The sectors in which it is erased before, if any.
     pub sector: Sector,
     /// The register over the image.
     pub register: u32,

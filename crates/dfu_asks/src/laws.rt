@@ -1,4 +1,4 @@
-//! Laws of what is asked. Each is the contract of a function with an empty body, which is proved and not to be called.
+//! Laws of what is asked. Each is the contract of a function with an empty body. It is proved, and has no effect when called.
 
 ghost use Rattle.std.specs.Prelude.{◌≡◌, ◌⊎◌, ◌+◌, ◌≤◌, ℕ, List, length, true};
 ghost use Rattle.dfu_slots.specs.Units.{Grain};
@@ -14,8 +14,8 @@ ghost use Rattle.dfu_asks.specs.Jobs.{job_writes, job_steps};
 ghost use Rattle.dfu_asks.specs.Carried.{total, carried, AreWithin, IsPiece};
 ghost use Rattle.dfu_asks.specs.Series.{block_series, block_store, BlockWritten, BlockBroken, CommitDone, CommitBroken};
 
-/// Whoever carries a series out piece by piece has made its writes: carried out to its end it is all of them; behind a piece
-/// that is carried out it stands one piece further; and whatever becomes of a piece, any bytes in its range, the series was
+/// Carrying a series out piece by piece makes its writes. Carried out to its end it is all of them; after a piece that is
+/// carried out it is one piece further; and whichever bytes a failed piece leaves in its range, the series was
 /// broken off in the write that the piece is of.
 pub fn pieces_are_the_writes()
     ensures all { (grain : Grain) (writes : List Write) (bytes : List ℕ) →
@@ -35,7 +35,7 @@ pub fn steps_are_the_writes()
         step_writes (job_steps job grain end held block) ≡ job_writes job grain end held block }
 {}
 
-/// Whoever makes the writes of a row, in their order, has made the calls of the row; where one of them had a fault, the row's
+/// Making the writes of a row, in their order, makes the calls of the row; if one of them had a fault, the row's
 /// calls were broken off by it. Nothing else of a row touches the medium.
 pub fn writes_are_the_calls()
     ensures block { (s : SlotsState) (n : ℕ) (block : List ℕ) (now : MediumState) → IsStore s → is_shaped s ≡ true →

@@ -4,7 +4,7 @@ ghost use Rattle.dfu_slots.specs.declared.fault.WriteFault.TheVariants.{Failed, 
 ghost use Rattle.dfu_slots.specs.Medium.{Torn};
 ghost use Rattle.dfu_slots.specs.Image.{Active};
 ghost use Rattle.dfu_slots.specs.Seen.{SlotsState};
-ghost use Rattle.dfu_asks.specs.Mapped.{grain_of, mapped, IsInSpare, IsHeldBack};
+ghost use Rattle.dfu_asks.specs.Mapped.{grain_of, mapped, IsInSpare, IsSlotOf, IsHeldBack};
 ghost use Rattle.dfu_asks.specs.Steps.{Step};
 ghost use Rattle.dfu_asks.specs.Carried.{IsPiece, ErasesWhole};
 ghost use Rattle.dfu_asks.specs.Jobs.{asked, IsFit};
@@ -21,6 +21,13 @@ use crate::{Asking, FlashOp, Mapped, PendingWrites, Refusal, Reply, Sector};
 use dfu_slots::laws::active_image_is_one;
 use dfu_slots::{OPEN_GATE, Unit, WriteFault, check};
 
+// Where the slot begins that a place lies in, of two slots of this size.
+fn slot_start(at: u64, size: u64) -> u64
+    ensures { IsSlotOf at size result }
+{
+    if at < size { 0 } else { size }
+}
+
 // Whether a range lies within the spare slot of this flash.
 fn is_spare(flash: &[u8], unit: Unit, sector: Sector, at: u64, len: u64) -> bool
     requires small { at + len < 2 ^ 44 }
@@ -31,7 +38,7 @@ fn is_spare(flash: &[u8], unit: Unit, sector: Sector, at: u64, len: u64) -> bool
     ensures no { IsTrue (not result) → IsHeldBack (mapped (grain_of unit sector) flash.now) at len }
 {
     let half = flash.len() as u64 / 2;
-    let slot = if at < half { 0 } else { half };
+    let slot = slot_start(at, half);
     if at + len > slot + half {
         return false;
     }
@@ -64,14 +71,14 @@ pub(crate) fn is_sound(sector: Sector, piece: FlashOp) -> bool
     size > 0 && piece.len == size as usize && behind_edge(size, piece.at) == 0
 }
 
-// Whether a piece did not fail, and stands on the flash.
+// Whether a piece did not fail, and is on the flash.
 fn went_well(failed: bool, stands: bool) -> bool
     ensures { result ≡ not failed && stands }
 {
     !failed && stands
 }
 
-// The fault of a piece that failed, or that does not stand on the flash.
+// The fault of a piece that failed, or that is not on the flash.
 fn fault_of(failed: bool) -> WriteFault
     ensures { result ≡ (if failed then Failed else NotVerified) }
 {
@@ -83,13 +90,13 @@ fn fault_of(failed: bool) -> WriteFault
 }
 
 impl Asking {
-    /// The next piece that is asked for: at most 256 bytes to be programmed, or one sector to be erased. Whatever is kept, it lies
-    /// within the spare slot of the flash as it stands, if that has an active image. The bytes of a program stand at the front of
-    /// `out` then.
+    /// The next piece that is asked for: at most 256 bytes to be programmed, or one sector to be erased. It lies within the spare
+    /// slot of the flash as it is now, if that has an active image, also if what is kept was damaged. The bytes of a program are at
+    /// the front of `out` then.
     ///
-    /// None if no write is due, if its range does not lie so, if the slot's gate is open and no image is active, or if
-    /// what is kept would erase less than a sector. Then `out` is as it was.
-    /// It is Some if a call answered `Asks` and the pieces before this one stand on the flash.
+    /// None if no write is due, if its range is not within that slot, if the slot's gate is open and no image is active, or if
+    /// what is kept would erase less than a sector. Then `out` is unchanged.
+    /// It is Some if a call answered `Asks` and the pieces before this one are on the flash.
     pub fn next(
         &self,
         block: &[u8],
@@ -131,13 +138,13 @@ impl Asking {
         }
     }
 
-    /// The piece that `next` gave was carried out, or it failed. It is read back on the flash: of an erase the whole sector, as FFh.
+    /// The piece that `next` gave was carried out, or it failed. It is read back on the flash; after an erase the whole sector is FFh.
     ///
-    /// It asks for the next piece; or the row has come to its end, and this is its answer.
+    /// It asks for the next piece, or returns the answer of the row, which has ended.
     ///
     /// # Errors
     ///
-    /// `NoRoom` if the buffer has less than 6 bytes; else `NoDevice` if no write is due. Nothing changed then.
+    /// `NoRoom` if the buffer has less than 6 bytes; else `NoDevice` if no write is due. Nothing changes then.
     pub fn took(
         &mut self,
         block: &[u8],

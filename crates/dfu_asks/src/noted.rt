@@ -18,7 +18,7 @@ pub struct Noted {
 }
 
 impl Noted {
-    /// What is to be noted of this flash. Of each open slot it reads the image.
+    /// What is to be noted of this flash. It reads the image of each open slot.
     ///
     /// None exactly if the flash has no active image, or 2^32 bytes or more.
     pub fn find(flash: &[u8], unit: Unit, sector: Sector) -> Option<Noted>

@@ -1,10 +1,10 @@
-//! Where so many bytes of a write and of the erases before it lead.
+//! The position after so many bytes of a write and of the erases before it.
 ghost use Rattle.std.specs.Prelude.{◌≡◌, ◌+◌, ◌%◌, ◌^◌, ◌≤◌, ◌<◌};
 ghost use Rattle.dfu_asks.specs.Position.{LeadsToErase, LeadsTo, LeadsInto};
 
 use crate::Sector;
 
-/// Where so many bytes of a write and of the erases before it lead.
+/// The position after so many bytes of a write and of the erases before it.
 #[derive(Clone, Copy, Drop)]
 pub(crate) enum Position {
     /// So many bytes of a sector are to be erased there.
@@ -14,19 +14,19 @@ pub(crate) enum Position {
         /// How many they are.
         len: usize,
     },
-    /// The write stands so many bytes behind its first one.
+    /// In the write, so many bytes after its first one.
     Program {
         /// So many bytes of it are written.
         from: usize,
     },
-    /// All is written, and so many bytes of what comes behind it.
+    /// All is written, and so many bytes of what comes after it.
     Behind {
         /// So many bytes of that.
         rest: usize,
     },
 }
 
-/// How many bytes a place is behind the first one of its sector. It takes two divisions of 32 bits for one of 64, which a small processor
+/// How many bytes a place is after the first one of its sector. It takes two divisions of 32 bits for one of 64, which a small processor
 /// does by a call.
 pub(crate) fn behind_edge(sector: u32, at: u64) -> u32
     requires some { 0 < sector }
@@ -38,7 +38,7 @@ pub(crate) fn behind_edge(sector: u32, at: u64) -> u32
     (high * 32_768 + (at % 32_768) as u32) % sector
 }
 
-// Where so many bytes of the erases lead that begin in a range.
+// The position after so many bytes of the erases that begin in a range.
 fn locate_erase(sector: u32, at: u64, len: usize, done: usize) -> Position
     requires some { 0 < sector }
     requires large { 1 < sector }
@@ -71,7 +71,7 @@ fn locate_erase(sector: u32, at: u64, len: usize, done: usize) -> Position
     }
 }
 
-// Where so many bytes of a write of `len` bytes lead, behind its erases.
+// The position after so many bytes of a write of `len` bytes, past its erases.
 fn locate_write(len: usize, rest: usize) -> Position
     ensures { LeadsInto len rest result }
 {
@@ -82,7 +82,7 @@ fn locate_write(len: usize, rest: usize) -> Position
     }
 }
 
-/// Where so many bytes lead of a write of `len` bytes there, and of the erases of the sectors that begin in its range.
+/// The position after so many bytes of a write of `len` bytes there and of the erases of the sectors that begin in its range.
 #[inline(never)]
 pub(crate) fn locate(sector: Sector, at: u64, len: usize, done: usize) -> Position
     requires small { at < 2 ^ 41 }

@@ -16,7 +16,7 @@ impl Asking {
     ///
     /// # Errors
     ///
-    /// `Asked` if writes are due; nothing changed then.
+    /// `Asked` if writes are due; nothing changes then.
     pub fn refuse_close(&mut self, setup: &[u8; 8], objection: Objection) -> Result<bool, Refusal>
         ensures closes { (block held flash : List ℕ) → IsDevice (lent self.old block held) flash →
             IfOk result (λ b. IsTrue b ↔ ClosesDownload setup.now (device_in (lent self.old block held) flash)) }
@@ -45,7 +45,7 @@ impl Asking {
     ///
     /// # Errors
     ///
-    /// `Asked` if writes are due; nothing changed then.
+    /// `Asked` if writes are due; nothing changes then.
     pub fn refuse(&mut self, objection: Objection) -> Result<(), Refusal>
         ensures row { (block held flash : List ℕ) → let before = device_in (lent self.old block held) flash in OnOk result
             (device_in (lent self.new block held) flash ≡ record before { stage = refuse_stage objection before.stage }) }

@@ -7,6 +7,6 @@ use dfu_device::Answer;
 pub enum Reply {
     /// Writes are due: `next`, carry it out, `took`, until `took` answers otherwise.
     Asks,
-    /// The answer, and how many bytes of it stand at the front of the buffer.
+    /// The answer, and how many bytes of it are at the front of the buffer.
     Answered(Answer, usize),
 }

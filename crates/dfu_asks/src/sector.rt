@@ -17,7 +17,7 @@ impl Sector {
         Sector { size: 0 }
     }
 
-    /// Sectors of so many bytes; None if that is no multiple of 256, or more than 131,072.
+    /// Sectors of so many bytes; None if that is not a multiple of 256, or more than 131,072.
     pub fn new(size: u32) -> Option<Sector>
         ensures some { IfSome result (λ s. s.size ≡ size) }
         ensures fits { IfSome result (λ s. (size % 256 ≡ 0) × (size ≤ 2 ^ 17)) }

@@ -1,9 +1,9 @@
 //! What is written for a row.
 
-/// What is written for a row: all that its writes can't be told from, once some of them are carried out.
+/// What is written for a row: what its writes are made of and can no longer be read from the flash once some are carried out.
 #[derive(Clone, Copy, Debug, PartialEq, Eq, Drop)]
 pub enum SlotWrite {
-    /// A block is written behind what was put.
+    /// A block is written after what was put.
     Block {
         /// Where the spare slot begins.
         spare: u32,

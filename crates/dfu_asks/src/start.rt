@@ -48,8 +48,8 @@ impl Asking {
         }
     }
 
-    // The job of a block behind so many bytes, and how many bytes are held back and where the puts end then: before a first block what was
-    // put is forgotten.
+    // The job of a block after so many bytes, how many bytes are held back then, and where the puts end. What was put before a first block
+    // is forgotten.
     fn block_job(&self, written: u32, medium: &Mapped<'_>, view: &View) -> (SlotWrite, usize, u32)
         requires unit { medium.now.unit ≡ self.now.unit }
         requires sector { medium.now.sector ≡ self.now.sector }

@@ -35,7 +35,7 @@ fn are_same(one: &[u8], other: &[u8; 16]) -> bool
     true
 }
 
-/// What is seen of a medium on which the noted header stands in an open slot; None exactly if it does not.
+/// The view of a medium on which the noted header is in an open slot; None exactly if it is not.
 #[inline(never)]
 pub(crate) fn look(medium: &Mapped<'_>, noted: &Noted) -> Option<View>
     ensures stands { let m = mapped (grain_of medium.now.unit medium.now.sector) medium.now.bytes.now in

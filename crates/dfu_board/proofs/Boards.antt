@@ -65,7 +65,7 @@ start_plain : (begins : Bool) → is_manifesting (state_of (start_stage begins))
 start_plain true = refl
 start_plain false = refl
 
--- An image waits in these states alone.
+-- An image waits only in these states.
 waits_manifest : (st : Stage) (t : List ℕ) → IsPending st t → is_manifesting (state_of st) ≡ true
 waits_manifest (InManifestSync taken) t m = refl
 waits_manifest (InManifest taken passed) t m = refl

@@ -25,26 +25,22 @@ use Rattle.dfu_board.specs.Refines.{TellsCall, TellsRows, IsIdle, StandsFor}
 use Rattle.dfu_board.specs.Accepts.{IsPending}
 use Rattle.dfu_board.proofs.Closing.{row_leads}
 use Rattle.dfu_board.proofs.Installs.{Manifests, IsOver, never_both, row_puts}
-use Rattle.dfu_board.proofs.Turns.{stage_holds, Turned, idle_there, row_there, said_there, one_row, tells_answer}
+use Rattle.dfu_board.proofs.Turns.{stage_holds, TurnedBy, Turned, idle_there, row_there, said_there, one_row, tells_answer}
 
 -- A call's body that was acknowledged.
 abbrev pub block_by : Cause → Says → List ℕ
 block_by cause (Answers a out) = acknowledged cause a
 block_by cause says = []
 
--- The same as `Turned` of a call for this cause.
-pub record CallTurned (b' : Board) (due : Option Cause) (d : DeviceView) (cause : Cause) (says : Says) : Type 0 where
-  pub rows : List TableRow
-  pub due' : Option Cause
-  pub device : DeviceView
-  pub history : IsHistory d rows device
-  pub tells : TellsCall cause due says rows due'
-  pub stands : StandsFor b' due' device
-  pub taken : taken_of (situation device) ≡ held_in (state_of device.stage) (taken_of (situation d) ++ block_by cause says)
-  pub waits : (t : List ℕ) → IsPending device.stage t → IsPending d.stage t ⊎ (((setup : List ℕ) × (cause ≡ Transfer setup [])
-      × (is_dnload setup ≡ true) × (says ≡ Answers answer.Ack [])) × (t ≡ taken_of (situation d)))
-  pub image : (image_of device.slots ≡ image_of d.slots) ⊎ IsPending d.stage (image_of device.slots)
-  pub puts : Manifests d.stage → IsOver device.stage → image_of device.slots ≡ taken_of (situation d)
+-- The cause is a DNLOAD of no bytes that was acknowledged.
+abbrev pub IsClosingCause : Cause → Says → Type 0
+IsClosingCause cause says =
+    (setup : List ℕ) × (cause ≡ Transfer setup []) × (is_dnload setup ≡ true) × (says ≡ Answers answer.Ack [])
+
+-- A call of a board for this cause as such rows.
+abbrev pub CallTurned : Board → Option Cause → DeviceView → Cause → Says → Type 0
+CallTurned b' due d cause says =
+    TurnedBy b' d (λ rows due'. TellsCall cause due says rows due') (block_by cause says) (IsClosingCause cause says) (Unit {0})
 
 module _ (takes : RowTakes) where
   -- A call that was answered.
@@ -68,7 +64,7 @@ module _ (takes : RowTakes) where
               inr ((c.0, c.1, c.2, is ∙ (λ i. Answers (c.3 i) (c.4 i))), closed.1)
         ];
         image = leads.image;
-        puts = row_puts d cause x sent (device_on b') row;
+        puts = λ _ on over. row_puts d cause x sent (device_on b') row on over;
       }
 
   -- `handle` and `elapse`.
@@ -107,7 +103,7 @@ module _ (takes : RowTakes) where
             ∙ stage_holds (image_of d.slots) d.stage);
         waits = λ t m. inl m;
         image = inl refl;
-        puts = λ on over. absurd (never_both d.stage on over);
+        puts = λ _ on over. absurd (never_both d.stage on over);
       }
 
   -- `usb_reset`.
@@ -144,7 +140,7 @@ of_call b' due d e cause says tells block closes c = record {
         inr ((x.0, closes x.0 x.1, x.2, x.3), closed.1)
   ];
   image = c.image;
-  puts = λ other on over. c.puts on over;
+  puts = λ other on over. c.puts tt on over;
 }
 
 -- Each of them as an event.
@@ -168,30 +164,21 @@ no_block cause none says = refl
 pub of_elapse : (b' : Board) (d : DeviceView) (ms : ℕ) (says : Says) → CallTurned b' None d (Passing ms) says
     → Turned b' None d (Elapse ms) says
 of_elapse b' d ms says c =
-    of_call b' None d (Elapse ms) (Passing ms) says (λ rows due' t. t) (no_block (Passing ms) (λ a. refl) says) other c
-  where
-    other : (setup : List ℕ) → Passing ms ≡ Transfer setup [] → Elapse ms ≡ Handle setup []
-    other setup e = absurd (cc)
+    of_call b' None d (Elapse ms) (Passing ms) says (λ rows due' t. t) (no_block (Passing ms) (λ a. refl) says)
+    (λ own e. absurd (cc)) c
 
 pub of_reset : (b' : Board) (d : DeviceView) (says : Says) → CallTurned b' None d BusReset says → Turned b' None d UsbReset says
-of_reset b' d says c = of_call b' None d UsbReset BusReset says (λ rows due' t. t) (no_block BusReset (λ a. refl) says) other c
-  where
-    other : (setup : List ℕ) → BusReset ≡ Transfer setup [] → UsbReset ≡ Handle setup []
-    other setup e = absurd (cc)
+of_reset b' d says c = of_call b' None d UsbReset BusReset says (λ rows due' t. t) (no_block BusReset (λ a. refl) says)
+    (λ own e. absurd (cc)) c
 
 pub of_refuse_close : (b' : Board) (d : DeviceView) (setup : List ℕ) (why : Objection) (says : Says)
     → CallTurned b' None d (RefusingClose setup why) says → Turned b' None d (RefuseClose setup why) says
 of_refuse_close b' d setup why says c =
     of_call b' None d (RefuseClose setup why) (RefusingClose setup why) says (λ rows due' t. t)
-    (no_block (RefusingClose setup why) (λ a. refl) says) other c
-  where
-    other : (own : List ℕ) → RefusingClose setup why ≡ Transfer own [] → RefuseClose setup why ≡ Handle own []
-    other own e = absurd (cc)
+    (no_block (RefusingClose setup why) (λ a. refl) says) (λ own e. absurd (cc)) c
 
 pub of_refuse : (b' : Board) (d : DeviceView) (why : Objection) (says : Says) → CallTurned b' None d (Refusing why) says
     → Turned b' None d (Refuse why) says
 of_refuse b' d why says c =
-    of_call b' None d (Refuse why) (Refusing why) says (λ rows due' t. t) (no_block (Refusing why) (λ a. refl) says) other c
-  where
-    other : (own : List ℕ) → Refusing why ≡ Transfer own [] → Refuse why ≡ Handle own []
-    other own e = absurd (cc)
+    of_call b' None d (Refuse why) (Refusing why) says (λ rows due' t. t) (no_block (Refusing why) (λ a. refl) says)
+    (λ own e. absurd (cc)) c

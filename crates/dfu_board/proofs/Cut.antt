@@ -1,4 +1,4 @@
--- A board that works for a row: the row broken off, as the flash stands.
+-- A board that works for a row: the row broken off, with the flash as it is.
 use Rattle.std.proofs.Common.{◌≡◌, Bool, true, false, if◌then◌else◌, ℕ, ◌<◌, List, [], ◌∷◌, length, take, Option, Some, None, refl, sym, subst}
 use Rattle.dfu_wire.specs.declared.codes.Code.{Code}
 use Rattle.dfu_wire.specs.Code.{code_byte}
@@ -83,7 +83,7 @@ fault_said c fault m asked = by_test (is_block m)
     by_test true = error_said c (write_code fault) asked
     by_test false = error_said c (commit_code fault) asked
 
--- The row that is due in a device came to this, by a write that failed: the flash is as it stands.
+-- The row that is due in a device came to this, by a write that failed: the flash stays as it is.
 pub record IsCutOff (b : Board) (len : ℕ) (d : DeviceView) : Type 0 where
   pub answer : Answer
   pub out : List ℕ
@@ -93,7 +93,7 @@ pub record IsCutOff (b : Board) (len : ℕ) (d : DeviceView) : Type 0 where
   pub slots : after.slots ≡ store_on (medium_on b)
   pub store : IsStore (store_on (medium_on b))
 
--- The next piece of the work, and what stands in its range.
+-- The next piece of the work, and the bytes in its range.
 pub record IsNextOf (b : Board) (cause : Cause) (d : DeviceView) (k : IsAtWork b cause d) : Type 0 where
   pub piece : Step
   pub is : IsPiece (steps_in (lent_on b) k.asks.work) k.asks.work.done piece
@@ -127,7 +127,7 @@ module _ (laws : WriteLaws) where
       (subst (λ (ws : List Write). Torn (carried k.was ws w.done) p.at p.bytes b.flash) (sym same)
       (subst (λ (l : List ℕ). Torn l p.at p.bytes b.flash) k.asks.flash_is next.torn)))
 
-  -- Whatever stands in the range of the piece that is due, the row was broken off by a write that failed.
+  -- With any bytes in the range of the piece that is due, the row was broken off by a write that failed.
   pub cut_off : (b : Board) (cause : Cause) (d : DeviceView) (k : IsAtWork b cause d) → IsCutOff b k.len d
   cut_off b cause d k =
       let a = lent_on b in

@@ -22,7 +22,7 @@ pub record DueLeads (d d' : DeviceView) : Type 0 where
   pub image : (image_of d'.slots ≡ image_of d.slots) ⊎ IsPending d.stage (image_of d'.slots)
   pub puts : IsOver d'.stage → image_of d'.slots ≡ taken_of (situation d)
 
--- The device entered this stage, of which that is true.
+-- The device entered this stage, and that is true of it.
 abbrev EndsIn : DeviceView → DeviceView → Stage → Type 0
 EndsIn d d' st = (taken_in (image_of d'.slots) st ≡ held_in (state_of st) (taken_of (situation d))) × ((t : List ℕ) → IsPending st t → ⊥)
 

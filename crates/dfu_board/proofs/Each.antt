@@ -1,4 +1,4 @@
--- Each step of a board, whatever it is.
+-- Each step of a board, of any kind.
 use Rattle.std.specs.Prelude.{◌≡◌, [], Option, Some, None}
 use Rattle.std.proofs.Common.{refl, sym, subst}
 use Rattle.dfu_device.specs.declared.answer.Answer.TheVariants as answer

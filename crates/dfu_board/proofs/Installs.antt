@@ -32,7 +32,7 @@ never_both InManifestSyncComplete on over = false≢true over
 never_both (InManifest taken passed) on over = false≢true over
 never_both st on over = false≢true on
 
--- Nothing waits where it is over.
+-- Nothing waits once it is over.
 pub over_waits : (st : Stage) (t : List ℕ) → IsOver st → IsPending st t → ⊥
 over_waits (InManifestSync taken) t over m = false≢true over
 over_waits (InManifest taken passed) t over m = false≢true over

@@ -30,7 +30,7 @@ pub on_err : {T E P Q : Type 0} (r : Result T E) → (P → Q) → OnErr r P →
 on_err (Ok x) follows p = tt
 on_err (Err e) follows p = follows p
 
--- What a reply says is not nothing: so much is of a board what is of it where a call is not refused.
+-- A reply always says something, so what holds of a board after a call that is not refused holds after a reply.
 by_reply : (b b' : Board) (out : List ℕ) (P : Type 0) (r : Reply) → P → IsRefusedOr (reply_said r out) b b' P
 by_reply b b' out P reply.Asks is = is
 by_reply b b' out P (reply.Answered x count) is = is
@@ -68,7 +68,7 @@ module _ (b b' : Board) (ms : ℕ) (zeros : List ℕ) where
       sym one ∙ e.gave.count_is ∙ ap (λ (l : List ℕ). length l) e.gave.row.1
   of_none out x count _ is (called_asks len asks device due out_is) = absurd (cc)
 
-  -- A reply to time that passed, of which no bytes are given, is what a board does of which time passes.
+  -- A reply to time that passed, which has no bytes, is what a board does as time passes.
   pub passed_step : (r : Reply) → b.asking.work ≡ None → Fits b.asking (length b.block) → b'.flash ≡ b.flash
       → (IsKeptOn b.asking b.block b.held b.flash → (out : List ℕ)
       × DeviceCalled (lent_on b) b.flash zeros (λ x sent d'. Row (device_on b) (Passing ms) x sent d') (lent_on b') out r)
@@ -98,7 +98,7 @@ module _ (b b' : Board) (ms : ℕ) (zeros : List ℕ) where
   elapse_step (Ok r) flash served outcome same = passed_step r served.work served.fits flash outcome
   elapse_step (Err e) flash served outcome same = same
 
--- A reply to how a piece went is what a board does that is told so.
+-- A reply to how a piece went is what a board does after that report.
 pub told_step : (b b' : Board) (failed : Bool) (out out' : List ℕ) (r : Reply) (w : PendingWrites) → IsLeft (lent_on b) w
     → b'.flash ≡ b.flash
     → ((len : ℕ) (s : SlotsState) (was before : List ℕ) (asks : AsksWrites (lent_on b) len s was before) (p : Step)

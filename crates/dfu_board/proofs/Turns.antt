@@ -34,7 +34,7 @@ none_or_some w x none some = absurd (cc)
 pub one_work : (x y : PendingWrites) (z : Option PendingWrites) → z ≡ Some x → z ≡ Some y → x ≡ y
 one_work x y z a b = cc
 
--- What is taken stays in a stage where a download is under way, and in the others nothing is taken.
+-- What is taken stays in a stage in which a download is under way, and in the others nothing is taken.
 pub stage_holds : (image : List ℕ) (st : Stage) → held_in (state_of st) (taken_in image st) ≡ taken_in image st
 stage_holds image (InDownloadSync before block number) = refl
 stage_holds image (InDownloadSyncWritten taken number) = refl
@@ -50,18 +50,25 @@ abbrev pub IsClosingCall : Event → Says → Type 0
 IsClosingCall e says =
     (setup : List ℕ) × (e ≡ Handle setup []) × (is_dnload setup ≡ true) × (says ≡ Answers answer.Ack [])
 
--- A step of a board as rows of the device that it stood for, and what they do to the bytes taken and to the image.
-pub record Turned (b' : Board) (due : Option Cause) (d : DeviceView) (e : Event) (says : Says) : Type 0 where
+-- Rows of the device that a board stood for, which the board tells and which add this body, and what they do to the image: bytes that
+-- wait then waited before, or this closes their download, and if this holds, the bytes taken are in place once manifestation is over.
+pub record TurnedBy (b' : Board) (d : DeviceView) (Tells : List TableRow → Option Cause → Type 0) (body : List ℕ) (Closes Puts : Type 0)
+    : Type 0 where
   pub rows : List TableRow
   pub due' : Option Cause
   pub device : DeviceView
   pub history : IsHistory d rows device
-  pub tells : TellsRows due e says rows due'
+  pub tells : Tells rows due'
   pub stands : StandsFor b' due' device
-  pub taken : taken_of (situation device) ≡ held_in (state_of device.stage) (taken_of (situation d) ++ acknowledged_body e says)
-  pub waits : (t : List ℕ) → IsPending device.stage t → IsPending d.stage t ⊎ (IsClosingCall e says × (t ≡ taken_of (situation d)))
+  pub taken : taken_of (situation device) ≡ held_in (state_of device.stage) (taken_of (situation d) ++ body)
+  pub waits : (t : List ℕ) → IsPending device.stage t → IsPending d.stage t ⊎ (Closes × (t ≡ taken_of (situation d)))
   pub image : (image_of device.slots ≡ image_of d.slots) ⊎ IsPending d.stage (image_of device.slots)
-  pub puts : e ≢ Restart true → Manifests d.stage → IsOver device.stage → image_of device.slots ≡ taken_of (situation d)
+  pub puts : Puts → Manifests d.stage → IsOver device.stage → image_of device.slots ≡ taken_of (situation d)
+
+-- A step of a board as such rows.
+abbrev pub Turned : Board → Option Cause → DeviceView → Event → Says → Type 0
+Turned b' due d e says =
+    TurnedBy b' d (λ rows due'. TellsRows due e says rows due') (acknowledged_body e says) (IsClosingCall e says) (e ≢ Restart true)
 
 -- A step with no row.
 pub stays : (b' : Board) (due due' : Option Cause) (d : DeviceView) (e : Event) (says : Says) → TellsRows due e says [] due' →

@@ -12,7 +12,7 @@ use Rattle.dfu_board.specs.Happens.{IsPoweredOn, IsRun}
 use Rattle.dfu_board.specs.Keeps.{taken_by, IsClose, IsClosed}
 
 -- The program lets no close go by of bytes that the check refuses: each download that one of these steps closed, after the old steps, is of
--- bytes that the check accepts. So it is if the program calls `refuse_close` at each other close, and at none of these.
+-- bytes that the check accepts. So it is if the program calls `refuse_close` at each other close, and never at these.
 abbrev pub Heeds : (check : List ℕ → Bool) → (old steps : List BoardStep) → Type 0
 Heeds check old steps = (first : List BoardStep) (close : BoardStep) (rest : List BoardStep) → steps ≡ first ++ close ∷ rest → IsClose close
     → check (taken_by [] (old ++ first)) ≡ true
@@ -24,8 +24,8 @@ pub record HasAccepted (check : List ℕ → Bool) (image : List ℕ) (old steps
   pub active : Active (medium_on b) now
   pub whence : (now ≡ image) ⊎ (IsClosed old steps now × (check now ≡ true))
 
--- Whatever steps come to a board that just got power, and whatever the check is that its program heeds: the image is the one that it has
--- then, or one that the check accepts.
+-- After any steps of a board since power on, with any check that its program heeds, the image is the one that it had then, or one that
+-- the check accepts.
 abbrev pub RunAccepts : Type 0
 RunAccepts = (check : List ℕ → Bool) (b b' : Board) (steps : List BoardStep) (image : List ℕ) → IsPoweredOn b → Active (medium_on b) image
     → IsRun b steps b' → Heeds check [] steps → HasAccepted check image [] steps b'
@@ -55,7 +55,7 @@ abbrev pub HeedsRows : (check : List ℕ → Bool) → List TableRow → Type 0
 HeedsRows check [] = Unit {0}
 HeedsRows check (s ∷ rest) = HeedsRow check s × HeedsRows check rest
 
--- Whatever history a device has in which its program heeds a check: the image is the one that it was, or one that the check accepts.
+-- After any history of a device in which its program heeds a check, the image is the one that it was, or one that the check accepts.
 abbrev pub HistoryAccepts : Type 0
 HistoryAccepts = (check : List ℕ → Bool) (h : List TableRow) (w w' : DeviceView) → IsHistory w h w' → HeedsRows check h
     → (image_of w'.slots ≡ image_of w.slots) ⊎ (check (image_of w'.slots) ≡ true)

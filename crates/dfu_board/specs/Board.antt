@@ -23,7 +23,7 @@ pub record Board : Type 0 where
 abbrev pub lent_on : Board → LentAsking
 lent_on b = lent b.asking b.block b.held
 
--- Its flash as a medium, of which any write may fail.
+-- Its flash as a medium; any write of it may fail.
 abbrev pub medium_on : Board → MediumState
 medium_on b = mapped (grain_in (lent_on b)) b.flash
 

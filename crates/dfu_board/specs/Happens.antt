@@ -57,7 +57,7 @@ pub record IsObjected (b : Board) (cause : Cause) (a : Answer) (says : Says) (b'
 abbrev pub IsHanded : Board → Step → Type 0
 IsHanded b p = (w : PendingWrites) × (b.asking.work ≡ Some w) × IsPiece (steps_in (lent_on b) w) w.done p
 
--- The flash changes in the range of that piece, and nowhere else. Any bytes may stand there then: the piece may be carried out, whole
+-- The flash changes in the range of that piece, and nowhere else. Any bytes may be there then: the piece may be carried out, whole
 -- or in part, or fail, or lie.
 pub record FlashIsWritten (b : Board) (b' : Board) : Type 0 where
   pub piece : Step
@@ -80,7 +80,7 @@ pub record IsTold (b : Board) (failed : Bool) (says : Says) (b' : Board) : Type 
       → DeviceTook (device_of (lent_on b) s) len s was p.write failed b.flash out (lent_on b') out' reply
   pub says_is : says ≡ reply_said reply out'
 
--- Where a device stands that gets power: in dfuIDLE if it begins for a host, else in appIDLE.
+-- The mode of a device at power on: dfuIDLE if it begins for a host, else appIDLE.
 abbrev pub start_stage : Bool → Stage
 start_stage true = InDfuIdle
 start_stage false = InAppIdle
@@ -101,7 +101,7 @@ abbrev pub IsRefusedOr : Says → Board → Board → Type 0 → Type 0
 IsRefusedOr Nothing b b' P = b' ≡ b
 IsRefusedOr says b b' P = P
 
--- What comes of an event. If the power goes, the flash stays as it stands.
+-- What comes of an event. If the power goes, the flash stays as it is.
 abbrev pub Happens : Board → Event → Says → Board → Type 0
 Happens b (Handle setup body) says b' = IsRefusedOr says b b' (IsServedBy b (Transfer setup body) says b')
 Happens b (Elapse ms) says b' = IsRefusedOr says b b' (IsServedBy b (Passing ms) says b')
@@ -112,7 +112,7 @@ Happens b Write says b' = (says ≡ Nothing) × FlashIsWritten b b'
 Happens b (Took failed) says b' = IsRefusedOr says b b' (IsTold b failed says b')
 Happens b (Restart begins) says b' = (says ≡ Nothing) × (b'.flash ≡ b.flash) × BoardStarts begins b'
 
--- These steps come to a board, each beginning where the one before ended, and each leaves it set up as it was.
+-- These steps come to a board. Each begins where the one before ended, and leaves the board set up as it was.
 abbrev pub IsRun : Board → List BoardStep → Board → Type 0
 IsRun b [] b' = b' ≡ b
 IsRun b (s ∷ rest) b' = (s.before ≡ b) × Happens b s.event s.says s.after × IsSetUpAs b.asking s.after.asking × IsRun s.after rest b'

@@ -14,7 +14,7 @@ abbrev pub acknowledged_body : Event → Says → List ℕ
 acknowledged_body (Handle setup body) (Answers a out) = acknowledged (Transfer setup body) a
 acknowledged_body event says = []
 
--- The bytes taken behind these, after these steps: each step adds the block that it acknowledged, and one that ends in a state in which
+-- The bytes taken after these, by these steps: each step adds the block that it acknowledged, and one that ends in a state in which
 -- no download is under way drops them all.
 abbrev pub taken_by : List ℕ → List BoardStep → List ℕ
 taken_by taken [] = taken
@@ -42,7 +42,7 @@ pub record HasKept (image : List ℕ) (old steps : List BoardStep) (b : Board) :
   pub active : Active (medium_on b) now
   pub whence : (now ≡ image) ⊎ IsClosed old steps now
 
--- Whatever steps come to a board that just got power, its image is the one that it has then, or one that is closed later.
+-- After any steps of a board since power on, its image is the one that it had then, or one that was closed later.
 abbrev pub RunKeeps : Type 0
 RunKeeps = (b b' : Board) (steps : List BoardStep) (image : List ℕ) → IsPoweredOn b → Active (medium_on b) image → IsRun b steps b'
     → HasKept image [] steps b'
@@ -58,7 +58,7 @@ abbrev pub RunStays : Type 0
 RunStays = (b mid b' : Board) (old steps : List BoardStep) (image : List ℕ) → IsPoweredOn b → IsRun b old mid
     → is_manifesting (state_on mid) ≡ false → Active (medium_on mid) image → IsRun mid steps b' → HasKept image old steps b'
 
--- In these states manifestation is over, and no fault is told.
+-- In these states manifestation is over, and no fault is reported.
 abbrev pub has_manifested : State → Bool
 has_manifested DfuIdle = true
 has_manifested ManifestWaitReset = true

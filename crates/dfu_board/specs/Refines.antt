@@ -90,8 +90,8 @@ TellsAll due [] rows due' = (rows ≡ []) × (due' ≡ due)
 TellsAll due (s ∷ rest) rows due' = (first later : List TableRow) × (mid : Option Cause) × (rows ≡ first ++ later)
     × TellsRows due s.event s.says first mid × TellsAll mid rest later due'
 
--- A board carries out the writes of this device's row for this cause: some pieces stand on its flash, and in the range of the next one
--- anything may stand.
+-- A board carries out the writes of this device's row for this cause: some pieces are on its flash, and the range of the next one
+-- may have any bytes.
 pub record IsAtWork (b : Board) (cause : Cause) (d : DeviceView) : Type 0 where
   pub len : ℕ
   pub s : SlotsState
@@ -128,10 +128,10 @@ pub record HasRefined (w : DeviceView) (steps : List BoardStep) (b : Board) : Ty
       → (image ≡ image_of device.slots)
       ⊎ ((due ≡ None → ⊥) × (is_manifesting (state_of device.stage) ≡ true) × (image ≡ taken_of (situation device)))
 
--- Whatever steps come to a board on which no writes are due, they are rows of the device that it is.
+-- All steps of a board on which no writes are due are rows of the device that it is.
 abbrev pub IdleRefines : Type 0
 IdleRefines = (b b' : Board) (d : DeviceView) (steps : List BoardStep) → IsIdle b d → IsRun b steps b' → HasRefined d steps b'
 
--- Whatever steps come to a board that just got power, they are rows of the device table.
+-- All steps of a board since power on are rows of the device table.
 abbrev pub RunRefines : Type 0
 RunRefines = (b b' : Board) (steps : List BoardStep) → IsPoweredOn b → IsRun b steps b' → HasRefined (device_on b) steps b'

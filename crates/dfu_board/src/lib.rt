@@ -1,5 +1,5 @@
-//! Whatever comes to a board that runs a device of dfu_asks, a loss of power at any time too, its flash keeps an active image: laws over
-//! lists of its calls.
+//! A board that runs a device of dfu_asks keeps an active image on its flash, through every call and a loss of power at any time: laws
+//! over lists of its calls.
 #![tactic(auto)]
 
 pub mod laws;

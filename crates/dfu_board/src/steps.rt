@@ -1,5 +1,7 @@
-//! Each call of a device that asks is a step of a board. Each function makes the call of its name and nothing else; its contract says
-//! which step that is, from the call's contract alone.
+//! Each call of a device that asks is a step of a board. Each function only makes the call of its name; its contract says which step
+//! that is, from the call's contract only.
+#![tactic(auto, using(dfu_asks::proofs::Room::has_room))]
+
 ghost use Rattle.std.specs.Prelude.{◌≡◌, ℕ, false, List, [], length, IfErr, IfSome, IfNone, IsSome};
 ghost use Rattle.dfu_slots.specs.Medium.{Torn};
 ghost use Rattle.dfu_slots.specs.Image.{HasImage};
@@ -69,7 +71,7 @@ pub fn usb_reset(
     asking.usb_reset(block, held, flash)
 }
 
-/// `Asking::refuse_close` is a step of a board, whatever is in its memories and on its flash.
+/// `Asking::refuse_close` is a step of a board, with any bytes in its memories and on its flash.
 pub fn refuse_close(
     asking: &mut Asking,
     setup: &[u8; 8],
@@ -83,7 +85,7 @@ pub fn refuse_close(
     asking.refuse_close(setup, objection)
 }
 
-/// `Asking::refuse` is a step of a board, whatever is in its memories and on its flash.
+/// `Asking::refuse` is a step of a board, with any bytes in its memories and on its flash.
 pub fn refuse(asking: &mut Asking, objection: Objection) -> Result<(), Refusal>
     ensures step { (block held flash : List ℕ) → Happens (board asking.old block held flash) (Refuse objection) (said_of_reset result)
         (board asking.new block held flash) }
@@ -127,8 +129,8 @@ pub fn took(
     asking.took(block, held, flash, failed, out)
 }
 
-/// `Asking::power_on` makes a board that just got power and stands in appIDLE, whatever is in its memories. It does so on the flash that
-/// any steps left.
+/// `Asking::power_on` makes a board that was just powered on and is in appIDLE, with any bytes in its memories. It does so on the flash
+/// that any steps left.
 pub fn power_on(config: Config, unit: Unit, sector: Sector, flash: &[u8]) -> Option<Asking>
     ensures on { (block held : List ℕ) → IfSome result (λ a. BoardStarts false (board a block held flash.now)) }
     ensures step { (b : Board) (block held : List ℕ) → b.flash ≡ flash.now →

@@ -111,7 +111,7 @@ module _ (simulation : Simulation) (only : OnlyOffered) (c : Profile) (sized : 0
             ∙ step_up x.step (uploaded bytes e) ∙ x.agrees.cur;
       }
 
-  -- An action in which no write is harmed on purpose, whatever the medium does.
+  -- An action in which no write is harmed on purpose, also with a medium that fails.
   pub acted_well : (w w' : DeviceView) (h : HostState) (heard : Heard) (fate : Fate) → profile w ≡ c → IsSound past w.stage
       → IsLiveOffer past (live_of (Hosted h)) → SessionFact c (situation w) (Hosted h)
       → (delivery_of fate).harming ≡ (delivery_of Pass).harming → Acts (deed h.task h.phase) (delivery_of fate) w w' heard
@@ -147,7 +147,7 @@ module _ (simulation : Simulation) (only : OnlyOffered) (c : Profile) (sized : 0
         gives = λ bytes e. absurd (subst SaysNoPromise (took_gives h Restarted bytes e) (restart_plain c past h f.on));
       }
 
-  -- A restart of which a live host hears, whatever the device is then.
+  -- A restart that a live host hears of, with the device in any state.
   pub told_well : (s s' : Situation) (session : Session) → IsLiveOffer past (live_of session) → SessionFact c s session
       → DeviceWell past s s' → ActedWell c past session s s' (notify_restart session)
   told_well s s' Nobody offered f device =

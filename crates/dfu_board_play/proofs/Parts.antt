@@ -80,49 +80,35 @@ call_front call a out (x ∷ xs) rest _ (with_writes s more event says w) e =
 
 -- Power that goes within a call.
 
--- It goes after these, the first steps of a call.
-pub record IsCutAfter (call : Event) (steps : List BoardStep) : Type 0 where
+-- It goes after the first of these steps, of which that holds.
+pub record IsCutAfter (Holds : List BoardStep → Type 0) (steps : List BoardStep) : Type 0 where
   pub front : List BoardStep
   pub power : BoardStep
   pub begins : Bool
   pub steps_are : steps ≡ front ++ power ∷ []
-  pub part : IsPartOf call front
+  pub part : Holds front
   pub event : power.event ≡ Restart begins
 
-record CutAfter (steps : List BoardStep) : Type 0 where
-  front : List BoardStep
-  power : BoardStep
-  begins : Bool
-  steps_are : steps ≡ front ++ power ∷ []
-  all : AllCarryOn front
-  event : power.event ≡ Restart begins
+-- With one step more before them.
+cut_later : {Holds Before : List BoardStep → Type 0} (s : BoardStep) (rest : List BoardStep)
+    → ((front : List BoardStep) → Holds front → Before (s ∷ front)) → IsCutAfter Holds rest → IsCutAfter Before (s ∷ rest)
+cut_later s rest more x = record {
+  front = s ∷ x.front;
+  power = x.power;
+  begins = x.begins;
+  steps_are = ap (λ (l : List BoardStep). s ∷ l) x.steps_are;
+  part = more x.front x.part;
+  event = x.event;
+}
 
-cut_after : (steps : List BoardStep) → IsCutOff steps → CutAfter steps
+cut_after : (steps : List BoardStep) → IsCutOff steps → IsCutAfter AllCarryOn steps
 cut_after _ (power_goes s begins event) =
-    record { front = []; power = s; begins = begins; steps_are = refl; all = tt; event = event }
-cut_after _ (still_due s rest c w) =
-    let x = cut_after rest w in
-    record {
-      front = s ∷ x.front;
-      power = x.power;
-      begins = x.begins;
-      steps_are = ap (λ (l : List BoardStep). s ∷ l) x.steps_are;
-      all = (c, x.all);
-      event = x.event;
-    }
+    record { front = []; power = s; begins = begins; steps_are = refl; part = tt; event = event }
+cut_after _ (still_due s rest c w) = cut_later s rest (λ front all. (c, all)) (cut_after rest w)
 
 -- A call that is broken off is cut after its first steps.
-pub broken_after : (call : Event) (steps : List BoardStep) → IsBrokenCall call steps → IsCutAfter call steps
-broken_after call _ (broken s rest event says w) =
-    let x = cut_after rest w in
-    record {
-      front = s ∷ x.front;
-      power = x.power;
-      begins = x.begins;
-      steps_are = ap (λ (l : List BoardStep). s ∷ l) x.steps_are;
-      part = (event, says, x.all);
-      event = x.event;
-    }
+pub broken_after : (call : Event) (steps : List BoardStep) → IsBrokenCall call steps → IsCutAfter (IsPartOf call) steps
+broken_after call _ (broken s rest event says w) = cut_later s rest (λ front all. (event, says, all)) (cut_after rest w)
 
 cut_front : (front rest steps : List BoardStep) → IsCutOff steps → front ++ rest ≡ steps → AllCarryOn front ⊎ (rest ≡ [])
 cut_front [] rest steps w e = inl tt

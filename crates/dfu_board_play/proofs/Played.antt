@@ -61,7 +61,7 @@ known_on first past s s' known w = elim (w.image) [
   | inr one ↦ inr one
 ]
 
--- What an action of a host, or a restart of which it hears, comes to.
+-- What an action of a host, or a restart that it hears of, comes to.
 took_on : (c : Profile) (first : List ℕ) (past : List (List ℕ)) (last : Option (List ℕ)) (l : BoardLink) (d d' : DeviceView) (b' : Board)
     (t : Took) → Stands c first past last l d → IsIdle b' d' → profile d' ≡ c
     → ActedWell c past l.session (situation d) (situation d') t → WentOn c first past last t.answer (left b' t)
@@ -102,7 +102,7 @@ module _ (refines : IdleRefines) (simulation : Simulation) (only : OnlyOffered) 
       record { device = x.device; idle = x.idle; profile_is = x.profile_is; well = x.acted.device }
   way_well session call b b' d steps says k e sound offered f way reaches = elim way [ ]
 
-  -- What holds holds again, whatever comes.
+  -- What holds holds again, after all that may come.
   pub went_on : (first : List ℕ) (last : Option (List ℕ)) (l l' : BoardLink) (d : DeviceView) (steps : List BoardStep) (answer : Answered)
       → Stands c first past last l d → BoardComes l steps answer l' → WentOn c first past last answer l'
   went_on first last l _ d steps _ s (passes {ms = ms} {a = a} {out = out} {b' = b'} serves) =

@@ -6,7 +6,7 @@ use Rattle.dfu_device.specs.declared.answer.Answer.{Answer}
 use Rattle.dfu_device.specs.declared.objection.Objection.{Objection}
 use Rattle.dfu_device.specs.Stage.{Profile}
 use Rattle.dfu_device.specs.DeviceView.{DeviceView, profile, situation}
-use Rattle.dfu_device.specs.Rows.{Transfer, RefusingClose, Handles, Row}
+use Rattle.dfu_device.specs.Rows.{Cause, Transfer, RefusingClose, Handles, Row}
 use Rattle.dfu_host.specs.Phases.{Send, Deed, Heard, NoRoom, Nothing as NothingHeard}
 use Rattle.dfu_host.specs.Table.{deed}
 use Rattle.dfu_host.specs.Host.{HostState, wants_memory}
@@ -25,7 +25,7 @@ use Rattle.dfu_board.specs.Board.{Board, Handle, RefuseClose, Says, Answers, Boa
 use Rattle.dfu_board.specs.Refines.{IsIdle, IdleRefines}
 use Rattle.dfu_board_play.specs.Calls.{Reaches, lost, once, twice, Objects, refused_once, refused_twice}
 use Rattle.dfu_board_play.specs.Comes.{HearsSentBack}
-use Rattle.dfu_board_play.proofs.Served.{served}
+use Rattle.dfu_board_play.proofs.Served.{Served, served}
 use Rattle.dfu_board_play.proofs.Fixed.{row_profile}
 use Rattle.dfu_board_play.proofs.Acted.{ActedWell, acted_well}
 
@@ -107,6 +107,22 @@ module _ (refines : IdleRefines) (simulation : Simulation) (only : OnlyOffered) 
     pub profile_is : profile device ≡ c
     pub acted : Acted device heard
 
+  -- It became this device's by one row.
+  sent_once : (b' : Board) (heard : Heard) (cause : Cause) (a : Answer) (out : List ℕ) (x : Served d cause a out b') → Acted x.device heard
+      → Sent b' heard
+  sent_once b' heard cause a out x acted =
+      record { device = x.device; idle = x.idle; profile_is = row_profile d x.device cause a out x.row ∙ e; acted = acted }
+
+  -- Or by a second one.
+  sent_again : (mid b' : Board) (heard : Heard) (cause : Cause) (a0 a : Answer) (out0 out : List ℕ) (x : Served d cause a0 out0 mid)
+      (y : Served x.device (Transfer setup body) a out b') → Acted y.device heard → Sent b' heard
+  sent_again mid b' heard cause a0 a out0 out x y acted = record {
+    device = y.device;
+    idle = y.idle;
+    profile_is = row_profile x.device y.device (Transfer setup body) a out y.row ∙ row_profile d x.device cause a0 out0 x.row ∙ e;
+    acted = acted;
+  }
+
   -- In each of these ways.
   pub sent_well : (b b' : Board) (steps : List BoardStep) (says : Says) (heard : Heard) → IsIdle b d
       → Reaches (Handle setup body) b steps says b' → HearsSentBack (Send q body) says heard
@@ -114,44 +130,24 @@ module _ (refines : IdleRefines) (simulation : Simulation) (only : OnlyOffered) 
   sent_well b _ _ _ heard k lost hears room = record { device = d; idle = k; profile_is = e; acted = lost_well heard hears room }
   sent_well b b' steps _ heard k (once {a = a} {out = out} serves) hears room =
       let x = served refines b b' d (Handle setup body) (Transfer setup body) steps a out refl k serves in
-      record {
-        device = x.device;
-        idle = x.idle;
-        profile_is = row_profile d x.device (Transfer setup body) a out x.row ∙ e;
-        acted = once_well x.device a out heard x.row hears room;
-      }
+      sent_once b' heard (Transfer setup body) a out x (once_well x.device a out heard x.row hears room)
   sent_well b b' _ _ heard k (twice {first = first} {second = second} {a = a} {x = a0} {out = out} {said = out0} {mid = mid} serves more)
       hears room =
       let x = served refines b mid d (Handle setup body) (Transfer setup body) first a0 out0 refl k serves in
       let y = served refines mid b' x.device (Handle setup body) (Transfer setup body) second a out refl x.idle more in
-      record {
-        device = y.device;
-        idle = y.idle;
-        profile_is = row_profile x.device y.device (Transfer setup body) a out y.row
-            ∙ row_profile d x.device (Transfer setup body) a0 out0 x.row ∙ e;
-        acted = twice_well x.device y.device a a0 out out0 heard x.row y.row hears room;
-      }
+      sent_again mid b' heard (Transfer setup body) a0 a out0 out x y
+      (twice_well x.device y.device a a0 out out0 heard x.row y.row hears room)
 
-  -- And where the program refused the image that it closes.
+  -- And if the program refused the image that it closes.
   pub objected_well : (why : Objection) (b b' : Board) (steps : List BoardStep) (says : Says) (heard : Heard) → IsIdle b d
       → Objects setup body why b steps says b' → HearsSentBack (Send q body) says heard
       → (heard ≡ NoRoom → IsTrue (wants_memory h.phase)) → Sent b' heard
   objected_well why b b' steps _ heard k (refused_once {a = a} {out = out} serves) hears room =
       let x = served refines b b' d (RefuseClose setup why) (RefusingClose setup why) steps a out refl k serves in
-      record {
-        device = x.device;
-        idle = x.idle;
-        profile_is = row_profile d x.device (RefusingClose setup why) a out x.row ∙ e;
-        acted = refused_well why x.device a out heard x.row hears room;
-      }
+      sent_once b' heard (RefusingClose setup why) a out x (refused_well why x.device a out heard x.row hears room)
   objected_well why b b' _ _ heard k (refused_twice {first = first} {second = second} {a = a} {x = a0} {out = out} {said = out0} {mid = mid}
       serves more) hears room =
       let x = served refines b mid d (RefuseClose setup why) (RefusingClose setup why) first a0 out0 refl k serves in
       let y = served refines mid b' x.device (Handle setup body) (Transfer setup body) second a out refl x.idle more in
-      record {
-        device = y.device;
-        idle = y.idle;
-        profile_is = row_profile x.device y.device (Transfer setup body) a out y.row
-            ∙ row_profile d x.device (RefusingClose setup why) a0 out0 x.row ∙ e;
-        acted = refused_again why x.device y.device a a0 out out0 heard x.row y.row hears room;
-      }
+      sent_again mid b' heard (RefusingClose setup why) a0 a out0 out x y
+      (refused_again why x.device y.device a a0 out out0 heard x.row y.row hears room)

@@ -24,7 +24,7 @@ use Rattle.dfu_board_play.proofs.Within.{KnownOf, Through, became_known, rest_kn
 
 module _ (refines : IdleRefines) (simulation : Simulation) (only : OnlyOffered) (c : Profile) (sized : 0 < c.transfer)
     (first : List ℕ) (past : List (List ℕ)) (last : Option (List ℕ)) where
-  -- A call under way on a board of which all this holds leads to one whose image and closed bytes are well.
+  -- If all this holds of a board, a call under way leads to one whose image and closed bytes are well.
   leads_on : (l : BoardLink) (d : DeviceView) (call : Event) → Stands c first past last l d → IsUnderWay l.session call
       → (mid : Board) (more : List BoardStep) (says : Says) → Reaches call l.board more says mid → Became c past (situation d) mid
   leads_on l d call s way mid more says reaches =

@@ -1,4 +1,4 @@
--- What time that passes at a device, whatever its medium does, leaves of its image and of what holds of a session.
+-- What the passing of time at a device, also with a medium that fails, leaves of its image and of what holds of a session.
 use Rattle.std.specs.Prelude.{◌≡◌, ◌⊎◌, ℕ, ◌+◌, ◌==◌, nat_le, max, List}
 use Rattle.std.proofs.Common.{inl, inr, refl, sym, ◌∙◌, subst}
 use Rattle.dfu_device.specs.Stage.{Ack, Profile, Stage, InAppDetach, InDfuIdle, InDownloadBusy, InManifestSyncComplete, InManifest, InManifestWaitReset, InUploadIdle}
@@ -44,7 +44,7 @@ module _ (c : Profile) (past : List (List ℕ)) (i : List ℕ) (ms : ℕ) where
       → DeviceWell past (record { image = i; stage = stage }) (record { image = taken; stage = next })
   put_there stage next taken one h = record { image = inr one; sound = h }
 
-  -- Time that passes at a device, whatever its medium does.
+  -- Time that passes at a device, also with a medium that fails.
   pub time_device : (stage : Stage) → IsSound past stage → Times stage (time_plan c stage ms)
   time_device (InAppDetach timer passed) h =
       let P : Plan → Type 0 = Times (InAppDetach timer passed) in

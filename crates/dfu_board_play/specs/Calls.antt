@@ -55,7 +55,7 @@ pub data Objects (setup body : List ℕ) (why : Objection) (b : Board) : List Bo
       → Serves b (RefuseClose setup why) first x said mid → Serves mid (Handle setup body) second a out b'
       → Objects setup body why b (first ++ second) (Answers a out) b'
 
--- A call goes to a board over a link, and the power goes: before it is handed in or behind its answers, within it, or within the second one.
+-- A call goes to a board over a link, and the power goes: before it is handed in or after its answers, within it, or within the second one.
 pub data Stops (call : Event) (b : Board) : List BoardStep → Board → Type 0 where
   behind : {steps : List BoardStep} {says : Says} {mid b' : Board} (power : BoardStep) (begins : Bool) → Reaches call b steps says mid
       → IsRun mid (power ∷ []) b' → power.event ≡ Restart begins → Stops call b (steps ++ power ∷ []) b'

@@ -1,4 +1,4 @@
--- No row answers with more bytes than a status has, or, where that is more, than a block may have.
+-- No row answers with more bytes than a status has, or than a block may have if that is more.
 use Rattle.std.specs.Prelude.{ℕ, ◌≤◌, max, List, [], ◌∷◌, length}
 use Rattle.std.proofs.Common.{ap, inl, inr, arith}
 use Rattle.std.proofs.lemmas.List.{length-take}
@@ -34,7 +34,7 @@ done_fits t len r (Commits taken reply stage bad) d a out d' fits (inl (answers,
 done_fits t len r (Commits taken reply stage bad) d a out d' fits (inr (fault, answers, failed)) =
     answer_fits t len r (bad fault) a out (fits.1 fault) answers
 
--- A setup is answered with at most six bytes, or as many as a block may have where these are more.
+-- A setup is answered with at most six bytes, or as many as a block may have if that is more.
 pub handled_fits : (setup body : List ℕ) (d : DeviceView) (a : Answer) (out : List ℕ) (d' : DeviceView) → Handles setup body d a out d'
     → length out ≤ answer_room d.config
 handled_fits setup body d a out d' (handled_as p q is asks done) =

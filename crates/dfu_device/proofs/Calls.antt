@@ -21,21 +21,21 @@ called_two : (s mid now : SlotsState) (first second : Call) (ending : Ending) �
 called_two s mid now first second AllWorked d e = (mid, d.calls, (now, e.calls, refl))
 called_two s mid now first second (BrokenBy fault) d e = inr (mid, d.calls, inl e.calls)
 
--- The first block is a `begin` that worked and then a `put`, whatever comes of this one.
+-- The first block is a `begin` that worked and then a `put`, which may work or fail.
 pub block_begun : (s mid now : SlotsState) (n : ℕ) (block : List ℕ) (ending : Ending) → n ≡ 0 → DidCall s Begin AllWorked mid
     → DidCall mid (Put 0 block) ending now → Called s (block_calls (take n (spare_of s)) block) ending now
 block_begun s mid now n block ending none d e =
     subst (λ (k : ℕ). Called s (block_calls (take k (spare_of s)) block) ending now) (sym none)
     (called_two s mid now Begin (Put 0 block) ending d e)
 
--- Where the `begin` before the first block failed, nothing more is called.
+-- If the `begin` before the first block failed, nothing more is called.
 pub block_not_begun : (fault : WriteFault) (s now : SlotsState) (n : ℕ) (block : List ℕ) → n ≡ 0 → DidCall s Begin (BrokenBy fault) now
     → Called s (block_calls (take n (spare_of s)) block) (BrokenBy fault) now
 block_not_begun fault s now n block none d =
     subst (λ (k : ℕ). Called s (block_calls (take k (spare_of s)) block) (BrokenBy fault) now) (sym none)
     (inl d.calls)
 
--- A block behind others is one `put`, whatever comes of it.
+-- A block after others is one `put`, which may work or fail.
 pub block_further : (s now : SlotsState) (n : ℕ) (block : List ℕ) (ending : Ending) → 0 < n → n ≤ length (spare_of s)
     → DidCall s (Put n block) ending now → Called s (block_calls (take n (spare_of s)) block) ending now
 block_further s now n block ending some fits d =
@@ -45,7 +45,7 @@ block_further s now n block ending some fits d =
     (subst (λ (b : Bool). Called s (if b then Begin ∷ Put 0 block ∷ [] else Put n block ∷ []) ending now) (sym behind)
     (called_one s now (Put n block) ending d))
 
--- Where bytes were put, the spare was closed before.
+-- If bytes were put, the spare was closed before.
 pub begun_before : (n : ℕ) (s : SlotsState) → 0 < n → (n ≡ 0) ⊎ (is_put n s ≡ true) → is_begun s ≡ true
 begun_before n s some (inl none) = absurd (omega (arith, some, none))
 begun_before n s some (inr put) = (and_parts (is_begun s) (s.put_end == n) put).0

@@ -1,4 +1,4 @@
--- Where an image stands that was taken and is not in place yet.
+-- Where an image is that was received and is not in place yet.
 use Rattle.std.proofs.Common.{◌≡◌, ℕ, ◌+◌, ◌-◌, ◌*◌, ◌%◌, ◌≤◌, IsTrue, List, ◌++◌, length, take, drop, slice_range, Option, Some, None, refl, sym, ◌∙◌, ap, subst, arith, length-append}
 use Rattle.std.proofs.lemmas.Grind.{common_steps}
 use Rattle.std.proofs.lemmas.List.{take-take, take_at, length-take-le}
@@ -32,7 +32,7 @@ module _ (s : SlotsState) (store : IsStore s) where
   data_size : length (spare_slot s).data_bytes ≡ slot_size s.medium.bytes - 2 * g
   data_size = data_length g s.medium.bytes place end_there (omega (arith, store.has_image.active.sized.room))
 
-  -- What was put is what stands on the medium, and after it what is held back.
+  -- The bytes put are those on the medium, and after them those held back.
   pub put_is : take s.put_end (spare_of s)
       ≡ slice_range s.medium.bytes (place + 2 * g) (place + 2 * g + (s.put_end - length s.held)) ++ s.held
   put_is =
@@ -91,7 +91,7 @@ candidate_put device_state.ManifestWaitReset b s sound = tt
 candidate_put (device_state.UploadIdle at number) b s sound = tt
 candidate_put (device_state.Error code) b s sound = tt
 
--- An image of so many bytes, of which those of whole units are at the front of the spare slot's data, is the one that was taken.
+-- An image of so many bytes is the one that was received, if its whole units are at the front of the spare slot's data.
 pub candidate_is : (w : DeviceView) (m : DeviceState) (block : List ℕ) (c : Candidate) (n : ℕ)
     → w.stage ≡ stage_of m (spare_of w.slots) block
     → IsTrue (is_sound m (length block) w.slots) → IsStore w.slots → candidate_length m ≡ Some n

@@ -40,13 +40,13 @@ as_entered : (r : ReplyRead) (asked : ℕ) (w w' : DeviceView) (stage : Stage) (
 as_entered r asked w w' stage a out config room is says =
     subst (λ (x : Reply). Answers asked x a out) (λ k. reply_in (profile_of (config k) (room k)) (is k) r) (as_drafted r asked w' a out says)
 
--- What follows where a call worked, and from each fault of a write, follows.
+-- What follows from a call that worked, and from each fault of a write, follows.
 either_way_ended : {T A C : Type 0} {B : WriteFault → Type 0} (r : Result T WriteFault) → OnOk r A → IfErr r B → (A → C)
     → ((fault : WriteFault) → B fault → C) → C
 either_way_ended (Ok x) a b f g = f a
 either_way_ended (Err fault) a b f g = g fault b
 
--- A block that was written, or whose write had a fault, is what a plan says that writes it.
+-- A block that was written, or whose write had a fault, is what a plan that writes it says.
 pub block_done : {T : Type 0} (w w' : DeviceView) (before block : List ℕ) (next : Stage) (r : ReplyRead) (asked : ℕ)
     (result : Result T WriteFault)
     → OnOk result (WroteBlock before block w.config w.slots next w')
@@ -57,7 +57,7 @@ block_done w w' before block next r asked result good bad = λ a out says. eithe
     (λ g. inl (as_entered r asked w w' next a out g.config_is g.room g.stage_is says, g))
     (λ fault b. inr (fault, as_entered r asked w w' (InError (write_code fault)) a out b.config_is b.room b.stage_is says, b))
 
--- A commit that worked, or of which a write had a fault, is what a plan says that commits.
+-- A commit that worked, or in which a write had a fault, is what a plan that commits says.
 pub commit_done : {T : Type 0} (w w' : DeviceView) (taken : List ℕ) (next : Stage) (r : ReplyRead) (asked : ℕ)
     (result : Result T WriteFault)
     → OnOk result (Committed taken w.config w.slots next w')
@@ -68,7 +68,7 @@ commit_done w w' taken next r asked result good bad = λ a out says. either_way_
     (λ g. inl (as_entered r asked w w' next a out g.config_is g.room g.stage_is says, g))
     (λ fault b. inr (fault, as_entered r asked w w' (InError (commit_code fault)) a out b.config_is b.room b.stage_is says, b))
 
--- In a device what is said to be written stands in the spare slot.
+-- In a device the bytes that count as written are in the spare slot.
 pub holds_written : (m : DeviceState) (b : ℕ) (s : SlotsState) → IsTrue (is_sound m b s) → HoldsWritten m (spare_of s)
 holds_written (device_state.DownloadIdle written number) b s sound = length-take-le written (spare_of s) (grind (arith, common_steps))
 holds_written m b s sound = tt

@@ -65,7 +65,7 @@ all_put : (n : ℕ) (s : SlotsState) → 0 < n → n ≤ room_of s → is_shaped
     → IsTrue (is_shaped s && (nat_lt 0 n && (nat_le n (room_of s) && is_put n s)))
 all_put n s some room shape put = grind (arith, common_steps)
 
--- A core is sound once its block was put behind the bytes written.
+-- A core is sound once its block was put after the bytes written.
 pub written_sound : (m : DeviceState) (b n number : ℕ) (s : SlotsState) → (m ≡ device_state.DownloadSyncWritten n number)
     ⊎ (m ≡ device_state.DownloadIdle n number) → 0 < n → n ≤ room_of s → is_shaped s ≡ true → is_put n s ≡ true → IsTrue (is_sound m b s)
 written_sound m b n number s either some room shape put =
@@ -76,7 +76,7 @@ written_sound m b n number s either some room shape put =
           (λ (k : DeviceState). IsTrue (is_sound k b s)) (sym e) sound
     ]
 
--- A block that is not written has bytes, and finds room behind those written.
+-- A block that is not written has bytes, and there is room for them after those written.
 pub record FindsRoom (s : SlotsState) (n b : ℕ) : Type 0 where
   pub some : 0 < b
   pub room : n + b ≤ room_of s

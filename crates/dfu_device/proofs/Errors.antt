@@ -1,4 +1,4 @@
--- Where an error of the medium comes from.
+-- The cause of an error of the medium.
 use Rattle.std.specs.Prelude.{◌⊎◌, ℕ, List, []}
 use Rattle.std.proofs.Common.{ap, inl, inr, subst}
 use Rattle.dfu_slots.specs.Seen.{image_of}
@@ -39,7 +39,7 @@ refusal_works why (InManifestSync taken) x = absurd (objection_works why x)
 refusal_works why (InManifest taken passed) x = absurd (objection_works why x)
 refusal_works why st x = x
 
--- An error of the medium comes only where the medium failed.
+-- An error of the medium comes only if the medium failed.
 pub errors_have_cause : ErrorsHaveCause
 errors_have_cause w (Transfer setup body) a out w' (handled_as p q reads asks done) broken =
     done_works (setup_plan w p q body) (asked_length q) w a out w'

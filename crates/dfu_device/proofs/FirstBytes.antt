@@ -41,7 +41,7 @@ module _ (kind number : ℕ) (p : Setup) (setup : List ℕ) (reads : IsSetup p s
         index = index;
       }
 
-  -- A setup that goes by the table has these two bytes where its request does, provided that no unnamed request of the class has them.
+  -- A setup that goes by the table has these two bytes if its request does, provided that no unnamed request of the class has them.
   pub begins_as : (q : Asked) (body : List ℕ) → (IsClass p kind number → Asks p asked.OtherClass → ⊥) → Asks p q
       → is_served p q body ≡ true → begins kind number setup ≡ is_numbered kind number q
   begins_as (asked.Detach timeout) body own asks on = of_class 0x21 0 asks.0

@@ -28,7 +28,7 @@ module _ (inside : HistoryStep → Bool) (part : HistoryStep → List ℕ) where
       since old last (recent ++ s ∷ []) (ap (λ (l : List HistoryStep). l ++ s ∷ []) split ∙ append_assoc old (last ∷ recent) (s ∷ [])) off
       (all_with recent s all on) (ap (λ (l : List ℕ). l ++ part s) is ∙ sym (parts_with recent s))
 
-  -- A step more gathers its part more where it ends inside, and nothing where it ends outside.
+  -- One more step gathers its part if it ends inside, and nothing if it ends outside.
   pub step_gathers : (h : List HistoryStep) (s : HistoryStep) (t now : List ℕ) → Gathered inside part h t →
       (inside s ≡ true → now ≡ t ++ part s)
       → (inside s ≡ false → now ≡ []) → Gathered inside part (h ++ s ∷ []) now
@@ -37,7 +37,7 @@ module _ (inside : HistoryStep → Bool) (part : HistoryStep → List ℕ) where
       (λ yes. subst (λ (l : List ℕ). Gathered inside part (h ++ s ∷ []) l) (sym (on yes)) (goes_on h s t gathered yes))
       (λ no. since h s [] refl no tt (off no))
 
-  -- So a history that goes on gathers what its steps do, where each row does so of what a device shows.
+  -- So a history that goes on gathers what its steps do, if each row does so by what a device shows.
   pub history_gathers : (of : DeviceView → List ℕ)
       → ((h : List HistoryStep) (s : HistoryStep) → Gathered inside part h (of s.before) → IsRow s →
       Gathered inside part (h ++ s ∷ []) (of s.after))
@@ -51,7 +51,7 @@ module _ (inside : HistoryStep → Bool) (part : HistoryStep → List ℕ) where
       subst (λ (l : List HistoryStep). Gathered inside part l (of w')) (append_assoc g (s ∷ []) rest)
       (history_gathers of step (g ++ s ∷ []) rest s.after w' (step g s before row) more)
 
-  -- Where all steps end inside, none of them ends outside.
+  -- If all steps end inside, no step ends outside.
   none_outside : (old : List HistoryStep) (last : HistoryStep) (recent : List HistoryStep) → AllInside inside (old ++ last ∷ recent) →
       inside last ≡ false → ⊥
   none_outside [] last recent all off = false≢true (sym off ∙ all.0)

@@ -6,7 +6,7 @@ use Rattle.dfu_device.specs.DeviceView.{written_in}
 use Rattle.dfu_device.specs.Taken.{taken_in}
 use Rattle.dfu_device.specs.RowForms.{CallsFor, WorksWell, RowForm, quiet, takes, closes, sends, ends, row_form, time_form}
 
--- A plan calls the slot store only for the bytes taken, and ends in an error of the medium only where that failed or the error was there.
+-- A plan calls the slot store only for the bytes taken, and ends in an error of the medium only if that failed or the error was there.
 abbrev pub Leads : List ℕ → Stage → Plan → Type 0
 Leads i st p = CallsFor (written_in st) (taken_in i st) p × WorksWell st p
 

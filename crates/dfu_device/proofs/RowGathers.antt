@@ -54,7 +54,7 @@ module _ (inside : State → Bool) (held : List ℕ → Stage → List ℕ) (joi
     pub answered : (p : Setup) (q : Asked) (setup body before : List ℕ) (most len : ℕ) (reply : Reply) (a : Answer) (out : List ℕ)
         → IsSetup p setup → Asks p q → is_served p q body ≡ true → ReplyFits most reply (meant q body) → Answers len reply a out
         → joined before (meant q body) reply ≡ before ++ own (Transfer setup body) a out
-    -- Where it is stalled, and where nothing is asked, nothing is added.
+    -- If it is stalled, or if nothing is asked, nothing is added.
     pub stalled : (setup body out : List ℕ) → own (Transfer setup body) answer.Stall out ≡ []
     pub waits : (ms : ℕ) (before : List ℕ) (reply : Reply) (a : Answer) (out : List ℕ)
         → joined before OtherRequest reply ≡ before ++ own (Passing ms) a out
@@ -117,7 +117,7 @@ module _ (inside : State → Bool) (held : List ℕ → Stage → List ℕ) (joi
         subst (λ (z : DeviceView). held_by z ≡ left (state_of z.stage) (held_by w ++ own PowerOn a out)) (sym same)
         (known.resets (image_of (store_on w.slots.medium)) (held_by w ++ own PowerOn a out) InAppIdle)
 
-    -- A step ends where bytes are held.
+    -- A step ends in a state in which bytes are held.
     abbrev ends_inside : HistoryStep → Bool
     ends_inside s = inside (state_of s.after.stage)
 
@@ -125,7 +125,7 @@ module _ (inside : State → Bool) (held : List ℕ → Stage → List ℕ) (joi
     abbrev own_of : HistoryStep → List ℕ
     own_of s = own s.cause s.answer s.out
 
-    -- A step more gathers what it adds.
+    -- One more step gathers what it adds.
     pub step_adds : (h : List HistoryStep) (s : HistoryStep) → Gathered ends_inside own_of h (held_by s.before) → IsRow s
         → Gathered ends_inside own_of (h ++ s ∷ []) (held_by s.after)
     step_adds h s gathered row =

@@ -14,22 +14,20 @@ use Rattle.dfu_device.specs.Stage.{Request, Reply, Data, Stall, Stage, InAppDeta
 use Rattle.dfu_device.specs.Table.{reset_stage, refuse_stage}
 use Rattle.dfu_device.specs.Rows.{meant, Answers, is_served, Refusing, Transfer}
 use Rattle.dfu_device.specs.RowForms.{ReplyFits}
-use Rattle.dfu_device.specs.Sent.{is_uploading, sent_in, upload_sent, still_sent, is_upload, piece, uploads, upload_piece}
+use Rattle.dfu_device.specs.Sent.{is_uploading, sent_in, upload_sent, still_sent, is_upload, piece}
 use Rattle.dfu_device.proofs.SentRow.{form_sends}
 use Rattle.dfu_device.proofs.FirstBytes.{is_numbered, begins_as}
-use Rattle.dfu_device.proofs.RowGathers.{Gathers, row_adds, step_adds, start_adds}
-use Rattle.dfu_device.proofs.History.{one_gathered}
-use Rattle.dfu_device.specs.SentHistory.{RowSends, StepSends, HistorySends, OneSent}
+use Rattle.dfu_device.proofs.RowGathers.{Gathers}
 
 -- What a setup sends.
 
--- A setup that goes by the table is an UPLOAD by its bytes where it asks for one.
+-- A setup that goes by the table is an UPLOAD by its bytes if it asks for one.
 pub upload_as : (p : Setup) (q : Asked) (setup body : List ℕ) → IsSetup p setup → Asks p q → is_served p q body ≡ true
     → is_upload setup ≡ is_numbered 0xa1 2 q
 upload_as p q setup body reads asks on = begins_as 0xa1 2 p setup reads q body
     (λ class other. other.1 (asked.Upload p.value p.length) (class, refl, refl)) asks on
 
--- What is no UPLOAD sends nothing.
+-- A setup that is not an UPLOAD sends nothing.
 no_piece : (setup body : List ℕ) (a : Answer) (out : List ℕ) → is_upload setup ≡ false → piece (Transfer setup body) a out ≡ []
 no_piece setup body answer.Bytes out off = ap (λ (b : Bool). if b then out else []) off
 no_piece setup body a out off = refl
@@ -62,10 +60,11 @@ refusal_sends why i (InManifest taken passed) a out = refl
 refusal_sends why i st a out = sent_already i st
 
 -- What was sent before, with what a reply sends.
-abbrev joined : List ℕ → Request → Reply → List ℕ
+abbrev pub joined : List ℕ → Request → Reply → List ℕ
 joined sent r reply = sent ++ upload_sent r reply
 
-known : Gathers is_uploading sent_in joined piece
+-- What is known of the bytes sent, from which the laws of a row and of a history follow.
+pub known : Gathers is_uploading sent_in joined piece
 known = record {
   form = form_sends;
   answered = answered;
@@ -76,21 +75,3 @@ known = record {
   errs = λ why i bytes. refl;
   refuses = refusal_sends;
 }
-
--- Each row sends its piece.
-pub sends : RowSends
-sends = row_adds is_uploading sent_in joined piece known
-
--- A whole history.
-
--- A step more sends its piece more.
-pub step_sends : StepSends
-step_sends = step_adds is_uploading sent_in joined piece known
-
--- A device that has sent nothing at first has sent what its history says.
-pub history_sends : HistorySends
-history_sends = start_adds is_uploading sent_in joined piece known
-
--- A history sends one list of bytes.
-pub one_sent : OneSent
-one_sent = one_gathered uploads upload_piece

@@ -1,4 +1,4 @@
--- One row of the table sends what it answers to an UPLOAD, whatever the medium does.
+-- One row of the table sends what it answers to an UPLOAD, also if the medium fails.
 use Rattle.std.specs.Prelude.{◌≡◌, ℕ, ◌≤◌, nat_lt, true, List, [], ◌++◌, length, take, drop}
 use Rattle.std.proofs.Common.{refl, sym, ap, ◌∙◌, subst, arith}
 use Rattle.std.proofs.Math.Seq.{take-add}
@@ -37,13 +37,13 @@ form_sends c i st r p (ends place size is small short) luck = refl
 fewer : (l : List ℕ) (size : ℕ) → nat_lt (length (take size l)) size ≡ true → length l ≤ size
 fewer l size short = omega (arith, length-take size l, ltb-true (length (take size l)) size short)
 
--- The bytes after a place, where they are fewer than were asked for, are the rest.
+-- The bytes after a place are the rest, if they are fewer than were asked for.
 rest_sent : (i : List ℕ) (place size : ℕ) → nat_lt (length (take size (drop place i))) size ≡ true
     → take place i ++ take size (drop place i) ≡ i
 rest_sent i place size short =
     ap (λ (l : List ℕ). take place i ++ l) (take_all size (drop place i) (fewer (drop place i) size short)) ∙ take-append-drop place i
 
--- Where a piece is answered and dfuIDLE entered, the bytes sent with this piece are the image.
+-- If a piece is answered and dfuIDLE entered, the bytes sent with this piece are the image.
 abbrev pub Completes : List ℕ → Stage → Outcome → Type 0
 Completes i st o = (bytes : List ℕ) → o.reply ≡ Data bytes → o.after.stage ≡ InDfuIdle → sent_in i st ++ bytes ≡ o.after.image
 

@@ -19,18 +19,18 @@ status_answered status c code p poll s state len bytes is code_is poll_is state_
     ∙ (λ k. record { code = code_is k; poll_ms = poll_is k; state = state_is k }) in
     (refl, bytes, subst (λ (x : Status). IsStatus x bytes) same fields, string, refl)
 
--- What is said of an Ok holds where there is one.
+-- A statement about an Ok holds if there is one.
 on_ok : {T E P : Type 0} (r : Result T E) → IsOk r → OnOk r P → P
 on_ok (Ok x) is p = p
 on_ok (Err e) is p = absurd (false≢true is)
 
--- The front of six bytes finds room where nothing stands.
+-- There is room for the front of six bytes in an empty vector.
 pub front_fits : (asked n : ℕ) (bytes old : List ℕ) → n ≡ min asked 6 → old ≡ [] → length old + length (take n bytes) ≤ 4096
 front_fits asked n bytes old count empty =
     let none : length old ≡ 0 = ap (λ (l : List ℕ). length l) empty in
     omega (arith, none, count, length-take n bytes)
 
--- Then it is all that stands there.
+-- Then the vector has nothing else.
 pub front_stands : {T E : Type 0} (r : Result T E) (asked n : ℕ) (bytes old out : List ℕ) → n ≡ min asked 6 → length bytes ≡ 6 → old ≡ []
     → IsOk r → OnOk r (out ≡ old ++ take n bytes) → out ≡ take asked bytes
 front_stands r asked n bytes old out count size empty fine ok =

@@ -18,12 +18,11 @@ use Rattle.dfu_device.specs.DeviceView.{DeviceView, profile, situation}
 use Rattle.dfu_device.specs.Rows.{meant, asked_length, Answers, is_served, Cause, Refusing, Transfer}
 use Rattle.dfu_device.specs.Came.{Came, asked_came, time_came}
 use Rattle.dfu_device.specs.RowForms.{ReplyFits, RowForm, row_form, time_form}
-use Rattle.dfu_device.specs.Taken.{taken_in, taken_of, is_downloading, dnload_added, held_in, taken_after, is_dnload, acknowledged, downloads, block_of}
+use Rattle.dfu_device.specs.Taken.{taken_in, taken_of, is_downloading, dnload_added, held_in, taken_after, is_dnload, acknowledged}
 use Rattle.dfu_device.proofs.TakenRow.{form_keeps}
 use Rattle.dfu_device.proofs.FirstBytes.{is_numbered, begins_as}
-use Rattle.dfu_device.proofs.RowGathers.{Gathers, row_adds, step_adds, history_adds, start_adds}
-use Rattle.dfu_device.proofs.History.{one_gathered}
-use Rattle.dfu_device.specs.TakenHistory.{TookOn, AskedTook, TimeTook, RowTakes, StepTakes, HistoryTakes, StartTakes, OneTaken}
+use Rattle.dfu_device.proofs.RowGathers.{Gathers}
+use Rattle.dfu_device.specs.TakenHistory.{TookOn, AskedTook, TimeTook}
 
 -- One row.
 
@@ -49,13 +48,13 @@ time_took ms w w' row = took_on (time_plan (profile w) w.stage ms) OtherRequest 
 
 -- What a setup adds.
 
--- A setup that goes by the table is a DNLOAD by its bytes where it asks for one.
+-- A setup that goes by the table is a DNLOAD by its bytes if it asks for one.
 dnload_as : (p : Setup) (q : Asked) (setup body : List ℕ) → IsSetup p setup → Asks p q → is_served p q body ≡ true
     → is_dnload setup ≡ is_numbered 0x21 1 q
 dnload_as p q setup body reads asks on = begins_as 0x21 1 p setup reads q body
     (λ class other. other.1 (asked.Dnload p.value p.length) (class, refl, refl)) asks on
 
--- What is no DNLOAD adds nothing.
+-- A setup that is not a DNLOAD adds nothing.
 no_block : (setup body : List ℕ) (a : Answer) → is_dnload setup ≡ false → acknowledged (Transfer setup body) a ≡ []
 no_block setup body answer.Ack off = ap (λ (b : Bool). if b then body else []) off
 no_block setup body a off = refl
@@ -93,10 +92,12 @@ refusal_takes why image (InManifestSync taken) a out = refl
 refusal_takes why image (InManifest taken passed) a out = refl
 refusal_takes why image st a out = held_already image st
 
-abbrev block_by : Cause → Answer → List ℕ → List ℕ
+-- The body that an answer acknowledged; its bytes add none.
+abbrev pub block_by : Cause → Answer → List ℕ → List ℕ
 block_by cause a out = acknowledged cause a
 
-known : Gathers is_downloading taken_in dnload_added block_by
+-- What is known of the bytes taken, from which the laws of a row and of a history follow.
+pub known : Gathers is_downloading taken_in dnload_added block_by
 known = record {
   form = form_keeps;
   answered = answered;
@@ -107,25 +108,3 @@ known = record {
   errs = λ why i bytes. refl;
   refuses = refusal_takes;
 }
-
--- Each row takes the body that it acknowledges.
-pub row_takes : RowTakes
-row_takes = row_adds is_downloading taken_in dnload_added block_by known
-
--- A whole history.
-
--- A step more takes its acknowledged body more.
-pub step_takes : StepTakes
-step_takes = step_adds is_downloading taken_in dnload_added block_by known
-
--- A history that goes on takes what its steps acknowledge.
-pub history_takes : HistoryTakes
-history_takes = history_adds is_downloading taken_in dnload_added block_by known
-
--- A device that has taken nothing at first has taken what its history says.
-pub start_takes : StartTakes
-start_takes = start_adds is_downloading taken_in dnload_added block_by known
-
--- A history takes one list of bytes.
-pub one_taken : OneTaken
-one_taken = one_gathered downloads block_of

@@ -1,4 +1,4 @@
--- One row of the table takes what it acknowledges, whatever the medium does.
+-- One row of the table takes what it acknowledges, also if the medium fails.
 use Rattle.std.specs.Prelude.{◌≡◌, ℕ, List}
 use Rattle.std.proofs.Common.{refl, sym, ap, ◌∙◌}
 use Rattle.std.proofs.lemmas.List.{append-nil}

@@ -15,7 +15,7 @@ use Rattle.dfu_device.specs.Came.{Came, asked_came}
 use Rattle.dfu_device.specs.Cases.{either_way}
 use Rattle.dfu_device.specs.Told.{StatusTold, StateTold}
 
--- The status and the state that are told.
+-- The status and the state that are reported.
 
 -- GETSTATUS is answered with the status of the stage that is entered, or stalled.
 abbrev pub Tells : Profile → Outcome → Type 0
@@ -59,11 +59,11 @@ status_tells c i InManifestWaitReset luck = inr refl
 status_tells c i (InUploadIdle place number) luck = inl refl
 status_tells c i (InError code) luck = inl refl
 
--- GETSTATE is answered with the state as it stands and stays, or stalled.
+-- GETSTATE is answered with the current state, which stays, or is stalled.
 abbrev pub TellsState : Stage → Outcome → Type 0
 TellsState st o = ((o.reply ≡ StateOf (state_of st)) × (o.after.stage ≡ st)) ⊎ (o.reply ≡ Stall)
 
--- GETSTATE tells the state as it stands, or is stalled.
+-- GETSTATE reports the current state, or is stalled.
 state_tells : (c : Profile) (i : List ℕ) (st : Stage) (luck : Luck) → TellsState st (outcome i (plan c i st GetState) luck)
 state_tells c i InAppIdle luck = inl (refl, refl)
 state_tells c i (InAppDetach timer passed) luck = inl (refl, refl)

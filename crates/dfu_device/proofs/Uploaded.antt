@@ -13,13 +13,13 @@ use Rattle.dfu_device.specs.DeviceView.{DeviceView, profile, situation}
 use Rattle.dfu_device.specs.Rows.{meant, asked_length, Answers, is_served, Handles, handled_as, Cause, Row}
 use Rattle.dfu_device.specs.Came.{Came, asked_came, not_served}
 use Rattle.dfu_device.specs.RowForms.{ReplyFits, row_form}
-use Rattle.dfu_device.specs.Sent.{sent_of, is_upload}
+use Rattle.dfu_device.specs.Sent.{sent_of, is_uploading, sent_in, is_upload, piece}
 use Rattle.dfu_device.specs.Uploaded.{UploadEnds, UploadGives}
 use Rattle.dfu_device.proofs.Told.{bytes_no_stall}
 use Rattle.dfu_device.proofs.FirstBytes.{is_numbered}
 use Rattle.dfu_device.proofs.SentRow.{Completes, form_completes}
-use Rattle.dfu_device.proofs.RowGathers.{reply_fits}
-use Rattle.dfu_device.proofs.SentHistory.{upload_as, history_sends}
+use Rattle.dfu_device.proofs.RowGathers.{reply_fits, start_adds}
+use Rattle.dfu_device.proofs.SentHistory.{upload_as, joined, known}
 use Rattle.dfu_device.proofs.Cases.{by_cases}
 
 -- An UPLOAD that is answered by bytes is answered by these bytes of the image.
@@ -58,4 +58,5 @@ upload_ends s row e =
 
 -- So they are in a history that began with nothing sent.
 pub upload_gives : UploadGives
-upload_gives h s w none run row e = (sent_of (situation s.before), history_sends h w s.before none run, upload_ends s row e)
+upload_gives h s w none run row e =
+    (sent_of (situation s.before), start_adds is_uploading sent_in joined piece known h w s.before none run, upload_ends s row e)

@@ -10,7 +10,7 @@ use Rattle.dfu_device.specs.Rows.{Handles}
 abbrev pub answer_room : Setting → ℕ
 answer_room s = max 6 s.functional.transfer
 
--- The row of a setup with its body, the bytes of whose answer stand at the front of a buffer.
+-- The row of a setup with its body; the bytes of the answer are at the front of a buffer.
 pub record HandlesInto (setup body : List ℕ) (w : DeviceView) (a : Answer) (count : ℕ) (out out' : List ℕ) (w' : DeviceView) : Type 0 where
   pub sent : List ℕ
   pub count_is : count ≡ length sent

@@ -23,12 +23,12 @@ use Rattle.dfu_device.specs.Outcome.{Luck, Works, FailsOld, FailsNew, Outcome, o
 use Rattle.dfu_device.specs.DeviceView.{DeviceView, profile_of, profile, situation}
 use Rattle.dfu_device.specs.Rows.{meant, asked_length, Answers, block_calls, Done, Elapses, is_served, setup_plan, Handles, handled_as}
 
--- The medium failed only where its count of failures rose.
+-- The medium failed only if its count of failures rose.
 abbrev pub IsLuck : Luck → DeviceView → DeviceView → Type 0
 IsLuck Works w w' = Unit {0}
 IsLuck luck w w' = Rose w.slots.medium.failures w'.slots.medium.failures
 
--- What a plan led to is its outcome at some luck; a medium whose fuse is whole always works, and stays whole.
+-- What a plan led to is its outcome at some luck. A medium whose fuse is whole always works, and stays whole.
 pub record Came (p : Plan) (len : ℕ) (w : DeviceView) (a : Answer) (out : List ℕ) (w' : DeviceView) : Type 0 where
   pub luck : Luck
   pub reply : Reply
@@ -162,7 +162,7 @@ TimeCame = (ms : ℕ) (w w' : DeviceView) → Elapses ms w w' → Came (time_pla
 pub time_came : TimeCame
 time_came ms w w' row = came (time_plan (profile w) w.stage ms) 0 w answer.Ack [] w' row
 
--- Where six bytes are asked for, the answer to GETSTATUS is read back as the status.
+-- If six bytes are asked for, the answer to GETSTATUS is read back as the status.
 abbrev pub StatusWhole : Type 0
 StatusWhole = (len : ℕ) (code : Code) (poll : ℕ) (state : State) (a : Answer) (out : List ℕ) → 6 ≤ len
     → Answers len (StatusOf code poll state) a out

@@ -12,23 +12,13 @@ use Rattle.dfu_device.specs.declared.device_state.DeviceState.{DeviceState}
 use Rattle.dfu_device.specs.declared.device_state.DeviceState.TheVariants as device_state
 use Rattle.dfu_device.specs.Stage.{Reply, Ack, StateOf, Data, Stall, Profile, Stage, InDfuIdle, InDownloadSyncWritten, InDownloadIdle, InUploadIdle, InError, state_of, status_of}
 use Rattle.dfu_device.specs.Table.{Plan, Sure, Writes, Commits, write_code, commit_code, plan, time_plan}
+use Rattle.dfu_device.specs.DeviceView.{profile_from}
 use Rattle.dfu_device.specs.Parts.{stage_of, is_filled}
 use Rattle.dfu_device.specs.Rows.{meant}
 
 -- The profile that the code reads.
 abbrev pub profile_in : ProfileRead → Profile
-profile_in p = record {
-  can_download = p.functional.can_download;
-  can_upload = p.functional.can_upload;
-  tolerant = p.functional.tolerant;
-  will_detach = p.functional.will_detach;
-  detach_ms = p.functional.detach_ms;
-  transfer = p.functional.transfer;
-  least = p.least;
-  busy = p.busy_ms;
-  manifest = p.manifest_ms;
-  capacity = p.capacity;
-}
+profile_in p = profile_from p.functional p.least p.busy_ms p.manifest_ms p.capacity
 
 -- What is answered by a device that has entered this stage.
 abbrev pub reply_in : Profile → Stage → ReplyRead → Reply
@@ -37,7 +27,7 @@ reply_in c stage reply.Status = status_of c stage
 reply_in c stage reply.State = StateOf (state_of stage)
 reply_in c stage reply.Stall = Stall
 
--- The stage after a block is written behind these bytes. Where time passed, the host has to ask for the status once more.
+-- The stage after a block is written after these bytes. If time passed, the host has to ask for the status once more.
 abbrev pub written_stage : (late : Bool) → (taken : List ℕ) → (number : ℕ) → Stage
 written_stage late taken number = if late then InDownloadSyncWritten taken number else InDownloadIdle taken number
 
@@ -66,7 +56,7 @@ IsSilent (decision.Sends place size number) = ⊥
 IsSilent (decision.Writes r written number late) = r ≡ reply.Ack
 IsSilent (decision.Commits r written m) = r ≡ reply.Ack
 
--- The bytes that are said to be written stand in the spare slot.
+-- The bytes that count as written are in the spare slot.
 abbrev pub HoldsWritten : DeviceState → (spare : List ℕ) → Type 0
 HoldsWritten (device_state.DownloadIdle written number) spare = length (take written spare) ≡ written
 HoldsWritten m spare = Unit {0}
@@ -90,7 +80,7 @@ DecidesTime p m ms d = (image spare block : List ℕ)
 abbrev pub TakesNothing : DeviceState → Type 0
 TakesNothing m = (m ≡ device_state.DfuIdle) ⊎ (m ≡ device_state.ManifestSyncComplete) ⊎ (m ≡ device_state.ManifestWaitReset)
 
--- A decision can be carried out, with blocks of at most `transfer` bytes, where the block that is not written and the body have so many.
+-- A decision can be carried out, with blocks of at most `transfer` bytes, if the block that is not written and the body have so many.
 abbrev pub IsPossible : (transfer block body : ℕ) → SlotsState → Decision → Type 0
 IsPossible transfer block body s (decision.Sure r m) = IsTrue (is_filled m block s)
 IsPossible transfer block body s (decision.Holds m) = (body ≤ transfer) × IsTrue (is_filled m body s)

@@ -1,5 +1,6 @@
 -- What a contract sees of a device.
 use Rattle.std.specs.Prelude.{◌≡◌, ℕ, List, [], length, take}
+use Rattle.dfu_wire.specs.declared.functionals.Functional.{Functional}
 use Rattle.dfu_slots.specs.Medium.{MediumState}
 use Rattle.dfu_slots.specs.Seen.{SlotsState, store_on, image_of, spare_of, room_of}
 use Rattle.dfu_device.specs.Stage.{Profile, Stage, InAppIdle, InDownloadSync, InDownloadSyncWritten, InDownloadBusy, InDownloadIdle, InManifestSync, InManifest}
@@ -12,24 +13,28 @@ pub record DeviceView : Type 0 where
   pub slots : SlotsState
   pub stage : Stage
 
--- A device that got power: it is in appIDLE, and nothing is put on its medium.
+-- A device that was powered on: it is in appIDLE, and nothing is put on its medium.
 abbrev pub powered_on : Setting → MediumState → DeviceView
 powered_on config m = record { config = config; slots = store_on m; stage = InAppIdle }
 
+-- The profile of a device with this functional descriptor, the fewest and the most bytes of an image, and its two times.
+abbrev pub profile_from : Functional → (least busy manifest capacity : ℕ) → Profile
+profile_from f least busy manifest capacity = record {
+  can_download = f.can_download;
+  can_upload = f.can_upload;
+  tolerant = f.tolerant;
+  will_detach = f.will_detach;
+  detach_ms = f.detach_ms;
+  transfer = f.transfer;
+  least = least;
+  busy = busy;
+  manifest = manifest;
+  capacity = capacity;
+}
+
 -- The profile of a device that is set up like this, with room for images of so many bytes.
 abbrev pub profile_of : Setting → ℕ → Profile
-profile_of s room = record {
-  can_download = s.functional.can_download;
-  can_upload = s.functional.can_upload;
-  tolerant = s.functional.tolerant;
-  will_detach = s.functional.will_detach;
-  detach_ms = s.functional.detach_ms;
-  transfer = s.functional.transfer;
-  least = s.least;
-  busy = s.busy_ms;
-  manifest = s.manifest_ms;
-  capacity = room;
-}
+profile_of s room = profile_from s.functional s.least s.busy_ms s.manifest_ms room
 
 -- The profile by which a device goes.
 abbrev pub profile : DeviceView → Profile
@@ -49,6 +54,6 @@ written_in (InManifestSync taken) = taken
 written_in (InManifest taken passed) = taken
 written_in stage = []
 
--- They stand at the front of the spare slot's data.
+-- They are at the front of the spare slot's data.
 abbrev pub IsInSpareSlot : DeviceView → Type 0
 IsInSpareSlot w = take (length (written_in w.stage)) (spare_of w.slots) ≡ written_in w.stage

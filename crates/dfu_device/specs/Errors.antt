@@ -1,4 +1,4 @@
--- Where an error of the medium comes from.
+-- The cause of an error of the medium.
 use Rattle.std.specs.Prelude.{◌⊎◌, ℕ, List}
 use Rattle.dfu_wire.specs.declared.codes.Code.TheVariants.{Write as ErrWrite, Prog as ErrProg, Verify as ErrVerify}
 use Rattle.dfu_device.specs.declared.answer.Answer.{Answer}
@@ -18,7 +18,7 @@ IsMediumError stage = ⊥
 abbrev pub MediumFailed : DeviceView → DeviceView → Type 0
 MediumFailed w w' = Rose w.slots.medium.failures w'.slots.medium.failures
 
--- errWRITE, errPROG and errVERIFY come only where the medium failed, and then stay.
+-- errWRITE, errPROG and errVERIFY come only if the medium failed, and then stay.
 abbrev pub ErrorsHaveCause : Type 0
 ErrorsHaveCause = (w : DeviceView) (cause : Cause) (a : Answer) (out : List ℕ) (w' : DeviceView) → Row w cause a out w'
     → IsMediumError w'.stage

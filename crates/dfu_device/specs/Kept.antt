@@ -10,7 +10,7 @@ use Rattle.dfu_device.specs.DeviceView.{DeviceView, situation, written_in}
 use Rattle.dfu_device.specs.Rows.{block_calls, Cause, Row}
 use Rattle.dfu_device.specs.Taken.{taken_of}
 
--- The last block taken was written behind those before it, all the bytes written: the image stays, and where a write had a
+-- The last block taken was written after those before it, all the bytes written: the image stays, and if a write had a
 -- fault the code tells it.
 pub record WroteOn (w w' : DeviceView) : Type 0 where
   pub before : List ℕ
@@ -22,7 +22,7 @@ pub record WroteOn (w w' : DeviceView) : Type 0 where
   pub image : image_of w'.slots ≡ image_of w.slots
   pub failed : (fault : WriteFault) → ending ≡ BrokenBy fault → w'.stage ≡ InError (write_code fault)
 
--- The bytes taken were committed and are the image; where a write had a fault the code tells it, and the image is the old
+-- The bytes taken were committed and are the image; if a write had a fault the code reports it, and the image is the old
 -- one or the bytes taken.
 pub record PutInPlace (w w' : DeviceView) : Type 0 where
   pub ending : Ending
@@ -39,7 +39,7 @@ StaysStored w w' = (w'.slots ≡ w.slots) ⊎ (w'.slots ≡ store_on w.slots.med
 abbrev pub KeepsImage : DeviceView → DeviceView → Type 0
 KeepsImage w w' = StaysStored w w' ⊎ WroteOn w w' ⊎ PutInPlace w w'
 
--- Each row calls the slot store for the bytes taken or not at all, and changes the image only by a commit of them.
+-- Each row calls the slot store for the bytes taken or calls nothing, and changes the image only by a commit of them.
 abbrev pub RowKeeps : Type 0
 RowKeeps = (w : DeviceView) (cause : Cause) (a : Answer) (out : List ℕ) (w' : DeviceView) → Row w cause a out w' → KeepsImage w w'
 

@@ -1,4 +1,4 @@
--- The parts of a device beside its configuration: its slot store, where it stands (`DeviceState`), and a block that is not written.
+-- The parts of a device beside its configuration: its slot store, its mode (`DeviceState`), and a block that is not written.
 use Rattle.std.specs.Prelude.{ℕ, ◌+◌, Bool, true, nat_le, nat_lt, ◌&&◌, ◌||◌, ◌==◌, List, take}
 use Rattle.dfu_slots.specs.Seen.{SlotsState, spare_of, is_begun, room_of, is_shaped}
 use Rattle.dfu_device.specs.declared.device_state.DeviceState.{DeviceState}
@@ -7,7 +7,7 @@ use Rattle.dfu_device.specs.Stage.{Stage, InAppIdle, InAppDetach, InDfuIdle, InD
 use Rattle.dfu_device.specs.Setting.{Setting}
 use Rattle.dfu_device.specs.DeviceView.{DeviceView}
 
--- The stage of a mode: its numbers say how many bytes stand in the spare slot, and the block that is not written stands beside them.
+-- The stage of a mode: its numbers say how many bytes are in the spare slot, and the block that is not written comes after them.
 abbrev pub stage_of : DeviceState → List ℕ → List ℕ → Stage
 stage_of device_state.AppIdle spare block = InAppIdle
 stage_of (device_state.AppDetach timer passed) spare block = InAppDetach timer passed
@@ -31,8 +31,8 @@ shows config slots m block = record { config = config; slots = slots; stage = st
 abbrev pub is_put : ℕ → SlotsState → Bool
 is_put written s = is_begun s && (s.put_end == written)
 
--- A block that is not written has bytes and finds room behind those written, and these were put in the spare, if there are any;
--- where all is written, there is some of it, within the room, and it was put in the spare.
+-- A block that is not written has bytes and there is room for them after those written, which were put in the spare, if there are any.
+-- If all is written, it is at least one byte, within the room, and was put in the spare.
 abbrev pub is_filled : DeviceState → ℕ → SlotsState → Bool
 is_filled (device_state.DownloadSync written number) block s =
     nat_lt 0 block && (nat_le (written + block) (room_of s) && ((written == 0) || is_put written s))

@@ -23,7 +23,7 @@ EachReply P (Sure reply stage) = P reply
 EachReply P (Writes before block reply stage bad) = P reply × ((fault : WriteFault) → P (bad fault))
 EachReply P (Commits taken reply stage bad) = P reply × ((fault : WriteFault) → P (bad fault))
 
--- What holds of each reply that a plan may give holds of the one that is given, whatever the medium does.
+-- What holds of each reply that a plan may give holds of the one that is given, also if the medium fails.
 pub reply_given : (P : Reply → Type 0) (image : List ℕ) (p : Plan) (luck : Luck) → EachReply P p → P (outcome image p luck).reply
 reply_given P image (Sure reply stage) luck each = each
 reply_given P image (Writes before block reply stage bad) Works each = each.0
@@ -55,29 +55,29 @@ IsQuiet reply r = Unit {0}
 abbrev pub FitsQuietly : ℕ → Request → Reply → Type 0
 FitsQuietly most r reply = ReplyFits most reply r × IsQuiet reply r
 
--- Where each reply of a plan is quiet, so is the one that is given.
+-- If each reply of a plan is quiet, so is the one that is given.
 pub quiet_given : (c : Profile) (image : List ℕ) (r : Request) (p : Plan) (luck : Luck) → EachReply (FitsQuietly c.transfer r) p
     → IsQuiet (outcome image p luck).reply r
 quiet_given c image r p luck each = (reply_given (FitsQuietly c.transfer r) image p luck each).1
 
 -- What a plan does.
 
--- A plan calls the slot store only for the bytes taken: it writes the last block of them, behind those written, or commits them.
+-- A plan calls the slot store only for the bytes taken: it writes the last block of them, after those written, or commits them.
 abbrev pub CallsFor : (written taken : List ℕ) → Plan → Type 0
 CallsFor w x (Sure reply stage) = Unit {0}
 CallsFor w x (Writes before block reply stage bad) = (before ≡ w) × (before ++ block ≡ x)
 CallsFor w x (Commits taken reply stage bad) = taken ≡ x
 
--- Where the medium works, a plan ends in no error of the medium but one that was there.
+-- If the medium works, a plan ends in no error of the medium but one that was there.
 abbrev pub WorksWell : Stage → Plan → Type 0
 WorksWell st p = IsMediumError (outcome [] p Works).after.stage → IsMediumError st
 
--- The bytes taken and sent are those of this image and stage, or none where a state has none.
+-- The bytes taken and sent are those of this image and stage, or none if a state has none.
 abbrev pub CountsOn : List ℕ → Stage → Situation → Type 0
 CountsOn image st s =
     (taken_of s ≡ held_in (state_of s.stage) (taken_in image st)) × (sent_of s ≡ still_sent (state_of s.stage) (sent_in image st))
 
--- Where a plan changes no count as the medium works, it changes none whatever the medium does.
+-- If a plan changes no count when the medium works, it changes none when it fails.
 pub counted : (image : List ℕ) (st : Stage) (p : Plan) (luck : Luck) → CountsOn image st (outcome image p Works).after
     → CountsOn image st (outcome image p luck).after
 counted image st (Sure reply stage) luck on = on
@@ -93,7 +93,7 @@ pub data RowForm (c : Profile) (image : List ℕ) : Stage → Request → Plan �
   quiet : {st : Stage} {r : Request} {p : Plan} → EachReply (FitsQuietly c.transfer r) p
       → CallsFor (written_in st) (taken_in image st) p → WorksWell st p → CountsOn image st (outcome image p Works).after
       → RowForm c image st r p
-  -- It takes a block behind the bytes taken before.
+  -- It takes a block after the bytes taken before.
   takes : {st : Stage} {body : List ℕ} {number next : ℕ}
       → RowForm c image st (Dnload number body) (ack (InDownloadSync (taken_in image st) body next))
   -- The host closes the download.

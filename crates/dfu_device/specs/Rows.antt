@@ -20,7 +20,7 @@ use Rattle.dfu_device.specs.DeviceView.{DeviceView, profile}
 
 -- The answer to its bytes.
 
--- A reply is answered like this, where so many bytes of a status or a state were asked for: the front of six bytes, or of one byte.
+-- A reply is answered like this, if so many bytes of a status or a state were asked for: the front of six bytes, or of one byte.
 abbrev pub Answers : ℕ → Reply → Answer → List ℕ → Type 0
 Answers len Ack a out = (a ≡ answer.Ack) × (out ≡ [])
 Answers len Stall a out = (a ≡ answer.Stall) × (out ≡ [])
@@ -32,7 +32,7 @@ Answers len (StatusOf code poll state) a out =
 
 -- What becomes of the device, and of its medium.
 
--- A block is written by one `put` behind the bytes written before; before the first block comes a `begin`.
+-- A block is written by one `put` after the bytes written before; before the first block comes a `begin`.
 abbrev pub block_calls : List ℕ → List ℕ → List Call
 block_calls before block = if length before == 0 then Begin ∷ Put 0 block ∷ [] else Put (length before) block ∷ []
 
@@ -70,7 +70,7 @@ pub record FailedCommit (fault : WriteFault) (taken : List ℕ) (config : Settin
   pub image : (image_of w'.slots ≡ image_of s) ⊎ (image_of w'.slots ≡ taken)
   pub failed : Rose s.medium.failures w'.slots.medium.failures
 
--- A plan was carried out: with no call of the slot store at all, or with the calls of a block or of a commit.
+-- A plan was carried out: with no call of the slot store, or with the calls of a block or of a commit.
 abbrev pub Done : Plan → ℕ → DeviceView → Answer → List ℕ → DeviceView → Type 0
 Done (Sure reply stage) len w a out w' = Answers len reply a out × (w' ≡ record w { stage = stage })
 Done (Writes before block reply stage bad) len w a out w' =
@@ -100,7 +100,7 @@ asked_length (asked.GetStatus len) = len
 asked_length (asked.GetState len) = len
 asked_length q = 0
 
--- How many bytes the body of a setup has: wLength where the host sends, and none where it reads.
+-- How many bytes the body of a setup has: wLength if the host sends, and none if it reads.
 abbrev pub body_length : Setup → ℕ
 body_length p = if p.kind == 0x21 then p.length else 0
 
@@ -152,7 +152,7 @@ pub data Cause : Type 0 where
   PowerOn : Cause
 
 -- A row of the device table: from a device by a cause to an answer and a device. Only a setup is answered, which is written as Ack
--- elsewhere; a program that refuses an image writes nothing; power that goes leaves the medium alone.
+-- elsewhere; a program that refuses an image writes nothing; a loss of power leaves the medium as it is.
 abbrev pub Row : DeviceView → Cause → Answer → List ℕ → DeviceView → Type 0
 Row w (Transfer setup body) a out w' = Handles setup body w a out w'
 Row w (Passing ms) a out w' = (a ≡ answer.Ack) × (out ≡ []) × Elapses ms w w'

@@ -32,7 +32,7 @@ abbrev pub upload_sent : Request → Reply → List ℕ
 upload_sent (Upload number size) (Data bytes) = bytes
 upload_sent request reply = []
 
--- Nothing counts as sent where a row ends in another state.
+-- Nothing counts as sent if a row ends in another state.
 abbrev pub still_sent : State → List ℕ → List ℕ
 still_sent state sent = if is_uploading state then sent else []
 

@@ -14,6 +14,11 @@ pub record Setting : Type 0 where
   pub busy_ms : ℕ
   pub manifest_ms : ℕ
 
+-- The setting of these values, in this order.
+abbrev pub setting_from : Ids → Functional → (least busy_ms manifest_ms : ℕ) → Setting
+setting_from ids functional least busy_ms manifest_ms =
+    record { ids = ids; functional = functional; least = least; busy_ms = busy_ms; manifest_ms = manifest_ms }
+
 -- Blocks have 1 to 4,096 bytes.
 pub record HasTransfer (s : Setting) : Type 0 where
   pub some : 1 ≤ s.functional.transfer

@@ -20,7 +20,7 @@ pub data Request : Type 0 where
   Abort : Request
   OtherRequest : Request
 
--- What a device answers: it acknowledges, tells a status or a state, sends bytes of its image, or stalls.
+-- What a device answers: it acknowledges, reports a status or a state, sends bytes of its image, or stalls.
 pub data Reply : Type 0 where
   Ack : Reply
   StatusOf : Code → (poll : ℕ) → State → Reply
@@ -54,7 +54,7 @@ pub data Stage : Type 0 where
   InAppIdle : Stage  -- appIDLE: the application runs
   InAppDetach : (timer passed : ℕ) → Stage  -- appDETACH: it got DETACH; its timer
   InDfuIdle : Stage  -- dfuIDLE: nothing is taken
-  InDownloadSync : (before block : List ℕ) (number : ℕ) → Stage  -- dfuDNLOAD-SYNC: a block that is not written, behind these bytes
+  InDownloadSync : (before block : List ℕ) (number : ℕ) → Stage  -- dfuDNLOAD-SYNC: a block that is not written, after these bytes
   InDownloadSyncWritten : (taken : List ℕ) (number : ℕ) → Stage  -- dfuDNLOAD-SYNC: all bytes taken are put in the slot store
   InDownloadBusy : (before block : List ℕ) (number passed : ℕ) → Stage  -- dfuDNBUSY: the block is being written
   InDownloadIdle : (taken : List ℕ) (number : ℕ) → Stage  -- dfuDNLOAD-IDLE: ready for the next block

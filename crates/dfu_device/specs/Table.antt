@@ -1,5 +1,5 @@
 -- The device table: the state table of USB DFU 1.1, appendix A, as this device has it, row by row.
--- A star marks a rule where a reader may find the appendix otherwise; docs/PROFILE.md, "Where we choose", has the other reading of each.
+-- A star marks a rule that may be read otherwise in the appendix; docs/PROFILE.md, "Where we choose", has the other reading of each.
 use Rattle.std.specs.Prelude.{ℕ, ◌+◌, ◌%◌, ◌==◌, nat_lt, nat_le, min, max, Bool, true, false, not, if◌then◌else◌, List, [], ◌∷◌, ◌++◌, length, take, drop}
 use Rattle.dfu_wire.specs.declared.codes.Code.{Code}
 use Rattle.dfu_wire.specs.declared.codes.Code.TheVariants.{Target as ErrTarget, File as ErrFile, Write as ErrWrite, Prog as ErrProg, Verify as ErrVerify, Address as ErrAddress, NotDone as ErrNotDone, StalledPkt as ErrStalledPkt}
@@ -9,16 +9,16 @@ use Rattle.dfu_device.specs.declared.objection.Objection.{Objection}
 use Rattle.dfu_device.specs.declared.objection.Objection.TheVariants.{Target, File}
 use Rattle.dfu_device.specs.Stage.{Request, Detach, Dnload, Upload, GetStatus, ClrStatus, GetState, Abort, Reply, Ack, StateOf, Data, Stall, Profile, Stage, InAppIdle, InAppDetach, InDfuIdle, InDownloadSync, InDownloadSyncWritten, InDownloadBusy, InDownloadIdle, InManifestSync, InManifestSyncComplete, InManifest, InManifestWaitReset, InUploadIdle, InError, state_of, status_of}
 
--- What a row does. Only the medium is left open: where it works the first reply and stage come, where a write has a fault the last reply
+-- What a row does. Only the medium is left open: if it works the first reply and stage come, if a write has a fault the last reply
 -- and dfuERROR.
 pub data Plan : Type 0 where
   -- It answers and enters a stage, and calls nothing of the slot store.
   Sure : Reply → Stage → Plan
-  -- It first writes a block behind the bytes taken before, and enters dfuERROR with errWRITE where that fails, with errVERIFY where it is
-  -- not there.
+  -- It first writes a block after the bytes taken before, and enters dfuERROR with errWRITE if that fails, with errVERIFY if the bytes
+  -- are not there.
   Writes : (before block : List ℕ) → Reply → Stage → (WriteFault → Reply) → Plan
-  -- It first makes the bytes taken the active image, and enters dfuERROR with errPROG where that fails, with errVERIFY where a write is not
-  -- there.
+  -- It first makes the bytes taken the active image, and enters dfuERROR with errPROG if that fails, with errVERIFY if a write
+  -- is not there.
   Commits : (taken : List ℕ) → Reply → Stage → (WriteFault → Reply) → Plan
 
 -- The code of a block whose write failed, or was not there when it was read back.
@@ -26,7 +26,7 @@ abbrev pub write_code : WriteFault → Code
 write_code Failed = ErrWrite
 write_code NotVerified = ErrVerify
 
--- The code of a commit of which a write failed, or was not there.
+-- The code of a commit in which a write failed, or was not there.
 abbrev pub commit_code : WriteFault → Code
 commit_code Failed = ErrProg
 commit_code NotVerified = ErrVerify
@@ -47,17 +47,17 @@ error code = stall (InError code)
 abbrev pub report : Profile → Stage → Plan
 report c stage = Sure (status_of c stage) stage
 
--- GETSTATUS writes the block first; its answer tells the code of a fault.
+-- GETSTATUS writes the block first; its answer reports the code of a fault.
 abbrev pub write_and_report : Profile → List ℕ → List ℕ → Stage → Plan
 write_and_report c before block stage =
     Writes before block (status_of c stage) stage (λ fault. status_of c (InError (write_code fault)))
 
--- GETSTATUS puts the image in place first; its answer tells the code of a fault.
+-- GETSTATUS puts the image in place first; its answer reports the code of a fault.
 abbrev pub commit_and_report : Profile → List ℕ → Stage → Plan
 commit_and_report c taken stage =
     Commits taken (status_of c stage) stage (λ fault. status_of c (InError (commit_code fault)))
 
--- GETSTATE is answered with the state as it stands.
+-- GETSTATE is answered with the current state.
 abbrev pub tell : Stage → Plan
 tell stage = Sure (StateOf (state_of stage)) stage
 
@@ -85,7 +85,7 @@ first_plan c number body =
     else if has_no_bytes body then error ErrStalledPkt
     else block_plan c [] 0 number body
 
--- DNLOAD in dfuDNLOAD-IDLE: one with wLength 0 closes the download, where the image is long enough.
+-- DNLOAD in dfuDNLOAD-IDLE: one with wLength 0 closes the download, if the image is long enough.
 -- *The number of the closing one is not looked at.
 abbrev pub further_plan : Profile → List ℕ → ℕ → ℕ → List ℕ → Plan
 further_plan c taken expected number body =
@@ -94,7 +94,7 @@ further_plan c taken expected number body =
     else block_plan c taken expected number body
 
 -- UPLOAD: the errors in their order, else the next bytes of the image. Fewer than were asked for are the last ones.
--- *Also where the first answer is a short one, in dfuIDLE.
+-- *Also if the first answer is a short one, in dfuIDLE.
 abbrev pub upload_plan : Profile → List ℕ → ℕ → ℕ → ℕ → ℕ → Plan
 upload_plan c image place expected number size =
     if size == 0 then error ErrStalledPkt
@@ -104,7 +104,7 @@ upload_plan c image place expected number size =
     if nat_lt (length part) size then Sure (Data part) InDfuIdle
     else Sure (Data part) (InUploadIdle (place + size) (next_number expected))
 
--- The rows by state and request, where `image` is the active one.
+-- The rows by state and request; `image` is the active one.
 abbrev pub plan : Profile → List ℕ → Stage → Request → Plan
 -- appIDLE. The timer of appDETACH is the smaller of the host's timeout and the device's.
 plan c image InAppIdle (Detach timeout) = ack (InAppDetach (min c.detach_ms timeout) 0)

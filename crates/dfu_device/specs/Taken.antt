@@ -42,7 +42,7 @@ abbrev pub dnload_added : List ℕ → Request → Reply → List ℕ
 dnload_added taken (Dnload number body) Ack = taken ++ body
 dnload_added taken request reply = taken
 
--- Nothing stays taken where a row ends in another state.
+-- Nothing stays taken if a row ends in another state.
 abbrev pub held_in : State → List ℕ → List ℕ
 held_in state taken = if is_downloading state then taken else []
 
@@ -61,7 +61,7 @@ abbrev pub acknowledged : Cause → Answer → List ℕ
 acknowledged (Transfer setup body) answer.Ack = if is_dnload setup then body else []
 acknowledged cause a = []
 
--- A step ends where a download is under way.
+-- A step ends in a state in which a download is under way.
 abbrev pub downloads : HistoryStep → Bool
 downloads s = is_downloading (state_of s.after.stage)
 
@@ -69,6 +69,6 @@ downloads s = is_downloading (state_of s.after.stage)
 abbrev pub block_of : HistoryStep → List ℕ
 block_of s = acknowledged s.cause s.answer
 
--- These bytes are taken by a history: the blocks that were acknowledged after the last step that ends where no download is under way.
+-- These bytes are taken by a history: the blocks that were acknowledged after the last step that ends with no download under way.
 abbrev pub Taken : List HistoryStep → List ℕ → Type 0
 Taken h bytes = Gathered downloads block_of h bytes

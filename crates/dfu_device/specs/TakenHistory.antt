@@ -12,7 +12,7 @@ use Rattle.dfu_device.specs.Rows.{meant, asked_length, Answers, Elapses, is_serv
 use Rattle.dfu_device.specs.History.{HistoryStep, IsRow, IsHistory}
 use Rattle.dfu_device.specs.Taken.{taken_of, held_in, taken_after, acknowledged, Taken}
 
--- A row took what it acknowledged: after it the bytes taken are those before with its own, or none where it ends outside a download.
+-- A row took what it acknowledged: after it the bytes taken are those before with its own, or none if it ends outside a download.
 pub record TookOn (r : Request) (len : ℕ) (w : DeviceView) (a : Answer) (out : List ℕ) (w' : DeviceView) : Type 0 where
   pub reply : Reply
   pub answers : Answers len reply a out
@@ -29,22 +29,22 @@ AskedTook = (p : Setup) (q : Asked) (setup body : List ℕ) (w : DeviceView) (a 
 abbrev pub TimeTook : Type 0
 TimeTook = (ms : ℕ) (w w' : DeviceView) → Elapses ms w w' → TookOn OtherRequest 0 w answer.Ack [] w'
 
--- After a row of any cause the bytes taken are those before with the acknowledged body, or none where it ends outside a download.
+-- After a row of any cause the bytes taken are those before with the acknowledged body, or none if it ends outside a download.
 abbrev pub RowTakes : Type 0
 RowTakes = (w : DeviceView) (cause : Cause) (a : Answer) (out : List ℕ) (w' : DeviceView) → Row w cause a out w'
     → taken_of (situation w') ≡ held_in (state_of w'.stage) (taken_of (situation w) ++ acknowledged cause a)
 
--- Where the bytes taken are those of a history, they are so after one step more.
+-- If the bytes taken are those of a history, they are so after one more step.
 abbrev pub StepTakes : Type 0
 StepTakes = (h : List HistoryStep) (s : HistoryStep) → Taken h (taken_of (situation s.before)) → IsRow s
     → Taken (h ++ s ∷ []) (taken_of (situation s.after))
 
--- Where the bytes taken are those of a history, they are so after any history that goes on from there.
+-- If the bytes taken are those of a history, they are so after any history that goes on from there.
 abbrev pub HistoryTakes : Type 0
 HistoryTakes = (g h : List HistoryStep) (w w' : DeviceView) → Taken g (taken_of (situation w)) → IsHistory w h w'
     → Taken (g ++ h) (taken_of (situation w'))
 
--- A device that has taken nothing at first has at last taken what its history says.
+-- A device that has taken nothing at first has taken what its history says in the end.
 abbrev pub StartTakes : Type 0
 StartTakes = (h : List HistoryStep) (w w' : DeviceView) → taken_of (situation w) ≡ [] → IsHistory w h w' → Taken h (taken_of (situation w'))
 

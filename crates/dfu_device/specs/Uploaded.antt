@@ -9,8 +9,8 @@ use Rattle.dfu_device.specs.Sent.{sent_of, Sent, EndsUpload}
 abbrev pub UploadEnds : Type 0
 UploadEnds = (s : HistoryStep) → IsRow s → EndsUpload s → sent_of (situation s.before) ++ s.out ≡ image_of s.after.slots
 
--- Where a device that has sent nothing at first comes to the end of an upload, what its history says was sent is the active image, with the
--- bytes of the last step.
+-- If a device that has sent nothing at first comes to the end of an upload, the bytes that its history says were sent, with those of the
+-- last step, are the active image.
 abbrev pub UploadGives : Type 0
 UploadGives = (h : List HistoryStep) (s : HistoryStep) (w : DeviceView) → sent_of (situation w) ≡ [] → IsHistory w h s.before → IsRow s →
     EndsUpload s

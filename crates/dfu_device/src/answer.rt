@@ -1,6 +1,6 @@
 //! How a device answers a setup.
 
-/// How a device answers a setup. The bytes of an answer stand in the buffer that the caller gave.
+/// How a device answers a setup. The bytes of an answer are in the buffer that the caller gave.
 #[derive(Clone, Copy, Debug, PartialEq, Eq)]
 pub enum Answer {
     /// The request is acknowledged; there are no bytes.

@@ -10,7 +10,7 @@ pub trait Block: Drop {
     /// The bytes of the block.
     ghost items: { Self → List ℕ };
 
-    /// Which memory it stands in, always the same.
+    /// The memory that the block is in, always the same.
     ghost memory: { Self → BlockMemory };
 
     /// The bytes of the block.
@@ -24,7 +24,7 @@ pub trait Block: Drop {
         ensures value { result ≡ (memory self.now).room }
         ensures most { result ≤ 4096 };
 
-    /// Puts other bytes in place of those. They must find room.
+    /// Replaces the bytes of the block. There must be room for the new ones.
     fn hold(&mut self, bytes: &[u8])
         requires { length bytes.now ≤ (memory self.old).room }
         ensures items { items self.new ≡ bytes.now }

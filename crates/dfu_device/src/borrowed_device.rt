@@ -35,8 +35,8 @@ impl<M: Medium, B: Block> BorrowedDevice<M, B> {
     ///
     /// # Errors
     ///
-    /// The slot store and the block as they were: exactly where the block has less room than the transfer size, or the
-    /// parts are none of a device.
+    /// The unchanged slot store and block, exactly if the block has less room than the transfer size, or the parts
+    /// are not a device's.
     pub fn from_parts(
         config: Config,
         slots: Slots<M>,
@@ -69,13 +69,7 @@ impl<M: Medium, B: Block> BorrowedDevice<M, B> {
         ensures sound { IsTrue (is_sound result.1 (length (B.items result.2)) result.0) }
         ensures memory { B.memory result.2 ≡ self.memory }
     {
-        let DeviceCore {
-            config: _,
-            slots,
-            mode,
-            block,
-        } = self.core;
-        (slots, mode, block)
+        self.core.into_parts()
     }
 
     /// Answers a setup with its body, as `Device::handle_into`.
@@ -95,7 +89,7 @@ impl<M: Medium, B: Block> BorrowedDevice<M, B> {
         self.core.handle_into(setup, body, out)
     }
 
-    /// So many milliseconds pass, as `Device::elapse`.
+    /// This many milliseconds pass, as `Device::elapse`.
     pub fn elapse(&mut self, ms: u32)
         ensures row { Elapses ms self.old.device self.new.device }
         ensures memory { self.new.memory ≡ self.old.memory }

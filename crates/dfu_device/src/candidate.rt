@@ -1,4 +1,4 @@
-//! Where an image is that was taken and is not in place yet.
+//! Where an image is that was received and is not in place yet.
 
 ghost use Rattle.std.specs.Prelude.{◌≡◌, IfSome, IfNone, None};
 ghost use Rattle.dfu_device.specs.Candidate.{candidate_in, IsCandidate};
@@ -9,8 +9,8 @@ use crate::block::Block;
 use crate::device_core::DeviceCore;
 use dfu_slots::{Medium, data_at};
 
-/// Where an image is that was taken and is not in place yet: its first bytes are on the medium, in the spare slot. The others, fewer than
-/// the medium's unit has, are held back in memory (`Slots::held`).
+/// Where an image is that was received and is not in place yet. Its first bytes are on the medium, in the spare slot. The others, fewer
+/// than a unit of the medium, are held back in memory (`Slots::held`).
 #[derive(Clone, Copy, Debug, PartialEq, Eq)]
 pub struct Candidate {
     /// Where its first byte is on the medium.
@@ -20,9 +20,9 @@ pub struct Candidate {
 }
 
 impl<M: Medium> Device<M> {
-    /// Where the image is that was taken, for a program that checks it before it calls `refuse_close` or `refuse`, or neither: in
-    /// dfuDNLOAD-IDLE, in dfuMANIFEST-SYNC before it is complete, and in dfuMANIFEST. None in every other state. It reads no byte of the
-    /// medium, and writes none.
+    /// Where the received image is, for a program that checks it before it calls `refuse_close` or `refuse`, or neither. It is Some in
+    /// dfuDNLOAD-IDLE, in dfuMANIFEST-SYNC before it is complete, and in dfuMANIFEST, else None. It reads and writes no byte of the
+    /// medium.
     pub fn candidate(&self) -> Option<Candidate>
         ensures some { IfSome result (λ c. IsCandidate self.now c) }
         ensures none { IfNone result (candidate_in self.now.stage ≡ None) }
@@ -32,7 +32,7 @@ impl<M: Medium> Device<M> {
 }
 
 impl<M: Medium, B: Block> DeviceCore<M, B> {
-    // Where the image is that was taken.
+    // Where the received image is.
     fn candidate(&self) -> Option<Candidate>
         ensures some { IfSome result (λ c. IsCandidate (shown self.now) c) }
         ensures none { IfNone result (candidate_in (shown self.now).stage ≡ None) }

@@ -9,7 +9,7 @@ use std::marker::Model;
 
 /// What a device is set up with: who it is, its functional descriptor, the fewest bytes of an image
 /// (1 to 16,777,216), and how long it takes to write a block and to put an image in place (0 to
-/// 16,777,215 ms; at least 1 ms for an image where the device is not tolerant of manifestation).
+/// 16,777,215 ms; at least 1 ms for an image if the device is not tolerant of manifestation).
 ///
 /// On a medium with sectors both times are to have room for erases: a block takes at most one, and one more for each sector
 /// that begins in the transfer size and a unit; an image takes two or three.
@@ -23,25 +23,13 @@ pub struct Config {
 }
 
 impl Model for Config {
-    ghost use Rattle.dfu_device.specs.Setting.{Setting, IsAllowed};
+    ghost use Rattle.dfu_device.specs.Setting.{Setting, setting_from, IsAllowed};
 
     ghost Value = { Setting };
 
-    ghost view = { λ c. record {
-      ids = c.ids;
-      functional = c.functional;
-      least = c.least;
-      busy_ms = c.busy_ms;
-      manifest_ms = c.manifest_ms;
-    } };
+    ghost view = { λ c. setting_from c.ids c.functional c.least c.busy_ms c.manifest_ms };
 
-    ghost invariant = { λ c. IsAllowed (record {
-      ids = c.ids;
-      functional = c.functional;
-      least = c.least;
-      busy_ms = c.busy_ms;
-      manifest_ms = c.manifest_ms;
-    }) };
+    ghost invariant = { λ c. IsAllowed (setting_from c.ids c.functional c.least c.busy_ms c.manifest_ms) };
 
     ghost inverse = { λ s. record {
       ids = s.ids;
@@ -54,10 +42,10 @@ impl Model for Config {
 
 impl Config {
     /// A configuration of these values; the version of the descriptor becomes 0110h. The faults, in
-    /// the order in which they are looked for:
+    /// the order in which they are checked:
     ///
     /// 1. `BadTransfer`: the transfer size is 0 or over 4,096.
-    /// 2. `BadPoll`: a time is over 16,777,215, or `manifest_ms` is 0 where the device is not tolerant.
+    /// 2. `BadPoll`: a time is over 16,777,215, or `manifest_ms` is 0 and the device is not tolerant.
     /// 3. `BadLeast`: `least` is 0 or over 16,777,216.
     pub fn new(
         ids: Ids,

@@ -20,8 +20,8 @@ use std::marker::Model;
 
 /// A device: its configuration, a slot store, and a state of the standard with what it keeps.
 ///
-/// No call takes memory, and none but `power_on` refuses. A bootloader tells it what happens, and
-/// carries out what it answers:
+/// No call takes memory, and only `power_on` refuses. A bootloader reports what happens to it, and
+/// carries out its answers:
 ///
 /// ```text
 /// match happened {
@@ -36,29 +36,29 @@ use std::marker::Model;
 /// let state = device.state(); // says what runs now
 /// ```
 ///
-/// - A transfer is a control transfer to the interface of this standard. Where the host sends, `body`
-///   is its whole data stage, wLength bytes; where it reads, `body` is empty. So a stack takes the data
-///   stage in before it asks, and a body that it cut short is stalled with nothing changed.
+/// - A transfer is a control transfer to the interface of this standard. If the host sends, `body`
+///   is its whole data stage, wLength bytes; if it reads, `body` is empty. So a stack receives the data
+///   stage before it asks, and a body that it cut short is stalled with nothing changed.
 /// - On `Ack` the status stage is acknowledged. On `Bytes` the bytes in `out` are the data stage, which
 ///   may have none. On `Stall` endpoint 0 is stalled; that is an answer like the others, and the device
 ///   goes on from the state that it is in then.
-/// - Time is told as it passes, as at each tick of a timer: a call with the milliseconds since the last
-///   one. Only appDETACH, dfuDNBUSY and dfuMANIFEST count it; elsewhere no call is needed. The medium is
-///   written within the call that comes to the end of the busy or the manifestation time, and where that
-///   time is 0 within the `handle` that answers GETSTATUS.
-/// - A reset of the bus is told once an enumeration: one in dfuIDLE ends the upgrade mode, as the
-///   table has it. With power a device begins in appIDLE; a bootloader that is to begin in dfuIDLE
-///   gives it a DETACH and a reset of its own.
-/// - Then the state says what runs: the application in appIDLE and appDETACH, the upgrade elsewhere. A
+/// - Time is reported as it passes, for example at each tick of a timer: a call with the milliseconds
+///   since the last one. Only appDETACH, dfuDNBUSY and dfuMANIFEST count it; other states need no call. The
+///   medium is written within the call that reaches the end of the busy or the manifestation time, or, if
+///   that time is 0, within the `handle` that answers GETSTATUS.
+/// - A reset of the bus is reported once per enumeration: one in dfuIDLE ends the upgrade mode, as in the
+///   table. At power on a device begins in appIDLE; a bootloader that is to begin in dfuIDLE gives it a
+///   DETACH and a reset of its own.
+/// - The state then says what runs: the application in appIDLE and appDETACH, else the upgrade. A
 ///   device with bitWillDetach goes from appDETACH to dfuIDLE by a tick, and there its maker detaches it
 ///   from the bus. In dfuMANIFEST-WAIT-RESET it waits for its maker or the host to reset it.
 /// - A program that keeps its state elsewhere between two calls takes the device apart by `into_parts`, and
-///   puts it together by `from_parts`; or it looks at the parts by `parts`, and puts a device of the same
-///   medium where it stood by `set_parts`, in place.
+///   puts it together by `from_parts`. Or it reads the parts by `parts`, and restores them by `set_parts` in
+///   a device on the same medium, in place.
 #[derive(Drop)]
 pub struct Device<M: Medium> {
     // A layer of its own: its functions read its fields, which keep an invariant, and a caller of
-    // `Device` sees one plain value, `DeviceView`, whatever those fields are.
+    // `Device` sees one plain value, `DeviceView`, and not those fields.
     pub(crate) core: DeviceCore<M, ArrayVec<u8, 4096>>,
 }
 
@@ -83,12 +83,12 @@ impl<M: Medium> Device<M> {
         }
     }
 
-    /// A device that gets power: in appIDLE, on a medium that it opens and does not write.
+    /// A device that is powered on: in appIDLE, on a medium that it opens and does not write.
     ///
     /// # Errors
     ///
-    /// The first fault of the medium, with the medium as it was. One comes exactly where the medium
-    /// has no active image; they are looked for in this order:
+    /// The first fault of the medium, with the medium unchanged. There is one exactly if the medium
+    /// has no active image. They are checked in this order:
     ///
     /// 1. `WrongSize`: its length is not 2 * (2 * G + C) with C from 1 to 16,777,216 and a multiple of
     ///    the unit's size and the sector's; G is the most of 16, the unit's size and the sector's.
@@ -105,7 +105,7 @@ impl<M: Medium> Device<M> {
         Ok(Device::start(config, slots))
     }
 
-    /// The power goes and comes back: the device starts anew on its medium as it stands, in place, as
+    /// The power goes and comes back: the device starts anew on its medium as it is, in place, as
     /// `power_on` starts one on what `into_medium` gives back. That is never refused.
     pub fn restart(&mut self)
         ensures { self.new ≡ powered_on self.old.config self.old.slots.medium }
@@ -113,8 +113,8 @@ impl<M: Medium> Device<M> {
         self.core.restart();
     }
 
-    /// Answers a setup with its body (USB DFU 1.1, appendix A). `out` is emptied first; where the
-    /// answer is `Bytes`, they stand there, at most wLength of them.
+    /// Answers a setup with its body (USB DFU 1.1, appendix A). `out` is emptied first. If the
+    /// answer is `Bytes`, it has them, at most wLength.
     pub fn handle(&mut self, setup: &[u8; 8], body: &[u8], out: &mut ArrayVec<u8, 4096>) -> Answer
         ensures row { Handles setup.now body.now self.old result out.new.items self.new }
     {
@@ -122,10 +122,10 @@ impl<M: Medium> Device<M> {
     }
 
     /// Answers a setup with its body, as `handle`, with the bytes of the answer at the front of a buffer of the caller's
-    /// own, and says how many they are. The rest of the buffer stays as it was.
+    /// own, and their number. The rest of the buffer is unchanged.
     ///
-    /// None where the buffer has less room than an answer may need, which is 6 bytes or the transfer size, whichever is
-    /// more. Then nothing happened.
+    /// None if the buffer has less room than an answer may need: 6 bytes or the transfer size, whichever is more.
+    /// Then nothing changed.
     pub fn handle_into(
         &mut self,
         setup: &[u8; 8],
@@ -140,10 +140,10 @@ impl<M: Medium> Device<M> {
         self.core.handle_into(setup, body, out)
     }
 
-    /// So many milliseconds pass; 0 change nothing. They count in appDETACH, dfuDNBUSY and dfuMANIFEST,
-    /// where they add up from the moment the state was entered (USB DFU 1.1, appendix A). At most one
-    /// change comes of a call; the rest of its time is dropped. In every other state a call changes nothing,
-    /// and may be left out.
+    /// This many milliseconds pass; 0 changes nothing. They count in appDETACH, dfuDNBUSY and dfuMANIFEST,
+    /// and add up there from the moment the state was entered (USB DFU 1.1, appendix A). A call makes at
+    /// most one change; the rest of its time is dropped. In every other state a call changes nothing, and
+    /// may be left out.
     pub fn elapse(&mut self, ms: u32)
         ensures row { Elapses ms self.old self.new }
     {
@@ -192,9 +192,9 @@ impl<M: Medium> Device<M> {
         self.core.config
     }
 
-    /// The slot store. Until they are put in place the bytes taken stand at the front of the data of
-    /// its spare slot, but for a block that is not written yet. That is as the store has them: where
-    /// the medium's unit is over 1, the last of them may be held in memory until their unit is full.
+    /// The slot store. Until the bytes taken are put in place they are at the front of the data of its
+    /// spare slot, except for a block that is not written yet. That is the store's view: if the medium's
+    /// unit is over 1 byte, the last of them may be held in memory until their unit is full.
     pub fn slots(&self) -> &Slots<M>
         ensures slots { result.now ≡ self.now.slots }
         ensures stored { IsInSpareSlot self.now }
@@ -202,7 +202,7 @@ impl<M: Medium> Device<M> {
         &self.core.slots
     }
 
-    /// Power off: the medium as it stands. It has an active image, so that `power_on` is never
+    /// Power off: returns the medium as it is. It has an active image, so `power_on` is never
     /// refused on it.
     pub fn into_medium(self) -> M
         ensures medium { M.state result ≡ self.slots.medium }

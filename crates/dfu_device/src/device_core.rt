@@ -52,7 +52,7 @@ impl<M: Medium, B: Block> DeviceCore<M, B> {
         }
     }
 
-    /// The core starts anew in appIDLE, on its medium as it stands.
+    /// The core starts anew in appIDLE, on its medium as it is.
     pub(crate) fn restart(&mut self)
         ensures { shown self.new ≡ powered_on (shown self.old).config (shown self.old).slots.medium }
     {
@@ -113,7 +113,7 @@ impl<M: Medium, B: Block> DeviceCore<M, B> {
         self.carry_out(decision, asked_length(request), body)
     }
 
-    /// So many milliseconds pass.
+    /// This many milliseconds pass.
     pub(crate) fn elapse(&mut self, ms: u32)
         ensures row { Elapses ms (shown self.old) (shown self.new) }
         ensures memory { B.memory self.new.block ≡ B.memory self.old.block }

@@ -1,4 +1,4 @@
-//! Where a device stands.
+//! The mode of a device: its state with what it keeps there.
 
 ghost use Rattle.std.specs.Prelude.{◌≡◌, ℕ, List, true};
 ghost use Rattle.dfu_slots.specs.Seen.{SlotsState};
@@ -12,7 +12,7 @@ ghost use Rattle.dfu_device.specs.Parts.{stage_of, is_filled};
 use crate::objection::Objection;
 use dfu_wire::{Code, State};
 
-/// Where a device stands: a state of the standard (USB DFU 1.1, section 6.1.2), with what the device keeps there beside its
+/// The mode of a device: a state of the standard (USB DFU 1.1, section 6.1.2), with what the device keeps there beside its
 /// slot store and the block that is not written. What a variant does not name is forgotten when it is entered.
 ///
 /// `written` is how many bytes of a download were put in the spare slot of the store; `number` is that of the next
@@ -31,7 +31,7 @@ pub enum DeviceState {
     },
     /// dfuIDLE: nothing is taken.
     DfuIdle,
-    /// dfuDNLOAD-SYNC: the block stands beside the mode, and is not written yet.
+    /// dfuDNLOAD-SYNC: the block is kept beside the mode, and is not written yet.
     DownloadSync {
         /// Bytes before the block.
         written: u32,
@@ -45,7 +45,7 @@ pub enum DeviceState {
         /// The next block's number.
         number: u16,
     },
-    /// dfuDNBUSY: the block is being written: it stands beside the mode until the busy time has passed.
+    /// dfuDNBUSY: the block is being written; it is kept beside the mode until the busy time has passed.
     DownloadBusy {
         /// Bytes before the block.
         written: u32,

@@ -80,7 +80,7 @@ impl<M: Medium, B: Block> DeviceCore<M, B> {
         }
     }
 
-    /// Where the device goes once these bytes of its image are sent: fewer than `size` are the last ones.
+    /// The mode after these bytes of the image are sent: fewer than `size` are the last ones.
     fn after_piece(&self, place: u32, size: u16, number: u16) -> DeviceState
         ensures mode { let part = take size (drop place (image_of self.now.slots)) in
             result ≡ (if nat_lt (length part) size then DeviceState.DfuIdle else DeviceState.UploadIdle (place + size) number) }
@@ -94,8 +94,8 @@ impl<M: Medium, B: Block> DeviceCore<M, B> {
         }
     }
 
-    /// Writes the block. It answers the fault of a write that had one; `late` is said where time passed, so
-    /// that the host has to ask for the status once more.
+    /// Writes the block, and returns the fault if a write had one. `late` is true if time passed, so that the
+    /// host has to ask for the status once more.
     pub(crate) fn write_block(
         &mut self,
         written: u32,
@@ -131,8 +131,8 @@ impl<M: Medium, B: Block> DeviceCore<M, B> {
         }
     }
 
-    /// Makes the bytes taken the active image, and goes on to the next state. It answers the fault of a
-    /// write that had one.
+    /// Makes the bytes taken the active image, and goes on to the next state. It returns the fault if a
+    /// write had one.
     pub(crate) fn commit_taken(&mut self, written: u32, next: DeviceState) -> Result<(), WriteFault>
         requires taken { IsTrue (is_filled (DeviceState.ManifestSync written) (length (B.items self.old.block)) self.old.slots) }
         requires next { TakesNothing next }
@@ -158,7 +158,7 @@ impl<M: Medium, B: Block> DeviceCore<M, B> {
     }
 }
 
-/// The fault of the write that broke a call of the slot store off.
+/// The fault of the write that broke off a call of the slot store.
 fn write_fault(fault: PutFault) -> WriteFault
     ensures { result ≡ fault_of fault }
 {
@@ -168,7 +168,7 @@ fn write_fault(fault: PutFault) -> WriteFault
     }
 }
 
-/// The code of a block whose write had this fault.
+/// The status code of a block whose write had this fault.
 fn write_code(fault: WriteFault) -> Code
     ensures { result ≡ write_code fault }
 {
@@ -178,7 +178,7 @@ fn write_code(fault: WriteFault) -> Code
     }
 }
 
-/// The code of a commit of which a write had this fault.
+/// The status code of a commit in which a write had this fault.
 fn commit_code(fault: WriteFault) -> Code
     ensures { result ≡ commit_code fault }
 {
@@ -188,7 +188,7 @@ fn commit_code(fault: WriteFault) -> Code
     }
 }
 
-/// Writes a block behind the bytes written, the first one after a `begin`.
+/// Writes a block after the bytes written, the first one after a `begin`.
 fn put_block<M: Medium>(slots: &mut Slots<M>, written: u32, block: &[u8]) -> Result<(), PutFault>
     requires put { (written ≡ 0) ⊎ (is_put written slots.old ≡ true) }
     requires shape { is_shaped slots.old ≡ true }

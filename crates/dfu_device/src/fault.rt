@@ -2,7 +2,7 @@
 
 use thiserror::Error;
 
-/// Why a device cannot be set up, in the order in which the faults are looked for.
+/// Why a device cannot be set up, in the order in which the faults are checked.
 #[derive(Clone, Copy, Debug, PartialEq, Eq, Drop, Error)]
 pub enum ConfigFault {
     /// The transfer size of the functional descriptor is 0 or over 4,096 bytes.

@@ -6,7 +6,7 @@ ghost use Rattle.dfu_device.specs.Parts.{is_filled};
 
 use crate::device_state::DeviceState;
 
-/// What tells of a slot store whether a mode goes with it.
+/// What decides whether a mode goes with a slot store.
 #[derive(Clone, Copy, Debug, PartialEq, Eq)]
 pub struct PutSoFar {
     /// The most bytes of an image.
@@ -31,7 +31,7 @@ fn is_written(seen: PutSoFar, written: u32) -> bool
     0 < written && written <= seen.room && is_put(seen, written)
 }
 
-// Whether a block of so many bytes finds room after what is written.
+// Whether there is room for a block of so many bytes after what is written.
 fn is_next(seen: PutSoFar, written: u32, block: usize) -> bool
     requires { block < 2 ^ 32 }
     ensures { result ≡ (nat_lt 0 block && (nat_le (written + block) seen.room && ((written == 0) || (seen.begun && (seen.end == written))))) }
@@ -41,7 +41,7 @@ fn is_next(seen: PutSoFar, written: u32, block: usize) -> bool
         && (written == 0 || is_put(seen, written))
 }
 
-/// Whether a mode, with a block of so many bytes that is not written, goes with what was put in each slot store of which this was seen.
+/// Whether a mode, with a block of so many bytes that is not written, goes with what was put in each slot store that looks like this.
 pub fn is_filled(seen: PutSoFar, mode: DeviceState, block: usize) -> bool
     requires { block < 2 ^ 32 }
     ensures { (s : SlotsState) → seen.room ≡ room_of s → seen.begun ≡ is_begun s → seen.end ≡ s.put_end →

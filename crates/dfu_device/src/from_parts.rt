@@ -13,33 +13,27 @@ use arrayvec::ArrayVec;
 use dfu_slots::{Medium, Slots};
 
 impl<M: Medium> Device<M> {
-    /// Takes the device apart: its slot store, where it stands, and the block that is not written, which counts in
-    /// dfuDNLOAD-SYNC and dfuDNBUSY alone. `from_parts` makes the same device of them and of `config`.
+    /// Takes the device apart into its slot store, its mode, and the block that is not written, which counts only in
+    /// dfuDNLOAD-SYNC and dfuDNBUSY. `from_parts` makes the same device of them and of `config`.
     pub fn into_parts(self) -> (Slots<M>, DeviceState, ArrayVec<u8, 4096>)
         ensures parts { shows self.config result.0 result.1 result.2.items ≡ self }
         ensures sound { IsTrue (is_sound result.1 (length result.2.items) result.0) }
     {
-        let DeviceCore {
-            config: _,
-            slots,
-            mode,
-            block,
-        } = self.core;
-        (slots, mode, block)
+        self.core.into_parts()
     }
 
-    /// Puts a device together of its configuration, its slot store, where it stands, and the block that is not written.
-    /// They are a device's exactly where the store has put what the mode says:
+    /// Puts a device together from its configuration, its slot store, its mode, and the block that is not written.
+    /// They are a device's exactly if the store has put what the mode says:
     ///
-    /// - where a block is not written (dfuDNLOAD-SYNC, dfuDNBUSY), it has bytes and ends within the capacity, and what was
+    /// - if a block is not written (dfuDNLOAD-SYNC, dfuDNBUSY), it has bytes and ends within the capacity, and what was
     ///   `written` before it, if anything, is what was put since `begin`;
-    /// - where all is written (dfuDNLOAD-SYNC, dfuDNLOAD-IDLE, dfuMANIFEST-SYNC before it is complete, dfuMANIFEST), that is
+    /// - if all is written (dfuDNLOAD-SYNC, dfuDNLOAD-IDLE, dfuMANIFEST-SYNC before it is complete, dfuMANIFEST), that is
     ///   1 byte or more, within the capacity, and is what was put since `begin`;
-    /// - elsewhere always.
+    /// - in any other mode always.
     ///
     /// # Errors
     ///
-    /// The slot store as it was, exactly where they are not.
+    /// The unchanged slot store, exactly if they are not.
     pub fn from_parts(
         config: Config,
         slots: Slots<M>,
@@ -65,7 +59,7 @@ impl<M: Medium> Device<M> {
         })
     }
 
-    /// Where the device stands, and the block that is not written, as `into_parts` gives them.
+    /// The device's mode and the block that is not written, as `into_parts` gives them.
     pub fn parts(&self) -> (DeviceState, &[u8])
         ensures parts { shows self.now.config self.now.slots result.0 result.1.now ≡ self.now }
         ensures sound { IsTrue (is_sound result.0 (length result.1.now) self.now.slots) }
@@ -74,8 +68,8 @@ impl<M: Medium> Device<M> {
         (self.core.mode, self.core.block.bytes())
     }
 
-    /// Puts the device where these parts say, on its slot store as it is; false, with nothing changed, where the block has
-    /// over 4,096 bytes or the parts are none of a device, as `from_parts` has it.
+    /// Sets the device's mode and block, on its slot store as it is. False, with nothing changed, if the block has
+    /// over 4,096 bytes or `from_parts` would refuse these parts.
     pub fn set_parts(&mut self, mode: DeviceState, block: &[u8]) -> bool
         ensures parts { IsTrue result ↔ ((length block.now ≤ 4096) × IsTrue (is_sound mode (length block.now) self.old.slots)) }
         ensures device { IsTrue result → self.new ≡ shows self.old.config self.old.slots mode block.now }
@@ -86,7 +80,22 @@ impl<M: Medium> Device<M> {
 }
 
 impl<M: Medium, B: Block> DeviceCore<M, B> {
-    // Puts the core where these parts say, if they are a device's.
+    /// Takes the core apart: its slot store, its mode, and the block that is not written.
+    pub(crate) fn into_parts(self) -> (Slots<M>, DeviceState, B)
+        ensures parts { shows self.config result.0 result.1 (B.items result.2) ≡ shown self }
+        ensures sound { IsTrue (is_sound result.1 (length (B.items result.2)) result.0) }
+        ensures memory { B.memory result.2 ≡ B.memory self.block }
+    {
+        let DeviceCore {
+            config: _,
+            slots,
+            mode,
+            block,
+        } = self;
+        (slots, mode, block)
+    }
+
+    // Sets the core's mode and block, if they are a device's.
     fn set_parts(&mut self, mode: DeviceState, block: &[u8]) -> bool
         ensures parts { let room = (B.memory self.old.block).room in
             IsTrue result ↔ ((length block.now ≤ room) × IsTrue (is_sound mode (length block.now) self.old.slots)) }

@@ -26,14 +26,14 @@ impl<M: Medium, B: Block> DeviceCore<M, B> {
     ) -> Answer
         ensures row { Handles setup.now body.now (shown self.old) result out.new.items (shown self.new) }
     {
-        // Called for its clause `fits`, which `give` needs; what it answers isn't used.
+        // Called for its clause `fits`, which `give` needs; its result isn't used.
         let _ = self.config.transfer();
         let pending_answer = self.pending_answer(setup, body);
         out.clear();
         self.give(pending_answer, out)
     }
 
-    /// Answers a setup with its body into a buffer, where that has room for any answer.
+    /// Answers a setup with its body into a buffer, if that has room for any answer.
     pub(crate) fn handle_into(
         &mut self,
         setup: &[u8; 8],
@@ -83,7 +83,7 @@ impl<M: Medium, B: Block> DeviceCore<M, B> {
         }
     }
 
-    /// Puts the bytes of an answer at the front of a buffer, and answers how many they are.
+    /// Puts the bytes of an answer at the front of a buffer, and returns their number.
     fn give_into(&self, pending_answer: PendingAnswer, out: &mut [u8]) -> (Answer, usize)
         requires fits { (a : Answer) (sent : List ℕ) → AnswersPending pending_answer (shown self.now) a sent
             → length sent ≤ length out.old }
@@ -107,7 +107,7 @@ impl<M: Medium, B: Block> DeviceCore<M, B> {
         }
     }
 
-    /// How many bytes of the image stand from `place` on, at most `len`.
+    /// How many bytes the image has from `place` on, at most `len`.
     #[inline(never)]
     pub(crate) fn piece_len(&self, place: u32, len: u16) -> u16
         ensures count { result ≡ length (take len (drop place (image_of self.now.slots))) }
@@ -119,7 +119,7 @@ impl<M: Medium, B: Block> DeviceCore<M, B> {
         rest.min(len as u32) as u16
     }
 
-    /// Puts bytes of the image at the front of a buffer, from `place` on, at most `asked`; and answers how many they are.
+    /// Puts bytes of the image at the front of a buffer, from `place` on, at most `asked`, and returns their number.
     fn put_piece(&self, place: u32, asked: u16, out: &mut [u8]) -> usize
         requires { length (take asked (drop place (image_of self.now.slots))) ≤ length out.old }
         ensures count { result ≡ length (take asked (drop place (image_of self.now.slots))) }
@@ -134,7 +134,7 @@ impl<M: Medium, B: Block> DeviceCore<M, B> {
     }
 }
 
-/// Puts the first of some bytes at the front of a buffer, at most `asked`, and answers how many they are.
+/// Puts the first of some bytes at the front of a buffer, at most `asked`, and returns their number.
 fn put_front(bytes: &[u8], asked: u16, out: &mut [u8]) -> usize
     requires { length (take asked bytes.now) ≤ length out.old }
     ensures count { result ≡ length (take asked bytes.now) }

@@ -11,7 +11,7 @@ ghost use Rattle.dfu_device.specs.Errors.{ErrorsHaveCause};
 
 /// What a row leads to: the outcome of its plan, at some luck of the medium. A setup whose reading
 /// is known goes by that reading; one that does not go by the table is stalled and changes nothing.
-/// Where six bytes are asked for, the answer to GETSTATUS is read back as the status.
+/// If six bytes are asked for, the answer to GETSTATUS is read back as the status.
 pub fn rows_come_to_outcomes()
     ensures plan { PlanCame }
     ensures row_of { RowOf }
@@ -51,9 +51,9 @@ pub fn rows_tell()
     ensures state { StateTold }
 {}
 
-/// A row calls nothing of the slot store, or writes the last block taken behind the bytes written, or
-/// commits the bytes taken; the image changes by such a commit alone, and in dfuERROR it stays. errWRITE,
-/// errPROG and errVERIFY come only where the medium failed.
+/// A row calls nothing of the slot store, or writes the last block taken after the bytes written, or
+/// commits the bytes taken. Only such a commit changes the image, and in dfuERROR it stays. errWRITE,
+/// errPROG and errVERIFY come only if the medium failed.
 pub fn rows_keep()
     ensures image { RowKeeps }
     ensures error { ErrorKeeps }

@@ -15,7 +15,7 @@ pub enum Objection {
 }
 
 impl Objection {
-    /// The status code that tells a host of it.
+    /// The status code that reports it to a host.
     pub fn code(self) -> Code
         ensures { result ≡ objection_code self }
     {

@@ -1,14 +1,14 @@
-//! An answer before its bytes stand in a buffer.
+//! An answer before its bytes are in a buffer.
 
 ghost use Rattle.std.specs.Prelude.{◌≡◌};
 ghost use Rattle.dfu_device.specs.inside.PendingAnswer.{pending_answer_of};
 
 use crate::reply::Reply;
 
-/// An answer before its bytes stand in a buffer: with no byte made or copied. A status and a state are
-/// those of the core once it has gone on.
+/// An answer before its bytes are in a buffer, with no byte made or copied. A status and a state are
+/// those of the core after the row.
 ///
-/// `asked` is wLength: at most so many bytes are sent.
+/// `asked` is wLength, the most bytes that are sent.
 #[derive(Clone, Copy)]
 pub(crate) enum PendingAnswer {
     /// The request is acknowledged.
@@ -23,7 +23,7 @@ pub(crate) enum PendingAnswer {
     Stall,
 }
 
-/// The pending answer of a reply, where so many bytes are asked for.
+/// The pending answer of a reply to a request for so many bytes.
 pub(crate) fn pending_answer_of(reply: Reply, asked: u16) -> PendingAnswer
     ensures { result ≡ pending_answer_of asked reply }
 {

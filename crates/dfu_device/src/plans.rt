@@ -49,7 +49,7 @@ pub(crate) fn report(mode: DeviceState) -> Decision
     }
 }
 
-/// GETSTATE is answered with the state as it stands.
+/// GETSTATE is answered with the current state.
 pub(crate) fn tell(mode: DeviceState) -> Decision
     ensures { result ≡ Decision.Sure Reply.State mode }
 {

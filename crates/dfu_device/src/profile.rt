@@ -7,7 +7,7 @@ ghost use Rattle.dfu_device.specs.Decision.{profile_in};
 use crate::Config;
 use dfu_wire::Functional;
 
-/// What the table reads of a device beside its mode: what is fixed of it.
+/// What the table reads of a device beside its mode: its fixed settings.
 #[derive(Clone, Copy, Debug, PartialEq, Eq)]
 pub struct Profile {
     /// The functional descriptor.

@@ -1,4 +1,4 @@
-//! The device table as a value: what a request comes to, by the mode of a device and what is fixed of it alone (USB DFU 1.1,
+//! The device table as a value: what a request comes to, by the mode of a device and its fixed settings only (USB DFU 1.1,
 //! appendix A). Nothing is carried out here. `specs/Table.antt` has the same rows in the same words.
 
 ghost use Rattle.dfu_device.specs.Decision.{Decides, AllowsAsked};

@@ -1,4 +1,4 @@
-//! The rows of time that passes, as a value (USB DFU 1.1, appendix A): at most one change comes of it, and the rest of the time is
+//! The rows of time that passes, as a value (USB DFU 1.1, appendix A): it makes at most one change, and the rest of the time is
 //! dropped.
 
 ghost use Rattle.dfu_device.specs.Decision.{IsSilent, DecidesTime, Allows};

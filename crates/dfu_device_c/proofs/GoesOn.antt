@@ -1,17 +1,17 @@
 -- Sessions with a board in C go on as those of a board.
-use Rattle.std.specs.Prelude.{List, [], ◌∷◌, ◌++◌, pos}
+use Rattle.std.specs.Prelude.{◌≡◌, ℕ, List, [], ◌∷◌, ◌++◌, Option, pos}
 use Rattle.std.proofs.Common.{refl, ap, ◌∙◌, subst}
 use Rattle.dfu_device.specs.Setting.{Setting}
 use Rattle.dfu_host.specs.Phases.{ToFetch}
 use Rattle.dfu_host.specs.Host.{started, aborted}
 use Rattle.dfu_sim.specs.Opening.{goal_of_purpose}
-use Rattle.dfu_sim.specs.LinkView.{Nobody, Hosted}
+use Rattle.dfu_sim.specs.LinkView.{Session, Nobody, Hosted}
 use Rattle.dfu_board.specs.Board.{BoardStep}
-use Rattle.dfu_board_play.specs.Plays.{opened_on, starts as begins, offers as offers_on, uploads as uploads_on, aborts as gives_up, goes_on as comes_next}
+use Rattle.dfu_board_play.specs.Plays.{Plays, starts as begins, offers as offers_on, uploads as uploads_on, aborts as gives_up, goes_on as comes_next}
 use Rattle.dfu_device_c.specs.Board.{CoreBoard, CoreStep}
 use Rattle.dfu_device_c.specs.Happens.{IsCoreRun}
 use Rattle.dfu_device_c.specs.Steps.{board_of_core, IsBoardOf, AreStepsOf}
-use Rattle.dfu_device_c.specs.Plays.{CorePlaysGoOn}
+use Rattle.dfu_device_c.specs.Plays.{CoreLink, CorePlays, CorePlaysGoOn}
 use Rattle.dfu_device_c.proofs.Each.{powers_on}
 use Rattle.dfu_device_c.proofs.Played.{comes_on}
 
@@ -24,6 +24,22 @@ are_append [] ys [] us are more = more
 are_append (x ∷ xs) ys (t ∷ ts) us are more = (are.0, are_append xs ys ts us are.1 more)
 are_append [] ys (t ∷ ts) us are more = absurd are
 are_append (x ∷ xs) ys [] us are more = absurd are
+
+-- Another session on the same boards, after the same steps.
+with_session : {b : CoreBoard} {steps : List CoreStep} {past past' : List (List ℕ)} {last last' : Option (List ℕ)} {l : CoreLink}
+    {mine theirs : Session} (p : CorePlays b steps past last l) → theirs ≡ mine
+    → Plays p.first p.calls past' last' (record { board = p.link.board; session = theirs })
+    → CorePlays b steps past' last' (record { board = l.board; session = mine })
+with_session {mine = mine} {theirs = theirs} p same plays = record {
+  run = p.run;
+  first = p.first;
+  is_first = p.is_first;
+  calls = p.calls;
+  are = p.are;
+  link = record { board = p.link.board; session = theirs };
+  is_link = record { board = p.is_link.board; session = same };
+  plays = plays;
+}
 
 -- Sessions go on.
 pub core_goes_on : CorePlaysGoOn
@@ -42,43 +58,13 @@ core_goes_on = record {
         is_link = record { board = is; session = refl };
         plays = begins;
       };
-  offers = λ b steps past last l purpose payload limits p none some. record {
-    run = p.run;
-    first = p.first;
-    is_first = p.is_first;
-    calls = p.calls;
-    are = p.are;
-    link = opened_on p.link.board (goal_of_purpose purpose payload) limits;
-    is_link = record {
-      board = p.is_link.board;
-      session = ap (λ (s : Setting). Hosted (started s.functional
-          (goal_of_purpose purpose payload) limits)) p.is_link.board.kept.set_up.config_is;
-    };
-    plays = offers_on purpose payload limits p.plays (p.is_link.session ∙ none) some;
-  };
-  uploads = λ b steps past last l limits p none. record {
-    run = p.run;
-    first = p.first;
-    is_first = p.is_first;
-    calls = p.calls;
-    are = p.are;
-    link = opened_on p.link.board ToFetch limits;
-    is_link = record {
-      board = p.is_link.board;
-      session = ap (λ (s : Setting). Hosted (started s.functional ToFetch limits)) p.is_link.board.kept.set_up.config_is;
-    };
-    plays = uploads_on limits p.plays (p.is_link.session ∙ none);
-  };
-  aborts = λ b steps past last l h p live. record {
-    run = p.run;
-    first = p.first;
-    is_first = p.is_first;
-    calls = p.calls;
-    are = p.are;
-    link = record { board = p.link.board; session = Hosted (aborted h) };
-    is_link = record { board = p.is_link.board; session = refl };
-    plays = gives_up p.plays (p.is_link.session ∙ live);
-  };
+  offers = λ b steps past last l purpose payload limits p none some. with_session p
+      (ap (λ (s : Setting). Hosted (started s.functional (goal_of_purpose purpose payload) limits)) p.is_link.board.kept.set_up.config_is)
+      (offers_on purpose payload limits p.plays (p.is_link.session ∙ none) some);
+  uploads = λ b steps past last l limits p none. with_session p
+      (ap (λ (s : Setting). Hosted (started s.functional ToFetch limits)) p.is_link.board.kept.set_up.config_is)
+      (uploads_on limits p.plays (p.is_link.session ∙ none));
+  aborts = λ b steps past last l h p live. with_session p refl (gives_up p.plays (p.is_link.session ∙ live));
   goes_on = λ b steps more past last l l' answer p c. record {
     run = run_append b l.board l'.board steps more p.run c.run;
     first = p.first;

@@ -43,7 +43,7 @@ refusal_some refusal.Asked is = absurd (cc)
 refusal_some refusal.NoMedium is = absurd (cc)
 refusal_some refusal.NoDevice is = absurd (cc)
 
--- A call that answers 0 is not refused.
+-- A call that returns 0 is not refused.
 pub never_refused : (c : DfuConfig) (r : DfuRecord) (block : List ℕ) (Why : Asking → Type 0) (n : ℤ) → RefusesPiece c r block Why n
     → n ≡ pos 0 → ⊥
 never_refused c r block Why n (refuses_unfound e is cause) zero = refusal_some e (sym is ∙ zero)

@@ -1,4 +1,4 @@
--- Where an active image stands.
+-- Where an active image is.
 use Rattle.std.proofs.Common.{◌≡◌, ◌+◌, ◌-◌, ◌*◌, ◌^◌, ◌≤◌, ◌<◌, ⊎_elim, ℕ, List, length, take, drop, slice_range, sym, ◌∙◌, ap, subst, arith}
 use Rattle.std.specs.Int.{w32, from_le_bytes}
 use Rattle.std.proofs.lemmas.Nat.{from_le_bytes-to_le_bytes_4}
@@ -15,7 +15,7 @@ use Rattle.dfu_asks.specs.Mapped.{mapped}
 use Rattle.dfu_device_c.specs.declared.place.DfuPlace.{DfuPlace}
 use Rattle.dfu_device_c.specs.Image.{ImageIsAt}
 
--- The length that stands in a well-formed header is that of its image.
+-- The length in a well-formed header is that of its image.
 length_told : (s : Slot) (len : ℕ) → HasHeader s len → len < 2 ^ 32 → header_length s ≡ len
 length_told s len has fits = ⊎_elim
     (λ e. ap (λ (h : List ℕ). from_le_bytes w32 (take 4 (drop 4 h))) e ∙ from_le_bytes-to_le_bytes_4 len fits)
@@ -56,7 +56,7 @@ module _ (grain : Grain) (flash : List ℕ) (p : ℕ) (has : HasImage (mapped gr
   pub slot_end : p + slot_size flash ≤ length flash
   slot_end = omega (arith, here, active_end g flash sized)
 
-  -- It stands behind the gate and the header of its slot, and is as long as the header says.
+  -- It follows the gate and the header of its slot, and is as long as the header says.
   pub there : (place : DfuPlace) → place.at ≡ p + 2 * g → place.length ≡ header_length (slot_of m p) → ImageIsAt grain flash place
   there at at_is length_is =
       let from = p + 2 * g in

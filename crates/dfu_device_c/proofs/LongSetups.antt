@@ -37,7 +37,7 @@ after_free device_state.ManifestWaitReset n x = refl
 after_free (device_state.UploadIdle place number) n x = refl
 after_free (device_state.Error code) n x = refl
 
--- A setup with which the host sends bytes is none of those with a length of 0.
+-- A setup with which the host sends bytes is not one of those with a length of 0.
 unnamed : (p : Setup) → p.kind ≡ 0x21 → 0 < p.length → p.request ≢ 1 → (q : Asked) → IsNamed p q → ⊥
 unnamed p out some not_one (asked.Detach timeout) named = omega (arith, some, named.1)
 unnamed p out some not_one (asked.Dnload block len) named = not_one named.0.request
@@ -70,7 +70,7 @@ module _ (setup : List ℕ) (p : Setup) (is : IsSetup p setup) (d : DeviceView) 
   pub long_elsewhere : p.index ≢ 0 → (body : List ℕ) → Handles setup body d answer.Stall [] d
   long_elsewhere other body = handled_as p asked.NotDfu is (λ us. other us.1) ((refl, refl), refl)
 
-  -- Another one takes it where an unknown request does.
+  -- Another one leads to where an unknown request leads.
   module _ (m : DeviceState) (spare block : List ℕ) (stage_is : d.stage ≡ stage_of m spare block)
       (long : d.config.functional.transfer < body_length p) (index : p.index ≡ 0) (body : List ℕ) (fits : length body ≡ body_length p) where
     abbrev after : DeviceView

@@ -1,4 +1,4 @@
--- A record whose mode alone is another one is that device in the other mode.
+-- A record of which only the mode changed is that device in the other mode.
 use Rattle.std.proofs.Common.{◌≡◌, ◌&&◌, Bool, true, IsTrue, Option, Some, None, ℕ, List, [], length, refl, sym, ap, ◌∙◌, subst, arith}
 use Rattle.std.proofs.lemmas.Grind.{common_steps}
 use Rattle.dfu_slots.specs.Seen.{SlotsState, is_shaped}
@@ -35,7 +35,7 @@ moved_sound s m m' n sound free = both (is_shaped s) (is_filled m n s) (is_fille
     both : (x y z : Bool) → IsTrue (x && y) → z ≡ true → IsTrue (x && z)
     both x y z t e = grind (arith, common_steps, t, e)
 
--- So a device whose mode alone is another one is a device.
+-- So a device of which only the mode changed is a device.
 pub moved_device : (l : LentAsking) (m' : DeviceState) (flash : List ℕ) → IsDevice l flash
     → is_filled m' (length l.block) (store_in l flash) ≡ true
     → IsDevice (record l { mode = m' }) flash

@@ -23,7 +23,7 @@ module _ (c : DfuConfig) (m m' : DeviceState) (why : Objection) (l : LentAsking)
   sound : IsTrue (is_sound m (length l.block) s)
   sound = subst (λ (x : DeviceState). IsTrue (is_sound x (length l.block) s)) (sym mode) device.sound
 
-  -- Its mode tells whether the download may be closed.
+  -- Its mode decides whether the download may be closed.
   pub may_is : (b : Bool) → ((spare block : List ℕ) → HoldsWritten m spare → b ≡ may_close c.least (stage_of m spare block))
       → b ≡ may_close l.config.least (device_in l flash).stage
   may_is b may = may (spare_of s) l.block (holds_written m (length l.block) s sound)

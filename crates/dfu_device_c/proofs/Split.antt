@@ -32,7 +32,7 @@ split a memory front held is size = record {
   held_is = (λ i. drop (sym size i) (is i)) ∙ drop-append_seam front held;
 }
 
--- Memory is its front and what is behind that.
+-- Memory is its front and what follows it.
 pub joined : (n : ℕ) (memory front held : List ℕ) → front ≡ take n memory → held ≡ drop n memory → memory ≡ front ++ held
 joined n memory front held is is' = sym ((λ i. is i ++ is' i) ∙ take-append-drop n memory)
 

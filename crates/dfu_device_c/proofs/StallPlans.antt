@@ -1,4 +1,4 @@
--- A plan that was carried out answers Stall exactly if it says so, whatever its writes come to.
+-- A plan that was carried out gives Stall exactly if it says so, whatever its writes come to.
 use Rattle.std.proofs.Common.{◌≡◌, ◌≢◌, Bool, true, false, ℕ, List, Some, inl, inr, sym}
 use Rattle.std.proofs.lemmas.Bool.{true≢false}
 use Rattle.dfu_slots.specs.declared.fault.WriteFault.{WriteFault}
@@ -11,7 +11,7 @@ use Rattle.dfu_device.specs.DeviceView.{DeviceView}
 use Rattle.dfu_device.specs.Rows.{Done, Answers}
 use Rattle.dfu_device_c.specs.Verdict.{is_stall, agreed, verdict}
 
--- What two answers are found to be they are.
+-- Two answers are what they are found to be.
 same_some : {x y : Bool} → Some x ≡ Some y → x ≡ y
 same_some is = cc
 

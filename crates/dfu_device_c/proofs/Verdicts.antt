@@ -1,4 +1,4 @@
--- What is said of a setup before its body is there is so, whatever comes of it.
+-- What is said about a setup before its body is there holds, whatever comes of it.
 use Rattle.std.proofs.Common.{◌≡◌, ◌==◌, Bool, true, false, Option, Some, None, ℕ, ℤ, pos, List, length, refl, sym, ap, ◌∙◌, subst}
 use Rattle.dfu_wire.specs.declared.setups.Setup.{Setup}
 use Rattle.dfu_wire.specs.declared.functionals.Functional.{Functional}

@@ -18,11 +18,11 @@ pub record CoreBoard : Type 0 where
   pub block : List ℕ
   pub flash : List ℕ
 
--- Its flash as a medium, of which any write may fail.
+-- Its flash as a medium. Any write to it may fail.
 abbrev pub medium_of_core : CoreBoard → MediumState
 medium_of_core b = mapped (config_grain b.config) b.flash
 
--- It is in this state of the standard, as dfu_core_state tells it.
+-- It is in this state of the standard, as dfu_core_state returns it.
 pub record IsIn (b : CoreBoard) (state : State) : Type 0 where
   pub mode : DeviceState
   pub has_mode : HasMode b.kept mode
@@ -43,10 +43,10 @@ pub data CoreEvent : Type 0 where
   CoreWrite : CoreEvent
   -- The call dfu_core_took.
   CoreTook : (failed : ℕ) (out : List ℕ) → CoreEvent
-  -- The power goes, and comes back: dfu_core_power_on, or dfu_core_begin if the device begins for a host. It answers 0.
+  -- The power goes, and comes back: dfu_core_power_on, or dfu_core_begin if the device begins for a host. It returns 0.
   CoreRestart : (begins : Bool) → CoreEvent
 
--- A step of a board in C: an event, the number that the call answers, and the bytes of its buffer then.
+-- A step of a board in C: an event, the number that the call returns, and the bytes of its buffer then.
 pub record CoreStep : Type 0 where
   pub before : CoreBoard
   pub event : CoreEvent

@@ -29,7 +29,7 @@ transfer_of c = (setting_of c).functional.transfer
 unfoldable pub unit_of : DfuConfig → WriteUnit
 unit_of c = if c.unit == 16 then U16 else if c.unit == 64 then U64 else if c.unit == 256 then U256 else Byte
 
--- The fewest bytes of the memory of a block: the most of a block, and behind them a unit's for those held back.
+-- The fewest bytes of the memory of a block: the most of a block, and after them a unit's for those held back.
 abbrev pub block_memory_size : DfuConfig → ℕ
 block_memory_size c = transfer_of c + unit_size (unit_of c)
 

@@ -1,4 +1,4 @@
--- Of which kind the answer to a setup is.
+-- The kind of the answer to a setup.
 use Rattle.std.specs.Prelude.{List, [], ◌∷◌}
 use Rattle.dfu_wire.specs.declared.setups.Setup.{Setup}
 use Rattle.dfu_wire.specs.declared.requests.Request.{Request}

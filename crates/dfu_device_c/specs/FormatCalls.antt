@@ -13,8 +13,8 @@ use Rattle.dfu_device_c.specs.Numbers.{ASKS, format_number}
 use Rattle.dfu_device_c.specs.Power.{RefusesPower}
 use Rattle.dfu_device_c.specs.Writes.{ask_step}
 
--- A piece of a format: dfu_core_format_next hands out a write, any bytes come to stand in its range, and with this flash
--- dfu_core_format_took answers this number. So the write may be carried out, whole or in part, or fail, or lie, or be tried again before.
+-- A piece of a format: dfu_core_format_next hands out a write, its range gets any bytes, and with this flash
+-- dfu_core_format_took returns this number. So the write may be carried out, whole or in part, or fail, or lie, or be tried again before.
 pub record TakesFormatPiece (c : DfuConfig) (image flash : List ℕ) (r : DfuRecord) (flash' : List ℕ) (n : ℤ) (r' : DfuRecord) : Type 0 where
   pub ask : DfuAsk
   pub handed : HandsFormat c r flash image (pos 0) ask
@@ -24,9 +24,9 @@ pub record TakesFormatPiece (c : DfuConfig) (image flash : List ℕ) (r : DfuRec
 
 -- A format of this image is under way, with this flash and this record.
 pub data IsBeingFormatted (c : DfuConfig) (image : List ℕ) : (flash : List ℕ) → (r : DfuRecord) → Type 0 where
-  -- dfu_core_format_start answered DFU_ASKS, whatever stood on the flash: so also after a format within which the power went.
+  -- dfu_core_format_start returned DFU_ASKS, whatever was on the flash: so also after a format during which the power failed.
   begins : {flash : List ℕ} {n : ℤ} {r : DfuRecord} → StartsFormat c flash image n r → IsBeingFormatted c image flash r
-  -- It came to a piece, and the answer was DFU_ASKS.
+  -- A piece was carried out, and the number returned was DFU_ASKS.
   goes_on : {flash flash' : List ℕ} {n : ℤ} {r r' : DfuRecord} → IsBeingFormatted c image flash r →
       TakesFormatPiece c image flash r flash' n r'
       → n ≡ ASKS → IsBeingFormatted c image flash' r'
@@ -37,7 +37,7 @@ FormatsEnd = (c : DfuConfig) (image flash flash' : List ℕ) (r r' : DfuRecord) 
     → TakesFormatPiece c image flash r flash' n r' → n ≡ pos 0
     → Active (mapped (config_grain c) flash') image × ((k : ℤ) → ¬ RefusesPower c flash' k)
 
--- Wherever it is broken off, and whatever stands on the flash then, dfu_core_format_start is not refused for this image; and for another
+-- Wherever it is broken off, and whatever is on the flash then, dfu_core_format_start is not refused for this image; and for another
 -- one only if it is too large.
 abbrev pub FormatsBeginAnew : Type 0
 FormatsBeginAnew = (c : DfuConfig) (image flash flash' : List ℕ) (r : DfuRecord) → IsBeingFormatted c image flash r

@@ -50,7 +50,7 @@ pub record HandsFormat (c : DfuConfig) (r : DfuRecord) (flash image : List ℕ) 
   pub sector : ErasesWhole c.sector (ask_step ask)
   pub within : ask.at + ask.length ≤ length flash
 
--- There is no format: the configuration is not allowed; or else the record is none, or one for which this holds.
+-- There is no format: the configuration is not allowed; or else the record is not a format, or one for which this holds.
 abbrev pub RefusesFormat : DfuConfig → DfuRecord → (Formatting → Type 0) → ℤ → Type 0
 RefusesFormat c r Why result = ((result ≡ NO_CONFIG) × ¬ IsConfig c)
     ⊎ ((result ≡ NO_DEVICE) × IsConfig c × (((f : Formatting) → ¬ IsFormatting c r f) ⊎ ((f : Formatting) × IsFormatting c r f × Why f)))
@@ -62,7 +62,7 @@ progress_number format_progress.Formatted = pos 0
 progress_number (format_progress.Broken why) = format_number fault.Failed
 
 -- The program said how a piece of a format went, and the number says what came of it.
--- The record is the format while it asks; then it is none. Nothing else of it changes.
+-- The record is the format while it asks, and no format afterwards. Nothing else of it changes.
 pub record GoesFormat (c : DfuConfig) (r : DfuRecord) (flash image : List ℕ) (failed : Bool) (result : ℤ) (r' : DfuRecord) : Type 0 where
   pub config : IsConfig c
   pub before : Formatting

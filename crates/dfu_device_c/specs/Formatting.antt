@@ -11,7 +11,7 @@ use Rattle.dfu_device_c.specs.declared.record.DfuRecord.{DfuRecord}
 abbrev pub FORMAT : ℕ
 FORMAT = 3
 
--- These are the number of a part of a format, and where the image goes on.
+-- These are the number of a part of a format, and the place at which the image goes on.
 abbrev pub HasPhase : ℕ → ℕ → FormatStep → Type 0
 HasPhase n from format_step.CloseSecond = n ≡ 0
 HasPhase n from format_step.CloseFirst = n ≡ 1

@@ -71,7 +71,7 @@ Told b failed out n out' b' =
     × (b'.kept ≡ b.kept) × (b'.block ≡ b.block) × (out' ≡ out))
     ⊎ HasNoRoom 6 b.kept b.block out n b'.kept b'.block out'
 
--- The flash changes in the range of a write that dfu_core_next hands out, and nowhere else. Any bytes may stand there then: the write may
+-- The flash changes in the range of a write that dfu_core_next hands out, and nowhere else. Any bytes may be there then: the write may
 -- be carried out, whole or in part, or fail, or lie.
 pub record CoreIsWritten (b : CoreBoard) (n : ℤ) (b' : CoreBoard) : Type 0 where
   pub ask : DfuAsk
@@ -86,7 +86,7 @@ abbrev pub start_mode : Bool → DeviceState
 start_mode true = DfuIdle
 start_mode false = AppIdle
 
--- What comes of an event. If the power goes, the flash stays as it stands, and the memory of the block may hold anything.
+-- What comes of an event. If the power goes, the flash stays as it is, and the memory of the block may hold anything.
 abbrev pub CoreHappens : CoreBoard → CoreEvent → ℤ → List ℕ → CoreBoard → Type 0
 CoreHappens b (CoreHandle setup body out) n out' b' = IsCalled b b' × Handled b setup body out n out' b'
 CoreHappens b (CoreElapse ms) n out' b' = IsCalled b b' × Elapsed b ms n b'

@@ -1,4 +1,4 @@
--- Where the image stands that a program in C is to run.
+-- Where the image is that a program in C is to run.
 use Rattle.std.specs.Prelude.{◌≡◌, ◌+◌, ◌*◌, ◌≤◌, ℕ, ℤ, pos, List, length, slice_range}
 use Rattle.dfu_slots.specs.Units.{Grain}
 use Rattle.dfu_slots.specs.Image.{Active, active_at, gate_of}
@@ -7,7 +7,7 @@ use Rattle.dfu_device_c.specs.declared.config.DfuConfig.{DfuConfig}
 use Rattle.dfu_device_c.specs.declared.place.DfuPlace.{DfuPlace}
 use Rattle.dfu_device_c.specs.Config.{config_grain, IsConfig}
 
--- The active image of this flash stands at this place, behind the gate and the header of its slot.
+-- The active image of this flash is at this place, after the gate and the header of its slot.
 pub record ImageIsAt (grain : Grain) (flash : List ℕ) (place : DfuPlace) : Type 0 where
   pub image : List ℕ
   pub active : Active (mapped grain flash) image

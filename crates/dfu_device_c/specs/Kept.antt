@@ -60,7 +60,7 @@ pub record IsKept (c : DfuConfig) (r : DfuRecord) (a : Asking) : Type 0 where
 abbrev pub block_in : Asking → List ℕ → List ℕ
 block_in a memory = take a.config.functional.transfer memory
 
--- And those behind them, for the bytes that are held back.
+-- And those after them, for the bytes that are held back.
 abbrev pub held_back_in : Asking → List ℕ → List ℕ
 held_back_in a memory = drop a.config.functional.transfer memory
 

@@ -10,7 +10,7 @@ use Rattle.dfu_device_c.specs.declared.config.DfuConfig.{DfuConfig}
 use Rattle.dfu_device_c.specs.declared.record.DfuRecord.{DfuRecord}
 use Rattle.dfu_device_c.specs.Kept.{IsKept, with_memory}
 
--- Whatever that body is: a device that the record was, and of which no writes are due, is now the one that its row makes of it, with a block
+-- Whatever that body is: a device that the record was, with no writes due, is now the one that its row makes of it, with a block
 -- as long as before, and the answer is a stall.
 abbrev pub TakesLong : DfuConfig → DfuRecord → List ℕ → DfuRecord → Type 0
 TakesLong c r setup r' = (a : Asking) → IsKept c r a → (a' : Asking) × IsKept c r' a' × (a'.work ≡ None)

@@ -52,7 +52,7 @@ pub record CoreComes (l : CoreLink) (steps : List CoreStep) (answer : Answered) 
   pub is_after : IsLinkOf l' after
   pub comes : BoardComes before calls answer after
 
--- The last session began with a payload. That is the active image of the flash, and the board is in appIDLE, as dfu_core_state tells it.
+-- The last session began with a payload. That is the active image of the flash, and the board is in appIDLE, as dfu_core_state returns it.
 pub record IsCoreInPlace (last : Option (List ℕ)) (b : CoreBoard) : Type 0 where
   pub payload : List ℕ
   pub offered : last ≡ Some payload

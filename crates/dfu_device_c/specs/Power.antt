@@ -19,7 +19,7 @@ use Rattle.dfu_device_c.specs.Numbers.{NO_CONFIG, NO_MEDIUM}
 abbrev pub IsNoMedium : Grain → List ℕ → Type 0
 IsNoMedium grain flash = ¬ HasImage (mapped grain flash) ⊎ 2 ^ 32 ≤ length flash
 
--- A device got power and stands in this mode: the record is this device, which with any memory is the one that gets power on this flash,
+-- A device got power and is in this mode: the record is this device, which with any memory is the one that gets power on this flash,
 -- in that mode, and no writes are due. All that the record does not need for this is 0.
 pub record Powers (c : DfuConfig) (mode : DeviceState) (flash : List ℕ) (result : ℤ) (r' : DfuRecord) : Type 0 where
   pub number_is : result ≡ pos 0

@@ -23,7 +23,7 @@ pub record IsRunOf (b b' : CoreBoard) (steps : List CoreStep) : Type 0 where
   pub is_run : IsRun first run last
   pub are : AreStepsOf steps run
 
--- They are a run of a board that just got power, and rows of the device table. So if dfu_core_handle answers 0, that is an
+-- They are a run of a board that just got power, and rows of the device table. So if dfu_core_handle returns 0, that is an
 -- answer without bytes to GETSTATUS, GETSTATE or UPLOAD, and an acknowledgement of any other request.
 pub record HasCoreRefined (b b' : CoreBoard) (steps : List CoreStep) : Type 0 where
   pub runs : IsRunOf b b' steps
@@ -35,7 +35,7 @@ pub record HasCoreRefined (b b' : CoreBoard) (steps : List CoreStep) : Type 0 wh
 abbrev pub CoreRefines : Type 0
 CoreRefines = (b b' : CoreBoard) (steps : List CoreStep) → IsCoreOn b → IsCoreRun b steps b' → HasCoreRefined b b' steps
 
--- The flash of a board in C has an active image. It is this one, or all bytes of a download that one of these steps closed, behind the
+-- The flash of a board in C has an active image. It is this one, or all bytes of a download that one of these steps closed, after the
 -- old steps.
 pub record HasCoreKept (image : List ℕ) (b mid b' : CoreBoard) (old steps : List CoreStep) : Type 0 where
   pub past : IsRunOf b mid old
@@ -60,8 +60,8 @@ pub record HasInstalled (b mid b' : CoreBoard) (steps : List CoreStep) : Type 0 
   pub runs : IsRunOf b mid steps
   pub active : Active (medium_of_core b') (taken_by [] runs.run)
 
--- So it is if a step leads from a state in which an image may wait to one in which manifestation is over, and no fault is told; but for
--- power that comes back with dfu_core_begin.
+-- The same if a step leads from a state in which an image may wait to one in which manifestation is over, and no fault is reported.
+-- Power that comes back with dfu_core_begin is left out.
 abbrev pub CoreInstalls : Type 0
 CoreInstalls = (b mid b' : CoreBoard) (steps : List CoreStep) (last : CoreStep) (state state' : State) → IsCoreOn b
     → IsCoreRun b steps mid → IsIn mid state → is_manifesting state ≡ true → IsCoreRun mid (last ∷ []) b' → last.event ≢ CoreRestart true

@@ -10,7 +10,7 @@ use Rattle.dfu_device_c.specs.Verdict.{IsBodyOf, SaysStall}
 use Rattle.dfu_device_c.specs.declared.record.DfuRecord.{DfuRecord}
 use Rattle.dfu_device_c.specs.Kept.{IsKept, with_memory}
 
--- The result says how each device that the record is, whose flash has so many bytes, answers this setup, whatever its body is. Where it
+-- The result says how each device that the record is, with a flash of so many bytes, answers this setup, whatever its body. If it
 -- asks for writes it will not stall.
 abbrev pub ToldStall : DfuConfig → DfuRecord → ℕ → List ℕ → ℤ → Type 0
 ToldStall c r size setup result = (block flash : List ℕ) (a : Asking) → IsKept c r a → IsDevice (with_memory block a) flash

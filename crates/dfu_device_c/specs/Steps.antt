@@ -36,13 +36,13 @@ abbrev pub IsRefusal : ℤ → Type 0
 IsRefusal n = (n ≡ NO_ROOM) ⊎ (n ≡ NOT_LONG) ⊎ ((e : Refusal) × (n ≡ refusal_number e))
 
 -- The number of a call, with these bytes in its buffer then, says this: it was refused; or writes are due; or it is the answer's number,
--- and the bytes stand at the front of the buffer.
+-- and the bytes are at the front of the buffer.
 abbrev pub NumberSays : ℤ → List ℕ → Says → Type 0
 NumberSays n out Nothing = IsRefusal n
 NumberSays n out WritesDue = n ≡ ASKS
 NumberSays n out (Answers a bytes) = (count : ℕ) × (n ≡ answer_number a count) × (bytes ≡ take count out)
 
--- The same of time that passed, and of a reset of the bus: an answer is 0.
+-- The same for time that passed, and for a reset of the bus: an answer is 0.
 abbrev pub PassedSays : ℤ → Says → Type 0
 PassedSays n Nothing = IsRefusal n
 PassedSays n WritesDue = n ≡ ASKS

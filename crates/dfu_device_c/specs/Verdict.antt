@@ -20,7 +20,7 @@ agreed true true true = Some true
 agreed false false false = Some false
 agreed x y z = None
 
--- Whether the plan answers with a stall, if that is so or not so whatever its writes come to.
+-- Whether the plan gives a stall, if that is so or not so whatever its writes come to.
 abbrev pub verdict : Plan → Option Bool
 verdict (Sure reply stage) = Some (is_stall reply)
 verdict (Writes before block reply stage bad) = agreed (is_stall reply) (is_stall (bad Failed)) (is_stall (bad NotVerified))
@@ -30,7 +30,7 @@ verdict (Commits taken reply stage bad) = agreed (is_stall reply) (is_stall (bad
 abbrev pub IsBodyOf : List ℕ → List ℕ → Type 0
 IsBodyOf setup body = (p : Setup) → IsSetup p setup → length body ≡ body_length p
 
--- 1 says of an answer that it is a stall, and 0 that it is none.
+-- 1 says of an answer that it is a stall, and 0 that it is not.
 pub record SaysStall (result : ℤ) (a : Answer) : Type 0 where
   pub stall : a ≡ answer.Stall → result ≡ pos 1
   pub other : a ≢ answer.Stall → result ≡ pos 0

@@ -43,7 +43,7 @@ pub record HandsOut (c : DfuConfig) (r : DfuRecord) (block flash : List ℕ) (re
   pub spare : (image : List ℕ) → Active (mapped (grain_of asking.unit asking.sector) flash) image
       → IsInSpare (mapped (grain_of asking.unit asking.sector) flash) ask.at ask.length
 
--- It asks for the writes of a row, of which those before the next one are carried out on this flash.
+-- It asks for the writes of a row, and those before the next one are carried out on this flash.
 abbrev pub IsAsking : LentAsking → List ℕ → Type 0
 IsAsking a flash = (len : ℕ) × (s : SlotsState) × (was : List ℕ) × AsksWrites a len s was flash
 

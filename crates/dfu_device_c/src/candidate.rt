@@ -12,8 +12,8 @@ use crate::refusal::Refusal;
 // As much memory as any block needs, with those held back.
 const MOST: usize = 4096 + 256;
 
-/// Where the image is that was taken, as `Device::candidate`: 0, and `place` has its bytes in the flash, after which come the `held_length`
-/// ones that are held back, behind the transfer size in the memory of the block.
+/// Where the image is that was taken, as `Device::candidate`: 0, and `place` has its bytes in the flash, followed by the `held_length`
+/// ones that are held back, after the transfer size in the memory of the block.
 ///
 /// Refused as `dfu_core_elapse` with the most memory that a block needs; then with -20 if no image was taken that may be refused.
 #[unsafe(no_mangle)]

@@ -30,7 +30,7 @@ pub(crate) fn refused(refusal: dfu_asks::Refusal) -> Refusal
     }
 }
 
-/// Answers a setup with its body, as `Asking::handle`: how many bytes of the answer stand in `out`, or -1 for a stall; or -11
+/// Answers a setup with its body, as `Asking::handle`: how many bytes of the answer are in `out`, or -1 for a stall; or -11
 /// if its writes are due now.
 ///
 /// Refused with -5 if `out` has less room than an answer may need; then as every call.

@@ -13,7 +13,7 @@ use dfu_asks::{FormatStep, Formatting};
 /// What is due of a record if that is a format.
 pub(crate) const WORK: u32 = 3;
 
-// The part of a format by its number, and where the image goes on.
+// The part of a format by its number, and the place at which the image goes on.
 fn phase_of(number: u8, from: u32) -> Option<FormatStep>
     ensures some { IfSome result (λ phase. HasPhase number from phase) }
     ensures none { IfNone result ((phase : Part) → ¬ HasPhase number from phase) }
@@ -48,7 +48,7 @@ pub(crate) fn formatting_of(settings: &Settings, kept: &DfuRecord) -> Option<For
     })
 }
 
-// The number of a part of a format, and where the image goes on.
+// The number of a part of a format, and the place at which the image goes on.
 fn numbers_of(phase: FormatStep) -> (u8, u32)
     ensures { HasPhase result.0 result.1 phase }
 {

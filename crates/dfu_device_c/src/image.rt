@@ -1,4 +1,4 @@
-//! Where the image stands that a program is to run.
+//! Where the image is that a program is to run.
 ghost use Rattle.std.specs.Prelude.{◌≡◌, ◌⊎◌, ◌/◌, ◌≤◌, IfSome, IfNone, if◌then◌else◌};
 ghost use Rattle.dfu_device_c.specs.Power.{IsNoMedium, RefusesPower};
 ghost use Rattle.dfu_device_c.specs.Image.{ImageIsAt, ImageIsFound};
@@ -16,7 +16,7 @@ fn slot_at(second: bool, size: usize) -> usize
     if second { size / 2 } else { 0 }
 }
 
-// Where the active image stands in this flash, if there is one.
+// Where the active image is in this flash, if there is one.
 fn find(unit: Unit, sector: Sector, flash: &[u8]) -> Option<DfuPlace>
     ensures some { IfSome result (λ place. ImageIsAt (record { unit = unit; sector = sector.size }) flash.now place) }
     ensures none { IfNone result (IsNoMedium (record { unit = unit; sector = sector.size }) flash.now) }
@@ -32,7 +32,7 @@ fn find(unit: Unit, sector: Sector, flash: &[u8]) -> Option<DfuPlace>
     })
 }
 
-/// Where the active image stands in its flash: 0, and `place` has it.
+/// Where the active image is in its flash: 0, and `place` has it.
 ///
 /// Refused as `dfu_core_power_on`.
 #[unsafe(no_mangle)]

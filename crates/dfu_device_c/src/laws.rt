@@ -1,5 +1,5 @@
 //! Laws over all that may happen to a board whose program makes the calls of dfu_device_c. Each is the contract of a function that
-//! calls other laws alone, which is proved and not to be called for what it does.
+//! calls only other laws, which is proved and not to be called for what it does.
 
 ghost use Rattle.dfu_device_c.specs.Runs.{CoreRefines, CoreKeeps, CoreStays, CoreInstalls, CoreStarts};
 ghost use Rattle.dfu_device_c.specs.FormatCalls.{FormatsEnd, FormatsBeginAnew};
@@ -30,9 +30,9 @@ pub fn core_boards_keep_an_image()
 }
 
 /// Whatever comes to a board in C over a link with a host, from power on: if the host reports Installed or Verified, the payload with
-/// which its session began is the active image of the flash, and dfu_core_state tells appIDLE. Whatever is reported, the active image is
+/// which its session began is the active image of the flash, and dfu_core_state returns appIDLE. Whatever is reported, the active image is
 /// the one that it was at first, or the whole of a payload offered so far, at each step, also between two writes of a call. The bytes that
-/// come with Uploaded are the active image. All that comes to the board is a run of it, of which the laws above hold.
+/// come with Uploaded are the active image. All that comes to the board is a run of it, so the laws above hold of it.
 pub fn core_boards_install()
     ensures in_place { CorePlaysInstall }
     ensures known { CorePlaysKnow }
@@ -44,9 +44,9 @@ pub fn core_boards_install()
     boards_install();
 }
 
-/// Whatever becomes of the writes of a format: once dfu_core_format_took answers 0 the image is the active one of the flash, on which
+/// Whatever becomes of the writes of a format: once dfu_core_format_took returns 0 the image is the active one of the flash, on which
 /// dfu_core_power_on is not refused. A format that was broken off, by a loss of power or a fault of a write, leaves a flash which need not
-/// have an active image, and on which a new one is begun as on any other.
+/// have an active image, and a new format may begin on it as on any other.
 pub fn core_formats_make_an_image()
     ensures formatted { FormatsEnd }
     ensures anew { FormatsBeginAnew }

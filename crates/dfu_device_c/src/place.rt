@@ -1,6 +1,6 @@
-//! Where an image stands in flash.
+//! Where an image is in flash.
 
-/// Where the active image stands in its flash: `struct dfu_place`.
+/// Where the active image is in its flash: `struct dfu_place`.
 #[repr(C)]
 #[derive(Drop)]
 pub struct DfuPlace {

@@ -8,7 +8,7 @@ use crate::keeping::slot_of;
 use crate::record::{DfuRecord, blank};
 use dfu_asks::Noted;
 
-// A device gets power, and stands in appIDLE, or in dfuIDLE, by the number of that mode: 0, or the number of the refusal.
+// A device gets power, and is in appIDLE or dfuIDLE, by the number of that mode: 0, or the number of the refusal.
 fn start(config: &DfuConfig, device: &mut DfuRecord, flash: &[u8], mode: u32) -> i32
     ensures app { mode ≡ 0 → Powers config.now AppIdle flash.now result device.new
         ⊎ (RefusesPower config.now flash.now result × (device.new ≡ device.old)) }

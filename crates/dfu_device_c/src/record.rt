@@ -40,11 +40,11 @@ pub struct DfuRecord {
     pub number: u16,
     /// How many bytes at the front of the block's memory are the block that is not written, 0 to 4,096.
     pub length: u16,
-    /// The header of the active slot, as it stood in the flash.
+    /// The header of the active slot, as it was in the flash.
     pub header: [u8; 16],
     /// What is due: 0 no writes, 1 a block, 2 an image is put in place, 3 a format.
     pub work: u32,
-    /// Where the spare slot begins; of a format where the image goes on.
+    /// Where the spare slot begins; for a format the place at which the image goes on.
     pub spare: u32,
     /// The register over the image.
     pub sum: u32,
@@ -56,7 +56,7 @@ pub struct DfuRecord {
     pub generation: u8,
     /// Whether the gate of the spare slot is closed first: 1, or 0.
     pub close: u8,
-    /// How many bytes behind the block's in its memory are held back until a unit is whole: fewer than a unit has.
+    /// How many bytes after the block's in its memory are held back until a unit is whole: fewer than a unit has.
     pub held_length: u16,
 }
 

@@ -13,7 +13,7 @@ pub enum Refusal {
     Asked,
     /// The flash has no active image, or 2^32 bytes or more.
     NoMedium,
-    /// The record is none of a device that asks on that flash.
+    /// The record is not that of a device that asks on that flash.
     NoDevice,
 }
 

@@ -1,4 +1,4 @@
-//! The program refuses an image: the record alone is needed.
+//! The program refuses an image: only the record is needed.
 ghost use Rattle.std.specs.Prelude.{◌≡◌, IfSome, IfNone};
 ghost use Rattle.dfu_device_c.specs.Addressed.{addressed};
 ghost use Rattle.dfu_device_c.specs.Refuse.{objection_in, IsObjection, WasRefused, CloseRefused};

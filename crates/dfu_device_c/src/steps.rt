@@ -1,5 +1,5 @@
 //! Each call is a step of a board in C. Each function makes the call of its name and nothing else; its contract says which step that is,
-//! from the call's contract alone.
+//! from only the call's contract.
 ghost use Rattle.std.specs.Prelude.{◌≡◌, ◌⊎◌, ◌≤◌, true, false, ℕ, List, [], length, pos};
 ghost use Rattle.dfu_device_c.specs.Board.{CoreHandle, CoreElapse, CoreReset, CoreTooLong, CoreRefuseClose, CoreRefuse, CoreWrite, CoreTook, CoreRestart, core_board};
 ghost use Rattle.dfu_device_c.specs.Happens.{CoreHappens, IsCoreOn};
@@ -115,7 +115,7 @@ pub fn refuse(config: &DfuConfig, device: &mut DfuRecord, status: u32) -> i32
     dfu_core_refuse(config, device, status)
 }
 
-/// `dfu_core_power_on` makes a board in C that just got power, whatever stands in the memory of its block, exactly if the configuration is
+/// `dfu_core_power_on` makes a board in C that just got power, whatever is in the memory of its block, exactly if the configuration is
 /// allowed and the flash has an active image.
 pub fn power_on(config: &DfuConfig, device: &mut DfuRecord, flash: &[u8]) -> i32
     ensures outcome { Powers config.now AppIdle flash.now result device.new

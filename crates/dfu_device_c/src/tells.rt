@@ -1,4 +1,4 @@
-//! What a record tells by itself.
+//! What a record by itself shows.
 ghost use Rattle.std.specs.Prelude.{◌≡◌, ◌≢◌, pos, List, ℕ};
 ghost use Rattle.dfu_wire.specs.Code.{code_byte};
 ghost use Rattle.dfu_wire.specs.State.{state_byte};

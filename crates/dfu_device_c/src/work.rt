@@ -7,7 +7,7 @@ ghost use Rattle.dfu_device_c.specs.Kept.{IsFlag, HasJob, IsAskedNumber, HasWork
 use crate::record::DfuRecord;
 use dfu_asks::{PendingWrites, SlotWrite};
 
-// wLength of the GETSTATUS that waits by this number, if one does; none if the number is no such.
+// wLength of the GETSTATUS that waits, by this number, if one waits; `None` if the number is not valid.
 fn asked_of(number: u32) -> Option<Option<u16>>
     ensures some { IfSome result (λ asked. IsAskedNumber number asked) }
     ensures only { (asked : Option ℕ) → IsAskedNumber number asked → result ≡ Some asked }

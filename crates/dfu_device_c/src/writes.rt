@@ -61,7 +61,7 @@ pub extern "C" fn dfu_core_next(
 }
 
 /// The write that `dfu_core_next` gave was carried out, or failed if `failed` is not 0; as `Asking::took`: -11, and the next
-/// one is due; or the answer of the call that asked. Of the block's memory only the bytes behind the transfer size may change.
+/// one is due; or the answer of the call that asked. Of the block's memory only the bytes after the transfer size may change.
 ///
 /// Refused with -5 if `out` has less room than 6 bytes; then as every call, and with -4 if no write is due.
 #[unsafe(no_mangle)]

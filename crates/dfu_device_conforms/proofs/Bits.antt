@@ -5,7 +5,7 @@ use Rattle.dfu_conformance.specs.declared.row.When.TheVariants.{CanDownload, Can
 use Rattle.dfu_conformance.specs.Held.{meets}
 use Rattle.dfu_device_conforms.specs.Kept.{attributes}
 
--- A device is one of those of which a row speaks by its bits.
+-- By its bits a device is one of those that a row is about.
 pub flags : (d u t w : Bool)
     → (meets CanDownload (attributes d u t w) 0 ≡ d) × (meets CanUpload (attributes d u t w) 0 ≡ u)
     × (meets Tolerant (attributes d u t w) 0 ≡ t)

@@ -92,7 +92,7 @@ transfer_kept w setup body a out w' p q false takes stands reads asks ours off h
       refl,
     )
 
--- A step is kept: a run from where it ends is one from where it begins, with what was seen of it.
+-- A step is kept: a run from its end is one from its beginning, with the events that were seen of it.
 abbrev pub StepKept : DeviceView → DeviceView → (rest events : List LogEvent) → Type 0
 StepKept w w' rest events =
     ((last : StandardState) → Run (attributes_of (profile w)) 0 (place_of w'.stage) rest last

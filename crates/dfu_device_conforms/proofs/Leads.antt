@@ -40,7 +40,7 @@ abbrev pub Leads : Profile → Setup → Asked → List ℕ → Stage → Reply 
 Leads c p q body st reply next = (a : Answer) (out : List ℕ) → Answers (asked_length q) reply a out
     → LedOn (attributes_of c) (place_of st) (event_of p q (length body) (seen a out)) (place_of next)
 
--- So does whatever comes of a plan.
+-- So does each outcome of a plan.
 abbrev pub PlanKept : Profile → Setup → Asked → List ℕ → Stage → Plan → Type 0
 PlanKept c p q body st (Sure reply next) = Leads c p q body st reply next × Stands c next
 PlanKept c p q body st (Writes before block reply next bad) =
@@ -71,7 +71,7 @@ asks_block p number len n a x xs is =
       is,
     )))))))
 
--- What a request is by the table of the judge, where its body has as many bytes as it says.
+-- What a request is by the table of the judge, if its body has as many bytes as it says.
 abbrev pub came_by : Asked → List ℕ → Came
 came_by (asked.Detach timeout) body = came.Detach
 came_by (asked.Dnload k len) [] = came.Close
@@ -136,7 +136,7 @@ pub commit_stands : (c : Profile) (fault : WriteFault) → Stands c (InError (co
 commit_stands c Failed = tt
 commit_stands c NotVerified = tt
 
--- GETSTATE is answered with the state as it stands.
+-- GETSTATE is answered with the current state.
 pub tells : (c : Profile) (p : Setup) (len : ℕ) (body : List ℕ) (st : Stage) → len ≡ p.length
     → list_any (is_row (place_of st) came.GetState Always gives.State (place_of st)) STANDARD ≡ true
     → Leads c p (asked.GetState len) body st (StateOf (state_of st)) st
@@ -156,7 +156,7 @@ gives_part c p number len body part st next g some can fits = λ a out h.
     ((flags c.can_download c.can_upload c.tolerant c.will_detach).1 ∙ can) refl
     (parted (place_of st) (place_of next) part p.length 0 a out g fits h)
 
--- What holds of both branches of an `if`, each where it is taken, holds of the one that is taken.
+-- What holds of each branch of an `if`, when it is taken, holds of the one that is taken.
 pub which : {A : Type 0} (P : A → Type 0) (b : Bool) (x y : A) → (b ≡ true → P x) → (b ≡ false → P y) → P (if b then x else y)
 which P true x y f g = f refl
 which P false x y f g = g refl

@@ -112,7 +112,7 @@ pub objection_stands : (c : Profile) (why : Objection) → Stands c (InError (ob
 objection_stands c Target = tt
 objection_stands c File = tt
 
--- An image that is refused after the close moves the device to dfuERROR, if at all.
+-- An image that is refused after the close moves the device to dfuERROR, or leaves its state.
 pub refusal_moved : (c : Profile) (why : Objection) (st : Stage) → Stands c st
     → MayMove (attributes_of c) 0 (place_of st) (place_of (refuse_stage why st)) × Stands c (refuse_stage why st)
 refusal_moved c why (InManifestSync taken) stands = (moves c place.ManifestSync Always place.Error refl refl, objection_stands c why)
@@ -138,7 +138,7 @@ reset_led att (InAppDetach timer passed) rest last run = (
 )
 reset_led att st rest last run = (place_of st, place.AppIdle, inl refl, marked att (place_of st) place.AppIdle reset refl refl refl, run)
 
--- After a reset a device stands as one does that it comes to.
+-- After a reset a device is in a stage that it can come to.
 pub reset_stands : (c : Profile) (st : Stage) → Stands c (reset_stage st)
 reset_stands c (InAppDetach timer passed) = tt
 reset_stands c st = tt

@@ -36,7 +36,7 @@ attributes d u t w = bit d + 2 * bit u + 4 * bit t + 8 * bit w
 abbrev pub attributes_of : Profile → ℕ
 attributes_of c = attributes c.can_download c.can_upload c.tolerant c.will_detach
 
--- Where a device stands by the table of the judge.
+-- The place of a device in the table of the judge.
 abbrev pub place_of : Stage → StandardState
 place_of InAppIdle = place.AppIdle
 place_of (InAppDetach timer passed) = place.AppDetach
@@ -79,8 +79,8 @@ abbrev pub AreSeen : List HistoryStep → List LogEvent → Type 0
 AreSeen [] events = events ≡ []
 AreSeen (s ∷ h) events = (rest : List LogEvent) × TellsEvents s.cause s.answer s.out rest events × AreSeen h rest
 
--- What holds of each stage that a device comes to: manifestation is complete only where it is tolerant, an upload is under way
--- only where it can upload, and dfuERROR never has the code OK.
+-- What holds of each stage that a device comes to: manifestation is complete only if it is tolerant, an upload is under way
+-- only if it can upload, and dfuERROR never has the code OK.
 abbrev pub Stands : Profile → Stage → Type 0
 Stands c InManifestSyncComplete = c.tolerant ≡ true
 Stands c (InUploadIdle at number) = c.can_upload ≡ true
@@ -91,7 +91,7 @@ Stands c stage = Unit {0}
 abbrev pub TakesTime : Profile → Type 0
 TakesTime c = c.tolerant ≡ false → 1 ≤ c.manifest
 
--- Whatever history a device has that stands so, the events that are seen of it are a run, with no habit, and it stands so at last.
+-- For every history of a device that holds this, the seen events are a run with no habit, and the device holds this in the end.
 abbrev pub HistoryIsKept : Type 0
 HistoryIsKept = (h : List HistoryStep) (events : List LogEvent) (w w' : DeviceView) → TakesTime (profile w) → Stands (profile w) w.stage →
     IsHistory w h w'

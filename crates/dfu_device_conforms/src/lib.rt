@@ -3,8 +3,8 @@
 
 ghost use Rattle.dfu_device_conforms.specs.Kept.{HistoryIsKept, StartIsKept};
 
-/// Whatever history a device has, and whatever list of events that history tells, some run of the standard's table has these events, from
-/// where the device stood to where it stands; no habit is wanted. So no judge ever tells a departure of it. It is a law, the contract of a
+/// For every history of a device, and every list of events that it shows, some run of the standard's table has these events, from
+/// the device's first place to its last; no habit is needed. So no judge ever reports a departure of it. It is a law, the contract of a
 /// function with an empty body, which is not to be called.
 pub fn answers_are_kept()
     ensures history { HistoryIsKept }

@@ -1,4 +1,4 @@
--- An answer before its bytes stand in a buffer.
+-- An answer before its bytes are in a buffer.
 use Rattle.std.specs.Prelude.{◌≡◌, ℕ, List, ◌++◌, length, take, drop}
 use Rattle.dfu_wire.specs.declared.requests.Request.{Request as Asked}
 use Rattle.dfu_slots.specs.Seen.{image_of}
@@ -12,7 +12,7 @@ use Rattle.dfu_device.specs.Table.{Plan}
 use Rattle.dfu_device.specs.DeviceView.{DeviceView, profile}
 use Rattle.dfu_device.specs.Rows.{Answers, Done, ServesRequest, Handles}
 
--- The pending answer of a reply, where so many bytes are asked for.
+-- The pending answer of a reply to a request for so many bytes.
 abbrev pub pending_answer_of : (asked : ℕ) → ReplyRead → PendingAnswer
 pending_answer_of asked reply.Ack = pending_answer.Ack
 pending_answer_of asked reply.Status = pending_answer.Status asked
@@ -49,7 +49,7 @@ ServedPending q body w d w' = (a : Answer) (out : List ℕ) → AnswersPending d
 abbrev pub HandledPending : List ℕ → List ℕ → DeviceView → PendingAnswer → DeviceView → Type 0
 HandledPending setup body w d w' = (a : Answer) (out : List ℕ) → AnswersPending d w' a out → Handles setup body w a out w'
 
--- The bytes of a pending answer stand at the front of a buffer.
+-- The bytes of a pending answer are at the front of a buffer.
 pub record GavePending (d : PendingAnswer) (w : DeviceView) (a : Answer) (count : ℕ) (out out' : List ℕ) : Type 0 where
   pub sent : List ℕ
   pub says : AnswersPending d w a sent

@@ -2,11 +2,7 @@ use Rattle.std.specs.Prelude.{replicate}
 use Rattle.std.proofs.Common.{refl}
 use Rattle.dfu_board.specs.Steps.{board}
 use Rattle.dfu_board.proofs.Served.{on_err, elapse_step}
-use Rattle.dfu_asks.proofs.Room.{has_room}
 use Rattle.dfu_board.proofs.steps.elapse.Goals as goal
-
-pub elapse-requires : goal.elapse-requires
-elapse-requires c = has_room c.args.asking.now.unit c.args.held.now c.told-held
 
 pub returns-clause-step : goal.returns-clause-step
 returns-clause-step c =

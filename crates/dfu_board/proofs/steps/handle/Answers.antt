@@ -4,11 +4,7 @@ use Rattle.dfu_device.specs.Rows.{Transfer}
 use Rattle.dfu_device.specs.Borrowed.{answer_room}
 use Rattle.dfu_board.specs.Steps.{board}
 use Rattle.dfu_board.proofs.Served.{on_err, call_step}
-use Rattle.dfu_asks.proofs.Room.{has_room}
 use Rattle.dfu_board.proofs.steps.handle.Goals as goal
-
-pub handle-requires : goal.handle-requires
-handle-requires c = has_room c.args.asking.now.unit c.args.held.now c.told-held
 
 pub returns-clause-step : goal.returns-clause-step
 returns-clause-step c =

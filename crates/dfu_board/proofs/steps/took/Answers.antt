@@ -2,11 +2,7 @@ use Rattle.std.specs.Prelude.{length}
 use Rattle.std.proofs.Common.{refl}
 use Rattle.dfu_board.specs.Steps.{board}
 use Rattle.dfu_board.proofs.Served.{on_err, took_step}
-use Rattle.dfu_asks.proofs.Room.{has_room}
 use Rattle.dfu_board.proofs.steps.took.Goals as goal
-
-pub took-requires : goal.took-requires
-took-requires c = has_room c.args.asking.now.unit c.args.held.now c.told-held
 
 pub returns-clause-step : goal.returns-clause-step
 returns-clause-step c =

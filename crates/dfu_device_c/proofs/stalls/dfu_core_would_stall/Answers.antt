@@ -14,7 +14,7 @@ use Rattle.dfu_device_c.proofs.Asked.{told_stall}
 use Rattle.dfu_device_c.proofs.stalls.dfu_core_would_stall.Goals.{After-will_stall}
 use Rattle.dfu_device_c.proofs.stalls.dfu_core_would_stall.Goals as goal
 
--- A number that is 1 or 0 by whether the device will stall the setup tells that of it.
+-- A number that is 1 if the device will stall the setup, and else 0, says that of it.
 told : (c : After-will_stall) (result : ℤ) → (c.will_stall.result ≡ true → result ≡ pos 1) → (c.will_stall.result ≡ false → result ≡ pos 0)
     → ToldStall c.args.config.now c.args.device.now c.args.size (addressed c.args.config.now.interface c.args.setup.now) result
 told c result is_one is_zero =

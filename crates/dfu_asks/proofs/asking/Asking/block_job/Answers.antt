@@ -4,9 +4,9 @@ use Rattle.dfu_slots.specs.Layout.{OPEN}
 use Rattle.dfu_slots.specs.Image.{gate_of, slot_of, spare_at}
 use Rattle.dfu_slots.specs.Seen.{is_begun}
 use Rattle.dfu_asks.specs.declared.slot_write.SlotWrite.TheVariants.{Block}
-use Rattle.dfu_asks.specs.Mapped.{mapped}
 use Rattle.dfu_asks.specs.Lent.{lent}
 use Rattle.dfu_asks.specs.Asks.{store_in}
+use Rattle.dfu_asks.proofs.Calling.{mapped_as}
 use Rattle.dfu_asks.proofs.Noting.{noted_spare, open_is}
 use Rattle.dfu_asks.proofs.asking.Asking.block_job.Goals as goal
 
@@ -17,8 +17,7 @@ returns-then-written-eq0-clause-job c = λ block held is before.
     let s = store_in (lent a block held) flash in
     let n = c.args.written in
     let none : n ≡ 0 = c.if-written-eq0.true in
-    let same : mapped (record { unit = c.args.medium.now.unit; sector = c.args.medium.now.sector.size }) flash ≡ s.medium =
-    λ i. mapped (record { unit = c.requires.unit i; sector = (c.requires.sector i).size }) flash in
+    let same = mapped_as flash c.requires.unit c.requires.sector in
     let spare : c.args.view.now.spare ≡ spare_at (gate_of s.medium) s.medium.bytes =
     c.requires.view.spare ∙ noted_spare a.noted s.medium is.noted in
     let gate : c.is_open.result ≡ ((n == 0) && not (is_begun s)) =

@@ -11,11 +11,10 @@ use Rattle.dfu_device.specs.DeviceView.{profile}
 use Rattle.dfu_device.specs.Parts.{shows, is_filled}
 use Rattle.dfu_device.specs.Rows.{Done}
 use Rattle.dfu_device.specs.Decision.{plan_of, IsPossible}
-use Rattle.dfu_asks.specs.Lent.{LentAsking, lent}
+use Rattle.dfu_asks.specs.Lent.{lent}
 use Rattle.dfu_asks.specs.Due.{wanted, IsSure, SendsWithin}
 use Rattle.dfu_asks.specs.Asks.{store_in, device_in, IsReply}
-use Rattle.dfu_asks.specs.Calls.{called_ended}
-use Rattle.dfu_asks.proofs.Calling.{kept_ended, due_called}
+use Rattle.dfu_asks.proofs.Calling.{mapped_as, mode_ended, due_called}
 use Rattle.dfu_asks.specs.Mapped.{mapped}
 use Rattle.dfu_asks.proofs.Sending.{image_front, data_room, front_of, counted, count_is, IsAfter, after_filled, sent_row}
 use Rattle.dfu_asks.proofs.asking.Asking.carry_out.Goals as goal
@@ -28,20 +27,17 @@ returns-in-Sure-clause-outcome c = λ kept possible due within.
     let s = store_in l flash in
     let w = device_in l flash in
     let m = c.in-Sure.mode in
-    let now : LentAsking = record l { mode = m } in
     let g = c.give-answer.ensures in
     let len = wanted c.args.asked in
     let says : IsReply l.config m c.in-Sure.reply len c.give-answer.result.0 g.sent =
     subst (λ (n : ℕ). IsReply l.config m c.in-Sure.reply n c.give-answer.result.0 g.sent) c.wanted.ensures g.says in
-    called_ended c.give-answer.result.0 c.give-answer.result.1
-    (kept_ended l now flash
-    (record { config = refl; unit = refl; sector = refl; held = refl; end = refl; noted = refl; work = refl }) kept.is
+    mode_ended l m l.block flash kept.is
     (subst (λ (d : Decision). IsPossible l.config.functional.transfer (length l.block) (length c.args.body.now) s d) c.in-Sure.is possible)
     c.requires.idle c.give-answer.result.0 c.give-answer.result.1 c.args.out.now c.give-answer.new.out g.sent
     (λ x sent d'. Done (plan_of (profile w) (image_of s) (spare_of s) l.block c.args.body.now c.args.decision) len w x sent d')
     g.count_is g.out_is
     (subst (λ (d : Decision). Done (plan_of (profile w) (image_of s) (spare_of s) l.block c.args.body.now d) len w
-    c.give-answer.result.0 g.sent (shows l.config s m l.block)) (sym c.in-Sure.is) (says (room_of s) (spare_of s) l.block, refl)))
+    c.give-answer.result.0 g.sent (shows l.config s m l.block)) (sym c.in-Sure.is) (says (room_of s) (spare_of s) l.block, refl))
 
 pub returns-in-Holds-clause-outcome : goal.returns-in-Holds-clause-outcome
 returns-in-Holds-clause-outcome c = λ kept possible due within.
@@ -58,16 +54,13 @@ returns-in-Holds-clause-outcome c = λ kept possible due within.
     let front : c.copy_from_slice.new.self ≡ body = c.copy_from_slice.ensures.after ∙ take_all n body (omega (arith, whole)) in
     let held : take n (c.copy_from_slice.new.self ++ drop n block) ≡ body =
     ap (λ (x : List ℕ). take n (x ++ drop n block)) front ∙ take_at body (drop n block) n (sym whole) in
-    let now : LentAsking = record l { mode = m; block = take n (c.copy_from_slice.new.self ++ drop n block) } in
-    called_ended answer.Ack 0
-    (kept_ended l now flash
-    (record { config = refl; unit = refl; sector = refl; held = refl; end = refl; noted = refl; work = refl }) kept.is
-    (subst (λ (x : List ℕ). IsTrue (is_filled m (length x) s)) (sym held) can.1)
+    let now = take n (c.copy_from_slice.new.self ++ drop n block) in
+    mode_ended l m now flash kept.is (subst (λ (x : List ℕ). IsTrue (is_filled m (length x) s)) (sym held) can.1)
     c.requires.idle answer.Ack 0 c.args.out.now c.args.out.now []
     (λ x sent d'. Done (plan_of (profile w) (image_of s) (spare_of s) l.block body c.args.decision) (wanted c.args.asked) w x sent d')
     refl refl
     (subst (λ (d : Decision). Done (plan_of (profile w) (image_of s) (spare_of s) l.block body d) (wanted c.args.asked) w answer.Ack []
-    (shows l.config s m now.block)) (sym c.in-Holds.is) ((refl, refl), λ i. shows l.config s m (held i))))
+    (shows l.config s m now)) (sym c.in-Holds.is) ((refl, refl), λ i. shows l.config s m (held i)))
 
 pub returns-after-count-from-clause-outcome : goal.returns-after-count-from-clause-outcome
 returns-after-count-from-clause-outcome c = λ kept possible due within.
@@ -82,8 +75,7 @@ returns-after-count-from-clause-outcome c = λ kept possible due within.
     let image = image_of s in
     let part = take size (drop place image) in
     let k = c.args.medium.now in
-    let same : mapped (record { unit = k.unit; sector = k.sector.size }) flash ≡ s.medium =
-    λ i. mapped (record { unit = c.requires.unit i; sector = (c.requires.sector i).size }) flash in
+    let same = mapped_as flash c.requires.unit c.requires.sector in
     let here : v.active ≡ active_at (gate_of s.medium) s.medium.bytes = c.requires.view.active ∙ kept.is.noted.place in
     let front : image ≡ take v.len (slot_of s.medium v.active).data_bytes = image_front s v.active v.len here
     (c.requires.view.len ∙ ap (λ (at : ℕ). header_length (slot_of s.medium at)) (sym c.requires.view.active)) in
@@ -112,17 +104,14 @@ returns-after-count-from-clause-outcome c = λ kept possible due within.
         more = λ le. x.self-is ∙ ap (λ (n : ℕ). device_state.UploadIdle (place + n) c.in-Sends.number) x.from-else-count-from.ensures;
       }
     ] in
-    let now : LentAsking = record l { mode = m } in
-    called_ended answer.Bytes count
-    (kept_ended l now flash
-    (record { config = refl; unit = refl; sector = refl; held = refl; end = refl; noted = refl; work = refl }) kept.is
+    mode_ended l m l.block flash kept.is
     (after_filled count size place c.in-Sends.number m (length l.block) s after)
     c.requires.idle answer.Bytes count c.args.out.now c.put_image-count.new.out part
     (λ x sent d'. Done (p c.args.decision) len w x sent d')
     (count_is image place size count sized)
     (c.put_image-count.ensures.bytes ∙ ap (λ (x : List ℕ). x ++ drop count c.args.out.now) sent)
     (subst (λ (d : Decision). Done (p d) len w answer.Bytes part (shows l.config s m l.block)) (sym c.in-Sends.is)
-    (sent_row w len part l.block size place c.in-Sends.number m count (count_is image place size count sized) after)))
+    (sent_row w len part l.block size place c.in-Sends.number m count (count_is image place size count sized) after))
 
 pub returns-in-Writes-clause-outcome : goal.returns-in-Writes-clause-outcome
 returns-in-Writes-clause-outcome c = λ kept possible due within.

@@ -3,10 +3,10 @@ use Rattle.dfu_suffix.specs.Register.{register}
 use Rattle.dfu_slots.specs.Layout.{generation, next_generation}
 use Rattle.dfu_slots.specs.Image.{gate_of, spare_at}
 use Rattle.dfu_slots.specs.Seen.{spare_of, active_slot}
-use Rattle.dfu_asks.specs.Mapped.{mapped}
 use Rattle.dfu_asks.specs.Lent.{lent}
 use Rattle.dfu_asks.specs.Asks.{store_in}
 use Rattle.dfu_asks.specs.declared.slot_write.SlotWrite.TheVariants.{Commit}
+use Rattle.dfu_asks.proofs.Calling.{mapped_as}
 use Rattle.dfu_asks.proofs.Noting.{noted_spare}
 use Rattle.dfu_asks.proofs.Room.{held_size}
 use Rattle.dfu_device.proofs.Candidates.{put_is}
@@ -18,8 +18,7 @@ returns c = λ block is.
     let l = lent a block c.args.held.now in
     let flash = c.args.medium.now.bytes.now in
     let s = store_in l flash in
-    let m = mapped (record { unit = c.args.medium.now.unit; sector = c.args.medium.now.sector.size }) flash in
-    let same : m ≡ s.medium = λ i. mapped (record { unit = c.requires.unit i; sector = (c.requires.sector i).size }) flash in
+    let same = mapped_as flash c.requires.unit c.requires.sector in
     let spare : c.args.view.now.spare ≡ spare_at (gate_of s.medium) s.medium.bytes =
     c.requires.view.spare ∙ noted_spare a.noted s.medium is.noted in
     let gen : (slice_index a.noted.header 0 + 1) % 256 ≡ next_generation (generation (active_slot s)) =

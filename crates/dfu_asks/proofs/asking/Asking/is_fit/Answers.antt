@@ -11,7 +11,7 @@ use Rattle.dfu_device.proofs.Carried.{filled}
 use Rattle.dfu_asks.specs.Mapped.{mapped}
 use Rattle.dfu_asks.specs.Lent.{lent}
 use Rattle.dfu_asks.specs.Asks.{store_in}
-use Rattle.dfu_asks.proofs.Calling.{is_false}
+use Rattle.dfu_asks.proofs.Calling.{is_false, mapped_as}
 use Rattle.dfu_asks.proofs.Noting.{noted_spare, begun_is}
 use Rattle.dfu_asks.proofs.Room.{held_size}
 use Rattle.dfu_asks.proofs.asking.Asking.is_fit.Goals as goal
@@ -22,8 +22,7 @@ returns-then-not-has_puts-clause-kept c = λ block held room size kept.
     let l = lent a block held in
     let s = store_in l c.args.medium.now.bytes.now in
     let m = mapped (record { unit = c.args.medium.now.unit; sector = c.args.medium.now.sector.size }) c.args.medium.now.bytes.now in
-    let same : m ≡ s.medium =
-    λ i. mapped (record { unit = c.requires.unit i; sector = (c.requires.sector i).size }) c.args.medium.now.bytes.now in
+    let same : m ≡ s.medium = mapped_as c.args.medium.now.bytes.now c.requires.unit c.requires.sector in
     let spare : c.args.view.now.spare ≡ spare_at (gate_of m) m.bytes = c.requires.view.spare ∙ noted_spare a.noted s.medium kept.is.noted
     ∙ sym (ap (λ (x : MediumState). spare_at (gate_of x) x.bytes) same) in
     let count : length l.held ≡ a.held_len = held_size a.unit a.held_len a.put_end held size kept.is.store.puts.part in
@@ -35,9 +34,7 @@ returns-clause-kept c = λ block held room size kept.
     let a = c.args.self.now in
     let l = lent a block held in
     let s = store_in l c.args.medium.now.bytes.now in
-    let m = mapped (record { unit = c.args.medium.now.unit; sector = c.args.medium.now.sector.size }) c.args.medium.now.bytes.now in
-    let same : m ≡ s.medium =
-    λ i. mapped (record { unit = c.requires.unit i; sector = (c.requires.sector i).size }) c.args.medium.now.bytes.now in
+    let same = mapped_as c.args.medium.now.bytes.now c.requires.unit c.requires.sector in
     let there : c.args.view.now.spare ≡ spare_at (gate_of s.medium) s.medium.bytes =
     c.requires.view.spare ∙ noted_spare a.noted s.medium kept.is.noted in
     let gate : c.is_open.result ≡ ((slot_of s.medium (spare_at (gate_of s.medium) s.medium.bytes)).gate == OPEN) =

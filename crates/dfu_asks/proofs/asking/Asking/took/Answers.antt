@@ -14,10 +14,10 @@ use Rattle.dfu_asks.specs.Carried.{total, carried, IsReached}
 use Rattle.dfu_asks.specs.Asks.{writes_in, steps_in, device_of, IsWorking}
 use Rattle.dfu_asks.specs.Calls.{HasEnded, DeviceTook, took_well, took_failed, took_lied}
 use Rattle.dfu_asks.proofs.Pieces.{reached_step}
-use Rattle.dfu_asks.proofs.Calling.{same_work, is_true, is_false, one_piece, taken_from, piece_failed, piece_stands}
+use Rattle.dfu_asks.proofs.Calling.{same_work, is_true, is_false, one_piece, next_size, taken_from, piece_failed, piece_stands}
 use Rattle.dfu_asks.proofs.asking.Asking.took.Goals as goal
 
--- A piece that did not go well, and did not fail, does not stand.
+-- A piece that did not go well, and did not fail, is not on the flash.
 not_there : (failed stands : Bool) → not failed && stands ≡ false → failed ≡ false → stands ≡ false
 not_there true stands e works = cc
 not_there false stands e works = e
@@ -27,12 +27,12 @@ works : (failed stands : Bool) → not failed && stands ≡ true → failed ≡ 
 works true stands e = cc
 works false stands e = refl
 
--- And it stands.
+-- And it is on the flash.
 on_flash : (failed stands : Bool) → not failed && stands ≡ true → stands ≡ true
 on_flash true stands e = cc
 on_flash false stands e = e
 
--- The row ends with the fault of a piece that failed, or that does not stand.
+-- The row ends with the fault of a piece that failed, or that is not on the flash.
 took_badly : (d : DeviceView) (len : ℕ) (s : SlotsState) (was : List ℕ) (p : Write) (failed : Bool) (flash out : List ℕ) (now : LentAsking)
     (out' : List ℕ) (x : Answer) (count : ℕ) (fault : WriteFault) → fault ≡ (if failed then Failed else NotVerified)
     → (failed ≡ false → ¬ (slice_range flash p.at (p.at + length p.bytes) ≡ p.bytes))
@@ -80,7 +80,7 @@ returns-clause-outcome c = λ len s was before asks p piece torn.
     let there : slice_range flash p.write.at (p.write.at + length p.write.bytes) ≡ p.write.bytes =
     subst (λ (y : Step). slice_range flash y.write.at (y.write.at + length y.write.bytes) ≡ y.write.bytes) (sym one)
     (nx.there.0 on) in
-    let size : length p.write.bytes ≡ n = ap (λ (y : Step). length y.write.bytes) one ∙ nx.size in
+    let size : length p.write.bytes ≡ n = next_size a w asks.work p flash _ _ same piece nx in
     let fits : p.write.at + length p.write.bytes ≤ length flash =
     omega (arith, nx.within on, ap (λ (y : Step). y.write.at) one, size) in
     let k : IsWorking a w len s was = subst (λ (x : PendingWrites). IsWorking a x len s was) same asks.working in
@@ -124,7 +124,7 @@ returns-clause-on c = λ w p is piece.
     let nx = c.look_at-len.ensures.next (omega (arith, c.if-len-eq0.false)) in
     let same = same_work w v (sym is ∙ c.in-Some.is) in
     let one : p ≡ nx.piece = one_piece a v w p nx.piece same piece nx.is in
-    let size : length p.write.bytes ≡ c.look_at-len.result.0 = ap (λ (y : Step). length y.write.bytes) one ∙ nx.size in
+    let size : length p.write.bytes ≡ c.look_at-len.result.0 = next_size a v w p c.args.flash.now _ _ same piece nx in
     let further : PendingWrites = record { job = v.job; asked = v.asked; done = v.done + c.look_at-len.result.0 } in
     let all : total (writes_in a w) ≡ total (writes_in a v) = ap (λ (x : PendingWrites). total (writes_in a x)) same in
     let done : w.done ≡ v.done = ap (λ (x : PendingWrites). x.done) same in (
@@ -140,12 +140,10 @@ returns-clause-on c = λ w p is piece.
 
 pub returns-clause-further : goal.returns-clause-further
 returns-clause-further c = λ asks w p is piece.
-    let a = lent c.args.self.now c.args.block.now c.args.held.now in
-    let v = c.in-Some.work in
-    let nx = c.look_at-len.ensures.next (omega (arith, c.if-len-eq0.false)) in
-    let same = same_work w v (sym is ∙ c.in-Some.is) in
-    let one : p ≡ nx.piece = one_piece a v w p nx.piece same piece nx.is in
-    let size : length p.write.bytes ≡ c.look_at-len.result.0 = ap (λ (y : Step). length y.write.bytes) one ∙ nx.size in
+    let same = same_work w c.in-Some.work (sym is ∙ c.in-Some.is) in
+    let size : length p.write.bytes ≡ c.look_at-len.result.0 =
+    next_size (lent c.args.self.now c.args.block.now c.args.held.now) c.in-Some.work w p c.args.flash.now _ _ same piece
+    (c.look_at-len.ensures.next (omega (arith, c.if-len-eq0.false))) in
     c.advance.ensures.kept asks
     ∙ (λ i. Some (record { job = (sym same i).job; asked = (sym same i).asked; done = (sym same i).done + sym size i }))
 

@@ -5,7 +5,7 @@ use Rattle.dfu_asks.specs.Cuts.{zeroed, step_of}
 use Rattle.dfu_asks.specs.Phases.{steps_left}
 use Rattle.dfu_asks.proofs.Calling.{is_true, is_false, is_off}
 use Rattle.dfu_asks.proofs.Cutting.{step_size, part_found, part_none}
-use Rattle.dfu_asks.proofs.FormatGoing.{in_left, way_size, way_small, way_sound, way_there}
+use Rattle.dfu_asks.proofs.FormatGoing.{in_left, way_piece, way_size, way_small, way_sound, way_there}
 use Rattle.dfu_asks.proofs.formatting.Formatting.next.Goals as goal
 
 pub returns-clause-piece : goal.returns-clause-piece
@@ -34,27 +34,23 @@ returns-then-not-due-clause-goes c = λ was k.
 
 pub returns-then-not-is_sound-clause-goes : goal.returns-then-not-is_sound-clause-goes
 returns-then-not-is_sound-clause-goes c = λ was k.
-    let f = c.args.self.now in
-    let image = c.args.image.now in
-    let yes = is_true c.due.result c.if-not-due.false in
     let q = step_of c.due.new.cut in
-    let part = part_found f (length c.args.flash.now) (length was) (way_size f image was c.args.flash.now k.way) image c.stock_for.result
-    c.stock_for.ensures.block c.cut_at-cut.result c.cut_at-cut.ensures.stock c.cut_at-cut.ensures.rest q (c.due.ensures.found yes) in
+    let piece = way_piece c.args.self.now c.args.image.now was c.args.flash.now k.way c.stock_for.result c.stock_for.ensures.block
+    c.cut_at-cut.result c.cut_at-cut.ensures.stock c.cut_at-cut.ensures.rest q
+    (c.due.ensures.found (is_true c.due.result c.if-not-due.false)) in
     is_false c.is_sound.result c.if-not-is_sound.true
     ((c.is_sound.ensures (drop c.due.new.cut.from (zeroed c.due.new.cut.source c.due.new.cut.stock c.due.new.cut.front))).1
-    (way_sound f image was c.args.flash.now k.way q (in_left f (length was) image f.done q part)))
+    (way_sound c.args.self.now c.args.image.now was c.args.flash.now k.way q piece))
 
 pub returns-then-piece-flash-clause-goes : goal.returns-then-piece-flash-clause-goes
 returns-then-piece-flash-clause-goes c = λ was k.
-    let f = c.args.self.now in
-    let image = c.args.image.now in
     let yes = is_true c.due.result c.if-not-due.false in
     let q = step_of c.due.new.cut in
-    let part = part_found f (length c.args.flash.now) (length was) (way_size f image was c.args.flash.now k.way) image c.stock_for.result
-    c.stock_for.ensures.block c.cut_at-cut.result c.cut_at-cut.ensures.stock c.cut_at-cut.ensures.rest q (c.due.ensures.found yes) in
+    let piece = way_piece c.args.self.now c.args.image.now was c.args.flash.now k.way c.stock_for.result c.stock_for.ensures.block
+    c.cut_at-cut.result c.cut_at-cut.ensures.stock c.cut_at-cut.ensures.rest q (c.due.ensures.found yes) in
     omega (
       arith,
       c.if-piece-flash.true,
       (step_size _ c.due.new.cut (c.due.ensures.is yes)),
-      way_there f image was c.args.flash.now k.way q (in_left f (length was) image f.done q part),
+      way_there c.args.self.now c.args.image.now was c.args.flash.now k.way q piece,
     )
