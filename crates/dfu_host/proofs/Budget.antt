@@ -16,7 +16,7 @@ over_stays h (Over r) heard over = refl
 over_stays h (OverUploaded kept) heard over = refl
 over_stays h phase heard over = elim over [ ]
 
--- One `take` leaves a host that is done as it is.
+-- One `take` doesn't change a host that is done.
 pub row_over : (h h' : HostState) (seen : Seen) → HostRow h seen h' → IsOver h.phase → h' ≡ h
 row_over h h' seen step over = step.same ∙ over_stays h h.phase step.heard over
 
@@ -103,6 +103,6 @@ tells_in task (OverUploaded kept) actions = (λ h. refl, λ e. refl)
 tells_in task Enter actions = rw (entering_tells task.will_detach (max 1 task.detach_ms)) (λ h. absurd cc, λ e. absurd (omega (arith, e)))
 tells_in task phase actions = (λ h. absurd cc, λ e. absurd (omega (arith, e)))
 
--- A host asks to be told no more exactly where it is done.
+-- A host asks for nothing more exactly if it is done.
 pub act_done : (h : HostState) (a : Action) → Act h a → IsTrue (is_done a) ↔ (takes_left h ≡ 0)
 act_done h a spells = rw (spelled_done (deed h.task h.phase) a spells) (tells_in h.task h.phase h.actions)

@@ -29,7 +29,7 @@ first_starts goal.Fetch t other (inl e) some = absurd cc
 first_starts goal.Fetch t other (inr e) some = absurd cc
 
 module _ (p : List ℕ) (t : ℕ) where
-  -- A block as a slice of what is left of the payload, or nothing where nothing is left.
+  -- A block as a slice of what is left of the payload, or nothing if nothing is left.
   pub block_cut : (n start m : ℕ) → 0 < t → start ≡ min (n * t) (length p)
       → m ≡ min t (length (take (length p - start) (drop start p)))
       → take m (take (length p - start) (drop start p)) ≡ slice_index_or (blocks p t) n []
@@ -46,7 +46,7 @@ module _ (p : List ℕ) (t : ℕ) where
       let e : block ≡ take t rest = is ∙ block_at p t n ht in
       e ∙ sym (ap (λ z. take z rest) (ap length e ∙ length-take t rest) ∙ take_min t rest)
 
-  -- A block is the last where what is left fits it.
+  -- A block is the last if what is left fits into it.
   pub last_test : (n : ℕ) → 0 < t → n * t < length p → nat_le (length p - n * t) t ≡ (suc n == length (blocks p t))
   last_test n ht h = elim (cases_lt t (length p - n * t)) [
     | inl more ↦

@@ -55,7 +55,7 @@ takes_part memory t p what word h' hears room same = by_phase p.phase what word 
     by_phase (phase.Fetch k) (seen.Bytes bytes) word (inr (e, needs)) room same = absurd cc
     by_phase phase what word hears room same = tt
 
--- Want of memory is heard where a phase wants some, and nowhere else.
+-- Want of memory is heard only in a phase that wants some.
 pub wanted : (t : Task) (p : Phase) (part : List ℕ) (word : Heard) (memory : List ℕ) → RefusedRoom t p part word
     → heard_of part word ≡ table.NoRoom → IsTrue (wants_memory (phase_of memory p))
 wanted t p part heard.NoRoom memory room e = by_phase p room

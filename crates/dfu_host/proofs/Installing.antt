@@ -1,6 +1,6 @@
--- No row leads to Installed but the one where a tolerant device confirms it, nor to Verified but the one where the last of the payload
--- came back.
-use Rattle.std.proofs.Common.{◌⊎◌, ℕ, suc, nat_lt, ◌==◌, List, length, inl, inr}
+-- Only the row in which a tolerant device confirms it leads to Installed, and only the one in which the last of the payload came back to
+-- Verified.
+use Rattle.std.proofs.Common.{◌⊎◌, ℕ, suc, nat_lt, ◌==◌, List, length, subst, inl, inr}
 use Rattle.dfu_host.specs.declared.report.Report.{Report}
 use Rattle.dfu_host.specs.declared.report.Report.TheVariants as report
 use Rattle.dfu_host.specs.Phases.{Goal, ToLoad, ToFetch, ToVerify, ToCompare, Task, Phase, Fetch, LastUploaded, Compare, Last, Over, OverUploaded, Heard, Part, NoRoom, WasReset}
@@ -17,7 +17,7 @@ IsOther r = Unit {0}
 
 -- Of reports that say of a payload that it is in place, some or all.
 module _ (P : Report → Type 0) (none : (r : Report) → IsOther r → P r → ⊥) (task : Task) where
-  -- A phase from which no such report is told yet.
+  -- A phase that has no such report yet.
   abbrev Plain : Phase → Type 0
   Plain phase = IsEnding P phase → ⊥
 
@@ -32,7 +32,7 @@ module _ (P : Report → Type 0) (none : (r : Report) → IsOther r → P r → 
   anywhere_plain (Over r) d = elim d [ ]
   anywhere_plain phase d = λ h. h
 
-  -- Whatever is claimed of such a report holds of the phases of a download, since none of them tells one.
+  -- Whatever is claimed about such a report holds of the phases of a download, since none of them has one.
   download_plain : (Q : Type 0) → DownloadHolds task (λ phase. IsEnding P phase → Q)
   download_plain Q = record {
     anywhere = λ phase d h. absurd (anywhere_plain phase d h);
@@ -55,7 +55,7 @@ module _ (P : Report → Type 0) (none : (r : Report) → IsOther r → P r → 
   last_only goal r WasReset h = h
   last_only goal r heard h = h
 
-  -- Such a report is told already, or comes as Installed where the device confirms it, or as Verified where the payload came back.
+  -- Such a report was there already, or comes as Installed when the device confirms it, or as Verified when the payload came back.
   abbrev Told : Phase → Heard → Type 0
   Told phase heard = (IsEnding P phase)
       ⊎ ((P report.Installed × ToldDfuIdle task phase heard) ⊎ (P report.Verified × IsMatched task phase heard))
@@ -74,25 +74,23 @@ module _ (P : Report → Type 0) (none : (r : Report) → IsOther r → P r → 
       phase heard tt (λ confirmed installed. inr (inl (installed, confirmed))) h
 
 not_installed : (r : Report) → IsOther r → IsInstalled r → ⊥
-not_installed report.Installed o i = absurd o
-not_installed r o i = i
+not_installed r o i = subst IsOther i o
 
 not_verified : (r : Report) → IsOther r → IsVerified r → ⊥
-not_verified report.Verified o i = absurd o
-not_verified r o i = i
+not_verified r o i = subst IsOther i o
 
--- Installed is told only where a tolerant device confirmed it.
+-- Installed is reported only if a tolerant device confirmed it.
 pub only_confirmed : OnlyConfirmed
 only_confirmed task phase heard h = elim (rows_only IsInstalled not_installed task phase heard h) [
   | inl told ↦ inl told
   | inr (inl confirmed) ↦ inr confirmed.1
-  | inr (inr matched) ↦ absurd matched.0
+  | inr (inr (verified, matched)) ↦ absurd cc
 ]
 
--- Verified is told only where the last of the payload came back.
+-- Verified is reported only if the last of the payload came back.
 pub only_matched : OnlyMatched
 only_matched task phase heard h = elim (rows_only IsVerified not_verified task phase heard h) [
   | inl told ↦ inl told
-  | inr (inl confirmed) ↦ absurd confirmed.0
+  | inr (inl (installed, confirmed)) ↦ absurd cc
   | inr (inr matched) ↦ inr matched.1
 ]

@@ -1,4 +1,4 @@
--- A device that left of itself: behind the close that is the last reset, and elsewhere a restart.
+-- A device that left of itself: after the close that is the last reset, and elsewhere a restart.
 use Rattle.std.proofs.Common.{◌≡◌, pred, true, false, IsTrue, sym, ap, ◌∙◌, refl}
 use Rattle.dfu_host.specs.declared.report.Report.TheVariants as report
 use Rattle.dfu_host.specs.declared.seen.Seen.TheVariants as seen

@@ -17,7 +17,7 @@ use Rattle.dfu_host.specs.Rooms.{OnlyWhereFull, TakesPartIn, overflows}
 use Rattle.dfu_host.specs.inside.Refusing.{HearsBy, RefusesIn}
 use Rattle.dfu_host.specs.inside.View.{heard_of, part_of, state_with}
 
--- What is seen where a part is fetched is taken as its room has it, if it was refused as the room says.
+-- What is seen when a part is fetched is taken as its room has it, if it was refused as the room says.
 pub takes_part_in : (room : ℕ) (memory : List ℕ) (t : Task) (p : Progress) (what : Seen) (refused : Bool) (word : Heard) (h' : HostState)
     → HearsBy p.phase what refused word → RefusesIn room t.transfer p.phase memory what refused
     → h' ≡ after (state_with memory t p) (heard_of (part_of what) word)
@@ -64,7 +64,7 @@ part_goes_on t k kept bytes =
     again a zero e = absurd cc
     again a (suc left) e = absurd cc
 
--- NoMemory comes exactly where a part finds no room.
+-- NoMemory comes exactly if a part overflows.
 pub only_where_full : OnlyWhereFull
 only_where_full room h h' k kept bytes at takes = by_room (overflows room h.task.transfer k kept bytes.now) refl
   where

@@ -28,7 +28,7 @@ troubled_else start code.StalledPkt poll s a = refl
 troubled_else start c poll state.Error a = absurd (a refl)
 troubled_else start c poll s a = refl
 
--- A host that goes on gives up where no action is left.
+-- A host that goes on gives up if no action is left.
 pub budget_none : (memory : List ℕ) (p : Phase) (left : ℕ) → ((r : Report) → p ≡ phase.Over r → ⊥) → (p ≡ phase.OverUploaded → ⊥) → left ≡ 0
     → table.Over report.GaveUp ≡ budgeted left (phase_of memory p)
 budget_none memory p (suc left) never on e = absurd (omega (arith, e))
@@ -36,7 +36,7 @@ budget_none memory (phase.Over r) zero never on e = absurd (never r refl)
 budget_none memory phase.OverUploaded zero never on e = absurd (on refl)
 budget_none memory p zero never on e = refl
 
--- Where an action is left, the host is where the row led.
+-- If an action is left, the host is in the phase to which the row led.
 pub budget_some : (memory : List ℕ) (p : Phase) (left : ℕ) → (left ≡ 0 → ⊥) → phase_of memory p ≡ budgeted left (phase_of memory p)
 budget_some memory p zero some = absurd (some refl)
 budget_some memory (phase.Over r) (suc left) some = refl
@@ -59,7 +59,7 @@ restarted_some h memory phase.GiveUp (suc restarts) on never = absurd (on refl)
 restarted_some h memory phase.Find (suc restarts) on never = let e : suc restarts - 1 ≡ restarts = omega arith in rw e refl
 restarted_some h memory p (suc restarts) on never = let e : suc restarts - 1 ≡ restarts = omega arith in rw e refl
 
--- A host that is not done is told what was heard.
+-- A host that is not done takes what was heard.
 pub after_told : (h : HostState) (memory : List ℕ) (p : Phase) (heard : table.Heard) → ((r : Report) → p ≡ phase.Over r → ⊥)
     → (p ≡ phase.OverUploaded → ⊥) → host_heard h (phase_of memory p) heard ≡ after_phase h (phase_of memory p) heard
 after_told h memory (phase.Over r) heard never on = absurd (never r refl)

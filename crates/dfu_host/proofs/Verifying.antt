@@ -80,7 +80,7 @@ module _ (p : List ℕ) (task : Task) (is : task.goal ≡ ToCompare p) where
   compares_row phase heard h = inr (is, after_common task IsComparing Any compares_common phase heard h (λ x. tt))
 
 module _ (p : List ℕ) where
-  -- What compares stands in no phase behind the close.
+  -- A phase that compares is not one after the close.
   never_compares : (from : Phase) → IsTrue (is_behind_close (ToCompare p) from) → IsComparing from → ⊥
   never_compares Manifest behind c = c
   never_compares (WaitManifest poll) behind c = c

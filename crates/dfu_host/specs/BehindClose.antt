@@ -1,4 +1,4 @@
--- Where a session stands behind the close: the device took the whole payload, and is to put it in place.
+-- The phases of a session after the close: the device took the whole payload, and is to put it in place.
 use Rattle.std.specs.Prelude.{Bool, true, false}
 use Rattle.dfu_host.specs.Phases.{Goal, ToLoad, ToFetch, ToVerify, ToCompare, Phase}
 use Rattle.dfu_host.specs.PhaseClasses.{Common, Sending, Closing, Manifesting, Fetching, Comparing, Ending, EndingUpload, Ended, EndedUpload, class_of}
@@ -10,7 +10,7 @@ installs ToFetch = false
 installs (ToVerify payload) = true
 installs (ToCompare payload) = false
 
--- The session stands behind the close: it asks or waits for the new image, or is about to do the last reset of a download.
+-- The close is done: the session asks or waits for the new image, or is about to do the last reset of a download.
 abbrev pub is_behind_close : Goal → Phase → Bool
 is_behind_close goal phase = elim (class_of phase) [
   | Common ↦ false

@@ -132,7 +132,7 @@ module _ (p : List ℕ) (t : ℕ) where
       only_in t pieces (length p) ht b.full (let e : length (joined pieces) ≡ length p = ap length b.all in omega (arith, e))
       ∙ ap (blocks_in (length p) t) b.all
 
-  -- One more block is the first n, and the block behind them.
+  -- One more block is the first n, and the block after them.
   pub first_suc : (n : ℕ) → n < length (blocks p t) → first p t (suc n) ≡ first p t n ++ slice_index_or (blocks p t) n []
   first_suc n h = joined_suc (blocks p t) n h
 
@@ -150,17 +150,17 @@ module _ (p : List ℕ) (t : ℕ) where
   unfolding blocks
   block_is n h = nth_block_in (length p) t p n h
 
-  -- Where there is a block n, the payload goes past n times t.
+  -- If there is a block n, the payload goes past n times t.
   pub block_starts : (n : ℕ) → n < length (blocks p t) → n * t < length p
   unfolding blocks
   block_starts n h = starts_in (length p) t p n h
 
-  -- Where the payload goes past n times t, there is a block n.
+  -- If the payload goes past n times t, there is a block n.
   pub block_counts : (n : ℕ) → 0 < t → n * t < length p → n < length (blocks p t)
   unfolding blocks
   block_counts n ht h = counted_in (length p) t p n ht (omega arith) h
 
-  -- Block n is the t bytes at n times t, or what is left there, or nothing where there is no such block.
+  -- Block n is the t bytes at n times t, or what is left there, or nothing if there is no such block.
   pub block_at : (n : ℕ) → 0 < t → slice_index_or (blocks p t) n [] ≡ take t (drop (n * t) p)
   block_at n ht = elim (cases_lt n (length (blocks p t))) [
     | inl is ↦ block_is n is
@@ -184,7 +184,7 @@ module _ (p : List ℕ) (t : ℕ) where
   pub full_block : (n : ℕ) → 0 < t → n < length (blocks p t) → 0 < length (slice_index_or (blocks p t) n [])
   full_block n ht h = omega (arith, block_size n h, length-take t (drop (n * t) p), length-drop (n * t) p, block_starts n h)
 
--- Where block n has a byte, one more block is the first n and that one.
+-- If block n has a byte, one more block is the first n and that one.
 pub first_next : (p : List ℕ) (t n : ℕ) → 0 < length (slice_index_or (blocks p t) n [])
     → first p t (suc n) ≡ first p t n ++ slice_index_or (blocks p t) n []
 first_next p t n some = first_suc p t n (within (blocks p t) n some)
@@ -194,11 +194,11 @@ first_next p t n some = first_suc p t n (within (blocks p t) n some)
     within (x ∷ xs) zero h = omega arith
     within (x ∷ xs) (suc n) h = omega (arith, within xs n h)
 
--- Where there is no block n, the first n joined are the payload.
+-- If there is no block n, the first n joined are the payload.
 pub first_past : (p : List ℕ) (t n : ℕ) → 0 < t → length (blocks p t) ≤ n → first p t n ≡ p
 first_past p t n ht h = ap joined (take_all n (blocks p t) h) ∙ joined_blocks p t ht
 
--- Where block n has fewer than t bytes, or there is none, the first n joined and that one are the payload.
+-- If block n has fewer than t bytes, or there is no block n, the first n joined and that one are the payload.
 pub last_short : (p : List ℕ) (t n : ℕ) → 0 < t → length (slice_index_or (blocks p t) n []) < t
     → first p t n ++ slice_index_or (blocks p t) n [] ≡ p
 last_short p t n ht short = elim (cases_lt n (length (blocks p t))) [

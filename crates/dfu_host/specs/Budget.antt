@@ -24,7 +24,7 @@ is_done (action.Send setup body) = false
 is_done (action.Wait ms) = false
 is_done action.Reset = false
 
--- Whatever is seen, a host is done after as many `take`s as it has actions left, and after one where it has none.
+-- Whatever is seen, a host is done after as many `take`s as it has actions left, and after one if it has none.
 abbrev pub DoneInTime : Type 0
 DoneInTime =
     (h h' : HostState) (seens : List Seen) → HostRows h seens h' → max 1 h.actions ≤ length seens → IsOver h'.phase

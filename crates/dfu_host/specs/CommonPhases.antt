@@ -1,7 +1,8 @@
--- The phases that each session has, whatever it is for, and what a property of phases has to meet to hold after each of them.
+-- The phases that each session has, and what a property of phases has to meet to hold after each of them.
 use Rattle.std.specs.Prelude.{ℕ}
 use Rattle.dfu_wire.specs.declared.codes.Code.{Code}
 use Rattle.dfu_wire.specs.declared.states.State.TheVariants.{DfuIdle}
+use Rattle.dfu_host.specs.declared.report.Report.{Report}
 use Rattle.dfu_host.specs.declared.report.Report.TheVariants.{Aborted, Refused, Unconfirmed}
 use Rattle.dfu_host.specs.Phases.{Task, Phase, Find, FindAgain, Trouble, Last, Over, Heard, Status}
 use Rattle.dfu_host.specs.PhaseClasses.{Common, Sending, Closing, Manifesting, Fetching, Comparing, Ending, EndingUpload, Ended, EndedUpload, class_of}
@@ -23,20 +24,25 @@ IsCommon phase = elim (class_of phase) [
   | EndedUpload kept ↦ ⊥
 ]
 
--- The phases of a download up to its last reset: the common ones, and those in which its blocks are sent and installed.
-abbrev pub IsDownloading : Phase → Type 0
-IsDownloading phase = elim (class_of phase) [
+-- The phases of a download: the common ones, those in which its blocks are sent and installed, and its ends with such reports, before its
+-- last reset and after it.
+abbrev pub IsOfDownload : (Ends Over_with : Report → Type 0) → Phase → Type 0
+IsOfDownload Ends Over_with phase = elim (class_of phase) [
   | Common ↦ Unit {0}
   | Sending n ↦ Unit {0}
   | Closing ↦ Unit {0}
   | Manifesting ↦ Unit {0}
   | Fetching k kept ↦ ⊥
   | Comparing k ↦ ⊥
-  | Ending report ↦ ⊥
+  | Ending report ↦ Ends report
   | EndingUpload kept ↦ ⊥
-  | Ended report ↦ ⊥
+  | Ended report ↦ Over_with report
   | EndedUpload kept ↦ ⊥
 ]
+
+-- The phases of a download up to its last reset: it doesn't end in them.
+abbrev pub IsDownloading : Phase → Type 0
+IsDownloading phase = IsOfDownload (λ report. ⊥) (λ report. ⊥) phase
 
 -- The common phases that ask for the status: what follows goes by the state that is heard.
 abbrev pub IsSeeking : Phase → Type 0

@@ -38,7 +38,7 @@ IsCounted task phase = elim (class_of phase) [
   | EndedUpload kept ↦ (task.goal ≡ ToFetch) × (length kept < 65535 * task.transfer)
 ]
 
--- Whatever is seen, what a host keeps is counted, if it was so at first. It is so where a session begins, and after an abort.
+-- Whatever is seen, what a host keeps is counted, if it was so at first. It is so when a session begins, and after an abort.
 abbrev pub StaysCounted : Type 0
 StaysCounted =
     (h h' : HostState) (seens : List Seen) → 0 < h.task.transfer → IsCounted h.task h.phase → HostRows h seens h'

@@ -10,7 +10,7 @@ use Rattle.dfu_host.specs.declared.fault.HostFault.TheVariants as fault
 abbrev pub goes_with : (file device : ℕ) → Bool
 goes_with file device = (file == 0xFFFF) || (file == device)
 
--- A file is for a device where its vendor and its product go with the device's.
+-- A file is for a device if its vendor and its product go with the device's.
 abbrev pub is_for : (file device : Ids) → Bool
 is_for file device = goes_with file.vendor device.vendor && goes_with file.product device.product
 

@@ -12,7 +12,7 @@ goal_of goal.Fetch = table.ToFetch
 goal_of (goal.Verify payload) = table.ToVerify payload.now
 goal_of (goal.Compare payload) = table.ToCompare payload.now
 
--- The payload that a session sends or compares; an upload has none.
+-- The payload that a session sends or compares; empty for an upload.
 abbrev pub payload_of : Goal → List ℕ
 payload_of (goal.Load payload) = payload.now
 payload_of goal.Fetch = []
@@ -33,7 +33,7 @@ IsFetch goal.Fetch = Unit {0}
 IsFetch (goal.Verify payload) = ⊥
 IsFetch (goal.Compare payload) = ⊥
 
--- Where the goal has a payload, it is this slice.
+-- If the goal has a payload, it is this slice.
 abbrev pub Carries : Bor (List ℕ) → Goal → Type 0
 Carries payload (goal.Load given) = given ≡ payload
 Carries payload goal.Fetch = Unit {0}

@@ -57,7 +57,7 @@ IsOver (Over report) = Unit {0}
 IsOver (OverUploaded kept) = Unit {0}
 IsOver phase = ⊥
 
--- The budget: a host that is not done, whatever its phase, and has no action left gives up.
+-- The budget: a host that is not done and has no action left gives up.
 abbrev pub budgeted : (left : ℕ) → Phase → Phase
 budgeted left (Over r) = Over r
 budgeted left (OverUploaded kept) = OverUploaded kept
@@ -79,11 +79,11 @@ restarted h GiveUp restarts = spent h (Over report.Aborted) restarts
 restarted h phase zero = spent h (Over report.RestartsSpent) zero
 restarted h phase (suc restarts) = spent h Find restarts
 
--- One action of which the table's row takes what is heard, with the task that the table has beside it.
+-- One action whose result the table's row takes, with the task that the table has beside it.
 abbrev pub by_row : HostState → Phase → Heard → HostState
 by_row h phase heard = spent (record h { task = task_after h.task phase heard }) (host_row h.task phase heard) h.restarts
 
--- The device left of itself. Behind the close that is the last reset, which confirms nothing; in every other phase it is a restart.
+-- The device left of itself. After the close that is the last reset, which confirms nothing; in every other phase it is a restart.
 abbrev pub left_by : HostState → Phase → (behind_close : Bool) → HostState
 left_by h phase true = by_row h (Last report.Unconfirmed) WasReset
 left_by h phase false = restarted h phase h.restarts
@@ -94,7 +94,7 @@ host_heard h phase Restarted = restarted h phase h.restarts
 host_heard h phase Left = left_by h phase (is_behind_close h.task.goal phase)
 host_heard h phase heard = by_row h phase heard
 
--- A host that is done stays as it is, and every other takes what it is told.
+-- A host that is done doesn't change, and every other takes what it hears.
 abbrev pub after_phase : HostState → Phase → Heard → HostState
 after_phase h (Over r) heard = h
 after_phase h (OverUploaded kept) heard = h
@@ -104,13 +104,13 @@ after_phase h phase heard = host_heard h phase heard
 abbrev pub after : HostState → Heard → HostState
 after h heard = after_phase h h.phase heard
 
--- A host in this phase that its caller gives up: it leaves the transfer next, whatever its phase, unless it is done.
+-- A host in this phase that its caller gives up: it leaves the transfer next, unless it is done.
 abbrev pub aborted_in : HostState → Phase → HostState
 aborted_in h (Over r) = h
 aborted_in h (OverUploaded kept) = h
 aborted_in h phase = record h { phase = GiveUp }
 
--- A host that its caller gives up: its phase becomes Give up and all else stays; one that is done stays as it is.
+-- A host that its caller gives up: only its phase changes, to Give up; one that is done doesn't change.
 abbrev pub aborted : HostState → HostState
 aborted h = aborted_in h h.phase
 
@@ -118,13 +118,13 @@ aborted h = aborted_in h h.phase
 abbrev pub Act : HostState → Action → Type 0
 Act h action = Spells (deed h.task h.phase) action
 
--- A phase that keeps what it asks for, and so wants memory: of an upload alone.
+-- A phase that keeps what it asks for, and so wants memory: only an upload has one.
 abbrev pub wants_memory : Phase → Bool
 wants_memory (Fetch k kept) = true
 wants_memory phase = false
 
--- What a host becomes by what it sees: the bytes are understood as its action says, with no want of memory but where the phase wants some,
--- and the table gives the rest.
+-- What a host becomes by what it sees: the bytes are understood as its action says, and the table gives the rest. Memory is wanting only
+-- in a phase that wants some.
 pub record HostRow (h : HostState) (seen : Seen) (h' : HostState) : Type 0 where
   pub heard : Heard
   pub hears : Hears (deed h.task h.phase) seen heard

@@ -1,4 +1,4 @@
--- Laws of a host: what the table's rows keep, the budget and the restarts keep too, whatever is seen.
+-- Laws of a host: what the table's rows keep, the budget and the restarts keep too.
 use Rattle.std.proofs.Common.{◌≡◌, ℕ, zero, suc, pred, Bool, true, false, IsTrue, List, [], ◌∷◌, refl, sym, subst}
 use Rattle.dfu_host.specs.declared.report.Report.{Report}
 use Rattle.dfu_host.specs.declared.report.Report.TheVariants.{Aborted, GaveUp, RestartsSpent, Unconfirmed}
@@ -15,8 +15,8 @@ IsCutShort RestartsSpent = Unit {0}
 IsCutShort Aborted = Unit {0}
 IsCutShort report = ⊥
 
--- A property of a host's task and phase that each row keeps, and that holds of the first phase and of an early end wherever it held,
--- and of the last reset that confirms nothing where it held behind the close.
+-- A property of a host's task and phase that each row keeps. If it held, it holds of the first phase and of an early end; if it held after
+-- the close, it holds of the last reset that confirms nothing.
 pub record RowsKeep (Q : Task → Phase → Type 0) : Type 0 where
   pub next : (task : Task) (phase : Phase) (heard : Heard) → Q task phase → Q (task_after task phase heard) (host_row task phase heard)
   pub anew : (task : Task) (phase : Phase) → Q task phase → Q task Find

@@ -65,7 +65,7 @@ IsWithin goal t phase = elim (class_of (phase_of [] phase)) [
   | EndedUpload kept ↦ Unit {0}
 ]
 
--- Parts are those of a session where there is something to do, blocks have room for a byte, and the phase has what it needs.
+-- Parts are those of a session if there is something to do, blocks have room for a byte, and the phase has what it needs.
 pub record IsSession (p : Parts) : Type 0 where
   pub some : 0 < size_of p.goal
   pub transfers : 0 < p.transfer
@@ -86,8 +86,8 @@ host_of memory p = record {
   restarts = p.restarts;
 }
 
--- Where in the payload the body begins that goes with a phase's request: at the block's first byte. All other requests have no body, and
--- it counts as 0.
+-- The place in the payload at which the body of a phase's request begins: the block's first byte. All other requests have no body, and it
+-- counts as 0.
 abbrev pub begins_at : (t : ℕ) → Phase → ℕ
 begins_at t (phase.Block n) = n * t
 begins_at t other = 0

@@ -10,31 +10,11 @@ use Rattle.dfu_host.specs.Table.{pieces, host_row}
 
 -- The report says that the payload is in place.
 abbrev pub IsInstalled : Report → Type 0
-IsInstalled report.Installed = Unit {0}
-IsInstalled report.Unconfirmed = ⊥
-IsInstalled report.Aborted = ⊥
-IsInstalled report.GaveUp = ⊥
-IsInstalled (report.Refused code) = ⊥
-IsInstalled report.RestartsSpent = ⊥
-IsInstalled report.Uploaded = ⊥
-IsInstalled report.TooManyBlocks = ⊥
-IsInstalled report.NoMemory = ⊥
-IsInstalled report.Verified = ⊥
-IsInstalled report.Different = ⊥
+IsInstalled r = r ≡ report.Installed
 
 -- The report says that the device gave the payload back.
 abbrev pub IsVerified : Report → Type 0
-IsVerified report.Verified = Unit {0}
-IsVerified report.Installed = ⊥
-IsVerified report.Unconfirmed = ⊥
-IsVerified report.Aborted = ⊥
-IsVerified report.GaveUp = ⊥
-IsVerified (report.Refused code) = ⊥
-IsVerified report.RestartsSpent = ⊥
-IsVerified report.Uploaded = ⊥
-IsVerified report.TooManyBlocks = ⊥
-IsVerified report.NoMemory = ⊥
-IsVerified report.Different = ⊥
+IsVerified r = r ≡ report.Verified
 
 -- The session is about to end with such a report, or has ended so.
 abbrev pub IsEnding : (Report → Type 0) → Phase → Type 0
@@ -51,20 +31,20 @@ IsEnding P phase = elim (class_of phase) [
   | EndedUpload kept ↦ ⊥
 ]
 
--- A tolerant device told after the close that it stands in dfuIDLE with OK.
+-- A tolerant device reported dfuIDLE with OK after the close.
 pub record ToldDfuIdle (task : Task) (phase : Phase) (heard : Heard) : Type 0 where
   pub closed : phase ≡ Manifest
   pub tolerant : task.tolerant ≡ true
   pub poll : ℕ
   pub told : heard ≡ Status code.Ok poll state.DfuIdle
 
--- No row leads to Installed but the one where a tolerant device confirms it.
+-- Only the row in which a tolerant device confirms it leads to Installed.
 abbrev pub OnlyConfirmed : Type 0
 OnlyConfirmed =
     (task : Task) (phase : Phase) (heard : Heard)
     → IsEnding IsInstalled (host_row task phase heard) → (IsEnding IsInstalled phase) ⊎ ToldDfuIdle task phase heard
 
--- Where the image is compared, the last of the payload came back: its shorter block, or nothing behind its last full one.
+-- While the image is compared, the last of the payload came back: its shorter block, or nothing after its last full one.
 pub record IsMatched (task : Task) (phase : Phase) (heard : Heard) : Type 0 where
   pub k : ℕ
   pub bytes : List ℕ
@@ -73,7 +53,7 @@ pub record IsMatched (task : Task) (phase : Phase) (heard : Heard) : Type 0 wher
   pub same : bytes ≡ slice_index_or (pieces task) k []
   pub last : length bytes < task.transfer
 
--- No row leads to Verified but the one where the last of the payload came back.
+-- Only the row in which the last of the payload came back leads to Verified.
 abbrev pub OnlyMatched : Type 0
 OnlyMatched =
     (task : Task) (phase : Phase) (heard : Heard)

@@ -12,7 +12,7 @@ abbrev pub Stored : (k : ℕ) → (part : List ℕ) → (refused : Bool) → (me
 Stored k part false memory memory' = memory' ≡ kept_at k memory ++ part
 Stored k part true memory memory' = 0 < length part
 
--- Bytes came for part k: where they are kept they joined what was kept by then, or they were refused, and needed room.
+-- Bytes came for part k: if they are kept, they joined what was kept by then, or they were refused and needed room.
 abbrev pub KeptPart : (t k : ℕ) → (part : List ℕ) → (refused : Bool) → (memory memory' : List ℕ) → Type 0
 KeptPart t k part false memory memory' = IsTrue (is_kept t k (length part)) → memory' ≡ kept_at k memory ++ part
 KeptPart t k part true memory memory' = NeedsRoom t k (length part)

@@ -6,11 +6,11 @@ use Rattle.dfu_host.specs.Phases.{ToLoad, ToVerify, ToCompare, Find, Over}
 use Rattle.dfu_host.specs.BehindClose.{is_behind_close}
 use Rattle.dfu_host.specs.Host.{HostState, HostRow, budgeted}
 
--- The session stands behind the close.
+-- The close of the session is done.
 abbrev pub IsBehindClose : HostState → Type 0
 IsBehindClose h = IsTrue (is_behind_close h.task.goal h.phase)
 
--- Behind the close a download that isn't verified is over: nothing confirms the install, whatever the device said before it left.
+-- After the close a download that isn't verified is over: nothing confirms the install, whatever the device said before it left.
 abbrev pub EndsUnconfirmed : Type 0
 EndsUnconfirmed =
     (payload : List ℕ) (h h' : HostState) → h.task.goal ≡ ToLoad payload → IsBehindClose h → HostRow h seen.Left h'

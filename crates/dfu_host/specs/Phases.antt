@@ -1,4 +1,4 @@
--- What a session is for, the phases in which it stands, what it does in them, and what it understands of what it sees.
+-- What a session is for, its phases, what it does in them, and how it understands what it sees.
 use Rattle.std.specs.Prelude.{ℕ, Bool, List}
 use Rattle.dfu_wire.specs.declared.codes.Code.{Code}
 use Rattle.dfu_wire.specs.declared.states.State.{State}
@@ -49,7 +49,7 @@ pub data Phase : Type 0 where
   Over : Report → Phase
   OverUploaded : (kept : List ℕ) → Phase
 
--- What a host does, of which the code's `Action` is the spelling: it sends a request with its body, waits, resets the bus, or is done.
+-- What a host does: it sends a request with its body, waits, resets the bus, or is done. The code's `Action` spells it.
 pub data Deed : Type 0 where
   Send : (request : Request) (body : List ℕ) → Deed
   Wait : (ms : ℕ) → Deed

@@ -1,4 +1,4 @@
--- What a part of an upload comes to where it is kept in a room of so many bytes, and no memory is asked for.
+-- What becomes of a part of an upload that is kept in a room of a fixed size, so that no memory is asked for.
 use Rattle.std.specs.Prelude.{◌≡◌, ◌↔◌, ℕ, ◌+◌, nat_lt, ◌&&◌, Bool, if◌then◌else◌, IsTrue, List, length}
 use Rattle.std.specs.Borrow.{Bor}
 use Rattle.dfu_host.specs.declared.report.Report.TheVariants as report
@@ -13,12 +13,12 @@ use Rattle.dfu_host.specs.Host.{HostState, after}
 abbrev pub overflows : (room t k : ℕ) → (kept part : List ℕ) → Bool
 overflows room t k kept part = is_kept t k (length part) && nat_lt room (length kept + length part)
 
--- What is heard of part k: where it finds no room that there was none, and else the part.
+-- What is heard of part k: that there was no room for it, if it overflows, and else the part.
 abbrev pub heard_in : (room t k : ℕ) → (kept part : List ℕ) → Heard
 heard_in room t k kept part = if overflows room t k kept part then NoRoom else Part part
 
--- Bytes that come for part k are taken as the part, or as one for which there was no room, exactly where it finds none. Of all else that is
--- seen nothing is said here.
+-- Bytes that come for part k are taken as one for which there was no room exactly if it overflows, and else as the part. Nothing is said
+-- here about anything else that is seen.
 abbrev pub TakesAsPartIn : (room : ℕ) → HostState → (k : ℕ) → (kept : List ℕ) → Seen → HostState → Type 0
 TakesAsPartIn room h k kept (seen.Bytes bytes) h' = h' ≡ after h (heard_in room h.task.transfer k kept bytes.now)
 TakesAsPartIn room h k kept seen.Ack h' = Unit {0}
@@ -29,8 +29,8 @@ TakesAsPartIn room h k kept seen.WasReset h' = Unit {0}
 TakesAsPartIn room h k kept seen.Restarted h' = Unit {0}
 TakesAsPartIn room h k kept seen.Left h' = Unit {0}
 
--- What is seen where a part is fetched is taken as that part, in a room of so many bytes.
--- Of the phases that fetch none nothing is said here.
+-- What is seen when a part is fetched is taken as that part, in a room of this many bytes.
+-- Nothing is said here about phases that fetch no part.
 abbrev pub TakesPartIn : (room : ℕ) → HostState → Phase → Seen → HostState → Type 0
 TakesPartIn room h phase seen h' = elim (class_of phase) [
   | Common ↦ Unit {0}
@@ -45,7 +45,7 @@ TakesPartIn room h phase seen h' = elim (class_of phase) [
   | EndedUpload kept ↦ Unit {0}
 ]
 
--- An upload in a room, which is told bytes where it fetches a part, is over with NoMemory exactly where that part finds no room.
+-- An upload in a room that gets bytes when it fetches a part is over with NoMemory exactly if that part overflows.
 abbrev pub OnlyWhereFull : Type 0
 OnlyWhereFull = (room : ℕ) (h h' : HostState) (k : ℕ) (kept : List ℕ) (bytes : Bor (List ℕ))
     → h.phase ≡ Fetch k kept → TakesPartIn room h h.phase (seen.Bytes bytes) h'

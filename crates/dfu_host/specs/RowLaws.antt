@@ -14,7 +14,7 @@ use Rattle.dfu_host.specs.CommonPhases.{Any, IsCommon, IsDownloading, IsSeeking,
 use Rattle.dfu_host.specs.Installing.{ToldDfuIdle, IsMatched}
 
 module _ (P : Phase → Type 0) where
-  -- After a choice, each phase where it is taken.
+  -- After a choice, by the phase of each branch.
   pub after_choice : (b : Bool) (x y : Phase) → (b ≡ true → P x) → (b ≡ false → P y) → P (cond b x y)
   after_choice true x y p q = p refl
   after_choice false x y p q = q refl
@@ -134,7 +134,7 @@ module _ (task : Task) (P : Phase → Type 0) (holds : DownloadHolds task P) whe
   after_manifest false c poll state.ManifestWaitReset confirmed = holds.unconfirmed
   after_manifest false c poll s confirmed = after_trouble task P Any of_common c poll s tt
 
-  -- After each phase of a download, if the property holds of the last reset where the device confirms the install.
+  -- After each phase of a download, if the property holds of the last reset when the device confirms the install.
   pub after_download : (phase : Phase) (heard : Heard) → IsDownloading phase → (ToldDfuIdle task phase heard → P (Last Installed))
       → P (host_row task phase heard)
   after_download (Block n) heard d confirmed = after_ack P heard (Poll n) Trouble (Ask n) (holds.anywhere (Poll n) tt)
@@ -168,7 +168,7 @@ module _ (task : Task) (P : Phase → Type 0) (holds : DownloadHolds task P) whe
   after_download (OverUploaded kept) heard d confirmed = elim d [ ]
   after_download phase heard d confirmed = after_common task P Any of_common phase heard tt (λ x. tt)
 
--- After a part of an image that is compared, if the property holds of the last reset where the last of the payload came back.
+-- After a part of an image that is compared, if the property holds of the last reset when the last of the payload came back.
 pub after_compared : (task : Task) (P : Phase → Type 0) (k : ℕ) (heard : Heard) → P Find → P (Last Different)
     → P (Over TooManyBlocks) → P (Compare (suc k)) → (IsMatched task (Compare k) heard → P (Last Verified))
     → P (host_row task (Compare k) heard)

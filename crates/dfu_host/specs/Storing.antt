@@ -1,4 +1,4 @@
--- What the room of a session's caller holds once its session was told what was seen.
+-- What the room of a session's caller holds once the session got what was seen.
 use Rattle.std.specs.Prelude.{◌≡◌, ℕ, ◌+◌, nat_lt, ◌&&◌, not, Bool, true, false, List, ◌++◌, length, take, drop}
 use Rattle.dfu_host.specs.declared.phase.Phase.{Phase}
 use Rattle.dfu_host.specs.declared.phase.Phase.TheVariants as phase
@@ -7,7 +7,7 @@ use Rattle.dfu_host.specs.declared.seen.Seen.TheVariants as seen
 use Rattle.dfu_host.specs.InParts.{kept_at}
 use Rattle.dfu_host.specs.Wire.{is_kept}
 
--- A part is stored: it stands behind what was kept by then, it counts as kept, and behind it nothing has changed.
+-- A part is stored: it follows what was kept by then, it counts as kept, and nothing after it has changed.
 pub record IsStored (kept part room : List ℕ) (count' : ℕ) (room' : List ℕ) : Type 0 where
   pub count : count' ≡ length kept + length part
   pub front : take count' room' ≡ kept ++ part
@@ -23,11 +23,11 @@ abbrev pub StoredIf : Bool → (kept part : List ℕ) → (count : ℕ) → (roo
 StoredIf true kept part count room count' room' = IsStored kept part room count' room'
 StoredIf false kept part count room count' room' = IsAsBefore count room count' room'
 
--- Part k is stored in a room of so many bytes: it is one that is kept, and finds room behind what is kept by then.
+-- Part k is stored in a room of this many bytes: it is one that is kept, and fits after what is kept by then.
 abbrev pub finds_room : (room t k : ℕ) → (kept part : List ℕ) → Bool
 finds_room room t k kept part = is_kept t k (length part) && not (nat_lt room (length kept + length part))
 
--- Bytes came for part k: they are stored where they are kept and find room, behind the bytes of the room that count by then.
+-- Bytes came for part k: if they are kept and fit, they are stored after the bytes of the room that count by then.
 abbrev pub StoresPart : (t k : ℕ) → (part : List ℕ) → (count : ℕ) → (room : List ℕ) → (count' : ℕ) → (room' : List ℕ) → Type 0
 StoresPart t k part count room count' room' =
     StoredIf (finds_room (length room) t k (kept_at k (take count room)) part) (kept_at k (take count room)) part count room count' room'

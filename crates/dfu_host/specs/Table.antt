@@ -18,7 +18,7 @@ work_start ToFetch = Fetch 0 []
 work_start (ToVerify payload) = Block 0
 work_start (ToCompare payload) = Compare 0
 
--- The blocks of t bytes of a session's payload; an upload has none.
+-- The blocks of t bytes of a session's payload; an upload has no blocks.
 abbrev pub blocks_of : Goal → ℕ → List (List ℕ)
 blocks_of (ToLoad payload) t = blocks payload t
 blocks_of ToFetch t = []
@@ -129,7 +129,7 @@ fetched t k kept bytes =
     else if nat_lt (length bytes) t then LastUploaded (kept ++ bytes)
     else Find
 
--- Compare: an answer that is the block of that number, or none where there is no such block, or another answer, or one that is too long.
+-- Compare: an answer that is the block of that number (empty if there is no such block), or another answer, or one that is too long.
 -- A shorter one than a full one is the image's last.
 abbrev pub compared_phase : (t k : ℕ) → (block bytes : List ℕ) → Phase
 compared_phase t k block bytes =
@@ -138,51 +138,51 @@ compared_phase t k block bytes =
     else if suc k == 65535 then Over report.TooManyBlocks else Compare (suc k))
     else Last report.Different
 
--- What follows the last reset: the report, or, where the payload is to be compared, a new beginning.
+-- What follows the last reset: the report, or, if the payload is to be compared, a new beginning.
 abbrev pub after_last : Goal → Report → Phase
 after_last (ToVerify payload) report = Find
 after_last goal report = Over report
 
--- What follows GETSTATUS: by the status, by a stall, or by nothing, which is all else that is heard.
+-- What follows GETSTATUS: by the status, by a stall, or by anything else that is heard.
 abbrev pub on_status : Heard → (Code → ℕ → State → Phase) → (stalled nothing : Phase) → Phase
 on_status (Status c poll s) told stalled nothing = told c poll s
 on_status Stalled told stalled nothing = stalled
 on_status heard told stalled nothing = nothing
 
--- What follows GETSTATE: by the state, by a stall, or by nothing, which is all else that is heard.
+-- What follows GETSTATE: by the state, by a stall, or by anything else that is heard.
 abbrev pub on_state : Heard → (State → Phase) → (stalled nothing : Phase) → Phase
 on_state (StateIs s) told stalled nothing = told s
 on_state Stalled told stalled nothing = stalled
 on_state heard told stalled nothing = nothing
 
--- What follows a request without an answer of bytes: by its acknowledgement, by a stall, or by nothing, which is all else that is heard.
+-- What follows a request without an answer of bytes: by its acknowledgement, by a stall, or by anything else that is heard.
 abbrev pub on_ack : Heard → (acked stalled nothing : Phase) → Phase
 on_ack Acked acked stalled nothing = acked
 on_ack Stalled acked stalled nothing = stalled
 on_ack heard acked stalled nothing = nothing
 
--- What follows a wait: whatever else is heard, it is asked again until it was waited.
+-- What follows a wait: if anything else is heard, the session waits again.
 abbrev pub on_waited : Heard → (waited again : Phase) → Phase
 on_waited Waited waited again = waited
 on_waited heard waited again = again
 
--- What follows a reset: whatever else is heard, it is asked again until it was done.
+-- What follows a reset: if anything else is heard, the session resets again.
 abbrev pub on_reset : Heard → (done again : Phase) → Phase
 on_reset WasReset done again = done
 on_reset heard done again = again
 
--- What follows UPLOAD: by the bytes of a part, or, where no memory was found for them, the end. All else that is heard goes to Find.
+-- What follows UPLOAD: by the bytes of a part, or the end, if there was no memory for them. All else that is heard goes to Find.
 abbrev pub on_part : (t k : ℕ) (kept : List ℕ) → Heard → Phase
 on_part t k kept (Part bytes) = fetched t k kept bytes
 on_part t k kept NoRoom = Over report.NoMemory
 on_part t k kept heard = Find
 
--- What follows UPLOAD where the image is compared: by the bytes. All else that is heard goes to Find.
+-- What follows UPLOAD when the image is compared: by the bytes. All else that is heard goes to Find.
 abbrev pub on_compared : (t k : ℕ) → (block : List ℕ) → Heard → Phase
 on_compared t k block (Part bytes) = compared_phase t k block bytes
 on_compared t k block heard = Find
 
--- The table, but for a restart of the device, one that left of itself, and the budget: the phase that follows.
+-- The table: the phase that follows, without a restart of the device, one that left of itself, and the budget.
 abbrev pub host_row : Task → Phase → Heard → Phase
 host_row task Find heard = on_status heard (λ c poll s. listed (work_start task.goal) s poll) FindAgain Find
 host_row task FindAgain heard = on_status heard (λ c poll s. listed (work_start task.goal) s poll) ResetFind FindAgain
@@ -215,11 +215,11 @@ abbrev pub goal_after_reset : Goal → Goal
 goal_after_reset (ToVerify payload) = ToCompare payload
 goal_after_reset goal = goal
 
--- The goal that follows, beside the phase: it stays, but after the last reset.
+-- The goal that follows, beside the phase: it changes only after the last reset.
 abbrev pub goal_after : Goal → Phase → Heard → Goal
 goal_after goal (Last report) WasReset = goal_after_reset goal
 goal_after goal phase heard = goal
 
--- The task that follows, beside the phase: all of it but the goal stays.
+-- The task that follows, beside the phase: only the goal changes.
 abbrev pub task_after : Task → Phase → Heard → Task
 task_after task phase heard = record task { goal = goal_after task.goal phase heard }

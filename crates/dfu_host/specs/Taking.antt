@@ -5,7 +5,7 @@ use Rattle.dfu_host.specs.Host.{HostState, HostRow, IsOver}
 use Rattle.dfu_host.specs.Budget.{takes_left}
 use Rattle.dfu_host.specs.Uploading.{TakesPart}
 
--- A host is told what was seen: a row of the table, within the budget; one that is done stays as it is, and a part is taken as that.
+-- A host gets what was seen: a row of the table, within the budget. One that is done doesn't change, and a part is taken as that.
 pub record Takes (h : HostState) (seen : Seen) (h' : HostState) : Type 0 where
   pub row : HostRow h seen h'
   pub budget : takes_left h' ≤ takes_left h - 1

@@ -1,4 +1,4 @@
--- Laws of a session's task: whatever is heard, all but its goal stays, since that is said by its device's descriptor.
+-- Laws of a session's task: whatever is heard, only its goal changes, since the rest is from the device's descriptor.
 use Rattle.std.proofs.Common.{◌≡◌, ℕ, zero, suc, Bool, true, false, refl, sym, subst}
 use Rattle.dfu_host.specs.Phases.{Task, Phase, Find, GiveUp, Last, Over, OverUploaded, Heard, Restarted, Left}
 use Rattle.dfu_host.specs.BehindClose.{is_behind_close}

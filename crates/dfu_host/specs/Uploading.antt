@@ -26,8 +26,8 @@ upload_faults = fault.CannotUpload ∷ fault.BadDescriptor ∷ []
 abbrev pub first_upload_fault : Functional → Option HostFault
 first_upload_fault functional = find (refuses_upload functional) upload_faults
 
--- Bytes that come for part k are taken as the part, or there was no memory for them: that is so in uploads alone, and they needed some.
--- Of all else that is seen nothing is said here.
+-- Bytes that come for part k are taken as the part, or there was no memory for them: only in uploads, and only if they needed some.
+-- Nothing is said here about anything else that is seen.
 abbrev pub TakesAsPart : HostState → (k : ℕ) → Seen → HostState → Type 0
 TakesAsPart h k (seen.Bytes bytes) h' =
     (h' ≡ after h (Part bytes.now)) ⊎ ((h' ≡ after h NoRoom) × (h.task.goal ≡ ToFetch) × NeedsRoom h.task.transfer k (length bytes.now))
@@ -39,7 +39,7 @@ TakesAsPart h k seen.WasReset h' = Unit {0}
 TakesAsPart h k seen.Restarted h' = Unit {0}
 TakesAsPart h k seen.Left h' = Unit {0}
 
--- What is seen where a part is fetched is taken as that part. Of the phases that fetch none nothing is said here.
+-- What is seen when a part is fetched is taken as that part. Nothing is said here about phases that fetch no part.
 abbrev pub TakesPart : HostState → Phase → Seen → HostState → Type 0
 TakesPart h phase seen h' = elim (class_of phase) [
   | Common ↦ Unit {0}

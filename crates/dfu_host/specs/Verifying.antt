@@ -4,8 +4,7 @@ use Rattle.dfu_host.specs.declared.report.Report.{Report}
 use Rattle.dfu_host.specs.declared.report.Report.TheVariants as report
 use Rattle.dfu_host.specs.declared.seen.Seen.{Seen}
 use Rattle.dfu_host.specs.Phases.{ToVerify, ToCompare, Phase, Compare, Last, Over}
-use Rattle.dfu_host.specs.PhaseClasses.{Common, Sending, Closing, Manifesting, Fetching, Comparing, Ending, EndingUpload, Ended, EndedUpload, class_of}
-use Rattle.dfu_host.specs.CommonPhases.{IsCommon}
+use Rattle.dfu_host.specs.CommonPhases.{IsCommon, IsOfDownload}
 use Rattle.dfu_host.specs.Host.{HostState, HostRows}
 
 -- A report of such a session: any but those with which a download ends that is not verified, and that of an upload.
@@ -22,20 +21,9 @@ IsOwn report.NoMemory = ⊥
 IsOwn report.Verified = Unit {0}
 IsOwn report.Different = Unit {0}
 
--- Its phases up to its last reset: those of a download, but that it is over only with a report of its own.
+-- Its phases up to its last reset: those of a download, which may end. It is over only with a report of its own.
 abbrev pub IsInstalling : Phase → Type 0
-IsInstalling phase = elim (class_of phase) [
-  | Common ↦ Unit {0}
-  | Sending n ↦ Unit {0}
-  | Closing ↦ Unit {0}
-  | Manifesting ↦ Unit {0}
-  | Fetching k kept ↦ ⊥
-  | Comparing k ↦ ⊥
-  | Ending report ↦ Unit {0}
-  | EndingUpload kept ↦ ⊥
-  | Ended report ↦ IsOwn report
-  | EndedUpload kept ↦ ⊥
-]
+IsInstalling phase = IsOfDownload (λ report. Unit {0}) IsOwn phase
 
 -- Its phases from then on.
 abbrev pub IsComparing : Phase → Type 0

@@ -1,4 +1,4 @@
--- What of the host's table goes over the wire: its actions as setups, and what is seen as what is understood.
+-- How the host's table goes over the wire: its actions as setups, and what is seen as what is understood.
 use Rattle.std.specs.Prelude.{◌≡◌, ◌≢◌, ◌⊎◌, ℕ, suc, ◌<◌, ◌==◌, nat_lt, ◌&&◌, ◌||◌, not, Bool, IsTrue, List, [], ◌∷◌, length}
 use Rattle.dfu_wire.specs.declared.setups.Setup.{Setup}
 use Rattle.dfu_wire.specs.declared.states.State.{State}
@@ -14,14 +14,14 @@ use Rattle.dfu_host.specs.declared.seen.Seen.{Seen}
 use Rattle.dfu_host.specs.declared.seen.Seen.TheVariants as seen
 use Rattle.dfu_host.specs.Phases.{Deed, Send, Wait, Reset, Done, Heard, Acked, Status, StateIs, Part, NoRoom, Stalled, Nothing, Waited, WasReset, Restarted, Left}
 
--- The eight bytes are a setup that asks for this, with 0 where its value has no meaning.
+-- The eight bytes are a setup that asks for this request. A field without a meaning is 0.
 pub record IsAsked (q : Request) (bytes : List ℕ) : Type 0 where
   pub setup : Setup
   pub fields : IsSetup setup bytes
   pub asks : Asks setup q
   pub plain : IsPlain setup q
 
--- An action as it is handed out: a request is the bytes of its setup, with its body. No other pair spells.
+-- An action as the caller gets it: a request is the bytes of its setup, with its body. No other pair spells.
 abbrev pub Spells : Deed → Action → Type 0
 Spells (Send q body) (action.Send setup given) = IsAsked q setup × (given.now ≡ body)
 Spells (Wait ms) (action.Wait given) = given ≡ ms
@@ -29,7 +29,7 @@ Spells Reset action.Reset = Unit {0}
 Spells (Done report) (action.Done given) = given ≡ report
 Spells deed given = ⊥
 
--- Bytes that answer GETSTATUS are the status that they spell; where they spell none, it is as if nothing came.
+-- Bytes that answer GETSTATUS are the status that they spell; if they spell none, it is as if nothing came.
 abbrev pub ReadsStatus : List ℕ → Heard → Type 0
 ReadsStatus bytes (Status code poll state) = IsStatus (record { code = code; poll_ms = poll; state = state }) bytes
 ReadsStatus bytes Nothing = (s : StatusFields) → IsStatus s bytes → ⊥
@@ -41,8 +41,8 @@ ReadsState bytes (StateIs state) = bytes ≡ state_byte state ∷ []
 ReadsState bytes Nothing = (state : State) → bytes ≢ state_byte state ∷ []
 ReadsState bytes heard = ⊥
 
--- Part k of an upload is kept where it is shorter than a block, which makes it the last, or where it is full, but for the full one that is
--- one too many.
+-- Part k of an upload is kept if it is shorter than a block, which makes it the last, or if it is full, except the full one that is one
+-- too many.
 abbrev pub is_kept : (t k length : ℕ) → Bool
 is_kept t k length = nat_lt length t || ((length == t) && not (suc k == 65535))
 
@@ -51,7 +51,7 @@ pub record NeedsRoom (t k length : ℕ) : Type 0 where
   pub kept : IsTrue (is_kept t k length)
   pub some : 0 < length
 
--- Bytes that answer a request: to UPLOAD they are a part, or, where that part needs memory, there may have been none for it; every other
+-- Bytes that answer a request: to UPLOAD they are a part, or, if that part needs memory, there may have been none for it. Every other
 -- request has no answer of bytes, and it is as if nothing came. The number in an UPLOAD is that of the part, since only the parts 0 to
 -- 65,534 are asked for.
 abbrev pub ReadsAnswer : Request → List ℕ → Heard → Type 0
@@ -60,7 +60,7 @@ ReadsAnswer (request.GetState len) bytes heard = ReadsState bytes heard
 ReadsAnswer (request.Upload block len) bytes heard = (heard ≡ Part bytes) ⊎ ((heard ≡ NoRoom) × NeedsRoom len block (length bytes))
 ReadsAnswer q bytes heard = heard ≡ Nothing
 
--- Bytes that come of an action: where the action is anything but a request, it is as if nothing came.
+-- Bytes that come of an action: if the action is not a request, it is as if nothing came.
 abbrev pub HearsBytes : Deed → List ℕ → Heard → Type 0
 HearsBytes (Send q body) bytes heard = ReadsAnswer q bytes heard
 HearsBytes deed bytes heard = heard ≡ Nothing

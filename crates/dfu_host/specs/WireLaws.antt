@@ -48,7 +48,7 @@ IsReadOnce request.Abort = Unit {0}
 IsReadOnce request.OtherClass = Unit {0}
 IsReadOnce request.NotDfu = Unit {0}
 
--- An action of which what is seen is understood in one way: any but an UPLOAD.
+-- An action whose result is understood in one way: any but an UPLOAD.
 abbrev pub IsHeardOnce : Deed → Type 0
 IsHeardOnce (Send q body) = IsReadOnce q
 IsHeardOnce (Wait ms) = Unit {0}

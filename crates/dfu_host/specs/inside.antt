@@ -1,4 +1,4 @@
--- Words that only this crate's own functions cite: what the values of the code stand for, and what becomes of a part in memory.
+-- Definitions that only this crate's own functions cite: what the values of the code mean, and what becomes of a part in memory.
 pub mod View
 pub mod Comparing
 pub mod HeardParts

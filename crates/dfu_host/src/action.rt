@@ -6,10 +6,10 @@ use crate::report::Report;
 #[derive(Clone, Copy, Debug, PartialEq, Eq)]
 pub enum Action<'f> {
     /// Send this request (USB DFU 1.1, section 3). `body` is what goes out with it: a block of
-    /// the payload with a DNLOAD, else nothing. The answer is asked for where the setup's first
-    /// byte is A1h.
+    /// the payload with a DNLOAD, else nothing. If the setup's first byte is A1h, the device
+    /// answers with bytes.
     Send { setup: [u8; 8], body: &'f [u8] },
-    /// Wait for so many milliseconds, 0 to 16,777,215.
+    /// Wait for this many milliseconds, 0 to 16,777,215.
     Wait(u32),
     /// Reset the bus.
     Reset,

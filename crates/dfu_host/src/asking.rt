@@ -1,4 +1,4 @@
-//! The action of each phase, as it is handed out.
+//! The action of each phase, as the caller gets it.
 
 ghost use Rattle.std.specs.Prelude.{◌≡◌, ◌≤◌, ◌*◌, ◌<◌, ◌^◌, List, ℕ, drop, length, take};
 ghost use Rattle.dfu_wire.specs.Request.{IsUnnamed};
@@ -49,7 +49,7 @@ impl<'f> Task<'f> {
         }
     }
 
-    /// A wait where the device detaches by itself, of 1 ms at least, else a reset.
+    /// If the device detaches by itself, a wait of 1 ms at least; else a reset.
     fn entering(&self) -> Action<'f>
         ensures spells { Spells (table.deed (task_of self.now) table.Enter) result }
         ensures cut { (payload : List ℕ) (from : ℕ) → BodyIsCut payload from result }

@@ -15,8 +15,8 @@ use crate::task::Task;
 use dfu_wire::{Code, State, Status};
 
 impl Task<'_> {
-    /// What follows a status where something was refused: dfuERROR with a code of its own ends
-    /// the session, and all else goes by the list.
+    /// What follows the status after a refusal: dfuERROR with a code of its own ends the session,
+    /// and every other status goes by the list.
     pub(crate) fn troubled(&self, status: Status) -> Phase
         ensures next { (memory : List ℕ)
             → phase_of memory result ≡ table.troubled (table.work_start (goal_of self.now.goal)) status.code status.poll_ms status.state }
@@ -31,57 +31,7 @@ impl Task<'_> {
         }
     }
 
-    /// GETSTATUS, to learn whether the new image is in place.
-    pub(crate) fn after_manifest(&self, heard: Heard) -> Phase
-        ensures next { (memory part : List ℕ) → phase_of memory result
-            ≡ table.host_row (task_of self.now) table.Manifest (heard_of part heard) }
-        ensures within { IsWithin self.now.goal self.now.transfer result }
-    {
-        match heard {
-            Heard::Told(status) => self.manifested(status),
-            Heard::Stalled => Phase::Trouble,
-            _ => Phase::Manifest,
-        }
-    }
-
-    /// A wait until the new image should be in place.
-    pub(crate) fn after_wait_manifest(&self, poll_ms: u32, heard: Heard) -> Phase
-        ensures next { (memory part : List ℕ)
-            → phase_of memory result ≡ table.host_row (task_of self.now) (table.WaitManifest poll_ms) (heard_of part heard) }
-        ensures within { IsWithin self.now.goal self.now.transfer result }
-    {
-        match heard {
-            Heard::Waited => Phase::Manifest,
-            _ => Phase::WaitManifest(poll_ms),
-        }
-    }
-
-    /// The same wait, for a device that won't answer after it.
-    pub(crate) fn after_wait_last(&self, poll_ms: u32, heard: Heard) -> Phase
-        ensures next { (memory part : List ℕ)
-            → phase_of memory result ≡ table.host_row (task_of self.now) (table.WaitLast poll_ms) (heard_of part heard) }
-        ensures within { IsWithin self.now.goal self.now.transfer result }
-    {
-        match heard {
-            Heard::Waited => Phase::Last(Report::Unconfirmed),
-            _ => Phase::WaitLast(poll_ms),
-        }
-    }
-
-    /// GETSTATUS, to learn why something was refused.
-    pub(crate) fn after_trouble(&self, heard: Heard) -> Phase
-        ensures next { (memory part : List ℕ) → phase_of memory result
-            ≡ table.host_row (task_of self.now) table.Trouble (heard_of part heard) }
-        ensures within { IsWithin self.now.goal self.now.transfer result }
-    {
-        match heard {
-            Heard::Told(status) => self.troubled(status),
-            Heard::Stalled => Phase::FindAgain,
-            _ => Phase::Trouble,
-        }
-    }
-
-    /// Whether a session in this phase stands behind the close.
+    /// Whether the close precedes this phase of a session.
     pub(crate) fn is_behind_close(&self, phase: Phase) -> bool
         ensures { (memory : List ℕ) → result ≡ is_behind_close (goal_of self.now.goal) (phase_of memory phase) }
     {
@@ -107,8 +57,8 @@ impl Task<'_> {
         }
     }
 
-    /// What follows a status that was asked for behind the close.
-    fn manifested(&self, status: Status) -> Phase
+    /// What follows the status that was asked for after the close.
+    pub(crate) fn manifested(&self, status: Status) -> Phase
         ensures next { (memory : List ℕ)
             → phase_of memory result
             ≡ table.manifested (table.work_start (goal_of self.now.goal)) self.now.tolerant status.code status.poll_ms status.state }
@@ -121,7 +71,7 @@ impl Task<'_> {
         }
     }
 
-    /// What a tolerant device's status says of the new image: dfuIDLE with OK alone is an install.
+    /// What a tolerant device's status says about the new image: only dfuIDLE with OK is an install.
     fn confirmed(&self, status: Status) -> Phase
         ensures next { (memory : List ℕ)
             → phase_of memory result
@@ -135,7 +85,7 @@ impl Task<'_> {
         }
     }
 
-    /// What the status of a device that isn't tolerant says of it: nothing confirms an install.
+    /// What the status of a device that isn't tolerant says about it: nothing confirms an install.
     fn unconfirmed(&self, status: Status) -> Phase
         ensures next { (memory : List ℕ)
             → phase_of memory result

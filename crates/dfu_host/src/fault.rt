@@ -5,20 +5,20 @@ ghost use Rattle.dfu_host.specs.FaultName.{host_fault_name};
 
 use thiserror::Error;
 
-/// Why a session does not begin. A call answers the first that holds, in this order.
+/// Why a session does not begin. A call returns the first that holds, in this order.
 #[derive(Clone, Copy, Debug, PartialEq, Eq, Error)]
 pub enum HostFault {
-    /// The file's payload has no bytes. Of downloads alone.
+    /// The file's payload has no bytes. Only for downloads.
     #[error("the payload is empty")]
     EmptyPayload,
     /// The file's vendor is neither FFFFh nor the device's, or its product is neither FFFFh nor
-    /// the device's. The release of the device isn't compared. Of downloads alone.
+    /// the device's. The release of the device isn't compared. Only for downloads.
     #[error("the file is for another device")]
     WrongTarget,
-    /// The descriptor has bitCanDnload 0. Of downloads alone.
+    /// The descriptor has bitCanDnload 0. Only for downloads.
     #[error("the device takes no downloads")]
     CannotDownload,
-    /// The descriptor has bitCanUpload 0. Of uploads alone.
+    /// The descriptor has bitCanUpload 0. Only for sessions that ask for the image.
     #[error("the device gives no uploads")]
     CannotUpload,
     /// The descriptor's transfer size is 0.
@@ -27,7 +27,7 @@ pub enum HostFault {
 }
 
 impl HostFault {
-    /// The name of the fault, that of its variant, as `EmptyPayload`.
+    /// The name of the fault, which is its variant's, as `EmptyPayload`.
     pub fn name(self) -> &'static str
         ensures { result.now ≡ host_fault_name self }
     {

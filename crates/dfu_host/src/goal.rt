@@ -4,7 +4,7 @@ ghost use Rattle.std.specs.Prelude.{◌≡◌, IsTrue, false};
 ghost use Rattle.dfu_host.specs.BehindClose.{installs};
 ghost use Rattle.dfu_host.specs.Goals.{IsFetch, goal_of, payload_of};
 
-/// What a session is for. It takes no memory: what an upload keeps is its caller's.
+/// What a session is for. It takes no memory: the caller keeps what an upload fetches.
 #[derive(Clone, Copy)]
 pub enum Goal<'f> {
     /// To install a payload, which has at least one byte.
@@ -18,7 +18,7 @@ pub enum Goal<'f> {
 }
 
 impl<'f> Goal<'f> {
-    /// The payload that is sent or compared; an upload has none.
+    /// The payload that is sent or compared; empty for an upload.
     pub(crate) fn payload(&self) -> &'f [u8]
         ensures { result.now ≡ payload_of self.now }
     {

@@ -1,4 +1,4 @@
-//! What is understood of what is seen.
+//! How a host understands what it sees.
 
 ghost use Rattle.std.specs.Prelude.{◌≡◌, List, ℕ, length};
 ghost use Rattle.dfu_host.specs.inside.Comparing.{Compares};
@@ -17,15 +17,15 @@ use crate::seen::Seen;
 use crate::task::Task;
 use dfu_wire::{State, Status};
 
-/// What is understood of what is seen of an action.
+/// What a host understands of what came of its action.
 #[derive(Clone, Copy)]
 pub(crate) enum Heard {
     Acked,
     Told(Status),
     StateIs(State),
-    /// A part of an upload, of so many bytes. It is kept by now.
+    /// A part of an upload, of this many bytes. It is kept by now.
     Part(usize),
-    /// A part of an image that is compared, of so many bytes, and whether it is the payload's.
+    /// A part of an image that is compared: whether it is the payload's, and how many bytes it has.
     Compared { same: bool, len: usize },
     /// A part of an upload for which there was no memory.
     NoRoom,
@@ -38,9 +38,9 @@ pub(crate) enum Heard {
 }
 
 impl Task<'_> {
-    /// What is understood of what is seen in a phase: bytes are read as the answer to the phase's
-    /// request, and where they are none, it is as if nothing came. A part of an upload is kept or
-    /// refused by now; one of a comparison is compared.
+    /// What a host understands of what it sees in a phase. Bytes are read as the answer to the
+    /// phase's request; if they are not an answer, it is as if nothing came. A part of an upload is
+    /// kept or refused by now; one of a comparison is compared.
     pub(crate) fn hear(&self, phase: Phase, seen: Seen<'_>, refused: bool) -> Heard
         requires { IsWithin self.now.goal self.now.transfer phase }
         ensures hears { (memory : List ℕ) → Hears (deed (task_of self.now) (phase_of memory phase)) seen.entry

@@ -18,8 +18,8 @@ use std::marker::Model;
 
 /// A host in a session (USB DFU 1.1, appendix A, seen from the host's side).
 ///
-/// It does nothing itself: its caller does what `next` asks for, and tells `take` what came of it,
-/// until `next` answers `Done`. It takes memory for the parts of an upload alone. Contracts see it
+/// It does nothing itself: its caller does what `next` asks for and gives `take` what came of it,
+/// until `next` returns `Done`. It takes memory only for the parts of an upload. Contracts see it
 /// as a `HostState`: the task, the phase with what an upload keeps, and the actions and restarts
 /// that are left.
 #[derive(Drop)]
@@ -128,18 +128,18 @@ impl<'f> Host<'f> {
         self.session.next()
     }
 
-    /// Where the session stands.
+    /// The phase of the session.
     pub fn phase(&self) -> Phase
         ensures { IsPhase self.now.phase result }
     {
         self.session.parts().phase
     }
 
-    /// Tells the host what came of its action. Whatever it is told, it is done after at most
-    /// `actions` calls, or after one where the limits have 0; then nothing changes any more.
+    /// Gives the host what came of its action. Whatever came, the host is done after at most
+    /// `actions` calls, or after one if the limits have 0. Then nothing changes any more.
     ///
-    /// A part of an upload, 1 byte or more, takes memory where what is kept has to grow. Where
-    /// that is refused, the session ends with the report NoMemory.
+    /// A part of an upload, 1 byte or more, takes memory if what is kept has to grow. If that is
+    /// refused, the session ends with the report NoMemory.
     pub fn take(&mut self, seen: Seen<'_>)
         ensures row { HostRow self.old seen.entry self.new }
         ensures budget { takes_left self.new ≤ takes_left self.old - 1 }
@@ -150,9 +150,9 @@ impl<'f> Host<'f> {
         self.session.on_result(seen, refused);
     }
 
-    /// Gives the session up: what the host wants next is ABORT, and whatever comes of it, the
-    /// report is Aborted. Nothing but the phase changes, and nothing where the host is done. Where
-    /// a download is given up in its last steps, the new image may be in place all the same.
+    /// Gives the session up: the host asks for ABORT next, and whatever comes of it, the report is
+    /// Aborted. Only the phase changes, and nothing if the host is done. If a download is given up
+    /// in its last steps, the new image may be in place all the same.
     pub fn abort(&mut self)
         ensures { self.new ≡ aborted self.old }
     {

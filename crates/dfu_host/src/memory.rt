@@ -9,7 +9,7 @@ use crate::part::UploadPart;
 use crate::seen::Seen;
 use crate::session::Session;
 
-/// The memory of a host: a vector for the parts of an upload, which grows, or none.
+/// The memory of a host: a vector for the parts of an upload, which grows, or nothing.
 #[derive(Drop)]
 pub(crate) enum Memory {
     Nothing,
@@ -17,7 +17,7 @@ pub(crate) enum Memory {
 }
 
 impl Memory {
-    /// Keeps the part of what a session sees, and says whether it was refused.
+    /// Keeps the part in what a session sees, and returns whether it was refused.
     pub(crate) fn refuses(&mut self, session: &Session<'_>, seen: Seen<'_>) -> bool
         ensures { Kept session.now.transfer session.now.phase seen.entry result (bytes_of self.old) (bytes_of self.new) }
     {
@@ -27,8 +27,8 @@ impl Memory {
         }
     }
 
-    /// Stores a part, and says whether it was refused: that comes only where there is no vector, or
-    /// the vector had no room for it and a growth was refused.
+    /// Stores a part, and returns whether it was refused: only if there is no vector, or if the
+    /// vector had no room for it and could not grow.
     fn refuses_part(&mut self, part: &UploadPart<'_>) -> bool
         ensures { Stored part.now.number part.now.bytes.now result (bytes_of self.old) (bytes_of self.new) }
     {
@@ -49,7 +49,7 @@ impl Memory {
     }
 }
 
-/// Stores a part in a vector, and says whether that is full.
+/// Stores a part in a vector, and returns whether the vector was full.
 fn is_full(kept: &mut Vec<u8>, part: &UploadPart<'_>) -> bool
     ensures stored { Stored part.now.number part.now.bytes.now result kept.old.items kept.new.items }
     ensures full { IsTrue result → vec_capacity kept.old < length (kept_at part.now.number kept.old.items) + length part.now.bytes.now }

@@ -21,11 +21,11 @@ pub struct Parts<'f> {
     pub will_detach: bool,
     /// The descriptor's wDetachTimeOut, in milliseconds.
     pub detach_ms: u16,
-    /// Where it stands.
+    /// Its phase.
     pub phase: Phase,
     /// The actions that are left.
     pub actions: u32,
-    /// The restarts of the device that are still taken.
+    /// How many more restarts of the device are taken.
     pub restarts: u16,
 }
 

@@ -1,12 +1,12 @@
-//! Where a session stands.
+//! The phases of a session.
 
 use crate::report::Report;
 
-/// Where a session stands, with what it has to remember there. Blocks are counted from 0, poll
-/// times are in milliseconds.
+/// A phase of a session, with what the session has to remember in it. Blocks are counted from 0,
+/// poll times are in milliseconds.
 #[derive(Clone, Copy)]
 pub enum Phase {
-    /// Ask for the status, to find out where the device stands.
+    /// Ask for the status, to find the device's state.
     Find,
     /// The same, after a stall.
     FindAgain,
@@ -38,7 +38,7 @@ pub enum Phase {
     Manifest,
     /// It isn't yet: wait, then ask again.
     WaitManifest(u32),
-    /// The device won't tell: wait, then end unconfirmed.
+    /// The device won't report it: wait, then end unconfirmed.
     WaitLast(u32),
     /// Something was refused: ask for the reason.
     Trouble,

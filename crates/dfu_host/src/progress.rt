@@ -24,11 +24,11 @@ pub(crate) struct Progress {
     pub(crate) phase: Phase,
     /// The actions that are left.
     pub(crate) actions: u32,
-    /// The restarts of the device that are still taken.
+    /// How many more restarts of the device are taken.
     pub(crate) restarts: u16,
 }
 
-/// Where a session begins, with at least one action.
+/// The first phase of a session, with at least one action.
 pub(crate) fn beginning(limits: Limits) -> Progress
     ensures { result ≡ record { phase = Phase.Find; actions = max 1 limits.actions; restarts = limits.restarts } }
 {
@@ -40,8 +40,8 @@ pub(crate) fn beginning(limits: Limits) -> Progress
 }
 
 impl Progress {
-    /// Where the session stands after one action of which this was heard, and is kept; its task
-    /// goes on with it.
+    /// The session after one action, of which this was heard, and is kept. Its task goes on with
+    /// it.
     pub(crate) fn after(self, task: &mut Task<'_>, heard: Heard) -> Progress
         requires { IsWithin task.old.goal task.old.transfer self.phase }
         ensures state { (memory memory' part : List ℕ)
@@ -61,7 +61,7 @@ impl Progress {
         }
     }
 
-    /// After one action of which the table's row takes what was heard.
+    /// After one action whose result the table's row takes.
     fn by_row(self, task: &mut Task<'_>, heard: Heard) -> Progress
         requires { IsWithin task.old.goal task.old.transfer self.phase }
         ensures state { (memory memory' part : List ℕ)
@@ -78,7 +78,7 @@ impl Progress {
         self.spent(next, self.restarts)
     }
 
-    /// After the device left of itself: behind the close that was the last reset, and confirms
+    /// After the device left of itself: after the close that was the last reset, and confirms
     /// nothing; in every other phase it is a restart.
     fn left(self, task: &mut Task<'_>) -> Progress
         ensures state { (memory old : List ℕ) → state_with memory task.new result
@@ -138,7 +138,7 @@ fn is_last_done(phase: &Phase, heard: &Heard) -> bool
     }
 }
 
-/// The phase of a session with so many actions left: without any it gives up, unless it is over.
+/// The phase of a session with this many actions left: without any it gives up, unless it is over.
 fn budgeted(left: u32, phase: Phase) -> Phase
     ensures next { (memory : List ℕ) → phase_of memory result ≡ host.budgeted left (phase_of memory phase) }
     ensures within { (task : Task) → IsWithin task.goal task.transfer phase → IsWithin task.goal task.transfer result }

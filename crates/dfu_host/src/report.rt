@@ -11,33 +11,33 @@ use dfu_wire::Code;
 /// place. All others leave open which image the device has.
 #[derive(Clone, Copy, Debug, PartialEq, Eq)]
 pub enum Report {
-    /// A tolerant device took the whole payload, told after it that it stands in dfuIDLE with
-    /// OK, and was reset.
+    /// A tolerant device took the whole payload, reported dfuIDLE with OK after it, and was
+    /// reset.
     Installed,
-    /// A device that isn't tolerant took the whole payload and was reset. It can't tell whether
-    /// the image is in place. Or a device took it, and left of itself.
+    /// A device that isn't tolerant took the whole payload and was reset. It can't report whether
+    /// the image is in place. Or a device took the payload and left of itself.
     Unconfirmed,
     /// The caller gave the session up.
     Aborted,
     /// The budget of actions is spent.
     GaveUp,
-    /// After a stall, or in the midst of the download, the device stood in dfuERROR with this
-    /// code, which is neither OK nor errSTALLEDPKT.
+    /// After a stall, or during the download, the device was in dfuERROR with this code, which is
+    /// neither OK nor errSTALLEDPKT.
     Refused(Code),
     /// The device was restarted more often than the limits allow.
     RestartsSpent,
-    /// The parts came up to one that is shorter than the transfer size, which is the last. Of
-    /// uploads alone.
+    /// The parts came up to one that is shorter than the transfer size, which is the last. Only
+    /// for uploads.
     Uploaded,
     /// 65,535 full parts came, which is more than an upload or a comparison takes.
     TooManyBlocks,
-    /// There was no memory for a part of the image. Of uploads alone.
+    /// There was no memory for a part of the image. Only for uploads.
     NoMemory,
-    /// After the last reset the device gave the whole payload back, and was reset once more. Of
-    /// downloads that are verified alone.
+    /// After the last reset the device gave the whole payload back, and was reset once more. Only
+    /// for downloads that are verified.
     Verified,
-    /// After the last reset the device gave other bytes than the payload's. Of downloads that are
-    /// verified alone.
+    /// After the last reset the device gave other bytes than the payload's. Only for downloads
+    /// that are verified.
     Different,
 }
 

@@ -15,12 +15,12 @@ use crate::seen::Seen;
 use crate::session::Session;
 
 impl Session<'_> {
-    /// Tells the session what came of its action, as [`crate::Host::take`], and says how many bytes
-    /// of the caller's room are kept then. The first `kept` bytes of it are what is kept by now; a
-    /// download keeps none, and needs no room.
+    /// Gives the session what came of its action, as [`crate::Host::take`], and returns how many
+    /// bytes of the caller's room are kept then. Its first `kept` bytes are those that are kept by
+    /// now. A download keeps no bytes and needs no room.
     ///
-    /// A part of an upload is kept in the room behind those. Where it finds no room there nothing is
-    /// stored, and the session ends with the report NoMemory.
+    /// A part of an upload is stored in the room after those. If it doesn't fit, nothing is stored,
+    /// and the session ends with the report NoMemory.
     pub fn take(&mut self, room: &mut [u8], kept: usize, seen: Seen<'_>) -> usize
         requires { kept ≤ length room.old }
         ensures takes { Takes (host_of (take kept room.old) self.old) seen.entry (host_of (take result room.new) self.new) }
@@ -45,8 +45,8 @@ impl Session<'_> {
     }
 }
 
-/// Keeps the part of what a session sees, and says how many bytes are kept then. Where it finds no
-/// room nothing changes.
+/// Stores the part in what a session sees, and returns how many bytes are kept then. If it doesn't
+/// fit, nothing changes.
 fn keep(session: &Session<'_>, room: &mut [u8], kept: usize, seen: Seen<'_>) -> Option<usize>
     requires { kept ≤ length room.old }
     ensures some { IfSome result (λ n.
@@ -69,8 +69,8 @@ fn keep(session: &Session<'_>, room: &mut [u8], kept: usize, seen: Seen<'_>) -> 
     }
 }
 
-/// Stores a part behind the bytes that are kept, of which there are `kept`, and says how many are
-/// kept then. Where it finds no room nothing changes.
+/// Stores a part after the first `kept` bytes, which are kept, and returns how many are kept then.
+/// If it doesn't fit, nothing changes.
 #[tactic(auto, using(std::proofs::lemmas::Slice::overwrites))]
 fn store(room: &mut [u8], kept: usize, part: &UploadPart<'_>) -> Option<usize>
     requires { kept ≤ length room.old }

@@ -1,4 +1,4 @@
-//! What a host is told.
+//! What a host sees.
 
 /// What came of an action. What doesn't fit the action is taken as [`Seen::Nothing`].
 #[derive(Clone, Copy, Debug, PartialEq, Eq)]
@@ -15,11 +15,11 @@ pub enum Seen<'s> {
     Waited,
     /// The bus was reset.
     WasReset,
-    /// The device was restarted, or somebody else reset it. The host is told so before any later
+    /// The device was restarted, or somebody else reset it. The host gets this before any later
     /// answer.
     Restarted,
-    /// The device left the bus of itself, or came back reset, behind the close: it acknowledged the
+    /// The device left the bus of itself, or came back reset, after the close: it acknowledged the
     /// DNLOAD that closes the download, a GETSTATUS after that said dfuMANIFEST-SYNC or dfuMANIFEST,
-    /// and nobody reset it or asked it to leave. The host is told so once, before any later answer.
+    /// and nobody reset it or asked it to leave. The host gets this once, before any later answer.
     Left,
 }

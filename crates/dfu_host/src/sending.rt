@@ -12,20 +12,6 @@ use crate::task::Task;
 use dfu_wire::{State, Status};
 
 impl Task<'_> {
-    /// DNLOAD of a block.
-    pub(crate) fn after_block(&self, number: usize, heard: Heard) -> Phase
-        requires { number * self.now.transfer < length (payload_of self.now.goal) }
-        ensures next { (memory part : List ℕ)
-            → phase_of memory result ≡ table.host_row (task_of self.now) (table.Block number) (heard_of part heard) }
-        ensures within { IsWithin self.now.goal self.now.transfer result }
-    {
-        match heard {
-            Heard::Acked => Phase::Poll(number),
-            Heard::Stalled => Phase::Trouble,
-            _ => Phase::Ask(number),
-        }
-    }
-
     /// GETSTATE, to learn whether a block came whose answer was lost.
     pub(crate) fn after_ask(&self, number: usize, heard: Heard) -> Phase
         requires { number * self.now.transfer < length (payload_of self.now.goal) }
@@ -42,22 +28,8 @@ impl Task<'_> {
         }
     }
 
-    /// GETSTATUS, to learn whether a block is written.
-    pub(crate) fn after_poll(&self, number: usize, heard: Heard) -> Phase
-        requires { number * self.now.transfer < length (payload_of self.now.goal) }
-        ensures next { (memory part : List ℕ)
-            → phase_of memory result ≡ table.host_row (task_of self.now) (table.Poll number) (heard_of part heard) }
-        ensures within { IsWithin self.now.goal self.now.transfer result }
-    {
-        match heard {
-            Heard::Told(status) => self.polled(number, status),
-            Heard::Stalled => Phase::Trouble,
-            _ => Phase::Poll(number),
-        }
-    }
-
-    /// What follows a status that was asked for behind a block.
-    fn polled(&self, number: usize, status: Status) -> Phase
+    /// What follows the status that was asked for after a block.
+    pub(crate) fn polled(&self, number: usize, status: Status) -> Phase
         requires { number * self.now.transfer < length (payload_of self.now.goal) }
         ensures next { (memory : List ℕ)
             → phase_of memory result
@@ -72,33 +44,6 @@ impl Task<'_> {
             State::DownloadIdle if self.is_last(number) => Phase::Close,
             State::DownloadIdle => Phase::Block(number + 1),
             _ => self.troubled(status),
-        }
-    }
-
-    /// A wait until a block should be written.
-    pub(crate) fn after_wait_poll(&self, number: usize, poll_ms: u32, heard: Heard) -> Phase
-        requires { number * self.now.transfer < length (payload_of self.now.goal) }
-        ensures next { (memory part : List ℕ)
-            → phase_of memory result ≡ table.host_row (task_of self.now) (table.WaitPoll number poll_ms) (heard_of part heard) }
-        ensures within { IsWithin self.now.goal self.now.transfer result }
-    {
-        match heard {
-            Heard::Waited => Phase::Poll(number),
-            _ => Phase::WaitPoll(number, poll_ms),
-        }
-    }
-
-    /// DNLOAD of no bytes, which says that there are no more blocks.
-    pub(crate) fn after_close(&self, heard: Heard) -> Phase
-        requires { 0 < length (payload_of self.now.goal) }
-        ensures next { (memory part : List ℕ) → phase_of memory result
-            ≡ table.host_row (task_of self.now) table.Close (heard_of part heard) }
-        ensures within { IsWithin self.now.goal self.now.transfer result }
-    {
-        match heard {
-            Heard::Acked => Phase::Manifest,
-            Heard::Stalled => Phase::Trouble,
-            _ => Phase::AskLast,
         }
     }
 

@@ -18,8 +18,7 @@ use dfu_suffix::File;
 use dfu_wire::{Functional, Ids};
 use std::marker::Model;
 
-/// A session of a host, for a caller that keeps what an upload fetches itself. It takes no memory
-/// at all.
+/// A session of a host, for a caller that keeps what an upload fetches itself. It takes no memory.
 ///
 /// Contracts see it as its parts. With the bytes that its caller keeps they are a `HostState`, as
 /// [`crate::Host`] is one.
@@ -133,9 +132,9 @@ impl<'f> Session<'f> {
         }
     }
 
-    /// The session of these parts. It is refused exactly where they are no session's: there is
+    /// The session of these parts. None exactly if they are not those of a session: there is
     /// nothing to do, as with a payload of no bytes; the transfer size is 0; or the phase asks for
-    /// what there isn't, as a block behind the last one.
+    /// what doesn't exist, as a block after the last one.
     pub fn from_parts(parts: Parts<'f>) -> Option<Session<'f>>
         ensures some { IfSome result (λ s. s ≡ parts.entry) }
         ensures refused { (result ≡ None) ↔ (IsSession parts.entry → ⊥) }
@@ -168,8 +167,8 @@ impl<'f> Session<'f> {
         self.task.action(self.progress.phase)
     }
 
-    /// Where in the payload the body of what `next` sends begins. That body is the payload from
-    /// there on, as far as it goes; where there is none, it is 0.
+    /// The place in the payload at which the body of what `next` sends begins; 0 if that has no
+    /// body. The body is the payload from there on, as far as it goes.
     pub fn sends_from(&self) -> usize
         ensures { result ≡ begins_at self.now.transfer self.now.phase }
     {
@@ -179,7 +178,7 @@ impl<'f> Session<'f> {
         }
     }
 
-    /// The part of the image that is to be kept of what is seen, before the session is told of it.
+    /// The part of the image in what is seen that is to be kept, before the session gets it.
     pub(crate) fn part<'s>(&self, seen: Seen<'s>) -> Option<UploadPart<'s>>
         ensures some { IfSome result (λ part. (refused : Bool) (memory memory' : List ℕ)
             → Stored part.number part.bytes.now refused memory memory'
@@ -206,8 +205,8 @@ impl<'f> Session<'f> {
         }
     }
 
-    /// Tells the session what came of its action, and whether the part of the image in it, which is
-    /// kept by now, was refused.
+    /// Gives the session what came of its action, and whether the caller refused to keep the part of
+    /// the image in it.
     pub(crate) fn on_result(&mut self, seen: Seen<'_>, refused: bool)
         ensures payload { (payload : Bor (List ℕ)) → Carries payload self.old.goal → Carries payload self.new.goal }
         ensures takes { (memory memory' : List ℕ) → Kept self.old.transfer self.old.phase seen.entry refused memory memory'

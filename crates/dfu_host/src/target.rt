@@ -5,7 +5,7 @@ ghost use Rattle.dfu_host.specs.Download as download;
 
 use dfu_wire::Ids;
 
-/// What a file's vendor or product is where it goes with every device.
+/// A file's vendor or product that goes with every device.
 const ANY: u16 = 0xffff;
 
 /// Whether a file is for a device: its vendor and its product are the device's, or FFFFh.

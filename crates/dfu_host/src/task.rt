@@ -30,14 +30,14 @@ impl<'f> Task<'f> {
     ghost use Rattle.dfu_host.specs.InParts.{IsWithin};
     ghost use Rattle.dfu_host.specs.inside.View.{task_of};
 
-    /// The payload that is sent or compared; an upload has none.
+    /// The payload that is sent or compared; empty for an upload.
     fn payload(&self) -> &'f [u8]
         ensures { result.now ≡ payload_of self.now.goal }
     {
         self.goal.payload()
     }
 
-    /// Block `number`, as a slice of the payload; it is empty where there is none.
+    /// Block `number`, as a slice of the payload; empty if there is no such block.
     pub(crate) fn block(&self, number: usize) -> &'f [u8]
         ensures bytes { result.now ≡ slice_index_or (pieces (task_of self.now)) number [] }
         ensures fits { length result.now < 2 ^ 16 }
@@ -49,7 +49,7 @@ impl<'f> Task<'f> {
         &rest[..transfer.min(rest.len())]
     }
 
-    /// Where in the payload a block begins.
+    /// The place in the payload at which a block begins.
     pub(crate) fn begins(&self, number: usize) -> usize
         requires { number * self.now.transfer < length (payload_of self.now.goal) }
         ensures { result ≡ number * self.now.transfer }
@@ -68,7 +68,7 @@ impl<'f> Task<'f> {
         self.payload().len() - number * transfer <= transfer
     }
 
-    /// The task goes on: where the last reset was done, what was to be verified is compared.
+    /// The task goes on: once the last reset is done, what was to be verified is compared.
     pub(crate) fn go_on(&mut self, done: bool)
         ensures payload { (payload : Bor (List ℕ)) → Carries payload self.old.goal → Carries payload self.new.goal }
         ensures task { task_of self.new

@@ -1,5 +1,5 @@
 -- A device is asked to leave once all was compared, and not before.
-use Rattle.std.proofs.Common.{◌≡◌, ℕ, zero, suc, pred, true, false, cond, eqb, Option, Some, None, refl, sym, subst}
+use Rattle.std.proofs.Common.{◌≡◌, ℕ, pred, true, false, cond, eqb, Option, Some, None, refl, sym, subst}
 use Rattle.dfuse_host.specs.declared.plan.Plan.{Plan}
 use Rattle.dfuse_host.specs.declared.phase.Phase.{Phase}
 use Rattle.dfuse_host.specs.declared.phase.Phase.TheVariants.{On, Over}
@@ -13,16 +13,15 @@ use Rattle.dfuse_host.specs.declared.heard.Heard.{Heard}
 use Rattle.dfuse_host.specs.declared.heard.Heard.TheVariants as heard
 use Rattle.dfuse_host.specs.declared.command.Command.{Command}
 use Rattle.dfuse_host.specs.declared.command.Command.TheVariants as command
-use Rattle.dfuse_host.specs.declared.report.Report.TheVariants as report
-use Rattle.dfuse_host.specs.declared.report.Leaving.TheVariants as leaving
 use Rattle.dfuse_host.specs.declared.session.Session.{Session}
 use Rattle.dfuse_host.specs.Images.{image_start, image_end}
 use Rattle.dfuse_host.specs.Plans.{front_end, page_end, write_end}
 use Rattle.dfuse_host.specs.Settling.{stand, byte_in, can_read, sending, comparing, leaving_by, staying, to_leave, compare_front_or, to_compare_front, write_front_or, to_write_front, compare_or, to_compare, write_or, to_write, erase_or, to_erase, settle}
 use Rattle.dfuse_host.specs.Commands.{command_of, done, erased, after_write, unsure}
 use Rattle.dfuse_host.specs.Table.{read_on, row}
-use Rattle.dfuse_host.specs.Sessions.{dfuse_budgeted, spent_at, resumed, dfuse_restarted, restarted_leaving, restarted_in, dfuse_told, dfuse_after_phase}
+use Rattle.dfuse_host.specs.Sessions.{resumed, dfuse_told, dfuse_after_phase}
 use Rattle.dfuse_host.proofs.RowForms.{RowForm, stays, settles, reads, does, doubts, fails, leaves, row_form}
+use Rattle.dfuse_host.proofs.Restarts.{at_budgeted, at_restart}
 use Rattle.dfuse_host.specs.ReadBack.{Closes, ClosesIn, ClosesAlways}
 
 module _ (plan : Plan) where
@@ -146,32 +145,9 @@ module _ (plan : Plan) where
 
 -- ---- sessions
 
-at_spent_at : (w : Work) (s : Step) → ClosesIn (spent_at w s)
-at_spent_at work.Leave s = tt
-at_spent_at w s = tt
-
-at_budgeted : (n : ℕ) (p : Phase) → ClosesIn p → ClosesIn (dfuse_budgeted n p)
-at_budgeted n (Over r) c = tt
-at_budgeted zero (On s) c = at_spent_at s.work s.step
-at_budgeted (suc n) (On s) c = c
-
-at_restarted : (s : Session) (p : Phase) (n : ℕ) → ClosesIn p → ClosesIn (dfuse_restarted s p n).phase
-at_restarted s p zero c = at_budgeted (pred s.actions) (Over report.RestartsSpent) tt
-at_restarted s p (suc n) c = at_budgeted (pred s.actions) p c
-
-at_restarted_leaving : (s : Session) (p : Place) (at : Step) → ClosesIn (restarted_leaving s p at).phase
-at_restarted_leaving s p step.Close = at_budgeted (pred s.actions) (Over (report.Verified leaving.Unknown)) tt
-at_restarted_leaving s p step.CloseProbe = at_budgeted (pred s.actions) (Over (report.Verified leaving.Unknown)) tt
-at_restarted_leaving s p step.ClosePoll = at_budgeted (pred s.actions) (Over (report.Verified leaving.Unknown)) tt
-at_restarted_leaving s p at = at_restarted s (resumed s.plan work.Leave p at) s.restarts (at_resumed s.plan work.Leave p at)
-
-at_restart : (s : Session) (w : Work) (p : Place) (at : Step) → ClosesIn (restarted_in s w p at).phase
-at_restart s work.Leave p at = at_restarted_leaving s p at
-at_restart s w p at = at_restarted s (resumed s.plan w p at) s.restarts (at_resumed s.plan w p at)
-
 at_told : (s : Session) (w : Work) (p : Place) (at : Step) (x : Heard) → Closes w at → ClosesIn (dfuse_told s w p at x).phase
-at_told s w p at heard.Restarted c = at_restart s w p at
-at_told s w p at x c = at_budgeted (pred s.actions) (row s.plan w p at x) (at_row s.plan w p at x c)
+at_told s w p at heard.Restarted c = at_restart ClosesIn (λ r. tt) at_resumed s w p at
+at_told s w p at x c = at_budgeted ClosesIn (λ r. tt) (pred s.actions) (row s.plan w p at x) (at_row s.plan w p at x c)
 
 at_phase : (s : Session) (p : Phase) (x : Heard) → s.phase ≡ p → ClosesIn p → ClosesIn (dfuse_after_phase s p x).phase
 at_phase s (Over r) x e c = subst ClosesIn (sym e) tt

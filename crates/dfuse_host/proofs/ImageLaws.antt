@@ -63,7 +63,7 @@ before_some : (b c : ℕ) (t : Bool) → cond t (Some b) None ≡ Some c → b �
 before_some b c true h = cc
 before_some b c false h = cc
 
--- If there is no byte in a part, none lies there.
+-- If there is no byte in a part, no byte of it is at an address.
 pub none_in : (plan : Plan) (at end a : ℕ) → apart_from 0 plan.image.now ≡ true → HasByte a plan.image.now → byte_in plan at end ≡ None → at ≤ a → end ≤ a
 unfolding byte_in
 none_in plan at end a apart b h l =

@@ -3,6 +3,7 @@ pub mod ForCallers
 pub mod ForgetLaws
 pub mod ImageLaws
 pub mod ReadBackLaws
+pub mod Restarts
 pub mod RowForms
 pub mod RowLaws
 pub mod RunLaws

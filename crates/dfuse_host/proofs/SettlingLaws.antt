@@ -13,7 +13,7 @@ use Rattle.dfuse_host.specs.Settling.{byte_in, compare_front_or, write_front_or,
 use Rattle.dfuse_host.proofs.ImageLaws.{from_start, to_end, none_in, first_in}
 
 module _ (plan : Plan) (a : ℕ) (apart : apart_from 0 plan.image.now ≡ true) (b : HasByte a plan.image.now) where
-  -- Behind the front, or before where it is compared.
+  -- After the front, or before the address at which it is compared.
   compare_front_by : (p : Place) (at : ℕ) (o : Option ℕ) → byte_in plan at (front_end plan) ≡ o → WasReadIn plan (compare_front_or plan p o) a →
       (front_end plan ≤ a) ⊎ (a < at)
   compare_front_by p at None e h = elim (cases_lt a at) [ inl w ↦ inr w | inr w ↦ inl (none_in plan at (front_end plan) a apart b e w) ]

@@ -67,7 +67,7 @@ over_by s seen (Over r) e h = record {
   same = sym (ap (λ (p : Phase). dfuse_after_phase s p heard.Nothing) e);
 }
 
--- A session that doesn't go on is over, and stays as it is.
+-- A session that doesn't go on is over, and doesn't change.
 pub over_row : (s : Session) (seen : Seen) → ((at : Standing) → s.phase ≡ On at → ⊥) → SessionRow s seen s
 over_row s seen h = over_by s seen s.phase refl h
 

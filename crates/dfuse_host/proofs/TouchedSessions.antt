@@ -1,4 +1,4 @@
--- A session stands at bytes of the image.
+-- A session is at bytes of the image.
 use Rattle.std.proofs.Common.{◌≡◌, ℕ, zero, suc, pred, Bool, true, false, cond, eqb, refl, sym, subst, arith}
 use Rattle.dfuse_host.specs.declared.plan.Plan.{Plan}
 use Rattle.dfuse_host.specs.declared.phase.Phase.{Phase}
@@ -93,7 +93,7 @@ written_at place.Lost from at e = cc
 written_at (place.At p) from at e = written_by from at (eqb p from) e
 written_at (place.Reading p) from at e = cc
 
--- When a byte of the front is written, each byte behind the front was read back.
+-- When a byte of the front is written, each byte after the front was read back.
 pub front_is_last : FrontIsLast
 front_is_last plan (work.Erase from) p at a b h e low front behind = cc
 front_is_last plan (work.EraseAgain page end) p at a b h e low front behind = cc

@@ -8,6 +8,6 @@ use Rattle.dfuse_host.specs.Sessions.{DfuseIsOver, SessionRows}
 abbrev pub OverInTime : Type 0
 OverInTime = (s s' : Session) (seens : List Seen) → SessionRows s seens s' → max 1 s.actions ≤ length seens → DfuseIsOver s'.phase
 
--- A session that is over stays as it is, whatever is seen.
+-- A session that is over doesn't change, whatever is seen.
 abbrev pub StaysOver : Type 0
 StaysOver = (s s' : Session) (seens : List Seen) → SessionRows s seens s' → DfuseIsOver s.phase → s' ≡ s

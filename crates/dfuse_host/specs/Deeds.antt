@@ -28,7 +28,7 @@ pub data DfuseDeed : Type 0 where
 abbrev pub address_command : (number at : ℕ) → DfuseDeed
 address_command number at = Send (request.Dnload 0 5) (number ∷ to_le_bytes w32 (at % 2 ^ 32))
 
--- A DNLOAD of block 2 has bytes for where the pointer was set.
+-- A DNLOAD of block 2 has bytes for the address to which the pointer was set.
 abbrev pub dfuse_download : List ℕ → DfuseDeed
 dfuse_download body = Send (request.Dnload 2 (length body)) body
 
@@ -38,7 +38,7 @@ sends plan w (command.SetAddress at) = address_command 0x21 at
 sends plan w (command.ErasePage at) = address_command 0x41 at
 sends plan w (command.Write at) = dfuse_download (bytes_in plan at (write_end plan at (end_of_work plan w)))
 
--- The address at which a work stands.
+-- The address that a work has reached.
 abbrev pub stands_at : Work → ℕ
 stands_at (work.Erase at) = at
 stands_at (work.EraseAgain page end) = page
@@ -52,13 +52,13 @@ stands_at work.Leave = 0
 unfoldable pub read_bytes : Plan → Work → List ℕ
 read_bytes plan w = bytes_in plan (stands_at w) (read_end plan (stands_at w) (end_of_work plan w))
 
--- Where the pointer was set for what is read.
+-- The address to which the pointer was set for what is read.
 abbrev pub base_of : Place → (at : ℕ) → ℕ
 base_of place.Lost at = at
 base_of (place.At p) at = at
 base_of (place.Reading p) at = p
 
--- The number of the block that has an address: 2 where the pointer was set, and 65,535 at most.
+-- The number of the block that has an address: 2 for the address to which the pointer was set, and 65,535 at most.
 unfoldable pub upload_block : Plan → Place → (at : ℕ) → ℕ
 upload_block plan p at = (at - base_of p at) / block_size plan % 65534 + 2
 

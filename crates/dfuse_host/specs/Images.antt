@@ -2,7 +2,7 @@
 use Rattle.std.specs.Prelude.{ℕ, ◌+◌, ◌&&◌, nat_lt, nat_le, max, Bool, List, [], ◌∷◌, length, Option, Some, None, if◌then◌else◌}
 use Rattle.dfuse_host.specs.declared.element.Element.{Element}
 
--- The address behind the last byte of an element.
+-- The address after the last byte of an element.
 abbrev pub end_of : Element → ℕ
 end_of e = e.address + length e.bytes.now
 
@@ -25,7 +25,7 @@ unfoldable pub image_start : List Element → ℕ
 image_start [] = 0
 image_start (e ∷ es) = e.address
 
--- The address behind the last byte.
+-- The address after the last byte.
 unfoldable pub image_end : List Element → ℕ
 image_end [] = 0
 image_end (e ∷ es) = max (end_of e) (image_end es)

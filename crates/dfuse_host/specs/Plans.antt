@@ -9,18 +9,18 @@ use Rattle.dfuse_host.specs.Images.{end_of, element_at, image_start}
 unfoldable pub page_of : Plan → ℕ → Option Page
 page_of plan at = if nat_lt at (2 ^ 32) then page_at at plan.map.now.ranges else None
 
--- Where the page of an address begins, and ends.
+-- The addresses at which the page of an address begins and ends.
 abbrev pub page_start : Plan → ℕ → ℕ
 page_start plan at = elim (page_of plan at) [ None ↦ at | Some page ↦ page.start ]
 
 abbrev pub page_end : Plan → ℕ → ℕ
 page_end plan at = elim (page_of plan at) [ None ↦ at | Some page ↦ page.start + page.size ]
 
--- Where the element of an address ends.
+-- The address at which the element of an address ends.
 abbrev pub element_end : Plan → ℕ → ℕ
 element_end plan at = elim (element_at at plan.image.now) [ None ↦ at | Some e ↦ end_of e ]
 
--- The address behind the front: it is in one element and in one page.
+-- The address after the front, which is in one element and in one page.
 unfoldable pub front_end : Plan → ℕ
 front_end plan =
     let at = image_start plan.image.now in
@@ -30,10 +30,10 @@ front_end plan =
 abbrev pub block_size : Plan → ℕ
 block_size plan = max 1 plan.transfer
 
--- The address behind the bytes that are written at once from this one on: they are in one block, one element and one page.
+-- The address after the bytes that are written at once from this one on: they are in one block, one element and one page.
 unfoldable pub write_end : Plan → (at end : ℕ) → ℕ
 write_end plan at end = min (at + block_size plan) (min (min (element_end plan at) (page_end plan at)) end)
 
--- The address behind the bytes that are read at once: they are in one block and one element.
+-- The address after the bytes that are read at once: they are in one block and one element.
 unfoldable pub read_end : Plan → (at end : ℕ) → ℕ
 read_end plan at end = min (at + block_size plan) (min (element_end plan at) end)

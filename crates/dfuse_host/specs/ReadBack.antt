@@ -35,7 +35,7 @@ WasRead plan (work.WriteFront at) a = front_end plan ≤ a
 WasRead plan (work.CompareFront at) a = (front_end plan ≤ a) ⊎ (a < at)
 WasRead plan work.Leave a = Unit {0}
 
--- A report says of each byte that it was, or of none.
+-- A report says of all bytes that they were read back, or of no byte.
 abbrev pub SaysRead : Report → Type 0
 SaysRead (report.Verified leaving) = Unit {0}
 SaysRead r = ⊥

@@ -14,7 +14,7 @@ abbrev pub has_empty : List Element → Bool
 has_empty [] = false
 has_empty (e ∷ es) = (length e.bytes.now == 0) || has_empty es
 
--- There are none, or one of them has no bytes.
+-- There are no elements, or one of them has no bytes.
 abbrev pub is_empty : List Element → Bool
 is_empty es = (length es == 0) || has_empty es
 
@@ -78,7 +78,7 @@ IsErasable plan = IsWritablePlan plan × Grants plan (wants false true false)
 abbrev pub IsSoundPlan : Plan → Type 0
 IsSoundPlan plan = IsErasable plan × Grants plan (wants true false false)
 
--- A plan has none of the faults that are looked for before this one.
+-- A plan has no fault that is looked for before this one.
 abbrev pub NoneBefore : Plan → PlanFault → Type 0
 NoneBefore plan NoTransferSize = Unit {0}
 NoneBefore plan EmptyImage = Transfers plan

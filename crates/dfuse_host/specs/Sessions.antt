@@ -86,7 +86,7 @@ abbrev pub dfuse_told : Session → Work → Place → Step → Heard → Sessio
 dfuse_told s w p at heard.Restarted = restarted_in s w p at
 dfuse_told s w p at h = dfuse_spent s (row s.plan w p at h) s.restarts
 
--- A session that is over stays as it is, and every other takes what it hears.
+-- A session that is over doesn't change, and every other takes what it hears.
 abbrev pub dfuse_after_phase : Session → Phase → Heard → Session
 dfuse_after_phase s (Over r) h = s
 dfuse_after_phase s (On at) h = dfuse_told s at.work at.place at.step h
@@ -99,7 +99,7 @@ dfuse_after s h = dfuse_after_phase s s.phase h
 abbrev pub DfuseAct : Session → Action → Type 0
 DfuseAct s action = DfuseSpells (dfuse_deed s.plan s.phase) action
 
--- What is seen in a phase, as it is understood; of a session that is over it doesn't matter.
+-- What is seen in a phase, as it is understood; it doesn't matter if the session is over.
 abbrev pub HearsIn : Plan → Phase → Seen → Heard → Type 0
 HearsIn plan (On s) seen h = DfuseHears plan s.work s.step seen h
 HearsIn plan (Over r) seen h = Unit {0}

@@ -33,7 +33,7 @@ sending place.Lost = step.Send
 sending (place.At p) = step.Send
 sending (place.Reading p) = step.EndReading
 
--- From where the pointer was set, the bytes of this address begin a block that can be asked for, of the same element.
+-- From the address to which the pointer was set, the bytes of this address begin a block that can be asked for, of the same element.
 unfoldable pub can_read : Plan → (base at : ℕ) → Bool
 can_read plan base at =
     nat_le base at
@@ -47,7 +47,7 @@ comparing plan at place.Lost = step.Send
 comparing plan at (place.At p) = if p == at then step.BeginReading else step.Send
 comparing plan at (place.Reading base) = if can_read plan base at then step.Read else step.EndReading
 
--- Leaving: the pointer is set to where the application starts, if it isn't there.
+-- Leaving: the pointer is set to the address at which the application starts, if it isn't there.
 abbrev pub leaving_by : Plan → Place → Phase
 leaving_by plan place.Lost = stand work.Leave place.Lost step.Send
 leaving_by plan (place.At p) = if p == plan.start then stand work.Leave (place.At p) step.Close else stand work.Leave (place.At p) step.Send

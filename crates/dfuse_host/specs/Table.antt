@@ -80,7 +80,7 @@ abbrev pub on_clear_wait : Work → (ms : ℕ) → Heard → Phase
 on_clear_wait w ms heard.Waited = stand w place.Lost step.AskState
 on_clear_wait w ms h = stand w place.Lost (step.ClearWait ms)
 
--- ---- a command: DNLOAD brings it, and the GETSTATUS behind it starts it
+-- ---- a command: DNLOAD brings it, and the GETSTATUS after it starts it
 
 abbrev pub on_send : Work → Place → Heard → Phase
 on_send w p heard.Acked = stand w p (step.Poll 0)
@@ -127,7 +127,7 @@ on_poll_wait w p ms h = stand w p (step.PollWait ms)
 
 -- ---- reading back
 
--- The pointer stays where it was set when the device goes to dfuIDLE.
+-- The pointer keeps its address when the device goes to dfuIDLE.
 abbrev pub reading_begun : Place → Place
 reading_begun (place.At p) = place.Reading p
 reading_begun p = p
@@ -146,7 +146,7 @@ on_end_reading plan w p heard.Acked = settle plan w (reading_ended p)
 on_end_reading plan w p heard.Stalled = cleared w
 on_end_reading plan w p h = stand w p step.EndReading
 
--- The work behind the bytes that were read back.
+-- The work after the bytes that were read back.
 abbrev pub read_on : Plan → Work → Work
 read_on plan (work.Compare at) = work.Compare (read_end plan at (end_of_work plan (work.Compare at)))
 read_on plan (work.CompareFront at) = work.CompareFront (read_end plan at (end_of_work plan (work.CompareFront at)))

@@ -23,7 +23,7 @@ pub record IsTouched (plan : Plan) (page : ℕ) : Type 0 where
   pub has : HasByte byte plan.image.now
   pub is : page_start plan byte ≡ page
 
--- A work stands at a byte of the image, or at a page that has one; and writes behind the front, or the front.
+-- A work is at a byte of the image, or at a page that has one. It writes after the front, or the front.
 abbrev pub Touches : Plan → Work → Type 0
 Touches plan (work.Erase at) = HasByte at plan.image.now
 Touches plan (work.EraseAgain page end) = IsTouched plan page
@@ -53,7 +53,7 @@ TouchesAlways =
 abbrev pub OnlyTouched : Type 0
 OnlyTouched = (plan : Plan) (w : Work) (p : Place) → Touches plan w → ChangesOnly plan (end_of_work plan w) (command_of plan w p)
 
--- When a byte of the front is written, each byte behind the front was read back.
+-- When a byte of the front is written, each byte after the front was read back.
 abbrev pub FrontIsLast : Type 0
 FrontIsLast =
     (plan : Plan) (w : Work) (p : Place) (at a b : ℕ) → Touches plan w → command_of plan w p ≡ command.Write at → at ≤ a → a < front_end plan

@@ -27,7 +27,7 @@ pub record DfuseIsAsked (q : Request) (bytes : List ℕ) : Type 0 where
   pub asks : Asks setup q
   pub plain : IsPlain setup q
 
--- An action as it is handed out: a request is the bytes of its setup, with its body. No other pair spells.
+-- An action as the caller gets it: a request is the bytes of its setup, with its body. No other pair spells.
 abbrev pub DfuseSpells : DfuseDeed → Action → Type 0
 DfuseSpells (Send q body) (action.Send setup given) = DfuseIsAsked q setup × (given.now ≡ body)
 DfuseSpells (Send q body) (action.Command setup given) = DfuseIsAsked q setup × (given ≡ body)
@@ -51,7 +51,7 @@ DfuseReadsState bytes h = ⊥
 abbrev pub compared : (wanted bytes : List ℕ) → Heard
 compared wanted bytes = if length bytes == length wanted then heard.Compared (bytes_eq bytes wanted) else heard.Nothing
 
--- Bytes that come at a step: if the step asks for none, it is as if nothing came.
+-- Bytes that come at a step: if the step asks for no bytes, it is as if nothing came.
 abbrev pub DfuseHearsBytes : Plan → Work → Step → List ℕ → Heard → Type 0
 DfuseHearsBytes plan w step.AskState bytes h = DfuseReadsState bytes h
 DfuseHearsBytes plan w step.Probe bytes h = DfuseReadsState bytes h

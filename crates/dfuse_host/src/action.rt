@@ -10,7 +10,7 @@ pub enum Action<'f> {
     Send { setup: [u8; 8], body: &'f [u8] },
     /// Send this DNLOAD of block 0, whose body is a command of DfuSe.
     Command { setup: [u8; 8], body: [u8; 5] },
-    /// Wait for so many milliseconds, 0 to 16,777,215.
+    /// Wait for this many milliseconds, 0 to 16,777,215.
     Wait(u32),
     /// Nothing: the session is over, and this is its report.
     Done(Report),

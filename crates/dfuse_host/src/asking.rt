@@ -1,4 +1,4 @@
-//! The action of each step, as it is handed out.
+//! The action of each step, as the caller gets it.
 
 ghost use Rattle.std.specs.Prelude.{◌≡◌, ◌≤◌, ◌<◌, ◌-◌, ◌^◌, [], ◌∷◌, length};
 ghost use Rattle.dfu_wire.specs.Request.{IsUnnamed};
@@ -52,7 +52,7 @@ fn address_command<'f>(number: u8, at: u64) -> Action<'f>
     }
 }
 
-/// A DNLOAD of bytes, for where the pointer was set.
+/// A DNLOAD of bytes, for the address to which the pointer was set.
 fn download(body: &[u8]) -> Action<'_>
     requires { length body.now < 2 ^ 16 }
     ensures { DfuseSpells (deeds.dfuse_download body.now) result }
@@ -64,7 +64,7 @@ fn download(body: &[u8]) -> Action<'_>
     }
 }
 
-/// The address at which a work stands.
+/// The address that a work has reached.
 pub(crate) fn stands_at(work: Work) -> u64
     ensures { result ≡ deeds.stands_at work }
 {
@@ -79,7 +79,7 @@ pub(crate) fn stands_at(work: Work) -> u64
     }
 }
 
-/// Where the pointer was set for what is read.
+/// The address to which the pointer was set for what is read.
 fn base_of(place: Place, at: u64) -> u64
     ensures { result ≡ deeds.base_of place at }
 {
@@ -125,7 +125,7 @@ impl<'f> Plan<'f> {
         (at.saturating_sub(base_of(place, at)) / self.block_size() % 65534 + 2) as u16
     }
 
-    /// A command, as it is sent.
+    /// A command, as the caller sends it.
     fn sends(&self, work: Work, command: Command) -> Action<'f>
         ensures { DfuseSpells (deeds.sends self.now work command) result }
     {

@@ -5,7 +5,7 @@ ghost use Rattle.dfuse_host.specs.Images.{end_of, holds, element_at, next_byte, 
 
 use crate::element::Element;
 
-/// The address behind the last byte of an element.
+/// The address after the last byte of an element.
 pub(crate) fn end_of(element: &Element<'_>) -> u64
     ensures value { result ≡ end_of element.now }
     ensures fits { result < 2 ^ 63 + 2 ^ 32 }
@@ -59,7 +59,7 @@ pub(crate) fn image_start(image: &[Element<'_>]) -> u64
     image[0].address as u64
 }
 
-/// The address behind the last byte.
+/// The address after the last byte.
 #[tactic(auto, unfolding(crate::specs::Images::image_end))]
 pub(crate) fn image_end(image: &[Element<'_>]) -> u64
     ensures { result ≡ image_end image.now }

@@ -6,7 +6,7 @@ ghost use Rattle.dfuse_host.specs.ReadBack.{OnlyReadBack, ClosesAlways};
 ghost use Rattle.dfuse_host.specs.ReadInRun.{EachIsRead};
 ghost use Rattle.dfuse_host.specs.Touching.{TouchesAlways, OnlyTouched, FrontIsLast};
 
-/// Whatever is seen, a session is over after as many calls of `take` as it has actions, and after one if it has none; and then nothing
+/// Whatever is seen, a session is over after as many calls of `take` as it has actions, and after one if it has none. Then nothing
 /// changes any more.
 pub fn sessions_end()
     ensures in_time { OverInTime }
@@ -22,14 +22,14 @@ pub fn verified_is_read_back()
 {}
 
 /// Whatever is heard, a session erases only pages that have a byte of the image, and writes only bytes of the image, at once on one page.
-/// When it writes bytes of the front, each byte behind the front was read back.
+/// When it writes bytes of the front, each byte after the front was read back.
 pub fn only_touched()
     ensures always { TouchesAlways }
     ensures only { OnlyTouched }
     ensures front_last { FrontIsLast }
 {}
 
-/// After a restart nothing is known of the device's address pointer, so it is set before anything is written or read.
+/// After a restart nothing is known about the device's address pointer, so it is set before anything is written or read.
 pub fn restart_forgets_the_pointer()
     ensures { ForgetsPointer }
 {}

@@ -1,4 +1,4 @@
-//! The host of DfuSe: a machine that says which request or wait comes next until the bytes of an image stand in a device's memory,
+//! The host of DfuSe: a machine that says which request or wait comes next until the bytes of an image are stored in a device's memory
 //! and were read back.
 //!
 //! It sends nothing itself, and takes no memory.

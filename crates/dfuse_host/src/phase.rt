@@ -1,4 +1,4 @@
-//! Where a session stands.
+//! The phases of a session.
 
 use crate::place::Place;
 use crate::report::Report;
@@ -13,7 +13,7 @@ pub struct Standing {
     pub step: Step,
 }
 
-/// Where a session stands.
+/// A phase of a session.
 #[derive(Clone, Copy)]
 pub enum Phase {
     /// It goes on.

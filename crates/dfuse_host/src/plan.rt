@@ -16,7 +16,7 @@ pub struct Plan<'f> {
     pub image: &'f [Element<'f>],
     /// The most bytes of a block.
     pub transfer: u16,
-    /// How many bytes of the image are written last of all, if its first element and its first page have so many.
+    /// How many bytes of the image are written last of all, if its first element and its first page have that many.
     pub front: u16,
     /// Whether the device is to leave once all was compared.
     pub leaves: bool,
@@ -37,7 +37,7 @@ impl Plan<'_> {
         self.map.page_at(at as u32)
     }
 
-    /// Where the page of an address begins.
+    /// The address at which the page of an address begins.
     pub(crate) fn page_start(&self, at: u64) -> u64
         ensures { result ≡ page_start self.now at }
     {
@@ -47,7 +47,7 @@ impl Plan<'_> {
         }
     }
 
-    /// Where the page of an address ends.
+    /// The address at which the page of an address ends.
     pub(crate) fn page_end(&self, at: u64) -> u64
         ensures { result ≡ page_end self.now at }
     {
@@ -57,7 +57,7 @@ impl Plan<'_> {
         }
     }
 
-    /// Where the element of an address ends.
+    /// The address at which the element of an address ends.
     fn element_end(&self, at: u64) -> u64
         ensures { result ≡ element_end self.now at }
     {
@@ -67,7 +67,7 @@ impl Plan<'_> {
         }
     }
 
-    /// The address behind the front.
+    /// The address after the front.
     #[tactic(auto, unfolding(crate::specs::Plans::front_end))]
     pub(crate) fn front_end(&self) -> u64
         ensures { result ≡ front_end self.now }
@@ -85,7 +85,7 @@ impl Plan<'_> {
         (self.transfer as u64).max(1)
     }
 
-    /// The address behind the bytes that are written at once from this one on.
+    /// The address after the bytes that are written at once from this one on.
     #[tactic(auto, unfolding(crate::specs::Plans::write_end))]
     pub(crate) fn write_end(&self, at: u64, end: u64) -> u64
         ensures value { result ≡ write_end self.now at end }
@@ -95,7 +95,7 @@ impl Plan<'_> {
             .min(self.element_end(at).min(self.page_end(at)).min(end))
     }
 
-    /// The address behind the bytes that are read at once from this one on.
+    /// The address after the bytes that are read at once from this one on.
     #[tactic(auto, unfolding(crate::specs::Plans::read_end))]
     pub(crate) fn read_end(&self, at: u64, end: u64) -> u64
         ensures value { result ≡ read_end self.now at end }

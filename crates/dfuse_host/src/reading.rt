@@ -58,7 +58,7 @@ impl Plan<'_> {
         }
     }
 
-    /// The work behind the bytes that were read back.
+    /// The work after the bytes that were read back.
     fn read_on(&self, work: Work) -> Work
         ensures { result ≡ read_on self.now work }
     {

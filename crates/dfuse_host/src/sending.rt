@@ -1,4 +1,4 @@
-//! A command: DNLOAD brings it, and the GETSTATUS behind it starts it.
+//! A command: DNLOAD brings it, and the GETSTATUS after it starts it.
 
 ghost use Rattle.std.specs.Prelude.{◌≡◌};
 ghost use Rattle.dfuse_host.specs.Commands.{command_of, unsure};
@@ -86,7 +86,7 @@ impl Plan<'_> {
         }
     }
 
-    /// The status behind a command.
+    /// The status after a command.
     fn polled(&self, work: Work, place: Place, status: &Status) -> Phase
         ensures { result ≡ polled self.now work place status.now.code status.now.poll_ms status.now.state }
     {

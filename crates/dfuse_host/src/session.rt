@@ -18,7 +18,7 @@ use crate::seen::Seen;
 use crate::step::Step;
 use crate::work::Work;
 
-/// A session: what it is to do, where it stands, and what is left of its limits. It is plain data, which can be kept between two calls.
+/// A session: what it is to do, its phase, and what is left of its limits. It is plain data, which can be kept between two calls.
 #[derive(Clone, Copy)]
 pub struct Session<'f> {
     pub plan: Plan<'f>,
@@ -49,7 +49,7 @@ fn spent_at(work: Work, step: Step) -> Phase
     }
 }
 
-/// The phase of a session with so many actions left.
+/// The phase of a session with this many actions left.
 fn budgeted(left: u32, phase: Phase) -> Phase
     ensures { result ≡ dfuse_budgeted left phase }
 {
@@ -169,8 +169,8 @@ impl<'f> Session<'f> {
         self.plan.action(self.phase)
     }
 
-    /// Tells the session what came of its action. Whatever it is told, it is over after at most `actions` calls, or after one if the limits
-    /// have 0; then nothing changes any more.
+    /// Gives the session what came of its action. Whatever came, it is over after at most `actions` calls, or after one if the limits
+    /// have 0. Then nothing changes any more.
     pub fn take(&mut self, seen: Seen<'_>)
         ensures row { SessionRow self.old seen.entry self.new }
         ensures plan { self.new.plan ≡ self.old.plan }

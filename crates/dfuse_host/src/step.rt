@@ -17,7 +17,7 @@ pub enum Step {
     Send,
     /// The answer to the command was lost: ask with GETSTATE whether it came.
     Probe,
-    /// The command came: start it with GETSTATUS, or ask whether it is done. The device last said to wait so long.
+    /// The command came: start it with GETSTATUS, or ask whether it is done. The device last said to wait this long.
     Poll(u32),
     /// It isn't done yet: wait, then ask again.
     PollWait(u32),

@@ -4,31 +4,25 @@ use Rattle.std.specs.Str.{bytes_eq}
 use Rattle.dfu_host.specs.declared.phase.Phase.{Phase}
 use Rattle.dfu_host.specs.declared.phase.Phase.TheVariants as phase
 use Rattle.dfu_host.specs.declared.heard.Heard.{Heard}
-use Rattle.dfu_host.specs.declared.heard.Heard.TheVariants as heard
 use Rattle.dfu_host.specs.Phases.{Task}
 use Rattle.dfu_host.specs.Table.{pieces}
+use Rattle.dfu_host.specs.inside.HeardParts.{Came, WasCompared, HadNoRoom, NoPart, of_part}
 
--- A part as it was compared: whether it is block k, or none where there is no such block, and its length.
+-- A part as it was compared: whether it is block k (empty if there is no such block), and its length.
 pub record IsCompared (task : Task) (k : ℕ) (part : List ℕ) (same : Bool) (len : ℕ) : Type 0 where
   pub is_same : bytes_eq part (slice_index_or (pieces task) k []) ≡ same
   pub size : length part ≡ len
 
--- What is heard where part k is compared: a part only as it was compared.
+-- What is heard when part k is compared: a part only as it was compared.
 abbrev pub ComparesPart : Task → (k : ℕ) → (part : List ℕ) → Heard → Type 0
-ComparesPart task k part (heard.Compared same len) = IsCompared task k part same len
-ComparesPart task k part (heard.Part len) = ⊥
-ComparesPart task k part heard.Acked = Unit {0}
-ComparesPart task k part (heard.Told status) = Unit {0}
-ComparesPart task k part (heard.StateIs state) = Unit {0}
-ComparesPart task k part heard.NoRoom = Unit {0}
-ComparesPart task k part heard.Stalled = Unit {0}
-ComparesPart task k part heard.Nothing = Unit {0}
-ComparesPart task k part heard.Waited = Unit {0}
-ComparesPart task k part heard.WasReset = Unit {0}
-ComparesPart task k part heard.Restarted = Unit {0}
-ComparesPart task k part heard.Left = Unit {0}
+ComparesPart task k part word = elim (of_part word) [
+  | Came len ↦ ⊥
+  | WasCompared same len ↦ IsCompared task k part same len
+  | HadNoRoom ↦ Unit {0}
+  | NoPart ↦ Unit {0}
+]
 
--- What is heard in a phase, where a part may be compared.
+-- What is heard in a phase, in which a part may be compared.
 abbrev pub Compares : Task → Phase → (part : List ℕ) → Heard → Type 0
 Compares task (phase.Compare k) part word = ComparesPart task k part word
 Compares task phase part word = Unit {0}

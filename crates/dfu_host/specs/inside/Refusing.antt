@@ -9,13 +9,13 @@ use Rattle.dfu_host.specs.declared.seen.Seen.TheVariants as seen
 use Rattle.dfu_host.specs.InParts.{kept_at}
 use Rattle.dfu_host.specs.Rooms.{overflows}
 
--- Bytes that come in a phase are refused as a room of so many bytes says:
--- those of a part that was asked for exactly where it finds no room.
+-- Bytes that come in a phase are refused as by a room of this many bytes: those of a part that was
+-- asked for exactly if it overflows.
 abbrev pub RefusesBytes : (room t : ℕ) → Phase → (memory bytes : List ℕ) → (refused : Bool) → Type 0
 RefusesBytes room t (phase.Fetch k) memory bytes refused = refused ≡ overflows room t k (kept_at k memory) bytes
 RefusesBytes room t other memory bytes refused = Unit {0}
 
--- What is seen in a phase is refused as a room of so many bytes says.
+-- What is seen in a phase is refused as by a room of this many bytes.
 abbrev pub RefusesIn : (room t : ℕ) → Phase → (memory : List ℕ) → Seen → (refused : Bool) → Type 0
 RefusesIn room t phase memory (seen.Bytes bytes) refused = RefusesBytes room t phase memory bytes.now refused
 RefusesIn room t phase memory seen.Ack refused = Unit {0}
@@ -26,7 +26,7 @@ RefusesIn room t phase memory seen.WasReset refused = Unit {0}
 RefusesIn room t phase memory seen.Restarted refused = Unit {0}
 RefusesIn room t phase memory seen.Left refused = Unit {0}
 
--- What is heard of so many bytes that come in a phase: of a part that was asked for that there was no room, where it was refused, and else
+-- What is heard of this many bytes that come in a phase: of a part that was asked for, that there was no room, if it was refused, and else
 -- the part.
 abbrev pub HearsBytesBy : Phase → (size : ℕ) → (refused : Bool) → Heard → Type 0
 HearsBytesBy (phase.Fetch k) size refused word = word ≡ (if refused then heard.NoRoom else heard.Part size)

@@ -1,0 +1,48 @@
+use Rattle.dfu_host.proofs.task.Task.row.Goals as goal
+
+pub returns-in-Find-clause-next : goal.returns-in-Find-clause-next
+returns-in-Find-clause-next c = λ memory memory' part keeps compares.
+    rw c.in-Find.is (rw c.in-Find.is at c.on_status.ensures.next memory' part)
+
+pub returns-in-FindAgain-clause-next : goal.returns-in-FindAgain-clause-next
+returns-in-FindAgain-clause-next c = λ memory memory' part keeps compares.
+    rw c.in-FindAgain.is (rw c.in-FindAgain.is at c.on_status-in-FindAgain.ensures.next memory' part)
+
+pub returns-in-Poll-clause-next : goal.returns-in-Poll-clause-next
+returns-in-Poll-clause-next c = λ memory memory' part keeps compares.
+    rw c.in-Poll.is (rw c.in-Poll.is at c.on_status-in-Poll.ensures.next memory' part)
+
+pub returns-in-Manifest-clause-next : goal.returns-in-Manifest-clause-next
+returns-in-Manifest-clause-next c = λ memory memory' part keeps compares.
+    rw c.in-Manifest.is (rw c.in-Manifest.is at c.on_status-in-Manifest.ensures.next memory' part)
+
+pub returns-in-Trouble-clause-next : goal.returns-in-Trouble-clause-next
+returns-in-Trouble-clause-next c = λ memory memory' part keeps compares.
+    rw c.in-Trouble.is (rw c.in-Trouble.is at c.on_status-in-Trouble.ensures.next memory' part)
+
+pub returns-in-Detach-clause-within : goal.returns-in-Detach-clause-within
+returns-in-Detach-clause-within c = c.on_ack.ensures.within c.args.self.now.goal c.args.self.now.transfer tt tt tt
+
+pub returns-in-WaitFind-clause-within : goal.returns-in-WaitFind-clause-within
+returns-in-WaitFind-clause-within c = c.on_waited.ensures.within c.args.self.now.goal c.args.self.now.transfer tt c.requires
+
+pub returns-in-Block-clause-within : goal.returns-in-Block-clause-within
+returns-in-Block-clause-within c =
+    let sends = rw c.in-Block.is at c.requires in
+    c.on_ack-in-Block.ensures.within c.args.self.now.goal c.args.self.now.transfer sends tt sends
+
+pub returns-in-WaitPoll-clause-within : goal.returns-in-WaitPoll-clause-within
+returns-in-WaitPoll-clause-within c =
+    let sends = rw c.in-WaitPoll.is at c.requires in
+    c.on_waited-in-WaitPoll.ensures.within c.args.self.now.goal c.args.self.now.transfer sends sends
+
+pub returns-in-Close-clause-within : goal.returns-in-Close-clause-within
+returns-in-Close-clause-within c =
+    let closes = rw c.in-Close.is at c.requires in
+    c.on_ack-in-Close.ensures.within c.args.self.now.goal c.args.self.now.transfer tt tt closes
+
+pub returns-in-WaitManifest-clause-within : goal.returns-in-WaitManifest-clause-within
+returns-in-WaitManifest-clause-within c = c.on_waited-in-WaitManifest.ensures.within c.args.self.now.goal c.args.self.now.transfer tt c.requires
+
+pub returns-in-WaitLast-clause-within : goal.returns-in-WaitLast-clause-within
+returns-in-WaitLast-clause-within c = c.on_waited-in-WaitLast.ensures.within c.args.self.now.goal c.args.self.now.transfer tt c.requires
