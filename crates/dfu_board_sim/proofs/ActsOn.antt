@@ -73,7 +73,7 @@ module _ (fate : Fate) (h : HostState) (b b' : Board) (h' : HostState) where
   }
   objects_send why mid d setup given is e served ends = elim e [ ]
 
--- An action of which the program refuses nothing.
+-- An action in which the program refuses nothing.
 pub plain_gone : (f : GivenFate) (h : HostState) (b b' : Board) (h' : HostState) → HasActed (fate_of f) h b b' h'
     → HasGone (fate_of f) h b b' h'
 plain_gone given.Pass h b b' h' acted = acted

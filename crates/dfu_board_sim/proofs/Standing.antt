@@ -18,14 +18,14 @@ use Rattle.dfu_asks.specs.Refused.{IsRefusedCall}
 use Rattle.dfu_board.specs.Board.{Board, medium_on}
 use Rattle.dfu_board_sim.specs.Standing.{IsAtRest}
 
--- The length that a well-formed header tells.
+-- The length that a well-formed header gives.
 told_length : (s : Slot) (len : ℕ) → HasHeader s len → len < 2 ^ 32 → header_length s ≡ len
 told_length s len has fits = ⊎_elim
     (λ e. ap (λ (h : List ℕ). from_le_bytes w32 (take 4 (drop 4 h))) e ∙ from_le_bytes-to_le_bytes_4 len fits)
     (λ e. ap (λ (h : List ℕ). from_le_bytes w32 (take 4 (drop 4 h))) e ∙ from_le_bytes-to_le_bytes_4 len fits)
     has.well_formed
 
--- The header that is noted of an active image stands in an open slot.
+-- The header that is noted of an active image lies in an open slot.
 pub noted_stands : (n : Noted) (m : MediumState) → IsNoted n m → HasImage m → NotedStands n m
 noted_stands n m noted has =
     let a = has.active in

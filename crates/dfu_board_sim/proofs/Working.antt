@@ -125,7 +125,7 @@ gone b mid mid' w t = (
 abbrev told_step : Board → Bool → Says → Board → BoardStep
 told_step b failed says b' = record { before = b; event = Took failed; says = says; after = b' }
 
--- The program told of it, and the writes are due still.
+-- The program reported it, and the writes are still due.
 pub goes_on : (b mid mid' b' : Board) (failed : Bool) (out : List ℕ) → IsWorking b mid → (t : HasTried mid mid')
     → IsTakenAs mid' failed t.piece out reply.Asks b' → IsWorking b b'
 goes_on b mid mid' b' failed out w t k =
@@ -204,7 +204,7 @@ pub rests_of : (b b' : Board) (call : Event) (out : List ℕ) (came : Came) → 
 rests_of b b' call out (Answered a count) k here = k.2
 rests_of b b' call out NoAnswer k here = absurd (here refl)
 
--- The power goes behind a call, or within it.
+-- The power goes after a call, or within it.
 pub cut_of : (b mid b' : Board) (call : Event) (out : List ℕ) (came : Came) → HasCalled b call out came mid → IsRestarted mid b'
     → PowerIsCut call b b'
 cut_of b mid b' call out (Answered a count) k power = record {
@@ -271,7 +271,7 @@ restarted b b' flash on same = record {
   run = (refl, (refl, flash, on), same, refl);
 }
 
--- What stands after a call that a board answered.
+-- What holds after a call that a board answered.
 pub called_stands : (c c' : Chip) (call : Event) (out : List ℕ) (came : Came) → ChipStands c → ChipHolds c'
     → HasCalled (board_of c) call out came (board_of c') → (came ≡ NoAnswer → ⊥) → ChipStands c'
 called_stands c c' call out came stands holds k here = record {

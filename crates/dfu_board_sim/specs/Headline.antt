@@ -13,7 +13,7 @@ use Rattle.dfu_board_play.specs.Comes.{BoardLink}
 use Rattle.dfu_board_play.specs.Plays.{Plays}
 use Rattle.dfu_board_sim.specs.Link.{LinkOn, bench_on}
 
--- The headline holds, when these sessions have begun and this was reported last: it says so, and all that came to the board and to its
+-- The headline holds, when these sessions have begun and this was reported last: it says so. All that came to the board and to its
 -- hosts since the board got power, with the factory image active, is a play, with the payloads of these sessions.
 pub record HoldsSince (factory : List ℕ) (past : List Begun) (report : Option Report) (l : BoardLink) : Type 0 where
   pub first : Board

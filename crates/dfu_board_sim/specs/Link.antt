@@ -59,7 +59,7 @@ HappensOnLink Cuts l l' answer = IsRestarted l.board l'.board × (l'.session ≡
 HappensOnLink (Refuses why) l l' answer = (says : Says) × HasServed l.board (Refuse why) says l'.board × (l'.session ≡ l.session)
     × (answer ≡ silent)
 
--- What comes of an event: it is refused and nothing changes, or it happens; and what its caller is told.
+-- What comes of an event: it is refused and nothing changes, or it happens; and what its caller gets.
 pub data LinkComes (w : LinkOn) (h : Happening) : LinkOn → Result (Option Report) LinkFault → Type 0 where
   was_refused : {fault : LinkFault} → IsRefused (bench_on w.link) h fault → LinkComes w h w (Err fault)
   has_happened : (event : Happening) {w' : LinkOn} (answer : Answered) → Means w.link.board.asking.config h event

@@ -36,12 +36,12 @@ pub record HasTried (b b' : Board) : Type 0 where
   pub stays : CarriesOn step.event step.says
   pub done : done_in b'.asking.work ≡ done_in b.asking.work
 
--- The program told how a piece went: the writes stay due, further on, or the board has answered.
+-- The program reported how a piece went: the writes stay due, further on, or the board has answered.
 abbrev pub IsAfterPiece : Board → Step → Reply → Board → Type 0
 IsAfterPiece b p reply.Asks b' = WritesAreDue b' × (done_in b'.asking.work ≡ done_in b.asking.work + length p.write.bytes)
 IsAfterPiece b p (reply.Answered x count) b' = IsAtRest b'
 
--- The program tells how this piece went, as a step of a board.
+-- The program reports how this piece went, as a step of a board.
 pub record IsTakenAs (b : Board) (failed : Bool) (p : Step) (out : List ℕ) (r : Reply) (b' : Board) : Type 0 where
   pub step : Happens b (Took failed) (reply_said r out) b'
   pub same : IsSetUpAs b.asking b'.asking
@@ -88,7 +88,7 @@ IsHandled (Late ms) call b says b' = HasServed b call says b'
 abbrev pub TimeSlips : ℕ → Board → Board → Type 0
 TimeSlips ms b b' = ((state_on b ≡ AppIdle) × (b' ≡ b)) ⊎ ((state_on b ≢ AppIdle) × (says : Says) × HasServed b (Elapse ms) says b')
 
--- The time that slips in behind it passes, or none.
+-- The time that slips in after it passes, or none.
 abbrev pub SlipsOnBoard : Handled → Board → Board → Type 0
 SlipsOnBoard Unseen b b' = b' ≡ b
 SlipsOnBoard Once b b' = b' ≡ b

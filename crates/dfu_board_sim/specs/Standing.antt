@@ -40,7 +40,7 @@ pub record WritesAreDue (b : Board) : Type 0 where
   pub was : List ℕ
   pub asks : AsksWrites (lent_on b) len s was b.flash
 
--- Writes are due, and in the range of this piece, the next one, any bytes may stand.
+-- Writes are due, and the range of this piece, the next one, may hold any bytes.
 pub record IsTried (p : Step) (b : Board) : Type 0 where
   pub len : ℕ
   pub s : SlotsState

@@ -1,4 +1,4 @@
-//! Calls within which the power goes, or not at all.
+//! Calls within which the power goes, and calls in which it doesn't.
 
 ghost use Rattle.std.specs.Prelude.{◌≡◌, ◌≢◌, true, false};
 ghost use Rattle.dfu_board.specs.Board.{state_on, Handle, Elapse, Says};
@@ -72,7 +72,7 @@ fn slip_time(chip: &mut Chip, ms: u32)
     pass(chip, &mut Harm::none(), ms);
 }
 
-/// The time passes that slips in behind a request or a reset.
+/// The time passes that slips in after a request or a reset.
 pub(crate) fn slip(chip: &mut Chip, handling: Handled)
     requires { ChipStands chip.old }
     ensures slips { SlipsOnBoard handling (board_of chip.old) (board_of chip.new) }

@@ -16,7 +16,7 @@ pub(crate) enum Kind {
     LiesInWrite,
 }
 
-/// How the writes of a call are harmed. The board hands out a write in pieces, of which all but the last have 256 bytes, and an erase
+/// How the writes of a call are harmed. The board hands out a write in pieces, all but the last of 256 bytes, and an erase
 /// in one. One write is harmed, each piece of it by its part of `tear`.
 #[derive(Clone, Copy)]
 pub(crate) struct Harm<'t> {
@@ -24,9 +24,9 @@ pub(crate) struct Harm<'t> {
     tear: &'t [u8],
     // How many writes are still to work before the harmed one; None if none is harmed any more.
     left: Option<u32>,
-    // Whether the first program is a write by itself though the next one goes on behind it: that of bytes held back.
+    // Whether the first program is a write by itself though the next one goes on after it: that of bytes held back.
     first_alone: bool,
-    // Whether the write of the last piece is the harmed one; where it goes on, and how many bytes of it came.
+    // Whether the write of the last piece is the harmed one; at which address it goes on, and how many bytes of it came.
     harms: bool,
     goes_on: Option<u64>,
     came: usize,

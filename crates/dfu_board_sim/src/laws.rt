@@ -1,4 +1,4 @@
-//! A law of links to a board. It is the contract of a function that calls other laws alone, which is proved and not to be called for what
+//! A law of links to a board. It is the contract of a function that calls only other laws, which is proved and not to be called for what
 //! it does.
 
 ghost use Rattle.dfu_board_sim.specs.Headline.{HoldsAtPower};

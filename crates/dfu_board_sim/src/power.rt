@@ -5,7 +5,7 @@ ghost use Rattle.dfu_board_sim.specs.Standing.{board_of, ChipHolds, HasRun, Chip
 use crate::chip::Chip;
 use dfu_board::steps;
 
-/// The power goes, and comes back: the board starts on its flash as it stands.
+/// The power goes, and comes back: the board starts on its flash as the flash is then.
 pub(crate) fn power_cycle(chip: &mut Chip)
     requires holds { ChipHolds chip.old }
     requires ran { HasRun (board_of chip.old) }

@@ -53,8 +53,8 @@ impl<'f> BoardWorld<'f> {
         }
     }
 
-    /// Lets an event come, and answers the report of the session that ends with it, if one does. It takes memory for the parts of an
-    /// upload alone; if that is refused, the session ends with the report NoMemory.
+    /// Lets an event come, and answers the report of the session that ends with it, if one does. It takes memory only for the parts of an
+    /// upload. If that is refused, the session ends with the report NoMemory.
     ///
     /// By `headline` the headline holds after the event with the report that is answered, if it held before: the active image is the
     /// factory image or the payload of a file offered so far. If the report is Installed or Verified, the board is in appIDLE, and the

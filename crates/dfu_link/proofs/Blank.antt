@@ -18,7 +18,7 @@ blank_len w n = length-replicate {A = ℕ} (2 * (2 * gate_room w + n)) 255
 pub room_blank : (w : Grain) (n : ℕ) → capacity_of (blank_slots w n) ≡ n
 room_blank w n = omega (arith, blank_len w n)
 
--- Two slots can stand on it.
+-- Two slots fit on it.
 pub blank_sized : (w : Grain) (n : ℕ) → 1 ≤ n → n ≤ 1048576 → IsWhole w n → IsSized (blank_slots w n)
 blank_sized w n some most whole = record {
   even = omega (arith, blank_len w n);

@@ -14,14 +14,14 @@ one_of : (b : Bool) → cond b true false ≡ b
 one_of true = refl
 one_of false = refl
 
--- It stands there if the byte there is this one.
+-- A byte is at a place if the byte there is this one.
 pub one_byte : (ys : List ℕ) (i byte found : ℕ) → i < length ys → found ≡ get_or ys i 0
     → (byte == found) ≡ begins_with (byte ∷ []) (drop i ys)
 one_byte ys i byte found h e =
     let d = drop_more ys i 0 h in
     sym (ap (λ (l : List ℕ). begins_with (byte ∷ []) l) d ∙ one_of (byte == get_or ys i 0) ∙ sym (ap (λ (x : ℕ). byte == x) e))
 
--- Behind the end none stands.
+-- There is none past the end.
 pub no_byte : (ys : List ℕ) (i byte : ℕ) → length ys ≤ i → false ≡ begins_with (byte ∷ []) (drop i ys)
 no_byte ys i byte h = sym (ap (λ (l : List ℕ). begins_with (byte ∷ []) l) (drop_all i ys h))
 
@@ -41,7 +41,7 @@ further : (xs ys : List ℕ) (i : ℕ) → i < length xs
 further xs ys i h =
     ap (λ (l : List ℕ). begins_with l (drop i ys)) (drop_more xs i 0 h) ∙ by_first (get_or xs i 0) (drop (i + 1) xs) (drop i ys)
 
--- One byte more stands there too.
+-- One byte more is there too.
 pub begins_on : (xs ys : List ℕ) (i : ℕ) → i < length xs → begins_with (get_or xs i 0 ∷ []) (drop i ys) ≡ true
     → begins_with (drop i xs) (drop i ys) ≡ begins_with (drop (i + 1) xs) (drop (i + 1) ys)
 begins_on xs ys i h e =

@@ -40,7 +40,7 @@ record Keeps (factory : List ℕ) (past : List Begun) (b : LinkView) : Type 0 wh
   pub report : Option Report
   pub holds : HeadlineHolds factory past report b
 
--- The image that the bench shows is the one of which the headline speaks.
+-- The image that the bench shows is the headline's.
 image_is : ImageShown → {factory : List ℕ} {past : List Begun} {report : Option Report} {b : LinkView} (k : HeadlineHolds factory past report b)
     → k.says.image ≡ image_of b.device.slots
 image_is shown {b = b} k = (shown b).1 k.says.image k.says.active

@@ -1,4 +1,4 @@
--- Texts that are printed where a line is expected.
+-- Texts that are printed while a line is expected.
 use Rattle.std.proofs.Common.{◌≡◌, ℕ, List, [], ◌∷◌, ◌++◌, Option, Some, None, refl, sym, ap, ◌∙◌, subst}
 use Rattle.std.proofs.lemmas.List.{append_assoc}
 use Rattle.std.specs.Prelude.{Result, Ok, Err, IsErrAnd}
@@ -55,7 +55,7 @@ pub falls_short : {e e' : Option Expectation} {old new : Option (List ℕ)} {xs 
 falls_short {e = e} {e' = e'} {old = old} {new = new} {text = text} {f = f} {r = r} ys h same is =
     writer_failed r e e' old new text f (puts_stops ys h same is) same
 
--- Where nothing is expected only the writer fails, and it may fail anywhere.
+-- If nothing is expected, only the writer fails, and it may fail anywhere.
 nothing_fails : (e : Option Expectation) (xs ys : List ℕ) (f : ScriptFault) (a b a' b' : Option (List ℕ)) → FailsToPrint None xs a b f
     → FailsToPrint e ys a' b' f
 nothing_fails e xs ys Write a b a' b' h = tt

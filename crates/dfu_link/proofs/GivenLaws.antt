@@ -55,12 +55,12 @@ took_told {text = text} (Some a) (Some b) room room' xs h e =
     let same : a ≡ text = cc in
     (b, refl, subst (λ (t : List ℕ). TookLines t room xs b room') same h)
 
--- Of a text that is told, these lines were taken.
+-- These lines were taken of a text that the reader names.
 pub took : {text : List ℕ} (s s' : SourceState) (xs : List (List ℕ)) → GivesLines s xs s' → s.left ≡ Some text
     → (left : List ℕ) × (s'.left ≡ Some left) × TookLines text s.room xs left s'.room
 took s s' xs g e = took_told s.left s'.left s.room s'.room xs g.takes e
 
--- A text of which lines were taken begins with them, and where reading ends is in the line after them.
+-- A text of which lines were taken begins with them, and reading ends in the line after them.
 pub stops_after : {text left : List ℕ} {xs : List (List ℕ)} {room : ℕ} (fault : ScriptFault) → TookLines text 16777216 xs left room
     → IsStopped room left fault → StopsAfter text xs fault
 stops_after {left = left} {room = room} fault t stopped =

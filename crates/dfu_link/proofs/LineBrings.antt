@@ -1,4 +1,4 @@
--- What a line brings is told by what it says.
+-- What a line brings follows from what it says.
 use Rattle.std.proofs.Common.{◌≡◌, ℕ, List, [], ◌∷◌, Option, Some, None, refl, sym, ap, ◌∙◌, subst, arith, cond, true, false, Bool}
 use Rattle.std.proofs.lemmas.Bool.Decides.{nat_tests}
 use Rattle.std.proofs.lemmas.Slice.Eq.{bytes_eq-Decides}
@@ -21,7 +21,7 @@ use Rattle.dfu_link.specs.Printed.{Brings, Nothing, AnImage, Events, SomePasses,
 
 -- What is said.
 
--- The events of an event line, of which each may begin a session.
+-- The events of an event line. Each may begin a session.
 abbrev pub sessions_in : EventLine → List (Option Begun)
 sessions_in (Offer purpose file) = Some (WithOffer file) ∷ []
 sessions_in Upload = Some AsUpload ∷ []
@@ -75,7 +75,7 @@ if_ok : {A : Type 0} (t : Bool) (e : LineFault) (x : Result A LineFault) (y : A)
 if_ok true e x y h = h
 if_ok false e x y h = absurd cc
 
--- The value of a test that is read further, where the test holds, and where it doesn't.
+-- The value of a test that is read further, if the test holds, and if it doesn't.
 if_case : {A K P : Type 0} (t : Bool) (k : K) (rest : Option K) (e : LineFault) (f : K → Result A LineFault) (y : A)
     → (ok_or (cond t (Some k) rest) e >>= f) ≡ Ok y → (t ≡ true → f k ≡ Ok y → P) → ((ok_or rest e >>= f) ≡ Ok y → P) → P
 if_case true k rest e f y h one other = one refl h
@@ -85,7 +85,7 @@ ends_ok : {A : Type 0} (x : A) (n : ℕ) (words : List (List ℕ)) (y : A) → e
 ends_ok x n [] y h = ok_one x y h
 ends_ok x n (word ∷ words) y h = absurd cc
 
--- A line that says this, where no word is left.
+-- A line that says this, if no word is left.
 ends_bring : (x : Said) (n : ℕ) (words : List (List ℕ)) (said : Said) → ends x n words ≡ Ok said → said_brings said ≡ said_brings x
 ends_bring x n words said h = ap said_brings (sym (ends_ok x n words said h))
 

@@ -21,12 +21,12 @@ endless_first b bs h = first_false (is_newline b) (endless bs) h
 pub endless_rest : (b : ℕ) (bs : List ℕ) → endless (b ∷ bs) ≡ true → endless bs ≡ true
 endless_rest b bs h = ap (λ (t : Bool). cond t false (endless bs)) (sym (endless_first b bs h)) ∙ h
 
--- In bytes of which none ends a line no line ends.
+-- If none of these bytes ends a line, no line ends in them.
 pub endless_each : (xs : List ℕ) → ((k : ℕ) → k < length xs → is_newline (get_or xs k 0) ≡ false) → endless xs ≡ true
 endless_each [] h = refl
 endless_each (b ∷ bs) h = endless_cons b bs (h 0 (omega arith)) (endless_each bs (λ k l. h (suc k) (omega (arith, l))))
 
--- No line ends where no byte is found that ends one.
+-- No line ends if no byte is found that ends one.
 pub endless_none : (xs : List ℕ) → position is_newline xs ≡ None → endless xs ≡ true
 endless_none xs h = endless_each xs (none_passes is_newline xs h)
 

@@ -121,7 +121,7 @@ prepared_then {y = y} {u = u} w p given same is does = record {
 
 -- A device with no session.
 
--- A link over a device that is not armed begins with that device as it is.
+-- A link over a device that is not armed begins with that device unchanged.
 pub rest_starts : {x : WorldView} (d : DeviceView) → x ≡ record { bench = at_rest (armed d Whole); up = [] } → IsUnarmed d
     → x.bench ≡ at_rest d
 rest_starts d link unarmed = ap (λ (y : WorldView). y.bench) link ∙ ap (λ (f : Fuse). at_rest (armed d f)) (sym unarmed)

@@ -89,7 +89,7 @@ busy_offer : (b : LinkView) (purpose : Purpose) (file : List ℕ) (limits : Limi
     → Comes b (Offers purpose file limits) b (Err HostBusy)
 busy_offer b purpose file limits live = refuses live
 
--- An offer while a session is live is refused, whatever its file is, and that is printed.
+-- An offer while a session is live is refused, for each file, and that is printed.
 pub busy_plays : (check : List ℕ) {b : LinkView} (purpose : Purpose) (file : List ℕ) (limits : Limits) {e e' : Option Expectation}
     {old new : Option (List ℕ)}
     {done : Result Unit ScriptFault} → IsLive b.session → ShowsActive b → PrintsNext e old (answer_line (Err HostBusy)) e' new done
@@ -122,7 +122,7 @@ broken k n e lt stopped =
       fails = stopped.fails;
     }
 
--- An offer goes as it is, whatever the program checks.
+-- An offer goes unchanged, whatever the program checks.
 pub offer_unchecked : (check : List ℕ) (b : LinkView) {event : Happening} {purpose : Purpose} {file : List ℕ} {limits : Limits}
     → event ≡ Offers purpose file limits → checked check b event ≡ event
 offer_unchecked check b is = ap (λ (e : Happening). checked check b e) is ∙ sym is

@@ -99,7 +99,7 @@ code_endless code.StalledPkt = refl
 abbrev pub state_words : DeviceView → List ℕ
 state_words device = (state_name (state_of device.stage) ++ codes " status ") ++ (code_name (code_of device.stage) ++ codes " ")
 
--- That text stands behind the word.
+-- That text follows the word.
 pub state_is : (device : DeviceView) → state_text device ≡ codes "state " ++ state_words device
 state_is device = refl
 

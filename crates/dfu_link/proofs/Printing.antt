@@ -1,4 +1,4 @@
--- What the lines of a script bring, and where it starts.
+-- What the lines of a script bring, and what it starts with.
 use Rattle.std.proofs.Common.{◌≡◌, ℕ, zero, suc, List, [], ◌∷◌, ◌++◌, map, append_assoc, Option, Some, None, Ok, refl, sym, ap, ◌∙◌, subst}
 use Rattle.std.specs.Prelude.{replicate}
 use Rattle.std.proofs.lemmas.Option.{same_Some}
@@ -28,7 +28,7 @@ session_by Resets = None
 session_by Cuts = None
 session_by (Refuses why) = None
 
--- A check changes none of that.
+-- A check changes nothing of that.
 pub session_checked : (check : List ℕ) (b : LinkView) (h : Happening) → session_by (checked check b h) ≡ session_by h
 session_checked check b (Goes fate harm) = refl
 session_checked check b h = refl

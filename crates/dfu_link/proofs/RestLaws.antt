@@ -37,7 +37,7 @@ pub record HasMoved (given : Bool) (first : SourceState) (p : Point) (old : Opti
     (new : Option (List ℕ)) : Type 0 where
   pub from : (r : SourceState) → Next r given first → (at : SourceState) × Moves p r old q at new × Next at more s
 
--- From there lines were done, and the source stands here.
+-- From there lines were done, and the source is here.
 pub record Went (given : Bool) (first : SourceState) (p : Point) (old : Option (List ℕ)) (q : Point) (s : SourceState)
     (new : Option (List ℕ)) : Type 0 where
   pub from : (r : SourceState) → Next r given first → Moves p r old q s new

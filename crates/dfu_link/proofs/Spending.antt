@@ -72,7 +72,7 @@ comes_less {b = b} {b' = b'} (happens {answer = answer} means play) e =
     subst (λ (s : Session). actions_in b'.session < actions_in s) (sym next.live)
     (subst (λ (s : Session). actions_in s < next.host.actions) (sym next.session) (took_less next.host heard none))
 
--- An action that is not refused and of which nothing is reported leaves fewer.
+-- An action that is not refused and reports nothing leaves fewer.
 pub action_less : {w w' : WorldView} {fate : Fate} {harm : Harm} (host_heard : Result (Option Report) LinkFault)
     → HasCome w (Goes fate harm) w' host_heard → host_heard ≡ Ok None → actions_in w'.bench.session < actions_in w.bench.session
 action_less host_heard come e = comes_less come.comes (sym come.told ∙ e)

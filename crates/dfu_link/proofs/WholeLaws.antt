@@ -22,7 +22,7 @@ record IsFresh (text : List ℕ) (s : SourceState) : Type 0 where
   pub room : s.room ≡ 16777216
   pub number : s.number ≡ 0
 
--- What holds for each text of which nothing was taken holds for the one that a reader tells, if it does.
+-- What holds for each text that nothing was taken of holds for the one that a reader names, if it names one.
 for_text : (given : Option (List ℕ)) (s : SourceState) (P : List ℕ → Type 0)
     → (s.left ≡ prepend_known [] given) × (s.room ≡ 16777216) × (s.number ≡ 0) → ((text : List ℕ) → IsFresh text s → P text)
     → IfSome given P
@@ -113,7 +113,7 @@ at_end : (a : Option (List ℕ)) → IsAtEnd a → IfSome a (λ left. left ≡ [
 at_end None h = tt
 at_end (Some left) h = h
 
--- The lines that were done are all those behind the lines that set.
+-- The lines that were done are all those after the lines that set.
 done_all : {text : List ℕ} {s s' : SourceState} {x y : Settings} {more : Bool} {old new : Option (List ℕ)} {p : Point}
     → (fresh : IsFresh text s) → (c : LinesConfigured x s y more s') → (ends : Ends p c.at old new)
     → ends.done ≡ lines_of (fresh_took fresh c.prepared.gives).0

@@ -40,7 +40,7 @@ words_of-all : (xs : List ℕ) → words_of (drop (length xs) xs) ≡ []
 unfolding words_of
 words_of-all xs = ap (λ (ys : List ℕ). filter is_word (slice_split is_space ys)) (drop_all (length xs) xs (omega arith))
 
--- Where each byte is a space there is no word.
+-- If each byte is a space, there is no word.
 pub no_word : (xs : List ℕ) → position is_no_space xs ≡ None → first_word (words_of xs) ≡ None
 no_word xs h = ap first_word (skips xs (length xs) (omega arith) (none_passes is_no_space xs h) ∙ words_of-all xs)
 
@@ -95,7 +95,7 @@ word_then xs start end h k =
     let b = begins xs start h in
     ap first_word (b.0 ∙ word_first (drop start xs) end b.1 b.2 k)
 
--- A text has this word alone.
+-- A text has only this word.
 pub word_alone : (xs : List ℕ) (start : ℕ) → position is_no_space xs ≡ Some start → position is_space (drop start xs) ≡ None
     → first_word (words_of xs) ≡ Some (drop start xs, words_of [])
 word_alone xs start h k =
@@ -119,7 +119,7 @@ pub number_long : (w : List ℕ) → 10 < length w → number_of w ≡ None
 unfolding number_of
 number_long w h = rw (le-leb 1 (length w) (omega (arith, h))) (rw (lt-leb (length w) 10 h) refl)
 
--- A word of one to ten digits is a number where its value is at most 4,294,967,295.
+-- A word of one to ten digits is a number if its value is at most 4,294,967,295.
 pub number_is : (w : List ℕ) (n : ℕ) → 1 ≤ length w → length w ≤ 10 → digits_value 0 w ≡ Some n
     → number_of w ≡ guard (nat_le n 4294967295) n
 unfolding number_of
@@ -148,13 +148,13 @@ hex_by w true (Err f) even h e =
 hex_by w false (Ok bytes) even h e = h.1 ((decode_of-ok w bytes e).1)
 hex_by w false (Err f) even h e = refl
 
--- A word of an even length that is not - stands for bytes exactly where all of its letters are hexadecimal digits.
+-- A word of an even length that is not - spells bytes exactly if all of its letters are hexadecimal digits.
 pub hex_same : (w : List ℕ) (r : Bool) → length w % 2 ≡ 0 → bytes_eq w (codes "-") ≡ false → IsTrue r ↔ AllPass is_hex_digit w
     → r ≡ is_some (hex_word_bytes w)
 hex_same w r even off h = hex_by w r (decode_of w) even h refl
     ∙ ap (λ (t : Bool). is_some (cond t (Some []) (ok_of (decode_of w)))) (sym off)
 
--- What is read of a word in two steps is there where both are.
+-- What is read of a word in two steps is there if both are.
 pub bind_some : {A B P : Type 0} (x : Option A) (f : A → Option B) (y : B) → (x >>= f) ≡ Some y → ((a : A) → x ≡ Some a → f a ≡ Some y → P)
     → P
 bind_some None f y h k = absurd cc

@@ -19,7 +19,7 @@ use Rattle.dfu_link.specs.ScriptRun.{Settings, beginning, Prepares, DeviceStarts
 use Rattle.dfu_link.specs.declared.scripting.fault.ScriptFault.{ScriptFault}
 use Rattle.dfu_link.specs.declared.scripting.fault.ScriptFault.TheVariants.{BadLine, LateConfig, BadConfig, Expected, NonePrinted, TooLarge, NoMemory, Read, Write}
 
--- It stopped among events, where the program takes only images that begin with these bytes, and this is expected: some were played, and a
+-- It stopped among events, with a program that takes only images that begin with these bytes, and this is expected: some were played, and a
 -- front of their text is out, and not all of it.
 pub record HasBroken (check : List ℕ) (b : LinkView) (next : Option Expectation) (events : List Happening) (old new : Option (List ℕ))
     (fault : ScriptFault)
@@ -73,7 +73,7 @@ pub record IsSecond (p : Point) (line : List ℕ) (n : ℕ) : Type 0 where
   pub number : n ≡ first.number
   pub second : IsExpect p.given line
 
--- How line k falls once the device is started: it is none of the language, or a configuration line, or finds no memory that it needs, and
+-- How line k falls once the device is started. It is not of the language, or a configuration line, or finds no memory that it needs, and
 -- then nothing of it is out; or it expects a line before one that is expected was printed; or it stops in what the line prints.
 abbrev pub LineFalls : Point → ℕ → List ℕ → Option (List ℕ) → Option (List ℕ) → ScriptFault → Type 0
 LineFalls p k line old new (BadLine n) = (n ≡ k) × (line_of p.given line ≡ None) × (new ≡ old)
@@ -84,8 +84,8 @@ LineFalls p k line old new (Expected n) = BreaksIn p line old new (Expected n)
 LineFalls p k line old new (NonePrinted n) = IsSecond p line n × (new ≡ old)
 LineFalls p k line old new fault = ⊥
 
--- What falls where these lines are left, the first of them line k: the text goes over its limit or the reader fails, and nothing more is
--- out; or that line, or where none is left the line of the image, when the writer fails.
+-- What falls if these lines are left, the first of them line k. The text goes over its limit or the reader fails, and nothing more is
+-- out; or that line falls, or if none is left the line of the image, when the writer fails.
 abbrev pub NextFalls : Point → ℕ → List (List ℕ) → Option (List ℕ) → Option (List ℕ) → ScriptFault → Type 0
 NextFalls p k lines old new TooLarge = new ≡ old
 NextFalls p k lines old new Read = new ≡ old
@@ -122,14 +122,14 @@ pub data CannotStart (s : Settings) : Type 0 where
   cuts_sector : 0 < s.grain.sector → s.capacity % s.grain.sector ≢ 0 → CannotStart s
   too_large : s.capacity < length s.image → CannotStart s
 
--- Why a device does not start: BadConfig where it cannot, or there is no memory.
+-- Why a device does not start: BadConfig if it cannot, or there is no memory.
 abbrev pub StartFalls : Settings → ScriptFault → Type 0
 StartFalls s BadConfig = CannotStart s
 StartFalls s NoMemory = Unit {0}
 StartFalls s fault = ⊥
 
--- A script ends with a fault. There was no memory for a line, the image or the device, and nothing is out; a line that sets falls, or no
--- device can be set up like this, and nothing is out; or the device starts, and of the lines after it one falls.
+-- A script ends with a fault. There was no memory for a line, the image or the device, and nothing is out. Or a line that sets falls, or
+-- no device can be set up like this, and nothing is out. Or the device starts, and one of the lines after it falls.
 pub data Falls (given : Option (List ℕ)) (text : List ℕ) (old new : Option (List ℕ)) : ScriptFault → Type 0 where
   no_memory : new ≡ old → Falls given text old new NoMemory
   in_setting : {fault : ScriptFault} → SettingFalls given text fault → new ≡ old → Falls given text old new fault

@@ -1,4 +1,4 @@
--- The fields of a line: what a word stands for, if it is what its place wants.
+-- The fields of a line: what a word means, if it is what its place wants.
 use Rattle.std.specs.Prelude.{ℕ, ◌%◌, ◌==◌, List, Option, Some, None, nat_le, codes, if◌then◌else◌}
 use Rattle.std.specs.Str.{bytes_eq}
 use Rattle.dfu_slots.specs.declared.unit.Unit.{Unit as WriteUnit}
@@ -36,13 +36,13 @@ unit_of_word word = number_of word >>= λ n. unit_named n
 unfoldable pub sector_of : List ℕ → Option ℕ
 sector_of word = small_of 131072 word >>= λ n. guard (n % 256 == 0) n
 
--- The word of why a program refuses an image: the status code that tells of it.
+-- The word of why a program refuses an image: the status code that reports it.
 abbrev pub objection_of : List ℕ → Option Objection
 objection_of w =
     if bytes_eq w (codes "errTARGET") then Some Target
     else if bytes_eq w (codes "errFILE") then Some File
     else None
 
--- The bytes that a word of an offer stands for: FILE for the bytes that are given, if they are, any other for those that it spells.
+-- The bytes that a word of an offer means: FILE the bytes that are given, if they are, any other word those that it spells.
 unfoldable pub named_bytes : Option (List ℕ) → List ℕ → Option (List ℕ)
 named_bytes given word = if bytes_eq word (codes "FILE") then given else hex_word_bytes word

@@ -51,7 +51,7 @@ short_at n of words = field a.Short (small_of 65535) n of words
 unfoldable pub hex_at : (n of : ℕ) → List (List ℕ) → Read (List ℕ × List (List ℕ))
 hex_at n of words = field a.Bytes hex_word_bytes n of words
 
--- What is wrong with word n if it stands for no file.
+-- What is wrong with word n if it names no file.
 abbrev pub no_file : List ℕ → (n : ℕ) → LineFault
 no_file word n = if bytes_eq word (codes "FILE") then wrong.NoFile else wrong.Word a.Bytes n
 
@@ -68,7 +68,7 @@ identifier_at n of words = field a.Identifier identifier_in n of words
 unfoldable pub attributes_at : (n of : ℕ) → List (List ℕ) → Read (ℕ × List (List ℕ))
 attributes_at n of words = field a.Attributes attributes_of_word n of words
 
--- A line is a comment where its first word begins with `#`.
+-- A line is a comment if its first word begins with `#`.
 abbrev pub is_comment : List ℕ → Bool
 is_comment [] = false
 is_comment (byte ∷ bytes) = byte == 35
@@ -225,16 +225,16 @@ by_keyword given key.Expect line words = expect_of line
 by_keyword given key.Check line words = check_of words
 by_keyword given key.Refuse line words = refuse_of words
 
--- What the words of a line say: nothing where there are none, or where they are a comment.
+-- What the words of a line say: nothing if there are none, or if they are a comment.
 abbrev pub says : (given : Option (List ℕ)) → (line : List ℕ) → List (List ℕ) → Read Said
 says given line [] = Ok Blank
 says given line (word ∷ words) =
     if is_comment word then Ok Blank else (ok_or (keyword_of word) wrong.Keyword >>= λ k. by_keyword given k line words)
 
--- What a line says, where these bytes are given, or what is wrong with it: a line over 65,536 bytes says nothing.
+-- What a line says, if these bytes are given, or what is wrong with it: a line over 65,536 bytes says nothing.
 unfoldable pub read_line : (given : Option (List ℕ)) → List ℕ → Read Said
 read_line given line = if nat_le (length line) 65536 then says given line (words_of line) else Err wrong.Long
 
--- What a line says, where these bytes are given, if it is one of the language.
+-- What a line says, with these bytes given, if it is one of the language.
 unfoldable pub line_of : (given : Option (List ℕ)) → List ℕ → Option Said
 line_of given line = ok_of (read_line given line)

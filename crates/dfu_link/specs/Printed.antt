@@ -15,7 +15,7 @@ use Rattle.dfu_link.specs.declared.scripting.fault.ScriptFault.{ScriptFault}
 
 -- What a line brings.
 
--- What a line brings. It sets the image that a device has at first, lets events come of which each may begin a session, lets some number of
+-- What a line brings. It sets the image that a device has at first, lets events come that may each begin a session, lets some number of
 -- events come that begin none, or shows the device. Any other line brings nothing.
 pub data Brings : Type 0 where
   Nothing : Brings
@@ -24,17 +24,17 @@ pub data Brings : Type 0 where
   SomePasses : Brings
   AShow : Brings
 
--- The bytes that the first of these words stands for.
+-- The bytes that the first of these words spells.
 abbrev pub first_word_bytes : List (List ℕ) → List ℕ
 first_word_bytes [] = []
 first_word_bytes (word ∷ words) = unwrap_or (hex_word_bytes word) []
 
--- The file that the first of these words stands for: FILE for the bytes that are given, any other for those that it spells.
+-- The file that the first of these words means: FILE the bytes that are given, any other word those that it spells.
 abbrev pub file_in : (given : Option (List ℕ)) → List (List ℕ) → List ℕ
 file_in given [] = []
 file_in given (word ∷ words) = unwrap_or (if bytes_eq word (codes "FILE") then given else hex_word_bytes word) []
 
--- The number that the first of these words stands for.
+-- The number that the first of these words spells.
 abbrev pub count_in : List (List ℕ) → ℕ
 count_in [] = 0
 count_in (word ∷ words) = unwrap_or (number_of word) 0
@@ -66,7 +66,7 @@ words_bring given (word ∷ words) =
     else if bytes_eq word (codes "expect") then Events []
     else Nothing
 
--- What a line brings where these bytes are given.
+-- What a line brings if these bytes are given.
 abbrev pub brought : (given : Option (List ℕ)) → List ℕ → Brings
 brought given line = words_bring given (words_of line)
 
@@ -134,7 +134,7 @@ NeedsDevice (Events events) = Unit {0}
 NeedsDevice SomePasses = Unit {0}
 NeedsDevice AShow = Unit {0}
 
--- The device starts before the first line that needs it, or behind them all. Its factory image is the one set last before that, or where no
+-- The device starts before the first line that needs it, or after them all. Its factory image is the one set last before that, or if no
 -- line sets one, this image.
 pub data StartsWith (given : Option (List ℕ)) : (image : List ℕ) (lines after : List (List ℕ)) (factory : List ℕ) → Type 0 where
   at_end : {image : List ℕ} → StartsWith given image [] [] image
@@ -165,7 +165,7 @@ pub record WrotePrinted (given : Option (List ℕ)) (text : List ℕ) (old new :
   pub prints : TextPrints given text after after printed past end image
   pub told : Appends old new (printed ++ line_of_image image)
 
--- What is out of the first of these lines, before which a script stopped, or of the last line of a script where none is left: nothing, or a
+-- A script stopped before the first of these lines, or before its last line if none is left. What is out of that line: nothing, or a
 -- front of what is printed of the line or of the first of its events.
 pub data PartPrints (given : Option (List ℕ)) (factory : List ℕ) (past : List Begun) (b : LinkView) (image : List ℕ) :
     List (List ℕ) → (old new : Option (List ℕ)) → Type 0 where

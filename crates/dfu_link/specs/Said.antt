@@ -20,7 +20,7 @@ use Rattle.dfu_link.specs.declared.scripting.line.Offered.TheVariants as offered
 use Rattle.dfu_link.specs.declared.scripting.line.EventLine as event_lines
 use Rattle.dfu_link.specs.declared.scripting.line.EventLine.TheVariants as events
 
--- The bytes that a hexadecimal text stands for.
+-- The bytes that a hexadecimal text spells.
 abbrev pub hex_bytes : HexText → List ℕ
 hex_bytes text = unwrap_or (hex_word_bytes text.text.now) []
 
@@ -34,8 +34,8 @@ abbrev pub offered_bytes : offereds.Offered → List ℕ
 offered_bytes (offered.Spelled text) = hex_bytes text
 offered_bytes (offered.Given bytes) = bytes.now
 
--- What a configuration line sets: who the device is, what it is like, how its medium is written and erased, how many bytes an image may
--- have, the image that it has at first, or with which bytes an image begins that its program takes.
+-- What a configuration line sets: who the device is, what it is like, how its medium is written or erased, how many bytes an image may
+-- have, the image at first, or the bytes with which an image begins that the program takes.
 pub data ConfigLine : Type 0 where
   TheIds : Ids → ConfigLine
   TheDevice : Functional → (least busy manifest : ℕ) → ConfigLine
@@ -45,9 +45,9 @@ pub data ConfigLine : Type 0 where
   TheImage : List ℕ → ConfigLine
   TheCheck : List ℕ → ConfigLine
 
--- The events of a line: a file is offered, to be installed or to be verified too, an upload begins, the session is given up, the host
--- takes so many actions of one fate, which harm a write alike, time passes, the bus is reset, the power is cut, or the device's program
--- refuses the image that was closed.
+-- The events of a line: a file is offered, to be installed or to be verified too; an upload begins; the session is given up; or the
+-- host takes so many actions of one fate, which harm a write alike. Or time passes, the bus is reset, the power is cut, or the device's
+-- program refuses the image that was closed.
 pub data EventLine : Type 0 where
   Offer : Purpose → (file : List ℕ) → EventLine
   Upload : EventLine

@@ -25,8 +25,8 @@ use Rattle.dfu_link.specs.Lines.{line_of}
 use Rattle.dfu_link.specs.Expecting.{Expectation, Meets, still}
 
 -- What is set before the first event line or `show`: the device, how its medium is written and erased, how many bytes an image may have,
--- the image at first, with which bytes an image begins that the device's program takes, and the limits of sessions. The bytes that FILE
--- stands for are given, if any are, and no line sets them.
+-- and the image at first. Set are also the bytes with which an image begins that the device's program takes, and the limits of sessions.
+-- The bytes that FILE means are given, if any are, and no line sets them.
 pub record Settings : Type 0 where
   pub device : Setting
   pub grain : Grain
@@ -36,7 +36,7 @@ pub record Settings : Type 0 where
   pub limits : Limits
   pub given : Option (List ℕ)
 
--- What holds where no line sets anything else.
+-- What holds if no line sets anything else.
 abbrev pub beginning : (given : Option (List ℕ)) → Settings
 beginning given = record {
   device = record {
@@ -54,7 +54,7 @@ beginning given = record {
   given = given;
 }
 
--- What a configuration line sets takes the place of what stood there.
+-- What a configuration line sets takes the place of what was set before.
 abbrev pub set : Settings → ConfigLine → Settings
 set s (TheIds ids) = record s { device = record s.device { ids = ids } }
 set s (TheDevice functional least busy manifest) =
@@ -86,7 +86,7 @@ HasToAct (Some Show) = Unit {0}
 HasToAct (Some (Expects text)) = Unit {0}
 HasToAct said = ⊥
 
--- The device has to start before the next line, or where none is left.
+-- The device has to start before the next line, or if none is left.
 abbrev pub HasToStart : Settings → List (List ℕ) → Type 0
 HasToStart s [] = Unit {0}
 HasToStart s (line ∷ lines) = HasToAct (line_of s.given line)
@@ -95,7 +95,7 @@ HasToStart s (line ∷ lines) = HasToAct (line_of s.given line)
 abbrev pub blank_slots : Grain → ℕ → MediumState
 blank_slots grain capacity = blank_medium grain (2 * (2 * gate_room grain + capacity))
 
--- The device starts: it is allowed, the room has whole units and sectors, the image fits, and it stands in appIDLE on a blank medium that
+-- The device starts: it is allowed, the room has whole units and sectors, the image fits, and it is in appIDLE on a blank medium that
 -- was formatted with the image, which is the active one of its bytes.
 pub record DeviceStarts (s : Settings) (d : DeviceView) : Type 0 where
   pub config : d.config ≡ record s.device { functional = of_this_version s.device.functional }
@@ -131,7 +131,7 @@ abbrev pub checked : (check : List ℕ) → LinkView → Happening → Happening
 checked check b (Goes fate harm) = Goes (checked_fate check b.device fate) harm
 checked check b event = event
 
--- Events one after the other, where the program takes only images that begin with these bytes, with what they print; after each the image
+-- Events one after the other, if the program takes only images that begin with these bytes, with what they print; after each the image
 -- that the bench shows is the active one of its medium's bytes.
 pub data AllCome (check : List ℕ) : LinkView → List Happening → List ℕ → LinkView → Type 0 where
   none_comes : {b : LinkView} → AllCome check b [] [] b
@@ -139,7 +139,7 @@ pub data AllCome (check : List ℕ) : LinkView → List Happening → List ℕ �
       AllCome check b events out c → Comes c (checked check c event) c' answer → ShowsActive c'
       → AllCome check b (events ++ event ∷ []) (out ++ answer_line answer) c'
 
--- Where a script is once the device is started: the bytes that FILE stands for, those with which an image begins that the program takes,
+-- Where a script is once the device is started: the bytes that FILE means, those with which an image begins that the program takes,
 -- the limits of the next session, which line is expected next, and the link.
 pub record Point : Type 0 where
   pub given : Option (List ℕ)
@@ -168,7 +168,7 @@ events_of limits Cut = Cuts ∷ []
 events_of limits (Refuse why) = Refuses why ∷ []
 
 -- What line k does once the device is started, and what it prints, which is as expected. A configuration line has no place there.
--- `go until report` lets so many actions pass of which nothing is printed, and one of which something is. `expect` has no place where a
+-- `go until report` lets so many actions pass that print nothing, and then one that prints something. `expect` has no place while a
 -- line is expected already.
 pub data LineActs (k : ℕ) : Point → Said → List ℕ → Point → Type 0 where
   skips : {p : Point} → LineActs k p Blank [] p

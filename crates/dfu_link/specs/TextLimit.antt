@@ -13,14 +13,14 @@ pub record BeginsWithLines (text : List ℕ) (lines : List (List ℕ)) : Type 0 
   pub are : lines_of text ≡ lines ++ lines_of left
   pub within : length front ≤ 16777216
 
--- Where so many bytes may be read, what is left goes over in its first line: the line doesn't end within them, and they are no more than
+-- If so many bytes may be read, what is left goes over in its first line: the line doesn't end within them, and they are no more than
 -- the 65,536 that a line may have.
 pub record GoesOver (room : ℕ) (left : List ℕ) : Type 0 where
   pub over : room < length left
   pub short : room ≤ 65536
   pub no_end : endless (take room left) ≡ true
 
--- Reading ends in the first line of what is left: where it goes over, for that alone; or else the reader fails, or the line has a fault.
+-- Reading ends in the first line of what is left: only because it goes over, if it does; or else the reader fails, or the line has a fault.
 abbrev pub IsStopped : ℕ → List ℕ → ScriptFault → Type 0
 IsStopped room left TooLarge = GoesOver room left
 IsStopped room left Read = Unit {0}
@@ -30,7 +30,7 @@ IsStopped room left fault = ¬ GoesOver room left
 abbrev pub StopsAfter : List ℕ → List (List ℕ) → ScriptFault → Type 0
 StopsAfter text lines fault = (b : BeginsWithLines text lines) × IsStopped (16777216 - length b.front) b.left fault
 
--- Of these lines, the first of them line k, reading gives none of the language: the text goes over its limit, the reader fails, or line k
+-- Reading these lines, the first of them line k, gives none of the language: the text goes over its limit, the reader fails, or line k
 -- is none.
 abbrev pub GivesNone : (given : Option (List ℕ)) → ℕ → List (List ℕ) → ScriptFault → Type 0
 GivesNone given k lines TooLarge = Unit {0}

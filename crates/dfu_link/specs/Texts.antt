@@ -57,7 +57,7 @@ refusal_line link.NoHost = codes "refused NoHost\n"
 refusal_line (link.BadOffer fault) = codes "refused BadOffer " ++ offer_fault_name fault ++ 10 ∷ []
 refusal_line link.NoMemory = codes "refused NoMemory\n"
 
--- What is printed of what an event's caller was told: the line of its refusal or of its report, or nothing.
+-- What is printed of what an event's caller got: the line of its refusal or of its report, or nothing.
 abbrev pub told_line : Result (Option Report) LinkFault → (uploaded : List ℕ) → List ℕ
 told_line (Ok None) uploaded = []
 told_line (Ok (Some r)) uploaded = report_line r uploaded

@@ -5,23 +5,23 @@ use Rattle.std.specs.Str.{bytes_eq}
 use Rattle.std.specs.Char.{is_ascii_digit}
 use Rattle.hex.specs.Hex.{decode_of, decode_sized}
 
--- One step of reading after another: nothing is read where the first reads nothing.
+-- One step of reading after another: nothing is read if the first reads nothing.
 infixl 10 ◌>>=◌
 abbrev pub ◌>>=◌ : {A B : Type 0} → Option A → (A → Option B) → Option B
 None >>= f = None
 (Some x) >>= f = f x
 
--- This value, where the test holds.
+-- This value, if the test holds.
 abbrev pub guard : {A : Type 0} → Bool → A → Option A
 guard true x = Some x
 guard false x = None
 
--- What the code read, seen for what it means, is what is to be read, and it read nothing exactly where there is nothing.
+-- What the code read, seen for what it means, is what is to be read, and it read nothing exactly if there is nothing.
 abbrev pub Reads : {X Y : Type 0} → (X → Y) → Option X → Option Y → Type 0
 Reads view None read = read ≡ None
 Reads view (Some x) read = read ≡ Some (view x)
 
--- A byte ends a line where it is 0Ah.
+-- A byte ends a line if it is 0Ah.
 abbrev pub is_newline : ℕ → Bool
 is_newline byte = byte == 10
 
@@ -35,7 +35,7 @@ abbrev pub lines_of : List ℕ → List (List ℕ)
 lines_of [] = []
 lines_of (byte ∷ bytes) = if is_newline byte then [] ∷ lines_of bytes else onto_first byte (lines_of bytes)
 
--- A byte parts words where it is 20h.
+-- A byte parts words if it is 20h.
 abbrev pub is_space : ℕ → Bool
 is_space byte = byte == 32
 
@@ -57,7 +57,7 @@ abbrev pub first_word : List (List ℕ) → Option (List ℕ × List (List ℕ))
 first_word [] = None
 first_word (word ∷ words) = Some (word, words)
 
--- What stands behind the first word of a line and one space, where there is such a space.
+-- What follows the first word of a line and one space, if there is such a space.
 unfoldable pub text_behind : List ℕ → Option (List ℕ)
 text_behind line =
     position is_no_space line >>= λ start. position is_space (drop start line) >>= λ end. Some (drop (end + 1) (drop start line))

@@ -13,7 +13,7 @@ use dfu_sim::{Event, LinkFault, World};
 use dfu_slots::{Faulty, Medium, SimMedium};
 use std::alloc::Global;
 
-/// A board beside the device between two sessions, if one plays the script too, and where the first difference is kept.
+/// A board beside the device between two sessions, if one plays the script too, and the place that keeps the first difference.
 #[derive(Drop)]
 pub(crate) struct Beside<'d> {
     board: Option<MemoryBoard>,

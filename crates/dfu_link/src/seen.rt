@@ -1,4 +1,4 @@
-//! What is seen of a script that stops: where a board first differed from the device, and what is wrong with the script.
+//! What is known of a script that stops: the line at which a board first differed from the device, and what is wrong with the script.
 
 use crate::scripting::setup_fault::SetupFault;
 use crate::scripting::wrong::LineFault;

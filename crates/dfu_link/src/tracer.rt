@@ -13,7 +13,7 @@ pub(crate) trait Tracer<M: Faulty> {
     /// A link before an action of its host, if a session is live.
     fn snapshot<'f>(&self, world: &World<'f, M>) -> Option<Snapshot<'f>>;
 
-    /// Writes the action, whose fate was this, and after which the link stands so.
+    /// Writes the action, which had this fate, and after which the link is this.
     fn write_action(&mut self, before: &Snapshot<'_>, fate: Fate<'_>, world: &World<'_, M>);
 
     /// So many milliseconds passed between two actions.
@@ -44,7 +44,7 @@ pub(crate) struct TraceWriter<'n, N> {
 }
 
 impl<'n, N> TraceWriter<'n, N> {
-    /// A trace of which no line is written yet.
+    /// A trace, with no line written yet.
     pub(crate) fn new(alloc: Global, writer: &'n mut N) -> TraceWriter<'n, N> {
         TraceWriter {
             writer,

@@ -35,7 +35,7 @@ use Rattle.dfu_sim.proofs.Closing.{by_table, by_objection, host_closes, host_ope
 pub armed_profile : (w : DeviceView) (fuse : Fuse) → profile (armed w fuse) ≡ profile w
 armed_profile w fuse = λ k. record (profile w) { capacity = room_fused w.slots fuse k }
 
--- A medium that is armed leaves a device's situation as it is.
+-- To arm a medium changes nothing in a device's situation.
 pub armed_situation : (w : DeviceView) (fuse : Fuse) → situation (armed w fuse) ≡ situation w
 armed_situation w fuse = λ k. record { image = image_fused w.slots fuse k; stage = w.stage }
 
@@ -59,7 +59,7 @@ heard_by_delivery d CutsPower back came out heard x f h = (true, h)
 heard_by_delivery d harming true came out heard x f h = f heard h
 heard_by_delivery d harming false came out heard x f h = (true, h)
 
--- A setup that closes a download asks for a DNLOAD of no bytes, whatever it is read as.
+-- A setup that closes a download asks for a DNLOAD of no bytes, whichever request it is read as.
 close_read : (setup : List ℕ) (p : Setup) (q : Asked) → IsSetup p setup → Asks p q → IsCloseSetup setup → is_close q ≡ true
 close_read setup p q reads asks (p2, q2, reads2, asks2, close) =
     let same : p2 ≡ p = IsSetup-one p2 p setup reads2 reads in

@@ -20,7 +20,7 @@ use Rattle.dfu_sim.specs.Play.{heard_over, waits_for}
 use Rattle.dfu_sim.specs.Bytes.{fuse_of, armed, bus_was_reset, HearsBack, ReachesDevice, came_back, ended_back, Sends, Waits, Slips, ResetsBus, Acts, device_left_by, HostActs, HostActsArmed}
 use Rattle.dfu_sim.specs.inside.Acting.{seen_over}
 
--- A request whose rows these are, and of which this comes back.
+-- A request with these rows, and with this coming back.
 pub sends_by : {setup body out : List ℕ} {w w' : DeviceView} (delivery : Delivery) {came b : Response} →
     ReachesDevice delivery.refusing setup body delivery.handling w came out w'
     → b ≡ ended_back delivery.harming (came_back delivery.back came) → (q : Asked) (heard : Heard) → HearsBack (Send q body) b out heard
@@ -38,7 +38,7 @@ seen_heard : (harming : MediumFault) (d : Deed) (s : Seen) (heard x : Heard) →
 seen_heard CutsPower d s heard x f h = h
 seen_heard harming d s heard x f h = f h
 
--- A wait in which this time passes, and of which this is seen.
+-- A wait in which this time passes, and at whose end this is seen.
 pub waits_by : {time : ℕ} (ms : ℕ) (w w' : DeviceView) (delivery : Delivery) {seen_is : Seen}
     → Elapses time w w' → time ≡ waits_for delivery.handling ms
     → seen_is ≡ seen_over delivery.harming seen.Waited → (d : Deed) (heard : Heard) → Hears d seen_is heard → Waits ms delivery w w' heard
@@ -47,7 +47,7 @@ waits_by ms w w' delivery e t k d heard h = (
   seen_heard delivery.harming d seen.Waited heard Waited (λ h. h) (subst (λ (x : Seen). Hears d x heard) k h),
 )
 
--- A reset of the bus after which time may slip in, and of which this is seen.
+-- A reset of the bus after which time may slip in, and at whose end this is seen.
 pub resets_by : {mid : DeviceView} (w w' : DeviceView) (delivery : Delivery) {seen_is : Seen} → mid ≡ bus_was_reset w
     → Slips delivery.handling mid w'
     → seen_is ≡ seen_over delivery.harming seen.WasReset → (d : Deed) (heard : Heard) → Hears d seen_is heard

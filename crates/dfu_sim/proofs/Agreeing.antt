@@ -20,20 +20,20 @@ one_right : (a b : List (List ℕ)) (x : List ℕ) → IsOneOf x b → IsOneOf x
 one_right [] b x one = one
 one_right (y ∷ a) b x one = inr (one_right a b x one)
 
--- The bytes that were closed, where a device has any.
+-- The bytes that were closed, if a device has any.
 abbrev pub closed_in : Stage → List (List ℕ)
 closed_in (InManifestSync taken) = taken ∷ []
 closed_in (InManifest taken passed) = taken ∷ []
 closed_in stage = []
 
--- The payload of a goal, where it has one.
+-- The payload of a goal, if it has one.
 abbrev pub goal_in : Goal → List (List ℕ)
 goal_in (ToLoad payload) = payload ∷ []
 goal_in ToFetch = []
 goal_in (ToVerify payload) = payload ∷ []
 goal_in (ToCompare payload) = payload ∷ []
 
--- The payload of a live session, where there is one.
+-- The payload of a live session, if there is one.
 abbrev pub session_in : Session → List (List ℕ)
 session_in Nobody = []
 session_in (Hosted h) = goal_in h.task.goal
@@ -87,7 +87,7 @@ open_sound (InManifestSync taken) h = elim h [ ]
 open_sound (InManifest taken passed) h = elim h [ ]
 open_sound stage h = tt
 
--- One with no offers agrees where no session is live and nothing is closed.
+-- A session machine with no offers agrees if no session is live and nothing is closed.
 pub fresh_agrees : FreshAgrees
 fresh_agrees w none still = record {
   cur = refl;
@@ -111,7 +111,7 @@ agrees_on b up m shows agrees = record {
   offered = agrees.offered;
 }
 
--- Where a bench agrees, its link does: no image but the one that is shown is active.
+-- If a bench agrees, its link does: no image but the one that is shown is active.
 pub link_agrees : ImageShown → (b : LinkView) (up : List ℕ) (m : Machine) → AgreesOn b up m → Agrees (link_of b) up m
 link_agrees shown b up m agrees = record {
   cur = (shown b).1 m.cur agrees.active;

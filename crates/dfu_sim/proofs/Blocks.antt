@@ -44,14 +44,14 @@ module _ (c : Profile) (offers : List (List ℕ)) (p : List ℕ) where
     pub sound : IsSound offers d.device.stage
     pub next : IfHeard d.heard (λ heard. Fact c p (host_row (task_for c (ToLoad p)) phase heard) d.device)
 
-  -- What a request of this phase comes to where its answer comes back, and where it is lost.
+  -- What a request of this phase comes to if its answer comes back, and if it is lost.
   record Reached (phase : Phase) (s : Situation) (d : Passed) : Type 0 where
     moves : ImageMoves offers p c.transfer s.image (pending_of s.stage) d.device.image (pending_of d.device.stage)
     sound : IsSound offers d.device.stage
     next : Fact c p (host_row (task_for c (ToLoad p)) phase d.heard) d.device
     lost : Fact c p (host_row (task_for c (ToLoad p)) phase Nothing) d.device
 
-  -- Where the power is cut, what is pending is forgotten.
+  -- If the power is cut, what is pending is forgotten.
   cut_moves : {i j : List ℕ} {q r : Option (List ℕ)} → ImageMoves offers p c.transfer i q j r → ImageMoves offers p c.transfer i q j None
   cut_moves (quietly m) = quietly (quiet_on m forgets)
   cut_moves (takes_block n more b f e) = loses_block n more b f e

@@ -12,7 +12,7 @@ pub on_test : {A : Type 0} (P : A → Type 0) (t : Bool) (x y : A) → (t ≡ tr
 on_test P true x y f g = f refl
 on_test P false x y f g = g refl
 
--- What holds where a result is Ok holds of one that is no error.
+-- What holds if a result is Ok holds of one that is no error.
 pub on_fine : {T E P : Type 0} (r : Result T E) → false ≡ is_err r → OnOk r P → P
 on_fine (Ok x) fine p = p
 on_fine (Err e) fine p = absurd (cc)

@@ -1,4 +1,4 @@
--- The phases of a clean comparison: each block of the image comes back, and what is behind the last full one.
+-- The phases of a clean comparison: each block of the image comes back, and what follows the last full one.
 use Rattle.std.proofs.Common.{◌≡◌, ℕ, zero, suc, ◌+◌, ◌-◌, ◌*◌, ◌%◌, ◌/◌, ◌<◌, ◌≤◌, ◌==◌, nat_lt, min, Bool, true, false, if◌then◌else◌, List, [], length, slice_index_or, take, drop, refl, sym, ap, ◌∙◌, subst, arith, length-take, length-drop}
 use Rattle.std.proofs.Math.Nat.{suc-mul, div-mul-le_self, lt-div-mul-add}
 use Rattle.std.proofs.lemmas.Bool.Decides.{nat_tests}
@@ -25,7 +25,7 @@ module _ (c : Profile) (p : List ℕ) (again : ℕ) where
   find_idle : GoesWell InDfuIdle Find 1 InDfuIdle (Compare 0)
   find_idle = one c (ToCompare p) again (λ l k room. refl)
 
-  -- Where k full parts were given.
+  -- When k full parts were given.
   abbrev Given : ℕ → Stage
   Given zero = InDfuIdle
   Given (suc k) = InUploadIdle (suc k * c.transfer) (suc k % 65536)

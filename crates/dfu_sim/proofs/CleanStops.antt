@@ -1,4 +1,4 @@
--- A clean run stops only where there is no memory for a report.
+-- A clean run stops only if there is no memory for a report.
 use Rattle.std.proofs.Common.{◌≡◌, ℕ, zero, suc, ◌-◌, ◌<◌, ◌≤◌, true, List, [], ◌∷◌, ◌++◌, take, drop, replicate, Option, Some, None, refl, sym, ap, ◌∙◌, subst, arith}
 use Rattle.std.proofs.lemmas.List.{take-replicate}
 use Rattle.dfu_device.specs.Stage.{Profile}

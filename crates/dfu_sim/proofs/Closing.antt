@@ -20,7 +20,7 @@ pub by_table : (x : Option Objection) (c : Profile) (i : List ℕ) (stage : Stag
 by_table None c i stage r e = refl
 by_table (Some why) c i stage r e = ap (λ (t : Bool). cond t (error (objection_code why)) (plan c i stage r)) e
 
--- Where it closes one that the program refuses, it is an error.
+-- If it closes one that the program refuses, it is an error.
 pub by_objection : (why : Objection) (c : Profile) (i : List ℕ) (stage : Stage) (r : Request) → closes c.least stage r ≡ true
     → plan_by (Some why) c i stage r ≡ error (objection_code why)
 by_objection why c i stage r e = ap (λ (t : Bool). cond t (error (objection_code why)) (plan c i stage r)) e
@@ -50,7 +50,7 @@ not_true : (b : Bool) → (b ≡ true → ⊥) → b ≡ false
 not_true true f = absurd (f refl)
 not_true false f = refl
 
--- What a host sends to close a download closes it, where it may be closed.
+-- What a host sends to close a download closes it, if it may be closed.
 pub host_closes : (q : Asked) (body : List ℕ) (least : ℕ) (stage : Stage) → IsHosts q body → is_close q ≡ true
     → may_close least stage ≡ true → closes least stage (meant q body) ≡ true
 host_closes (request.Dnload block len) [] least stage i e may = may
@@ -58,7 +58,7 @@ host_closes (request.Dnload block len) (x ∷ xs) least stage i e may =
     let none : len ≡ 0 = grind (arith, nat_tests) in absurd (omega (arith, none, i))
 host_closes q body least stage i e may = absurd cc
 
--- And what is no such request, or where it may not be closed, closes nothing.
+-- A request that is no such request, or comes when the download may not be closed, closes nothing.
 pub host_open : (q : Asked) (body : List ℕ) (least : ℕ) (stage : Stage) → IsHosts q body
     → (is_close q ≡ true → may_close least stage ≡ true → ⊥) → closes least stage (meant q body) ≡ false
 host_open (request.Dnload block len) [] least stage i closes =

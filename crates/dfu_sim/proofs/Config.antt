@@ -1,4 +1,4 @@
--- A device stays what it is set up as, whatever happens to it.
+-- A device stays set up as it was, whatever happens to it.
 use Rattle.std.proofs.Common.{◌≡◌, ℕ, List, [], Option, Some, None, inl, inr, refl, ap, ◌∙◌}
 use Rattle.dfu_device.specs.declared.objection.Objection.{Objection}
 use Rattle.dfu_device.specs.declared.answer.Answer.{Answer}

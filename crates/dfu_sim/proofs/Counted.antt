@@ -19,7 +19,7 @@ use Rattle.dfu_device.specs.DeviceView.{DeviceView}
 use Rattle.dfu_sim.specs.Comes.{ComesWith, GivesWithUploaded}
 use Rattle.dfu_sim.specs.Standing.{SendsBytes, IsCountedIn}
 
--- Bytes are given with Uploaded alone, and then fewer than 65,535 blocks of them.
+-- Bytes are given only with Uploaded, and then fewer than 65,535 blocks of them.
 abbrev pub FitsIn : (t : ℕ) → Option Report → Option (List ℕ) → Type 0
 FitsIn t (Some Uploaded) (Some bytes) = length bytes < 65535 * t
 FitsIn t (Some Uploaded) None = ⊥
@@ -82,13 +82,13 @@ fits_whole t (Some Uploaded) None fits = elim fits [ ]
 fits_whole t report (Some bytes) fits = elim fits [ ]
 fits_whole t report None fits = tt
 
--- And bytes come with Uploaded alone.
+-- Bytes come only with Uploaded.
 pub took_whole : (h : HostState) (heard : Heard) → SendsBytes (Hosted h) → IsCountedIn (Hosted h)
     → GivesWithUploaded (Ok (took h heard).answer)
 took_whole h heard some c = let answer = (took h heard).answer in
     fits_whole h.task.transfer answer.report answer.gave (took_fits h heard some c)
 
--- What a session answers to a restart gives bytes with Uploaded alone.
+-- What a session answers to a restart gives bytes only with Uploaded.
 pub told_whole : (session : Session) → SendsBytes session → IsCountedIn session → GivesWithUploaded (Ok (notify_restart session).answer)
 told_whole Nobody some c = tt
 told_whole (Hosted h) some c = took_whole h Restarted some c

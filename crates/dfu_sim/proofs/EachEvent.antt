@@ -82,7 +82,7 @@ Sizes c Nobody (Offers purpose payload limits) = 0 < c.transfer
 Sizes c (Hosted h) (Goes fate harm) = 0 < c.transfer
 Sizes c session event = Unit {0}
 
--- Where the transfer size is known, each event knows it.
+-- If the transfer size is known, each event knows it.
 pub all_sized : (c : Profile) (session : Session) (event : Happening) → 0 < c.transfer → Sizes c session event
 all_sized c Nobody (Offers purpose payload limits) h = h
 all_sized c (Hosted host) (Goes fate harm) h = h

@@ -102,12 +102,12 @@ go_comes fate harm w w' h h' host' gave gave' report sized counted e gone sessio
     }) (took_whole h gone.acted.heard sized counted) (kept ∙ ap (λ (t : Took). given t.answer.gave (given_by gave)) same)
     (says ∙ ap (λ (t : Took). t.answer.report) same)
 
--- An action where no session is live.
+-- An action while no session is live.
 pub go_refused : (f : Fate) (harm : Harm) (w : DeviceView) (gave : Option HostState)
     → HasCome (link_state w None gave) (Goes f harm) (link_state w None gave) (Err fault.NoHost)
 go_refused f harm w gave = refused_comes (bench_of w None) (Goes f harm) fault.NoHost refl (given_by gave)
 
--- The first of these faults is none, so it is none of them.
+-- There is no first of these faults, so it is not one of them.
 pub not_first : (t : Bool) (fault : HostFault) (rest : Option HostFault) → cond t (Some fault) rest ≡ None → (t ≡ false) × (rest ≡ None)
 not_first true fault rest e = absurd cc
 not_first false fault rest e = (refl, e)
@@ -116,7 +116,7 @@ is_true : (t : Bool) → not t ≡ false → t ≡ true
 is_true true e = refl
 is_true false e = absurd cc
 
--- What is known of a payload and of a device's descriptor, where a session that is offered has no fault.
+-- What is known of a payload and of a device's descriptor, if a session that is offered has no fault.
 record NoFault (purpose : Purpose) (payload : List ℕ) (f : Functional) : Type 0 where
   some : (length payload == 0) ≡ false
   loads : f.can_download ≡ true
@@ -154,7 +154,7 @@ pub can_download : {s : Setting} {purpose : Purpose} {file payload : List ℕ} �
     → s.functional.can_download ≡ true
 can_download offered = (offered_so offered).loads
 
--- It can upload, where the file is to be verified.
+-- The device can upload, if the file is to be verified.
 pub can_upload : {s : Setting} {file payload : List ℕ} → IsOffered s Verify file payload → s.functional.can_upload ≡ true
 can_upload offered = (offered_so offered).gives refl
 
@@ -189,7 +189,7 @@ offer_comes purpose file limits w host h n e begun =
     (begun.content.payload, begun.offered, refl) (bytes_of begun.offered)
     ((λ i. record { device = w; session = Hosted (begun.host i) }), refl)
 
--- The faults of a session that is offered go by the payload and the identifiers alone.
+-- The faults of a session that is offered go only by the payload and the identifiers.
 pub same_fault : (purpose : Purpose) (c d : Content) (f : Functional) (ids : Ids) → c.payload ≡ d.payload → c.ids ≡ d.ids
     → first_offer_fault purpose c f ids ≡ first_offer_fault purpose d f ids
 same_fault Install c d f ids p q = λ i. first_download_fault (record { payload = p i; ids = q i; dfu = c.dfu; suffix = c.suffix }) f ids
@@ -211,7 +211,7 @@ offer_bad s purpose file content f ids why e k found h = (
       (subst (λ (y : Ids). first_offer_fault purpose content f y ≡ Some why) k h),
 )
 
--- Where a session begins, the download has no fault.
+-- If a session begins, the download has no fault.
 pub none_of : (o : Option HostFault) (h : HostState) → ((why : HostFault)
     → (◌≡◌ {A = Result HostState HostFault} (Ok h) (Err why)) ↔ (o ≡ Some why)) → o ≡ None
 none_of None h f = refl

@@ -17,17 +17,17 @@ use Rattle.dfu_sim.proofs.Tells.{ToldBy, Asks, told_time, told_asked}
 use Rattle.dfu_sim.proofs.Kept.{fact_asked, fact_time}
 use Rattle.dfu_sim.proofs.Closing.{by_table, polite_closes}
 
--- Where the host hears anything but a restart.
+-- The host hears anything but a restart.
 abbrev pub IfHeard : Heard → (Heard → Type 0) → Type 0
 IfHeard Restarted P = Unit {0}
 IfHeard heard P = P heard
 
--- What holds of what is heard holds also where that is no restart.
+-- What holds of all that is heard holds if that is no restart.
 pub if_some : (heard : Heard) (P : Heard → Type 0) → P heard → IfHeard heard P
 if_some Restarted P h = tt
 if_some heard P h = h
 
--- What holds before the end of an action holds after it, where the host hears of no restart.
+-- What holds before the end of an action holds after it, if the host hears of no restart.
 pub if_ended : (harming : MediumFault) (d : Passed) (P : Heard → Situation → Type 0) → P d.heard d.device
     → IfHeard (ends_by harming d).heard (λ heard. P heard (ends_by harming d).device)
 if_ended CutsPower d P h = tt
@@ -43,7 +43,7 @@ pub any_heard : (heard : Heard) (P : Heard → Type 0) → ((x : Heard) → P x)
 any_heard Restarted P f = tt
 any_heard heard P f = f heard
 
--- With memory all is heard as it is.
+-- With memory all is heard unchanged.
 pub all_remembered : (x : Heard) → x ≡ remembered x true
 all_remembered (Part bytes) = refl
 all_remembered x = refl
@@ -53,7 +53,7 @@ module _ (c : Profile) (offers : List (List ℕ)) where
   pub quiet_power : (s : Situation) → IsQuiet offers s (powered s)
   quiet_power s = record { moves = forgets; sound = tt }
 
-  -- Nothing at all is quiet.
+  -- Hearing nothing is quiet.
   pub quiet_none : (s : Situation) → IsSound offers s.stage → IsQuiet offers s s
   quiet_none s h = record { moves = stays; sound = h }
 

@@ -28,7 +28,7 @@ module _ (c : Profile) (offers : List (List ℕ)) (k : ℕ) (kept : List ℕ) wh
   abbrev pub Fetched : Situation → Passed → Type 0
   Fetched s d = GoesQuietly c offers ToFetch (on_part c.transfer k kept) s d
 
-  -- What such a request comes to where its answer comes back; where it is lost, the host looks for the device.
+  -- What such a request comes to if its answer comes back. If the answer is lost, the host looks for the device.
   record Reached (s : Situation) (d : Passed) : Type 0 where
     moves : Quiet offers s.image (pending_of s.stage) d.device.image (pending_of d.device.stage)
     sound : IsSound offers d.device.stage
@@ -95,7 +95,7 @@ module _ (c : Profile) (offers : List (List ℕ)) (k : ℕ) (kept : List ℕ) wh
   second_fault : (image : List ℕ) (code : Code) → Second image (error code)
   second_fault image code = record { moves = λ luck. forgets; sound = λ luck. tt; next = λ luck. tt }
 
-  -- From state 2, where nothing was kept.
+  -- From state 2, if nothing was kept.
   from_idle : (image : List ℕ) → k < 65535 → (k ≡ 0 → kept ≡ []) → Second image (plan c image InDfuIdle (Upload (k % 65536) c.transfer))
   from_idle image b e =
       either_way (Second image) c.can_upload _ _
@@ -132,7 +132,7 @@ module _ (c : Profile) (offers : List (List ℕ)) (k : ℕ) (kept : List ℕ) wh
   sent_full part place number s h n q Again l r = record { moves = quiet_on forgets (q.moves r); sound = q.sound r; next = q.next r }
   sent_full part place number s h n q how l r = record { moves = forgets; sound = tt; next = n }
 
-  -- A second time, where the number is past.
+  -- A second time, if the number is past.
   past : (image : List ℕ) (place number : ℕ) → number ≡ k % 65536
       → Second image (plan c image (InUploadIdle place (next_number number)) (Upload (k % 65536) c.transfer))
   past image place number e =

@@ -15,7 +15,7 @@ module _ (c : Profile) (g : Goal) (again : ℕ) where
   pub detach : (i : List ℕ) → Leads c g again i InAppIdle Detach 1 i (InAppDetach (min c.detach_ms c.detach_ms) 0) Enter
   detach i = one c g again (λ l k room. refl)
 
-  -- The bus is reset, or the device detaches by itself, and it stands in dfuIDLE.
+  -- The bus is reset, or the device detaches by itself, and it is in dfuIDLE.
   pub enter : (i : List ℕ) (timer : ℕ) → Leads c g again i (InAppDetach timer 0) Enter 1 i InDfuIdle Find
   enter i timer = split c.will_detach
       (λ e. one c g again (λ l k room. let f : (max 1 c.detach_ms == 0) ≡ false = grind (arith, nat_tests) in rw (e, f)))

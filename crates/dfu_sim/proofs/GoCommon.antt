@@ -23,7 +23,7 @@ module _ (c : Profile) (offers : List (List ℕ)) (g : Goal) where
     pub quiet : IsQuiet offers s d.device
     pub next : IfHeard d.heard (λ heard. GoalFact c g (follows heard) d.device)
 
-  -- A wait goes quietly, where the fact of the phase after it holds as time passes.
+  -- A wait goes quietly, if the fact of the phase after it holds as time passes.
   pub go_wait : (next again : Phase) (s : Situation) (ms : ℕ) (delivery : Delivery) (l : Luck)
       → GoalFact c g next (elapsed c s (waits_for delivery.handling ms) l) → IsSound offers s.stage
       → GoesQuietly (λ heard. on_waited heard next again) s (waited c s ms delivery l)
@@ -32,7 +32,7 @@ module _ (c : Profile) (offers : List (List ℕ)) (g : Goal) where
     next = if_ended delivery.harming _ (λ heard x. GoalFact c g (on_waited heard next again) x) f;
   }
 
-  -- A reset of the bus goes quietly, where the fact of the phase after it holds of the device that was reset.
+  -- A reset of the bus goes quietly, if the fact of the phase after it holds of the device that was reset.
   pub go_reset : (next again : Phase) (s : Situation) (delivery : Delivery) (l : Luck)
       → GoalFact c g next (slipped c (was_reset s) delivery.handling l)
       → GoesQuietly (λ heard. on_reset heard next again) s (bus_reset c s delivery l)

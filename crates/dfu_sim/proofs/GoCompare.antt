@@ -55,7 +55,7 @@ module _ (c : Profile) (offers : List (List ℕ)) (p : List ℕ) (some : 0 < len
       let more : front k ++ part ≡ front (suc k) = ap (λ x. front k ++ x) same ∙ sym (first_next p c.transfer k long) in
       (f.0, subst (λ (x : List ℕ). Fetches (suc k) x d.image d.stage) more f.1)
 
-  -- What is known where a part was fetched behind the first k blocks is known where it was compared with block k.
+  -- What is known once a part was fetched after the first k blocks is known once it was compared with block k.
   compared_fact : (k : ℕ) (heard : Heard) (d : Situation) → FetchFact (on_part c.transfer k (front k) heard) d
       → CompareFact c p (on_compared c.transfer k (block k) heard) d
   compared_fact k (Part part) d h =

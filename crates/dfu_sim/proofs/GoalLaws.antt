@@ -28,7 +28,7 @@ module _ (c : Profile) where
   abbrev pub Next : Goal → Situation → Phase → Heard → Type 0
   Next g s phase heard = GoalFact c (goal_after g phase heard) (host_row (task_for c g) phase heard) s
 
-  -- Where the goal stays after the last reset, the fact of the phase that follows is that of the goal.
+  -- If the goal stays after the last reset, the fact of the phase that follows is the goal's.
   pub goal_stays : (g : Goal) → ((phase : Phase) (s : Situation) → GoalFact c g phase s → GoalFact c (goal_after_reset g) phase s)
       → (s : Situation) (phase : Phase) (heard : Heard) → GoalFact c g (host_row (task_for c g) phase heard) s → Next g s phase heard
   goal_stays g f s phase heard h =

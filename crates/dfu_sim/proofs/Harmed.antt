@@ -123,7 +123,7 @@ left_same harming same = disarmed_same same
 hosted_one : (h k : HostState) → Hosted h ≡ Hosted k → k ≡ h
 hosted_one h k e = sym cc
 
--- The host's next action, where a write is harmed in it.
+-- The host's next action, in which a write is harmed.
 action_once : (fate : Fate) (harm : Harm) (b c d : LinkView) (x y : Answered) → HarmsAWrite (delivery_of fate).harming
     → NextAction b.session fate harm b c x → NextAction b.session fate harm b d y → AreOne c d x y
 action_once fate harm b c d x y harms g k =

@@ -78,7 +78,7 @@ pub loads_session : (session : Session) (x : List ℕ) → IsLivePayload session
 loads_session Nobody x is = absurd is
 loads_session (Hosted h) x is = loads_goal h.task.goal x is
 
--- The session machine of a link of which the headline holds.
+-- The session machine of a link for which the headline holds.
 abbrev machine_at : WorldView → List ℕ → Machine
 machine_at w image = machine_with image w.bench.device.stage w.bench.session w.up
 
@@ -104,7 +104,7 @@ past_then {past = past} {w = w} k = record {
   live = λ x e. k.kept.live x (session_loads w.bench.session x e);
 }
 
--- The headline holds where a session machine agrees that has what was offered, and where what is reported is so.
+-- The headline holds if a session machine that has what was offered agrees, and if what is reported is so.
 abbrev pub holds_by : {factory : List ℕ} {past : List Begun} {report : Option Report} {b : LinkView} {up : List ℕ} {m : Machine}
     → AgreesOn b up m → IsOfPast factory past m → (SaysInPlace report → (b.device.stage ≡ InAppIdle) × IsLastPayload past m.cur)
     → HeadlineHolds factory past report b

@@ -55,7 +55,7 @@ module _ (c : Profile) (p : List ℕ) (some : 0 < length (blocks p c.transfer)) 
   manifested_fact tolerant code poll state image stage f h t =
       troubled_fact code poll state (record { image = image; stage = stage }) t
 
-  -- The fact of the phase after a state, where the answer to block n was lost.
+  -- The fact of the phase after a state, if the answer to block n was lost.
   pub asked_fact : (n : ℕ) (state : State) (image : List ℕ) (stage : Stage) → n < b → Asking p c.transfer n stage → Tells state stage
       → Fact c p (asked_phase n state) (record { image = image; stage = stage })
   asked_fact n DownloadSync image (InDownloadSync before block number) l h t = (l, h)
@@ -63,7 +63,7 @@ module _ (c : Profile) (p : List ℕ) (some : 0 < length (blocks p c.transfer)) 
   asked_fact (suc n) DownloadIdle image (InDownloadIdle taken number) l h t = (l, h)
   asked_fact n state image stage l h t = search
 
-  -- The fact of the phase after a state, where the answer to the close was lost.
+  -- The fact of the phase after a state, if the answer to the close was lost.
   pub asked_last_fact : (state : State) (image : List ℕ) (stage : Stage) → AskingLast p stage → Tells state stage
       → Fact c p (asked_last state) (record { image = image; stage = stage })
   asked_last_fact ManifestSync image (InManifestSync taken) h t = h

@@ -34,7 +34,7 @@ module _ (c : Profile) (why : Objection) (i : List ℕ) where
   abbrev At : Stage → Situation
   At stage = record { image = i; stage = stage }
 
-  -- What holds of dfuERROR where it holds of the two states that are left stays.
+  -- What holds of a stage still holds after a refusal, if for the two stages that a refusal leaves it follows of dfuERROR.
   stage_refused : (F : Stage → Type 0) → ((taken : List ℕ) → F (InManifestSync taken) → F (InError (objection_code why)))
       → ((taken : List ℕ) (passed : ℕ) → F (InManifest taken passed) → F (InError (objection_code why))) → (stage : Stage) → F stage
       → F (refuse_stage why stage)

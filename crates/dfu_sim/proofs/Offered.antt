@@ -90,7 +90,7 @@ past_on {factory = factory} {past = past} {m = m} {w = w} h {report = report} of
       live = λ x e. last_on h f.kind past m x f.is of_past.live (live_by x f.step e);
     }
 
--- Where Installed or Verified is reported, the image of the machine is the payload of the last session.
+-- If Installed or Verified is reported, the image of the machine is the payload of the last session.
 pub in_place_on : {factory : List ℕ} {past : List Begun} {m : Machine} {w w' : WorldView} (h : Happening) {report : Option Report}
     → IsOfPast factory past m → (f : IsFollowed w h w' report m) → SaysInPlace report → IsLastPayload (begun_by h past) f.after.cur
 in_place_on {past = past} {m = m} h of_past f e = last_on h f.kind past m f.after.cur f.is of_past.live (in_place_by f.step e)

@@ -47,7 +47,7 @@ module _ (c : Profile) (goal : Goal) (again : ℕ) where
         subst (λ z. Quietly c (at i s phase z) 1 (at j t next (suc l))) e (there (f l) here);
   }
 
-  -- The host at this phase, where its budget lasts.
+  -- The host at this phase, if its budget lasts.
   abbrev pub comes_to : Phase → ℕ → Took
   comes_to phase l = let q = budgeted (suc l) phase in settled (host_at q (suc l)) q
 
@@ -69,7 +69,7 @@ module _ (c : Profile) (goal : Goal) (again : ℕ) where
       ∙ ap (λ (q : Took). record { link = record { device = record { image = j; stage = t }; session = q.session }; answer = q.answer })
       (f l room ∙ ap (λ x. comes_to x l) g ∙ comes_on next l on))
 
--- Passes lead on to where more passes lead.
+-- Passes, and more passes after them, lead to where the later ones lead.
 pub leads_on : {c : Profile} {goal : Goal} {again : ℕ} {i j m : List ℕ} {s t u : Stage} {a b d : Phase} {k n : ℕ}
     → Leads c goal again i s a k j t b → Leads c goal again j t b n m u d → Leads c goal again i s a (k + n) m u d
 leads_on {c = c} {goal = goal} {again = again} {i = i} {j = j} {m = m} {s = s} {t = t} {u = u} {a = a} {b = b} {d = d} {k = k} {n = n} x y =

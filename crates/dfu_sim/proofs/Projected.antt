@@ -52,7 +52,7 @@ abbrev pub fuse_in : Happening → Fuse
 fuse_in (Goes fate harm) = fuse_of (delivery_of fate).harming harm
 fuse_in event = Whole
 
--- What benches show of an event; where no write is harmed it goes at the luck that the medium works.
+-- What benches show of an event. If no write is harmed, it goes as when the medium works.
 record Showed (b : LinkView) (event : Happening) (fuse : Fuse) (b' : LinkView) (answer : Answered) : Type 0 where
   shown : Shows b event b' answer
   sure : fuse ≡ Whole → (room : Bool) × (played (profile b.device) (link_of b) event Works Works room
@@ -100,7 +100,7 @@ goes_show fate harm b b' answer allowed g =
       );
     }
 
--- An event that goes at the luck that the medium works, whatever it does.
+-- An event that goes as when the medium works, whatever it does.
 at_luck : (b b' : LinkView) (event : Happening) (answer : Answered) → MayHappen b.session event
     → played (profile b.device) (link_of b) event Works Works true ≡ record { link = link_of b'; answer = answer }
     → profile b'.device ≡ profile b.device → b'.device.slots.medium.fuse ≡ Whole → Showed b event Whole b' answer
@@ -143,7 +143,7 @@ shows event b b' answer allowed unarmed h = at_once b b' _ event answer _ allowe
 pub bytes_show : BytesShow
 bytes_show b b' event answer p = (shows event b b' answer p.allowed p.unarmed p.happens).shown
 
--- Where no write is harmed, the play is the one at the luck that the medium works.
+-- If no write is harmed, the play is the one in which the medium works.
 pub bytes_sure : (b b' : LinkView) (event : Happening) (answer : Answered) → BytePlay b event b' answer
     → fuse_in event ≡ Whole
     → (room : Bool) × (played (profile b.device) (link_of b) event Works Works room ≡ record { link = link_of b'; answer = answer })

@@ -5,12 +5,12 @@ use Rattle.dfu_host.specs.declared.report.Report.TheVariants.{Installed, Uploade
 use Rattle.dfu_sim.specs.Session.{Machine, Loading, IsOneOf, Begins, begins_not, installs, MayDrop, ends_not, drops, SaysReport, says_not, says_installed, says_verified, says_uploaded, says_other, Kind, AnOffer, SaysInPlace, SaysNoPromise, MachineStep, passes_installed, restarts, refuses, goes, stops, and_then}
 use Rattle.dfu_sim.specs.Simulation.{offers_after, OnlyOffered}
 
--- Taking or installing leaves the live session as it is.
+-- Taking or installing leaves the live session unchanged.
 pub begins_live : {t : ℕ} {m m' : Machine} → Begins t m m' → m'.live ≡ m.live
 begins_live begins_not = refl
 begins_live b = refl
 
--- Dropping what is pending leaves the live session as it is.
+-- Dropping what is pending leaves the live session unchanged.
 pub ends_live : {m m' : Machine} → MayDrop m m' → m'.live ≡ m.live
 ends_live ends_not = refl
 ends_live drops = refl
@@ -28,7 +28,7 @@ says_live (says_verified live none) e = live
 says_live (says_other {report = report} plain one) e = absurd (not_in_place (Some report) plain e)
 says_live s e = elim e [ ]
 
--- Where Installed or Verified is said, the payload of the live session is the active image.
+-- If Installed or Verified is said, the payload of the live session is the active image.
 pub step_live : {tolerant : Bool} {t : ℕ} {kind : Kind} {m m' : Machine} {report : Option Report} → MachineStep tolerant t kind m report m'
     → SaysInPlace report → m.live ≡ Loading m'.cur
 step_live {report = report} (restarts s plain) e = absurd (not_in_place report plain e)
@@ -41,7 +41,7 @@ says_up (says_uploaded live) e = refl
 says_up (says_other plain one) e = absurd (subst SaysNoPromise e plain)
 says_up s e = absurd cc
 
--- Where Uploaded is said, what was uploaded is the active image.
+-- If Uploaded is said, what was uploaded is the active image.
 pub step_up : {tolerant : Bool} {t : ℕ} {kind : Kind} {m m' : Machine} {report : Option Report} → MachineStep tolerant t kind m report m'
     → report ≡ Some Uploaded → m'.up ≡ m'.cur
 step_up (restarts s plain) e = absurd (subst SaysNoPromise e plain)

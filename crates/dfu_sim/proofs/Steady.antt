@@ -39,7 +39,7 @@ kind_is s (Offers purpose file limits) event m = (m.0, m.1.ids, m.1.dfu, m.1.ext
 kind_is s (Uploads limits) event m = ap kind_of m.1
 kind_is s h event m = ap kind_of m
 
--- The transfer size, where it is needed.
+-- The transfer size, if it is needed.
 
 -- An event with which a session begins knows the transfer size.
 abbrev BeginsSized : (t : ℕ) → Happening → Type 0
@@ -101,7 +101,7 @@ module _ {b b' : LinkView} {event : Happening} {answer : Answered} (steady : IsS
             (sized_or_none b.device b.session event b' answer begins steady.fact steady.sized play.allowed play.happens);
       }
 
-  -- The active image is given, where Uploaded is reported.
+  -- The active image is given if Uploaded is reported.
   image_given : (up : List ℕ) → answer.report ≡ Some Uploaded → given answer.gave up ≡ (link_of b').device.image
   image_given up e =
       let f = follows_play up (machine_of (link_of b) up) (machine_agrees (link_of b) up) in
@@ -110,7 +110,7 @@ module _ {b b' : LinkView} {event : Happening} {answer : Answered} (steady : IsS
   play_fits : FitsIn b.device.config.functional.transfer answer.report answer.gave
   play_fits = happens_fits (profile b.device) (situation b.device) event b b' answer steady.fact steady.sized steady.counted play.happens
 
--- What holds of what comes of an event holds of what its caller is told.
+-- What holds of what comes of an event holds of what its caller gets.
 told_so : {w w' : WorldView} {h : Happening} {result : Result (Option Report) LinkFault}
     (P : WorldView → Result (Option Report) LinkFault → Type 0) (x : HasCome w h w' result)
     → P (linked w'.bench (given (gave_of x.answer) w.up)) (shown_as x.answer) → P w' result
@@ -215,7 +215,7 @@ as_played b b' event answer play h =
     let s = bytes_sure b b' event answer play (harmless_whole event h) in
     record { room = s.0; answer = answer; same = s.1; told = refl }
 
--- What comes of an event goes as the table of fates says, where no write is harmed.
+-- What comes of an event goes as the table of fates says, if no write is harmed.
 pub comes_sure : {b b' : LinkView} {h : Happening} {answer : Result Answered LinkFault} → Comes b h b' answer
     → AllSure b h b' (shown_as answer)
 comes_sure (refuses why) = tt
@@ -229,7 +229,7 @@ comes_sure {b = b} {b' = b'} {h = h} (happens {event = event} {answer = answer} 
   works = as_played b b' event answer play;
 }
 
--- Each event that comes goes as the table of fates says, where no write is harmed.
+-- Each event that comes goes as the table of fates says, if no write is harmed.
 pub come_sure : {w w' : WorldView} {h : Happening} {result : Result (Option Report) LinkFault} → HasCome w h w' result
     → AllSure w.bench h w'.bench result
 come_sure {w = w} {h = h} x = told_so (λ v r. AllSure w.bench h v.bench r) x (comes_sure x.comes)

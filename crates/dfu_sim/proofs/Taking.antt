@@ -45,7 +45,7 @@ task_by c task g = λ i. record {
 }
 
 module _ (c : Profile) (offers : List (List ℕ)) where
-  -- What a host took, over a device, where this was live.
+  -- What a host took, over a device, if this session was live.
   pub record TookWell (s : Situation) (live : Live) (up : List ℕ) (t : Took) : Type 0 where
     pub says : SaysReport c.tolerant (shown offers s.image (pending_of s.stage) live up) t.answer.report
         (shown offers s.image (pending_of s.stage) (live_of t.session) (given t.answer.gave up))
@@ -155,7 +155,7 @@ module _ (c : Profile) (offers : List (List ℕ)) where
   restarted_well s h up phase (suc again) v = budget_well s h.task up Find (pred h.actions) again v tt
       (goal_anywhere c h.task.goal s Find tt)
 
-  -- A restart of the device, told to a live host.
+  -- A restart of the device, of which a live host hears.
   pub restart_taken : (s : Situation) (h : HostState) (up : List ℕ) → IsOn h.phase → TaskGoesBy c h.task
       → IsLiveOffer offers (live_goal h.task.goal)
       → HasBlocks c h.task.goal → TookWell s (live_goal h.task.goal) up (took h Restarted)
@@ -174,7 +174,7 @@ module _ (c : Profile) (offers : List (List ℕ)) where
       (lives_checked (ToVerify p) v) tt (goal_anywhere c (ToCompare p) s Find tt)
   last_well s g up phase left again v = plain_well s g up Unconfirmed tt
 
-  -- No event of a link tells that its device left of itself. It would keep what holds.
+  -- In no event of a link a host hears that its device left by itself. It would keep what holds.
   left_well : (s : Situation) (g : Goal) (up : List ℕ) (phase : Phase) (left again : ℕ) (behind : Bool) → Lives (task_for c g)
       → let q = left_by (record { task = task_for c g; phase = phase; actions = left; restarts = again }) phase behind in
       TookWell s (live_goal g) up (settled q q.phase)
@@ -182,7 +182,7 @@ module _ (c : Profile) (offers : List (List ℕ)) where
   left_well s g up phase left again false v =
       restarted_well s (record { task = task_for c g; phase = phase; actions = left; restarts = again }) up phase again v
 
-  -- Where a part of an upload finds no memory, the session is over.
+  -- If a part of an upload finds no memory, the session is over.
   part_well : (g : Goal) (k : ℕ) (kept : List ℕ) (s d : Situation) (room : Bool) (heard : Heard) → GoalFact c g (Fetch k kept) s
       → IfHeard heard (Next c g d (Fetch k kept)) → IfHeard (remembered heard room) (Next c g d (Fetch k kept))
   part_well ToFetch k kept s d false (Part bytes) f n = tt

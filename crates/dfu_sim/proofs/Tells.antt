@@ -1,4 +1,4 @@
--- What a phase asks for, and what an answer tells of the device.
+-- What a phase asks for, and what an answer says of the device.
 use Rattle.std.proofs.Common.{ℕ, ◌==◌, List}
 use Rattle.dfu_wire.specs.declared.states.State.{State}
 use Rattle.dfu_wire.specs.declared.states.State.TheVariants.{DfuIdle, DownloadSync, DownloadIdle, ManifestSync}
@@ -9,7 +9,7 @@ use Rattle.dfu_device.specs.Cases.{either_way}
 use Rattle.dfu_host.specs.Phases.{Phase, Find, FindAgain, Ask, Poll, AskLast, Manifest, Trouble, Heard, Status, StateIs}
 use Rattle.dfu_sim.specs.Play.{heard_as}
 
--- A state that was told, where it stays as time passes.
+-- A state that was reported, if it stays as time passes.
 abbrev pub Tells : State → Stage → Type 0
 Tells DfuIdle InDfuIdle = Unit {0}
 Tells DfuIdle stage = ⊥
@@ -23,7 +23,7 @@ Tells ManifestSync InManifestSyncComplete = Unit {0}
 Tells ManifestSync stage = ⊥
 Tells state stage = Unit {0}
 
--- The phases that ask for this: the status, or the state alone.
+-- The phases that ask for this: the status, or only the state.
 abbrev pub Asks : Request → Phase → Type 0
 Asks GetStatus Find = Unit {0}
 Asks GetStatus FindAgain = Unit {0}
@@ -34,14 +34,14 @@ Asks GetState (Ask n) = Unit {0}
 Asks GetState AskLast = Unit {0}
 Asks request phase = ⊥
 
--- What was heard tells of the state that the device is in.
+-- What was heard names the state that the device is in.
 abbrev pub ToldBy : Heard → Stage → Type 0
 ToldBy (Status code poll state) stage = Tells state stage
 ToldBy (StateIs state) stage = Tells state stage
 ToldBy heard stage = Unit {0}
 
 module _ (c : Profile) (i : List ℕ) where
-  -- What the state tells still holds as time passes.
+  -- What the state says still holds as time passes.
   pub tells_time : (state : State) (stage : Stage) (ms : ℕ) (luck : Luck) → Tells state stage
       → Tells state (outcome i (time_plan c stage ms) luck).after.stage
   tells_time DfuIdle InDfuIdle ms luck h = tt
@@ -54,18 +54,18 @@ module _ (c : Profile) (i : List ℕ) where
   tells_time ManifestSync stage ms luck h = search
   tells_time state stage ms luck h = tt
 
-  -- What was told still holds as time passes.
+  -- What was reported still holds as time passes.
   pub told_time : (heard : Heard) (stage : Stage) (ms : ℕ) (luck : Luck) → ToldBy heard stage
       → ToldBy heard (outcome i (time_plan c stage ms) luck).after.stage
   told_time (Status code poll state) stage ms luck h = tells_time state stage ms luck h
   told_time (StateIs state) stage ms luck h = tells_time state stage ms luck h
   told_time heard stage ms luck h = tt
 
-  -- What is answered by this plan tells of the device.
+  -- What is answered by this plan is true of the device.
   abbrev Told : Plan → Type 0
   Told p = (luck : Luck) → ToldBy (heard_as (outcome i p luck).reply) (outcome i p luck).after.stage
 
-  -- The answer to what a phase asks for tells of the device.
+  -- The answer to what a phase asks for is true of the device.
   pub told_asked : (r : Request) (phase : Phase) (stage : Stage) → Asks r phase → Told (plan c i stage r)
   told_asked GetStatus phase (InDownloadSync before block number) a =
       either_way Told (c.busy == 0) _ _ (elim [ Works ↦ tt | FailsOld fault ↦ tt | FailsNew fault ↦ tt ]) (λ luck. tt)

@@ -71,7 +71,7 @@ module _ (c : Profile) (p : List ℕ) (again : ℕ) where
       let g : nat_lt c.capacity (length before + length body) ≡ false = grind (arith, nat_tests) in
       rw (e, f, g)
 
-  -- Where n blocks are taken.
+  -- When n blocks are taken.
   abbrev pub Taken : ℕ → Stage
   Taken zero = InDfuIdle
   Taken (suc n) = InDownloadIdle (first p c.transfer (suc n)) (suc n % 65536)

@@ -31,7 +31,7 @@ room_stays (Part bytes) false never e = absurd cc
 room_stays heard room never e = never e
 
 module _ (c : Profile) (p : List ℕ) where
-  -- No pass tells a host that its device left of itself.
+  -- In no pass a host hears that its device left by itself.
   pass_stays : (s : Situation) (d : Deed) (l k : Luck) → (acted c s d (delivery_of Pass) l k).heard ≡ Left → ⊥
   pass_stays s (Send q body) l k e = reply_stays (outcome s.image (plan c s.image s.stage (meant q body)) l).reply e
   pass_stays s d l k e = absurd cc

@@ -16,7 +16,7 @@ MayPlace (Goes fate harm) = Unit {0}
 MayPlace (Passes ms) = Unit {0}
 MayPlace h = ⊥
 
--- One thing that came to a link, what its caller was told, and the link after it.
+-- One thing that came to a link, what its caller got, and the link after it.
 pub record LinkStep : Type 0 where
   pub happening : Happening
   pub told : Result (Option Report) LinkFault
@@ -48,7 +48,7 @@ abbrev pub LinkAccepts : Type 0
 LinkAccepts = (check : List ℕ → Bool) (w w' : WorldView) (steps : List LinkStep) → AllCame w steps w' → HeedsSteps check w steps
     → (image_on w' ≡ image_on w) ⊎ (check (image_on w') ≡ true)
 
--- Where the headline says what is active then, it is the factory image, or one whole payload that was offered and that the check accepts.
+-- If the headline says what is active then, it is the factory image, or one whole payload that was offered and that the check accepts.
 abbrev pub OffersAccepted : Type 0
 OffersAccepted = (check : List ℕ → Bool) (w w' : WorldView) (steps : List LinkStep) (factory image : List ℕ) (past : List Begun)
     (report : Option Report) → Active w.bench.device.slots.medium factory → AllCame w steps w' → HeedsSteps check w steps

@@ -58,8 +58,8 @@ IsLiveOffer offers NoOne = Unit {0}
 IsLiveOffer offers (Loading payload) = IsOneOf payload offers
 IsLiveOffer offers Fetching = Unit {0}
 
--- A bench, with what the last reported upload gave, agrees with a session machine: the machine's active image is that of the medium's
--- bytes; what is pending, what is live and what was uploaded are the machine's; bytes that were closed, and the payload of the live
+-- A bench, with what the last reported upload gave, agrees with a session machine. The machine's active image is that of the medium's
+-- bytes; what is pending, what is live and what was uploaded are the machine's. Bytes that were closed, and the payload of the live
 -- session, are among its offers. So the bench fixes all of it but the offers.
 pub record AgreesOn (b : LinkView) (up : List ℕ) (m : Machine) : Type 0 where
   pub active : Active b.device.slots.medium m.cur

@@ -1,4 +1,4 @@
--- A play with its bytes: requests and answers go as bytes, and the device stands on a medium.
+-- A play with its bytes: requests and answers go as bytes, and the device has a medium.
 use Rattle.std.specs.Prelude.{◌≡◌, ◌⊎◌, ℕ, Bool, true, false, IsTrue, List, Option, Some, None}
 use Rattle.dfu_wire.specs.declared.requests.Request.{Request as Asked}
 use Rattle.dfu_slots.specs.Medium.{Fuse}
@@ -27,7 +27,7 @@ use Rattle.dfu_sim.specs.LinkView.{LinkView, Session, Hosted}
 use Rattle.dfu_sim.specs.Opening.{goal_of_purpose, opened}
 use Rattle.dfu_sim.specs.Play.{heard_over, waits_for, Link, Answered, silent, took, notify_restart, session_aborted, MayHappen}
 
--- The fuse of the medium in an action: a cut stops all writes after the harmed one; a failure and a lie are of that one alone.
+-- The fuse of the medium in an action: a cut stops all writes after the harmed one; a failure and a lie concern only that one.
 abbrev pub fuse_of : MediumFault → Harm → Fuse
 fuse_of NoWrite harm = Whole
 fuse_of CutsPower harm = Armed harm.writes harm.tear true
@@ -87,7 +87,7 @@ abbrev pub came_back : Bool → Response → Response
 came_back true b = b
 came_back false b = response.Lost
 
--- Where the power was cut, no answer comes back.
+-- If the power was cut, no answer comes back.
 abbrev pub ended_back : MediumFault → Response → Response
 ended_back NoWrite b = b
 ended_back CutsPower b = response.Restarted
@@ -123,7 +123,7 @@ Acts (Wait ms) delivery w w' heard = Waits ms delivery w w' heard
 Acts Reset delivery w w' heard = ResetsBus delivery w w' heard
 Acts (Done report) delivery w w' heard = ⊥
 
--- The device once the action is over: not armed any more, and in appIDLE where its power was cut.
+-- The device once the action is over: not armed any more, and in appIDLE if its power was cut.
 abbrev pub device_left_by : MediumFault → DeviceView → DeviceView
 device_left_by NoWrite w = armed w Whole
 device_left_by CutsPower w = powered_up w
@@ -134,7 +134,7 @@ device_left_by LiesInWrite w = armed w Whole
 abbrev pub link_of : LinkView → Link
 link_of b = record { device = situation b.device; session = b.session }
 
--- A host's action goes by its delivery, and the host takes what it hears. It finds no memory only where its phase wants some.
+-- A host's action goes by its delivery, and the host takes what it hears. It finds no memory only if its phase wants some.
 pub record HostActs (h : HostState) (delivery : Delivery) (w w' : DeviceView) (h' : HostState) : Type 0 where
   pub heard : Heard
   pub acts : Acts (deed h.task h.phase) delivery w w' heard
@@ -147,7 +147,7 @@ pub record HostActsArmed (h : HostState) (delivery : Delivery) (harm : Harm) (w 
   pub acted : HostActs h delivery (armed w (fuse_of delivery.harming harm)) last h'
   pub device : w' ≡ device_left_by delivery.harming last
 
--- The host's next action on a bench. Where the host is done then, its session is over with its report.
+-- The host's next action on a bench. If the host is done then, its session is over with its report.
 pub record NextAction (h : Session) (fate : Fate) (harm : Harm) (b b' : LinkView) (answer : Answered) : Type 0 where
   pub host : HostState
   pub live : h ≡ Hosted host

@@ -28,7 +28,7 @@ pub data Quietly (c : Profile) : Link → ℕ → Link → Type 0 where
 abbrev pub resting : List ℕ → Link
 resting image = record { device = record { image = image; stage = InAppIdle }; session = Nobody }
 
--- How many actions a clean run takes: those of a clean download; and where it is verified, six more, and one for each full block of the
+-- How many actions a clean run takes: those of a clean download; and if it is verified, six more, and one for each full block of the
 -- payload.
 abbrev pub actions_of : Purpose → (t busy manifest : ℕ) → List ℕ → ℕ
 actions_of Install t busy manifest payload = clean (length (blocks payload t)) busy manifest
@@ -44,7 +44,7 @@ abbrev pub HasParts : Purpose → (t : ℕ) → List ℕ → Type 0
 HasParts Install t payload = Unit {0}
 HasParts Verify t payload = length payload / t < 65535
 
--- The device can do what the session asks for: it downloads, and where the payload is verified it uploads too.
+-- The device can do what the session asks for: it downloads, and if the payload is verified it uploads too.
 abbrev pub CanDo : Purpose → Profile → Type 0
 CanDo Install c = c.can_download ≡ true
 CanDo Verify c = (c.can_download ≡ true) × (c.can_upload ≡ true)
@@ -55,8 +55,8 @@ pub record InstalledAfter (c : Profile) (w : Link) (count : ℕ) (payload : List
   pub quiet : Quietly c w (count - 1) before
   pub last : PassesTo c before (resting payload) (record { report = Some report; gave = None })
 
--- A tolerant device that can do it, in appIDLE; a payload with at least the fewest bytes and at most the room; actions for a clean run at
--- least: after the offer, exactly as many passes as a clean run has end in its report.
+-- Given are a tolerant device that can do it, in appIDLE, a payload with at least the fewest bytes and at most the room, and enough
+-- actions for a clean run. Then after the offer exactly as many passes as a clean run has end in its report.
 abbrev pub CleanRun : Type 0
 CleanRun = (c : Profile) (purpose : Purpose) (image payload : List ℕ) (limits : Limits) → c.tolerant ≡ true → CanDo purpose c
     → 0 < c.transfer

@@ -24,7 +24,7 @@ StepsInstall = (b b' : LinkView) (purpose : Purpose) (file : List ℕ) (limits :
     → CanInstall b purpose file limits payload → count ≤ clean_passes purpose b.device.config payload
     → SureSteps b (offer_and_passes purpose file limits count) reports b' → InstallsCleanly b purpose payload count reports b'
 
--- And none of these steps is refused.
+-- No such step is refused.
 abbrev pub StepsStand : Type 0
 StepsStand = (b b' : LinkView) (purpose : Purpose) (file : List ℕ) (limits : Limits) (payload : List ℕ) (count at : ℕ)
     (reports : List Report)

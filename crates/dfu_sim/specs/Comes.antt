@@ -1,4 +1,4 @@
--- What comes of an event: it is refused and nothing changes, or it is a play with its bytes; and what its caller is told.
+-- What comes of an event: it is refused and nothing changes, or it is a play with its bytes; and what its caller gets.
 use Rattle.std.specs.Prelude.{◌≡◌, ℕ, List, Option, Some, None, Result, Ok, Err}
 use Rattle.dfu_host.specs.declared.report.Report.{Report}
 use Rattle.dfu_host.specs.declared.report.Report.TheVariants.{Uploaded}
@@ -28,12 +28,12 @@ pub data Comes (b : LinkView) (h : Happening) : LinkView → Result Answered Lin
   happens : {event : Happening} {b' : LinkView} {answer : Answered} → Means b.device.config h event → BytePlay b event b' answer
       → Comes b h b' (Ok answer)
 
--- What a caller is told of it: the report.
+-- What a caller gets of it: the report.
 abbrev pub shown_as : Result Answered LinkFault → Result (Option Report) LinkFault
 shown_as (Ok answer) = Ok answer.report
 shown_as (Err fault) = Err fault
 
--- What was uploaded, of what comes of an event: nothing where it is refused.
+-- What was uploaded, by what comes of an event: nothing if it is refused.
 abbrev pub gave_of : Result Answered LinkFault → Option (List ℕ)
 gave_of (Ok answer) = answer.gave
 gave_of (Err fault) = None
@@ -50,7 +50,7 @@ abbrev pub GivesWithUploaded : Result Answered LinkFault → Type 0
 GivesWithUploaded (Ok answer) = ComesWith answer.report answer.gave
 GivesWithUploaded (Err fault) = Unit {0}
 
--- An event came, what was uploaded took the place of what the upload before gave, and its caller was told of it.
+-- An event came, what was uploaded took the place of what the upload before gave, and its caller got the report.
 pub record HasCome (w : WorldView) (h : Happening) (w' : WorldView) (result : Result (Option Report) LinkFault) : Type 0 where
   pub answer : Result Answered LinkFault
   pub comes : Comes w.bench h w'.bench answer

@@ -68,7 +68,7 @@ Managing p image InManifestWaitReset = image ≡ p
 Managing p image (InError code) = Unit {0}
 Managing p image stage = ⊥
 
--- Where a session ends with Verified the payload is active and the state is this one, and where it ends with Installed the device is
+-- If a session ends with Verified, the payload is active and the state is this one; and if it ends with Installed, the device is
 -- tolerant besides; the other reports of a session with a payload promise nothing.
 abbrev pub EndsAs : Profile → List ℕ → Situation → (Stage → Type 0) → Report → Type 0
 EndsAs c p s P Installed = IsTrue c.tolerant × (s.image ≡ p) × P s.stage
@@ -85,7 +85,7 @@ Fetches k kept image stage = ⊥
 
 -- Nothing is known of the device in the common phases, whatever a session is for.
 
--- In a download's phases, also where it is to be verified. Those of an upload and of a comparison do not occur.
+-- In a download's phases, also if it is to be verified. Those of an upload and of a comparison do not occur.
 abbrev pub Fact : Profile → List ℕ → Phase → Situation → Type 0
 Fact c p (Block n) s = (n < length (blocks p c.transfer)) × AtBlock p c.transfer n s.stage
 Fact c p (Ask n) s = (n < length (blocks p c.transfer)) × Asking p c.transfer n s.stage
@@ -145,7 +145,7 @@ pub record HostFact (c : Profile) (s : Situation) (h : HostState) : Type 0 where
   pub some : HasBlocks c h.task.goal
   pub fact : GoalFact c h.task.goal h.phase s
 
--- The phase fact of a link: nothing where no session is live.
+-- The phase fact of a link: nothing if no session is live.
 abbrev pub SessionFact : Profile → Situation → Session → Type 0
 SessionFact c s Nobody = Unit {0}
 SessionFact c s (Hosted h) = HostFact c s h

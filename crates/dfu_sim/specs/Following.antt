@@ -23,8 +23,8 @@ IsOfKind Cuts kind = kind ≡ ARestart
 IsOfKind (Refuses why) kind = kind ≡ ARefusal
 
 -- The session machine follows what happened: it makes one legal step with the report, and agrees again, so that its active image is that of
--- the medium's bytes; and where Installed or Verified is reported, the device is in appIDLE and the payload of the session that was live is
--- that image.
+-- the medium's bytes. If Installed or Verified is reported, the device is in appIDLE and the payload of the session that was live is that
+-- image.
 pub record IsFollowed (w : WorldView) (h : Happening) (w' : WorldView) (report : Option Report) (m : Machine) : Type 0 where
   pub kind : Kind
   pub is : IsOfKind h kind

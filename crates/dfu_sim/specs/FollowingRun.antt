@@ -18,7 +18,7 @@ AreOfKinds (h ∷ hs) (kind ∷ kinds) = IsOfKind h kind × AreOfKinds hs kinds
 AreOfKinds hs kinds = ⊥
 
 -- The session machine follows all that happens: it makes a legal run that says the reports in order, and agrees again, so that its active
--- image is that of the medium's bytes; that image was theirs before, or is a whole payload that was offered so far.
+-- image is that of the medium's bytes. That image was theirs before, or is a whole payload that was offered so far.
 pub record IsFollowedRun (w : WorldView) (hs : List Happening) (reports : List Report) (w' : WorldView) (m : Machine) : Type 0 where
   pub kinds : List Kind
   pub are : AreOfKinds hs kinds

@@ -10,8 +10,8 @@ use Rattle.dfu_sim.specs.declared.event.Event.{Event as GivenEvent}
 use Rattle.dfu_sim.specs.declared.event.Event.TheVariants as event
 
 -- What becomes of one action of the host: it passes; its request or its answer is lost; it is handled twice, and then perhaps its answer is
--- lost; time passes after it; the power is cut in it, at any write of the medium; or in it a write of the medium fails, or lies. Or it goes
--- as one of these, and the program of the device refuses the image that its request closes, if it closes one.
+-- lost; or time passes after it. Or the power is cut in it, at any write of the medium; or in it a write of the medium fails, or lies. Or
+-- it goes as one of these, and the program of the device refuses the image that its request closes, if it closes one.
 pub data Fate : Type 0 where
   Pass : Fate
   LostOut : Fate
@@ -45,7 +45,7 @@ pub data Happening : Type 0 where
 abbrev pub unharmed : Harm
 unharmed = record { writes = 0; tear = [] }
 
--- A write is harmed after so many that work, and leaves the front of this tear, of which a medium keeps at most 4,096 bytes.
+-- A write is harmed after so many that work, and leaves the front of this tear. A medium keeps at most 4,096 bytes of it.
 abbrev pub harmed : (writes : ℕ) (tear : List ℕ) → Harm
 harmed writes tear = record { writes = writes; tear = take 4096 tear }
 

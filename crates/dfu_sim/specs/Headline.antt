@@ -44,7 +44,7 @@ IsLastPayload (WithOffer file ∷ past) x = IsPayload x file
 IsLastPayload (AsUpload ∷ past) x = ⊥
 
 -- What the headline says, when these sessions have begun and this was reported last. The active image is the factory image or a payload
--- offered so far. Where Installed or Verified was reported, the device is in appIDLE, and that image is the last session's payload.
+-- offered so far. If Installed or Verified was reported, the device is in appIDLE, and that image is the last session's payload.
 pub record HeadlineSays (factory : List ℕ) (past : List Begun) (report : Option Report) (b : LinkView) : Type 0 where
   pub image : List ℕ
   pub active : Active b.device.slots.medium image
@@ -79,7 +79,7 @@ pub record HeadlineHolds (factory : List ℕ) (past : List Begun) (report : Opti
   pub says : HeadlineSays factory past report b
   pub kept : KeepsHeadline past b
 
--- Where the headline holds before an event, it holds after it, with what the event reports. A refused event changes nothing.
+-- If the headline holds before an event, it holds after it, with what the event reports. A refused event changes nothing.
 abbrev pub StepKeepsHeadline : WorldView → Event → WorldView → Result (Option Report) LinkFault → Type 0
 StepKeepsHeadline w event w' (Ok report) = (factory : List ℕ) (past : List Begun) (before : Option Report)
     → HeadlineHolds factory past before w.bench → HeadlineHolds factory (begun_now event past) report w'.bench
@@ -93,7 +93,7 @@ pub data HoldsAfterEach (factory : List ℕ) : (past : List Begun) → WorldView
       → HeadlineHolds factory (begun_now event past) report mid.bench → HoldsAfterEach factory (begun_now event past) mid events reports w'
       → HoldsAfterEach factory past w (event ∷ events) (said report ++ reports) w'
 
--- Where the headline holds before these events, it holds after each of them.
+-- If the headline holds before these events, it holds after each of them.
 abbrev pub EventsKeepHeadline : WorldView → List Event → List Report → WorldView → Type 0
 EventsKeepHeadline w events reports w' = (factory : List ℕ) (past : List Begun) (before : Option Report)
     → HeadlineHolds factory past before w.bench → HoldsAfterEach factory past w events reports w'

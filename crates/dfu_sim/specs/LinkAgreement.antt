@@ -44,7 +44,7 @@ fresh w = record { cur = w.device.image; offers = []; pending = pending_of w.dev
 abbrev pub SomeAgrees : Type 0
 SomeAgrees = (w : Link) (up : List ℕ) → (m : Machine) × Agrees w up m
 
--- Where no session is live and no bytes are closed, one agrees to which nothing was offered.
+-- If no session is live and no bytes are closed, a session machine agrees to which nothing was offered.
 abbrev pub FreshAgrees : Type 0
 FreshAgrees = (w : Link) → w.session ≡ Nobody → NothingClosed w.device.stage → Agrees w [] (fresh w)
 

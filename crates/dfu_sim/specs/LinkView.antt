@@ -24,6 +24,6 @@ pub record WorldView : Type 0 where
   pub bench : LinkView
   pub up : List ℕ
 
--- A link of this bench, where this was given.
+-- A link of this bench, if this was given.
 abbrev pub linked : LinkView → List ℕ → WorldView
 linked b up = record { bench = b; up = up }

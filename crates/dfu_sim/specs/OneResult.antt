@@ -16,8 +16,8 @@ pub record SameDevice (w v : DeviceView) : Type 0 where
   pub stage : w.stage ≡ v.stage
   pub store : SameStore w.slots v.slots
 
--- Two results of one event are one: the devices are the same but for that count, and the sessions and the answers come of one rule that
--- asks for nothing but whether there was memory for a part of an upload.
+-- Two results of one event are one: the devices are the same but for that count. The sessions and the answers come of one rule, which
+-- asks only whether there was memory for a part of an upload.
 pub record AreOne (c d : LinkView) (x y : Answered) : Type 0 where
   pub device : SameDevice c.device d.device
   pub rule : (room : Bool) → Took

@@ -74,7 +74,7 @@ settled h phase = record { session = Hosted h; answer = silent }
 abbrev pub took : HostState → Heard → Took
 took h heard = let h' = after h heard in settled h' h'.phase
 
--- A restart that comes from outside is told to a live host at once.
+-- A live host hears at once of a restart that comes from outside.
 abbrev pub notify_restart : Session → Took
 notify_restart Nobody = record { session = Nobody; answer = silent }
 notify_restart (Hosted h) = took h Restarted
@@ -94,7 +94,7 @@ heard_as (StateOf state) = StateIs state
 heard_as (Data bytes) = Part bytes
 heard_as Stall = Stalled
 
--- Where there is no memory for a part of an upload, the host hears that instead.
+-- If there is no memory for a part of an upload, the host hears that instead.
 abbrev pub remembered : Heard → (room : Bool) → Heard
 remembered (Part bytes) false = NoRoom
 remembered heard room = heard
@@ -114,12 +114,12 @@ abbrev pub plan_by : Option Objection → Profile → List ℕ → Stage → Req
 plan_by None c image stage r = plan c image stage r
 plan_by (Some why) c image stage r = if closes c.least stage r then error (objection_code why) else plan c image stage r
 
--- The device after an action, and what the host hears of it; after a cut it hears of the restart alone.
+-- The device after an action, and what the host hears of it; after a cut it hears only of the restart.
 pub record Passed : Type 0 where
   pub device : Situation
   pub heard : Heard
 
--- A request that the table answers by this plan: the device after it, and what its host hears where the answer comes back. The medium's
+-- A request that the table answers by this plan: the device after it, and what its host hears if the answer comes back. The medium's
 -- luck is said for the first and for the second thing that the device does.
 abbrev pub reached : Profile → Situation → Request → Plan → Handled → (first second : Luck) → Passed
 reached c s r p Unseen l k = record { device = s; heard = Nothing }
@@ -127,19 +127,19 @@ reached c s r p Once l k = let o = outcome s.image p l in record { device = o.af
 reached c s r p Again l k = let o = handled c (outcome s.image p l).after r k in record { device = o.after; heard = heard_as o.reply }
 reached c s r p (Late ms) l k = let o = outcome s.image p l in record { device = elapsed c o.after ms k; heard = heard_as o.reply }
 
--- What is heard, or nothing where it does not come back.
+-- What is heard, or nothing if it does not come back.
 abbrev pub heard_back : Bool → Heard → Heard
 heard_back true heard = heard
 heard_back false heard = Nothing
 
--- What is heard once an action is over: where the power was cut, of the restart alone.
+-- What is heard once an action is over: if the power was cut, only of the restart.
 abbrev pub heard_over : MediumFault → Heard → Heard
 heard_over NoWrite heard = heard
 heard_over CutsPower heard = Restarted
 heard_over FailsWrite heard = heard
 heard_over LiesInWrite heard = heard
 
--- The device once an action is over: where the power was cut, it starts again.
+-- The device once an action is over: if the power was cut, it starts again.
 abbrev pub over : MediumFault → Situation → Situation
 over NoWrite s = s
 over CutsPower s = powered s
@@ -150,7 +150,7 @@ over LiesInWrite s = s
 abbrev pub ends_by : MediumFault → Passed → Passed
 ends_by harming d = record { device = over harming d.device; heard = heard_over harming d.heard }
 
--- The time that passes in a wait: another where one slips in.
+-- The time that passes in a wait: another one if a time slips in.
 abbrev pub waits_for : Handled → ℕ → ℕ
 waits_for Unseen ms = ms
 waits_for Once ms = ms
@@ -164,7 +164,7 @@ slipped c s Once l = s
 slipped c s Again l = s
 slipped c s (Late ms) l = elapsed c s ms l
 
--- A request by its delivery, where the table answers it by this plan.
+-- A request by its delivery, if the table answers it by this plan.
 abbrev pub sent_by : Profile → Situation → Request → Plan → Delivery → (first second : Luck) → Passed
 sent_by c s r p delivery l k = let d = reached c s r p delivery.handling l k in
     ends_by delivery.harming (record { device = d.device; heard = heard_back delivery.back d.heard })
@@ -198,7 +198,7 @@ gone c w (Hosted h) fate l k room =
     let t = took h (remembered d.heard (has_room h.phase room)) in
     record { link = record { device = d.device; session = t.session }; answer = t.answer }
 
--- A restart that comes from outside: the device is in this situation, and a live host is told.
+-- A restart that comes from outside: the device is in this situation, and a live host hears of it.
 abbrev pub restarted_to : Situation → Session → Played
 restarted_to s session = let t = notify_restart session in record { link = record { device = s; session = t.session }; answer = t.answer }
 
@@ -222,7 +222,7 @@ played c w Resets l k room = restarted_to (was_reset w.device) w.session
 played c w Cuts l k room = restarted_to (powered w.device) w.session
 played c w (Refuses why) l k room = record { link = record { device = image_refused why w.device; session = w.session }; answer = silent }
 
--- An event that is not refused: a session begins only where none is live, and no offer is empty; an abort and an action need a live
+-- An event that is not refused: a session begins only if none is live, and no offer is empty; an abort and an action need a live
 -- session.
 abbrev pub MayHappen : Session → Happening → Type 0
 MayHappen Nobody (Offers purpose payload limits) = 0 < length payload

@@ -56,8 +56,8 @@ abbrev pub IsLive : Session → Type 0
 IsLive Nobody = ⊥
 IsLive (Hosted h) = Unit {0}
 
--- When an event is refused: an offer or an upload while a session is live, an abort or an action while none is, and, while none is, an
--- offer of a file that is not taken and an upload from a device that gives no image.
+-- When an event is refused: an offer or an upload while a session is live, and an abort or an action while none is. While none is, an
+-- offer of a file that is not taken is refused too, and an upload from a device that gives no image.
 abbrev pub IsRefused : LinkView → Happening → LinkFault → Type 0
 IsRefused b (Offers purpose file limits) link_fault.HostBusy = IsLive b.session
 IsRefused b (Offers purpose file limits) (link_fault.BadOffer fault) = (b.session ≡ Nobody) × IsBadOffer b.device.config purpose file fault

@@ -14,7 +14,7 @@ use Rattle.dfu_sim.specs.Refusing.{IsRefused}
 use Rattle.dfu_sim.specs.Comes.{HasCome}
 use Rattle.dfu_sim.specs.Giving.{GivesOrKeeps}
 
--- What happens comes to a link one after the other, none of it is refused, these are the reports in their order, and with Uploaded the
+-- What happens comes to a link one after the other, nothing of it is refused, these are the reports in their order, and with Uploaded the
 -- active image is given.
 pub data Runs : WorldView → List Happening → List Report → WorldView → Type 0 where
   rests : {w : WorldView} → Runs w [] [] w
@@ -39,7 +39,7 @@ pub record StopsAt (w : WorldView) (hs : List Happening) (fault : LinkFault) (at
   pub before : Runs w (take at hs) reports w'
   pub why : IsStop w'.bench next fault
 
--- What a run answers: the reports of all that happens, or where it stopped.
+-- What a run answers: the reports of all that happens, or at which event it stopped.
 abbrev pub RunAnswers : WorldView → List Happening → WorldView → Result (Vec Report Global) Stop → Type 0
 RunAnswers w hs w' (Ok reports) = Runs w hs reports.items w'
 RunAnswers w hs w' (Err stop) = StopsAt w hs stop.fault stop.at stop.reports.items w'

@@ -23,7 +23,7 @@ abbrev pub IsOneOf : List ℕ → List (List ℕ) → Type 0
 IsOneOf x [] = ⊥
 IsOneOf x (y ∷ ys) = (x ≡ y) ⊎ IsOneOf x ys
 
--- What is pending is the first n blocks of the payload joined, and nothing where n is 0.
+-- What is pending is the first n blocks of the payload joined, and nothing if n is 0.
 abbrev pub IsFirst : List ℕ → (t n : ℕ) → Option (List ℕ) → Type 0
 IsFirst p t n None = n ≡ 0
 IsFirst p t n (Some taken) = (0 < n) × (taken ≡ first p t n)
@@ -57,8 +57,8 @@ PromisesNothing NoMemory = Unit {0}
 PromisesNothing Verified = ⊥
 PromisesNothing Different = Unit {0}
 
--- Say a report, or none; the session is over then. Verified is said only where the live payload is the active image and nothing is pending,
--- and Installed only where besides the device is tolerant; Uploaded gives the active image; another report needs a live session and
+-- Say a report, or none; the session is over then. Verified is said only if the live payload is the active image and nothing is pending,
+-- and Installed only if besides the device is tolerant. Uploaded gives the active image. Another report needs a live session and
 -- promises nothing.
 pub data SaysReport (tolerant : Bool) : Machine → Option Report → Machine → Type 0 where
   says_not : {m : Machine} → SaysReport tolerant m None m
@@ -94,8 +94,8 @@ abbrev pub SaysNoPromise : Option Report → Type 0
 SaysNoPromise None = Unit {0}
 SaysNoPromise (Some report) = PromisesNothing report
 
--- What an event of each kind does. An offer and an upload begin a session where none is live; an abort does nothing yet; time installs what
--- is pending, or nothing; a restart drops, then says at most a report that promises nothing; a refusal drops, or does nothing; an action of
+-- What an event of each kind does. An offer and an upload begin a session if none is live; an abort does nothing yet; time installs what is
+-- pending, or nothing. A restart drops, then says at most a report that promises nothing. A refusal drops, or does nothing. An action of
 -- the host takes or installs at most once, then drops or not, then says at most one report.
 pub data MachineStep (tolerant : Bool) (t : ℕ) : Kind → Machine → Option Report → Machine → Type 0 where
   offered : {m : Machine} {p : List ℕ} → m.live ≡ NoOne

@@ -8,8 +8,8 @@ use Rattle.dfu_sim.specs.Play.{kind_of, Link, Answered, given, Play}
 use Rattle.dfu_sim.specs.LinkAgreement.{Agrees}
 use Rattle.dfu_sim.specs.Fact.{SessionFact}
 
--- The session machine follows an event: it makes one legal step, agreement and the phase fact hold again, and where Installed or
--- Verified is reported the device is in appIDLE, and the payload of the session that was live is the active image.
+-- The session machine follows an event: it makes one legal step, and agreement and the phase fact hold again. If Installed or
+-- Verified is reported, the device is in appIDLE, and the payload of the session that was live is the active image.
 pub record Follows (c : Profile) (m : Machine) (event : Happening) (w' : Link) (up' : List ℕ) (report : Option Report) : Type 0 where
   pub after : Machine
   pub step : MachineStep c.tolerant c.transfer (kind_of event) m report after

@@ -1,4 +1,4 @@
--- What a link stands on between events, as one value and as a fact.
+-- What a link is between events, as one value and as a fact.
 use Rattle.std.specs.Prelude.{◌≡◌, ℕ, ◌<◌, List, [], Option, Some, None}
 use Rattle.dfu_slots.specs.Medium.Fuse.{Whole}
 use Rattle.dfu_device.specs.DeviceView.{DeviceView, profile, situation}

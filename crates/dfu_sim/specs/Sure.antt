@@ -1,4 +1,4 @@
--- What happens where nothing is cut, nothing fails and nothing lies.
+-- What happens if nothing is cut, nothing fails and nothing lies.
 use Rattle.std.specs.Prelude.{◌≡◌, Bool, Option, Result, Ok, Err}
 use Rattle.dfu_slots.specs.Seen.{room_of}
 use Rattle.dfu_device.specs.Outcome.{Works}
@@ -37,14 +37,14 @@ IsHarmless Resets = Unit {0}
 IsHarmless Cuts = Unit {0}
 IsHarmless (Refuses why) = Unit {0}
 
--- The link is the one that the table of fates gives where the medium works, and so is the report.
+-- The link is the one that the table of fates gives if the medium works, and so is the report.
 pub record IsAsPlayed (b : LinkView) (event : Happening) (b' : LinkView) (report : Option Report) : Type 0 where
   pub room : Bool
   pub answer : Answered
   pub same : played (profile b.device) (link_of b) event Works Works room ≡ record { link = link_of b'; answer = answer }
   pub told : report ≡ answer.report
 
--- What happened is an event of the device, which stays what it is set up as; where the event does no harm, all goes as the table of fates
+-- What happened is an event of the device, which stays set up as it was. If the event does no harm, all goes as the table of fates
 -- says of a medium that works.
 pub record IsSureEvent (b : LinkView) (h : Happening) (b' : LinkView) (report : Option Report) : Type 0 where
   pub event : Happening

@@ -35,7 +35,7 @@ pub record Shows (b : LinkView) (event : Happening) (b' : LinkView) (answer : An
 abbrev pub BytesShow : Type 0
 BytesShow = (b b' : LinkView) (event : Happening) (answer : Answered) → BytePlay b event b' answer → Shows b event b' answer
 
--- The image of the link that a bench shows is the active image of the bytes of its medium, where they have one; and they have no other.
+-- The image of the link that a bench shows is the active image of its medium's bytes, if they have one; and they have no other.
 abbrev pub ImageShown : Type 0
 ImageShown = (b : LinkView) → (HasImage b.device.slots.medium → ShowsActive b)
     × ((image : List ℕ) → Active b.device.slots.medium image → image ≡ (link_of b).device.image)

@@ -16,8 +16,8 @@ use dfu_device::{Answer, Device, Objection};
 use dfu_host::{Action, Host, Seen};
 use dfu_slots::Medium;
 
-/// A request comes to a device, whose program refuses the image that it closes, if it closes one, or refuses none. The answer's bytes stand
-/// in `out`.
+/// A request comes to a device, whose program refuses the image that it closes, if it closes one, or refuses none. `out` gets the answer's
+/// bytes.
 fn take_in<M: Medium>(
     device: &mut Device<M>,
     setup: &[u8; 8],
@@ -39,8 +39,8 @@ fn take_in<M: Medium>(
     }
 }
 
-/// The device handles a request, or doesn't see it. Where it does, its answer's bytes stand in
-/// `out`. The program refuses an image the first time alone: no request closes a download twice.
+/// The device handles a request, or doesn't see it. If it does, `out` gets its answer's bytes. The
+/// program refuses an image only the first time: no request closes a download twice.
 fn reach<M: Medium>(
     device: &mut Device<M>,
     setup: &[u8; 8],
@@ -78,7 +78,7 @@ fn come_back(delivery: Delivery<'_>, back: Response) -> Response
     }
 }
 
-/// The time that passes in a wait: another where one slips in.
+/// The time that passes in a wait: another one if a time slips in.
 fn time_of(handling: Handled, ms: u32) -> u32
     ensures { result ≡ waits_for handling ms }
 {
@@ -98,7 +98,7 @@ fn seen_after(harming: MediumFault, seen: Seen<'static>) -> Seen<'static>
     }
 }
 
-/// A wait of the host: where a time slips in it passes in its place.
+/// A wait of the host: if a time slips in, it passes in place of the wait.
 fn wait<M: Medium>(device: &mut Device<M>, ms: u32, delivery: Delivery<'_>) -> Seen<'static>
     ensures hears { (d : Deed) (heard : Heard) → Hears d result heard
         → Waits ms (delivery_in delivery.entry) device.old device.new heard }
@@ -143,7 +143,7 @@ fn tell(host: &mut Host<'_>, back: Response, out: &[u8])
 }
 
 /// The next action of a host that is not done, by its delivery. Who harms a write has armed the
-/// medium for it. `out` is room for an answer; what it holds at first isn't read. It tells what the
+/// medium for it. `out` is room for an answer; what it holds at first isn't read. It answers what the
 /// device answered, if it did, whether that came back or not.
 pub(crate) fn act<M: Medium>(
     device: &mut Device<M>,

@@ -8,9 +8,9 @@ ghost use Rattle.dfu_sim.specs.inside.Acting.{delivery_in, harm_at};
 use crate::fate::Fate;
 use dfu_device::Objection;
 
-/// What the device makes of a request.
+/// What a device or a board makes of a request.
 #[derive(Clone, Copy)]
-pub(crate) enum Handled {
+pub enum Handled {
     /// It doesn't see it.
     Unseen,
     /// It handles it once.
@@ -28,9 +28,9 @@ pub(crate) enum MediumFault {
     NoWrite,
     /// One, and from it on the power is gone.
     CutsPower,
-    /// One alone, which fails.
+    /// One only, which fails.
     FailsWrite,
-    /// One alone, which lies: it answers that it worked.
+    /// One only, which lies: the medium answers that it worked.
     LiesInWrite,
 }
 
@@ -46,7 +46,7 @@ pub(crate) struct Delivery<'t> {
     pub(crate) tear: &'t [u8],
 }
 
-/// The delivery of each fate, of which the program of the device refuses nothing.
+/// The delivery of each fate, if the device's program refuses nothing.
 fn plain_delivery(fate: Fate<'_>) -> Delivery<'_>
     ensures delivery { delivery_in result ≡ delivery_of (fate_of fate.entry) }
     ensures harm { harm_at result ≡ harm_in fate.entry }
@@ -72,7 +72,7 @@ fn plain_delivery(fate: Fate<'_>) -> Delivery<'_>
     }
 }
 
-/// The delivery of a fate, where the program of the device refuses the image that the action closes, or refuses none.
+/// The delivery of a fate. The device's program refuses the image that the action closes, or refuses none.
 pub(crate) fn delivery_by(fate: Fate<'_>, refusing: Option<Objection>) -> Delivery<'_>
     ensures delivery { delivery_in result ≡ delivery_of (refused_in refusing (fate_of fate.entry)) }
     ensures harm { harm_at result ≡ harm_in fate.entry }

@@ -28,8 +28,8 @@ pub enum Event<'f, 't> {
     /// The host takes its next action.
     Go(Fate<'t>),
     /// The host takes its next action, of this fate. If that is the request that closes a download, with as many bytes taken as an image
-    /// has at least, the program of the device refuses the image: the request is stalled, nothing is written, and the device is in dfuERROR
-    /// with the code of the objection (`Device::refuse_close`). Any other action goes as with `Go`.
+    /// has at least, the program of the device refuses the image. Then the request is stalled, nothing is written, and the device is in
+    /// dfuERROR with the code of the objection (`Device::refuse_close`). Any other action goes as with `Go`.
     GoRefused {
         fate: Fate<'t>,
         objection: Objection,

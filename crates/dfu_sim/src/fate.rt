@@ -1,12 +1,11 @@
 //! What becomes of an action.
 
 /// What becomes of one action of the host: a request, a wait or a reset of the bus. Losses and
-/// doublings are of requests alone: a wait and a reset pass with them.
+/// doublings concern only requests: a wait and a reset pass with them.
 ///
-/// `Cut`, `Fail` and `Lie` harm a write of the medium. After `writes` writes that work comes the one that
-/// is harmed: it leaves the first bytes of `tear` at the front of its range and the old bytes in the
-/// rest of it, and fails, or with `Lie` answers that it worked. Of `tear` at most 4,096 bytes count. Where the action makes no such
-/// write, none is harmed.
+/// `Cut`, `Fail` and `Lie` harm a write of the medium. After `writes` writes that work comes the one that is harmed. It leaves
+/// the first bytes of `tear` at the front of its range and the old bytes in the rest of it, and fails, or with `Lie` answers
+/// that it worked. Of `tear` at most 4,096 bytes count. If the action makes no such write, none is harmed.
 #[derive(Clone, Copy, Debug, PartialEq, Eq)]
 pub enum Fate<'t> {
     /// It goes as it should.

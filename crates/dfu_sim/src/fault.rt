@@ -17,7 +17,7 @@ pub enum LinkFault {
     /// `Host::download`; of an upload, that of `Host::upload`.
     #[error("the session is refused: {0}")]
     BadOffer(OfferFault),
-    /// There was no memory for a report. Of `run` alone.
+    /// There was no memory for a report. Only `run` answers it.
     #[error("out of memory")]
     NoMemory,
 }
@@ -25,7 +25,7 @@ pub enum LinkFault {
 /// Why an offer or an upload is refused.
 #[derive(Clone, Copy, Debug, PartialEq, Eq, Error)]
 pub enum OfferFault {
-    /// The bytes are no DFU file: this is the first fault of `dfu_suffix::read`. Of an offer alone.
+    /// The bytes are no DFU file: this is the first fault of `dfu_suffix::read`. Only an offer has it.
     #[error("{0}")]
     Suffix(SuffixFault),
     /// The file is read, and this is the first fault of `Host::download` with the device's

@@ -1,5 +1,5 @@
 //! Laws of plays. Each is the contract of a function that does nothing, which is proved and not to
-//! be called by programs. `World::step` calls `image_shown`, for its law alone.
+//! be called by programs. `World::step` calls `image_shown`, only for its law.
 
 ghost use Rattle.dfu_sim.specs.Headline.{HoldsAtRest};
 ghost use Rattle.dfu_sim.specs.LinkAgreement.{SomeAgrees, FreshAgrees, LinkAgreesOn};
@@ -30,9 +30,9 @@ pub fn clean_run()
     ensures { CleanRun }
 {}
 
-/// The same by steps, with no premise on memory: where each step is one of an offer and at most the
-/// passes of a clean run, as the clause `sure` of `World::step` says of it, the reports are those of
-/// a clean run, and no step is refused.
+/// The same by steps, with no premise on memory. The steps are an offer and at most the passes of a
+/// clean run, each as the clause `sure` of `World::step` says. Then the reports are those of a clean
+/// run, and no step is refused.
 pub fn clean_steps()
     ensures install { StepsInstall }
     ensures stand { StepsStand }
@@ -44,11 +44,11 @@ pub fn only_offered()
     ensures { OnlyOffered }
 {}
 
-/// Whatever events come to a `World`, and whatever check the program of its device makes: if each image
-/// that the check refuses was refused before an action of the host or a time could put it in place, the
-/// active image is the one before, or one that the check accepts. With the headline it is the factory
-/// image, or one whole payload that was offered and that the check accepts. A program that never asks
-/// takes every image.
+/// Any events come to a `World`, and the program of its device makes any check. If each image that the
+/// check refuses was refused before an action of the host or a time could put it in place, the active
+/// image is the one before, or one that the check accepts. With the headline it is the factory image,
+/// or one whole payload that was offered and that the check accepts. A program that never asks takes
+/// every image.
 pub fn worlds_take_what_is_accepted()
     ensures image { LinkAccepts }
     ensures offered { OffersAccepted }
@@ -56,8 +56,8 @@ pub fn worlds_take_what_is_accepted()
     active_image_is_one();
 }
 
-/// Agreement is no empty word: some session machine agrees with each link, and where no session is
-/// live and no bytes are closed, one to which nothing was offered. Where the image that is shown is
+/// Agreement is no empty word: some session machine agrees with each link, and if no session is
+/// live and no bytes are closed, one to which nothing was offered. If the image that is shown is
 /// the active image of the medium's bytes, such a machine agrees on them too.
 pub fn machine_agrees()
     ensures some { SomeAgrees }
@@ -83,9 +83,9 @@ pub fn bytes_show()
 {}
 
 /// An event has one meaning: it is refused as one fault and is then no play, or it means one event.
-/// What a play leads to is said by `sure` of `World::step` where no write is harmed, and where one
-/// is, by `result`: one device but for the count of failed writes, and one session and one answer by
-/// whether there was memory for a part of an upload.
+/// If no write is harmed, `sure` of `World::step` says what a play leads to. If one is, `result`
+/// says it: one device but for the count of failed writes, and one session and one answer by whether
+/// there was memory for a part of an upload.
 pub fn one_answer()
     ensures fault { OneRefusal }
     ensures no_play { RefusedIsNoPlay }
@@ -100,14 +100,14 @@ pub fn uploads_give_the_image()
     ensures rest { RestIsSteady }
 {}
 
-/// Where the medium's bytes have an active image, it is the one that plays speak of, and no other.
+/// If the medium's bytes have an active image, it is the one that plays speak of, and no other.
 pub fn image_shown()
     ensures { ImageShown }
 {
     active_image_is_one();
 }
 
-/// The power comes back: where a bench shows the active image of its medium's bytes, as that of a
+/// The power comes back: if a bench shows the active image of its medium's bytes, as that of a
 /// `World` always does, `Device::power_on` is not refused on that medium.
 pub fn power_comes_back()
     ensures { PowerComesBack }

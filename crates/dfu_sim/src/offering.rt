@@ -1,6 +1,7 @@
 //! The begin of a session.
 
 ghost use Rattle.std.specs.Prelude.{◌≡◌, ◌↔◌, Some, Err, IfOk, IfErr};
+ghost use Rattle.dfu_device.specs.Setting.{Setting};
 ghost use Rattle.dfu_host.specs.Host.{started};
 ghost use Rattle.dfu_sim.specs.Opening.{goal_of_purpose};
 ghost use Rattle.dfu_sim.specs.inside.Acting.{HasBegun};
@@ -8,9 +9,7 @@ ghost use Rattle.dfu_sim.specs.Refusing.{first_offer_fault, IsBadOffer};
 
 use crate::fault::OfferFault;
 use crate::purpose::Purpose;
-use dfu_device::Device;
 use dfu_host::{Host, HostFault, Limits};
-use dfu_slots::Medium;
 use dfu_suffix::{File, read};
 use dfu_wire::{Functional, Ids};
 
@@ -32,21 +31,28 @@ fn open<'f>(
     }
 }
 
-/// A host for a file that is offered to a device.
-pub(crate) fn begin<'f, M: Medium>(
-    device: &Device<M>,
+/// A host for a file that is offered to a device with this functional descriptor and these identifiers.
+///
+/// # Errors
+///
+/// The fault of `dfu_suffix::read`, else that of `Host::download` or `Host::download_verified`.
+pub fn begin<'f>(
+    functional: &Functional,
+    ids: Ids,
     purpose: Purpose,
     file: &'f [u8],
     limits: Limits,
 ) -> Result<Host<'f>, OfferFault>
-    ensures ok { IfOk result (λ host. HasBegun device.now.config purpose file.now limits host) }
-    ensures err { IfErr result (λ fault. IsBadOffer device.now.config purpose file.now fault) }
+    ensures ok { (s : Setting) → functional.now ≡ s.functional → ids ≡ s.ids
+        → IfOk result (λ host. HasBegun s purpose file.now limits host) }
+    ensures err { (s : Setting) → functional.now ≡ s.functional → ids ≡ s.ids
+        → IfErr result (λ fault. IsBadOffer s purpose file.now fault) }
 {
     let file = match read(file) {
         Ok(file) => file,
         Err(fault) => return Err(OfferFault::Suffix(fault)),
     };
-    match open(&file, &device.functional(), device.ids(), purpose, limits) {
+    match open(&file, functional, ids, purpose, limits) {
         Ok(host) => Ok(host),
         Err(fault) => Err(OfferFault::Host(fault)),
     }

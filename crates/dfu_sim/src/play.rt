@@ -79,7 +79,7 @@ fn offer<'f, M: Medium>(
     if host.is_some() {
         return Err(LinkFault::HostBusy);
     }
-    match begin(device, purpose, file, limits) {
+    match begin(&device.functional(), device.ids(), purpose, file, limits) {
         Ok(begun) => {
             *host = Some(begun);
             Ok(None)

@@ -36,14 +36,14 @@ fn note(reports: &mut Vec<Report>, report: Option<Report>)
 /// Lets events come one after the other, up to the first that is refused, and answers their
 /// reports. Room for a report is made before each event.
 ///
-/// By `headline` the headline holds after each of the events, where it held before the first: the
-/// active image is the factory image or the payload of a file offered so far, and where the event
-/// reports Installed or Verified, the device is in appIDLE with the payload of the last session.
+/// By `headline` the headline holds after each of the events, if it held before the first: the
+/// active image is the factory image or the payload of a file offered so far. If the event reports
+/// Installed or Verified, the device is in appIDLE with the payload of the last session.
 ///
 /// # Errors
 ///
-/// `Stop` where an event is refused, with its fault, or where there is no memory for a report,
-/// `NoMemory`. The link then stands as before that event.
+/// `Stop` if an event is refused, with its fault, or if there is no memory for a report,
+/// `NoMemory`. The link is then as it was before that event.
 pub fn run<'f, M: Faulty>(
     world: &mut World<'f, M>,
     alloc: Global,

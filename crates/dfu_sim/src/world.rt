@@ -74,13 +74,13 @@ impl<'f, M: Faulty> World<'f, M> {
     }
 
     /// Lets an event come, and answers the report of the session that ends with it, if one does.
-    /// It takes memory for the parts of an upload alone; where that is refused, the session ends
-    /// with the report NoMemory.
+    /// It takes memory only for the parts of an upload. If that is refused, the session ends with
+    /// the report NoMemory.
     ///
-    /// By `headline` the headline holds after the event with the report that is answered, where it
+    /// By `headline` the headline holds after the event with the report that is answered, if it
     /// held before: the active image is the factory image or the payload of a file offered so far.
-    /// Where the report is Installed or Verified, the device is in appIDLE at this very moment, and
-    /// the payload of the session that reports is the active image.
+    /// If the report is Installed or Verified, the device is then in appIDLE, and the payload of
+    /// the session that reports is the active image.
     ///
     /// # Errors
     ///
@@ -123,7 +123,7 @@ impl<'f, M: Faulty> World<'f, M> {
         }
     }
 
-    /// What the device answered to the host's last action, with the bytes of its answer; also where that was lost
+    /// What the device answered to the host's last action, with the bytes of its answer, also if the answer was lost
     /// on its way back. No clause speaks of it: it is for a trace.
     pub fn answered(&self) -> Option<(Answer, &[u8])> {
         match self.out.came {
@@ -151,7 +151,7 @@ impl<'f, M: Faulty> World<'f, M> {
         &self.device
     }
 
-    /// The device back, without what was uploaded. Where a session is live, the link back as it is.
+    /// The device back, without what was uploaded. While a session is live, the link back unchanged.
     pub fn into_device(self) -> Result<Device<M>, World<'f, M>>
         ensures ok { IfOk result (λ device. (self.entry.bench.session ≡ Nobody) × (device ≡ self.entry.bench.device)) }
         ensures err { IfErr result (λ world. IsLive self.entry.bench.session × (world ≡ self.entry)) }

@@ -17,14 +17,14 @@ pub fn time_of(action: Action<'_>, fate: Fate<'_>) -> u32 {
     }
 }
 
-/// What a line of the trace tells beside the action: its number, and the milliseconds since the start.
+/// What a line of the trace has beside the action: its number, and the milliseconds since the start.
 #[derive(Clone, Copy)]
 pub struct Count {
     pub number: u64,
     pub ms: u64,
 }
 
-/// How a link stood before an action of its host.
+/// What a link was before an action of its host.
 #[derive(Drop)]
 pub struct Snapshot<'f> {
     pub phase: Phase,
@@ -34,7 +34,7 @@ pub struct Snapshot<'f> {
     pub writes: u64,
 }
 
-/// Adds the name of a state, behind what is told before it.
+/// Adds the name of a state, after the text that precedes it.
 fn push_state_name(line: &mut String, state: State) -> Result<(), AllocError> {
     push(line, "; ")?;
     push(line, state.name())

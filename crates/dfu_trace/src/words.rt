@@ -12,7 +12,7 @@ pub(crate) fn push(line: &mut String, text: &str) -> Result<(), AllocError> {
     line.push_str(text)
 }
 
-/// Adds a text, and a number behind it.
+/// Adds a text, and a number after it.
 #[inline(never)]
 pub(crate) fn push_number(
     line: &mut String,
@@ -92,7 +92,7 @@ fn push_hex(line: &mut String, alloc: Global, bytes: &[u8]) -> Result<(), AllocE
     push(line, &hex::encode(alloc, bytes)?)
 }
 
-/// Adds a word, and a harmed write behind it.
+/// Adds a word, and a harmed write after it.
 fn push_harm(
     line: &mut String,
     alloc: Global,
@@ -133,7 +133,7 @@ fn end_text(end: WriteEnd) -> &'static str {
     }
 }
 
-/// Adds a write, behind another one or not.
+/// Adds a write, after another one or not.
 fn push_write(
     line: &mut String,
     alloc: Global,

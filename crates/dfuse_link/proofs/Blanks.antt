@@ -15,7 +15,7 @@ use Rattle.dfuse_host.specs.Deeds.{DfuseDeed, Send, Wait, Done, dfuse_deed, deed
 use Rattle.dfuse_link.specs.Chips.{Chip, Order, Erases, Doing, Rests, Pending, Busy, Device, ChangedBy, Advances, goes_on, ends, fails}
 use Rattle.dfuse_link.specs.Reactions.{Reaction, order_of, set_off, told_of, Reacts, stalls, takes, closes, gives, lists, tells, shows, aborts, clears}
 use Rattle.dfuse_link.specs.Histories.{Arrives, never, again, UnderWay, none, request, sent, waited, restarted}
-use Rattle.dfuse_link.proofs.Changes.{MayChange, changed_stays, behind_stall}
+use Rattle.dfuse_link.proofs.Changes.{MayChange, changed_stays, behind_stall, off_keeps, told_keeps}
 use Rattle.dfuse_link.proofs.Claims.{IsQuiet, Stands, StandsIn}
 use Rattle.dfuse_link.proofs.SentClaims.{ArrivesBy}
 use Rattle.dfuse_link.proofs.Staying.{InPhase}
@@ -87,15 +87,10 @@ module _ (chip : Chip) (a : ℕ) where
   -- ---- requests
 
   off_spares : (doing : Doing) → SparesIn chip a doing → SparesIn chip a (set_off doing)
-  off_spares (Rests s) k = k
-  off_spares (Pending order) k = k
-  off_spares (Busy order) k = k
+  off_spares doing k = off_keeps (SparesIn chip a) (λ order h. h) doing k
 
   told_spares : (doing : Doing) → SparesIn chip a doing → SparesIn chip a (told_of doing)
-  told_spares (Rests state.DownloadSync) k = k
-  told_spares (Rests state.DownloadBusy) k = k
-  told_spares (Rests state.ManifestSync) k = k
-  told_spares doing k = k
+  told_spares doing k = told_keeps (SparesIn chip a) (λ s t h. h) doing k
 
   mid_blank : (d mid : Device) → (mid ≡ record d { doing = set_off d.doing }) ⊎ Advances chip (record d { doing = set_off d.doing }) mid →
       IsBlankAt chip a d → IsBlankAt chip a mid

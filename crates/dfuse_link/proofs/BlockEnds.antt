@@ -43,7 +43,7 @@ reads_itself plan a b =
     ∙ few in
     and_from _ _ (le-leb a a (omega arith)) (and_from _ _ whole (and_from _ _ first (element_by plan a h.element h.is h.low)))
 
--- A block that is read goes behind its first byte.
+-- A block that is read ends after its first byte.
 pub read_goes : (plan : Plan) (a end : ℕ) → HasByte a plan.image.now → a < end → a < read_end plan a end
 unfolding read_end
 read_goes plan a end b less = omega (arith, ends_behind plan a b, less)

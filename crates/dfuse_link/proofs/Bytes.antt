@@ -107,7 +107,7 @@ byte_in_part e at a end low from to =
     ∙ get_or-drop (at - e.address) e.bytes.now (a - at) 0
     ∙ ap (λ (n : ℕ). get_or e.bytes.now n 0) sum
 
--- ---- an image stands if each of its bytes does
+-- ---- an image is in the memory if each of its bytes is
 
 first_stands : (memory : ℕ → ℕ) (e : Element) (es : List Element) →
     ((a : ℕ) → HasByte a (e ∷ es) → memory a ≡ byte_at a (e ∷ es)) → StandsAt memory e.address e.bytes.now

@@ -118,7 +118,7 @@ module _ (plan : Plan) (filled : has_empty plan.image.now ≡ false) (works : �
       count_as plan _ (suc (owed pointer + (6 * sets + (k + n)))) _ (sets + u) _ (omega arith) refl
       (on_lasts pointer at byte _ _ is can more)
 
--- Where the pointer is set for reading is no earlier than where it begins.
+-- The pointer is set for reading no earlier than where reading begins.
 pub reads_behind : (plan : Plan) (filled : has_empty plan.image.now ≡ false) (end low : ℕ) (pointer : Option ℕ) (at sets k : ℕ)
     (last : Option ℕ) → BlocksRead plan end pointer at sets k last → low ≤ at → ((x : ℕ) → pointer ≡ Some x → low ≤ x) → (x : ℕ) →
     last ≡ Some x → low ≤ x

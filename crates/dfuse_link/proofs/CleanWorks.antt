@@ -14,61 +14,15 @@ use Rattle.dfuse_link.proofs.OnPages.{ends_at, has_page}
 use Rattle.dfuse_link.proofs.CleanWriting.{IsWriting}
 use Rattle.dfuse_link.proofs.CleanReading.{IsReading}
 
-write_none : (plan : Plan) (p : Place) (at end : ℕ) → byte_in plan at end ≡ None →
-    to_write plan p at end ≡ to_compare plan p (front_end plan)
-unfolding to_write
-write_none plan p at end e = ap (write_or plan p end) e
-
-write_some : (plan : Plan) (p : Place) (at end b : ℕ) → byte_in plan at end ≡ Some b →
-    to_write plan p at end ≡ stand (work.Write b end) p (sending p)
-unfolding to_write
-write_some plan p at end b e = ap (write_or plan p end) e
-
-settles_write : (plan : Plan) (p : Place) (b end : ℕ) → settle plan (work.Write b end) p ≡ to_write plan p b end
-unfolding settle
-settles_write plan p b end = refl
-
-compare_none : (plan : Plan) (p : Place) (at : ℕ) → byte_in plan at (image_end plan.image.now) ≡ None →
-    to_compare plan p at ≡ to_write_front plan p (image_start plan.image.now)
-unfolding to_compare
-compare_none plan p at e = ap (compare_or plan p) e
-
-compare_some : (plan : Plan) (p : Place) (at b : ℕ) → byte_in plan at (image_end plan.image.now) ≡ Some b →
-    to_compare plan p at ≡ stand (work.Compare b) p (comparing plan b p)
-unfolding to_compare
-compare_some plan p at b e = ap (compare_or plan p) e
-
-settles_compare : (plan : Plan) (p : Place) (b : ℕ) → settle plan (work.Compare b) p ≡ to_compare plan p b
-unfolding settle
-settles_compare plan p b = refl
-
 pub write_front_none : (plan : Plan) (p : Place) (at : ℕ) → byte_in plan at (front_end plan) ≡ None →
     to_write_front plan p at ≡ to_compare_front plan p (image_start plan.image.now)
 unfolding to_write_front
 write_front_none plan p at e = ap (write_front_or plan p) e
 
-write_front_some : (plan : Plan) (p : Place) (at b : ℕ) → byte_in plan at (front_end plan) ≡ Some b →
-    to_write_front plan p at ≡ stand (work.WriteFront b) p (sending p)
-unfolding to_write_front
-write_front_some plan p at b e = ap (write_front_or plan p) e
-
-settles_write_front : (plan : Plan) (p : Place) (b : ℕ) → settle plan (work.WriteFront b) p ≡ to_write_front plan p b
-unfolding settle
-settles_write_front plan p b = refl
-
 pub compare_front_none : (plan : Plan) (p : Place) (at : ℕ) → byte_in plan at (front_end plan) ≡ None →
     to_compare_front plan p at ≡ to_leave plan p
 unfolding to_compare_front
 compare_front_none plan p at e = ap (compare_front_or plan p) e
-
-compare_front_some : (plan : Plan) (p : Place) (at b : ℕ) → byte_in plan at (front_end plan) ≡ Some b →
-    to_compare_front plan p at ≡ stand (work.CompareFront b) p (comparing plan b p)
-unfolding to_compare_front
-compare_front_some plan p at b e = ap (compare_front_or plan p) e
-
-settles_compare_front : (plan : Plan) (p : Place) (b : ℕ) → settle plan (work.CompareFront b) p ≡ to_compare_front plan p b
-unfolding settle
-settles_compare_front plan p b = refl
 
 pub settles_erase : (plan : Plan) (p : Place) (b : ℕ) → settle plan (work.Erase b) p ≡ to_erase plan p b
 unfolding settle
@@ -81,11 +35,12 @@ module _ (plan : Plan) (ready : IsPlanned plan) where
 
   pub writing_rest : IsWriting plan (λ b. work.Write b (image_end plan.image.now)) (λ p at. to_write plan p at (image_end plan.image.now))
       (image_end plan.image.now) (λ p. to_compare plan p (front_end plan))
+  unfolding to_write settle
   writing_rest = record {
-    none = λ p at e. write_none plan p at (image_end plan.image.now) e;
-    some = λ p at b e. write_some plan p at (image_end plan.image.now) b e;
+    none = λ p at e. ap (write_or plan p (image_end plan.image.now)) e;
+    some = λ p at b e. ap (write_or plan p (image_end plan.image.now)) e;
     sends = λ p b. refl;
-    settles = λ p b. settles_write plan p b (image_end plan.image.now);
+    settles = λ p b. refl;
     writes = λ at b is.
         ap (λ (n : ℕ). to_write plan place.Lost n (image_end plan.image.now))
         (write_last plan b (image_end plan.image.now) is.has is.to (page_behind b at (image_end plan.image.now) is));
@@ -93,29 +48,32 @@ module _ (plan : Plan) (ready : IsPlanned plan) where
 
   pub writing_front : IsWriting plan (λ b. work.WriteFront b) (λ p at. to_write_front plan p at) (front_end plan)
       (λ p. to_compare_front plan p (image_start plan.image.now))
+  unfolding to_write_front settle
   writing_front = record {
-    none = λ p at e. write_front_none plan p at e;
-    some = λ p at b e. write_front_some plan p at b e;
+    none = λ p at e. ap (write_front_or plan p) e;
+    some = λ p at b e. ap (write_front_or plan p) e;
     sends = λ p b. refl;
-    settles = λ p b. settles_write_front plan p b;
+    settles = λ p b. refl;
     writes = λ at b is. refl;
   }
 
   pub reading_rest : IsReading plan (λ b. work.Compare b) (λ p at. to_compare plan p at) (image_end plan.image.now)
       (λ p. to_write_front plan p (image_start plan.image.now))
+  unfolding to_compare settle
   reading_rest = record {
-    none = λ p at e. compare_none plan p at e;
-    some = λ p at b e. compare_some plan p at b e;
+    none = λ p at e. ap (compare_or plan p) e;
+    some = λ p at b e. ap (compare_or plan p) e;
     sends = λ p b. refl;
-    settles = λ p b. settles_compare plan p b;
+    settles = λ p b. refl;
     reads = λ b. refl;
   }
 
   pub reading_front : IsReading plan (λ b. work.CompareFront b) (λ p at. to_compare_front plan p at) (front_end plan) (λ p. to_leave plan p)
+  unfolding to_compare_front settle
   reading_front = record {
-    none = λ p at e. compare_front_none plan p at e;
-    some = λ p at b e. compare_front_some plan p at b e;
+    none = λ p at e. ap (compare_front_or plan p) e;
+    some = λ p at b e. ap (compare_front_or plan p) e;
     sends = λ p b. refl;
-    settles = λ p b. settles_compare_front plan p b;
+    settles = λ p b. refl;
     reads = λ b. refl;
   }

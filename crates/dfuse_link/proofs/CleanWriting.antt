@@ -20,7 +20,7 @@ use Rattle.dfuse_link.proofs.Lasting.{Lasts, count_as, phase_as}
 use Rattle.dfuse_link.proofs.CleanSteps.{lasts_command, lasts_end}
 use Rattle.dfuse_link.proofs.NextBytes.{IsByteIn, byte_is}
 
--- Where a session stands that reads from where the pointer was set, or not yet.
+-- The place of a session that reads from where the pointer was set, or doesn't read yet.
 abbrev pub place_of : Option ℕ → Place
 place_of None = place.Lost
 place_of (Some pointer) = place.Reading pointer

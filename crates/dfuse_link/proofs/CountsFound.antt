@@ -27,7 +27,7 @@ record SomeReads (plan : Plan) (end : ℕ) (pointer : Option ℕ) (at : ℕ) : T
   are : BlocksRead plan end pointer at sets n last
 
 module _ (one : OnePage) (plan : Plan) (ready : IsPlanned plan) where
-  -- A page ends behind its addresses.
+  -- A page ends after its addresses.
   page_goes : (b : ℕ) → HasByte b plan.image.now → b < page_end plan (page_start plan b)
   page_goes b has =
       let h = has_page plan b ready.sound ready.ranges has in

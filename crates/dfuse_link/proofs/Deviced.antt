@@ -184,7 +184,7 @@ module _ (chip : Chip) where
         (λ x y reaction step k. status_has x y n body reaction step k) d d'
         r comes h
 
-    -- A device that tells dfuDNLOAD-IDLE is quiet, and the command is done.
+    -- A device that reports dfuDNLOAD-IDLE is quiet, and the command is done.
     pub told_done : (doing : Doing) (pointer : ℕ) (memory : ℕ → ℕ) → state_in doing ≡ state.DownloadIdle →
         Has chip c doing pointer memory → IsQuiet doing × IsDone chip c pointer memory
     told_done (Rests s) pointer memory e h =
@@ -193,7 +193,7 @@ module _ (chip : Chip) where
     told_done (Pending order) pointer memory e h = cc
     told_done (Busy order) pointer memory e h = cc
 
-    -- A device that tells dfuDNLOAD-SYNC has the command.
+    -- A device that reports dfuDNLOAD-SYNC has the command.
     pub synced_has : (doing : Doing) (pointer : ℕ) (memory : ℕ → ℕ) → state_in doing ≡ state.DownloadSync → MayHave c doing →
         Has chip c doing pointer memory
     synced_has (Rests s) pointer memory e h = absurd (subst (λ (t : State). IsQuiet (Rests t)) e h)

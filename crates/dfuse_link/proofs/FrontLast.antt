@@ -1,4 +1,4 @@
--- While a session writes its front, the rest of the image stands.
+-- While a session writes its front, the rest of the image is in the memory.
 use Rattle.std.proofs.Common.{◌≡◌, ℕ, ◌≤◌, inl, inr, List, [], ◌∷◌, Some, sym, ap, ◌∙◌, subst}
 use Rattle.dfuse_host.specs.declared.element.Element.{Element}
 use Rattle.dfuse_host.specs.declared.plan.Plan.{Plan}

@@ -91,7 +91,7 @@ module _ (one : OnePage) (chip : Chip) (plan : Plan) (m : Mixable chip plan) whe
       page_start plan a ≡ page_start plan (image_start plan.image.now)
   of_front a has less = front_page a (from_start a plan.image.now (is_apart chip plan m.for) has, less)
 
-  -- What isn't on that page lies behind the front.
+  -- What isn't on that page lies after the front.
   pub behind_front : (a : ℕ) → HasByte a plan.image.now → IsElsewhere plan a → front_end plan ≤ a
   behind_front a has other = elim (cases_lt a (front_end plan)) [ inl w ↦ absurd (other (of_front a has w)) | inr w ↦ w ]
 

@@ -111,7 +111,7 @@ module _ (one : OnePage) (chip : Chip) (plan : Plan) (m : Mixable chip plan) (d 
       subst (λ (v : Work). IsDone chip (command_of plan v p) d.pointer d.memory) e is in
       any_goes (Erasing plan) (Blanked chip plan d) (is_blanked quiet erased) (done plan w (command_of plan w p))
 
-  -- ---- behind the comparison
+  -- ---- after the comparison
 
   behind_front_goes : (p : Place) (at : ℕ) → GoesIn (Behind plan) (Blanked chip plan d) (to_write_front plan p at)
   behind_front_goes p at = write_front_goes one chip plan m (Behind plan) (Blanked chip plan d) (λ c h. h) (λ c. tt) tt p at
@@ -126,18 +126,13 @@ module _ (one : OnePage) (chip : Chip) (plan : Plan) (m : Mixable chip plan) (d 
   behind_settle w p g = absurd g
 
   behind_read : (w : Work) → Behind plan w → Behind plan (read_on plan w)
-  behind_read (work.EraseAgain page end) g = g
-  behind_read (work.WriteFront at) g = g
+  behind_read (work.Compare at) g = absurd g
   behind_read (work.CompareFront at) g = tt
-  behind_read work.Leave g = tt
-  behind_read w g = absurd g
+  behind_read w g = g
 
   behind_again : (w : Work) → Behind plan w → Behind plan (again plan w)
-  behind_again (work.EraseAgain page end) g = g
-  behind_again (work.WriteFront at) g = g
-  behind_again (work.CompareFront at) g = tt
-  behind_again work.Leave g = tt
-  behind_again w g = absurd g
+  behind_again (work.Write at end) g = absurd g
+  behind_again w g = g
 
   pub behind_group : IsGroup plan (Behind plan) (Blanked chip plan d)
   behind_group = record {

@@ -1,4 +1,4 @@
--- Rows that stay with some works, or go on behind a command that is done.
+-- Rows that stay with some works, or go on after a command that is done.
 use Rattle.std.proofs.Common.{◌≡◌, ℕ, ◌⊎◌, inl, Bool, true, false}
 use Rattle.dfu_wire.specs.declared.codes.Code.{Code}
 use Rattle.dfu_wire.specs.declared.codes.Code.TheVariants as code
@@ -97,7 +97,7 @@ module _ (plan : Plan) (G : Work → Type 0) (B : Type 0) (r : IsGroup plan G B)
   refused_goes code.Vendor = tt
   refused_goes c = tt
 
-  -- A command is done if the device tells dfuDNLOAD-IDLE.
+  -- A command is done if the device reports dfuDNLOAD-IDLE.
   polled_goes : (u : State) → (u ≡ state.DownloadIdle → GoesIn G B (done plan w (command_of plan w p))) →
       (c : Code) (poll : ℕ) (t : State) →
       u ≡ t → GoesIn G B (polled plan w p c poll t)

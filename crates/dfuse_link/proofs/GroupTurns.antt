@@ -1,24 +1,21 @@
--- Turns that stay with some works, or go on behind a command that is done.
-use Rattle.std.proofs.Common.{◌≡◌, ℕ, zero, suc, pred, inl, Option, refl, sym, ap, subst}
+-- Turns that stay with some works, or go on after a command that is done.
+use Rattle.std.proofs.Common.{◌≡◌, ℕ, inl, Option, refl, sym, ap, subst}
 use Rattle.dfuse_host.specs.declared.plan.Plan.{Plan}
 use Rattle.dfuse_host.specs.declared.phase.Phase.{Phase}
 use Rattle.dfuse_host.specs.declared.phase.Phase.TheVariants.{On, Over}
 use Rattle.dfuse_host.specs.declared.work.Work.{Work}
-use Rattle.dfuse_host.specs.declared.work.Work.TheVariants as work
 use Rattle.dfuse_host.specs.declared.place.Place.{Place}
 use Rattle.dfuse_host.specs.declared.step.Step.{Step}
 use Rattle.dfuse_host.specs.declared.step.Step.TheVariants as step
-use Rattle.dfuse_host.specs.declared.report.Report.TheVariants as report
-use Rattle.dfuse_host.specs.declared.report.Leaving.TheVariants as leaving
 use Rattle.dfuse_host.specs.declared.seen.Seen.{Seen}
 use Rattle.dfuse_host.specs.declared.seen.Seen.TheVariants as seen
 use Rattle.dfuse_host.specs.declared.session.Session.{Session}
 use Rattle.dfuse_host.specs.Commands.{command_of, done}
 use Rattle.dfuse_host.specs.Deeds.{DfuseDeed, Wait, dfuse_deed, deed_of}
-use Rattle.dfuse_host.specs.Sessions.{dfuse_budgeted, spent_at, resumed, dfuse_restarted, restarted_leaving, restarted_in, dfuse_told, dfuse_after, dfuse_after_phase, HearsIn, SessionRow}
+use Rattle.dfuse_host.specs.Sessions.{resumed, dfuse_told, dfuse_after, dfuse_after_phase, HearsIn, SessionRow}
 use Rattle.dfuse_host.specs.Table.{row}
 use Rattle.dfuse_host.specs.Wire.{DfuseHears}
-use Rattle.dfuse_host.proofs.ForCallers.{AnyHeard, by_heard}
+use Rattle.dfuse_host.proofs.ForCallers.{AnyHeard}
 use Rattle.dfuse_link.specs.Chips.{Chip, Device, state_in}
 use Rattle.dfuse_link.specs.Reactions.{Reaction}
 use Rattle.dfuse_link.specs.Histories as histories
@@ -30,51 +27,24 @@ use Rattle.dfuse_link.proofs.SentClaims.{ArrivesBy}
 use Rattle.dfuse_link.proofs.Staying.{InPhase}
 use Rattle.dfuse_link.proofs.GroupRows.{GoesIn, IsGroup, Asks, poll_goes, row_goes}
 use Rattle.dfuse_link.proofs.Pairs.{Paired, Turned}
+use Rattle.dfuse_link.proofs.ToldPhases.{restart_holds, told_holds}
 
 -- ---- restarts and the budget
 
 module _ (plan : Plan) (G : Work → Type 0) (B : Type 0) (r : IsGroup plan G B) where
-  spent_goes : (w : Work) (s : Step) → GoesIn G B (spent_at w s)
-  spent_goes work.Leave s = tt
-  spent_goes w s = tt
-
-  budget_goes : (n : ℕ) (p : Phase) → GoesIn G B p → GoesIn G B (dfuse_budgeted n p)
-  budget_goes n (Over rep) k = tt
-  budget_goes zero (On s) k = spent_goes s.work s.step
-  budget_goes (suc n) (On s) k = k
-
   resumed_goes : (w : Work) (p : Place) (s : Step) → G w → GoesIn G B (resumed plan w p s)
   resumed_goes w p (step.Poll last) g = r.doubts w (command_of plan w p) g
   resumed_goes w p (step.PollWait ms) g = r.doubts w (command_of plan w p) g
   resumed_goes w p s g = inl g
 
 module _ (s : Session) (G : Work → Type 0) (B : Type 0) (r : IsGroup s.plan G B) where
-  restarted_goes : (p : Phase) (n : ℕ) → GoesIn G B p → GoesIn G B (dfuse_restarted s p n).phase
-  restarted_goes p zero k = budget_goes s.plan G B r (pred s.actions) (Over report.RestartsSpent) tt
-  restarted_goes p (suc n) k = budget_goes s.plan G B r (pred s.actions) p k
-
-  leaving_goes : (p : Place) (at : Step) → G work.Leave → GoesIn G B (restarted_leaving s p at).phase
-  leaving_goes p step.Close g = budget_goes s.plan G B r (pred s.actions) (Over (report.Verified leaving.Unknown)) tt
-  leaving_goes p step.CloseProbe g = budget_goes s.plan G B r (pred s.actions) (Over (report.Verified leaving.Unknown)) tt
-  leaving_goes p step.ClosePoll g = budget_goes s.plan G B r (pred s.actions) (Over (report.Verified leaving.Unknown)) tt
-  leaving_goes p at g = restarted_goes (resumed s.plan work.Leave p at) s.restarts (resumed_goes s.plan G B r work.Leave p at g)
-
-  restart_goes : (w : Work) (p : Place) (at : Step) → G w → GoesIn G B (restarted_in s w p at).phase
-  restart_goes work.Leave p at g = leaving_goes p at g
-  restart_goes w p at g = restarted_goes (resumed s.plan w p at) s.restarts (resumed_goes s.plan G B r w p at g)
-
   told_goes : (w : Work) (p : Place) (at : Step) (h : AnyHeard) → G w → GoesIn G B (row s.plan w p at h) →
       GoesIn G B (dfuse_told s w p at h).phase
-  told_goes w p at h g =
-      by_heard (λ x. GoesIn G B (row s.plan w p at x) → GoesIn G B (dfuse_told s w p at x).phase)
-      (λ k. budget_goes s.plan G B r (pred s.actions) _ k) (λ t k. budget_goes s.plan G B r (pred s.actions) _ k)
-      (λ t k. budget_goes s.plan G B r (pred s.actions) _ k) (λ b k. budget_goes s.plan G B r (pred s.actions) _ k)
-      (λ k. budget_goes s.plan G B r (pred s.actions) _ k) (λ k. budget_goes s.plan G B r (pred s.actions) _ k)
-      (λ k. budget_goes s.plan G B r (pred s.actions) _ k) (λ k. restart_goes w p at g) h
+  told_goes w p at h g = told_holds (GoesIn G B) (λ x. tt) s w p at h (resumed_goes s.plan G B r w p at g)
 
 -- ---- turns
 
--- Behind a command that is done a session goes on so.
+-- After a command that is done a session goes on so.
 abbrev pub DoneGoes : Chip → Plan → (G : Work → Type 0) (B : Device → Type 0) → Device → Type 0
 DoneGoes chip plan G B d =
     (w : Work) (p : Place) → G w → IsQuiet d.doing → IsDone chip (command_of plan w p) d.pointer d.memory →
@@ -118,7 +88,8 @@ module _ (chip : Chip) (s : Session) (G : Work → Type 0) (B : Device → Type 
       GoesIn G (B d') (dfuse_after_phase s p h).phase
   new_goes (On at) h f g hears =
       subst (λ y. GoesIn G (B d') (dfuse_told s at.work at.place at.step y).phase) (sym hears)
-      (restart_goes s G (B d') r at.work at.place at.step g)
+      (restart_holds (GoesIn G (B d')) (λ x. tt) s at.work at.place at.step
+      (resumed_goes s.plan G (B d') r at.work at.place at.step g))
   new_goes (Over rep) h f g hears = subst (λ (q : Phase). GoesIn G (B d') q) (sym f) tt
 
 module _ (chip : Chip) (l l' : Paired) (G : Work → Type 0) (B : Device → Type 0) (r : IsGroup l.session.plan G (B l'.device))

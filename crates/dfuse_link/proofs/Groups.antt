@@ -1,4 +1,4 @@
--- The works before the front's page is erased, and those behind the comparison of all else.
+-- The works before the front's page is erased, and those after the comparison of all else.
 use Rattle.std.proofs.Common.{◌≡◌, ℕ, inl, inr, true, false, cond, eqb, Option, Some, None, refl}
 use Rattle.dfuse_host.specs.declared.plan.Plan.{Plan}
 use Rattle.dfuse_host.specs.declared.phase.Phase.{Phase}
@@ -34,7 +34,7 @@ Placed plan w = Unit {0}
 abbrev pub Erasing : Plan → Work → Type 0
 Erasing plan w = w ≡ work.Erase (image_start plan.image.now)
 
--- All but the front was compared, or stood on the other pages when the front's page was to be erased again.
+-- All but the front was compared, or was on the other pages when the front's page was to be erased again.
 abbrev pub Behind : Plan → Work → Type 0
 Behind plan (work.EraseAgain page end) = page ≡ the_page plan
 Behind plan (work.WriteFront at) = page_start plan at ≡ the_page plan

@@ -74,32 +74,32 @@ status_heard bytes h d =
     (λ b r e. tt) (λ r e. tt) (λ r e. tt) (λ r e. tt) (λ r e. tt) h
 
 module _ (plan : Plan) (w : Work) (s : Step) (h : AnyHeard) (d : Device) where
+  -- What is heard of a request: with bytes this says what they show, and without them nothing is claimed.
+  says_by : (P : Option Reaction → Type 0) → ((bytes given : List ℕ) → P (Some (Data bytes)) → given ≡ bytes →
+      DfuseHearsBytes plan w s given h → SaysState h (state_in d.doing)) → (r : Option Reaction) (x : Seen) → IsSeenOf r x → P r →
+      DfuseHears plan w s x h → SaysState h (state_in d.doing)
+  says_by P says r seen.Ack is sent e = subst (λ x. SaysState x (state_in d.doing)) (sym e) tt
+  says_by P says r seen.Stall is sent e = subst (λ x. SaysState x (state_in d.doing)) (sym e) tt
+  says_by P says r seen.Nothing is sent e = subst (λ x. SaysState x (state_in d.doing)) (sym e) tt
+  says_by P says r seen.Waited is sent e = subst (λ x. SaysState x (state_in d.doing)) (sym e) tt
+  says_by P says r seen.Restarted is sent e = subst (λ x. SaysState x (state_in d.doing)) (sym e) tt
+  says_by P says (Some (Data bytes)) (seen.Bytes given) is sent e = says bytes given.now sent is e
+  says_by P says (Some Acks) (seen.Bytes given) is sent e = absurd is
+  says_by P says (Some Stalls) (seen.Bytes given) is sent e = absurd is
+  says_by P says None (seen.Bytes given) is sent e = absurd is
+
   -- What is heard of GETSTATE.
   pub says_state : ((bytes : List ℕ) → DfuseHearsBytes plan w s bytes h → DfuseReadsState bytes h) → (r : Option Reaction) (x : Seen) →
       IsSeenOf r x →
       StateSent r d → DfuseHears plan w s x h → SaysState h (state_in d.doing)
-  says_state reads r seen.Ack is sent e = subst (λ x. SaysState x (state_in d.doing)) (sym e) tt
-  says_state reads r seen.Stall is sent e = subst (λ x. SaysState x (state_in d.doing)) (sym e) tt
-  says_state reads r seen.Nothing is sent e = subst (λ x. SaysState x (state_in d.doing)) (sym e) tt
-  says_state reads r seen.Waited is sent e = subst (λ x. SaysState x (state_in d.doing)) (sym e) tt
-  says_state reads r seen.Restarted is sent e = subst (λ x. SaysState x (state_in d.doing)) (sym e) tt
-  says_state reads (Some (Data bytes)) (seen.Bytes given) is sent e =
-      state_heard given.now h (state_in d.doing) (reads given.now e) (is ∙ sent)
-  says_state reads (Some Acks) (seen.Bytes given) is sent e = absurd is
-  says_state reads (Some Stalls) (seen.Bytes given) is sent e = absurd is
-  says_state reads None (seen.Bytes given) is sent e = absurd is
+  says_state reads r x is sent e =
+      says_by (λ y. StateSent y d) (λ bytes given sends same heard.
+      state_heard given h (state_in d.doing) (reads given heard) (same ∙ sends)) r x is sent e
 
   -- What is heard of GETSTATUS.
   pub says_status : ((bytes : List ℕ) → DfuseHearsBytes plan w s bytes h → DfuseReadsStatus bytes h) → (r : Option Reaction) (x : Seen) →
       IsSeenOf r x →
       StatusSent r d → DfuseHears plan w s x h → SaysState h (state_in d.doing)
-  says_status reads r seen.Ack is sent e = subst (λ x. SaysState x (state_in d.doing)) (sym e) tt
-  says_status reads r seen.Stall is sent e = subst (λ x. SaysState x (state_in d.doing)) (sym e) tt
-  says_status reads r seen.Nothing is sent e = subst (λ x. SaysState x (state_in d.doing)) (sym e) tt
-  says_status reads r seen.Waited is sent e = subst (λ x. SaysState x (state_in d.doing)) (sym e) tt
-  says_status reads r seen.Restarted is sent e = subst (λ x. SaysState x (state_in d.doing)) (sym e) tt
-  says_status reads (Some (Data bytes)) (seen.Bytes given) is sent e =
-      status_heard given.now h d (reads given.now e) (subst (λ (xs : List ℕ). SendsStatus xs d) (sym is) sent)
-  says_status reads (Some Acks) (seen.Bytes given) is sent e = absurd is
-  says_status reads (Some Stalls) (seen.Bytes given) is sent e = absurd is
-  says_status reads None (seen.Bytes given) is sent e = absurd is
+  says_status reads r x is sent e =
+      says_by (λ y. StatusSent y d) (λ bytes given sends same heard.
+      status_heard given h d (reads given heard) (subst (λ (xs : List ℕ). SendsStatus xs d) (sym same) sends)) r x is sent e

@@ -41,7 +41,7 @@ IsCleanIn plan x (Over report) = ⊥
 abbrev pub session_at : Plan → Phase → (actions restarts : ℕ) → Session
 session_at plan phase actions restarts = record { plan = plan; phase = phase; actions = actions; restarts = restarts }
 
--- Each clean run from this phase on is over once so much was seen, of which so many are ends of waits.
+-- Each clean run from this phase on is over once so much was seen, so many ends of waits among it.
 pub record Lasts (plan : Plan) (phase : Phase) (n u : ℕ) : Type 0 where
   pub runs : (actions restarts : ℕ) (seens : List Seen) (s : Session) → n ≤ actions →
       CleanSession (session_at plan phase actions restarts) seens s → EndsCounted plan n u seens s

@@ -39,5 +39,6 @@ pub mod SettlingClaims
 pub mod Spared
 pub mod Staying
 pub mod StepClaims
+pub mod ToldPhases
 pub mod Turns
 pub mod Verified

@@ -17,8 +17,8 @@ use Rattle.dfuse_link.specs.Fronts.{IsOfFront, IsElsewhere}
 use Rattle.dfuse_link.proofs.Blanks.{IsBlankAt, quiet_spares, advances_blank, turn_blank}
 use Rattle.dfuse_link.proofs.Bytes.{byte_at}
 use Rattle.dfuse_link.proofs.FrontPages.{Mixable, behind_front}
-use Rattle.dfuse_link.proofs.GroupRows.{GoesIn}
-use Rattle.dfuse_link.proofs.GroupTurns.{turn_goes}
+use Rattle.dfuse_link.proofs.GroupRows.{GoesIn, IsGroup}
+use Rattle.dfuse_link.proofs.GroupTurns.{DoneGoes, turn_goes}
 use Rattle.dfuse_link.proofs.GroupLaws.{placed_group, placed_done, erasing_group, erasing_done, behind_group, behind_done}
 use Rattle.dfuse_link.proofs.Groups.{Placed, Erasing, Behind, Blanked}
 use Rattle.dfuse_link.proofs.Own.{OwnIn, phase_own}
@@ -39,7 +39,7 @@ Old chip plan first p d = (a : ℕ) → IsElsewhere plan a → OwnIn chip a p d.
 abbrev pub Blank : Chip → Plan → Device → Type 0
 Blank chip plan d = (a : ℕ) → IsOfFront plan a → IsBlankAt chip a d
 
--- The image stands on the other pages, and stays so.
+-- The image is on the other pages, and stays there.
 abbrev pub New : Chip → Plan → Phase → Device → Type 0
 New chip plan p d =
     (a : ℕ) → IsElsewhere plan a → HasByte a plan.image.now → OwnIn chip a p d.doing × (d.memory a ≡ byte_at a plan.image.now)
@@ -59,13 +59,13 @@ pub record IsMix (chip : Chip) (first : Device) (l : Paired) : Type 0 where
   pub mix : Mix chip l.session.plan first l.session.phase l.device
 
 module _ (one : OnePage) (chip : Chip) (plan : Plan) (m : Mixable chip plan) (first : Device) where
-  -- What was read back stands.
+  -- What was read back is in the memory.
   read_new : (p : Phase) (d : Device) → ((a : ℕ) → HasByte a plan.image.now → IsElsewhere plan a → WasReadIn plan p a) →
       ((a : ℕ) → HasByte a plan.image.now → WasReadIn plan p a → IsRight chip plan d a) → New chip plan p d
   read_new p d was right = λ a other has.
       let r = right a has (was a has other) in (phase_own chip a p d.doing r.1, r.0)
 
-  -- Once the front is blank: before all else was compared, or behind that.
+  -- Once the front is blank: before all else was compared, or after that.
   by_work : (w : Work) → Touches plan w → Placed plan w →
       Before plan w ⊎ (Behind plan w × ((a : ℕ) → HasByte a plan.image.now → IsElsewhere plan a → WasRead plan w a))
   by_work (work.Erase at) touches placed = inl tt
@@ -107,13 +107,19 @@ module _ (one : OnePage) (read : OnlyReadBack) (closes : ClosesAlways) (always :
     from_blanked : Blanked chip l.session.plan l'.device → Mix chip l.session.plan first l'.session.phase l'.device
     from_blanked b = from_blank (blanked_blank one chip l.session.plan k.mixable first l'.device b)
 
+    -- A session at some works stays with them, or the front is blank.
+    next_turn : (G : Work → Type 0) → IsGroup l.session.plan G (Blanked chip l.session.plan l'.device) →
+        DoneGoes chip l.session.plan G (λ d. Blanked chip l.session.plan d) l'.device → InPhase G l.session.phase →
+        InPhase G l'.session.phase ⊎ Blanked chip l.session.plan l'.device
+    next_turn G group done q =
+        next_in G (Blanked chip l.session.plan l'.device) l'.session.phase
+        (turn_goes chip l l' G (λ d. Blanked chip l.session.plan d) group done x turn q k.so.stands)
+
     old_turn : InPhase (Erasing l.session.plan) l.session.phase → Old chip l.session.plan first l.session.phase l.device →
         Mix chip l.session.plan first l'.session.phase l'.device
     old_turn q old =
-        let goes = turn_goes chip l l' (Erasing l.session.plan) (λ d. Blanked chip l.session.plan d)
-        (erasing_group one chip l.session.plan k.mixable l'.device) (erasing_done one chip l.session.plan k.mixable l'.device) x turn q
-        k.so.stands in
-        elim (next_in (Erasing l.session.plan) (Blanked chip l.session.plan l'.device) l'.session.phase goes) [
+        elim (next_turn (Erasing l.session.plan) (erasing_group one chip l.session.plan k.mixable l'.device)
+        (erasing_done one chip l.session.plan k.mixable l'.device) q) [
           | inl now ↦ inl (
             now,
             λ a other.
@@ -128,10 +134,8 @@ module _ (one : OnePage) (read : OnlyReadBack) (closes : ClosesAlways) (always :
     new_turn : InPhase (Behind l.session.plan) l.session.phase → New chip l.session.plan l.session.phase l.device →
         Mix chip l.session.plan first l'.session.phase l'.device
     new_turn q new =
-        let goes = turn_goes chip l l' (Behind l.session.plan) (λ d. Blanked chip l.session.plan d)
-        (behind_group one chip l.session.plan k.mixable l'.device) (behind_done one chip l.session.plan k.mixable l'.device) x turn q
-        k.so.stands in
-        elim (next_in (Behind l.session.plan) (Blanked chip l.session.plan l'.device) l'.session.phase goes) [
+        elim (next_turn (Behind l.session.plan) (behind_group one chip l.session.plan k.mixable l'.device)
+        (behind_done one chip l.session.plan k.mixable l'.device) q) [
           | inl now ↦ inr (inr (
             now,
             λ a other has.

@@ -14,7 +14,7 @@ use Rattle.dfuse_host.specs.Settling.{if_before, byte_in}
 
 -- ---- the next byte
 
--- An element with bytes ends behind its address.
+-- An element with bytes ends after its address.
 pub some_bytes : (e : Element) → eqb (length e.bytes.now) 0 ≡ false → e.address < end_of e
 some_bytes e h = grind (arith, nat_tests)
 
@@ -27,7 +27,7 @@ next_nil : (at c : ℕ) → next_byte at [] ≡ Some c → ⊥
 unfolding next_byte
 next_nil at c h = cc
 
--- The next byte is in the first element that ends behind the address, and it is the next one of itself.
+-- The next byte is in the first element that ends after the address, and it is its own next byte.
 record IsNext (at c : ℕ) (es : List Element) : Type 0 where
   from : at ≤ c
   has : HasByte c es

@@ -64,7 +64,7 @@ is_another (work.Erase at) first again is = first at refl
 is_another (work.EraseAgain page end) first again is = again page end refl
 is_another w first again is = is
 
--- Behind the comparison each byte behind the front was read back.
+-- After the comparison each byte that follows the front was read back.
 behind_read : (plan : Plan) (w : Work) (a : ℕ) → Behind plan w → (IsToErase w → ⊥) → front_end plan ≤ a → WasRead plan w a
 behind_read plan (work.EraseAgain page end) a b no_erase low = absurd (no_erase tt)
 behind_read plan (work.WriteFront at) a b no_erase low = low

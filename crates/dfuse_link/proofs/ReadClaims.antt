@@ -163,7 +163,7 @@ matches plan w given a h =
 
 -- ---- what the device gave
 
--- The device's bytes stand in its memory, and it is quiet.
+-- The device's bytes are in its memory, and it is quiet.
 record Given (chip : Chip) (p : Place) (block : ℕ) (bytes : List ℕ) (d : Device) : Type 0 where
   pointer : ℕ
   known : Knows p pointer

@@ -22,7 +22,7 @@ use Rattle.dfuse_host.proofs.ForCallers.{set_address, write_at}
 use Rattle.dfuse_link.specs.Chips.{Chip, Order, Doing, Rests, Pending, Busy, Device, ChangedBy, Advances, goes_on, ends, fails}
 use Rattle.dfuse_link.specs.Reactions.{Reaction, order_of, set_off, told_of, Reacts, stalls, takes, closes, gives, lists, tells, shows, aborts, clears}
 use Rattle.dfuse_link.specs.Histories.{Arrives, never, again}
-use Rattle.dfuse_link.proofs.Changes.{MayChange, changed_stays, behind_stall}
+use Rattle.dfuse_link.proofs.Changes.{MayChange, changed_stays, behind_stall, off_keeps, told_keeps}
 use Rattle.dfuse_link.proofs.Claims.{Knows, Stands}
 use Rattle.dfuse_link.proofs.SentClaims.{pointed}
 
@@ -48,15 +48,10 @@ pub record KeepsByte (chip : Chip) (a : ℕ) (d d' : Device) : Type 0 where
 
 module _ (chip : Chip) (a : ℕ) where
   off_safe : (doing : Doing) → SafeAt chip a doing → SafeAt chip a (set_off doing)
-  off_safe (Rests s) safe = safe
-  off_safe (Pending order) safe = safe
-  off_safe (Busy order) safe = safe
+  off_safe doing safe = off_keeps (SafeAt chip a) (λ order h. h) doing safe
 
   told_safe : (doing : Doing) → SafeAt chip a doing → SafeAt chip a (told_of doing)
-  told_safe (Rests state.DownloadSync) safe = safe
-  told_safe (Rests state.DownloadBusy) safe = safe
-  told_safe (Rests state.ManifestSync) safe = safe
-  told_safe doing safe = safe
+  told_safe doing safe = told_keeps (SafeAt chip a) (λ s t h. h) doing safe
 
   order_safe : (doing : Doing) (order : Order) → doing ≡ Busy order → SafeAt chip a doing → MayChange chip order a → ⊥
   order_safe doing order e safe = subst (SafeAt chip a) e safe

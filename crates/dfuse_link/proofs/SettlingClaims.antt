@@ -1,6 +1,7 @@
 -- What is so of a quiet device once a session goes on.
 use Rattle.std.proofs.Common.{◌≡◌, ℕ, Bool, true, false, cond, eqb, Option, Some, None, refl}
 use Rattle.dfuse_host.specs.declared.plan.Plan.{Plan}
+use Rattle.dfuse_host.specs.declared.phase.Phase.{Phase}
 use Rattle.dfuse_host.specs.declared.work.Work.{Work}
 use Rattle.dfuse_host.specs.declared.work.Work.TheVariants as work
 use Rattle.dfuse_host.specs.declared.place.Place.{Place}
@@ -59,45 +60,41 @@ module _ (chip : Chip) (plan : Plan) (d : Device) (quiet : IsQuiet d.doing) wher
   at_leave p k = elim plan.leaves as (λ t. StandsIn chip plan (cond t (leaving_by plan p) (staying p)) d)
       [ true ↦ by_leaving p k | false ↦ by_staying p k ]
 
-  compare_front_by : (p : Place) (o : Option ℕ) → Knows p d.pointer → StandsIn chip plan (compare_front_or plan p o) d
-  compare_front_by p None k = at_leave p k
-  compare_front_by p (Some at) k = by_comparing (work.CompareFront at) p k
+  -- A phase that goes by the next byte, or by there being none.
+  by_byte : (F : Option ℕ → Phase) → StandsIn chip plan (F None) d → ((at : ℕ) → StandsIn chip plan (F (Some at)) d) → (o : Option ℕ) →
+      StandsIn chip plan (F o) d
+  by_byte F none some None = none
+  by_byte F none some (Some at) = some at
 
   at_compare_front : (p : Place) (at : ℕ) → Knows p d.pointer → StandsIn chip plan (to_compare_front plan p at) d
   unfolding to_compare_front
-  at_compare_front p at k = compare_front_by p (byte_in plan at (front_end plan)) k
-
-  write_front_by : (p : Place) (o : Option ℕ) → Knows p d.pointer → StandsIn chip plan (write_front_or plan p o) d
-  write_front_by p None k = at_compare_front p (image_start plan.image.now) k
-  write_front_by p (Some at) k = by_sending (work.WriteFront at) p k
+  at_compare_front p at k =
+      by_byte (compare_front_or plan p) (at_leave p k) (λ b. by_comparing (work.CompareFront b) p k)
+      (byte_in plan at (front_end plan))
 
   at_write_front : (p : Place) (at : ℕ) → Knows p d.pointer → StandsIn chip plan (to_write_front plan p at) d
   unfolding to_write_front
-  at_write_front p at k = write_front_by p (byte_in plan at (front_end plan)) k
-
-  compare_by : (p : Place) (o : Option ℕ) → Knows p d.pointer → StandsIn chip plan (compare_or plan p o) d
-  compare_by p None k = at_write_front p (image_start plan.image.now) k
-  compare_by p (Some at) k = by_comparing (work.Compare at) p k
+  at_write_front p at k =
+      by_byte (write_front_or plan p) (at_compare_front p (image_start plan.image.now) k) (λ b. by_sending (work.WriteFront b) p k)
+      (byte_in plan at (front_end plan))
 
   at_compare : (p : Place) (at : ℕ) → Knows p d.pointer → StandsIn chip plan (to_compare plan p at) d
   unfolding to_compare
-  at_compare p at k = compare_by p (byte_in plan at (image_end plan.image.now)) k
-
-  write_by : (p : Place) (end : ℕ) (o : Option ℕ) → Knows p d.pointer → StandsIn chip plan (write_or plan p end o) d
-  write_by p end None k = at_compare p (front_end plan) k
-  write_by p end (Some at) k = by_sending (work.Write at end) p k
+  at_compare p at k =
+      by_byte (compare_or plan p) (at_write_front p (image_start plan.image.now) k) (λ b. by_comparing (work.Compare b) p k)
+      (byte_in plan at (image_end plan.image.now))
 
   at_write : (p : Place) (at end : ℕ) → Knows p d.pointer → StandsIn chip plan (to_write plan p at end) d
   unfolding to_write
-  at_write p at end k = write_by p end (byte_in plan at end) k
-
-  erase_by : (p : Place) (o : Option ℕ) → Knows p d.pointer → StandsIn chip plan (erase_or plan p o) d
-  erase_by p None k = at_write p (front_end plan) (image_end plan.image.now) k
-  erase_by p (Some at) k = by_sending (work.Erase at) p k
+  at_write p at end k =
+      by_byte (write_or plan p end) (at_compare p (front_end plan) k) (λ b. by_sending (work.Write b end) p k)
+      (byte_in plan at end)
 
   at_erase : (p : Place) (at : ℕ) → Knows p d.pointer → StandsIn chip plan (to_erase plan p at) d
   unfolding to_erase
-  at_erase p at k = erase_by p (byte_in plan at (image_end plan.image.now)) k
+  at_erase p at k =
+      by_byte (erase_or plan p) (at_write p (front_end plan) (image_end plan.image.now) k) (λ b. by_sending (work.Erase b) p k)
+      (byte_in plan at (image_end plan.image.now))
 
   pub at_settle : (w : Work) (p : Place) → Knows p d.pointer → StandsIn chip plan (settle plan w p) d
   unfolding settle

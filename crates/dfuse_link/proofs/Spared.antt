@@ -1,4 +1,4 @@
--- What a session sends changes nothing on other pages, before they are erased and once they stand; and writes nothing to a blank front.
+-- What a session sends changes nothing on other pages, before they are erased and once they hold the image. It leaves a blank front blank.
 use Rattle.std.proofs.Common.{◌≡◌, ℕ, ◌%◌, ◌^◌, ◌<◌, ◌≤◌, inl, Bool, true, false, cond, eqb, refl, sym, ap, ◌∙◌, subst, arith}
 use Rattle.std.proofs.lemmas.Bool.{eqb-true}
 use Rattle.dfuse_memory.specs.Lookups.{OnePage}
@@ -26,7 +26,7 @@ use Rattle.dfuse_link.proofs.Blanks.{Spares, DeedSpares}
 use Rattle.dfuse_link.proofs.FrontPages.{Mixable, start_has, page_fits, behind_front}
 use Rattle.dfuse_link.proofs.Groups.{the_page, Erasing, Behind}
 
--- The works up to the comparison, each with where it stands.
+-- The works up to the comparison, each with its address.
 abbrev pub Before : Plan → Work → Type 0
 Before plan (work.Erase at) = Unit {0}
 Before plan (work.EraseAgain page end) = Unit {0}

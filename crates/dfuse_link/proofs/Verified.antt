@@ -1,4 +1,4 @@
--- Once Verified is reported, the image stands in the device's memory.
+-- Once Verified is reported, the image is in the device's memory.
 use Rattle.std.proofs.Common.{◌≡◌, ℕ, List, ◌∷◌, refl, sym, ap, ◌∙◌, subst}
 use Rattle.std.specs.List.{AllByRecursion}
 use Rattle.dfuse_host.specs.declared.element.Element.{Element}

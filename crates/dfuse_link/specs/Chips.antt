@@ -3,8 +3,8 @@ use Rattle.std.specs.Prelude.{◌≡◌, ◌⊎◌, ℕ, ◌+◌, ◌<◌, ◌�
 use Rattle.dfu_wire.specs.declared.states.State.{State}
 use Rattle.dfu_wire.specs.declared.states.State.TheVariants as state
 
--- How a device was made: it counts addresses by blocks of so many bytes, an erase at the first address may change the byte of the second,
--- and these are the bytes that an erase leaves: one, as FFh, or any if its erases can't be relied on.
+-- How a device was made: it counts addresses by blocks of so many bytes, and an erase at the first address may change the byte of the
+-- second. These are the bytes that an erase leaves: one, as FFh, or any if its erases can't be relied on.
 pub record Chip : Type 0 where
   pub transfer : ℕ
   pub erases : (at a : ℕ) → Bool
@@ -25,7 +25,7 @@ pub data Doing : Type 0 where
   Pending : Order → Doing
   Busy : Order → Doing
 
--- The state that a device tells.
+-- The state that a device reports.
 abbrev pub state_in : Doing → State
 state_in (Rests s) = s
 state_in (Pending order) = state.DownloadSync
@@ -46,7 +46,7 @@ ChangedBy chip (Busy (Programs at count)) memory memory' = (a : ℕ) → ((at �
 ChangedBy chip (Busy Other) memory memory' = Unit {0}
 ChangedBy chip doing memory memory' = (a : ℕ) → memory' a ≡ memory a
 
--- A device that is done with an order: the pointer is where it was to be set, or the bytes that an erase reaches are blank. Behind any
+-- A device that is done with an order: the pointer is where it was to be set, or the bytes that an erase reaches are blank. After any
 -- other order the pointer may be anywhere.
 abbrev pub IsCarried : Chip → Order → (pointer : ℕ) → (memory : ℕ → ℕ) → Type 0
 IsCarried chip (Points at) pointer memory = pointer ≡ at
@@ -58,7 +58,7 @@ pub data Advances (chip : Chip) (d d' : Device) : Type 0 where
   -- It isn't done yet.
   goes_on : (order : Order) → d.doing ≡ Busy order → d'.doing ≡ Busy order → ChangedBy chip (Busy order) d.memory d'.memory →
       Advances chip d d'
-  -- It is done, and in one of these states until it tells so.
+  -- It is done, and in one of these states until it reports so.
   ends : (order : Order) (s : State) → d.doing ≡ Busy order → d'.doing ≡ Rests s →
       (s ≡ state.DownloadSync) ⊎ ((s ≡ state.DownloadBusy) ⊎ (s ≡ state.DownloadIdle)) →
       ChangedBy chip (Busy order) d.memory d'.memory → IsCarried chip order d'.pointer d'.memory → Advances chip d d'

@@ -27,14 +27,14 @@ abbrev pub TellsStatus : StatusFields → Seen → Type 0
 TellsStatus status (seen.Bytes bytes) = IsStatus status bytes.now
 TellsStatus status s = ⊥
 
--- The device tells that it is busy, and for how long: not for no time.
+-- The device reports that it is busy, and for how long: for some time.
 pub record TellsBusy (s : Seen) : Type 0 where
   pub status : StatusFields
   pub told : TellsStatus status s
   pub is_busy : status.state ≡ state.DownloadBusy
   pub time : 0 < status.poll_ms
 
--- The device tells this state, and no fault.
+-- The device reports this state, and no fault.
 pub record TellsState (t : State) (s : Seen) : Type 0 where
   pub status : StatusFields
   pub told : TellsStatus status s
@@ -42,7 +42,7 @@ pub record TellsState (t : State) (s : Seen) : Type 0 where
   pub is_there : status.state ≡ t
 
 -- What is seen of an action if the device works, all that it gives back is the image's, and nothing gets lost. It is in dfuIDLE at first.
--- Each command is started by a GETSTATUS, which tells dfuDNBUSY, and is done by the next one, behind a wait.
+-- Each command is started by a GETSTATUS, which reports dfuDNBUSY, and is done by the next one, after a wait.
 abbrev pub IsClean : Plan → Work → Step → Seen → Type 0
 IsClean plan w step.Abort s = s ≡ seen.Ack
 IsClean plan w step.AskState s = IsGiven (state_byte state.DfuIdle ∷ []) s

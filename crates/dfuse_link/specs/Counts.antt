@@ -48,7 +48,7 @@ pub data BlocksRead (plan : Plan) (end : ℕ) : Option ℕ → (at sets n : ℕ)
   read_on : {pointer last : Option ℕ} {at sets n : ℕ} (byte : ℕ) → byte_in plan at end ≡ Some byte → reaches plan pointer byte ≡ true →
       BlocksRead plan end pointer (read_end plan byte end) sets n last → BlocksRead plan end pointer at sets (suc n) last
 
--- What of a plan is counted: its pages; the blocks that are written, and that are read, behind the front and of the front; and how often
+-- What of a plan is counted: its pages; the blocks that are written, and that are read, after the front and of the front; and how often
 -- the pointer is set to read them.
 pub record PlanCounts (plan : Plan) : Type 0 where
   pub pages : ℕ
@@ -84,13 +84,13 @@ sets_to_leave plan c =
 abbrev pub commands : (plan : Plan) → PlanCounts plan → ℕ
 commands plan c = c.pages + 2 * (c.rest + c.front) + (c.rest_sets + c.front_sets) + sets_to_leave plan c
 
--- Each command is DNLOAD and GETSTATUS twice. Behind each setting of the pointer for reading come two ABORTs, before the first block and
--- behind the last one, and a request for each block. ABORT and GETSTATE come first, and to leave DNLOAD and GETSTATUS.
+-- Each command is DNLOAD and GETSTATUS twice. After each setting of the pointer for reading come two ABORTs, before the first block and
+-- after the last one, and a request for each block. ABORT and GETSTATE come first, and to leave DNLOAD and GETSTATUS.
 abbrev pub requests : (plan : Plan) → PlanCounts plan → ℕ
 requests plan c =
     2 + 3 * commands plan c + 2 * (c.rest_sets + c.front_sets) + (c.rest_reads + c.front_reads) + (if plan.leaves then 2 else 0)
 
--- A session is over as Verified, and as having left if it was asked to, once so much was seen, of which so many are ends of waits, and no
+-- A session is over as Verified, and as having left if it was asked to, once so much was seen, so many ends of waits among it, and no
 -- earlier.
 pub record EndsCounted (plan : Plan) (n waits : ℕ) (seens : List Seen) (s : Session) : Type 0 where
   pub over : DfuseIsOver s.phase → (s.phase ≡ Over (Verified (if plan.leaves then leaving.Left else leaving.Stayed))) × (length seens ≡ n) ×

@@ -1,4 +1,4 @@
--- What stands in a device's memory before a session has written its front.
+-- What is in a device's memory before a session has written its front.
 use Rattle.std.specs.Prelude.{◌≡◌, ℕ, ◌-◌, ◌<◌, ◌≤◌, ◌⊎◌, true, List, Some, slice_index}
 use Rattle.dfuse_memory.specs.Ranges.{are_apart}
 use Rattle.dfuse_host.specs.declared.element.Element.{Element}
@@ -18,12 +18,12 @@ use Rattle.dfuse_link.specs.Histories.{History}
 use Rattle.dfuse_link.specs.Promises.{IsFor}
 use Rattle.dfuse_link.specs.Touched.{IsTrueMap, CarriesNone}
 
--- Each byte of the image at such an address stands in the memory.
+-- Each byte of the image at such an address is in the memory.
 abbrev pub ImageStands : Plan → (IsSelected : ℕ → Type 0) → (memory : ℕ → ℕ) → Type 0
 ImageStands plan IsSelected memory =
     (a : ℕ) (e : Element) → IsSelected a → element_at a plan.image.now ≡ Some e → memory a ≡ slice_index e.bytes.now (a - e.address)
 
--- While a session writes its front, each byte of the image behind the front stands in the memory.
+-- While a session writes its front, each byte of the image after the front is in the memory.
 abbrev pub RestStands : Type 0
 RestStands = (chip : Chip) (plan : Plan) (limits : Limits) (d d' : Device) (s : Session) (seens : List Seen) (here : Standing) (at : ℕ)
     → IsFor chip plan → History chip d (dfuse_begun plan limits) seens d' s → s.phase ≡ On here → here.work ≡ WriteFront at
@@ -53,7 +53,7 @@ NoMixture = (chip : Chip) (plan : Plan) (limits : Limits) (d d' : Device) (s : S
     ((a : ℕ) → IsElsewhere plan a → d'.memory a ≡ d.memory a)
     ⊎ (FrontIsBlank chip plan d'.memory ⊎ ImageStands plan (IsElsewhere plan) d'.memory)
 
--- While a session's work is another one than to erase, or to erase again, the front is blank, or all behind it stands, on its page too.
+-- While a session's work is not to erase, nor to erase again, the front is blank, or all after it is in the memory, on its page too.
 abbrev pub NoneButErasing : Type 0
 NoneButErasing = (chip : Chip) (plan : Plan) (limits : Limits) (d d' : Device) (s : Session) (seens : List Seen) (here : Standing) →
     IsFor chip plan → are_apart plan.map.now.ranges ≡ true → IsTrueMap chip plan → ErasesFront chip plan → CarriesNone d →

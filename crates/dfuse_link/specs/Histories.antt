@@ -30,7 +30,7 @@ pub data UnderWay (chip : Chip) (s : Session) (d : Device) : Device → Type 0 w
   request : {mid : Device} {reaction : Option Reaction} (q : Request) (body : List ℕ) → dfuse_deed s.plan s.phase ≡ Send q body
       → Arrives chip q body d reaction mid → UnderWay chip s d mid
 
--- The session's action, and what is seen of it: a request was sent; a wait is over; or the device restarted, which the session is told. It
+-- The session's action, and what is seen of it: a request was sent; a wait is over; or the device restarted, and the session knows it. It
 -- is in any state then, and its pointer anywhere; an order that isn't started is dropped, and one that it carries out is cut off.
 pub data Turn (chip : Chip) (d : Device) (s : Session) (x : Seen) (d' : Device) (s' : Session) : Type 0 where
   sent : (q : Request) (body : List ℕ) (reaction : Option Reaction) → dfuse_deed s.plan s.phase ≡ Send q body
@@ -39,7 +39,7 @@ pub data Turn (chip : Chip) (d : Device) (s : Session) (x : Seen) (d' : Device) 
   restarted : (mid : Device) (any : State) → UnderWay chip s d mid → d'.doing ≡ Rests any
       → ChangedBy chip mid.doing mid.memory d'.memory → x ≡ seen.Restarted → SessionRow s x s' → Turn chip d s x d' s'
 
--- A device and a session with it, all that the session sees, one thing after the other, and the two behind it. Between two of these things
+-- A device and a session with it, all that the session sees, one thing after the other, and the two at the end. Between two of these things
 -- the device may go on with what it carries out.
 pub data History (chip : Chip) : Device → Session → List Seen → Device → Session → Type 0 where
   so_far : {d : Device} {s : Session} → History chip d s [] d s

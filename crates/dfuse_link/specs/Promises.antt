@@ -22,7 +22,7 @@ pub record IsFor (chip : Chip) (plan : Plan) : Type 0 where
   pub ranges : All IsRange plan.map.now.ranges
   pub transfer : plan.transfer ≡ chip.transfer
 
--- Once Verified is reported, each element of the image stands in its range of the device's memory.
+-- Once Verified is reported, each element of the image is in its range of the device's memory.
 abbrev pub VerifiedIsTrue : Type 0
 VerifiedIsTrue = (chip : Chip) (plan : Plan) (limits : Limits) (d d' : Device) (s : Session) (seens : List Seen) (leaving : Leaving)
     → IsFor chip plan → History chip d (dfuse_begun plan limits) seens d' s → s.phase ≡ Over (Verified leaving)

@@ -53,7 +53,7 @@ abbrev pub set_off : Doing → Doing
 set_off (Pending order) = Busy order
 set_off doing = doing
 
--- GETSTATUS tells that an order is done, and goes on to leave.
+-- GETSTATUS reports that an order is done, and goes on to leave.
 abbrev pub told_of : Doing → Doing
 told_of (Rests state.DownloadSync) = Rests state.DownloadIdle
 told_of (Rests state.DownloadBusy) = Rests state.DownloadIdle
@@ -79,7 +79,7 @@ pub data Reacts (chip : Chip) (d : Device) : Request → List ℕ → Reaction �
   -- UPLOAD of block 0 or 1 gives other things.
   lists : (block n : ℕ) (body bytes : List ℕ) → IsIdleOr state.UploadIdle d.doing → block < 2
       → Reacts chip d (request.Upload block n) body (Data bytes) (record d { doing = Rests state.UploadIdle })
-  -- GETSTATUS starts an order, and tells how far it is, with any code and any time.
+  -- GETSTATUS starts an order, and reports how far it is, with any code and any time.
   tells : (n : ℕ) (body bytes : List ℕ) (status : StatusFields) (mid : Device)
       → (mid ≡ record d { doing = set_off d.doing }) ⊎ Advances chip (record d { doing = set_off d.doing }) mid → IsStatus status bytes
       → status.state ≡ state_in (told_of mid.doing) → Reacts chip d (request.GetStatus n) body (Data bytes)

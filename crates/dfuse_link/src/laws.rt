@@ -1,4 +1,4 @@
-//! Laws of sessions with a DfuSe device. Each is the contract of a function that calls other laws alone, which is proved and not to be
+//! Laws of sessions with a DfuSe device. Each is the contract of a function that calls only other laws, which is proved and not to be
 //! called for what it does.
 
 ghost use Rattle.dfuse_link.specs.Counts.{CleanRunsAreCounted, PlansHaveCounts};
@@ -17,7 +17,7 @@ pub fn sessions_end_in_time()
     sessions_end();
 }
 
-/// If a session reports Verified, each element of the image stands in the device's memory, whatever was lost or came twice on the way, and
+/// If a session reports Verified, each element of the image is in the device's memory, whatever was lost or came twice on the way, and
 /// whenever the device restarted.
 pub fn verified_is_true()
     ensures { VerifiedIsTrue }
@@ -25,7 +25,7 @@ pub fn verified_is_true()
     verified_is_read_back();
 }
 
-/// While a session writes the front, each byte of the image behind it stands in the device's memory.
+/// While a session writes the front, each byte of the image after it is in the device's memory.
 pub fn rest_stands()
     ensures { RestStands }
 {
@@ -50,9 +50,9 @@ pub fn clean_runs_are_counted()
     one_page();
 }
 
-/// If the map is true, the device carries out no order at first, and an erase of the front's page reaches the front, then at each moment
-/// the front is blank, or what isn't on its page is all as it was, or the image stands there. While the session's work is another one than
-/// to erase, the front is blank, or the image stands behind it, on its page too.
+/// Say the map is true, the device carries out no order at first, and an erase of the front's page reaches the front. Then at each
+/// moment the front is blank, or what isn't on its page is all as it was, or the image is there. While the session's work is another one
+/// than to erase, the front is blank, or the image follows it in the memory, on its page too.
 pub fn no_mixture()
     ensures always { NoMixture }
     ensures but_erasing { NoneButErasing }

@@ -104,7 +104,7 @@ pub record Ends (p : Point) (s : SourceState) (old new : Option (List ℕ)) : Ty
   pub meets : Meets end.next (image_line end.at.device)
   pub told : Appends old new (shown ++ image_line end.at.device)
 
--- What falls where a source stands here, if its reader tells the text.
+-- What falls once a source is here, if its reader names the text.
 abbrev pub FallsHere : Point → SourceState → Option (List ℕ) → Option (List ℕ) → ScriptFault → Type 0
 FallsHere p s old new fault = IfSome s.left
     (λ left. IsStopped s.room left fault × NextFalls p (s.number + 1) (lines_of left) old new fault)
@@ -127,7 +127,7 @@ pub data LinesDone (p : Point) (s : SourceState) (old : Option (List ℕ)) (to :
   all_done : Ends p s old new → LinesDone p s old to s' new None
   gives_back : {d : DeviceView} → Moves p s old (to (at_rest d)) s' new → LinesDone p s old to s' new (Some d)
 
--- A line was done but for its events, whatever the session: it said none, or these are left to play.
+-- A line was done but for its events, in each session: it said none, or these are left to play.
 pub data Plainly (d : DeviceView) (l : ScriptContext) (k : ℕ) (line : List ℕ) (old : Option (List ℕ))
     : Option EventLineRead → ScriptContext → Option (List ℕ) → Type 0 where
   says_none : {l' : ScriptContext} {new : Option (List ℕ)}
@@ -135,7 +135,7 @@ pub data Plainly (d : DeviceView) (l : ScriptContext) (k : ℕ) (line : List ℕ
   says_events : {events : EventLineRead} → line_of (given_bytes l.given) line ≡ Some (said_by events)
       → Plainly d l k line old (Some events) l old
 
--- A line falls but for its events, whatever the session.
+-- A line falls but for its events, in each session.
 abbrev pub PlainlyFalls : DeviceView → ScriptContext → ℕ → List ℕ → Option (List ℕ) → Option (List ℕ) → ScriptFault → Type 0
 PlainlyFalls d l k line old new fault = (b : LinkView) → b.device ≡ d → LineFalls (at_point l b) k line old new fault
 

@@ -1,4 +1,4 @@
--- What the `ScriptConfig` of the code stands for.
+-- What the `ScriptConfig` of the code means.
 use Rattle.std.specs.Prelude.{ℕ, List, [], ◌∷◌, Option, Some, None, Vec}
 use Rattle.std.specs.declared.alloc.Global.{Global}
 use Rattle.dfu_link.specs.Said.{given_bytes}
@@ -8,12 +8,12 @@ use Rattle.dfu_slots.specs.Units.{Grain}
 use Rattle.dfu_link.specs.declared.scripting.line.Sector.{Sector}
 use Rattle.dfu_link.specs.declared.scripting.script_config.ScriptConfig.{ScriptConfig}
 
--- The image at first; where none is set it is the byte 00.
+-- The image at first; if none is set it is the byte 00.
 abbrev pub image_bytes : Option (Vec ℕ Global) → List ℕ
 image_bytes None = 0 ∷ []
 image_bytes (Some image) = image.items
 
--- The bytes with which an image begins that the program takes; where none are set it takes any.
+-- The bytes with which an image begins that the program takes; if none are set it takes any.
 abbrev pub check_bytes : Option (Vec ℕ Global) → List ℕ
 check_bytes None = []
 check_bytes (Some front) = front.items

@@ -5,16 +5,16 @@ use Rattle.dfu_link.specs.Words.{endless, lines_of}
 use Rattle.dfu_link.specs.TextLimit.{GoesOver, IsStopped, GivesNone}
 use Rattle.dfu_link.specs.declared.scripting.fault.ScriptFault.{ScriptFault}
 
--- The bytes at hand, and all that are left where the reader tells them.
+-- The bytes at hand, and all that are left if the reader names them.
 pub record PiecesState : Type 0 where
   pub ready : List ℕ
   pub left : Option (List ℕ)
 
--- These bytes are at hand, and then come those that a reader has left, where it tells them.
+-- These bytes are at hand, and then come those that a reader has left, if it names them.
 abbrev pub pieces_state : List ℕ → Option (List ℕ) → PiecesState
 pieces_state ready given = record { ready = ready; left = prepend_known ready given }
 
--- What is left of the text where the reader tells it, how many bytes may still be taken, the number of the line that was given last, and
+-- What is left of the text if the reader names it, how many bytes may still be taken, the number of the line that was given last, and
 -- that line.
 pub record SourceState : Type 0 where
   pub left : Option (List ℕ)
@@ -44,7 +44,7 @@ pub record TookLines (text : List ℕ) (room : ℕ) (lines : List (List ℕ)) (l
   pub are : lines_of text ≡ lines ++ lines_of left
   pub rooms : room ≡ length front + room'
 
--- The same where the reader tells the text.
+-- The same if the reader names the text.
 abbrev pub TakesLines : Option (List ℕ) → ℕ → List (List ℕ) → Option (List ℕ) → ℕ → Type 0
 TakesLines None room lines left room' = ⊤
 TakesLines (Some text) room lines None room' = ⊥
@@ -66,6 +66,6 @@ abbrev pub Next : SourceState → Bool → SourceState → Type 0
 Next s true s' = GivesLine s s'
 Next s false s' = IsAtEnd s.left
 
--- A source whose reader tells the text gives no line.
+-- A source whose reader names the text gives no line.
 abbrev pub StopsSource : (given : Option (List ℕ)) → SourceState → ScriptFault → Type 0
 StopsSource given s fault = IfSome s.left (λ left. IsStopped s.room left fault × GivesNone given (s.number + 1) (lines_of left) fault)

@@ -1,4 +1,4 @@
--- The bytes of an image that was taken, where a program finds them.
+-- The bytes of an image that was taken, at the places where a program finds them.
 use Rattle.std.specs.Prelude.{ℕ, ◌+◌, List, ◌++◌, slice_range}
 use Rattle.dfu_slots.specs.Seen.{SlotsState}
 use Rattle.dfu_device.specs.declared.candidate.Candidate.{Candidate}

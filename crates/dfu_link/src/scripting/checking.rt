@@ -23,7 +23,7 @@ fn stored_byte<M: Medium>(slots: &Slots<M>, at: u32, i: usize) -> u8
     byte[0]
 }
 
-/// The byte at this place of an image that was taken, or none behind its end.
+/// The byte at this place of an image that was taken, or none past its end.
 fn byte_at<M: Medium>(slots: &Slots<M>, candidate: Candidate, i: usize) -> Option<u8>
     requires { candidate.at + candidate.stored ≤ length slots.now.medium.bytes }
     ensures some { IfSome result (λ byte. (i < length (taken_at slots.now candidate)) × (byte ≡ get_or (taken_at slots.now candidate) i 0)) }
@@ -40,7 +40,7 @@ fn byte_at<M: Medium>(slots: &Slots<M>, candidate: Candidate, i: usize) -> Optio
     None
 }
 
-/// Whether this byte stands at this place of an image that was taken.
+/// Whether this byte is at this place of an image that was taken.
 fn has_byte<M: Medium>(slots: &Slots<M>, candidate: Candidate, i: usize, byte: u8) -> bool
     requires { candidate.at + candidate.stored ≤ length slots.now.medium.bytes }
     ensures { result ≡ begins_with (byte ∷ []) (drop i (taken_at slots.now candidate)) }

@@ -19,9 +19,9 @@ pub(crate) struct Expectation {
     pub alloc: Global,
 }
 
-/// What holds for the lines to come: the bytes that FILE stands for, if they are given, those with
-/// which an image begins that the program takes, the limits of later sessions, which line is
-/// expected, and where it is noted what is wrong with a line.
+/// What holds for the lines to come: the bytes that FILE means, if they are given, those with which
+/// an image begins that the program takes, the limits of later sessions, and which line is
+/// expected. What is wrong with a line is noted in `stopped`.
 #[derive(Drop)]
 pub(crate) struct ScriptContext<'g> {
     pub given: Option<&'g [u8]>,
@@ -35,7 +35,7 @@ pub(crate) struct ScriptContext<'g> {
 ///
 /// # Errors
 ///
-/// NonePrinted where a line is expected already, NoMemory where there is none for this one.
+/// NonePrinted if a line is expected already, NoMemory if there is no memory for this one.
 pub(crate) fn expect(
     alloc: Global,
     next: &mut Option<Expectation>,

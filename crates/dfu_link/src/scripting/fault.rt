@@ -6,7 +6,7 @@ use thiserror::Error;
 /// too.
 #[derive(Clone, Copy, Debug, PartialEq, Eq, Error)]
 pub enum ScriptFault {
-    /// This line is none of the language, or has over 65,536 bytes. Looked for in a line before
+    /// This line is not one of the language, or has over 65,536 bytes. Looked for in a line before
     /// LateConfig and BadConfig.
     #[error("line {0} is not understood")]
     BadLine(u32),

@@ -43,7 +43,7 @@ pub(crate) fn hex_at(line: &[u8], n: usize, of: usize) -> Result<(HexText<'_>, &
     Ok((text, rest))
 }
 
-/// What is wrong with a word that stands for no file.
+/// What is wrong with a word that names no file.
 fn no_file(word: &[u8], n: usize) -> LineFault
     ensures { result ≡ no_file word.now n }
 {
@@ -54,7 +54,7 @@ fn no_file(word: &[u8], n: usize) -> LineFault
     }
 }
 
-/// A file that is offered, where these bytes are given.
+/// A file that is offered, if these bytes are given.
 #[tactic(auto, unfolding(crate::specs::Lines::offered_file))]
 pub(crate) fn file_at<'l, 'g>(
     given: Option<&'g [u8]>,

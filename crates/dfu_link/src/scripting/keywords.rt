@@ -78,6 +78,7 @@ fn read_later(word: &[u8]) -> Option<Keyword>
     }
 }
 
+/// The keyword that the first word of a line is, if it is one.
 #[tactic(auto, unfolding(crate::specs::Keywords::keyword_of))]
 pub(crate) fn read_keyword(word: &[u8]) -> Option<Keyword>
     ensures { result ≡ keyword_of word.now }
@@ -99,6 +100,7 @@ pub(crate) fn read_keyword(word: &[u8]) -> Option<Keyword>
     }
 }
 
+/// The keyword that the word after `go` is, if it is one.
 #[tactic(auto, unfolding(crate::specs::Keywords::fate_keyword_of))]
 pub(crate) fn read_fate(word: &[u8]) -> Option<FateKeyword>
     ensures { result ≡ fate_keyword_of word.now }

@@ -1,4 +1,4 @@
-//! What stands after the first word of a line.
+//! What follows the first word of a line.
 
 ghost use Rattle.dfu_link.specs.Words.{words_of};
 ghost use Rattle.dfu_sim.specs.Happening.{fate_of, harm_in};
@@ -111,7 +111,7 @@ pub(crate) fn limits(line: &[u8]) -> Result<Line<'_, 'static>, LineFault>
     ended(Line::Limits { actions, restarts }, 3, rest)
 }
 
-/// `offer HEX`, `offer FILE`, `verify HEX` and `verify FILE`, where these bytes are given.
+/// `offer HEX`, `offer FILE`, `verify HEX` and `verify FILE`, if these bytes are given.
 #[tactic(auto, unfolding(crate::specs::Lines::offer_of))]
 pub(crate) fn offer<'l, 'g>(
     given: Option<&'g [u8]>,
@@ -193,7 +193,7 @@ fn until(line: &[u8]) -> Result<Line<'_, 'static>, LineFault>
     ended(Line::Do(EventLine::GoOn), 3, rest)
 }
 
-/// What stands after `go`, by its first word.
+/// What follows `go`, by its first word.
 fn by_fate(keyword: FateKeyword, rest: &[u8]) -> Result<Line<'_, 'static>, LineFault>
     ensures { Tells said_of result (by_fate keyword (words_of rest.now)) }
 {
@@ -221,7 +221,7 @@ pub(crate) fn go(line: &[u8]) -> Result<Line<'_, 'static>, LineFault>
     by_fate(keyword, rest)
 }
 
-/// `expect TEXT`: the text is all that stands behind one space.
+/// `expect TEXT`: the text is all that follows one space.
 #[tactic(auto, unfolding(crate::specs::Lines::expect_of), using(std::proofs::lemmas::Bool::Decides::nat_tests))]
 pub(crate) fn expect(line: &[u8]) -> Result<Line<'_, 'static>, LineFault>
     ensures { Tells said_of result (expect_of line.now) }

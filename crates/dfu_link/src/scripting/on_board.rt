@@ -18,10 +18,10 @@ use std::io::{Read, Write};
 ///
 /// After each event the answer, the state, the status code, the active image, what was uploaded last, and whether a session is live are
 /// compared. At the first difference the run ends: nothing is written of that event or of what comes after it, and no more is read. Beside
-/// the result the number of the line with that event is answered, or none if the board never differed, and the writer back. After a difference the result tells
-/// nothing of the script: the rest of what was read is still done on the device, and its output fails.
+/// the result come the number of the line with that event, or none if the board never differed, and the writer. After a difference the
+/// result says nothing of the script: the rest of what was read is still done on the device, and its output fails.
 ///
-/// It takes memory for the flash of the board, as much as for the medium of the device, and for the parts of uploads a second time. Where
+/// It takes memory for the flash of the board, as much as for the medium of the device, and for the parts of uploads a second time. If
 /// one of the two gets no memory for an upload, and the other does, their reports differ.
 ///
 /// # Errors

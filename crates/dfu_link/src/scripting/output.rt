@@ -7,7 +7,7 @@ use crate::scripting::fault::ScriptFault;
 use dfu_suffix::write_whole;
 use std::io::Write;
 
-/// Writes the whole text, or answers Write at the first error of the writer, and where it takes
+/// Writes the whole text, or answers Write at the first error of the writer, or if it takes
 /// nothing of what is left.
 pub(crate) fn write_out<W: Write>(writer: &mut W, text: &[u8]) -> Result<(), ScriptFault>
     ensures { Puts text.now (W.contents writer.old) (W.contents writer.new) result }

@@ -51,7 +51,7 @@ fn take<'f, T: Tracer<M>, M: Faulty>(
     ensures play { HasCome world.old (checked check.now world.old.bench (Goes (fate_of fate.entry) (harm_in fate.entry))) world.new result }
     ensures active { ShowsActive world.new.bench }
 {
-    // Once the board differs the run is over, and what it still does isn't told.
+    // Once the board differs the run is over, and what it still does isn't traced.
     let before = if beside.is_over() {
         None
     } else {
@@ -89,7 +89,7 @@ fn play_actions<'f, T: Tracer<M>, M: Faulty, W: Write>(
 }
 
 /// Lets the host take actions that pass until something is printed: the report of its session, or a
-/// refusal where none is live.
+/// refusal if none is live.
 fn pass_on<'f, T: Tracer<M>, M: Faulty, W: Write>(
     world: &mut World<'f, M>,
     check: &[u8],
@@ -177,7 +177,7 @@ pub(crate) fn play_events<'f, T: Tracer<M>, M: Faulty, W: Write>(
     }
 }
 
-/// The same while a session is live: an offer is refused whatever its file is.
+/// The same while a session is live: an offer is refused for each file.
 pub(crate) fn play_live<'f, T: Tracer<M>, M: Faulty, W: Write>(
     world: &mut World<'f, M>,
     events: EventLine<'_, '_>,

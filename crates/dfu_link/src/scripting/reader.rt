@@ -35,7 +35,7 @@ impl<R: Read + Drop> Model for Pieces<R> {
 }
 
 impl<R: Read + Drop> Pieces<R> {
-    /// A reader of which nothing was read.
+    /// A reader, with nothing read yet.
     pub(crate) fn new(reader: R) -> Pieces<R>
         ensures ready { result.ready ≡ [] }
         ensures left { result.left ≡ prepend_known [] (R.remaining reader) }

@@ -64,7 +64,7 @@ fn words_say<'l, 'g>(given: Option<&'g [u8]>, line: &'l [u8]) -> Result<Line<'l,
     }
 }
 
-/// What a line says where these bytes are given, or what is wrong with it. A line over 65,536 bytes is none of the language.
+/// What a line says if these bytes are given, or what is wrong with it. A line over 65,536 bytes is not one of the language.
 #[tactic(auto, unfolding(crate::specs::Lines::read_line))]
 fn read_line<'l, 'g>(given: Option<&'g [u8]>, line: &'l [u8]) -> Result<Line<'l, 'g>, LineFault>
     ensures { Tells said_of result (read_line (given_bytes given.entry) line.now) }
@@ -75,7 +75,7 @@ fn read_line<'l, 'g>(given: Option<&'g [u8]>, line: &'l [u8]) -> Result<Line<'l,
     words_say(given, line)
 }
 
-/// What a line says where these bytes are given, or nothing where it is none of the language.
+/// What a line says if these bytes are given, or nothing if it is not one of the language.
 #[tactic(auto, unfolding(crate::specs::Lines::line_of))]
 pub(crate) fn parse<'l, 'g>(given: Option<&'g [u8]>, line: &'l [u8]) -> Option<Line<'l, 'g>>
     ensures { Reads said_of result (line_of (given_bytes given.entry) line.now) }
@@ -100,7 +100,7 @@ fn count_words(line: &[u8]) -> usize {
     words
 }
 
-/// Notes what is wrong with a line that is none of the language where these bytes are given.
+/// Notes what is wrong with a line that is not one of the language if these bytes are given.
 pub(crate) fn note_line(stopped: &Stopped, given: Option<&[u8]>, line: &[u8]) {
     if !line.iter().all(|byte| matches!(*byte, b' '..=b'~')) {
         stopped.note_reason(Reason::Unprintable {

@@ -24,7 +24,7 @@ use dfu_slots::SimMedium;
 use std::alloc::Global;
 use std::io::{Read, Write};
 
-/// Does the lines up to the first event line or `show`, and tells whether there is one.
+/// Does the lines up to the first event line or `show`, and answers whether there is one.
 fn configure<R: Read + Drop>(
     alloc: Global,
     setup: &mut ScriptConfig<'_>,
@@ -55,7 +55,7 @@ fn configure<R: Read + Drop>(
     }
 }
 
-/// Runs what a reader gives, where FILE stands for these bytes, on a board beside the device too if that is wanted.
+/// Runs what a reader gives, with FILE for these bytes, on a board beside the device too if that is wanted.
 pub(super) fn run_lines<T: Tracer<SimMedium>, R: Read + Drop, W: Write>(
     alloc: Global,
     given: Option<&[u8]>,
@@ -96,8 +96,8 @@ pub(super) fn run_lines<T: Tracer<SimMedium>, R: Read + Drop, W: Write>(
 /// set set up a device, event lines let events come to a link of that device and a host, and what
 /// is printed of them is written; last comes the line of the device's image.
 ///
-/// In `offer` and `verify` the word FILE stands for the bytes that are given, of which nothing is
-/// copied. Where none are it is no word of the language.
+/// In `offer` and `verify` the word FILE means the bytes that are given, of which nothing is
+/// copied. If none are given, it is no word of the language.
 ///
 /// What is wrong with the script is noted in `stopped` if it stops at BadLine or BadConfig.
 ///
@@ -107,7 +107,7 @@ pub(super) fn run_lines<T: Tracer<SimMedium>, R: Read + Drop, W: Write>(
 /// # Errors
 ///
 /// `ScriptFault` has them. The first one in the order of the lines is answered, and the text of the
-/// lines before it is out whole. TooLarge comes where the byte 16,777,217 comes before the end of a
+/// lines before it is out whole. TooLarge comes if the byte 16,777,217 comes before the end of a
 /// line, and before the byte of that line that is one too many; no read is made after that byte was
 /// read. Read comes at the first error of the reader, with no second try. With BadConfig nothing is
 /// written; with Write a front of the text.
@@ -121,9 +121,9 @@ pub fn script_with<R: Read + Drop, W: Write>(
     // With Ok what was written is a run of what was read; with a fault, which one comes when, and what is out then.
     ensures ended { IfSome (R.remaining reader)
         (λ text. Ended (given_bytes given.entry) text (W.contents writer.old) (W.contents writer.new) result) }
-    // The headline, of all that is printed or as far as the script goes: each image is the factory image or a payload offered so far, and
-    // where `report installed` or `report verified` is printed, the device is in appIDLE and exactly the payload of the last session is
-    // active. Of the language only what a line brings is read.
+    // The headline, of all that is printed or as far as the script goes: each image is the factory image or a payload offered so far. If
+    // `report installed` or `report verified` is printed, the device is in appIDLE and exactly the payload of the last session is active.
+    // Of the language only what a line brings is read.
     ensures printed { IfSome (R.remaining reader)
         (λ text. HasPrinted (given_bytes given.entry) text (W.contents writer.old) (W.contents writer.new) result) }
 {
@@ -132,13 +132,13 @@ pub fn script_with<R: Read + Drop, W: Write>(
     run_lines::<NoTrace, R, W>(alloc, given, reader, writer, &mut NoTrace, false, stopped)
 }
 
-/// Runs a script as `script_with` does, and writes a line for each action of the host to `trace`, before what
-/// is printed of it: the number of the action, the phase of the host, what it asks for, the fate, what the
-/// device answers, the state of the device before and after, the writes of the medium, and the milliseconds
+/// Runs a script as `script_with` does, and writes a line for each action of the host to `trace`, before what is
+/// printed of it. The line has the number of the action, the phase of the host, what it asks for, the fate, what
+/// the device answers, the state of the device before and after, the writes of the medium, and the milliseconds
 /// since the start, once it is over. Such a line begins with `# `, and no line of `script_with` begins with `#`.
 /// It answers beside the result whether each line of the trace is out.
 ///
-/// It takes memory for one line of the trace at a time. Where there is none for a line, or `trace` fails, the
+/// It takes memory for one line of the trace at a time. If there is none for a line, or `trace` fails, the
 /// script goes on, and no further line is written.
 ///
 /// # Errors

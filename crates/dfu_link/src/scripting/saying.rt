@@ -28,7 +28,7 @@ fn say_uploaded<W: Write>(writer: &mut W, bytes: &[u8]) -> Result<(), ScriptFaul
     write_bytes(writer, bytes)
 }
 
-/// The line of a report. What was uploaded is shown with Uploaded alone.
+/// The line of a report. What was uploaded is shown only with Uploaded.
 fn say_report<W: Write>(writer: &mut W, report: Report, uploaded: &[u8]) -> Result<(), ScriptFault>
     ensures { Puts (report_line report uploaded.now) (W.contents writer.old) (W.contents writer.new) result }
 {
@@ -60,7 +60,7 @@ fn say_refusal<W: Write>(writer: &mut W, fault: LinkFault) -> Result<(), ScriptF
     }
 }
 
-/// Writes what is printed of an event, where this was uploaded last.
+/// Writes what is printed of an event, if this was uploaded last.
 pub(crate) fn say<W: Write>(
     writer: &mut W,
     answer: Result<Option<Report>, LinkFault>,
@@ -75,7 +75,7 @@ pub(crate) fn say<W: Write>(
     }
 }
 
-/// Writes what is printed of an event next. Where a line is expected it is put into memory first.
+/// Writes what is printed of an event next. If a line is expected, this one is put into memory first.
 pub(crate) fn say_next<W: Write>(
     writer: &mut W,
     next: &mut Option<Expectation>,

@@ -23,10 +23,10 @@ pub(crate) struct SetLines {
     pub image: u32,
 }
 
-/// What is set: what `Config::new` takes, the unit in which the medium is written and the sectors in
-/// which it is erased, how many bytes an image may have, the image at first (the byte 00 where there
-/// is none), the bytes with which an image begins that the program takes (any where there are none),
-/// and the limits of sessions. The bytes that FILE stands for are given, and the lines that set are known by their numbers.
+/// What is set: what `Config::new` takes, the unit in which the medium is written and the sectors in which it is
+/// erased, and how many bytes an image may have. Set are also the image at first (the byte 00 if there is none), the
+/// bytes with which an image begins that the program takes (any if there are none), and the limits of sessions. The
+/// bytes that FILE means are given, and the lines that set are known by their numbers.
 #[derive(Drop)]
 pub(crate) struct ScriptConfig<'g> {
     pub ids: Ids,
@@ -44,7 +44,7 @@ pub(crate) struct ScriptConfig<'g> {
     pub lines: SetLines,
 }
 
-/// What holds where no line sets anything else.
+/// What holds if no line sets anything else.
 pub(crate) fn beginning(given: Option<&[u8]>) -> ScriptConfig<'_>
     ensures { settings_of result ≡ beginning (given_bytes given.entry) }
 {

@@ -91,7 +91,7 @@ pub(crate) fn write_show<M: Medium, W: Write>(
     write_image(writer, device)
 }
 
-/// Writes the line of the device's image next. Where a line is expected it is put into memory first.
+/// Writes the line of the device's image next. If a line is expected, this one is put into memory first.
 pub(crate) fn image_next<M: Medium, W: Write>(
     writer: &mut W,
     next: &mut Option<Expectation>,
@@ -110,7 +110,7 @@ pub(crate) fn image_next<M: Medium, W: Write>(
     write_next(writer, next, &line)
 }
 
-/// Writes the line of `show` next. Where a line is expected it is put into memory first.
+/// Writes the line of `show` next. If a line is expected, this one is put into memory first.
 pub(crate) fn show_next<M: Medium, W: Write>(
     writer: &mut W,
     next: &mut Option<Expectation>,

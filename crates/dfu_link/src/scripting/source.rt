@@ -102,7 +102,7 @@ fn take_piece<R: Read + Drop>(pieces: &mut Pieces<R>, most: u32, line: &mut Vec<
     }
 }
 
-/// Reads a line after so many others, and tells whether there was one.
+/// Reads a line after so many others, and answers whether there was one.
 fn read_line<R: Read + Drop>(
     pieces: &mut Pieces<R>,
     room: &mut u32,
@@ -140,7 +140,7 @@ fn read_line<R: Read + Drop>(
 }
 
 impl<R: Read + Drop> Source<R> {
-    /// All that a reader gives, of which nothing was read.
+    /// All that a reader gives, with nothing read yet.
     pub(crate) fn new(alloc: Global, reader: R) -> Result<Source<R>, ScriptFault>
         ensures ok { IfOk result (λ s. (s.left ≡ prepend_known [] (R.remaining reader)) × (s.room ≡ 16777216) × (s.number ≡ 0)) }
         ensures fault { IfErr result (λ f. f ≡ ScriptFault.NoMemory) }
@@ -170,12 +170,12 @@ impl<R: Read + Drop> Source<R> {
         self.number
     }
 
-    /// Goes on to the next line, and tells whether there is one.
+    /// Goes on to the next line, and answers whether there is one.
     ///
     /// # Errors
     ///
-    /// BadLine where the line has over 65,536 bytes, TooLarge where the byte past the limit of the
-    /// text comes before that and before its 0Ah, Read where the reader fails.
+    /// BadLine if the line has over 65,536 bytes, TooLarge if the byte past the limit of the
+    /// text comes before that and before its 0Ah, Read if the reader fails.
     pub(crate) fn next(&mut self) -> Result<bool, ScriptFault>
         ensures ok { IfOk result (λ more. Next self.old more self.new) }
         ensures fault { IfErr result (λ f. (given : Option (List ℕ)) → StopsSource given self.old f) }

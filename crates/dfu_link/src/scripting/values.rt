@@ -1,4 +1,4 @@
-//! What a word of a line stands for, by itself.
+//! What a word of a line means, by itself.
 
 ghost use Rattle.std.specs.Prelude.{◌≡◌, ◌≤◌, IfSome};
 ghost use Rattle.dfu_link.specs.Words.{Reads};

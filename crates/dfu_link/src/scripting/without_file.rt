@@ -10,7 +10,7 @@ use crate::seen::Stopped;
 use std::alloc::Global;
 use std::io::{Read, Write};
 
-/// Runs a script as `script_with` does, where no bytes are given: FILE is no word of the language.
+/// Runs a script as `script_with` does, with no bytes given: FILE is no word of the language.
 ///
 /// # Errors
 ///
@@ -23,16 +23,16 @@ pub fn script<R: Read + Drop, W: Write>(
     // With Ok what was written is a run of what was read; with a fault, which one comes when, and what is out then.
     ensures ended { IfSome (R.remaining reader)
         (λ text. Ended None text (W.contents writer.old) (W.contents writer.new) result) }
-    // The headline, of all that is printed or as far as the script goes: each image is the factory image or a payload offered so far, and
-    // where `report installed` or `report verified` is printed, the device is in appIDLE and exactly the payload of the last session is
-    // active. Of the language only what a line brings is read.
+    // The headline, of all that is printed or as far as the script goes: each image is the factory image or a payload offered so far. If
+    // `report installed` or `report verified` is printed, the device is in appIDLE and exactly the payload of the last session is active.
+    // Of the language only what a line brings is read.
     ensures printed { IfSome (R.remaining reader)
         (λ text. HasPrinted None text (W.contents writer.old) (W.contents writer.new) result) }
 {
     script_with::<R, W>(alloc, None, reader, writer, &Stopped::new())
 }
 
-/// Runs a script as `script_traced_with` does, where no bytes are given.
+/// Runs a script as `script_traced_with` does, with no bytes given.
 ///
 /// # Errors
 ///

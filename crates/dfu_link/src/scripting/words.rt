@@ -24,7 +24,7 @@ fn start_at(line: &[u8]) -> Option<usize>
     line.iter().position(|byte| *byte != b' ')
 }
 
-/// The first word, and the line after it. Nothing where there is no word.
+/// The first word, and the line after it. Nothing if there is no word.
 pub(crate) fn word_at(line: &[u8]) -> Option<(&[u8], &[u8])>
     ensures { Reads (λ x. (x.0.now, words_of x.1.now)) result (first_word (words_of line.now)) }
 {
@@ -36,7 +36,7 @@ pub(crate) fn word_at(line: &[u8]) -> Option<(&[u8], &[u8])>
     }
 }
 
-/// What stands behind the first word and one space.
+/// What follows the first word and one space.
 #[tactic(auto, unfolding(crate::specs::Words::text_behind))]
 pub(crate) fn text_behind(line: &[u8]) -> Option<&[u8]>
     ensures { Reads (λ x. x.now) result (text_behind line.now) }
@@ -101,7 +101,7 @@ pub(crate) fn hex_text(word: &[u8]) -> Option<HexText<'_>>
     }
 }
 
-/// The file that a word of an offer stands for: FILE for the bytes that are given, which are not
+/// The file that a word of an offer means: FILE the bytes that are given, which are not
 /// copied, any other for those that it spells.
 #[tactic(auto, unfolding(crate::specs::Fields::named_bytes))]
 pub(crate) fn offered<'l, 'g>(given: Option<&'g [u8]>, word: &'l [u8]) -> Option<Offered<'l, 'g>>

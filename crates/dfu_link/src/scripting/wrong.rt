@@ -1,4 +1,4 @@
-//! Why a line is none of the language.
+//! Why a line is not one of the language.
 
 /// A field of a line: what one of its words has to be.
 #[derive(Clone, Copy, Debug, PartialEq, Eq)]
@@ -27,7 +27,7 @@ pub enum Field {
     Bytes,
 }
 
-/// Why a line is none of the language: the first of its words, from the left, that isn't what its place wants, or how many words it has to
+/// Why a line is not of the language: the first of its words, from the left, that isn't what its place wants, or how many words it has to
 /// have. Words are counted from 1.
 #[derive(Clone, Copy, Debug, PartialEq, Eq)]
 pub enum LineFault {
@@ -35,18 +35,18 @@ pub enum LineFault {
     Long,
     /// No line begins with its first word.
     Keyword,
-    /// No word stands behind `go`.
+    /// No word follows `go`.
     NoFate,
-    /// The word behind `go` is no fate, and not `until`.
+    /// The word after `go` is no fate, and not `until`.
     Fate,
-    /// Nothing stands behind `expect` and a space.
+    /// Nothing follows `expect` and a space.
     NoText,
-    /// The word FILE, where no bytes are given.
+    /// The word FILE, though no bytes are given.
     NoFile,
     /// The word with this number isn't this field.
     Word(Field, usize),
     /// It has to have so many words.
     Count(usize),
-    /// Behind its last word stands a comment.
+    /// A comment follows its last word.
     Comment,
 }

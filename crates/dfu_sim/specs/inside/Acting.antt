@@ -40,7 +40,7 @@ seen_over CutsPower s = seen.Restarted
 seen_over FailsWrite s = s
 seen_over LiesInWrite s = s
 
--- A host took what it heard of what came back. It finds no memory only where its phase wants some.
+-- A host took what it heard of what came back. It finds no memory only if its phase wants some.
 pub record HasHeardBack (h : HostState) (b : Response) (out : List ℕ) (h' : HostState) : Type 0 where
   pub heard : Heard
   pub hears : HearsBack (deed h.task h.phase) b out heard
@@ -58,7 +58,7 @@ abbrev pub ended : Session → Took
 ended Nobody = record { session = Nobody; answer = silent }
 ended (Hosted h) = settled h h.phase
 
--- What an abort answers: it is refused where no session is live.
+-- What an abort answers: it is refused if no session is live.
 abbrev pub abort_told : Session → Result (Option Report) LinkFault
 abort_told Nobody = Err NoHost
 abort_told (Hosted h) = Ok None

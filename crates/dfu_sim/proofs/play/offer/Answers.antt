@@ -9,8 +9,9 @@ returns-then-is_some g c = busy_comes (Offers c.args.purpose c.args.file.now c.a
     (sym c.is_some.ensures ∙ c.if-is_some.true)
 
 pub returns-in-Ok : goal.returns-in-Ok
-returns-in-Ok g c = offer_comes _ _ _ _ _ _ (sym c.is_some.ensures ∙ c.if-is_some.false) c.requires.unarmed c.in-Ok.ensures.ok
+returns-in-Ok g c = offer_comes _ _ _ _ _ _ (sym c.is_some.ensures ∙ c.if-is_some.false) c.requires.unarmed
+    (c.in-Ok.ensures.ok c.args.device.now.config c.functional.ensures c.ids.ensures)
 
 pub returns-in-Err : goal.returns-in-Err
 returns-in-Err g c = idle_refused (Offers c.args.purpose c.args.file.now c.args.limits) (BadOffer c.in-Err.fault) _ _
-    (sym c.is_some.ensures ∙ c.if-is_some.false) (refl, c.in-Err.ensures.err)
+    (sym c.is_some.ensures ∙ c.if-is_some.false) (refl, c.in-Err.ensures.err c.args.device.now.config c.functional.ensures c.ids.ensures)
