@@ -38,7 +38,7 @@ dfu_free : is_simple_and_free dfu_app ≡ true
 unfolding dfu_app
 dfu_free = refl
 
--- A parse of this command succeeds only where clap states no fault of the words.
+-- A parse of this command succeeds only if clap states no fault of the words.
 pub faultless : (app : App) (words : List Text) → app ≡ dfu_app → (is_simple_and_free app ≡ true → fault_of app words ≡ []) →
     word_faults words ≡ []
 unfolding word_faults

@@ -151,7 +151,7 @@ given_row id (r ∷ rs) g = go (bytes_eq r.id id) g (given_row id rs)
     go true g later = refl
     go false g later = later g
 
--- Where nothing is missing, an argument that has to be there has a row.
+-- If nothing is missing, an argument that has to be there has a row.
 pub needed_row : (id : Text) (rules : List Rule) (rows : List Row)
     → list_any (λ a. a.required && not (is_given a.id rows)) rules ≡ false → has_need id rules ≡ true
     → has_row id rows ≡ true
@@ -170,7 +170,7 @@ needed_row id (a ∷ rest) rows none e = go (bytes_eq a.id id) a.required (is_gi
     go false true false is g none e later = absurd (true≢false none)
     go false false given is g none e later = later none e
 
--- Where each row has a value, an argument that has a row has a text.
+-- If each row has a value, an argument that has a row has a text.
 pub row_text : (id : Text) (rows : List Row) → Full rows → has_row id rows ≡ true → is_some (first_of id rows) ≡ true
 row_text id [] f e = absurd (true≢false (sym e))
 row_text id (r ∷ rs) f e = go (bytes_eq r.id id) e (row_text id rs f.1)

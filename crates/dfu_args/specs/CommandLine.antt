@@ -1,5 +1,6 @@
 -- The command line of the program, in clap's own words.
 use Rattle.std.specs.Prelude.{◌≡◌, ◌||◌, Bool, true, false, List, [], ◌∷◌, Option, Some, None, codes, map}
+use Rattle.std.specs.List.{fold}
 use Rattle.std.specs.Option.{option_map}
 use Rattle.std.specs.Str.{bytes_eq}
 use Rattle.std.specs.String.{string_bytes}
@@ -20,15 +21,15 @@ repeated id = record (new_rule id) { required = true; action = Some Append; valu
 abbrev pub optional : Text → Text → Rule
 optional id default = record (new_rule id) { action = Some Append; value_names = 1; defaults = default ∷ [] }
 
--- An option `--ID` has a value, and a default where it isn't given.
+-- An option `--ID` has a value, and a default if it isn't given.
 abbrev pub option : Text → Text → Rule
 option id default = record (new_rule id) { long = Some id; action = Some Set; defaults = default ∷ [] }
 
--- An option `--ID` that is unset has no value where it isn't given.
+-- An option `--ID` that is unset has no value if it isn't given.
 abbrev pub unset : Text → Rule
 unset id = record (new_rule id) { long = Some id; action = Some Set }
 
--- A flag `--ID` has no value, and is off where it isn't given.
+-- A flag `--ID` has no value, and is off if it isn't given.
 abbrev pub flag : Text → Rule
 flag id = record (new_rule id) { long = Some id; action = Some SetTrue }
 
@@ -36,45 +37,40 @@ flag id = record (new_rule id) { long = Some id; action = Some SetTrue }
 abbrev pub explained : App → App
 explained app = with_rule app (flag (codes "explain"))
 
+-- A command of this name takes arguments by these rules, and the flag `--explain`.
+abbrev pub takes : Text → List Rule → App
+takes name rules = explained (fold with_rule (new_app name) rules)
+
 -- The command `check` takes each FILE, and the flag `--json`.
 abbrev pub check_app : App
-check_app = explained (with_rule (with_rule (new_app (codes "check")) (repeated (codes "file"))) (flag (codes "json")))
+check_app = takes (codes "check") (repeated (codes "file") ∷ flag (codes "json") ∷ [])
 
 -- The command `add` takes FILE, OUT and the options `--vid`, `--pid` and `--did`, each `ffff` by default, `--format` and `--fill`.
 abbrev pub add_app : App
-add_app =
-    explained (with_rule (with_rule (with_rule (with_rule (with_rule (with_rule (with_rule (new_app (codes "add")) (needed (codes "file")))
-    (needed (codes "to"))) (option (codes "vid") (codes "ffff"))) (option (codes "pid") (codes "ffff")))
-    (option (codes "did") (codes "ffff"))) (unset (codes "format"))) (unset (codes "fill")))
+add_app = takes (codes "add") (needed (codes "file") ∷ needed (codes "to") ∷ option (codes "vid") (codes "ffff")
+    ∷ option (codes "pid") (codes "ffff") ∷ option (codes "did") (codes "ffff") ∷ unset (codes "format") ∷ unset (codes "fill") ∷ [])
 
 -- The command `extract` takes FILE and OUT.
 abbrev pub extract_app : App
-extract_app = explained (with_rule (with_rule (new_app (codes "extract")) (needed (codes "file"))) (needed (codes "to")))
+extract_app = takes (codes "extract") (needed (codes "file") ∷ needed (codes "to") ∷ [])
 
 -- The command `set` takes FILE and the options `--vid`, `--pid` and `--did`.
 abbrev pub set_app : App
-set_app =
-    explained (with_rule (with_rule (with_rule (with_rule (new_app (codes "set")) (needed (codes "file"))) (unset (codes "vid")))
-    (unset (codes "pid"))) (unset (codes "did")))
+set_app = takes (codes "set") (needed (codes "file") ∷ unset (codes "vid") ∷ unset (codes "pid") ∷ unset (codes "did") ∷ [])
 
 -- The command `show` takes KIND, each HEX and the flag `--json`.
 abbrev pub show_app : App
-show_app =
-    explained (with_rule (with_rule (with_rule (new_app (codes "show")) (needed (codes "kind"))) (repeated (codes "hex")))
-    (flag (codes "json")))
+show_app = takes (codes "show") (needed (codes "kind") ∷ repeated (codes "hex") ∷ flag (codes "json") ∷ [])
 
 -- The command `run` takes SCRIPT, the flags `--trace` and `--board`, and the option `--file`.
 abbrev pub run_app : App
-run_app =
-    explained (with_rule (with_rule (with_rule (with_rule (new_app (codes "run")) (needed (codes "script"))) (flag (codes "trace")))
-    (flag (codes "board"))) (unset (codes "file")))
+run_app = takes (codes "run") (needed (codes "script") ∷ flag (codes "trace") ∷ flag (codes "board") ∷ unset (codes "file") ∷ [])
 
 -- The command `judge` takes each FILE, `-` by default, the options `--interface`, `0` by default, and `--device`, `only` by default, and
 -- the flags `--dfuse` and `--json`.
 abbrev pub judge_app : App
-judge_app =
-    explained (with_rule (with_rule (with_rule (with_rule (with_rule (new_app (codes "judge")) (optional (codes "file") (codes "-")))
-    (option (codes "interface") (codes "0"))) (option (codes "device") (codes "only"))) (flag (codes "dfuse"))) (flag (codes "json")))
+judge_app = takes (codes "judge") (optional (codes "file") (codes "-") ∷ option (codes "interface") (codes "0")
+    ∷ option (codes "device") (codes "only") ∷ flag (codes "dfuse") ∷ flag (codes "json") ∷ [])
 
 -- The command `dfu` with no subcommand yet has to get one, and has a version.
 abbrev pub bare_app : App
@@ -97,9 +93,9 @@ abbrev pub is_on : Option Text → Bool
 is_on None = false
 is_on (Some text) = bytes_eq text (codes "true")
 
--- The job is what the subcommand and its arguments state, each text in its own place.
+-- The subcommand is what clap states for the words, each text in its own place.
 abbrev pub States : Option (Text × List Row) → Subcommand → Type 0
-States None job = ⊥
+States None subcommand = ⊥
 States (Some p) (Check files json) = (p.0 ≡ codes "check") × (all_of (codes "file") p.1 ≡ Some (map string_bytes files.items))
     × (json ≡ is_on (first_of (codes "json") p.1))
 States (Some p) (Add file to vid pid did format fill) =
@@ -123,12 +119,12 @@ States (Some p) (Judge files interface device dfuse json) =
     × (first_of (codes "interface") p.1 ≡ Some (string_bytes interface)) × (first_of (codes "device") p.1 ≡ Some (string_bytes device))
     × (dfuse ≡ is_on (first_of (codes "dfuse") p.1)) × (json ≡ is_on (first_of (codes "json") p.1))
 
--- The rows of a subcommand, which has none where there is no subcommand.
+-- The rows of a subcommand; none if there is no subcommand.
 abbrev pub rows_in : Option (Text × List Row) → List Row
 rows_in None = []
 rows_in (Some p) = p.1
 
--- The words ask for the reason of a refusal: they have the flag `--explain`, before the subcommand or behind it.
+-- The words ask for the reason of a refusal: they have the flag `--explain`, before the subcommand or after it.
 abbrev pub asks_why : List Text → Bool
 asks_why words =
     is_on (first_of (codes "explain") (matches_of dfu_app words))

@@ -1,10 +1,10 @@
--- That each text of a job is there.
+-- That each text of a subcommand is there.
 use Rattle.std.specs.Prelude.{◌≡◌, true, false, List, [], ◌∷◌, if◌then◌else◌, is_some, codes}
 use Rattle.std.specs.Str.{bytes_eq}
 use Rattle.clap.specs.Words.{Row, Text, first_of}
 use Rattle.clap.specs.Walk.{is_empty}
 
--- The arguments of the subcommand with this name; there are none where it is no subcommand.
+-- The arguments of the subcommand with this name; there are none if it is no subcommand.
 abbrev pub arguments_of : Text → List Text
 arguments_of name =
     if bytes_eq name (codes "check") then codes "file" ∷ []

@@ -1,20 +1,20 @@
 -- What the words of a command line are refused for.
 use Rattle.std.specs.Prelude.{◌≡◌, ⊤, List, [], Result, Ok, Err}
 use Rattle.clap.specs.Words.{IsAmong, Kinds, Text, fault_of, kind_of}
-use Rattle.dfu_args.specs.declared.subcommand.JobFault.{JobFault}
-use Rattle.dfu_args.specs.declared.subcommand.JobFault.TheVariants.{Words, NoMemory}
+use Rattle.dfu_args.specs.declared.subcommand.ArgsFault.{ArgsFault}
+use Rattle.dfu_args.specs.declared.subcommand.ArgsFault.TheVariants.{Words, NoMemory}
 use Rattle.dfu_args.specs.CommandLine.{dfu_app}
 
 -- The words have the faults that clap states for them and this command line: none, or the kinds that its error may have.
 unfoldable pub word_faults : List Text → Kinds
 word_faults words = fault_of dfu_app words
 
--- A fault of words is told by an error of one of these kinds, or there was no memory.
-abbrev pub TellsFault : Kinds → JobFault → Type 0
+-- A fault of words is an error of one of these kinds, or that there was no memory.
+abbrev pub TellsFault : Kinds → ArgsFault → Type 0
 TellsFault kinds (Words error) = IsAmong (kind_of error) kinds
 TellsFault kinds NoMemory = ⊤
 
--- It succeeds only where there is no fault, and else tells one of these kinds, or that there was no memory.
-abbrev pub EndsBy : {T : Type 0} → Kinds → Result T JobFault → Type 0
+-- It succeeds only if there is no fault; else its error has one of these kinds, or says that there was no memory.
+abbrev pub EndsBy : {T : Type 0} → Kinds → Result T ArgsFault → Type 0
 EndsBy kinds (Ok x) = kinds ≡ []
 EndsBy kinds (Err fault) = TellsFault kinds fault

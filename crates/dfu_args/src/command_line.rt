@@ -68,7 +68,7 @@ fn option<'a>(alloc: Global, id: &'a str, default: &'a str, help: &'a str) -> Ar
         .help(help)
 }
 
-/// An option with a value, which has none where it isn't given.
+/// An option with a value, which has none if it isn't given.
 #[inline(never)]
 fn unset<'a>(alloc: Global, id: &'a str, help: &'a str) -> Arg<'a>
     ensures rule { rule_of result ≡ unset id.entry.now }
@@ -80,7 +80,7 @@ fn unset<'a>(alloc: Global, id: &'a str, help: &'a str) -> Arg<'a>
         .help(help)
 }
 
-/// A flag, which is off where it isn't given.
+/// A flag, which is off if it isn't given.
 #[inline(never)]
 fn flag<'a>(alloc: Global, id: &'a str, help: &'a str) -> Arg<'a>
     ensures rule { rule_of result ≡ flag id.entry.now }
@@ -92,8 +92,8 @@ fn flag<'a>(alloc: Global, id: &'a str, help: &'a str) -> Arg<'a>
         .help(help)
 }
 
-/// A command with one argument more, where there was memory for the command.
-// One step in a function of its own, here and in `with_sub`: what is left of a command where a step fails is looked at once.
+/// A command with one argument more, if there was memory for the command.
+// One step in a function of its own, here and in `with_sub`: what is left of a command when a step fails is looked at once.
 #[inline(never)]
 fn with<'a>(
     command: Result<Command<'a>, AllocError>,
@@ -108,7 +108,7 @@ fn with<'a>(
     command?.arg(arg)
 }
 
-/// A command with one subcommand more, where there was memory for both.
+/// A command with one subcommand more, if there was memory for both.
 #[inline(never)]
 fn with_sub<'a>(
     command: Result<Command<'a>, AllocError>,
@@ -123,7 +123,7 @@ fn with_sub<'a>(
     command?.subcommand(sub?)
 }
 
-/// A command with the flag `--explain` too, where there was memory for the command.
+/// A command with the flag `--explain` too, if there was memory for the command.
 fn explained<'a>(
     alloc: Global,
     command: Result<Command<'a>, AllocError>,

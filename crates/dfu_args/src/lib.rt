@@ -1,6 +1,6 @@
 //! The words of the command line of `dfu`: what they ask for, or why they are refused.
 //!
-//! `job` takes them apart. The crate opens no file and prints nothing.
+//! `parse_subcommand` reads them. The crate opens no file and prints nothing.
 #![tactic(auto)]
 
 mod command_line;
@@ -8,5 +8,5 @@ mod help;
 mod subcommand;
 mod words;
 
-pub use subcommand::{JobFault, ParsedArgs, Subcommand};
-pub use words::{asked, job};
+pub use subcommand::{ArgsFault, ParsedArgs, Subcommand};
+pub use words::{parse_args, parse_subcommand};

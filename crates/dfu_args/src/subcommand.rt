@@ -3,7 +3,7 @@
 /// What is to be done, with the texts of the words or their defaults.
 #[derive(Debug, Drop)]
 pub enum Subcommand {
-    /// Check each file, or standard input where it is `-`.
+    /// Check each file, or standard input if it is `-`.
     Check {
         /// Each FILE, one at least.
         files: Vec<String>,
@@ -54,18 +54,18 @@ pub enum Subcommand {
         /// Whether each line is to be an object: `--json` was given.
         json: bool,
     },
-    /// Run a script, or that of standard input where `script` is `-`.
+    /// Run a script, or that of standard input if `script` is `-`.
     Run {
         /// SCRIPT.
         script: String,
-        /// Whether each action is to be told: `--trace` was given.
+        /// Whether each action is to be printed: `--trace` was given.
         trace: bool,
         /// Whether each event is to be played on a board beside the device: `--board` was given.
         board: bool,
-        /// The file that FILE stands for, or standard input where it is `-`; none without `--file`.
+        /// The file that FILE means, or standard input if it is `-`; none without `--file`.
         file: Option<String>,
     },
-    /// Judge each log or capture, or that of standard input where it is `-`.
+    /// Judge each log or capture, or that of standard input if it is `-`.
     Judge {
         /// Each FILE, one at least.
         files: Vec<String>,
@@ -80,18 +80,18 @@ pub enum Subcommand {
     },
 }
 
-/// A job, and how it is to be done.
+/// A subcommand, and how it is to be done.
 #[derive(Debug, Drop)]
 pub struct ParsedArgs {
     /// What is to be done.
-    pub job: Subcommand,
+    pub subcommand: Subcommand,
     /// Whether the reason of a refusal is wanted: `--explain` was given.
     pub explain: bool,
 }
 
-/// Why the words are no job.
+/// Why the words ask for no subcommand.
 #[derive(Debug, Drop)]
-pub enum JobFault {
+pub enum ArgsFault {
     /// The parser refused the words, or they ask for help: its text and its exit status.
     Words(clap::Error),
     /// An allocation was refused.

@@ -2,11 +2,11 @@
 use Rattle.std.specs.Prelude.{ℕ, ◌-◌, ◌%◌, ◌==◌, ◌&&◌, ◌||◌, Bool, if◌then◌else◌, List, [], ◌∷◌, ◌++◌, length, take, slice_index}
 use Rattle.std.specs.List.{fold}
 
--- A space, a tab, a line end, a colon or a comma stands between bytes.
+-- A space, a tab, a line end, a colon or a comma separates bytes.
 abbrev pub is_between : ℕ → Bool
 is_between b = (b == 32) || ((b == 9) || ((b == 10) || ((b == 13) || ((b == 58) || (b == 44)))))
 
--- An x behind the 0 that would be the first digit of a byte is a mark before bytes.
+-- An x after the 0 that would be the first digit of a byte is a mark before bytes.
 abbrev pub is_mark : List ℕ → ℕ → Bool
 is_mark digits b = ((b == 120) || (b == 88)) && ((length digits % 2 == 1) && (slice_index digits (length digits - 1) == 48))
 
@@ -17,7 +17,7 @@ step digits b =
     else if is_mark digits b then take (length digits - 1) digits
     else digits ++ b ∷ []
 
--- A word goes on behind the digits so far, and parts bytes as a space does.
+-- A word goes on after the digits so far, and separates bytes as a space does.
 abbrev pub word_step : List ℕ → List ℕ → List ℕ
 word_step digits word = step (fold step digits word) 32
 

@@ -4,7 +4,7 @@ use Rattle.dfu_fs.specs.declared.changing.Change.{Change}
 use Rattle.dfu_wire.specs.declared.ids.Ids.{Ids}
 use Rattle.dfu_wire.specs.Identifier.{identifier_in}
 
--- Three numbers are the identifiers of a device, where each of them is there.
+-- Three numbers are the identifiers of a device, if each of them is there.
 abbrev pub ids_in : (vendor product device : Option ℕ) → Option Ids
 ids_in (Some vendor) (Some product) (Some device) = Some (record { device = device; product = product; vendor = vendor })
 ids_in vendor product device = None

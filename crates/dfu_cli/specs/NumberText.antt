@@ -7,7 +7,7 @@ use Rattle.dfu_output.specs.declared.exit.Exit.TheVariants.{Refused}
 use Rattle.dfu_output.specs.AnswerLines.{fault_line}
 use Rattle.dfu_output.specs.Output.{Wrote}
 
--- A line that names a line of the script by its number is written, or, where there is no memory for that, the line that
+-- A line that names a line of the script by its number is written, or, if there is no memory for that, the line that
 -- says so.
 abbrev pub WritesNumber : List ℕ → ℕ → Option (List ℕ) → Option (List ℕ) → Exit → Type 0
 WritesNumber text n old new result =

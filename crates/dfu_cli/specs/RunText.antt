@@ -12,7 +12,7 @@ use Rattle.dfu_output.specs.AnswerLines.{fault_line}
 use Rattle.dfu_output.specs.Output.{Wrote}
 use Rattle.dfu_cli.specs.NumberText.{WritesNumber}
 
--- What is written of a script that stopped, behind what it wrote, is the line of its fault, and nothing more where the
+-- What is written of a script that stopped, after what it wrote, is the line of its fault, and nothing more if the
 -- writer failed. A line that was printed in place of an expected one ends before it.
 abbrev pub WritesStop : ScriptFault → Option (List ℕ) → Option (List ℕ) → Exit → Type 0
 WritesStop (BadLine n) old new result = WritesNumber (codes "refused BadLine ") n old new result
@@ -25,14 +25,14 @@ WritesStop NoMemory old new result = Wrote old new (fault_line suffix.NoMemory) 
 WritesStop Read old new result = Wrote old new (fault_line suffix.Read) Fault result
 WritesStop Write old new result = (new ≡ old) × (result ≡ Fault)
 
--- Where FILE stands for the bytes of this file, a script ran to its end and that is all that is written, or it stopped and the line of its
--- fault is written behind what it wrote.
+-- With these bytes as FILE, a script ran to its end and that is all that is written, or it stopped and the line of its
+-- fault is written after what it wrote.
 pub data WritesRun (file given old new : Option (List ℕ)) (result : Exit) : Type 0 where
   runs : IfSome given (λ text. WroteRun file text old new) → result ≡ Done → WritesRun file given old new result
   stops : (mid : Option (List ℕ)) (fault : ScriptFault) →
       IfSome given (λ text. Falls file text old mid fault) → WritesStop fault mid new result → WritesRun file given old new result
 
--- The headline holds of what is written: of the whole text of the script, and that is all; or as far as the script went, and behind that
+-- The headline holds of what is written: of the whole text of the script, and that is all; or as far as the script went, and after that
 -- the line of its fault is written.
 pub data WritesPrinted (file given old new : Option (List ℕ)) (result : Exit) : Type 0 where
   prints_all : IfSome given (λ text. WrotePrinted file text old new) → result ≡ Done → WritesPrinted file given old new result

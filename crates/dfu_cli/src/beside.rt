@@ -46,7 +46,7 @@ fn beside_text<W: Write>(
 }
 
 /// Runs a script as `run_with_fault` does, with each event on a board beside the device too. If the board differs, `refused BoardDiffers N`
-/// is written with the number of the line, and the end is Refused. It returns beside the end where the script stopped, if it did,
+/// is written with the number of the line, and the end is Refused. It returns the end, where the script stopped, if it did,
 /// and the writer.
 pub(crate) fn run_beside_with_stop<R: Read + Drop, W: Write + Drop>(
     alloc: Global,

@@ -12,9 +12,9 @@ use std::alloc::Global;
 use std::io::{BufWriter, Read, Write};
 
 /// Runs the script as `run_text` does, into the buffer, and then writes what the buffer still
-/// holds. It answers how the script ended, and hands back the writer behind the buffer.
+/// holds. It returns how the script ended, and the writer that the buffer had.
 ///
-/// Where that writer fails it answers Fault, and a front of the text is out.
+/// If that writer fails, it returns Fault, and a front of the text is out.
 pub fn run_buffered<R: Read + Drop, W: Write + Drop>(
     alloc: Global,
     reader: R,
@@ -26,7 +26,7 @@ pub fn run_buffered<R: Read + Drop, W: Write + Drop>(
     (exit, writer)
 }
 
-/// Does what `run_buffered` does, where FILE stands for the bytes of `file`, if there are any, and returns
+/// Does what `run_buffered` does, with the bytes of `file` as FILE, if there are any, and returns
 /// the fault at which the script stopped too.
 pub(crate) fn run_buffered_with_fault<R: Read + Drop, W: Write + Drop>(
     alloc: Global,

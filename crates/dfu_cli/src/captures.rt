@@ -7,7 +7,7 @@ use std::io::{self, Read};
 /// The most bytes of a capture.
 pub(crate) const MAX_CAPTURE: usize = 16_777_216;
 
-/// The address that `--device` says; `Some(None)` where it is `only`, and `None` where it is neither.
+/// The address that `--device` says; `Some(None)` if it is `only`, and `None` if it is neither.
 pub(crate) fn device_in(word: &str) -> Option<Option<Address>> {
     if word == "only" {
         return Some(None);
@@ -18,7 +18,7 @@ pub(crate) fn device_in(word: &str) -> Option<Option<Address>> {
     Some(Some(Address { bus, device }))
 }
 
-/// Bytes that were read, and the reader behind them.
+/// Bytes that were read, and the reader of those after them.
 #[derive(Drop)]
 pub(crate) struct Headed<R> {
     head: [u8; 4],
@@ -28,7 +28,7 @@ pub(crate) struct Headed<R> {
 }
 
 impl<R: Read + Drop> Headed<R> {
-    /// A reader whose first four bytes were read; fewer where it has no more.
+    /// A reader whose first four bytes were read, or fewer if it has no more.
     pub(crate) fn new(mut rest: R) -> io::Result<Headed<R>> {
         let mut head = [0u8; 4];
         let mut to = 0usize;

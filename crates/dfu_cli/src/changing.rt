@@ -1,10 +1,8 @@
-//! The commands that make files: `dfu add`, `dfu extract` and `dfu set`, where the words can be used.
+//! The commands that make or change files, `dfu add` and `dfu set`, if the words can be used.
 
 use crate::identifiers::{IdTexts, change_said, ids_said};
-use crate::words::{
-    bad_fill, bad_format, bad_identifier, bad_place, lone_fill, no_change, refused,
-};
-use dfu_fs::{AddOptions, Owned, add_file, extract_file, set_file};
+use crate::words::{WordFault, bad_identifier, refused, refused_word, word_reason};
+use dfu_fs::{AddOptions, Owned, add_file, set_file};
 use dfu_image_output::{FormatChoice, fill_in, format_in};
 use dfu_output::Outcome;
 use std::alloc::Global;
@@ -19,7 +17,7 @@ fn how_said(
     let taken = match format {
         Some(word) => match format_in(word) {
             Some(taken) => taken,
-            None => return Err(bad_format(alloc, word)),
+            None => return Err(word_reason(alloc, WordFault::Format, word)),
         },
         None => FormatChoice::Unsaid,
     };
@@ -27,10 +25,14 @@ fn how_said(
         return Ok(AddOptions { taken, fill: None });
     };
     let Some(byte) = fill_in(word) else {
-        return Err(bad_fill(alloc, word));
+        return Err(word_reason(alloc, WordFault::Fill, word));
     };
     match taken {
-        FormatChoice::Raw | FormatChoice::Unsaid => Err(lone_fill(alloc, word)),
+        FormatChoice::Raw | FormatChoice::Unsaid => Err(word_reason(
+            alloc,
+            WordFault::LoneFill,
+            word,
+        )),
         _ => Ok(AddOptions {
             taken,
             fill: Some(byte),
@@ -38,7 +40,7 @@ fn how_said(
     }
 }
 
-/// Adds a suffix, where the words can be used.
+/// Adds a suffix, if the words can be used.
 pub(crate) fn perform_add<R: Files + Input + Print + AllocGlobal>(
     rt: &R,
     file: &str,
@@ -55,28 +57,12 @@ where
         return refused(rt, bad_identifier(alloc, texts));
     };
     if to == "-" {
-        return refused(rt, bad_place(alloc, "OUT "));
+        return refused_word(rt, WordFault::Out, to);
     }
     match how_said(alloc, format, fill) {
         Ok(how) => add_file(rt, file, to, ids, how),
         Err(reason) => refused(rt, reason),
     }
-}
-
-/// Makes a file of a payload, where the words can be used.
-pub(crate) fn perform_extract<R: Files + Input + Print + AllocGlobal>(
-    rt: &R,
-    file: &str,
-    to: &str,
-    explain: bool,
-) -> Outcome
-where
-    R::File: Owned,
-{
-    if to == "-" {
-        return refused(rt, bad_place(rt.alloc(), "OUT "));
-    }
-    extract_file(rt, file, to, explain)
 }
 
 /// The text of an option; one that isn't given counts as an identifier that is right.
@@ -87,7 +73,7 @@ fn text_in(text: &Option<String>) -> &str {
     }
 }
 
-/// Changes identifiers, where the words can be used.
+/// Changes identifiers, if the words can be used.
 pub(crate) fn perform_set<R: Files + Input + Print + AllocGlobal>(
     rt: &R,
     file: &str,
@@ -105,10 +91,10 @@ where
         return refused(rt, bad_identifier(alloc, &texts));
     }
     if file == "-" {
-        return refused(rt, bad_place(alloc, "FILE "));
+        return refused_word(rt, WordFault::Place, file);
     }
     if vid.is_none() && pid.is_none() && did.is_none() {
-        return refused(rt, no_change(alloc, file));
+        return refused_word(rt, WordFault::NoChange, file);
     }
     set_file(rt, file, &change_said(vid, pid, did), explain)
 }

@@ -25,7 +25,7 @@ struct FollowedDevice {
 }
 
 impl FollowedDevice {
-    /// A device of which no byte of a log came; `None` if an allocation was refused.
+    /// A device before the first byte of a log; `None` if an allocation was refused.
     fn new(alloc: Global) -> Option<FollowedDevice> {
         Some(FollowedDevice {
             judge: DfuseJudge::new(),
@@ -36,7 +36,7 @@ impl FollowedDevice {
         })
     }
 
-    /// An event comes. If the device departs, the departure is handed out.
+    /// An event comes. If the device departs, it returns the departure.
     fn come(&mut self, event: &LogEvent) -> Option<Departure> {
         self.events = self.events.saturating_add(1);
         match self.judge.take(event) {
@@ -53,7 +53,7 @@ impl FollowedDevice {
         }
     }
 
-    /// A byte comes. If it ends a line at which the device departs, the departure is handed out.
+    /// A byte comes. If it ends a line at which the device departs, it returns the departure.
     fn take(&mut self, interface: u8, byte: u8) -> Result<Option<Departure>, LogFault> {
         match self.lines.take(interface, byte)? {
             Some(Line::Came(event)) => Ok(self.come(&event)),
@@ -87,7 +87,7 @@ fn tell<W: Write>(
     }
 }
 
-/// A byte of the log comes, and a departure is told.
+/// A byte of the log comes, and a departure is written.
 fn step<W: Write>(
     alloc: Global,
     interface: u8,

@@ -31,7 +31,7 @@ impl<W> Eventful<W> {
         !self.is_passing && self.held == NONE.len()
     }
 
-    /// The output behind it.
+    /// The output that it writes to.
     pub(crate) fn behind(&mut self) -> &mut W {
         &mut self.out
     }

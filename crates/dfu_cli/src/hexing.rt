@@ -6,7 +6,7 @@ ghost use Rattle.dfu_cli.specs.HexWords.{bare_digits, is_between, is_mark, step,
 
 use std::alloc::{AllocError, Global};
 
-/// Whether a sign stands between bytes.
+/// Whether a character separates bytes.
 fn is_between(byte: u8) -> bool
     ensures { result ≡ is_between byte }
 {

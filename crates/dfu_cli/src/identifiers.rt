@@ -34,7 +34,7 @@ impl<'t> IdTexts<'t> {
     }
 }
 
-/// The identifiers, where each text is four hexadecimal digits.
+/// The identifiers, if each text is four hexadecimal digits.
 pub(crate) fn ids_said(texts: &IdTexts<'_>) -> Option<Ids>
     ensures { result ≡ ids_said texts.now.vendor.now texts.now.product.now texts.now.device.now }
 {
@@ -65,7 +65,7 @@ pub(crate) fn wrong_option<'t>(texts: &IdTexts<'t>) -> Option<(&'static str, &'t
     None
 }
 
-/// The number of an option, where it is given and is four hexadecimal digits.
+/// The number of an option, if it is given and is four hexadecimal digits.
 fn number_in(text: &Option<String>) -> Option<u16>
     ensures { result ≡ option_and_then identifier_in (option_map string_bytes text.now) }
 {
@@ -75,7 +75,7 @@ fn number_in(text: &Option<String>) -> Option<u16>
     }
 }
 
-/// The identifiers that change, where each text is four hexadecimal digits.
+/// The identifiers that change, if each text is four hexadecimal digits.
 pub(crate) fn change_said(
     vendor: &Option<String>,
     product: &Option<String>,

@@ -39,7 +39,7 @@ fn fault_why(why: LineFault) -> &'static str {
     }
 }
 
-/// Why a log was judged no further, where its line doesn't say it.
+/// Why a log was judged no further, if its line doesn't say it.
 fn stop_reason<S>(
     alloc: Global,
     name: &str,
@@ -81,14 +81,14 @@ pub(crate) struct JudgeOptions {
     pub json: bool,
 }
 
-/// What is to be judged of what a reader gives.
+/// What is judged, and how.
 #[derive(Clone, Copy)]
 struct Judged<'w> {
     /// The name of the file.
     pub name: &'w str,
-    /// What stands before each line.
+    /// What precedes each line.
     pub before: &'w str,
-    /// How it is to be judged.
+    /// How it is judged.
     pub how: JudgeOptions,
 }
 
@@ -183,7 +183,7 @@ fn unread<R: Print + AllocGlobal>(rt: &R, judged: Judged<'_>, error: &io::Error)
     }
 }
 
-/// Judges a log or a capture, or that of standard input where the name is `-`, with the reason where it is judged no further.
+/// Judges a log or a capture, or that of standard input if the name is `-`, with the reason if it is judged no further.
 fn judge_file<R: Files + Input + Print + AllocGlobal>(rt: &R, judged: Judged<'_>) -> Outcome {
     let given = match open(rt, judged.name) {
         Ok(given) => given,
@@ -239,8 +239,8 @@ fn judge_named<R: Files + Input + Print + AllocGlobal>(
     }
 }
 
-/// Judges logs and captures, or those of standard input where a name is `-`, each with the reason where it is judged no further. Of more
-/// than one file each line begins with its name; with `json` each line is a JSON object, with the name as its member `file`. The end is the
+/// Judges logs and captures, or those of standard input if a name is `-`, each with the reason if it is judged no further. If there is more
+/// than one file, each line begins with its name; with `json` each line is a JSON object with the name as its member `file`. The end is the
 /// worst one.
 pub(crate) fn judge_files<R: Files + Input + Print + AllocGlobal>(
     rt: &R,

@@ -20,7 +20,7 @@ fn wanted(field: Field) -> &'static str {
     }
 }
 
-/// What is wrong with the words of a line; it has so many.
+/// What is wrong with the words of a line, which has this many.
 fn words_why(alloc: Global, fault: LineFault, words: usize) -> Result<String, AllocError> {
     let why = match fault {
         LineFault::Word(field, number) => {
@@ -52,7 +52,7 @@ fn unprintable_why(begins: bool, ends: bool) -> &'static str {
     }
 }
 
-/// Why a line is none of the language. Of one over 65,536 bytes no reason is noted.
+/// Why a line is not in the language. No reason is noted for one over 65,536 bytes.
 pub(crate) fn line_why(alloc: Global, reason: Option<Reason>) -> Result<String, AllocError> {
     match reason {
         Some(Reason::Line(fault, words)) => words_why(alloc, fault, words),

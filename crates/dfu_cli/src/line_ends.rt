@@ -7,20 +7,20 @@ use std::io::{self, Read};
 /// How many bytes are read at a time.
 const PIECE: usize = 4096;
 
-/// A reader in which a line feed stands for a carriage return and a line feed. Another carriage return stays.
+/// A reader that gives a line feed for a carriage return and a line feed. Any other carriage return stays.
 #[derive(Drop)]
 pub(crate) struct LineEnds<R> {
     reader: R,
     piece: [u8; PIECE],
     from: usize,
     to: usize,
-    // A carriage return was read, and nothing behind it.
+    // A carriage return was read, and nothing after it.
     is_returned: bool,
     is_ended: bool,
 }
 
 impl<R> LineEnds<R> {
-    /// A reader of which nothing was read.
+    /// A reader from which nothing was read yet.
     pub(crate) fn new(reader: R) -> LineEnds<R> {
         LineEnds {
             reader,
@@ -43,48 +43,30 @@ impl<R> LineEnds<R> {
 
     /// The next byte to give, if it is known.
     fn next(&mut self) -> Option<u8> {
-        let ahead = self.ahead();
         if self.is_returned {
-            return match ahead {
-                Some(b'\n') => {
-                    self.is_returned = false;
-                    self.from = self.from.saturating_add(1);
-                    Some(b'\n')
-                }
-                Some(_) => {
-                    self.is_returned = false;
-                    Some(b'\r')
-                }
-                None if self.is_ended => {
-                    self.is_returned = false;
-                    Some(b'\r')
-                }
-                None => None,
-            };
+            return self.after_return();
         }
-        let byte = ahead?;
+        let byte = self.ahead()?;
         self.from = self.from.saturating_add(1);
         if byte == b'\r' {
             self.is_returned = true;
-            return self.next_behind();
+            return self.after_return();
         }
         Some(byte)
     }
 
-    /// The byte to give where a carriage return was read.
-    fn next_behind(&mut self) -> Option<u8> {
-        match self.ahead() {
-            Some(b'\n') => {
-                self.is_returned = false;
-                self.from = self.from.saturating_add(1);
-                Some(b'\n')
-            }
-            Some(_) => {
-                self.is_returned = false;
-                Some(b'\r')
-            }
-            None => None,
+    /// The byte to give if a carriage return was read: the line feed after it, or it. Nothing is known if no byte is at hand yet.
+    fn after_return(&mut self) -> Option<u8> {
+        let ahead = self.ahead();
+        if ahead.is_none() && !self.is_ended {
+            return None;
         }
+        self.is_returned = false;
+        if ahead != Some(b'\n') {
+            return Some(b'\r');
+        }
+        self.from = self.from.saturating_add(1);
+        ahead
     }
 }
 

@@ -10,7 +10,7 @@ use dfu_suffix::SuffixFault;
 use std::alloc::{AllocError, Global};
 use std::io::Write;
 
-/// A text and a number behind it.
+/// A text and a number after it.
 fn numbered(alloc: Global, text: &str, number: u32) -> Result<String, AllocError>
     ensures { IfOk result (λ t. string_bytes t ≡ text.now ++ decimal number ++ 10 ∷ []) }
 {

@@ -10,7 +10,7 @@ use std::rt::Files;
 /// The most bytes of a file.
 const MAX_FILE: usize = 16_777_216;
 
-/// A file, or standard input where the name is `-`, read whole; or the answer where it can't be, which is
+/// A file, or standard input if the name is `-`, read whole; or the outcome if it can't be, which is
 /// that of `dfu check`.
 pub(crate) fn read_file<R: Files + Input + Print + AllocGlobal>(
     rt: &R,

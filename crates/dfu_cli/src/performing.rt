@@ -1,7 +1,7 @@
 //! What the words of a command line ask for is done.
 
 use crate::captures::device_in;
-use crate::changing::{perform_add, perform_extract, perform_set};
+use crate::changing::{perform_add, perform_set};
 use crate::hexing::bare;
 use crate::identifiers::IdTexts;
 use crate::judging::{JudgeOptions, interface_in, judge_files};
@@ -10,9 +10,9 @@ use crate::remembering::Remembering;
 use crate::scripts::{Ways, run_script};
 use crate::shown::show_reason;
 use crate::tips::advised;
-use crate::words::{bad_device, bad_file, bad_interface, bad_kind, refused};
-use dfu_args::{JobFault, ParsedArgs, Subcommand, asked};
-use dfu_fs::{Owned, check_files};
+use crate::words::{WordFault, refused_word, word_reason};
+use dfu_args::{ArgsFault, ParsedArgs, Subcommand, parse_args};
+use dfu_fs::{Owned, check_files, extract_file};
 use dfu_json::JsonLines;
 use dfu_output::{Exit, Outcome, fault_text, show_text};
 use dfu_suffix::SuffixFault;
@@ -43,18 +43,18 @@ fn perform_show<R: Print + AllocGlobal>(
             reason: None,
         };
     };
-    // A text stays one where signs of ASCII go.
+    // A text from which ASCII characters are taken stays a text.
     let hex = std::str::from_utf8(&digits).unwrap_or("?");
     let exit = show_text(alloc, kind, hex, &mut out);
     let reason = match exit {
-        Exit::BadWords => bad_kind(alloc, kind),
+        Exit::BadWords => word_reason(alloc, WordFault::Kind, kind),
         Exit::Refused => show_reason(alloc, kind, out.front()),
         _ => None,
     };
     Outcome { exit, reason }
 }
 
-/// Judges a log or a capture, where the words can be used.
+/// Judges a log or a capture, if the words can be used.
 fn perform_judge<R: Files + Input + Print + AllocGlobal>(
     rt: &R,
     names: &[String],
@@ -64,10 +64,10 @@ fn perform_judge<R: Files + Input + Print + AllocGlobal>(
     json: bool,
 ) -> Outcome {
     let Some(interface) = interface_in(interface) else {
-        return refused(rt, bad_interface(rt.alloc(), interface));
+        return refused_word(rt, WordFault::Interface, interface);
     };
     let Some(only) = device_in(device) else {
-        return refused(rt, bad_device(rt.alloc(), device));
+        return refused_word(rt, WordFault::Device, device);
     };
     let how = JudgeOptions {
         interface,
@@ -78,7 +78,7 @@ fn perform_judge<R: Files + Input + Print + AllocGlobal>(
     judge_files(rt, names, how)
 }
 
-/// Runs a script in these ways, where the words can be used: the script and its file can't both be standard input.
+/// Runs a script in these ways, if the words can be used: the script and its file can't both be standard input.
 fn perform_run<R: Files + Input + Print + AllocGlobal>(
     rt: &R,
     script: &str,
@@ -93,7 +93,7 @@ where
         return run_script(rt, script, ways);
     };
     if script == "-" && name.as_str() == "-" {
-        return refused(rt, bad_file(rt.alloc()));
+        return refused_word(rt, WordFault::File, "-");
     }
     match read_file(rt, name) {
         Ok(bytes) => run_script(
@@ -108,17 +108,17 @@ where
     }
 }
 
-/// Does a job.
+/// Does what a subcommand asks for.
 fn perform<R: Files + Input + Print + AllocGlobal>(
     rt: &R,
-    job: &Subcommand,
+    subcommand: &Subcommand,
     explain: bool,
 ) -> Outcome
 where
     R::File: Owned + IsTerminal,
     R::Reader: IsTerminal,
 {
-    match job {
+    match subcommand {
         Subcommand::Check { files, json } => check_files(rt, files, explain, *json),
         Subcommand::Add {
             file,
@@ -129,7 +129,12 @@ where
             format,
             fill,
         } => perform_add(rt, file, to, &IdTexts::new(vid, pid, did), format, fill),
-        Subcommand::Extract { file, to } => perform_extract(rt, file, to, explain),
+        Subcommand::Extract { to, .. } if to.as_str() == "-" => refused_word(
+            rt,
+            WordFault::Out,
+            to,
+        ),
+        Subcommand::Extract { file, to } => extract_file(rt, file, to, explain),
         Subcommand::Change {
             file,
             vid,
@@ -158,7 +163,7 @@ where
     }
 }
 
-/// The parser's text, with other tips where it has misleading ones, if there is memory for it.
+/// The parser's text, with other tips in place of misleading ones, if there is memory for it.
 fn print_advised<R: Print + AllocGlobal>(rt: &R, error: &clap::Error) -> io::Result<()> {
     let alloc = rt.alloc();
     let Ok(text) = format!(in alloc; "{error}") else {
@@ -178,8 +183,8 @@ fn print_text<R: Print + AllocGlobal>(rt: &R, error: &clap::Error) -> u8 {
     }
 }
 
-/// Does what the words ask for. It answers the exit status, and the reason where that is wanted: by the
-/// words, or since `is_wanted` says so.
+/// Does what the words ask for. It returns the exit status, and the reason if that is wanted: by the
+/// words, or because `is_wanted` says so.
 fn answer_words<R: Files + Input + Print + AllocGlobal>(
     rt: &R,
     words: &[String],
@@ -189,21 +194,26 @@ where
     R::File: Owned + IsTerminal,
     R::Reader: IsTerminal,
 {
-    match asked(rt.alloc(), words) {
-        Ok(ParsedArgs { job, explain }) => {
+    match parse_args(rt.alloc(), words) {
+        Ok(
+            ParsedArgs {
+                subcommand,
+                explain,
+            },
+        ) => {
             let is_wanted = is_wanted || explain;
-            let Outcome { exit, reason } = perform(rt, &job, is_wanted);
+            let Outcome { exit, reason } = perform(rt, &subcommand, is_wanted);
             let reason = if is_wanted { reason } else { None };
             (exit.status(), reason)
         }
         Err(fault) => match fault {
-            JobFault::Words(error) => (print_text(rt, &error), None),
-            JobFault::NoMemory => (no_memory(rt).status(), None),
+            ArgsFault::Words(error) => (print_text(rt, &error), None),
+            ArgsFault::NoMemory => (no_memory(rt).status(), None),
         },
     }
 }
 
-/// Does what the words ask for, and answers the exit status. No reason is written.
+/// Does what the words ask for, and returns the exit status. No reason is written.
 pub fn run_words<R: Files + Input + Print + AllocGlobal>(rt: &R, words: &[String]) -> u8
 where
     R::File: Owned + IsTerminal,
@@ -213,8 +223,8 @@ where
     status
 }
 
-/// Does what `run_words` does, and writes the reason of a refusal to standard error, where the words
-/// have `--explain` or `is_wanted` is set. Where it can't be written nothing else changes.
+/// Does what `run_words` does, and writes the reason of a refusal to standard error if the words
+/// have `--explain` or `is_wanted` is set. If it can't be written, nothing else changes.
 pub fn run_explained<R: Files + Input + Print + Eprint + AllocGlobal>(
     rt: &R,
     words: &[String],

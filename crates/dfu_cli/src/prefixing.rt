@@ -24,7 +24,7 @@ impl<'t, W> Prefixed<'t, W> {
 }
 
 impl<W: Write> Prefixed<'_, W> {
-    /// Writes the text, where a line begins.
+    /// Writes the text, if a line begins.
     fn begin(&mut self) -> io::Result<()> {
         if self.is_begun || self.text.is_empty() {
             return Ok(());

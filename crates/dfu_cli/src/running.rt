@@ -37,7 +37,7 @@ pub(crate) fn stop_text<W: Write>(alloc: Global, fault: ScriptFault, writer: &mu
     }
 }
 
-/// Writes the line for a script that came to this end, if it stopped, and returns beside the end the fault at which it did.
+/// Writes the line for a script that came to this end, if it stopped, and returns the end and the fault at which it did.
 pub(crate) fn end_text<W: Write>(
     alloc: Global,
     answer: Result<(), ScriptFault>,
@@ -57,11 +57,11 @@ pub(crate) fn end_text<W: Write>(
 
 /// Runs the script that the reader gives, and writes what it prints; with Done the last line is
 /// that of the active image. For a script that stopped the line is `refused NAME` with Refused, for
-/// BadLine, LateConfig and Expected with the number of the line behind it, or `fault Read` with Fault; what
-/// the lines before printed stands before it. Where the line with a number finds no memory it is
+/// BadLine, LateConfig and Expected with the number of the line after it, or `fault Read` with Fault; what
+/// the lines before printed precedes it. If there is no memory for the line with a number, it is
 /// `refused NoMemory`.
 ///
-/// Where the writer fails it answers Fault; a front of the text is out, not all of it, and nothing
+/// If the writer fails, it returns Fault; a front of the text is out, not all of it, and nothing
 /// more is written.
 pub fn run_text<R: Read + Drop, W: Write>(alloc: Global, reader: R, writer: &mut W) -> Exit
     ensures run { WritesRun None (R.remaining reader) (W.contents writer.old) (W.contents writer.new) result }
@@ -71,8 +71,8 @@ pub fn run_text<R: Read + Drop, W: Write>(alloc: Global, reader: R, writer: &mut
     exit
 }
 
-/// Does what `run_text` does, where FILE stands for the bytes of `file`, if there are any, and returns
-/// beside the end the fault at which the script stopped; what is wrong with the script is noted in `stopped`.
+/// Does what `run_text` does, with the bytes of `file` as FILE, if there are any, and returns
+/// with the end the fault at which the script stopped; what is wrong with the script is noted in `stopped`.
 pub(crate) fn run_with_fault<R: Read + Drop, W: Write>(
     alloc: Global,
     file: Option<&[u8]>,
@@ -90,7 +90,7 @@ pub(crate) fn run_with_fault<R: Read + Drop, W: Write>(
 }
 
 /// Does what `run_with_fault` does, with a line for each action of the host to `trace`, as
-/// `dfu_link::script_traced_with` writes it. It returns beside the end and the fault whether each line of the
+/// `dfu_link::script_traced_with` writes it. It returns the end, the fault, and whether each line of the
 /// trace is out.
 pub(crate) fn run_traced_with_fault<R: Read + Drop, W: Write, N: Write>(
     alloc: Global,

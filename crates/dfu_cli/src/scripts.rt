@@ -16,11 +16,11 @@ use std::alloc::Global;
 use std::io::{self, BufWriter, IsTerminal, Printer, Read, Write};
 use std::rt::Files;
 
-/// How many bytes the buffer of `run` has. Two writes after one another put out at least so many,
+/// How many bytes the buffer of `run` has. Two writes after one another put out at least this many,
 /// whatever the lines are; so there is at most one for each 8,192 bytes, and one more.
 const BUFFER: usize = 16_384;
 
-/// A buffer in front of the output: with this room, or where there is no memory for that, with none,
+/// A buffer in front of the output: with this room, or, if there is no memory for that, with none,
 /// so that each text goes through at once.
 fn buffer_of<R: Print + AllocGlobal>(rt: &R, room: usize) -> BufWriter<Printer<'_, R>> {
     if let Ok(buffer) = BufWriter::with_capacity(rt.alloc(), room, io::writer(rt)) {
@@ -35,18 +35,18 @@ fn buffer_of<R: Print + AllocGlobal>(rt: &R, room: usize) -> BufWriter<Printer<'
 /// How a script is run, beside its own lines.
 #[derive(Clone, Copy)]
 pub(crate) struct Ways<'f> {
-    /// Whether each action of the host is told.
+    /// Whether each action of the host is printed.
     pub trace: bool,
     /// Whether a board plays each event too.
     pub board: bool,
-    /// The bytes that FILE stands for, if there are any.
+    /// The bytes of FILE, if there are any.
     pub file: Option<&'f [u8]>,
     /// Whether the reason is wanted if it stops.
     pub explain: bool,
 }
 
 impl Ways<'_> {
-    /// These ways, and no bytes that FILE stands for.
+    /// These ways, and no bytes of FILE.
     pub(crate) fn without_file(trace: bool, board: bool, explain: bool) -> Ways<'static>
         ensures trace { result.trace ≡ trace }
         ensures board { result.board ≡ board }
@@ -62,26 +62,17 @@ impl Ways<'_> {
     }
 }
 
-/// Why a script stopped, where its line doesn't say it.
-fn stop_reason<S>(
-    alloc: Global,
-    name: &str,
-    stop: BoardStop,
-    stopped: &Stopped,
-    watched: &Watched<S>,
-) -> Option<String> {
-    match stop {
-        BoardStop::Fault(fault) => fault_reason(alloc, name, fault, stopped, watched),
-        BoardStop::Differs(number) => line_reason(
-            alloc,
-            name,
-            number,
-            "after an event of it the board differs from the device; report that, with the script",
-        ),
-    }
+/// Why a script stopped at an event of this line, after which the board differs from the device.
+fn differs_reason(alloc: Global, name: &str, number: u32) -> Option<String> {
+    line_reason(
+        alloc,
+        name,
+        number,
+        "after an event of it the board differs from the device; report that, with the script",
+    )
 }
 
-/// Why a script stopped at a fault, where its line doesn't say it.
+/// Why a script stopped at a fault, if its line doesn't say it.
 fn fault_reason<S>(
     alloc: Global,
     name: &str,
@@ -140,34 +131,52 @@ fn line_reason(alloc: Global, name: &str, number: u32, why: &str) -> Option<Stri
     }
 }
 
-/// Runs a script on a board too, with its trace if that is wanted, as `run_traced` does.
-fn run_beside<R: Read + Drop, W: Write + Drop>(
+/// Runs a script with its trace, on a board too, or both: the writers share the buffer. It returns the end, where the script
+/// stopped, if it did, and whether each line of the trace is out.
+fn run_shared<R: Read + Drop, W: Write + Drop>(
+    alloc: Global,
+    ways: Ways<'_>,
+    reader: R,
+    shared: &Shared<W>,
+    stopped: &Stopped,
+) -> (Exit, Option<BoardStop>, bool) {
+    let mut writer = shared.writer();
+    let mut trace = shared.writer();
+    if !ways.board {
+        let (exit, fault, is_traced) = run_traced_with_fault(
+            alloc,
+            ways.file,
+            reader,
+            &mut writer,
+            &mut trace,
+            stopped,
+        );
+        return (exit, fault.map(BoardStop::Fault), is_traced);
+    }
+    if ways.trace {
+        let (exit, stop, _, is_traced) = run_beside_traced_with_stop(
+            alloc, ways.file, reader, writer, &mut trace, stopped,
+        );
+        return (exit, stop, is_traced);
+    }
+    let (exit, stop, _) = run_beside_with_stop(alloc, ways.file, reader, writer, stopped);
+    (exit, stop, true)
+}
+
+/// Runs a script in these ways. If a line of the trace isn't out, or what is printed, the end is Fault.
+fn run_in<R: Read + Drop, W: Write + Drop>(
     alloc: Global,
     ways: Ways<'_>,
     reader: R,
     buffer: BufWriter<W>,
     stopped: &Stopped,
 ) -> (Exit, Option<BoardStop>) {
+    if !ways.trace && !ways.board {
+        let (exit, fault, _) = run_buffered_with_fault(alloc, ways.file, reader, buffer, stopped);
+        return (exit, fault.map(BoardStop::Fault));
+    }
     let shared = Shared::new(buffer);
-    let (exit, stop, _, is_traced) = if ways.trace {
-        run_beside_traced_with_stop(
-            alloc,
-            ways.file,
-            reader,
-            shared.writer(),
-            &mut shared.writer(),
-            stopped,
-        )
-    } else {
-        let (exit, stop, writer) = run_beside_with_stop(
-            alloc,
-            ways.file,
-            reader,
-            shared.writer(),
-            stopped,
-        );
-        (exit, stop, writer, true)
-    };
+    let (exit, stop, is_traced) = run_shared(alloc, ways, reader, &shared, stopped);
     if shared.finish() && is_traced {
         (exit, stop)
     } else {
@@ -175,48 +184,8 @@ fn run_beside<R: Read + Drop, W: Write + Drop>(
     }
 }
 
-/// Runs a script with its trace: both have a writer of their own, and share the buffer. Where a line of the trace
-/// isn't out, or what is printed, the end is Fault.
-fn run_traced<R: Read + Drop, W: Write + Drop>(
-    alloc: Global,
-    file: Option<&[u8]>,
-    reader: R,
-    buffer: BufWriter<W>,
-    stopped: &Stopped,
-) -> (Exit, Option<ScriptFault>) {
-    let shared = Shared::new(buffer);
-    let (exit, fault, is_traced) = run_traced_with_fault(
-        alloc,
-        file,
-        reader,
-        &mut shared.writer(),
-        &mut shared.writer(),
-        stopped,
-    );
-    if shared.finish() && is_traced {
-        (exit, fault)
-    } else {
-        (Exit::Fault, fault)
-    }
-}
-
-/// Runs a script on the device alone, with its trace if that is wanted.
-fn run_alone<R: Read + Drop, W: Write + Drop>(
-    alloc: Global,
-    ways: Ways<'_>,
-    reader: R,
-    buffer: BufWriter<W>,
-    stopped: &Stopped,
-) -> (Exit, Option<ScriptFault>) {
-    if ways.trace {
-        return run_traced(alloc, ways.file, reader, buffer, stopped);
-    }
-    let (exit, fault, _) = run_buffered_with_fault(alloc, ways.file, reader, buffer, stopped);
-    (exit, fault)
-}
-
-/// Runs a script through a buffer, so that it makes few writes. Where the script is typed at a
-/// terminal, what a line prints is out before the next one is waited for, so the buffer has no room.
+/// Runs a script through a buffer, so that it makes few writes. If the script is typed at a
+/// terminal, the buffer has no room, so that what a line prints is out before the next one is read.
 fn run_from<R: Print + AllocGlobal, S: Read + IsTerminal + Drop>(
     rt: &R,
     name: &str,
@@ -227,20 +196,18 @@ fn run_from<R: Print + AllocGlobal, S: Read + IsTerminal + Drop>(
     let room = if script.is_terminal() { 0 } else { BUFFER };
     let mut watched = Watched::new(script);
     let stopped = Stopped::new();
-    let (exit, stop) = if ways.board {
-        run_beside(alloc, ways, &mut watched, buffer_of(rt, room), &stopped)
-    } else {
-        let (exit, fault) = run_alone(alloc, ways, &mut watched, buffer_of(rt, room), &stopped);
-        (exit, fault.map(BoardStop::Fault))
-    };
+    let (exit, stop) = run_in(alloc, ways, &mut watched, buffer_of(rt, room), &stopped);
     let reason = match stop {
-        Some(stop) if ways.explain => stop_reason(alloc, name, stop, &stopped, &watched),
+        Some(BoardStop::Fault(fault)) if ways.explain => {
+            fault_reason(alloc, name, fault, &stopped, &watched)
+        }
+        Some(BoardStop::Differs(number)) if ways.explain => differs_reason(alloc, name, number),
         _ => None,
     };
     Outcome { exit, reason }
 }
 
-/// Runs a script, or that of standard input where the name is `-`, in these ways.
+/// Runs a script, or that of standard input if the name is `-`, in these ways.
 pub(crate) fn run_script<R: Files + Input + Print + AllocGlobal>(
     rt: &R,
     script: &str,

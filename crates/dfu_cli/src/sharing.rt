@@ -27,7 +27,7 @@ impl<W: Write + Drop> Shared<W> {
         SharedWriter(self)
     }
 
-    /// Writes what the buffer still holds, and answers whether all that was written is out.
+    /// Writes what the buffer still holds, and returns whether all that was written is out.
     pub(crate) fn finish(self) -> bool {
         let Output { buffer, is_broken } = self.0.into_inner();
         if is_broken {

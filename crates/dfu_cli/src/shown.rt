@@ -32,7 +32,7 @@ fn why(line: &[u8]) -> Option<&'static str> {
     }
 }
 
-/// The line that says why bytes of this kind are refused, where that line was printed.
+/// The line that says why bytes of this kind are refused, if that line was printed.
 pub(crate) fn show_reason(alloc: Global, kind: &str, line: &[u8]) -> Option<String> {
     let why = why(line)?;
     match reason_line(alloc, "", kind, why) {

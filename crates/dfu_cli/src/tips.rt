@@ -44,7 +44,7 @@ fn push_tips(text: &mut String, option: &str, tips: &str) -> Result<(), AllocErr
     Ok(())
 }
 
-/// The parser's text, where it says of an option that another command has it which command that is, and of no option how it would be a
+/// The parser's text: for an option that another command has, it says which command that is, and for no option how it would be a
 /// value.
 pub(crate) fn advised(alloc: Global, text: &str) -> Result<String, AllocError> {
     let Some((line, rest)) = text.split_once('\n') else {

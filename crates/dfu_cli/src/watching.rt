@@ -11,7 +11,7 @@ pub(crate) struct Watched<R> {
 }
 
 impl<R> Watched<R> {
-    /// A reader of which nothing was read.
+    /// A reader from which nothing was read yet.
     pub(crate) fn new(reader: R) -> Watched<R> {
         Watched {
             reader,

@@ -1,10 +1,10 @@
 //! Why words are refused.
 
-ghost use Rattle.std.specs.Prelude.{◌≡◌, IfOk, IfSome, None, codes, is_some, true};
+ghost use Rattle.std.specs.Prelude.{◌≡◌, IfOk, IfSome, None, is_some, true};
 ghost use Rattle.std.specs.String.{string_bytes};
 ghost use Rattle.dfu_output.specs.ReasonLines.{reason_line};
 ghost use Rattle.dfu_cli.specs.Identifiers.{ids_said};
-ghost use Rattle.dfu_cli.specs.WordReasons.{device_why, file_why, fill_why, format_why, interface_why, kind_why, lone_fill_why, no_change_why, out_why};
+ghost use Rattle.dfu_cli.specs.WordReasons.{label_and_why};
 
 use crate::identifiers::{IdTexts, wrong_option};
 use dfu_output::{Outcome, bad_words, reason_line};
@@ -19,7 +19,16 @@ pub(crate) fn refused<R: Print>(rt: &R, reason: Option<String>) -> Outcome {
     }
 }
 
-/// The line, where there was memory for it.
+/// Refuses a word that has this fault.
+pub(crate) fn refused_word<R: Print + AllocGlobal>(
+    rt: &R,
+    fault: WordFault,
+    word: &str,
+) -> Outcome {
+    refused(rt, word_reason(rt.alloc(), fault, word))
+}
+
+/// The line, if there was memory for it.
 fn made(line: Result<String, AllocError>) -> Option<String>
     ensures { (t : _) → IfOk line (λ s. string_bytes s ≡ t) → IfSome result (λ s. string_bytes s ≡ t) }
 {
@@ -29,7 +38,7 @@ fn made(line: Result<String, AllocError>) -> Option<String>
     }
 }
 
-/// Why one of the three identifiers is none: of the first one that is wrong.
+/// Why the first wrong one of the three identifiers is refused.
 pub(crate) fn bad_identifier(alloc: Global, texts: &IdTexts<'_>) -> Option<String>
     ensures sound { is_some (ids_said texts.now.vendor.now texts.now.product.now texts.now.device.now) ≡ true → result ≡ None }
 {
@@ -42,83 +51,66 @@ pub(crate) fn bad_identifier(alloc: Global, texts: &IdTexts<'_>) -> Option<Strin
     }
 }
 
-/// Why KIND is none.
-#[tactic(auto, unfolding(crate::specs::WordReasons::kind_why))]
-pub(crate) fn bad_kind(alloc: Global, kind: &str) -> Option<String>
-    ensures { IfSome result (λ t. string_bytes t ≡ reason_line (codes "KIND ") kind.now kind_why) }
-{
-    let why = "it has to be functional, status, state, setup or configuration";
-    made(reason_line(alloc, "KIND ", kind, why))
+/// What is wrong with a word.
+#[derive(Clone, Copy)]
+pub(crate) enum WordFault {
+    /// KIND is unknown.
+    Kind,
+    /// OUT can't be `-`.
+    Out,
+    /// FILE, which changes, can't be `-`.
+    Place,
+    /// A format is unknown.
+    Format,
+    /// A byte for gaps isn't two digits.
+    Fill,
+    /// A raw image has no byte for gaps.
+    LoneFill,
+    /// No identifier of FILE changes.
+    NoChange,
+    /// A script and its file can't both be standard input.
+    File,
+    /// An interface is no number below 256.
+    Interface,
+    /// A device of a capture isn't a bus and a device.
+    Device,
 }
 
-/// Why OUT, or FILE, as the label says, can't be `-`.
-#[tactic(auto, unfolding(crate::specs::WordReasons::out_why))]
-pub(crate) fn bad_place(alloc: Global, label: &str) -> Option<String>
-    ensures { IfSome result (λ t. string_bytes t ≡ reason_line label.now (codes "-") out_why) }
+/// What precedes a word that has this fault, and why it is refused.
+fn label_and_why(fault: WordFault) -> (&'static str, &'static str)
+    ensures label { result.0.now ≡ (label_and_why fault).0 }
+    ensures why { result.1.now ≡ (label_and_why fault).1 }
 {
-    let why = "it has to be a file, as ./- for one with this name";
-    made(reason_line(alloc, label, "-", why))
+    match fault {
+        WordFault::Kind => (
+            "KIND ",
+            "it has to be functional, status, state, setup or configuration",
+        ),
+        WordFault::Out => ("OUT ", "it has to be a file, as ./- for one with this name"),
+        WordFault::Place => (
+            "FILE ",
+            "it has to be a file, as ./- for one with this name",
+        ),
+        WordFault::Format => (
+            "--format ",
+            "it has to be raw, auto, ihex, srec, uf2 or elf",
+        ),
+        WordFault::Fill => ("--fill ", "it has to be two hexadecimal digits, as ff"),
+        WordFault::LoneFill => ("--fill ", "a raw image has no gaps; it goes with --format"),
+        WordFault::NoChange => ("FILE ", "nothing is to change: give --vid, --pid or --did"),
+        WordFault::File => ("--file ", "the script is standard input already"),
+        WordFault::Interface => ("--interface ", "it has to be a number from 0 to 255"),
+        WordFault::Device => (
+            "--device ",
+            "it has to be only, or a bus and a device, as 1.7",
+        ),
+    }
 }
 
-/// Why a format is none.
-#[tactic(auto, unfolding(crate::specs::WordReasons::format_why))]
-pub(crate) fn bad_format(alloc: Global, format: &str) -> Option<String>
-    ensures { IfSome result (λ t. string_bytes t ≡ reason_line (codes "--format ") format.now format_why) }
+/// Why a word is refused that has this fault.
+pub(crate) fn word_reason(alloc: Global, fault: WordFault, word: &str) -> Option<String>
+    ensures { IfSome result (λ t. string_bytes t ≡ reason_line (label_and_why fault).0 word.now (label_and_why fault).1) }
 {
-    let why = "it has to be raw, auto, ihex, srec, uf2 or elf";
-    made(reason_line(alloc, "--format ", format, why))
-}
-
-/// Why a byte for gaps is none.
-#[tactic(auto, unfolding(crate::specs::WordReasons::fill_why))]
-pub(crate) fn bad_fill(alloc: Global, fill: &str) -> Option<String>
-    ensures { IfSome result (λ t. string_bytes t ≡ reason_line (codes "--fill ") fill.now fill_why) }
-{
-    let why = "it has to be two hexadecimal digits, as ff";
-    made(reason_line(alloc, "--fill ", fill, why))
-}
-
-/// Why a raw image has no byte for gaps.
-#[tactic(auto, unfolding(crate::specs::WordReasons::lone_fill_why))]
-pub(crate) fn lone_fill(alloc: Global, fill: &str) -> Option<String>
-    ensures { IfSome result (λ t. string_bytes t ≡ reason_line (codes "--fill ") fill.now lone_fill_why) }
-{
-    let why = "a raw image has no gaps; it goes with --format";
-    made(reason_line(alloc, "--fill ", fill, why))
-}
-
-/// Why no identifier of a file changes.
-#[tactic(auto, unfolding(crate::specs::WordReasons::no_change_why))]
-pub(crate) fn no_change(alloc: Global, file: &str) -> Option<String>
-    ensures { IfSome result (λ t. string_bytes t ≡ reason_line (codes "FILE ") file.now no_change_why) }
-{
-    let why = "nothing is to change: give --vid, --pid or --did";
-    made(reason_line(alloc, "FILE ", file, why))
-}
-
-/// Why a script and its file can't both be standard input.
-#[tactic(auto, unfolding(crate::specs::WordReasons::file_why))]
-pub(crate) fn bad_file(alloc: Global) -> Option<String>
-    ensures { IfSome result (λ t. string_bytes t ≡ reason_line (codes "--file ") (codes "-") file_why) }
-{
-    let why = "the script is standard input already";
-    made(reason_line(alloc, "--file ", "-", why))
-}
-
-/// Why an interface is none.
-#[tactic(auto, unfolding(crate::specs::WordReasons::interface_why))]
-pub(crate) fn bad_interface(alloc: Global, interface: &str) -> Option<String>
-    ensures { IfSome result (λ t. string_bytes t ≡ reason_line (codes "--interface ") interface.now interface_why) }
-{
-    let why = "it has to be a number from 0 to 255";
-    made(reason_line(alloc, "--interface ", interface, why))
-}
-
-/// Why a device of a capture is none.
-#[tactic(auto, unfolding(crate::specs::WordReasons::device_why))]
-pub(crate) fn bad_device(alloc: Global, device: &str) -> Option<String>
-    ensures { IfSome result (λ t. string_bytes t ≡ reason_line (codes "--device ") device.now device_why) }
-{
-    let why = "it has to be only, or a bus and a device, as 1.7";
-    made(reason_line(alloc, "--device ", device, why))
+    let (label, why) = label_and_why(fault);
+    made(reason_line(alloc, label, word, why))
 }

@@ -27,7 +27,7 @@ fn words_of(rt: &HostRuntime) -> io::Result<Vec<String>> {
     Ok(words)
 }
 
-/// What the words say where one of them isn't text: the place of the first such word, and whether
+/// What the words say if one of them isn't text: the place of the first such word, and whether
 /// the reason is asked for.
 fn looked_at(rt: &HostRuntime) -> (usize, bool) {
     let mut wrong = 0;
@@ -51,7 +51,7 @@ fn looked_at(rt: &HostRuntime) -> (usize, bool) {
 }
 
 /// Why a word isn't understood that isn't UTF-8 text, as some names of files: `place` is its place,
-/// counted from 1 behind the program's name.
+/// counted from 1 after the program's name.
 fn unread_word(alloc: Global, place: usize) -> Option<String>
     ensures { IfSome result (λ t. string_bytes t ≡ reason_line (codes "word ") (decimal place)
         (codes "it has to be UTF-8 text; a file with another name can be given as standard input")) }
@@ -66,7 +66,7 @@ fn unread_word(alloc: Global, place: usize) -> Option<String>
     }
 }
 
-/// Refuses words of which one isn't text.
+/// Refuses words if one of them isn't text.
 fn refuse_word(rt: &HostRuntime, is_wanted: bool) -> Exit {
     let exit = bad_words(&mut io::writer(rt));
     let (place, explain) = looked_at(rt);

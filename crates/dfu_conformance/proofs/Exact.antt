@@ -1,4 +1,4 @@
--- The step of a judge is exact: it holds a device where some run of it ends.
+-- The step of a judge is exact: it holds a device at the places where a run of it ends.
 use Rattle.std.specs.Prelude.{◌≡◌, ◌⊎◌, ◌↔◌, ℕ, ◌&&◌, ◌||◌, Bool, true, List, [], ◌∷◌, ◌++◌}
 use Rattle.std.specs.List.{list_any}
 use Rattle.std.proofs.Common.{refl, sym, ap, ◌∙◌, inl, inr}
@@ -50,7 +50,7 @@ led_back s m h held e p n a r is (inr (inr (inl g))) = or_right _ _ (led_by h (�
 led_back s m h held e p n a r is (inr (inr (inr (same, stay)))) =
     or_left _ _ (or_left _ _ (or_left _ _ (and_from _ _ stay (ap (λ (q : StandardState). stands held q a r) same ∙ is))))
 
--- A device is held at a place after an event exactly where it was held somewhere, and the event may lead it there.
+-- A device is held at a place after an event exactly if it was held somewhere, and the event may lead it there.
 pub answered_exact : (held : List (List ℕ)) (e : LogEvent) (n : StandardState) (a r : ℕ)
     → (answered held e n a r ≡ true) ↔ ((p : StandardState) × (stands held p a r ≡ true) × MayAnswer a r p e n)
 answered_exact held e n a r = (
@@ -79,7 +79,7 @@ run_more a r p (f ∷ events) e n = (
   λ x. (x.2.0, x.2.1, x.2.2, x.2.3, (run_more a r x.2.1 events e n).1 (x.0, x.1, x.2.4, x.3, x.4)),
 )
 
--- Exactly the devices are held that may have answered so: after one event more they are those of the step.
+-- The devices that may have answered so are held, and only they: after one event more they are those of the step.
 pub held_more : (held after : List (List ℕ)) (events : List LogEvent) (e : LogEvent) (a r : ℕ)
     → ((p : StandardState) → (stands held p a r ≡ true) ↔ ComesTo a r events p)
     → ((n : StandardState) → stands after n a r ≡ stepped held e n a r)

@@ -6,11 +6,11 @@ use Rattle.std.proofs.lemmas.Bool.{ltb-false, false_from_ne_true, cond-true}
 use Rattle.std.proofs.lemmas.List.Sums.{prefix_len-le-length}
 use Rattle.std.proofs.lemmas.Option.{cond_some, none-some}
 
--- A place that was found is where the first such element stands.
+-- A place that was found is that of the first such element.
 pub found : {X : Type 0} (p : X → Bool) (xs : List X) (at : ℕ) → position p xs ≡ Some at → at ≡ position_or_len p xs
 found p xs at e = sym (cond_some (nat_lt (position_or_len p xs) (length xs)) (position_or_len p xs) at e).1
 
--- Where none was found, it would stand at the end.
+-- If none was found, the place is the end.
 pub not_found : {X : Type 0} (p : X → Bool) (xs : List X) → position p xs ≡ None → length xs ≡ position_or_len p xs
 not_found p xs e =
     let at = position_or_len p xs in

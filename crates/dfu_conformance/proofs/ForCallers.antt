@@ -47,7 +47,7 @@ gives_back gives.Full = refl
 gives_back gives.Short = refl
 gives_back gives.Silent = refl
 
--- Of which devices a row speaks, by number.
+-- For which devices a row is, by number.
 abbrev pub when_number : When → ℕ
 when_number Always = 0
 when_number CanDownload = 1
@@ -146,7 +146,7 @@ all_follow : list_all (λ (d : Drift). list_all (λ (e : Drift). follow d e) DRI
 unfolding follow closes
 all_follow = refl
 
--- What all elements of a list pass each passes.
+-- If all elements of a list pass a test, each one does.
 pub passes : {X : Type 0} (p : X → Bool) (xs : List X) (x : X) → Contains xs x → list_all p xs ≡ true → p x ≡ true
 passes p xs x (k, in', is) all = true_from_ne_false (p x) (λ fails.
     both_ways (list_all p xs) (list_all_at p xs k x in' (ap p is ∙ fails)) all)

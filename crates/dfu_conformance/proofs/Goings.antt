@@ -1,4 +1,4 @@
--- A device goes by a row or a move of a list, and is led by one: the places where it may stand are those of a test.
+-- A device goes by a row or a move of a list exactly if one leads it: the places where it may be are those of a test.
 use Rattle.std.specs.Prelude.{◌≡◌, ◌⊎◌, ℕ, ◌==◌, ◌&&◌, ◌||◌, Bool, true, List}
 use Rattle.std.specs.List.{list_any}
 use Rattle.std.proofs.Common.{refl, ap, ◌∙◌, inl, inr}
@@ -13,11 +13,11 @@ use Rattle.dfu_conformance.specs.Held.{meets}
 use Rattle.dfu_conformance.specs.MayAnswer.{GoesBy, MovesBy}
 use Rattle.dfu_conformance.proofs.Places.{same_place}
 
--- The row leads a device to this place, from where it may stand.
+-- The row leads a device to this place, from where it may be.
 abbrev pub leads_from : (StandardState → Bool) → LogEvent → StandardState → (attributes readings : ℕ) → Row → Bool
 leads_from held e n a r row = (place_number row.next == place_number n) && (fits row e && (held row.from && meets row.when a r))
 
--- A row that leads there is one by which a device goes.
+-- A device goes by a row that leads there.
 pub goes_by : (rows : List Row) (held : StandardState → Bool) (e : LogEvent) (n : StandardState) (a r : ℕ)
     → list_any (leads_from held e n a r) rows ≡ true
     → (p : StandardState) × (held p ≡ true) × GoesBy rows a r p e n
@@ -38,7 +38,7 @@ goes_by rows held e n a r some =
       },
     )
 
--- Where a device goes by a row, the row leads there.
+-- If a device goes by a row, the row leads there.
 pub led_by : (rows : List Row) (held : StandardState → Bool) (e : LogEvent) (p n : StandardState) (a r : ℕ) → held p ≡ true
     → GoesBy rows a r p e n
     → list_any (leads_from held e n a r) rows ≡ true

@@ -6,7 +6,7 @@ use Rattle.std.proofs.lemmas.Bool.{cases_eq}
 use Rattle.std.proofs.lemmas.Nat.Bits.{bit_at_and, bit_at_or, bit_at-lt}
 use Rattle.dfu_conformance.specs.Held.{word_has_bit}
 
--- The greater of a bit and the smaller of two is 1 where the first is, or both others are.
+-- The greater of a bit and the smaller of two is 1 if the first is, or both others are.
 bits_join : (p q s : ℕ) → p < 2 → q < 2 → s < 2 → (max p (min q s) == 1) ≡ ((p == 1) || ((q == 1) && (s == 1)))
 bits_join zero zero zero a b c = refl
 bits_join zero zero (suc zero) a b c = refl

@@ -4,7 +4,7 @@ use Rattle.std.proofs.Common.{refl, ap, ◌∙◌, inl, inr, arith}
 use Rattle.std.proofs.lemmas.Bool.{cases_eq, both_ways, cond_both, leb-true, leb-false}
 use Rattle.dfu_conformance.specs.inside.Stepped.{better_of, least_below}
 
--- Of the sets of readings below n this one is the least that passes, or none passes.
+-- This one is the least set of readings below n that passes, or none passes.
 abbrev pub LeastTo : (ℕ → Bool) → ℕ → Option ℕ → Type 0
 LeastTo p n None = (r : ℕ) → r < n → p r ≡ false
 LeastTo p n (Some s) = (s < n) × (p s ≡ true)
@@ -25,7 +25,7 @@ skipped p n (Some s) off so = (
   so.3,
 )
 
--- One set more, which passes and has isnt fewer readings.
+-- One set more, which passes and doesn't have fewer readings.
 outdone : (p : ℕ → Bool) (n s : ℕ) → count_ones s ≤ count_ones n → LeastTo p n (Some s) → LeastTo p (suc n) (Some s)
 outdone p n s more so = (
   omega (arith, so.0),

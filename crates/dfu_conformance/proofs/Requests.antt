@@ -1,4 +1,4 @@
--- The rows of a reset and of power speak of no request.
+-- The rows of a reset and of power are about no request.
 use Rattle.std.specs.Prelude.{◌≡◌, ℕ, ◌≤◌, nat_le, Bool, true, false, List}
 use Rattle.std.specs.List.{list_any, list_all}
 use Rattle.std.proofs.Common.{refl, arith, inl, inr}
@@ -26,7 +26,7 @@ apart x y above below same = omega arith
 not_eight : (x : ℕ) → 9 ≤ x → x ≡ 8 → ⊥
 not_eight x above same = omega arith
 
--- A request is led nowhere by them.
+-- They lead a request nowhere.
 pub none_lead : (held : List (List ℕ)) (e : LogEvent) (n : StandardState) (a r : ℕ) → asked_number e.asked ≤ 8
     → list_any (leads held e n a r) MARKS ≡ false
 unfolding is_mark

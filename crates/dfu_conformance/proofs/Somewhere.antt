@@ -1,4 +1,4 @@
--- A device is held somewhere exactly where some run ends.
+-- A device is held exactly at the places where a run ends.
 use Rattle.std.specs.Prelude.{◌≡◌, ◌↔◌, ℕ, ◌<◌, zero, suc, Bool, true, List, [], slice_index_or}
 use Rattle.std.proofs.Common.{sym, ap, ◌∙◌, inl, inr, arith}
 use Rattle.std.proofs.lemmas.Bool.{or_cases, or_left, or_right, cases_eq}
@@ -10,7 +10,7 @@ use Rattle.dfu_conformance.specs.MayAnswer.{ComesTo, CanAnswer}
 use Rattle.dfu_conformance.specs.inside.Stepped.{some_below, some_held, anywhere}
 use Rattle.dfu_conformance.proofs.Places.{place_of, number_back, number_below}
 
--- Where a test passes at a number, it passes at some number.
+-- If a test passes at a number, it passes at some number.
 pub some_there : (p : ℕ → Bool) (n k : ℕ) → k < n → p k ≡ true → some_below p n ≡ true
 some_there p zero k below is_so = absurd (omega arith)
 some_there p (suc n) k below is_so = elim (cases_eq k n) [
@@ -18,7 +18,7 @@ some_there p (suc n) k below is_so = elim (cases_eq k n) [
   | inr other ↦ or_left _ _ (some_there p n k (omega arith) is_so)
 ]
 
--- Where a test passes at some number, there is one.
+-- If a test passes at some number, there is one.
 pub some_from : (p : ℕ → Bool) (n : ℕ) → some_below p n ≡ true → (k : ℕ) × (k < n) × (p k ≡ true)
 some_from p zero is_so = absurd cc
 some_from p (suc n) is_so = elim (or_cases (some_below p n) (p n) is_so) [
@@ -26,17 +26,17 @@ some_from p (suc n) is_so = elim (or_cases (some_below p n) (p n) is_so) [
   | inr here ↦ (n, omega arith, here)
 ]
 
--- Some device is held in these words exactly where one is at some bmAttributes.
+-- Some device is held in these words exactly if one is at some bmAttributes.
 pub held_some : (words : List ℕ) (r : ℕ) → (some_held words r ≡ true) ↔ ((a : ℕ) × (a < 16) × (word_has_bit words a r ≡ true))
 unfolding some_held
 held_some words r = (some_from (λ (a : ℕ). word_has_bit words a r) 16, λ x. some_there (λ (a : ℕ). word_has_bit words a r) 16 x.0 x.1 x.2)
 
--- At a place that is held exactly where some device may stand.
+-- A place is held exactly if some device may be there.
 pub held_at : (held : List (List ℕ)) (r : ℕ) (p : StandardState)
     → (some_held (slice_index_or held (place_number p) []) r ≡ true) ↔ ((a : ℕ) × (a < 16) × (stands held p a r ≡ true))
 held_at held r p = held_some (slice_index_or held (place_number p) []) r
 
--- A device is held somewhere exactly where it is at some place.
+-- A device is held somewhere exactly if it is at some place.
 pub held_anywhere : (held : List (List ℕ)) (r : ℕ)
     → (anywhere held r ≡ true) ↔ ((p : StandardState) × (a : ℕ) × (a < 16) × (stands held p a r ≡ true))
 unfolding anywhere
@@ -54,7 +54,7 @@ held_anywhere held r = (
 abbrev pub HeldWith : List (List ℕ) → List LogEvent → ℕ → Type 0
 HeldWith held events r = (a : ℕ) (p : StandardState) → a < 16 → (stands held p a r ≡ true) ↔ ComesTo a r events p
 
--- A device with this set of readings is held somewhere exactly where it may have answered so.
+-- A device with this set of readings is held somewhere exactly if it may have answered so.
 pub held_can : (held : List (List ℕ)) (events : List LogEvent) (r : ℕ) → HeldWith held events r
     → (anywhere held r ≡ true) ↔ CanAnswer r events
 held_can held events r so = (
@@ -62,7 +62,7 @@ held_can held events r so = (
   λ x. (held_anywhere held r).1 (x.2, x.0, x.1, (so x.0 x.2 x.1).1 x.3),
 )
 
--- It is held at a place exactly where it may be there.
+-- It is held at a place exactly if it may be there.
 pub held_place : (held : List (List ℕ)) (events : List LogEvent) (r : ℕ) (p : StandardState) → HeldWith held events r
     → (some_held (slice_index_or held (place_number p) []) r ≡ true) ↔ ((a : ℕ) × (a < 16) × ComesTo a r events p)
 held_place held events r p so = (

@@ -16,15 +16,15 @@ use Rattle.dfu_conformance.proofs.Least.{LeastTo, least_to}
 use Rattle.dfu_conformance.proofs.Places.{number_below}
 use Rattle.dfu_conformance.proofs.Somewhere.{HeldWith, held_can, held_place}
 
--- What is held of every set of readings is held of one.
+-- What is held for every set of readings is held for one.
 pub held_with : (held : List (List ℕ)) (events : List LogEvent) (r : ℕ) → r < 64 → IsHeld held events → HeldWith held events r
 held_with held events r within so = λ a p below. so a r p below within
 
--- Where the devices without habits are held somewhere, the device is kept.
+-- If the devices without habits are held somewhere, the device is kept.
 pub is_kept : (held : List (List ℕ)) (events : List LogEvent) → IsHeld held events → anywhere held 0 ≡ true → IsVerdict Kept events
 is_kept held events so is_so = (held_can held events 0 (held_with held events 0 (omega arith) so)).0 is_so
 
--- Where they are not, and some set of readings is the least with which a device is held, it is kept by that set.
+-- If they are not, and this set of readings is the least with which a device is held, it is kept by that set.
 pub is_kept_by : (held : List (List ℕ)) (events : List LogEvent) (s : ℕ) → IsHeld held events → anywhere held 0 ≡ false
     → Some s ≡ least_below (anywhere held) 64 → IsVerdict (KeptBy s) events
 is_kept_by held events s so not_plain is =
@@ -46,31 +46,31 @@ has_bits held s is =
     let least : LeastTo (anywhere held) 64 (Some s) = subst (LeastTo (anywhere held) 64) (sym is) (least_to (anywhere held) 64) in
     least.0
 
--- Where no set of readings is held, no device may have answered so.
+-- If no set of readings is held, no device may have answered so.
 pub is_not_kept : (held : List (List ℕ)) (events : List LogEvent) → IsHeld held events → None ≡ least_below (anywhere held) 64
     → IsVerdict NotKept events
 is_not_kept held events so is = λ r within may.
     let none_held : LeastTo (anywhere held) 64 None = subst (LeastTo (anywhere held) 64) (sym is) (least_to (anywhere held) 64) in
     both_ways (anywhere held r) (none_held r within) ((held_can held events r (held_with held events r within so)).1 may)
 
--- A step of all devices.
+-- The devices after an event are those of a step.
 abbrev pub IsStep : List (List ℕ) → LogEvent → List (List ℕ) → Type 0
 IsStep before e after = (n : StandardState) (a r : ℕ) → a < 16 → r < 64 → stands after n a r ≡ stepped before e n a r
 
--- After a step those are held that may have answered one event more.
+-- After a step the devices that may have answered one event more are held.
 pub held_next : (before after : List (List ℕ)) (events : List LogEvent) (e : LogEvent) → IsStep before e after → IsHeld before events
     → IsHeld after (events ++ e ∷ [])
 held_next before after events e says so a r p below within =
     held_more before after events e a r (λ q. so a r q below within) (λ n. says n a r below within) p
 
--- The same of the devices without habits.
+-- The same for the devices without habits.
 pub held_next_plain : (before after : List (List ℕ)) (events : List LogEvent) (e : LogEvent) → IsStep before e after
     → IsHeldPlain before events
     → IsHeldPlain after (events ++ e ∷ [])
 held_next_plain before after events e says so a p below =
     held_more before after events e a 0 (λ q. so a q below) (λ n. says n a 0 below (omega arith)) p
 
--- Where a device without habits is left, it may have answered so.
+-- If a device without habits is left, it may have answered so.
 pub goes_on : (before after : List (List ℕ)) (events : List LogEvent) (e : LogEvent) → IsStep before e after → IsHeldPlain before events
     → anywhere after 0 ≡ true → CanAnswer 0 (events ++ e ∷ []) × IsHeldPlain after (events ++ e ∷ [])
 goes_on before after events e says so left =
@@ -85,12 +85,12 @@ are_places before at events so places = λ p.
     places (place_number p) (number_below p) in
     (λ here. is.0 (sym same ∙ here), λ x. same ∙ is.1 x)
 
--- What a departure says that is handed out: what came, that no device without habits is left, and where one might be before it.
+-- What a returned departure says: what came, that no device without habits is left, and where one might be before it.
 abbrev pub Told : (before after : List (List ℕ)) → LogEvent → Departure → Type 0
 Told before after e d = (d.event ≡ e) × (anywhere after 0 ≡ false)
     × ((n : ℕ) → n < 12 → slice_index_or d.before n false ≡ some_held (slice_index_or before n []) 0)
 
--- Where none is left, the event is a departure.
+-- If none is left, the event is a departure.
 pub departs : (before after anew : List (List ℕ)) (events : List LogEvent) (e : LogEvent) (d : Departure) → IsStep before e after
     → IsHeldPlain before events → IsHeldPlain anew [] → Told before after e d → Departs events d anew
 departs before after anew events e d says so first (is, none_left, places) = record {

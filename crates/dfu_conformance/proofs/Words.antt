@@ -1,32 +1,17 @@
 -- The constants of the sets of readings.
-use Rattle.std.specs.Prelude.{◌≡◌, ℕ, ◌<◌, ◌==◌, true, false}
+use Rattle.std.specs.Prelude.{◌≡◌, ℕ, ◌<◌, ◌==◌, Bool, true, false, slice_index_or}
 use Rattle.std.specs.Int.{bit_at}
 use Rattle.std.proofs.Common.{refl}
-use Rattle.std.proofs.lemmas.Bool.{agree_below_at}
+use Rattle.std.proofs.lemmas.Bool.{agree_below, agree_below_at}
+use Rattle.dfu_conformance.specs.declared.held.TheConstants.{SETS_WITH}
 
--- The sets of readings in which reading 0 is.
-pub has_0 : (r : ℕ) → r < 64 → (bit_at 0xaaaa_aaaa_aaaa_aaaa r == 1) ≡ (bit_at r 0 == 1)
-has_0 r below = agree_below_at (λ r. bit_at 0xaaaa_aaaa_aaaa_aaaa r == 1) (λ r. bit_at r 0 == 1) 64 r refl below
-
--- The sets of readings in which reading 1 is.
-pub has_1 : (r : ℕ) → r < 64 → (bit_at 0xcccc_cccc_cccc_cccc r == 1) ≡ (bit_at r 1 == 1)
-has_1 r below = agree_below_at (λ r. bit_at 0xcccc_cccc_cccc_cccc r == 1) (λ r. bit_at r 1 == 1) 64 r refl below
-
--- The sets of readings in which reading 2 is.
-pub has_2 : (r : ℕ) → r < 64 → (bit_at 0xf0f0_f0f0_f0f0_f0f0 r == 1) ≡ (bit_at r 2 == 1)
-has_2 r below = agree_below_at (λ r. bit_at 0xf0f0_f0f0_f0f0_f0f0 r == 1) (λ r. bit_at r 2 == 1) 64 r refl below
-
--- The sets of readings in which reading 3 is.
-pub has_3 : (r : ℕ) → r < 64 → (bit_at 0xff00_ff00_ff00_ff00 r == 1) ≡ (bit_at r 3 == 1)
-has_3 r below = agree_below_at (λ r. bit_at 0xff00_ff00_ff00_ff00 r == 1) (λ r. bit_at r 3 == 1) 64 r refl below
-
--- The sets of readings in which reading 4 is.
-pub has_4 : (r : ℕ) → r < 64 → (bit_at 0xffff_0000_ffff_0000 r == 1) ≡ (bit_at r 4 == 1)
-has_4 r below = agree_below_at (λ r. bit_at 0xffff_0000_ffff_0000 r == 1) (λ r. bit_at r 4 == 1) 64 r refl below
-
--- The sets of readings in which reading 5 is.
-pub has_5 : (r : ℕ) → r < 64 → (bit_at 0xffff_ffff_0000_0000 r == 1) ≡ (bit_at r 5 == 1)
-has_5 r below = agree_below_at (λ r. bit_at 0xffff_ffff_0000_0000 r == 1) (λ r. bit_at r 5 == 1) 64 r refl below
+-- Word k has the sets of readings in which reading k is.
+pub has_reading : (k : ℕ) → k < 6 → (r : ℕ) → r < 64 → (bit_at (slice_index_or SETS_WITH k 0) r == 1) ≡ (bit_at r k == 1)
+has_reading k in' r below =
+    let word_has : (k r : ℕ) → Bool = λ k r. bit_at (slice_index_or SETS_WITH k 0) r == 1 in
+    let number_has : (k r : ℕ) → Bool = λ k r. bit_at r k == 1 in
+    agree_below_at (word_has k) (number_has k) 64 r
+    (agree_below_at (λ k. agree_below (word_has k) (number_has k) 64) (λ k. true) 6 k refl in') below
 
 -- All sets of readings.
 pub all : (r : ℕ) → r < 64 → (bit_at 0xffff_ffff_ffff_ffff r == 1) ≡ true

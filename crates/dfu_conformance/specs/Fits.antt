@@ -1,4 +1,4 @@
--- Whether a row of the table speaks of an event.
+-- Whether a row of the table fits an event.
 use Rattle.std.specs.Prelude.{ℕ, ◌==◌, ◌&&◌, ◌||◌, nat_lt, min, Bool, true, false, not}
 use Rattle.dfu_conformance.specs.declared.standard_state.StandardState.{StandardState}
 use Rattle.dfu_conformance.specs.declared.standard_state.StandardState.TheVariants.{AppIdle, AppDetach, DfuIdle, DownloadSync, DownloadBusy, DownloadIdle, ManifestSync, Manifest, ManifestWaitReset, UploadIdle, Error, Fresh}
@@ -45,16 +45,16 @@ asked_number Other = 8
 asked_number Reset = 9
 asked_number Power = 10
 
--- A row about this is about what was asked. A request that is not as section 3 has it may be taken as any other, too.
+-- A row about this request is about what was asked. A request that is not as section 3 has it may be taken as any other, too.
 abbrev pub asks : EventKind → LogEvent → Bool
 asks asked e = (asked_number asked == asked_number e.asked) || (not e.is_plain && (asked_number asked == asked_number Other))
 
--- A code that a status may have where it enters this place: OK outside dfuERROR, and one of the others in it.
+-- A code that a status may have that enters this place: OK outside dfuERROR, and one of the others in it.
 abbrev pub has_code : StandardState → ℕ → Bool
 has_code Error code = nat_lt 0 code && nat_lt code 16
 has_code p code = code == 0
 
--- So many bytes, of which these are the first and the fifth, are what a row gives that leads from one place to another, where len were
+-- This count of bytes, with this first and this fifth one, is what a row gives that leads from one place to another, if len were
 -- asked for.
 abbrev pub gives_bytes : Gives → (from next : StandardState) → (len count first fifth : ℕ) → Bool
 gives_bytes gives.Silent from next len count first fifth = true
@@ -74,23 +74,23 @@ gives_stall gives.Stall = true
 gives_stall gives.Silent = true
 gives_stall g = false
 
--- What was seen of the answer is what a row gives; where nothing was seen it may have been anything.
+-- What was seen of the answer is what a row gives; if nothing was seen, it may have been anything.
 abbrev pub row_shows : Gives → (from next : StandardState) → ℕ → Response → Bool
 row_shows g from next len answer.Nothing = true
 row_shows g from next len answer.Stall = gives_stall g
 row_shows g from next len (answer.Bytes count first fifth) = gives_bytes g from next len count first fifth
 
--- A row speaks of an event: of what was asked, and of what was seen.
+-- A row fits an event: it is about what was asked, and gives what was seen.
 abbrev pub fits : Row → LogEvent → Bool
 fits row e = asks row.asked e && row_shows row.gives row.from row.next e.length e.answer
 
--- A device may be where it was, by whether the request is as section 3 has it and by what was seen.
+-- A device may stay where it was, by whether the request is as section 3 has it and by what was seen.
 abbrev pub stays_at : Bool → Response → Bool
 stays_at plain answer.Nothing = true
 stays_at plain answer.Stall = not plain
 stays_at plain (answer.Bytes count first fifth) = false
 
--- A device may be where it was: nothing was seen, so that the request may not have come; or a request was stalled that is not as
+-- A device may stay where it was: nothing was seen, so that the request may not have come; or a request was stalled that is not as
 -- section 3 has it.
 abbrev pub stays : LogEvent → Bool
 stays e = stays_at e.is_plain e.answer

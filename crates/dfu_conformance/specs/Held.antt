@@ -17,7 +17,7 @@ reading_bit DetachAtOnce = 3
 reading_bit DetachLeaves = 4
 reading_bit ErrorWithoutCode = 5
 
--- A row speaks of the devices of these bmAttributes with this set of readings.
+-- A row is for the devices of these bmAttributes with this set of readings.
 abbrev pub meets : When → (attributes readings : ℕ) → Bool
 meets Always a r = true
 meets CanDownload a r = bit_at a 0 == 1
@@ -31,7 +31,7 @@ meets (By reading) a r = bit_at r (reading_bit reading) == 1
 abbrev pub word_has_bit : List ℕ → (attributes readings : ℕ) → Bool
 word_has_bit words a r = bit_at (slice_index words a) r == 1
 
--- A device of these bmAttributes with this set of readings may stand at this place.
+-- A device of these bmAttributes with this set of readings may be at this place.
 abbrev pub stands : List (List ℕ) → StandardState → (attributes readings : ℕ) → Bool
 stands held p a r = word_has_bit (slice_index_or held (place_number p) []) a r
 

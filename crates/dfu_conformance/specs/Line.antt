@@ -14,7 +14,7 @@ use Rattle.dfu_conformance.specs.declared.log.LineFault.{LineFault}
 use Rattle.dfu_conformance.specs.declared.log.LineFault.TheVariants as fault
 use Rattle.dfu_conformance.specs.Setups.{event_of, reset, power}
 
--- A byte parts the fields of a line where it is 20h.
+-- A byte parts the fields of a line if it is 20h.
 abbrev pub is_space : ℕ → Bool
 is_space byte = byte == 32
 
@@ -22,7 +22,7 @@ is_space byte = byte == 32
 abbrev pub field_of : List ℕ → List ℕ
 field_of line = take (position_or_len is_space line) line
 
--- What stands behind the first space.
+-- What follows the first space.
 abbrev pub rest_of : List ℕ → List ℕ
 rest_of line = drop (position_or_len is_space line + 1) line
 
@@ -38,11 +38,11 @@ digit_value byte =
 abbrev pub is_digit : ℕ → Bool
 is_digit byte = nat_lt (digit_value byte) 16
 
--- Text that stands for bytes: pairs of hexadecimal digits, at most 65,535 of them.
+-- Text that is bytes: pairs of hexadecimal digits, at most 65,535 of them.
 unfoldable pub is_hex : List ℕ → Bool
 is_hex text = nat_le (length text) 131070 && (length text % 2 == 0) && list_all is_digit text
 
--- The byte that pair n of digits stands for, where there are so many, and 0 elsewhere.
+-- The byte of pair n of digits, or 0 if there are fewer.
 abbrev pub pair_byte : List ℕ → ℕ → ℕ
 pair_byte text n =
     if nat_lt (2 * n + 1) (length text)
@@ -60,7 +60,7 @@ setup_in text =
       length = pair_byte text 6 + 256 * pair_byte text 7;
     }) else None
 
--- How many bytes a body has: those that its text stands for, or none where it is a dash.
+-- How many bytes a body has: half as many as its text has digits, or 0 if its text is a dash.
 unfoldable pub body_in : List ℕ → Option ℕ
 body_in text =
     if bytes_eq text (codes "-") then Some 0
@@ -76,12 +76,12 @@ answer_in text =
     else if is_hex text && nat_lt 0 (length text) then Some (answer.Bytes (length text / 2) (pair_byte text 0) (pair_byte text 4))
     else None
 
--- A line says nothing where it is empty or begins with '#'.
+-- A line says nothing if it is empty or begins with '#'.
 abbrev pub is_blank : List ℕ → Bool
 is_blank [] = true
 is_blank (byte ∷ bytes) = byte == 35
 
--- The first field that is wrong of a line that is read as none.
+-- The first wrong field of a line that can't be read.
 abbrev pub why_unread : List ℕ → LineFault
 why_unread text =
     if is_none (setup_in (field_of text)) then fault.Setup
@@ -93,7 +93,7 @@ abbrev pub IsRead : Request → Setup → (body : ℕ) → Response → Option L
 IsRead request.NotDfu s body a read = read ≡ Some Elsewhere
 IsRead q s body a read = read ≡ Some (Came (event_of s q body a))
 
--- A request by its fields: nothing is read where one of them is none; the interface is wIndex.
+-- A request by its fields: nothing is read if one of them can't be read; the interface is wIndex.
 abbrev pub SaysRequest : (interface : ℕ) → Option Setup → Option ℕ → Option Response → Option Line → Type 0
 SaysRequest interface (Some s) (Some body) (Some a) read =
     MatchBool (s.index == interface)
@@ -101,7 +101,7 @@ SaysRequest interface (Some s) (Some body) (Some a) read =
     (read ≡ Some Elsewhere)
 SaysRequest interface s body a read = read ≡ None
 
--- What a line is read as, for this interface; nothing where it is none of a log.
+-- What a line is read as, for this interface; nothing if it is not a line of a log.
 abbrev pub LineSays : (interface : ℕ) → List ℕ → Option Line → Type 0
 LineSays interface text read =
     MatchBool (is_blank text) (read ≡ Some Blank)

@@ -21,7 +21,7 @@ pub record GoesBy (rows : List Row) (attributes readings : ℕ) (from : Standard
   pub speaks : fits row e ≡ true
   pub of_it : meets row.when attributes readings ≡ true
 
--- An event may lead a device from one place to another: by a row, or it stays, where the request may not have come or is not as section
+-- An event may lead a device from one place to another: by a row, or it stays, since the request may not have come or is not as section
 -- 3 has it and was stalled.
 abbrev pub MayAnswer : (attributes readings : ℕ) → StandardState → LogEvent → StandardState → Type 0
 MayAnswer a r from e next =
@@ -49,11 +49,11 @@ Run a r from (e ∷ events) last =
 abbrev pub ComesTo : (attributes readings : ℕ) → List LogEvent → StandardState → Type 0
 ComesTo a r events last = (from : StandardState) × Run a r from events last
 
--- Some device with this set of readings, whatever its bmAttributes, may have answered so.
+-- Some device with this set of readings, with any bmAttributes, may have answered so.
 abbrev pub CanAnswer : (readings : ℕ) → List LogEvent → Type 0
 CanAnswer r events = (a : ℕ) × (a < 16) × (last : StandardState) × ComesTo a r events last
 
--- Exactly the devices are held that may have answered so, each at the places where it may be.
+-- The devices that may have answered so are held, and only they, each at the places where it may be.
 abbrev pub IsHeld : List (List ℕ) → List LogEvent → Type 0
 IsHeld held events = (a r : ℕ) (p : StandardState) → a < 16 → r < 64 → (stands held p a r ≡ true) ↔ ComesTo a r events p
 

@@ -21,7 +21,7 @@ asked_by request.Abort = Abort
 asked_by request.OtherClass = Other
 asked_by request.NotDfu = Other
 
--- The request has the wValue and the wLength of section 3, where it is one of the seven.
+-- The request has the wValue and the wLength of section 3, if it is one of the seven.
 abbrev pub has_its_numbers : Request → (value : ℕ) → Bool
 has_its_numbers (request.Upload block len) value = not (len == 0)
 has_its_numbers (request.GetStatus len) value = (len == 6) && (value == 0)
@@ -34,7 +34,7 @@ has_its_numbers q value = true
 abbrev pub is_plain : Setup → Request → (body : ℕ) → Bool
 is_plain s q body = (body == (if s.kind == 0x21 then s.length else 0)) && has_its_numbers q s.value
 
--- What came to a device by a setup that asks for this, with so many bytes of a body, and what was seen of the answer.
+-- What came to a device by a setup that asks for this, with a body of this many bytes, and what was seen of the answer.
 abbrev pub event_of : Setup → Request → (body : ℕ) → Response → LogEvent
 event_of s q body a = record { asked = asked_by q; is_plain = is_plain s q body; length = s.length; answer = a }
 

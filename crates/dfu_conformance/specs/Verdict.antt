@@ -28,7 +28,7 @@ abbrev pub HasBits : Verdict → Type 0
 HasBits (KeptBy readings) = readings < 64
 HasBits verdict = ⊤
 
--- These are the places where a device with this set of readings may be after these events, whatever its bmAttributes.
+-- These are the places where a device with this set of readings may be after these events, with any bmAttributes.
 abbrev pub ArePlacesAfter : (readings : ℕ) → List LogEvent → List Bool → Type 0
 ArePlacesAfter r events at =
     (p : StandardState) → (slice_index_or at (place_number p) false ≡ true) ↔ ((a : ℕ) × (a < 16) × ComesTo a r events p)

@@ -14,7 +14,7 @@ pub enum Response {
     Stall,
     /// Nothing: it isn't known whether the request came.
     Nothing,
-    /// So many bytes; none where the request was acknowledged.
+    /// So many bytes; 0 if the request was acknowledged.
     Bytes {
         /// How many they are.
         count: u32,
@@ -43,7 +43,7 @@ impl LogEvent {
     ghost use Rattle.dfu_wire.specs.declared.requests.Request.{Request};
     ghost use Rattle.dfu_conformance.specs.Setups.{event_of};
 
-    /// A request by its setup, how many bytes of a body went with it, and its answer. `None` where it is no request of the class for
+    /// A request by its setup, how many bytes of a body went with it, and its answer. `None` if it is no request of the class for
     /// interface 0.
     pub fn exchange(setup: &Setup, body: usize, answer: Response) -> Option<LogEvent>
         ensures some { IfSome result (λ e. (q : Request) → Asks setup.now q → e ≡ event_of setup.now q body answer) }
@@ -166,7 +166,7 @@ fn state_of(place: StandardState) -> usize
     }
 }
 
-/// Whether a status may have this code where it enters this place.
+/// Whether a status that enters this place may have this code.
 fn is_code_of(place: StandardState, code: u8) -> bool
     ensures { result ≡ has_code place code }
 {
@@ -176,7 +176,7 @@ fn is_code_of(place: StandardState, code: u8) -> bool
     }
 }
 
-/// Whether a device may be where it was.
+/// Whether a device may stay where it was.
 pub(crate) fn may_stay(event: &LogEvent) -> bool
     ensures { result ≡ stays event.now }
 {

@@ -1,4 +1,4 @@
-//! What devices are known to do that the standard has not.
+//! What devices are known to do that is not in the standard.
 
 use crate::EventKind::{Detach, GetState, GetStatus, Power, Reset};
 use crate::Reading::{Bootloader, DetachAtOnce, DetachLeaves, ErrorWithoutCode, RuntimeMute};

@@ -18,7 +18,7 @@ use crate::{Drift, LogEvent, Reading, Row, StandardState, When};
 /// For each bmAttributes the sets of readings: bit r of word a is the device of bmAttributes a and of the readings that are the bits of r.
 pub(crate) type Devices = [u64; 16];
 
-/// The sets of readings of which a row speaks, at these bmAttributes, 0 to 15.
+/// The sets of readings for which a row is, at these bmAttributes, 0 to 15.
 fn word(when: When, attributes: usize) -> u64
     ensures { (r : ℕ) → r < 64 → (bit_at result r == 1) ≡ meets when attributes r }
 {
@@ -40,21 +40,33 @@ fn all_if(yes: bool) -> u64
     if yes { u64::MAX } else { 0 }
 }
 
+/// For each reading, by its number, the sets of readings in which it is.
+const SETS_WITH: [u64; 6] = [
+    0xaaaa_aaaa_aaaa_aaaa,
+    0xcccc_cccc_cccc_cccc,
+    0xf0f0_f0f0_f0f0_f0f0,
+    0xff00_ff00_ff00_ff00,
+    0xffff_0000_ffff_0000,
+    0xffff_ffff_0000_0000,
+];
+
+/// The place of a reading in the list of all six.
+fn number_of(reading: Reading) -> usize
+    ensures is { result ≡ reading_bit reading }
+    ensures below { result < 6 }
+{
+    reading as usize
+}
+
 /// The sets of readings in which this one is.
+#[tactic(auto, using(crate::proofs::Words::has_reading))]
 fn readings_with(reading: Reading) -> u64
     ensures { (r : ℕ) → r < 64 → (bit_at result r == 1) ≡ (bit_at r (reading_bit reading) == 1) }
 {
-    match reading {
-        Reading::Bootloader => 0xaaaa_aaaa_aaaa_aaaa,
-        Reading::RuntimeMute => 0xcccc_cccc_cccc_cccc,
-        Reading::SelfReset => 0xf0f0_f0f0_f0f0_f0f0,
-        Reading::DetachAtOnce => 0xff00_ff00_ff00_ff00,
-        Reading::DetachLeaves => 0xffff_0000_ffff_0000,
-        Reading::ErrorWithoutCode => 0xffff_ffff_0000_0000,
-    }
+    SETS_WITH[number_of(reading)]
 }
 
-/// These devices, and those of the others of which a row speaks.
+/// These devices, and those of the others for which a row is.
 fn join(to: &Devices, from: &Devices, when: When) -> Devices
     ensures size { length result ≡ 16 }
     ensures all { (a r : ℕ) → a < 16 → r < 64 →
@@ -79,10 +91,10 @@ fn is_empty(devices: &Devices) -> bool
     true
 }
 
-/// For each place the devices that may stand there.
+/// For each place the devices that may be there.
 pub(crate) type Places = [Devices; 12];
 
-/// The devices of which a row speaks are led from one place to another.
+/// The devices for which a row is are led from one place to another.
 fn lead(before: &Places, from: StandardState, when: When, after: &mut Places, to: StandardState)
     ensures { (n : StandardState) (a r : ℕ) → a < 16 → r < 64
         → stands after.new n a r
@@ -95,7 +107,7 @@ fn lead(before: &Places, from: StandardState, when: When, after: &mut Places, to
     after[to] = join(&after[to], &before[from.number()], when);
 }
 
-/// The devices are added that go by one of these rows.
+/// Adds the devices that go by one of these rows.
 fn pass(rows: &[Row], before: &Places, event: &LogEvent, after: &mut Places)
     ensures { (n : StandardState) (a r : ℕ) → a < 16 → r < 64
         → stands after.new n a r ≡ (stands after.old n a r || list_any (leads before.now event.now n a r) rows.now) }
@@ -107,7 +119,7 @@ fn pass(rows: &[Row], before: &Places, event: &LogEvent, after: &mut Places)
     }
 }
 
-/// The devices are added that go by a row of a reset or of power: no such row speaks of a request.
+/// Adds the devices that go by a row of a reset or of power: no such row is about a request.
 #[tactic(auto, using(crate::proofs::Requests::none_lead))]
 fn pass_marks(before: &Places, event: &LogEvent, after: &mut Places)
     ensures { (n : StandardState) (a r : ℕ) → a < 16 → r < 64
@@ -118,7 +130,7 @@ fn pass_marks(before: &Places, event: &LogEvent, after: &mut Places)
     }
 }
 
-/// The devices are added that make one of these moves by themselves.
+/// Adds the devices that make one of these moves by themselves.
 fn drift(moves: &[Drift], before: &Places) -> Places
     ensures { (n : StandardState) (a r : ℕ) → a < 16 → r < 64
         → stands result n a r ≡ (stands before.now n a r || list_any (drifts before.now n a r) moves.now) }
@@ -130,7 +142,7 @@ fn drift(moves: &[Drift], before: &Places) -> Places
     after
 }
 
-/// The devices that may be where they were, by an event.
+/// The devices that may stay where they were, by an event.
 fn rest(before: &Places, event: &LogEvent) -> Places
     ensures { (n : StandardState) (a r : ℕ) → a < 16 → r < 64 → stands result n a r ≡ (stays event.now && stands before.now n a r) }
 {
@@ -141,7 +153,7 @@ fn rest(before: &Places, event: &LogEvent) -> Places
     }
 }
 
-/// The devices that may stand at each place after an event, where these might before it.
+/// The devices that may be at each place after an event, if these might be there before it.
 pub(crate) fn step(before: &Places, event: &LogEvent) -> Places
     ensures { (n : StandardState) (a r : ℕ) → a < 16 → r < 64 → stands result n a r ≡ stepped before.now event.now n a r }
 {
@@ -160,7 +172,7 @@ fn has_bit(word: u64, bit: u8) -> bool
     word >> bit & 1 == 1
 }
 
-/// Whether a device with this set of readings is held, whatever its bmAttributes.
+/// Whether a device with this set of readings is held, with any bmAttributes.
 fn is_held(devices: &Devices, readings: u8) -> bool
     requires { readings < 64 }
     ensures { result ≡ some_held devices.now readings }
@@ -172,7 +184,7 @@ fn is_held(devices: &Devices, readings: u8) -> bool
     is_some
 }
 
-/// By place, whether a device with this set of readings may stand there.
+/// By place, whether a device with this set of readings may be there.
 pub(crate) fn places_of(places: &Places, readings: u8) -> [bool; 12]
     requires { readings < 64 }
     ensures { (n : ℕ) → n < 12 → slice_index_or result n false ≡ some_held (slice_index_or places.now n []) readings }
@@ -184,7 +196,7 @@ pub(crate) fn places_of(places: &Places, readings: u8) -> [bool; 12]
     at
 }
 
-/// Whether a device with this set of readings may stand anywhere.
+/// Whether a device with this set of readings may be anywhere.
 pub(crate) fn is_any_held(places: &Places, readings: u8) -> bool
     requires { readings < 64 }
     ensures { result ≡ anywhere places.now readings }
@@ -196,7 +208,7 @@ pub(crate) fn is_any_held(places: &Places, readings: u8) -> bool
     is_some
 }
 
-/// Of the sets of readings below a number the least with which a device may stand somewhere: one with the fewest readings, and of these the
+/// The least set of readings below a number with which a device may be somewhere: one with the fewest readings, and of these the
 /// first by its number.
 pub(crate) fn least_held(places: &Places, sets: u8) -> Option<u8>
     requires { sets ≤ 64 }

@@ -10,11 +10,11 @@ use std::marker::Model;
 /// Every device, at every place.
 const EVERY: Places = [[u64::MAX; 16]; 12];
 
-/// A judge of one device, of which nothing is known at first: it follows every device of the standard at once, with each set of habits.
+/// A judge of one device, about which nothing is known at first: it follows every device at once, with each set of habits.
 /// It takes no memory beyond its own 3,080 bytes.
 #[derive(Drop)]
 pub struct Judge {
-    // Up to the first departure the devices since the start are those since the last departure, and these are not kept apart.
+    // Up to the first departure both are the same, and `since` is not used.
     has_departed: bool,
     since: Places,
     whole: Places,
@@ -29,7 +29,7 @@ impl Model for Judge {
     ghost view = { λ s. record { since = since_of s.has_departed s.since s.whole; whole = s.whole } };
 }
 
-/// The departure at an event, where no device without habits is left after it.
+/// The departure at an event, if no device without habits is left after it.
 fn departure(before: &Places, after: &Places, event: &LogEvent) -> Option<Departure>
     ensures none { IsNone result → anywhere after.now 0 ≡ true }
     ensures some { IfSome result (λ d. (d.event ≡ event.now) × (anywhere after.now 0 ≡ false)
@@ -49,7 +49,7 @@ impl Judge {
     ghost use Rattle.dfu_conformance.specs.Verdict.{IsVerdict, HasBits, ArePlacesAfter, Departs};
     ghost use Rattle.dfu_conformance.specs.declared.event.LogEvent.{LogEvent};
 
-    /// A judge of a device of which nothing is known: it may be anywhere.
+    /// A judge of a device about which nothing is known: it may be anywhere.
     pub fn new() -> Judge
         ensures whole { IsHeld result.whole [] }
         ensures since { IsHeldPlain result.since [] }
@@ -61,8 +61,8 @@ impl Judge {
         }
     }
 
-    /// An event comes. Where no device of the standard is left, the departure is handed out, and from then on the device may be
-    /// anywhere again, for departures; for the verdict it stays as it is.
+    /// An event comes. If no device of the standard is left, it returns the departure, and from then on the device may be
+    /// anywhere again, for departures; for the verdict nothing changes.
     pub fn take(&mut self, event: &LogEvent) -> Option<Departure>
         ensures whole { (es : List LogEvent) → IsHeld self.old.whole es → IsHeld self.new.whole (es ++ event.now ∷ []) }
         ensures kept { IsNone result → (es : List LogEvent) → IsHeldPlain self.old.since es
@@ -115,7 +115,7 @@ impl Judge {
         }
     }
 
-    /// Where the device may stand now, if it has this set of readings, 0 to 63: by place, in the order of [`crate::StandardState`].
+    /// If the device may be now if it has this set of readings, 0 to 63: by place, in the order of [`crate::StandardState`].
     pub fn places(&self, readings: u8) -> [bool; 12]
         requires { readings < 64 }
         ensures { (es : List LogEvent) → IsHeld self.now.whole es → ArePlacesAfter readings es result }
@@ -123,7 +123,7 @@ impl Judge {
         places_of(&self.whole, readings)
     }
 
-    /// Where a device without habits may stand now, by the events since the last departure: by place, in the order of
+    /// The places where a device without habits may be now, by the events since the last departure, in the order of
     /// [`crate::StandardState`].
     pub fn standing(&self) -> [bool; 12]
         ensures { (es : List LogEvent) → IsHeldPlain self.now.since es → ArePlacesAfter 0 es result }

@@ -45,7 +45,7 @@ fn are_digits(text: &[u8]) -> bool
     text.iter().all(|byte| value_of(*byte) < 16)
 }
 
-/// Whether a text stands for bytes: pairs of hexadecimal digits, at most 65,535 of them.
+/// Whether a text is bytes, pairs of hexadecimal digits, at most 65,535 of them.
 #[tactic(auto, unfolding(crate::specs::Line::is_hex))]
 fn is_bytes(text: &[u8]) -> bool
     ensures { result ≡ is_hex text.now }
@@ -59,7 +59,7 @@ fn is_bytes(text: &[u8]) -> bool
     are_digits(text)
 }
 
-/// The byte that pair n of digits stands for, where there are so many, and 0 elsewhere.
+/// The byte of pair n of digits, or 0 if there are fewer.
 fn byte_at(text: &[u8], n: usize) -> u8
     requires { n < 8 }
     ensures { result ≡ pair_byte text.now n }
@@ -97,7 +97,7 @@ pub(crate) fn setup_of(text: &[u8]) -> Option<Setup>
     })
 }
 
-/// How many bytes a body has: those that its text stands for, or none where it is a dash.
+/// How many bytes a body has: half as many as its text has digits, or 0 if its text is a dash.
 #[tactic(auto, unfolding(crate::specs::Line::body_in))]
 pub(crate) fn body_of(text: &[u8]) -> Option<usize>
     ensures { result ≡ body_in text.now }

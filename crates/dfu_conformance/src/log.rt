@@ -21,16 +21,16 @@ pub enum Line {
     Came(LogEvent),
 }
 
-/// What is wrong with a line that is none of a log.
+/// What is wrong with a line that is not a line of a log.
 #[derive(Clone, Copy, Debug, PartialEq, Eq)]
 pub enum LineFault {
-    /// It has over 262,158 bytes: no line that is read is longer, but a comment.
+    /// It has over 262,158 bytes: only a comment may be longer.
     Long,
     /// Its first field is no setup.
     Setup,
     /// Its second field is no body.
     Body,
-    /// What stands behind its second field is no answer.
+    /// What follows its second field is no answer.
     Answer,
 }
 
@@ -41,7 +41,7 @@ const SILENT: Response = Response::Bytes {
     fifth: 0,
 };
 
-/// The first field of a line, and what stands behind its space.
+/// The first field of a line, and what follows its space.
 fn parts(line: &[u8]) -> (&[u8], &[u8])
     ensures field { result.0.now ≡ field_of line.now }
     ensures rest { result.1.now ≡ rest_of line.now }
@@ -80,7 +80,7 @@ pub fn read_line(interface: u8, line: &[u8]) -> Option<Line>
     request_of(interface, setup_of(setup), body_of(body), answer_of(answer))
 }
 
-/// The first field that is wrong of a line that `read_line` reads as none.
+/// The first wrong field of a line that `read_line` can't read.
 pub fn why_unread(line: &[u8]) -> LineFault
     ensures { result ≡ why_unread line.now }
 {

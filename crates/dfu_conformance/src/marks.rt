@@ -13,7 +13,7 @@ use crate::row::When::Always;
 /// What a reset of the bus and power lead to.
 #[rattlefmt::skip]
 pub static MARKS: [Row; 43] = [
-    // A reset of the bus: a device that detaches comes up in dfuIDLE, any other in its application, or in dfuERROR where that is broken.
+    // A reset of the bus: a device that detaches comes up in dfuIDLE, any other in its application, or in dfuERROR if that is broken.
     row!(AppIdle, Reset, Always, Silent, AppIdle, A),
     row!(AppDetach, Reset, Always, Silent, Fresh, A),
     row!(Fresh, Reset, Always, Silent, Fresh, Open),
@@ -35,7 +35,7 @@ pub static MARKS: [Row; 43] = [
     row!(UploadIdle, Reset, Always, Silent, Error, A),
     row!(Error, Reset, Always, Silent, AppIdle, A),
     row!(Error, Reset, Always, Silent, Error, A),
-    // Power that comes back: the application, or dfuERROR where that is broken.
+    // Power that comes back: the application, or dfuERROR if that is broken.
     row!(AppIdle, Power, Always, Silent, AppIdle, A),
     row!(AppIdle, Power, Always, Silent, Error, A),
     row!(AppDetach, Power, Always, Silent, AppIdle, A),

@@ -1,6 +1,6 @@
-//! Habits of devices that the standard has not.
+//! Habits of devices that are not in the standard.
 
-/// A habit of some devices that the standard has not. A judge tells the least set of them by which a device is kept.
+/// A habit of some devices that is not in the standard. A judge gives the least set of habits with which a device is kept.
 #[derive(Clone, Copy, Debug, PartialEq, Eq)]
 pub enum Reading {
     /// 0: after a reset or power the device is in dfuIDLE, as a bootloader with no application is.
@@ -13,6 +13,6 @@ pub enum Reading {
     DetachAtOnce,
     /// 4: DETACH is acknowledged in dfuIDLE, and leads to appIDLE.
     DetachLeaves,
-    /// 5: in dfuERROR GETSTATUS tells the code OK.
+    /// 5: in dfuERROR GETSTATUS answers the code OK.
     ErrorWithoutCode,
 }

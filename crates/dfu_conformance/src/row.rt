@@ -2,10 +2,10 @@
 
 use crate::{EventKind, Reading, StandardState};
 
-/// Of which devices a row speaks: the bits are those of bmAttributes (USB DFU 1.1, section 4.1.3).
+/// For which devices a row is: the bits are those of bmAttributes (USB DFU 1.1, section 4.1.3).
 #[derive(Clone, Copy, Debug, PartialEq, Eq)]
 pub enum When {
-    /// Of every device.
+    /// Every device.
     Always,
     /// bitCanDnload is 1.
     CanDownload,
@@ -17,7 +17,7 @@ pub enum When {
     NotTolerant,
     /// bitWillDetach is 1.
     WillDetach,
-    /// The standard has no such row: it is a habit of some devices.
+    /// Those with this habit: the standard has no such row.
     By(Reading),
 }
 
@@ -33,7 +33,7 @@ pub enum Gives {
     Status,
     /// As `Status`, but with the code OK in dfuERROR.
     NoCode,
-    /// The front of one byte, the state as it stands.
+    /// The front of one byte: the state as it is.
     State,
     /// As many bytes of an image as were asked for.
     Full,
@@ -43,10 +43,10 @@ pub enum Gives {
     Silent,
 }
 
-/// Where a row stands in the standard.
+/// Where the standard has a row.
 #[derive(Clone, Copy, Debug, PartialEq, Eq)]
 pub enum Source {
-    /// Appendix A, in the table of the state where the row begins; of the bytes of an answer section 6.1.2 speaks.
+    /// Appendix A, in the table of the state where the row begins; section 6.1.2 has the bytes of an answer.
     A,
     /// Appendix A can be read so, and otherwise too: both readings have rows.
     Open,
@@ -54,32 +54,32 @@ pub enum Source {
     Habit,
 }
 
-/// A row of the table: what a device may answer at a place, and where it stands then.
+/// A row of the table: what a device may answer at a place, and where it is then.
 #[derive(Clone, Copy, Debug, PartialEq, Eq)]
 pub struct Row {
-    /// Where the device stands.
+    /// Where the device is.
     pub from: StandardState,
     /// What comes to it.
     pub asked: EventKind,
-    /// Of which devices the row speaks.
+    /// For which devices the row is.
     pub when: When,
     /// What it answers.
     pub gives: Gives,
-    /// Where it stands then.
+    /// Where it is then.
     pub next: StandardState,
-    /// Where the row stands in the standard.
+    /// Where the standard has the row.
     pub source: Source,
 }
 
 /// A move that a device makes by itself, between two events.
 #[derive(Clone, Copy, Debug, PartialEq, Eq)]
 pub struct Drift {
-    /// Where the device stands.
+    /// Where the device is.
     pub from: StandardState,
     /// Which devices make the move.
     pub when: When,
-    /// Where it stands then.
+    /// Where it is then.
     pub next: StandardState,
-    /// Where the move stands in the standard.
+    /// Where the standard has the move.
     pub source: Source,
 }

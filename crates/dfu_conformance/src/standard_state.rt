@@ -1,9 +1,9 @@
-//! Where a device may stand.
+//! Where a device may be.
 
 ghost use Rattle.std.specs.Prelude.{◌≡◌};
 ghost use Rattle.dfu_conformance.specs.Fits.{place_number};
 
-/// Where a device may stand: a state of the standard (USB DFU 1.1, section 6.1.2), or dfuIDLE just entered by a reset of the bus.
+/// Where a device may be: a state of the standard (USB DFU 1.1, section 6.1.2), or dfuIDLE that a reset of the bus just entered.
 #[derive(Clone, Copy, Debug, PartialEq, Eq)]
 pub enum StandardState {
     /// 0.

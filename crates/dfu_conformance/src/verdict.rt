@@ -9,28 +9,28 @@ use crate::{LogEvent, Row};
 /// What a judge says of all that came.
 #[derive(Clone, Copy, Debug, PartialEq, Eq)]
 pub enum Verdict {
-    /// A device of the standard may have answered so.
+    /// A device that keeps the standard may have answered so.
     Kept,
-    /// None of the standard may, but one with these habits: bit n is reading n of [`crate::Reading`]. No set with fewer readings would do.
+    /// No such device may, but one with these habits: bit n is reading n of [`crate::Reading`]. No set with fewer readings would do.
     KeptBy {
         /// The set of readings, 1 to 63.
         readings: u8,
     },
-    /// No device may have, with whatever habits.
+    /// No device may have, with any habits.
     NotKept,
 }
 
 /// An event after which no device of the standard is left.
 #[derive(Clone, Copy, Debug, PartialEq, Eq)]
 pub struct Departure {
-    /// Where the device might stand before it: by place, in the order of [`crate::StandardState`].
+    /// Where the device might be before it: by place, in the order of [`crate::StandardState`].
     pub before: [bool; 12],
     /// What came.
     pub event: LogEvent,
 }
 
 impl Departure {
-    /// Whether a row says what was allowed: it begins where the device might stand, and speaks of what was asked.
+    /// Whether a row says what was allowed: it begins where the device might be, and is about what was asked.
     pub fn allows(&self, row: &Row) -> bool
         ensures { result ≡ (slice_index_or self.now.before (place_number row.now.from) false && asks row.now.asked self.now.event) }
     {

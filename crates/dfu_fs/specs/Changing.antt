@@ -9,7 +9,7 @@ use Rattle.dfu_suffix.specs.declared.fault.SuffixFault.TheVariants.{NoMemory}
 use Rattle.dfu_wire.specs.declared.ids.Ids.{Ids}
 use Rattle.dfu_fs.specs.declared.changing.Change.{Change}
 
--- Identifiers change where another one is given.
+-- Identifiers change if another one is given.
 abbrev pub changed : Change → Ids → Ids
 changed change ids = record {
   device = unwrap_or change.device ids.device;

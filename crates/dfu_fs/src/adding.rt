@@ -1,5 +1,6 @@
 //! `dfu add`.
 
+use crate::gathering::MAX_FILE;
 use crate::given::{Given, Held, open};
 use crate::owner::Owned;
 use crate::reasons::{error_reason, file_reason, given_reason};
@@ -14,9 +15,6 @@ use dfu_wire::Ids;
 use std::alloc::Global;
 use std::io::{self, Read};
 use std::rt::Files;
-
-/// The most bytes of a file that is taken as one of a format.
-const MAX_FILE: usize = 16_777_216;
 
 /// How FILE is taken, and what fills the gaps of its image.
 #[derive(Clone, Copy, Debug, PartialEq, Eq)]
@@ -44,8 +42,8 @@ fn hint(alloc: Global, file: &str, head: &[u8]) -> Option<String> {
     }
 }
 
-/// Adds a suffix to what a reader gives, and makes OUT only where that succeeded; then this text follows the line. The reason of a fault
-/// stands beside the end.
+/// Adds a suffix to what a reader gives, and makes OUT only if that succeeded; then this text follows the line. The outcome has the
+/// reason of a fault.
 fn add_read<R: Files + Print + AllocGlobal, S: Read + Drop>(
     rt: &R,
     added: Added<'_>,
@@ -110,7 +108,7 @@ where
     add_read(rt, added, &mut RecordingReader::new(given), behind)
 }
 
-/// Adds a suffix to the image of a file, of the format that is asked for or that its first bytes look like; to the file as it is where
+/// Adds a suffix to the image of a file, of the format that is asked for or that its first bytes look like; to the file as it is if
 /// they look like none.
 fn add_image<R: Files + Input + Print + AllocGlobal>(
     rt: &R,
@@ -142,9 +140,9 @@ where
     }
 }
 
-/// Adds a suffix to a file, or to standard input where its name is `-`, and makes the other file only where that succeeded. Of an image a
-/// second line says its format and the address of its first byte. The reason of a fault stands beside the end, or that a file looks like
-/// one of a format where nothing said how to take it.
+/// Adds a suffix to a file, or to standard input if its name is `-`, and makes the other file only if that succeeded. For an image a
+/// second line says its format and the address of its first byte. The outcome has the reason of a fault, or that a file looks like
+/// one of a format if nothing said how to take it.
 pub fn add_file<R: Files + Input + Print + AllocGlobal>(
     rt: &R,
     file: &str,

@@ -28,7 +28,7 @@ fn changed(change: &Change, ids: Ids) -> Ids
     }
 }
 
-/// The bytes before the last 16, or none where there are fewer.
+/// The bytes before the last 16, or none if there are fewer.
 fn front_of(bytes: &[u8]) -> &[u8]
     ensures { result.now ≡ take (length bytes.now - 16) bytes.now }
 {
@@ -36,7 +36,7 @@ fn front_of(bytes: &[u8]) -> &[u8]
     front
 }
 
-/// Bytes with the fields of a suffix behind them, and the check sum of all that.
+/// Bytes with the fields of a suffix after them, and the check sum of all that.
 #[tactic(auto, using(std::proofs::lemmas::List::append_assoc))]
 fn rewritten(
     alloc: Global,
@@ -64,7 +64,7 @@ fn rewritten(
 ///
 /// # Errors
 ///
-/// The first fault of the bytes, as `read` of dfu_suffix has it; NoMemory where an allocation was refused.
+/// The first fault of the bytes, as `read` of dfu_suffix has it; NoMemory if an allocation was refused.
 pub fn with_ids(alloc: Global, bytes: &[u8], change: &Change) -> Result<Vec<u8>, SuffixFault>
     ensures { ChangesFile change.now bytes.now result }
 {

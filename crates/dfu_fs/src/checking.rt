@@ -9,7 +9,7 @@ use dfu_suffix::{Findings, SuffixFault};
 use std::io;
 use std::rt::Files;
 
-/// Checks a file, or standard input where the name is `-`, and says why it is refused where that is wanted. The line is an object where
+/// Checks a file, or standard input if the name is `-`, and says why it is refused if that is wanted. The line is an object if
 /// `json` says so.
 fn check_file<R: Files + Input + Print + AllocGlobal>(
     rt: &R,
@@ -53,8 +53,8 @@ fn check_named<R: Files + Input + Print + AllocGlobal>(
     }
 }
 
-/// Checks files, or standard input where a name is `-`, and says why each is refused where that is wanted. Of more than one file each line
-/// begins with its name. Where `json` says so each line is a JSON object with the name as its member `file`. The end is the worst one.
+/// Checks files, or standard input if a name is `-`, and says why each is refused if that is wanted. If there is more than one file, each
+/// line begins with its name. If `json` says so, each line is a JSON object with the name as its member `file`. The end is the worst one.
 pub fn check_files<R: Files + Input + Print + AllocGlobal>(
     rt: &R,
     files: &[String],

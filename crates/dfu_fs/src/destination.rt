@@ -12,7 +12,7 @@ const MAX_LINKS: u32 = 40;
 /// How often OUT is looked at while somebody else replaces it.
 const MAX_LOOKS: u32 = 10;
 
-/// The name of a file, which is no link, and what stands there.
+/// The name of a file, which is no link, and what is there.
 #[derive(Drop)]
 pub(crate) struct Destination {
     pub name: String,
@@ -100,7 +100,7 @@ fn is_same(look: &Option<Metadata>, other: &Option<Metadata>) -> bool {
 /// and again.
 pub(crate) fn place_of<R: Files + AllocGlobal>(rt: &R, out: &str) -> io::Result<Destination> {
     // The system's own look comes first, since it may refuse to follow a link that someone else
-    // made; the place has to be what that look found. Where it isn't, OUT may have been replaced
+    // made; the place has to be what that look found. If it isn't, OUT may have been replaced
     // between the two, and is looked at anew.
     for _ in 0..MAX_LOOKS {
         let seen = found(fs::metadata(rt, out))?;

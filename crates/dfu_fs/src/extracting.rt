@@ -1,19 +1,15 @@
 //! `dfu extract`.
 
-use crate::given::open;
+use crate::gathering::gathered;
 use crate::owner::Owned;
-use crate::recording_reader::RecordingReader;
-use crate::refusing::{gather_fault, refused, refused_bytes, unread};
+use crate::refusing::{refused, refused_bytes};
 use crate::replacing::replace;
 use dfu_output::{Outcome, wrote_line};
-use dfu_suffix::{SuffixFault, gather, read};
+use dfu_suffix::{SuffixFault, read};
 use std::rt::Files;
 
-/// The most bytes of a file.
-const MAX_FILE: usize = 16_777_216;
-
-/// Makes a file of the payload of another one, or of standard input where its name is `-`, only where that is a DFU file. The reason of a
-/// fault stands beside the end.
+/// Makes a file of the payload of another one, or of standard input if its name is `-`, only if that is a DFU file. The outcome has
+/// the reason of a fault.
 pub fn extract_file<R: Files + Input + Print + AllocGlobal>(
     rt: &R,
     file: &str,
@@ -24,14 +20,9 @@ where
     R::File: Owned,
 {
     let alloc = rt.alloc();
-    let reader = match open(rt, file) {
-        Ok(reader) => reader,
-        Err(error) => return unread(rt, file, &error),
-    };
-    let mut noting = RecordingReader::new(reader);
-    let bytes = match gather(alloc, &mut noting, MAX_FILE) {
-        Ok(bytes) => bytes,
-        Err(fault) => return refused(rt, file, gather_fault(fault), &noting),
+    let (bytes, noting) = match gathered(rt, file) {
+        Ok(gathered) => gathered,
+        Err(outcome) => return outcome,
     };
     let payload = match read(&bytes) {
         Ok(found) => found.payload(),

@@ -60,7 +60,7 @@ impl<F: IsTerminal, I: IsTerminal> IsTerminal for Given<F, I> {
     }
 }
 
-/// Opens a file; standard input where the name is `-`.
+/// Opens a file, or standard input if the name is `-`.
 pub fn open<R: Files + Input>(rt: &R, name: &str) -> io::Result<Given<R::File, R::Reader>> {
     if name == "-" {
         return Ok(Given::Input(rt.reader()));

@@ -8,6 +8,7 @@ mod changing;
 mod checking;
 mod destination;
 mod extracting;
+mod gathering;
 mod given;
 mod owner;
 mod reasons;

@@ -19,7 +19,7 @@ fn called(name: &str) -> &str
     if name == "-" { "standard input" } else { name }
 }
 
-/// The line that says why, of a file, which is standard input where its name is `-`; none where there is no memory for it.
+/// The line that says why a file is refused, standard input if its name is `-`; none if there is no memory for it.
 pub fn file_reason(alloc: Global, name: &str, why: &str) -> Option<String>
     ensures input { name.now ≡ codes "-" → IfSome result (λ t. string_bytes t ≡ reason_line [] (codes "standard input") why.now) }
     ensures file { name.now ≢ codes "-" → IfSome result (λ t. string_bytes t ≡ reason_line [] name.now why.now) }
@@ -30,7 +30,7 @@ pub fn file_reason(alloc: Global, name: &str, why: &str) -> Option<String>
     }
 }
 
-/// The same, where the system refused a call: in its words.
+/// The same, if the system refused a call: in its words.
 pub fn error_reason(alloc: Global, name: &str, error: &io::Error) -> Option<String>
     ensures input { name.now ≡ codes "-" →
         IfSome result (λ t. (why : List ℕ) × (string_bytes t ≡ reason_line [] (codes "standard input") why)) }

@@ -12,7 +12,7 @@ pub(crate) struct RecordingReader<R> {
 }
 
 impl<R> RecordingReader<R> {
-    /// A reader of which nothing was read.
+    /// A reader from which nothing was read yet.
     pub(crate) fn new(reader: R) -> RecordingReader<R> {
         RecordingReader {
             reader,
@@ -22,7 +22,7 @@ impl<R> RecordingReader<R> {
         }
     }
 
-    /// The first four bytes, or fewer where it gave fewer.
+    /// The first four bytes, or fewer if it gave fewer.
     pub(crate) fn head(&self) -> &[u8] {
         self.head.get(..self.held).unwrap_or(&[])
     }

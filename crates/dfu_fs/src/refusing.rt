@@ -1,4 +1,4 @@
-//! The answers where a file can't be read, or is refused.
+//! The outcome if a file can't be read, or is refused.
 
 use crate::reasons::{error_reason, found_reason, given_reason};
 use crate::recording_reader::RecordingReader;
@@ -6,7 +6,7 @@ use dfu_output::{Outcome, fault_text};
 use dfu_suffix::{Findings, GatherFault, SuffixFault, check_with};
 use std::io;
 
-/// The answer where a file can't be opened for reading.
+/// The outcome if a file can't be opened for reading.
 pub(crate) fn unread<R: Print + AllocGlobal>(rt: &R, file: &str, error: &io::Error) -> Outcome {
     Outcome {
         exit: fault_text(SuffixFault::Read, &mut io::writer(rt)),
@@ -14,7 +14,7 @@ pub(crate) fn unread<R: Print + AllocGlobal>(rt: &R, file: &str, error: &io::Err
     }
 }
 
-/// The answer where a file isn't read whole, or there is no memory for what is made of it.
+/// The outcome if a file isn't read whole, or there is no memory for what is made of it.
 pub(crate) fn refused<R: Print + AllocGlobal, S>(
     rt: &R,
     file: &str,
@@ -27,7 +27,7 @@ pub(crate) fn refused<R: Print + AllocGlobal, S>(
     }
 }
 
-/// The answer where the bytes of a file are refused. They are looked at once more where the reason is wanted.
+/// The outcome if the bytes of a file are refused. They are checked once more if the reason is wanted.
 pub(crate) fn refused_bytes<R: Print + AllocGlobal>(
     rt: &R,
     file: &str,

@@ -12,7 +12,7 @@ use std::rt::Files;
 
 /// What is to take the place of OUT, or of what OUT leads to, whole: bytes are written beside it, and
 /// then take its name, so that a cut of the machine leaves the old file or the new one. Until then
-/// what was there is as it was. The part is made at the first write, so that where nothing is
+/// what was there is unchanged. The part is made at the first write, so that if nothing is
 /// written OUT isn't looked at.
 #[derive(Drop)]
 pub(crate) struct Replacement<'a, R: Files> {
@@ -33,7 +33,7 @@ impl<'a, R: Files> Replacement<'a, R> {
         }
     }
 
-    /// Replaces OUT by what was written. Where it fails, what was there is as it was.
+    /// Replaces OUT by what was written. If it fails, what was there is as it was.
     pub(crate) fn finish(self) -> io::Result<()> {
         let Some(part) = &self.part else {
             return Err(io::Error::from(ErrorKind::NotFound));
@@ -65,7 +65,7 @@ where
         Ok(())
     }
 
-    /// Makes the part, also where nothing is to be written.
+    /// Makes the part, also if nothing is to be written.
     fn is_made(&mut self) -> bool {
         match self.make() {
             Ok(()) => true,

@@ -1,20 +1,16 @@
 //! `dfu set`.
 
 use crate::changing::{Change, with_ids};
-use crate::given::open;
+use crate::gathering::gathered;
 use crate::owner::Owned;
-use crate::recording_reader::RecordingReader;
-use crate::refusing::{gather_fault, refused, refused_bytes, unread};
+use crate::refusing::{refused, refused_bytes};
 use crate::replacing::replace;
 use dfu_output::{Exit, Outcome, check_text};
-use dfu_suffix::{SuffixFault, gather};
+use dfu_suffix::SuffixFault;
 use std::rt::Files;
 
-/// The most bytes of a file.
-const MAX_FILE: usize = 16_777_216;
-
-/// Changes the identifiers of a file, which is replaced whole, and prints what checking the new one prints. The reason of a fault stands
-/// beside the end.
+/// Changes the identifiers of a file, which is replaced whole, and prints what checking the new one prints. The outcome has the
+/// reason of a fault.
 pub fn set_file<R: Files + Input + Print + AllocGlobal>(
     rt: &R,
     file: &str,
@@ -25,14 +21,9 @@ where
     R::File: Owned,
 {
     let alloc = rt.alloc();
-    let reader = match open(rt, file) {
-        Ok(reader) => reader,
-        Err(error) => return unread(rt, file, &error),
-    };
-    let mut noting = RecordingReader::new(reader);
-    let bytes = match gather(alloc, &mut noting, MAX_FILE) {
-        Ok(bytes) => bytes,
-        Err(fault) => return refused(rt, file, gather_fault(fault), &noting),
+    let (bytes, noting) = match gathered(rt, file) {
+        Ok(gathered) => gathered,
+        Err(outcome) => return outcome,
     };
     let text = match with_ids(alloc, &bytes, change) {
         Ok(text) => text,

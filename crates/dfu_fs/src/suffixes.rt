@@ -16,7 +16,7 @@ pub(crate) fn sums_why(alloc: Global, written: u32, found: u32) -> Result<String
     )
 }
 
-/// Why the length of a suffix is wrong: what it says, of a file of so many bytes.
+/// Why the length of a suffix is wrong: what it says, in a file of this many bytes.
 #[tactic(auto, unfolding(crate::specs::SuffixReasons::length_why))]
 pub(crate) fn length_why(alloc: Global, said: u8, count: u32) -> Result<String, AllocError>
     ensures { IfOk result (λ t. string_bytes t ≡ length_why said count) }

@@ -21,8 +21,8 @@ pub(crate) struct TempFile<F> {
     pub file: F,
 }
 
-/// The rights of a new file before the system's mask; where it replaces a file, its own user's
-/// alone until it gets the rights of that.
+/// The rights of a new file before the system's mask. If it replaces a file, only its own user
+/// has any until it gets the rights of that file.
 fn first_rights(place: &Destination) -> u32 {
     match place.file {
         Some(_) => 0o600,
@@ -56,7 +56,7 @@ fn new_part<R: Files + AllocGlobal>(rt: &R, place: Destination) -> io::Result<Te
     Err(io::Error::new(ErrorKind::AlreadyExists, why))
 }
 
-/// The rights that a file has in place of one with this mode: the same; where it has another owner
+/// The rights that a file has in place of one with this mode: the same; if it has another owner
 /// and group, that group has those of all others. In octal, the masks of the clauses are 777, 707 and 7.
 pub fn rights_after(mode: u32, is_kept: bool) -> u32
     ensures kept { is_kept ≡ true → result ≡ bit_and mode 511 }

@@ -12,7 +12,7 @@ use Rattle.dfu_json.specs.Parts.{list_length}
 pub found : {X : Type 0} (p : X → Bool) (xs : List X) (at : ℕ) → position p xs ≡ Some at → at ≡ position_or_len p xs
 found p xs at e = sym (cond_some (nat_lt (position_or_len p xs) (length xs)) (position_or_len p xs) at e).1
 
--- If none was found, it would be at the end.
+-- If none was found, the place is the end.
 pub not_found : {X : Type 0} (p : X → Bool) (xs : List X) → position p xs ≡ None → length xs ≡ position_or_len p xs
 not_found p xs e =
     let at = position_or_len p xs in

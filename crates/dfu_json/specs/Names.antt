@@ -1,4 +1,4 @@
--- The texts of the words that stand in each line of a form, and of the keys of the objects.
+-- The texts of the words that each line of a form has, and of the keys of the objects.
 use Rattle.std.specs.Prelude.{ℕ, List, codes}
 use Rattle.dfu_json.specs.declared.name.Name.{Name}
 use Rattle.dfu_json.specs.declared.name.Name.TheVariants as name

@@ -6,12 +6,12 @@ use Rattle.dfu_json.specs.declared.part.LinePart.{LinePart}
 use Rattle.dfu_json.specs.Parts.{◌>>=◌, taken}
 use Rattle.dfu_json.specs.Quoted.{quoted}
 
--- These members, where no words are left.
+-- These members, if no words are left.
 abbrev pub with_all : (out line : List ℕ) → Option (List ℕ)
 with_all out [] = Some out
 with_all out (b ∷ bs) = None
 
--- The members so far and those of the parts of a form, where all words of the line are of these parts.
+-- The members so far and those of the parts of a form, if all words of the line are of these parts.
 unfoldable pub fitted : List LinePart → (out line : List ℕ) → Option (List ℕ)
 fitted [] out line = with_all out line
 fitted (p ∷ ps) out line = taken p out line >>= λ s. fitted ps s.0 s.1
@@ -31,12 +31,12 @@ abbrev pub members_or_text : Option (List ℕ) → List ℕ → List ℕ
 members_or_text None line = quoted (codes "line") ++ (58 ∷ [] ++ quoted line)
 members_or_text (Some members) line = members
 
--- The name of a file is the first member, where there is one.
+-- The name of a file is the first member, if there is one.
 abbrev pub file_member : Option (List ℕ) → List ℕ
 file_member None = []
 file_member (Some file) = quoted (codes "file") ++ (58 ∷ [] ++ (quoted file ++ 44 ∷ []))
 
--- The bytes of a name of a file, where there is one.
+-- The bytes of a name of a file, if there is one.
 abbrev pub name_in : Option (Bor (List ℕ)) → Option (List ℕ)
 name_in None = None
 name_in (Some file) = Some file.now

@@ -11,13 +11,13 @@ use Rattle.dfu_json.specs.declared.part.LinePart.TheVariants as part
 use Rattle.dfu_json.specs.Names.{name_text}
 use Rattle.dfu_json.specs.Quoted.{array, quoted}
 
--- One step after another: there is nothing where the first gives nothing.
+-- One step after another: there is nothing if the first gives nothing.
 infixl 10 ◌>>=◌
 abbrev pub ◌>>=◌ : {A B : Type 0} → Option A → (A → Option B) → Option B
 None >>= f = None
 (Some x) >>= f = f x
 
--- A byte parts words where it is 20h.
+-- A byte separates words if it is 20h.
 abbrev pub is_space : ℕ → Bool
 is_space byte = byte == 32
 
@@ -27,7 +27,7 @@ word_in line =
     let n = position_or_len is_space line in
     if (n == 0) || (length line - n == 1) then None else Some (take n line, drop (n + 1) line)
 
--- The words after the first one, where that ends here: a space and at least one byte, or nothing.
+-- The words after the first one, if that ends here: a space and at least one byte, or nothing.
 unfoldable pub after_word : List ℕ → Option (List ℕ)
 after_word line =
     if length line == 0 then Some line
@@ -43,7 +43,7 @@ unfoldable pub list_length : List ℕ → ℕ
 list_length [] = 0
 list_length (b ∷ bs) = if starts_with nat_eq (b ∷ bs) (codes " events ") then 0 else list_length bs + 1
 
--- A word is a number of JSON: digits, of which the first is 0 only where it is the one.
+-- A word is a number of JSON: digits, the first of which is 0 only if it is the only one.
 abbrev pub is_number : List ℕ → Bool
 is_number word = list_all is_ascii_digit word && (nat_le (length word) 1 || not (slice_index word 0 == 48))
 
@@ -78,7 +78,7 @@ abbrev pub nested : Name → Name → (out line : List ℕ) → Option (List ℕ
 nested outer key out line =
     word_in line >>= λ w. Some (keyed out outer ++ 123 ∷ [] ++ quoted (name_text key) ++ 58 ∷ [] ++ quoted w.0, w.1)
 
--- The members so far and that of a part, and the words after the part; nothing where the words are not of this part.
+-- The members so far and that of a part, and the words after the part; nothing if the words are not of this part.
 unfoldable pub taken : LinePart → (out line : List ℕ) → Option (List ℕ × List ℕ)
 taken (part.Says key word) out line = rest_after line (name_text word) >>= λ r. Some (keyed out key ++ quoted (name_text word), r)
 taken (part.Value key kind) out line = valued key kind out line

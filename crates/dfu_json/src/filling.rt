@@ -7,7 +7,7 @@ use crate::part::LinePart;
 use crate::taking::take_part;
 use std::alloc::{AllocError, Global};
 
-/// The members of the object, where the line has this form.
+/// The members of the object, if the line has this form.
 fn fit(alloc: Global, form: &[LinePart], line: &[u8]) -> Result<Option<Vec<u8>>, AllocError>
     ensures { IfOk result (λ r. MatchOption r (fitted form.now [] line.now ≡ None) (λ out. fitted form.now [] line.now ≡ Some out.items)) }
 {

@@ -17,7 +17,7 @@ pub struct JsonLines<'t, W> {
 }
 
 impl<'t, W> JsonLines<'t, W> {
-    /// Before the first line, which is of this file, if any. Each line is an object where `is_on` says so, and else as it is.
+    /// Before the first line, which is of this file, if any. Each line is an object if `is_on` says so, and else unchanged.
     pub fn new(alloc: Global, is_on: bool, file: Option<&'t str>, out: W) -> JsonLines<'t, W> {
         JsonLines {
             alloc,

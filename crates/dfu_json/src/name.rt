@@ -1,4 +1,4 @@
-//! The words that stand in each line of a form, and the keys of the objects.
+//! The words that each line of a form has, and the keys of the objects.
 
 ghost use Rattle.std.specs.Prelude.{◌≡◌};
 ghost use Rattle.dfu_json.specs.Names.{name_text};

@@ -9,7 +9,7 @@ use crate::forms::FORMS;
 use crate::quoting::push_quoted;
 use std::alloc::{AllocError, Global};
 
-/// Adds the member of the name of a file, where there is one.
+/// Adds the member of the name of a file, if there is one.
 fn push_file(out: &mut Vec<u8>, file: Option<&str>) -> Result<(), AllocError>
     ensures { OnOk result (out.new.items ≡ out.old.items ++ file_member (name_in file.entry)) }
 {
@@ -36,7 +36,7 @@ fn push_members(alloc: Global, out: &mut Vec<u8>, line: &[u8]) -> Result<(), All
     }
 }
 
-/// The object of a line, which has no line end: `{"file":FILE,MEMBERS}`, or `{MEMBERS}` where there is no file. The members are those of the
+/// The object of a line, which has no line end: `{"file":FILE,MEMBERS}`, or `{MEMBERS}` if there is no file. The members are those of the
 /// first form that the line has, and else `"line":LINE`, with the text of the line.
 ///
 /// # Errors

@@ -39,7 +39,7 @@ fn push_key(out: &mut Vec<u8>, key: Name) -> Result<(), AllocError>
     out.extend_from_slice(b":")
 }
 
-/// Adds the value that a word is, and answers whether it is of this kind.
+/// Adds the value that a word is, and returns whether it is of this kind.
 #[tactic(auto, unfolding(crate::specs::Parts::with_value))]
 fn push_value(out: &mut Vec<u8>, kind: WordKind, word: &[u8]) -> Result<bool, AllocError>
     ensures { IfOk result (λ fits. MatchBool fits (with_value kind out.old.items word.now ≡ Some out.new.items)
@@ -127,7 +127,7 @@ fn take_nested<'l>(
     Ok(Some(rest))
 }
 
-/// Takes a part: adds its member, and answers with the words after it. Nothing where the words are not of this part.
+/// Takes a part: adds its member, and returns the words after it. Nothing if the words are not of this part.
 #[tactic(auto, unfolding(crate::specs::Parts::taken))]
 pub(crate) fn take_part<'l>(
     out: &mut Vec<u8>,

@@ -4,7 +4,7 @@ use Rattle.std.proofs.lemmas.List.{append_assoc, append-nil}
 use Rattle.dfu_wire.specs.declared.fault.WireFault.{WireFault}
 use Rattle.dfu_output.specs.Configuration.{Added, AddsText, Walks, Walked, Configured, text_then, end, stops, goes_on, whole, total_length, configuration_line}
 
--- A text behind two texts is behind both as one.
+-- A text after two texts is after both as one.
 after_twice : (first second : List ℕ) (r : Result (List ℕ) WireFault) → text_then first (text_then second r) ≡ text_then (first ++ second) r
 after_twice first second (Ok rest) = ap Ok (sym (append_assoc first second rest))
 after_twice first second (Err e) = refl
@@ -14,7 +14,7 @@ after_nothing : (r : Result (List ℕ) WireFault) → text_then [] r ≡ r
 after_nothing (Ok rest) = refl
 after_nothing (Err e) = refl
 
--- The text grew by this so far, and whatever the descriptors that are left give, all of them give the text so far, and that.
+-- The text grew by this so far. All descriptors give this text, and then what those that are left give.
 abbrev pub Grown : (bytes old : List ℕ) (inside : Bool) (rest line : List ℕ) → Type 0
 Grown bytes old inside rest line = (text : List ℕ) × (line ≡ old ++ text)
     × ((r : Result (List ℕ) WireFault) → Walks inside rest r → Walks false bytes (text_then text r))
@@ -24,7 +24,7 @@ pub begins : (bytes old : List ℕ) → Grown bytes old false bytes old
 begins bytes old =
     ([], sym (append-nil old), λ r w. subst (λ (a : Result (List ℕ) WireFault). Walks false bytes a) (sym (after_nothing r)) w)
 
--- A descriptor that adds its text is behind those before it.
+-- A descriptor that adds its text comes after those before it.
 pub grows : (bytes old : List ℕ) (inside now : Bool) (rest front back line new : List ℕ) → Grown bytes old inside rest line →
     2 ≤ slice_index rest 0 → slice_index rest 0 ≤ length rest → front ≡ take (slice_index rest 0) rest
     → back ≡ drop (slice_index rest 0) rest →
@@ -55,7 +55,7 @@ comes_to_end bytes old inside rest line (text, is, all) none = (
   is,
 )
 
--- Where the descriptors behind a configuration's own were all read, the whole was.
+-- If the descriptors after a configuration's own were all read, the whole was.
 pub all_read : (bytes back old new : List ℕ) → 9 ≤ length bytes → slice_index bytes 1 ≡ 2 → slice_index bytes 0 ≡ 9 →
     total_length bytes ≡ length bytes → back ≡ drop 9 bytes → old ≡ configuration_line (slice_index bytes 5) →
     Walked back old new (Ok tt) → Configured bytes (Ok new)

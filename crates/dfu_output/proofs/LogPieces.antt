@@ -28,7 +28,7 @@ on_quiet interface old new text c o s out none took = record {
       (sym (took.out ∙ ap (λ (x : Option Departure). c.out ++ told_text s.lines.number x) none ∙ append-nil c.out)) out;
 }
 
--- A byte came at which a departure was told.
+-- A byte came at which a departure was written.
 pub on_told : (interface : ℕ) (old mid new : Option (List ℕ)) (text : List ℕ) (c : LogCourse) (n : ℕ) (d : Departure) (o : Option Departure)
     (s : JudgingState) → Appends old mid c.out → Appends mid new (departure_text n d) → n ≡ s.lines.number → o ≡ Some d
     → JudgedText interface text c o s → Going interface old new text s
@@ -52,7 +52,7 @@ broke_after old mid new xs ys told part = record {
   told = Appends-trans old mid new xs part.front told part.told;
 }
 
--- A byte came at which a departure wasn't told.
+-- A byte came at which a departure wasn't written.
 pub falls_untold : (interface : ℕ) (old mid new : Option (List ℕ)) (text tail : List ℕ) (byte n : ℕ) (d : Departure)
     (o : Option Departure) (s s' : JudgingState) (f : LogFault) (g : Going interface old mid text s)
     → JudgedText interface (text ++ byte ∷ []) g.course o s' → o ≡ Some d → n ≡ s'.lines.number → CannotTell (departure_text n d) mid new f
@@ -100,7 +100,7 @@ falls_at interface old new text tail byte s f g why_not = record {
   stops = stops_from interface text g.course (byte ∷ tail) old new f g.out why_not;
 }
 
--- The reader fails behind this text.
+-- The reader fails after this text.
 pub falls_read : (interface : ℕ) (old new : Option (List ℕ)) (text tail : List ℕ) (s : JudgingState)
     → Going interface old new text s → LogStops interface old new (text ++ tail) Read
 falls_read interface old new text tail s g = record {
@@ -123,7 +123,7 @@ falls_first interface old text = record {
   stops = Appends-nil old;
 }
 
--- What falls whatever comes behind a text that was read falls.
+-- What falls with any bytes after a text that was read falls.
 pub falls_behind : (interface : ℕ) (given left old new : Option (List ℕ)) (front : List ℕ) (f : LogFault) → Consumes given left front
     → ((tail : List ℕ) → LogStops interface old new (front ++ tail) f) →
     IfSome given (λ text. LogStops interface old new (text ++ 10 ∷ []) f)
@@ -133,7 +133,7 @@ falls_behind interface (Some text) (Some rest) old new front f consumed falls =
     subst (λ (xs : List ℕ). LogStops interface old new xs f)
     (sym (append_assoc front rest (10 ∷ [])) ∙ ap (λ (xs : List ℕ). xs ++ 10 ∷ []) (sym consumed)) (falls (rest ++ 10 ∷ []))
 
--- What is behind a byte of a piece, and behind the piece.
+-- What follows a byte of a piece, and the piece.
 pub rest_behind : (text piece tail : List ℕ) (k d : ℕ) → k < length piece
     → (text ++ take k piece) ++ (get_or piece k d ∷ (drop (k + 1) piece ++ tail)) ≡ (text ++ piece) ++ tail
 rest_behind text piece tail k d below =

@@ -9,7 +9,7 @@ use Rattle.dfu_conformance.specs.declared.log.Line.TheVariants as line
 use Rattle.dfu_conformance.specs.Line.{LineSays}
 use Rattle.dfu_conformance.specs.MayAnswer.{CanAnswer, IsHeld, IsHeldPlain}
 use Rattle.dfu_conformance.specs.Verdict.{ArePlacesAfter, Departs}
-use Rattle.dfu_output.specs.judge.Course.{LogCourse, goes_on, departs, LineEndLeads, says_nothing, says_elsewhere, says_event, Judges, goes, ends, course_line_ended, departing, going_on}
+use Rattle.dfu_output.specs.judge.Course.{LogCourse, goes_on, departs, LineEndLeads, says_event, Judges, goes, ends, course_line_ended, departing, going_on}
 use Rattle.dfu_output.specs.judge.Texts.{is_single}
 use Rattle.dfu_conformance.specs.declared.log.LineFault.{LineFault}
 use Rattle.dfu_output.specs.declared.judge.fault.LogFault.{LogFault}
@@ -100,32 +100,20 @@ took_event interface byte s t lines text c e o is judged end came = ended_by int
   out = came.out;
 })
 
--- The end of a line that says nothing of the device.
-took_none : (interface byte : ℕ) (s : JudgingState) (text : List ℕ) (c : LogCourse) → byte ≡ 10 → Judges interface text c
-    → LineEndLeads interface c (course_line_ended c) → IsAt s (text ++ 10 ∷ []) (course_line_ended c) →
-    JudgedText interface (text ++ byte ∷ []) c None s
-took_none interface byte s text c end judged ends_it is = ended_by interface byte text c None s end (record {
-  next = course_line_ended c;
-  judged = ends judged ends_it;
-  at = is;
-  out = sym (append-nil c.out);
-})
-
--- It is empty, or a comment.
-pub took_blank : (interface byte : ℕ) (s : JudgingState) (lines : LinesState) (text : List ℕ) (c : LogCourse) → IsAt s text c
-    → Judges interface text c → EndsLine interface s.lines lines byte line.Blank
+-- The end of a line that is passed over.
+pub took_passed : (interface byte : ℕ) (s : JudgingState) (lines : LinesState) (text : List ℕ) (c : LogCourse) (says : Line)
+    (o : Option Line)
+    → (LineSays interface c.line (Some says) → LineEndLeads interface c (course_line_ended c)) → IsAt s text c → Judges interface text c
+    → o ≡ Some says → TakesByte interface s.lines lines byte o
     → JudgedText interface (text ++ byte ∷ []) c None (record s { lines = lines })
-took_blank interface byte s lines text c is judged end =
-    took_none interface byte _ text c end.end judged (says_nothing (said interface byte s lines text c line.Blank is end))
-    (at_end interface byte s lines text c line.Blank is end)
-
--- It is of another interface or class.
-pub took_elsewhere : (interface byte : ℕ) (s : JudgingState) (lines : LinesState) (text : List ℕ) (c : LogCourse) → IsAt s text c
-    → Judges interface text c → EndsLine interface s.lines lines byte line.Elsewhere
-    → JudgedText interface (text ++ byte ∷ []) c None (record s { lines = lines })
-took_elsewhere interface byte s lines text c is judged end =
-    took_none interface byte _ text c end.end judged (says_elsewhere (said interface byte s lines text c line.Elsewhere is end))
-    (at_end interface byte s lines text c line.Elsewhere is end)
+took_passed interface byte s lines text c says o leads is judged same took =
+    let end : EndsLine interface s.lines lines byte says = takes_as interface s.lines lines byte o (Some says) same took in
+    ended_by interface byte text c None (record s { lines = lines }) end.end (record {
+      next = course_line_ended c;
+      judged = ends judged (leads (said interface byte s lines text c says is end));
+      at = at_end interface byte s lines text c says is end;
+      out = sym (append-nil c.out);
+    })
 
 -- A byte that goes to its line.
 pub kept_byte : (interface byte : ℕ) (s : JudgingState) (lines : LinesState) (text : List ℕ) (c : LogCourse) → IsAt s text c

@@ -13,7 +13,7 @@ pub shown_full : (room : ℕ) (text : List ℕ) → room ≡ 0 → shown_of room
 unfolding shown_of
 shown_full room text full = rw full refl
 
--- The first character of a text is shown, and then what is behind it.
+-- The first character of a text is shown, and then what follows it.
 pub shown_more : (line text rest : List ℕ) (c most room : ℕ) → chars text ≡ c ∷ chars rest → room ≡ suc most
     → line ++ shown_of room text ≡ (line ++ encode_utf8 (plain c)) ++ shown_of most rest
 unfolding shown_of

@@ -19,33 +19,33 @@ ok_line s =
     ++ (codes " device " ++ hex 4 s.ids.device) ++ (codes " product " ++ hex 4 s.ids.product) ++ (codes " vendor " ++ hex 4 s.ids.vendor)
     ++ (codes " dfu " ++ hex 4 s.dfu) ++ (codes " crc " ++ hex 8 s.crc) ++ 10 ∷ []
 
--- The line for a fault is `fault NAME` where a stream failed, and else `refused NAME`.
+-- The line for a fault is `fault NAME` if a stream failed, and else `refused NAME`.
 unfoldable pub fault_line : SuffixFault → List ℕ
 fault_line Read = codes "fault Read" ++ 10 ∷ []
 fault_line Write = codes "fault Write" ++ 10 ∷ []
 fault_line f = codes "refused " ++ suffix_fault_name f ++ 10 ∷ []
 
--- A command ends with Fault where a stream failed, and with Refused at any other fault.
+-- A command ends with Fault if a stream failed, and with Refused at any other fault.
 abbrev pub fault_exit : SuffixFault → Exit
 fault_exit Read = Fault
 fault_exit Write = Fault
 fault_exit f = Refused
 
--- The line for what checking a file answered is that of the file, or that of the fault.
-abbrev pub check_line : Result Summary SuffixFault → List ℕ
-check_line (Ok s) = ok_line s
-check_line (Err f) = fault_line f
+-- The line for an answer is that of its value, or that of the fault.
+abbrev pub line_or_fault : {T : Type 0} → (line : T → List ℕ) → Result T SuffixFault → List ℕ
+line_or_fault line (Ok x) = line x
+line_or_fault line (Err f) = fault_line f
 
--- The command ends with Done where checking a file found no fault, and else as the fault says.
-abbrev pub check_exit : Result Summary SuffixFault → Exit
-check_exit (Ok s) = Done
-check_exit (Err f) = fault_exit f
+-- The command ends with Done if an answer is no fault, and else as the fault says.
+abbrev pub exit_or_fault : {T : Type 0} → Result T SuffixFault → Exit
+exit_or_fault (Ok x) = Done
+exit_or_fault (Err f) = fault_exit f
 
 -- The line for words that aren't understood is `bad words`.
 abbrev pub bad_words_line : List ℕ
 bad_words_line = codes "bad words" ++ 10 ∷ []
 
--- The fault of an answer, if it is one; or, of an answer that is none, that there was no memory for its line.
+-- The fault of an answer, if it is one; or, for an answer that is no fault, that there was no memory for its line.
 abbrev pub IsFaultOf : {T : Type 0} → Result T SuffixFault → Option SuffixFault → Type 0
 IsFaultOf (Ok x) fault = (fault ≡ None) ⊎ (fault ≡ Some NoMemory)
 IsFaultOf (Err f) fault = fault ≡ Some f

@@ -37,7 +37,7 @@ pub data AddsText (inside : Bool) (d : List ℕ) : Bool → Result (List ℕ) Wi
   bad_functional : {e : WireFault} → inside ≡ true → slice_index d 1 ≡ 0x21 → FirstFunctionalFault e d → AddsText inside d inside (Err e)
   other : slice_index d 1 ≢ 4 → (inside ≡ false) ⊎ (slice_index d 1 ≢ 0x21) → AddsText inside d inside (Ok [])
 
--- A text, or a fault, behind a text.
+-- A text, or a fault, after a text.
 abbrev pub text_then : List ℕ → Result (List ℕ) WireFault → Result (List ℕ) WireFault
 text_then text (Ok rest) = Ok (text ++ rest)
 text_then text (Err e) = Err e

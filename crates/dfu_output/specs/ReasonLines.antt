@@ -6,6 +6,6 @@ use Rattle.dfu_output.specs.ShownText.{shown_of}
 unfoldable pub reason_line : (label name why : List ℕ) → List ℕ
 reason_line label name why = codes "dfu: " ++ (label ++ shown_of 4096 name) ++ (codes ": " ++ why) ++ 10 ∷ []
 
--- Before a line of one of several files stands `NAME: `, with at most 4,096 characters of the name.
+-- `NAME: ` precedes a line of one of several files, with at most 4,096 characters of the name.
 unfoldable pub name_before : (name : List ℕ) → List ℕ
 name_before name = shown_of 4096 name ++ codes ": "

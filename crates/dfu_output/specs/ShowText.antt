@@ -39,7 +39,7 @@ ReadsStateBytes bytes (Err wire_fault.Long) = 1 < length bytes
 ReadsStateBytes bytes (Err wire_fault.UnknownState) = (length bytes ≡ 1) × (10 < slice_index bytes 0)
 ReadsStateBytes bytes (Err e) = ⊥
 
--- The bytes are these eight of a setup, which asks for this whatever its interface is; or this is their first fault: they are
+-- The bytes are these eight of a setup, which asks for this at any interface; or this is their first fault: they are
 -- fewer than eight, or more.
 abbrev pub ReadsSetup : List ℕ → Result AskedBy WireFault → Type 0
 ReadsSetup bytes (Ok s) = (length bytes ≡ 8) × IsSetup s.setup bytes × Asks (record s.setup { index = 0 }) s.asked
@@ -68,38 +68,34 @@ abbrev pub setup_answer : Result AskedBy WireFault → List ℕ
 setup_answer (Ok s) = setup_line s.setup s.asked
 setup_answer (Err e) = wire_line e
 
--- The command ends with Done where the bytes could be read, and else with Refused.
+-- The command ends with Done if the bytes could be read, and else with Refused.
 abbrev pub read_exit : {T : Type 0} → Result T WireFault → Exit
 read_exit (Ok x) = Done
 read_exit (Err e) = Refused
 
--- The line is that of the bytes as a descriptor; or, where they are one, it says that there was no memory for it.
+-- The line is that of what the bytes are read as, or of the fault; or, if they can be read, it says that there was no memory for it.
+abbrev pub WritesRead : {T : Type 0} → (Reads : List ℕ → Result T WireFault → Type 0) (line : List ℕ → Result T WireFault → List ℕ)
+    (bytes : List ℕ) (old new : Option (List ℕ)) → Exit → Type 0
+WritesRead {T} Reads line bytes old new result =
+    (answer : Result T WireFault) × Reads bytes answer
+    × (Wrote old new (line bytes answer) (read_exit answer) result
+    ⊎ (IsOk answer × Wrote old new (fault_line NoMemory) Refused result))
+
+-- The line is that of the bytes as a descriptor.
 abbrev pub WritesFunctional : (bytes : List ℕ) (old new : Option (List ℕ)) → Exit → Type 0
-WritesFunctional bytes old new result =
-    (answer : Result Functional WireFault) × ReadsFunctional bytes answer
-    × (Wrote old new (functional_answer answer) (read_exit answer) result
-    ⊎ (IsOk answer × Wrote old new (fault_line NoMemory) Refused result))
+WritesFunctional = WritesRead ReadsFunctional (λ bytes. functional_answer)
 
--- The line is that of the bytes as a status; or, where they are one, it says that there was no memory for it.
+-- The line is that of the bytes as a status.
 abbrev pub WritesStatus : (bytes : List ℕ) (old new : Option (List ℕ)) → Exit → Type 0
-WritesStatus bytes old new result =
-    (answer : Result StatusFields WireFault) × ReadsStatusBytes bytes answer
-    × (Wrote old new (status_answer answer (slice_index bytes 5)) (read_exit answer) result
-    ⊎ (IsOk answer × Wrote old new (fault_line NoMemory) Refused result))
+WritesStatus = WritesRead ReadsStatusBytes (λ bytes answer. status_answer answer (slice_index bytes 5))
 
--- The line is that of the bytes as a state; or, where they are one, it says that there was no memory for it.
+-- The line is that of the bytes as a state.
 abbrev pub WritesState : (bytes : List ℕ) (old new : Option (List ℕ)) → Exit → Type 0
-WritesState bytes old new result =
-    (answer : Result State WireFault) × ReadsStateBytes bytes answer
-    × (Wrote old new (state_answer answer) (read_exit answer) result
-    ⊎ (IsOk answer × Wrote old new (fault_line NoMemory) Refused result))
+WritesState = WritesRead ReadsStateBytes (λ bytes. state_answer)
 
--- The line is that of the bytes as a setup; or, where they are one, it says that there was no memory for it.
+-- The line is that of the bytes as a setup.
 abbrev pub WritesSetup : (bytes : List ℕ) (old new : Option (List ℕ)) → Exit → Type 0
-WritesSetup bytes old new result =
-    (answer : Result AskedBy WireFault) × ReadsSetup bytes answer
-    × (Wrote old new (setup_answer answer) (read_exit answer) result
-    ⊎ (IsOk answer × Wrote old new (fault_line NoMemory) Refused result))
+WritesSetup = WritesRead ReadsSetup (λ bytes. setup_answer)
 
 -- The text for bytes that were read as a configuration, or the line for the fault.
 abbrev pub configuration_answer : Result (List ℕ) WireFault → List ℕ
@@ -121,7 +117,7 @@ WritesBytes Writes text old new result =
     ⊎ (((e : FromHexError) × (decode_of text ≡ Err e) × Wrote old new no_hex_line Refused result)
     ⊎ ((length text % 2 ≡ 0) × Wrote old new (fault_line NoMemory) Refused result))
 
--- A word is none of the five kinds of bytes.
+-- A word is not one of the five kinds of bytes.
 abbrev pub IsNoKind : List ℕ → Type 0
 IsNoKind kind = (kind ≢ codes "functional") × (kind ≢ codes "status") × (kind ≢ codes "state") × (kind ≢ codes "setup")
     × (kind ≢ codes "configuration")

@@ -6,7 +6,7 @@ ghost use Rattle.dfu_output.specs.AddText.{HasAddFault, WritesAdd, wrote_line};
 
 use crate::exit::Exit;
 use crate::faults::fault_text;
-use crate::numbers::{made_field, push};
+use crate::numbers::{number_field, push};
 use crate::output::write_out;
 use dfu_suffix::{SuffixFault, add};
 use dfu_wire::Ids;
@@ -23,7 +23,7 @@ pub fn wrote_line(alloc: Global, count: u32) -> Result<String, AllocError>
     ensures { IfOk result (λ t. string_bytes t ≡ wrote_line count) }
 {
     let mut line = String::from_str(alloc, "wrote")?;
-    made_field(&mut line, " ", count.to_string(alloc)?)?;
+    number_field(alloc, &mut line, " ", u64::from(count))?;
     push(&mut line, "\n")?;
     Ok(line)
 }
@@ -34,7 +34,7 @@ pub fn wrote_line(alloc: Global, count: u32) -> Result<String, AllocError>
 /// all of it, and after any other line but `wrote N` nothing is. Where the line can't be made for
 /// want of memory it is `refused NoMemory`, and `file` may be whole.
 ///
-/// Where `out` fails it answers Fault, and a front of the line is out, not all of it.
+/// If `out` fails, it returns Fault, and a front of the line is out, not all of it.
 pub fn add_text<R: Read + Drop, F: Write, W: Write>(
     alloc: Global,
     reader: R,
@@ -49,7 +49,7 @@ pub fn add_text<R: Read + Drop, F: Write, W: Write>(
     exit
 }
 
-/// Does what `add_text` does, and returns beside the end the fault whose line was to be written.
+/// Does what `add_text` does, and returns the end and the fault whose line was to be written.
 pub fn add_with_fault<R: Read + Drop, F: Write, W: Write>(
     alloc: Global,
     reader: R,

@@ -7,7 +7,7 @@ ghost use Rattle.dfu_output.specs.CheckText.{HasCheckFault, HasFindings, WritesC
 
 use crate::exit::Exit;
 use crate::faults::fault_text;
-use crate::numbers::{hex4, hex8, made_field, push};
+use crate::numbers::{hex4, hex8, made_field, number_field, push};
 use crate::output::write_out;
 use dfu_suffix::{Findings, SuffixFault, Summary, check_with};
 use std::alloc::{AllocError, Global};
@@ -18,12 +18,8 @@ fn ok_line(alloc: Global, summary: &Summary) -> Result<String, AllocError>
     ensures { IfOk result (λ t. string_bytes t ≡ ok_line summary.now) }
 {
     let mut line = String::from_str(alloc, "ok")?;
-    made_field(&mut line, " payload ", summary.payload.to_string(alloc)?)?;
-    made_field(
-        &mut line,
-        " suffix ",
-        u32::from(summary.suffix).to_string(alloc)?,
-    )?;
+    number_field(alloc, &mut line, " payload ", u64::from(summary.payload))?;
+    number_field(alloc, &mut line, " suffix ", u64::from(summary.suffix))?;
     made_field(&mut line, " device ", hex4(alloc, summary.ids.device)?)?;
     made_field(&mut line, " product ", hex4(alloc, summary.ids.product)?)?;
     made_field(&mut line, " vendor ", hex4(alloc, summary.ids.vendor)?)?;
@@ -35,10 +31,10 @@ fn ok_line(alloc: Global, summary: &Summary) -> Result<String, AllocError>
 
 /// Checks what the reader gives, and writes one line: `ok payload P suffix S device DDDD product
 /// PPPP vendor VVVV dfu BBBB crc CCCCCCCC` with Done, `refused NAME` with Refused, or
-/// `fault Read` with Fault. Memory is taken for the line of a file alone: where that is refused,
+/// `fault Read` with Fault. Memory is taken only for the line of a file: if that is refused,
 /// the line is `refused NoMemory`.
 ///
-/// Where the writer fails it answers Fault; a front of the line is out, not all of it, and nothing
+/// If the writer fails, it returns Fault; a front of the line is out, not all of it, and nothing
 /// more is written.
 pub fn check_text<R: Read + Drop, W: Write>(alloc: Global, reader: R, writer: &mut W) -> Exit
     ensures { WritesCheck (R.remaining reader) (W.contents writer.old) (W.contents writer.new) result }
@@ -48,7 +44,7 @@ pub fn check_text<R: Read + Drop, W: Write>(alloc: Global, reader: R, writer: &m
     exit
 }
 
-/// Does what `check_text` does, returns beside the end the fault whose line was to be written, and leaves in
+/// Does what `check_text` does, returns the end and the fault whose line was to be written, and leaves in
 /// `findings` what the reason of BadLength or BadCrc is made of. After TooShort, TooLarge and Read they say nothing.
 pub fn check_with_fault<R: Read + Drop, W: Write>(
     alloc: Global,

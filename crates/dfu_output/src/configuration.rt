@@ -4,7 +4,7 @@ ghost use Rattle.std.specs.Prelude.{◌≡◌, ◌++◌, ◌≤◌, IfOk, IfErr,
 ghost use Rattle.std.specs.String.{string_bytes};
 ghost use Rattle.dfu_output.specs.Configuration.{Added, Configured, Walked, configuration_line, interface_line, mode_name};
 
-use crate::numbers::{field, made_field, push};
+use crate::numbers::{field, number_field, push};
 use crate::show_lines::functional_line;
 use dfu_wire::{Functional, WireFault};
 use std::alloc::{AllocError, Global};
@@ -36,19 +36,15 @@ fn interface_line(
     ensures { IfOk result (λ t. string_bytes t ≡ interface_line number alternate protocol string) }
 {
     let mut line = String::from_str(alloc, "interface")?;
-    made_field(&mut line, " ", u32::from(number).to_string(alloc)?)?;
-    made_field(
-        &mut line,
-        " alternate ",
-        u32::from(alternate).to_string(alloc)?,
-    )?;
+    number_field(alloc, &mut line, " ", u64::from(number))?;
+    number_field(alloc, &mut line, " alternate ", u64::from(alternate))?;
     field(&mut line, " mode ", mode_name(protocol))?;
-    made_field(&mut line, " string ", u32::from(string).to_string(alloc)?)?;
+    number_field(alloc, &mut line, " string ", u64::from(string))?;
     push(&mut line, "\n")?;
     Ok(line)
 }
 
-// Adds what a descriptor gives, and answers whether the next one is within an interface for upgrades.
+// Adds what a descriptor gives, and returns whether the next one is within an interface for upgrades.
 fn add(
     alloc: Global,
     line: &mut String,
@@ -122,8 +118,8 @@ fn walk(alloc: Global, line: &mut String, bytes: &[u8]) -> Result<Result<(), Wir
 /// 2. `WrongType`: the second byte is not 02h.
 /// 3. `WrongLength`: the first byte is not 9.
 /// 4. `Short`, `Long`: there are fewer bytes than wTotalLength says, or more.
-/// 5. Of the first descriptor that can't be read, in their order: `WrongLength`, where it says that it has fewer than two bytes, or
-///    an interface has fewer than nine; `Short`, where it ends behind the last byte; or the fault of a functional descriptor.
+/// 5. Of the first descriptor that can't be read, in their order: `WrongLength`, if it says that it has fewer than two bytes, or
+///    an interface has fewer than nine; `Short`, if it ends after the last byte; or the fault of a functional descriptor.
 pub(crate) fn configuration_text(
     alloc: Global,
     bytes: &[u8],

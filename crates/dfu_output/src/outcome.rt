@@ -6,12 +6,12 @@ ghost use Rattle.dfu_output.specs.Exits.{exit_status};
 use crate::exit::Exit;
 use std::alloc::Global;
 
-/// How a command ended, and the line for standard error that says why, where there is one.
+/// How a command ended, and the line for standard error that says why, if there is one.
 #[derive(Debug, Drop)]
 pub struct Outcome {
     /// How it ended.
     pub exit: Exit,
-    /// Why, as a line, where the answer's own line doesn't say it and the reason is wanted.
+    /// Why, as a line, if the answer's own line doesn't say it and the reason is wanted.
     pub reason: Option<String>,
 }
 

@@ -7,7 +7,7 @@ use dfu_suffix::write_whole;
 use std::io::Write;
 
 // Many commands call it: once in the program is enough.
-/// Writes a text whole, and then ends as `exit` says; where the writer fails, with Fault.
+/// Writes a text whole, and then ends as `exit` says; if the writer fails, with Fault.
 #[inline(never)]
 pub fn write_out<W: Write>(writer: &mut W, text: &[u8], exit: Exit) -> Exit
     ensures { Wrote (W.contents writer.old) (W.contents writer.new) text.now exit result }

@@ -1,4 +1,4 @@
-//! Why an answer is given whose line doesn't say it: the line for standard error, and what stands in it.
+//! Why an answer is given whose line doesn't say it: the line for standard error, and what is in it.
 
 ghost use Rattle.std.specs.Prelude.{◌≡◌, IfOk};
 ghost use Rattle.std.specs.String.{string_bytes};
@@ -23,7 +23,7 @@ pub fn reason_line(alloc: Global, label: &str, name: &str, why: &str) -> Result<
     Ok(line)
 }
 
-/// What stands before a line of one of several files: its name as a terminal may show it, at most 4,096 characters of it, and a colon.
+/// What precedes a line of one of several files: its name as a terminal may show it, at most 4,096 characters of it, and a colon.
 ///
 /// # Errors
 ///

@@ -5,7 +5,7 @@ ghost use Rattle.std.specs.String.{string_bytes};
 ghost use Rattle.dfu_output.specs.ShowLines.{bad_hex_line, functional_line, setup_line, state_line, status_line, wire_line, yes_no};
 
 use crate::faults::fault_line;
-use crate::numbers::{field, hex2, hex4, made_field, push};
+use crate::numbers::{field, hex2, hex4, made_field, number_field, push};
 use dfu_suffix::SuffixFault;
 use dfu_wire::{Functional, Request, Setup, State, Status, WireFault};
 use hex::FromHexError;
@@ -27,16 +27,8 @@ pub(crate) fn functional_line(alloc: Global, f: &Functional) -> Result<String, A
     flag(&mut line, " upload ", f.can_upload)?;
     flag(&mut line, " tolerant ", f.tolerant)?;
     flag(&mut line, " will-detach ", f.will_detach)?;
-    made_field(
-        &mut line,
-        " detach ",
-        u32::from(f.detach_ms).to_string(alloc)?,
-    )?;
-    made_field(
-        &mut line,
-        " transfer ",
-        u32::from(f.transfer).to_string(alloc)?,
-    )?;
+    number_field(alloc, &mut line, " detach ", u64::from(f.detach_ms))?;
+    number_field(alloc, &mut line, " transfer ", u64::from(f.transfer))?;
     made_field(&mut line, " version ", hex4(alloc, f.version)?)?;
     push(&mut line, "\n")?;
     Ok(line)
@@ -48,9 +40,9 @@ pub(crate) fn status_line(alloc: Global, status: &Status, string: u8) -> Result<
 {
     let mut line = String::from_str(alloc, "status")?;
     field(&mut line, " ", status.code().name())?;
-    made_field(&mut line, " poll ", status.poll_ms().to_string(alloc)?)?;
+    number_field(alloc, &mut line, " poll ", u64::from(status.poll_ms()))?;
     field(&mut line, " state ", status.state().name())?;
-    made_field(&mut line, " string ", u32::from(string).to_string(alloc)?)?;
+    number_field(alloc, &mut line, " string ", u64::from(string))?;
     push(&mut line, "\n")?;
     Ok(line)
 }
@@ -73,21 +65,9 @@ pub(crate) fn setup_line(alloc: Global, setup: &Setup, asked: Request) -> Result
     field(&mut line, " ", asked.name())?;
     made_field(&mut line, " kind ", hex2(alloc, setup.kind)?)?;
     made_field(&mut line, " number ", hex2(alloc, setup.request)?)?;
-    made_field(
-        &mut line,
-        " value ",
-        u32::from(setup.value).to_string(alloc)?,
-    )?;
-    made_field(
-        &mut line,
-        " index ",
-        u32::from(setup.index).to_string(alloc)?,
-    )?;
-    made_field(
-        &mut line,
-        " length ",
-        u32::from(setup.length).to_string(alloc)?,
-    )?;
+    number_field(alloc, &mut line, " value ", u64::from(setup.value))?;
+    number_field(alloc, &mut line, " index ", u64::from(setup.index))?;
+    number_field(alloc, &mut line, " length ", u64::from(setup.length))?;
     push(&mut line, "\n")?;
     Ok(line)
 }

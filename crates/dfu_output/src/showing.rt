@@ -65,7 +65,7 @@ fn write_state<W: Write>(alloc: Global, bytes: &[u8], writer: &mut W) -> Exit
     }
 }
 
-// The setup that eight bytes are, and what it asks for, whatever its interface is.
+// The setup that eight bytes are, and what it asks for at any interface.
 fn setup_in(bytes: &[u8]) -> Result<AskedBy, WireFault>
     ensures { ReadsSetup bytes.now result }
 {
@@ -151,7 +151,7 @@ fn show_configuration<W: Write>(alloc: Global, hex: &str, writer: &mut W) -> Exi
 /// Writes a line for the bytes that `hex` has, two hexadecimal digits of either case each; for a configuration one for each interface for
 /// upgrades and each functional descriptor too.
 ///
-/// - `kind` is none of those below: `bad words`, with BadWords.
+/// - `kind` is not one of those below: `bad words`, with BadWords.
 /// - `hex` has an odd count of digits, or another letter: `refused BadHex`, with Refused.
 /// - The bytes don't decode: `refused NAME`, NAME being the first fault, with Refused.
 /// - Else, with Done, Y being `yes` or `no`:
@@ -163,8 +163,8 @@ fn show_configuration<W: Write>(alloc: Global, hex: &str, writer: &mut W) -> Exi
 ///   - `configuration N`, a configuration descriptor with all that follows it, and then `interface N alternate N mode MODE string N`, MODE
 ///     being `run-time`, `dfu` or `other`, and `functional ..` as above, in the order of the bytes.
 ///
-/// They are looked for in this order. Where an allocation is refused the line is `refused NoMemory`, with Refused. Where the writer fails
-/// it answers Fault, and a front of the text is out, not all of it.
+/// They are looked for in this order. If an allocation is refused, the line is `refused NoMemory`, with Refused. If the writer fails,
+/// it returns Fault, and a front of the text is out, not all of it.
 pub fn show_text<W: Write>(alloc: Global, kind: &str, hex: &str, writer: &mut W) -> Exit
     ensures functional { kind.now ≡ codes "functional"
         → WritesBytes WritesFunctional hex.now (W.contents writer.old) (W.contents writer.new) result }

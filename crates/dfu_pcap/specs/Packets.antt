@@ -5,7 +5,7 @@ use Rattle.dfu_pcap.specs.declared.event.PacketKind.TheVariants.{Submits, Comple
 use Rattle.dfu_pcap.specs.declared.event.Ending.{Ending}
 use Rattle.dfu_pcap.specs.declared.event.Ending.TheVariants.{Done, Stalled, Failed}
 
--- The byte at a place, and 0 behind the end.
+-- The byte at a place, and 0 after the end.
 abbrev pub byte : List ℕ → ℕ → ℕ
 byte bytes at = slice_index_or bytes at 0
 
@@ -24,7 +24,7 @@ abbrev pub eight_in : List ℕ → List ℕ
 eight_in bytes =
     byte bytes 0 ∷ byte bytes 1 ∷ byte bytes 2 ∷ byte bytes 3 ∷ byte bytes 4 ∷ byte bytes 5 ∷ byte bytes 6 ∷ byte bytes 7 ∷ []
 
--- How many bytes stand before the data, by the link type; nothing where it is none of usbmon.
+-- How many bytes precede the data, by the link type; nothing if it is not a link type of usbmon.
 abbrev pub head_in : (link : ℕ) → Option ℕ
 head_in link = if link == 189 then Some 48 else if link == 220 then Some 64 else None
 
@@ -36,7 +36,7 @@ is_control head bytes = nat_le head (length bytes) && ((byte bytes 9 == 2) && (b
 abbrev pub kind_in : List ℕ → PacketKind
 kind_in bytes = if byte bytes 8 == 83 then Submits else if byte bytes 8 == 67 then Completes else Other
 
--- Bytes 40 to 47 are the setup, where byte 14 is 0.
+-- Bytes 40 to 47 are the setup, if byte 14 is 0.
 abbrev pub setup_in_packet : List ℕ → Option (List ℕ)
 setup_in_packet bytes = if byte bytes 14 == 0 then Some (eight_in (drop 40 bytes)) else None
 

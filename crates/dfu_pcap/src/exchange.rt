@@ -32,7 +32,7 @@ impl Exchange<'_> {
         kind == 0x21 || kind == 0xa1
     }
 
-    /// Whether it is one by which a device of DFU is known, at this interface: DETACH, GETSTATUS of 6 bytes, or GETSTATE of 1.
+    /// Whether only a device of DFU gets it, at this interface: DETACH, GETSTATUS of 6 bytes, or GETSTATE of 1.
     pub(crate) fn tells_dfu(&self, interface: u8) -> bool {
         let [kind, request, _, _, low, high, length, length_high] = self.setup;
         low == interface

@@ -160,7 +160,7 @@ impl<'c> Joining<'c> {
 /// The requests of the class and those that show a reset, with their answers, in the order of the completions. A completion without a
 /// submission is passed over, as at the begin of a capture, and so is a submission without a completion.
 ///
-/// NotUsbmon where it is no capture, or a packet has another link type; NoMemory where an allocation was refused.
+/// NotUsbmon if it is no capture, or a packet has another link type; NoMemory if an allocation was refused.
 pub(crate) fn exchanges_of(alloc: Global, capture: &[u8]) -> Result<Vec<Exchange<'_>>, CaptureFault>
     ensures none { begins_capture capture.now ≡ false → result ≡ Err CaptureFault.NotUsbmon }
     ensures some { OnOk result (begins_capture capture.now ≡ true) }

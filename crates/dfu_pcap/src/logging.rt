@@ -89,7 +89,7 @@ struct Followed {
 }
 
 impl Followed {
-    /// Whether a request to this address is one to the device. ManyDevices where it is to another one.
+    /// Whether a request to this address is one to the device. ManyDevices if it is to another one.
     fn takes(&mut self, address: Address) -> Result<bool, CaptureFault> {
         if let Some(only) = self.only {
             return Ok(only == address);
@@ -114,7 +114,7 @@ struct Log {
 }
 
 impl Log {
-    /// Adds the line of an exchange behind empty lines for the packets before it.
+    /// Adds the line of an exchange after empty lines for the packets before it.
     fn push(&mut self, exchange: &Exchange<'_>) -> Result<(), AllocError> {
         for _line in self.lines.saturating_add(1)..exchange.packet {
             self.text.push(b'\n')?;
@@ -157,13 +157,13 @@ fn log_one(
     }
 }
 
-/// The log of a capture. Line N is what packet N says, counted from 1 as other programs do: a request of the class to the device, where the
+/// The log of a capture. Line N is what packet N says, counted from 1 as other programs do: a request of the class to the device, if the
 /// packet completes it; `reset`, if the packet shows that the bus was reset; and else it is empty. The device is the one at `only`, or
 /// the one that gets requests of DFU at this interface.
 ///
 /// # Errors
 ///
-/// NotUsbmon if it is no capture of usbmon or USBPcap; ManyDevices and CutPacket at the first request of which they are true; NoDevice if
+/// NotUsbmon if it is no capture of usbmon or USBPcap; ManyDevices and CutPacket at the first request for which they are true; NoDevice if
 /// there is none; NoMemory if an allocation was refused.
 pub fn log_of(
     alloc: Global,

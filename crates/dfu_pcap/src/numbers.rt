@@ -3,7 +3,7 @@
 ghost use Rattle.std.specs.Prelude.{◌≡◌, drop, take, slice_index_or};
 ghost use Rattle.dfu_pcap.specs.Packets.{two_in, four_in, eight_in};
 
-/// The byte at a place, or 0 behind the end.
+/// The byte at a place, or 0 after the end.
 pub(crate) fn byte_at(bytes: &[u8], at: usize) -> u8
     ensures { result ≡ slice_index_or bytes.now at 0 }
 {
@@ -13,7 +13,7 @@ pub(crate) fn byte_at(bytes: &[u8], at: usize) -> u8
     }
 }
 
-/// The bytes from a place on; none where the place is behind the end.
+/// The bytes from a place on; none if the place is after the end.
 pub(crate) fn from(bytes: &[u8], at: usize) -> &[u8]
     ensures { result.now ≡ drop at bytes.now }
 {
@@ -68,7 +68,7 @@ pub(crate) fn eight(bytes: &[u8], at: usize) -> [u8; 8]
     ]
 }
 
-/// The first bytes, so many of them; all where there are fewer.
+/// This many bytes from the start; all if there are fewer.
 pub(crate) fn front(bytes: &[u8], count: usize) -> &[u8]
     ensures { result.now ≡ take count bytes.now }
 {

@@ -33,7 +33,7 @@ pub(crate) struct Record<'c> {
     pub size: usize,
 }
 
-/// The form of a capture, by its first bytes; `None` where it is none.
+/// The form of a capture, by its first bytes; `None` if it is not a capture.
 pub(crate) fn form_of(bytes: &[u8]) -> Option<Form>
     ensures { is_some result ≡ begins_capture bytes.now }
 {
@@ -56,12 +56,12 @@ pub(crate) fn form_of(bytes: &[u8]) -> Option<Form>
     Some(form)
 }
 
-/// How many bytes stand before the first record.
+/// How many bytes precede the first record.
 pub(crate) fn head_of(form: &Form) -> usize {
     if form.is_ng { 0 } else { 24 }
 }
 
-/// The bytes from a place on, so many of them; `None` where there are fewer.
+/// This many bytes from a place on; `None` if there are fewer.
 fn part(bytes: &[u8], at: usize, count: usize) -> Option<&[u8]>
     ensures some { IfSome result (λ p. (p.now ≡ take count (drop at bytes.now)) × (at + count ≤ length bytes.now)) }
     ensures none { IsNone result → length bytes.now < at + count }
@@ -71,7 +71,7 @@ fn part(bytes: &[u8], at: usize, count: usize) -> Option<&[u8]>
 }
 
 impl Form {
-    /// The link type of an interface; 0 where it isn't known.
+    /// The link type of an interface; 0 if it isn't known.
     fn link(&self, interface: u32) -> u16 {
         match self.links.get(interface as usize) {
             Some(link) => *link,
@@ -79,7 +79,7 @@ impl Form {
         }
     }
 
-    /// The record of pcap that begins the bytes; `None` where it isn't whole.
+    /// The record of pcap that begins the bytes; `None` if it isn't whole.
     fn plain_record<'c>(&self, bytes: &'c [u8]) -> Option<Record<'c>>
         ensures size { IfSome result (λ r. (r.size ≡ 16 + captured_in self.now.is_big bytes.now) × (r.size ≤ length bytes.now)) }
         ensures packet { IfSome result (λ r. IfSome r.packet (λ p. (p.is_big ≡ self.now.is_big)
@@ -118,7 +118,7 @@ impl Form {
         }
     }
 
-    /// The block of pcapng that begins the bytes; `None` where it isn't whole. A section's head says the order of bytes and forgets the
+    /// The block of pcapng that begins the bytes; `None` if it isn't whole. A section's head says the order of bytes and forgets the
     /// interfaces.
     fn block<'c>(&mut self, bytes: &'c [u8]) -> Option<Record<'c>>
         ensures { IfSome result (λ r. 0 < r.size) }
@@ -149,7 +149,7 @@ impl Form {
         })
     }
 
-    /// The record that begins the bytes; `None` at the end of the capture, and where it ends in the middle.
+    /// The record that begins the bytes; `None` at the end of the capture, and if it ends in the middle.
     pub(crate) fn record<'c>(&mut self, bytes: &'c [u8]) -> Option<Record<'c>>
         ensures { IfSome result (λ r. 0 < r.size) }
     {

@@ -18,7 +18,7 @@ fn ending_of(bytes: &[u8], is_big: bool) -> Ending
     }
 }
 
-/// How many bytes stand before the data, by the link type; `None` where it is none of usbmon.
+/// How many bytes precede the data, by the link type; `None` if it is not a link type of usbmon.
 pub(crate) fn head_of(link: u16) -> Option<usize>
     ensures { result ≡ head_in link }
 {
@@ -40,7 +40,7 @@ fn kind_of(bytes: &[u8]) -> PacketKind
     }
 }
 
-/// The setup, where there is one.
+/// The setup, if there is one.
 fn setup_of(bytes: &[u8]) -> Option<[u8; 8]>
     ensures { result ≡ setup_in_packet bytes.now }
 {
@@ -51,7 +51,7 @@ fn setup_of(bytes: &[u8]) -> Option<[u8; 8]>
     }
 }
 
-/// What a packet with so many bytes before its data says; `None` where it is no control transfer to endpoint 0, or hasn't a whole head.
+/// What a packet says that has this many bytes before its data; `None` if it is no control transfer to endpoint 0, or hasn't a whole head.
 /// The bytes of each number are in the order that is given: bytes 0 to 7 are the id, 11 the device, 12 and 13 the bus, 28 to 31 the status,
 /// 32 to 35 the length, and 36 to 39 how many bytes of data follow the head.
 pub fn packet_event(bytes: &[u8], head: usize, is_big: bool) -> Option<UsbEvent<'_>>

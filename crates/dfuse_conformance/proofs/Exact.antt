@@ -1,4 +1,4 @@
--- The step of a judge is exact: a device may stand where some run of it ends.
+-- The step of a judge is exact: a device may be where a run of it ends.
 use Rattle.std.specs.Prelude.{◌≡◌, ◌⊎◌, ◌↔◌, ◌&&◌, ◌||◌, Bool, true, List, [], ◌∷◌, ◌++◌}
 use Rattle.std.specs.List.{list_any}
 use Rattle.std.proofs.Common.{refl, sym, ap, ◌∙◌, inl, inr}
@@ -53,7 +53,7 @@ led_back s m h d at e p n is (inr (inr (inr (inl g)))) = or_right _ _ (led_by d 
 led_back s m h d at e p n is (inr (inr (inr (inr (same, stay))))) =
     or_left _ _ (or_left _ _ (or_left _ _ (or_left _ _ (and_from _ _ stay (ap (λ (q : StandardState). may_stand at q) same ∙ is)))))
 
--- A device may stand at a place after an event exactly where it might stand somewhere, and the event may lead it there.
+-- A device may be at a place after an event exactly if it might be somewhere before, and the event may lead it there.
 answered_exact : (at : List Bool) (e : LogEvent) (n : StandardState)
     → (led_or_rests at e n ≡ true) ↔ ((p : StandardState) × (may_stand at p ≡ true) × DfuseAnswer p e n)
 answered_exact at e n = (
@@ -61,7 +61,7 @@ answered_exact at e n = (
   λ x. led_back STANDARD MARKS HABITS DFUSE at e x.0 n x.1 x.2,
 )
 
--- One event more: a run ends where the device might stand, was led, and moved.
+-- One event more: a run ends where the device might be, was led, and moved.
 stepped_exact : (at : List Bool) (e : LogEvent) (n : StandardState)
     → (after_event at e n ≡ true) ↔ ((p q : StandardState) × (may_stand at p ≡ true) × DfuseAnswer p e q × MayMoveDfuse q n)
 stepped_exact at e n = (
@@ -82,7 +82,7 @@ run_more p (f ∷ events) e n = (
   λ x. (x.2.0, x.2.1, x.2.2, x.2.3, (run_more x.2.1 events e n).1 (x.0, x.1, x.2.4, x.3, x.4)),
 )
 
--- Exactly the places are held where a device may be: after one event more they are those of the step.
+-- The places where a device may be are held, and only they: after one event more they are those of the step.
 pub held_more : (before after : List Bool) (events : List LogEvent) (e : LogEvent)
     → ((p : StandardState) → (may_stand before p ≡ true) ↔ DfuseComesTo events p)
     → ((n : StandardState) → may_stand after n ≡ after_event before e n)

@@ -10,7 +10,7 @@ use Rattle.dfu_conformance.specs.MayAnswer.{MayAnswer as StandardAnswer, Run as 
 use Rattle.dfuse_conformance.specs.Laws.{StandardIsKept}
 use Rattle.dfuse_conformance.specs.Runs.{dfuse_attributes, dfuse_habits, tells, DfuseAnswer, DfuseRun}
 
--- Where a device may stay of which more requests have to be answered, it may of which fewer have to.
+-- A device that may stay if more requests have to be answered may stay if fewer have to.
 still : (plain other : Bool) (a : Response) → stays_at plain a ≡ true → stays_at (plain && other) a ≡ true
 still plain other answer.Nothing e = refl
 still false other answer.Stall e = refl

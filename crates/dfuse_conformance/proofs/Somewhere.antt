@@ -1,4 +1,4 @@
--- A device may stand somewhere exactly where some run ends.
+-- A device may be exactly at the places where a run ends.
 use Rattle.std.specs.Prelude.{◌≡◌, ◌↔◌, ℕ, Bool, true, false, List, slice_index_or}
 use Rattle.std.proofs.Common.{ap, ◌∙◌}
 use Rattle.dfu_conformance.specs.declared.standard_state.StandardState.{StandardState}
@@ -10,7 +10,7 @@ use Rattle.dfuse_conformance.specs.inside.Stepped.{is_somewhere}
 use Rattle.dfu_conformance.proofs.Places.{place_of, number_back, number_below}
 use Rattle.dfu_conformance.proofs.Somewhere.{some_there, some_from}
 
--- A device may stand somewhere exactly where it may at some place.
+-- A device may be somewhere exactly if it may be at some place.
 held_anywhere : (at : List Bool) → (is_somewhere at ≡ true) ↔ ((p : StandardState) × (may_stand at p ≡ true))
 unfolding is_somewhere
 held_anywhere at = (
@@ -21,7 +21,7 @@ held_anywhere at = (
   λ x. some_there (λ (n : ℕ). slice_index_or at n false) 12 (place_number x.0) (number_below x.0) x.1,
 )
 
--- It may stand somewhere exactly where it may have answered so.
+-- It may be somewhere exactly if it may have answered so.
 pub held_can : (at : List Bool) (events : List LogEvent) → AreHeld at events → (is_somewhere at ≡ true) ↔ DfuseCanAnswer events
 held_can at events so = (
   λ is_so. let (p, is) = (held_anywhere at).0 is_so in (p, (so p).0 is),

@@ -14,7 +14,7 @@ use Rattle.dfuse_conformance.specs.inside.Stepped.{after_event, is_somewhere}
 use Rattle.dfuse_conformance.proofs.Exact.{held_more, run_front}
 use Rattle.dfuse_conformance.proofs.Somewhere.{held_can}
 
--- A device may stand at each place at first.
+-- A device may be at each place at first.
 everywhere : (p : StandardState) → may_stand EVERYWHERE p ≡ true
 everywhere AppIdle = refl
 everywhere AppDetach = refl
@@ -29,7 +29,7 @@ everywhere UploadIdle = refl
 everywhere Error = refl
 everywhere Fresh = refl
 
--- So exactly the places are held at which it may be after no event: all.
+-- So the places where it may be after no event are held: all.
 pub held_first : AreHeld EVERYWHERE []
 held_first p = (λ x. (p, inl refl), λ x. everywhere p)
 
@@ -41,13 +41,13 @@ can_nothing = (AppIdle, (AppIdle, inl refl))
 abbrev pub IsStep : List Bool → LogEvent → List Bool → Type 0
 IsStep before e after = (n : StandardState) → may_stand after n ≡ after_event before e n
 
--- If a device may stand somewhere behind an event, it may have answered it so.
+-- If a device may be somewhere after an event, it may have answered it so.
 pub goes_on : (before after : List Bool) (events : List LogEvent) (e : LogEvent) → IsStep before e after → AreHeld before events
     → is_somewhere after ≡ true → DfuseCanAnswer (events ++ e ∷ []) × AreHeld after (events ++ e ∷ [])
 goes_on before after events e says so left =
     let next = held_more before after events e so says in ((held_can after (events ++ e ∷ []) next).0 left, next)
 
--- If it may stand nowhere, the event is a departure.
+-- If it may be nowhere, the event is a departure.
 pub departs : (before after : List Bool) (events : List LogEvent) (e : LogEvent) → IsStep before e after → AreHeld before events
     → is_somewhere after ≡ false → DfuseDeparts events (record { before = before; event = e }) EVERYWHERE
 departs before after events e says so none = record {
@@ -66,7 +66,7 @@ can_front n events may = go (take-append-drop n events) may
         (subst (λ (es : List LogEvent). DfuseRun from es last) (sym e) run) in
         (here, (from, front))
 
--- A departure behind the first events is the first one, and no device may have answered all.
+-- A departure after the first events is the first one, and no device may have answered all.
 pub is_first : (events : List LogEvent) (n : ℕ) (e : LogEvent) (d : Departure) (anew : List Bool) → n < length events
     → DfuseCanAnswer (take n events) → take (n + 1) events ≡ take n events ++ e ∷ [] → d.event ≡ e → DfuseDeparts (take n events) d anew
     → IsFirstDeparture events n d × (DfuseCanAnswer events → ⊥)

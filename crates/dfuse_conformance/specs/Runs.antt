@@ -34,17 +34,17 @@ GoesByDfuse rows from e next = GoesBy rows dfuse_attributes dfuse_habits from e 
 abbrev pub MayMoveDfuse : StandardState → StandardState → Type 0
 MayMoveDfuse from next = MayMove dfuse_attributes dfuse_habits from next
 
--- GETSTATUS and GETSTATE tell where a device is.
+-- GETSTATUS and GETSTATE report where a device is.
 abbrev pub tells : EventKind → Bool
 tells GetStatus = true
 tells GetState = true
 tells asked = false
 
--- The request has to be answered: it tells where a device is, and is as section 3 of USB DFU 1.1 has it.
+-- The request has to be answered: it reports where a device is, and is as section 3 of USB DFU 1.1 has it.
 abbrev pub is_told : LogEvent → Bool
 is_told e = e.is_plain && tells e.asked
 
--- A device may be where it was: nothing was seen, so that the request may not have come; or a request was stalled that doesn't have to be
+-- A device may stay where it was: nothing was seen, so that the request may not have come; or a request was stalled that doesn't have to be
 -- answered.
 abbrev pub rests : LogEvent → Bool
 rests e = stays_at (is_told e) e.answer

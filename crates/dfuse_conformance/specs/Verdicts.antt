@@ -6,7 +6,7 @@ use Rattle.dfu_conformance.specs.declared.verdict.Departure.{Departure}
 use Rattle.dfu_conformance.specs.Fits.{place_number}
 use Rattle.dfuse_conformance.specs.Runs.{DfuseCanAnswer, DfuseComesTo}
 
--- A device may stand at this place.
+-- A device may be at this place.
 abbrev pub may_stand : List Bool → StandardState → Bool
 may_stand at p = slice_index_or at (place_number p) false
 

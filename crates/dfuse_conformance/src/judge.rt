@@ -8,10 +8,10 @@ use dfu_conformance::{Departure, LogEvent};
 /// Every place.
 const EVERYWHERE: Places = [true; 12];
 
-/// A judge of one DfuSe device, of which nothing is known at first. It takes no memory beyond its own 12 bytes.
+/// A judge of one DfuSe device, about which nothing is known at first. It takes no memory beyond its own 12 bytes.
 #[derive(Clone, Copy, Debug, Drop, PartialEq, Eq)]
 pub struct DfuseJudge {
-    /// By place, in the order of [`dfu_conformance::StandardState`]: whether a DfuSe device may stand there now, by the events since the
+    /// By place, in the order of [`dfu_conformance::StandardState`]: whether a DfuSe device may be there now, by the events since the
     /// last departure.
     pub at: [bool; 12],
 }
@@ -21,14 +21,14 @@ impl DfuseJudge {
     ghost use Rattle.dfuse_conformance.specs.Verdicts.{AreHeld, DfuseDeparts};
     ghost use Rattle.dfu_conformance.specs.declared.event.LogEvent.{LogEvent};
 
-    /// A judge of a device of which nothing is known: it may be anywhere.
+    /// A judge of a device about which nothing is known: it may be anywhere.
     pub fn new() -> DfuseJudge
         ensures { AreHeld result.at [] }
     {
         DfuseJudge { at: EVERYWHERE }
     }
 
-    /// An event comes. If no DfuSe device is left, the departure is handed out, and from then on the device may be anywhere again.
+    /// An event comes. If no DfuSe device is left, it returns the departure, and from then on the device may be anywhere again.
     pub fn take(&mut self, event: &LogEvent) -> Option<Departure>
         ensures kept { IsNone result → (es : List LogEvent) → AreHeld self.old.at es
             → DfuseCanAnswer (es ++ event.now ∷ []) × AreHeld self.new.at (es ++ event.now ∷ []) }

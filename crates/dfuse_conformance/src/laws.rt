@@ -2,7 +2,7 @@
 
 ghost use Rattle.dfuse_conformance.specs.Laws.{StandardIsKept};
 
-/// A DfuSe device may answer whatever a device of USB DFU 1.1 may that has its bmAttributes and habits.
+/// A DfuSe device may answer all that a device of USB DFU 1.1 with its bmAttributes and habits may.
 pub fn standard_is_kept()
     ensures { StandardIsKept }
 {}

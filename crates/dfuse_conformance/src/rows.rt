@@ -22,7 +22,7 @@ macro_rules! row {
     };
 }
 
-/// What a DfuSe device may answer beyond USB DFU 1.1: where it stands, what it is asked, what is answered, where it stands then. `Habit`
+/// What a DfuSe device may answer beyond USB DFU 1.1: where it is, what it is asked, what it answers, where it is then. `Habit`
 /// marks what each such device does, `Open` what they are known to do or may do.
 #[rattlefmt::skip]
 pub static DFUSE: [Row; 12] = [

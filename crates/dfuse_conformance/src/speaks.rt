@@ -1,4 +1,4 @@
-//! Whether a row is for a DfuSe device, and whether it may be where it was.
+//! Whether a row is for a DfuSe device, and whether it may stay where it was.
 
 ghost use Rattle.std.specs.Prelude.{◌≡◌, ◌==◌};
 ghost use Rattle.std.specs.Int.{bit_at};
@@ -49,7 +49,7 @@ pub fn is_told(event: &LogEvent) -> bool
     }
 }
 
-/// Whether a device may be where it was: nothing was seen of an answer, or a request was stalled that doesn't have to be answered.
+/// Whether a device may stay where it was: nothing was seen of an answer, or a request was stalled that doesn't have to be answered.
 pub(crate) fn may_rest(event: &LogEvent) -> bool
     ensures { result ≡ rests event.now }
 {

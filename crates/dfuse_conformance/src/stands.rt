@@ -1,4 +1,4 @@
-//! Where a device may stand.
+//! Where a device may be.
 
 ghost use Rattle.std.specs.Prelude.{◌≡◌, ◌||◌, ◌&&◌, ◌==◌};
 ghost use Rattle.std.specs.List.{list_any};
@@ -13,10 +13,10 @@ use dfu_conformance::{
     DRIFTS, Drift, HABITS, LogEvent, MARKS, Row, STANDARD, StandardState, When, speaks_of,
 };
 
-/// By place, whether a device may stand there.
+/// By place, whether a device may be there.
 pub(crate) type Places = [bool; 12];
 
-/// A device is led from one place to another, if it may stand at the first and is one of those.
+/// A device is led from one place to another, if it may be at the first and is one of those.
 fn lead(before: &Places, from: StandardState, when: When, after: &mut Places, to: StandardState)
     ensures { (n : StandardState) → may_stand after.new n
         ≡ (may_stand after.old n || ((place_number to == place_number n) && (may_stand before.now from && of_dfuse when))) }
@@ -25,7 +25,7 @@ fn lead(before: &Places, from: StandardState, when: When, after: &mut Places, to
     after[to] = after[to] || before[from.number()] && is_of_dfuse(when);
 }
 
-/// The place is added to which a row leads.
+/// Adds the place to which a row leads.
 fn go(row: &Row, before: &Places, event: &LogEvent, after: &mut Places)
     ensures { (n : StandardState) → may_stand after.new n ≡ (may_stand after.old n || leads_to before.now event.now n row.now) }
 {
@@ -34,7 +34,7 @@ fn go(row: &Row, before: &Places, event: &LogEvent, after: &mut Places)
     }
 }
 
-/// The places are added to which one of these rows leads.
+/// Adds the places to which one of these rows leads.
 fn pass(rows: &[Row], before: &Places, event: &LogEvent, after: &mut Places)
     ensures { (n : StandardState) → may_stand after.new n ≡ (may_stand after.old n || list_any (leads_to before.now event.now n) rows.now) }
 {
@@ -43,7 +43,7 @@ fn pass(rows: &[Row], before: &Places, event: &LogEvent, after: &mut Places)
     }
 }
 
-/// The places are added to which one of these moves leads.
+/// Adds the places to which one of these moves leads.
 fn drift(moves: &[Drift], before: &Places) -> Places
     ensures { (n : StandardState) → may_stand result n ≡ (may_stand before.now n || list_any (moves_to before.now n) moves.now) }
 {
@@ -54,7 +54,7 @@ fn drift(moves: &[Drift], before: &Places) -> Places
     after
 }
 
-/// The places where a device may be as before.
+/// The places where a device may have stayed.
 fn rest(before: &Places, event: &LogEvent) -> Places
     ensures { (n : StandardState) → may_stand result n ≡ (rests event.now && may_stand before.now n) }
 {
@@ -65,7 +65,7 @@ fn rest(before: &Places, event: &LogEvent) -> Places
     }
 }
 
-/// The places where a device may stand after an event, if it might stand at these before it.
+/// The places where a device may be after an event, if it might be at these before it.
 pub(crate) fn step(before: &Places, event: &LogEvent) -> Places
     ensures { (n : StandardState) → may_stand result n ≡ after_event before.now event.now n }
 {
@@ -77,7 +77,7 @@ pub(crate) fn step(before: &Places, event: &LogEvent) -> Places
     drift(&DRIFTS, &after)
 }
 
-/// Whether a device may stand anywhere.
+/// Whether a device may be anywhere.
 pub(crate) fn is_anywhere(at: &Places) -> bool
     ensures { result ≡ is_somewhere at.now }
 {

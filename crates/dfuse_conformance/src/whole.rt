@@ -7,7 +7,7 @@ ghost use Rattle.dfuse_conformance.specs.Verdicts.{IsFirstDeparture};
 use crate::judge::DfuseJudge;
 use dfu_conformance::{Departure, LogEvent};
 
-/// The first event that no DfuSe device may have answered so, if nothing is known of it before these events: its place in the list, counted
+/// The first event that no DfuSe device may have answered so, if nothing is known of it before them: its place in the list, counted
 /// from 0, and the departure. `None` if a DfuSe device may have answered all.
 pub fn first_departure(events: &[LogEvent]) -> Option<(usize, Departure)>
     ensures kept { IsNone result → DfuseCanAnswer events.now }

@@ -41,7 +41,7 @@ abbrev pub some_below : (ℕ → Bool) → ℕ → Bool
 some_below p zero = false
 some_below p (suc n) = some_below p n || p n
 
--- Some device with this set of readings is held, whatever its bmAttributes.
+-- Some device with this set of readings is held, with any bmAttributes.
 unfoldable pub some_held : List ℕ → (readings : ℕ) → Bool
 some_held words r = some_below (λ (a : ℕ). word_has_bit words a r) 16
 
@@ -49,7 +49,7 @@ some_held words r = some_below (λ (a : ℕ). word_has_bit words a r) 16
 unfoldable pub anywhere : List (List ℕ) → (readings : ℕ) → Bool
 anywhere held r = some_below (λ (n : ℕ). some_held (slice_index_or held n []) r) 12
 
--- The better of a set of readings, where it is held, and another set: one that comes later has to have fewer readings.
+-- The better of a set of readings, if it is held, and another set: one that comes later has to have fewer readings.
 abbrev pub better_of : Bool → ℕ → Option ℕ → Option ℕ
 better_of false r least = least
 better_of true r None = Some r

@@ -26,11 +26,11 @@ at_first = record { number = 0; line = []; events = []; since = []; single = 0; 
 abbrev pub course_line_ended : LogCourse → LogCourse
 course_line_ended c = record c { number = c.number + 1; line = [] }
 
--- An event goes on where a device without habits may have answered all since the last departure; it counts where one state is left then.
+-- An event goes on if a device without habits may have answered all since the last departure; it counts if one state is left then.
 abbrev pub going_on : LogCourse → LogEvent → List Bool → LogCourse
 going_on c e at = record c { events = c.events ++ e ∷ []; since = c.since ++ e ∷ []; single = c.single + cond (is_single at) 1 0 }
 
--- An event departs where none may have, and its lines are printed; from then on the device may be anywhere.
+-- An event departs if none may have, and its lines are printed; from then on the device may be anywhere.
 abbrev pub departing : LogCourse → Departure → LogCourse
 departing c d = record c { events = c.events ++ d.event ∷ []; since = []; out = c.out ++ departure_text c.number d }
 

@@ -23,7 +23,7 @@ CannotGo interface front c rest (BadLine n why) = (n ≡ c.number + 1) × IsBadL
 CannotGo interface front c rest TooLarge = length front ≡ 1099511627776
 CannotGo interface front c rest fault = ⊥
 
--- What is out where judging stopped: what is printed of the text so far; where the writer failed the front of it.
+-- What is out when judging stopped: what is printed of the text so far, or a front of it if the writer failed.
 abbrev pub StopsWith : (interface : ℕ) (front : List ℕ) → LogCourse → (rest : List ℕ) (old new : Option (List ℕ)) → LogFault → Type 0
 StopsWith interface front c rest old new NoMemory = Appends old new c.out
 StopsWith interface front c rest old new Read = Appends old new c.out
@@ -43,7 +43,7 @@ pub record LogStops (interface : ℕ) (old new : Option (List ℕ)) (text : List
 unfoldable pub bad_line : ℕ → List ℕ
 bad_line n = codes "refused BadLine " ++ decimal n ++ 10 ∷ []
 
--- What is written where judging stopped, behind what it wrote: a line, and where the writer failed nothing more. Where there is no memory
+-- What is written when judging stopped, after what it wrote: a line, and nothing more if the writer failed. If there is no memory
 -- for the line of a bad line, it is that of NoMemory.
 abbrev pub WritesLogStop : LogFault → Option (List ℕ) → Option (List ℕ) → Exit → Type 0
 WritesLogStop (BadLine n why) old new result =
@@ -58,12 +58,12 @@ abbrev pub readings_of : Verdict → ℕ
 readings_of (KeptBy readings) = readings
 readings_of verdict = 0
 
--- The command ends with Done where the device is kept without habits, and else with Refused.
+-- The command ends with Done if the device is kept without habits, and else with Refused.
 abbrev pub exit_of : Verdict → Exit
 exit_of Kept = Done
 exit_of verdict = Refused
 
--- The verdict on the events is written behind what is printed of them, with the states in which the device may be; or there was no memory
+-- The verdict on the events is written after what is printed of them, with the states in which the device may be; or there was no memory
 -- for its line, and that is written.
 pub record WritesVerdict (c : LogCourse) (old new : Option (List ℕ)) (result : Exit) : Type 0 where
   pub verdict : Verdict
@@ -75,8 +75,8 @@ pub record WritesVerdict (c : LogCourse) (old new : Option (List ℕ)) (result :
   pub wrote : Wrote mid new (verdict_text verdict at (length c.events) c.single) (exit_of verdict) result
       ⊎ Wrote mid new (fault_line suffix.NoMemory) Refused result
 
--- A log was judged to its end, where its last line is ended too, and the verdict is written; or judging stopped at this fault, and the line
--- of that is written behind what it wrote.
+-- A log was judged to its end, which ends its last line too, and the verdict is written; or judging stopped at this fault, and the line
+-- of that is written after what it wrote.
 pub data WritesJudgment (interface : ℕ) (given old new : Option (List ℕ)) (result : Exit) (stop : Option LogFault) : Type 0 where
   to_the_end : IfSome given (λ text. (c : LogCourse) × Judges interface (text ++ 10 ∷ []) c × WritesVerdict c old new result) → stop ≡ None
       → WritesJudgment interface given old new result stop
@@ -87,7 +87,7 @@ pub data WritesJudgment (interface : ℕ) (given old new : Option (List ℕ)) (r
 abbrev pub WritesOfLog : (interface : ℕ) (given old new : Option (List ℕ)) → Exit → Type 0
 WritesOfLog interface given old new result = (stop : Option LogFault) × WritesJudgment interface given old new result stop
 
--- Why a departure wasn't told: there was no memory for its lines and none is out, or the writer failed and a front of them is.
+-- Why a departure wasn't written: there was no memory for its lines and none is out, or the writer failed and a front of them is.
 abbrev pub CannotTell : (text : List ℕ) (old new : Option (List ℕ)) → LogFault → Type 0
 CannotTell text old new NoMemory = new ≡ old
 CannotTell text old new Write = IsOutInPart old new text

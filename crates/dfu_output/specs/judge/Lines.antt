@@ -39,12 +39,12 @@ abbrev pub ends_line : List ℕ → Bool
 ends_line [] = false
 ends_line (byte ∷ bytes) = byte == 10
 
--- A line is none of a log: it is ended and can't be read, or it has 262,158 bytes and goes on.
+-- A line is not a line of a log: it is ended and can't be read, or it has 262,158 bytes and goes on.
 abbrev pub IsBadLine : (interface : ℕ) (line rest : List ℕ) → LineFault → Type 0
 IsBadLine interface line rest Long = (length line ≡ 262158) × (ends_line rest ≡ false)
 IsBadLine interface line rest why = LineSays interface line None × (why ≡ why_unread line) × (ends_line rest ≡ true)
 
--- Why the first of these bytes isn't taken: there is no room for it in the log, or its line is none.
+-- Why the first of these bytes isn't taken: there is no room for it in the log, or its line can't be one of a log.
 abbrev pub CannotTake : (interface : ℕ) → LinesState → (rest : List ℕ) → LogFault → Type 0
 CannotTake interface s rest (BadLine n why) = (n ≡ s.number + 1) × IsBadLine interface s.line rest why
 CannotTake interface s rest TooLarge = s.room ≡ 0

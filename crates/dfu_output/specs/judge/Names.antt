@@ -1,4 +1,4 @@
--- The names of what stands in a line of `dfu judge`.
+-- The names that a line of `dfu judge` has.
 use Rattle.std.specs.Prelude.{ℕ, List, [], codes}
 use Rattle.dfu_conformance.specs.declared.standard_state.StandardState.{StandardState}
 use Rattle.dfu_conformance.specs.declared.standard_state.StandardState.TheVariants as place
@@ -53,7 +53,7 @@ answer_name answer.Full = codes "full"
 answer_name answer.Short = codes "short"
 answer_name answer.Silent = codes "nothing"
 
--- The name of where a row stands in the standard.
+-- The name of where the standard has a row.
 abbrev pub source_name : Source → List ℕ
 source_name source.A = codes "appendix-A"
 source_name source.Open = codes "open"
@@ -68,7 +68,7 @@ reading_name reading.DetachAtOnce = codes "detach-at-once"
 reading_name reading.DetachLeaves = codes "detach-leaves"
 reading_name reading.ErrorWithoutCode = codes "error-without-code"
 
--- Of which devices a row speaks, with a space before it, and nothing where it is every one.
+-- For which devices a row is, with a space before it, and nothing if it is for every one.
 abbrev pub when_name : When → List ℕ
 when_name Always = []
 when_name CanDownload = codes " download"

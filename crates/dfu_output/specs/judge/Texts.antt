@@ -22,7 +22,7 @@ unfoldable pub each : {X : Type 0} → (X → List ℕ) → List X → List ℕ
 each text [] = []
 each text (x ∷ xs) = text x ++ each text xs
 
--- A device may be in this state, where these are the places at which it may be. It may be in dfuIDLE at two places.
+-- A device may be in this state, if these are the places at which it may be. It may be in dfuIDLE at two places.
 abbrev pub may_be_in : List Bool → StandardState → Bool
 may_be_in at DfuIdle = slice_index_or at (place_number DfuIdle) false || slice_index_or at (place_number Fresh) false
 may_be_in at p = slice_index_or at (place_number p) false
@@ -47,7 +47,7 @@ reading_text r reading = if bit_at r (reading_bit reading) == 1 then codes " " +
 abbrev pub readings_text : (readings : ℕ) → List ℕ
 readings_text r = each (reading_text r) READINGS
 
--- The line of a row is `allowed STATE REQUEST ANSWER STATE SOURCE`, with a word behind it where it speaks not of every device.
+-- The line of a row is `allowed STATE REQUEST ANSWER STATE SOURCE`, with a word after it if it is not for every device.
 unfoldable pub row_line : Row → List ℕ
 row_line row =
     codes "allowed " ++ place_name row.from ++ (codes " " ++ asked_name row.asked) ++ (codes " " ++ answer_name row.gives)

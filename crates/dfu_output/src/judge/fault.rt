@@ -5,7 +5,7 @@ use dfu_conformance::LineFault;
 /// Why a log was judged no further.
 #[derive(Clone, Copy, Debug, PartialEq, Eq)]
 pub enum LogFault {
-    /// A line is none of a log.
+    /// A line is not a line of a log.
     BadLine {
         /// Its number, counted from 1.
         number: u64,

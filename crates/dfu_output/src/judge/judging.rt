@@ -42,7 +42,7 @@ impl Model for Judging {
 }
 
 impl Judging {
-    /// A log of which no byte came; `None` where an allocation was refused.
+    /// A log before its first byte; `None` if an allocation was refused.
     pub(crate) fn new(alloc: Global) -> Option<Judging>
         ensures { IfSome result (λ s. IsAt s [] at_first) }
     {
@@ -80,11 +80,11 @@ impl Judging {
         }
     }
 
-    /// A byte comes. Where it ends a line at which the device departs, the departure is handed out.
+    /// A byte comes. If it ends a line at which the device departs, it returns the departure.
     ///
     /// # Errors
     ///
-    /// TooLarge where 1,099,511,627,776 bytes came before it; BadLine where it makes a line too long, or ends one that can't be read.
+    /// TooLarge if 1,099,511,627,776 bytes came before it; BadLine if it makes a line too long, or ends one that can't be read.
     pub(crate) fn take(&mut self, interface: u8, byte: u8) -> Result<Option<Departure>, LogFault>
         ensures ok { (text : List ℕ) (c : LogCourse) → IsAt self.old text c → Judges interface text c
             → IfOk result (λ o. JudgedText interface (text ++ byte ∷ []) c o self.new) }

@@ -54,7 +54,7 @@ fn put(line: &mut Vec<u8>, byte: u8)
 }
 
 impl LogLines {
-    /// A log of which no byte came; `None` if an allocation was refused.
+    /// A log before its first byte; `None` if an allocation was refused.
     pub fn new(alloc: Global) -> Option<LogLines>
         ensures { IfSome result (λ s. s ≡ record { line = []; room = 1099511627776; number = 0 }) }
     {
@@ -115,7 +115,7 @@ impl LogLines {
         Ok(line)
     }
 
-    /// A byte comes. If it ends a line, what the line says is handed out.
+    /// A byte comes. If it ends a line, it returns what the line says.
     ///
     /// # Errors
     ///

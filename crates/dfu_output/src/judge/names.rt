@@ -1,4 +1,4 @@
-//! The names of what stands in a line.
+//! The names that a line has.
 
 ghost use Rattle.std.specs.Prelude.{◌≡◌};
 ghost use Rattle.dfu_output.specs.judge.Names.{answer_name, asked_name, place_name, reading_name, source_name, when_name};

@@ -14,7 +14,7 @@ use std::io::{Read, Write};
 /// How many bytes are asked for at a time.
 const PIECE: usize = 65_536;
 
-/// A byte of the log comes, and a departure is told.
+/// A byte of the log comes, and a departure is written.
 fn step<W: Write>(
     alloc: Global,
     interface: u8,
@@ -91,7 +91,7 @@ fn judge_all<R: Read + Drop, W: Write>(
     }
 }
 
-/// Does what `judge_text` does, and returns beside the end the fault at which judging stopped.
+/// Does what `judge_text` does, and returns the end and the fault at which judging stopped.
 pub fn judge_with_fault<R: Read + Drop, W: Write>(
     alloc: Global,
     interface: u8,
@@ -112,11 +112,11 @@ pub fn judge_with_fault<R: Read + Drop, W: Write>(
 
 /// Judges the log that the reader gives, of a device whose DFU interface has this number: requests to other interfaces are passed over.
 /// Departures are written as they come, each with what was allowed, and at the end the verdict, whose forms docs/JUDGE.md has. The end is
-/// Done where the device is kept without habits, and else Refused.
+/// Done if the device is kept without habits, and else Refused.
 ///
 /// For a log that was judged no further the line is `refused BadLine N` or `refused NAME` with Refused, or `fault Read` with Fault; what
-/// was written before stands before it. Memory is taken for a line and for what is written: where it is refused the line is `refused
-/// NoMemory`. Where the writer fails it answers Fault; a front of the text is out, not all of it, and nothing more is written.
+/// was written before precedes it. Memory is taken for a line and for what is written: if it is refused, the line is `refused
+/// NoMemory`. If the writer fails, it returns Fault; a front of the text is out, not all of it, and nothing more is written.
 pub fn judge_text<R: Read + Drop, W: Write>(
     alloc: Global,
     interface: u8,

@@ -8,11 +8,11 @@ ghost use Rattle.dfu_output.specs.judge.Texts.{allowed_text, counts_text, depart
 use crate::judge::names::{
     READINGS, STATES, answer_name, asked_name, place_name, reading_name, source_name, when_name,
 };
-use crate::numbers::{field, made_field, push};
+use crate::numbers::{field, number_field, push};
 use dfu_conformance::{Departure, LogEvent, Reading, Row, STANDARD, StandardState, Verdict};
 use std::alloc::{AllocError, Global};
 
-/// Whether a device may be in this state, where these are the places at which it may be.
+/// Whether a device may be in this state, if these are the places at which it may be.
 pub(crate) fn may_be_in(at: &[bool; 12], place: StandardState) -> bool
     ensures { result ≡ may_be_in at.now place }
 {
@@ -154,7 +154,7 @@ pub(crate) fn departs_line(
     ensures { IfOk result (λ t. string_bytes t ≡ departs_text number departure.now) }
 {
     let mut line = String::from_str(alloc, "departs ")?;
-    made_field(&mut line, "", number.to_string(alloc)?)?;
+    number_field(alloc, &mut line, "", number)?;
     field(&mut line, " ", asked_name(departure.event.asked))?;
     push(&mut line, " in")?;
     push_states(&mut line, &departure.before)?;
@@ -181,8 +181,8 @@ pub(crate) fn departure_text(
 fn push_counts(alloc: Global, line: &mut String, events: u64, single: u64) -> Result<(), AllocError>
     ensures { OnOk result (string_bytes line.new ≡ string_bytes line.old ++ counts_text events single) }
 {
-    made_field(line, " events ", events.to_string(alloc)?)?;
-    made_field(line, " single ", single.to_string(alloc)?)
+    number_field(alloc, line, " events ", events)?;
+    number_field(alloc, line, " single ", single)
 }
 
 /// Adds the states in which a device may be, and ends the line.

@@ -16,7 +16,7 @@ fn plain(letter: char) -> char
     if letter.is_control() { '?' } else { letter }
 }
 
-/// The first character of a text, and what is behind it.
+/// The first character of a text, and what follows it.
 fn first_of(text: &str) -> Option<(char, &str)>
     ensures { MatchOption result (chars text.now ≡ []) (λ (c, rest). chars text.now ≡ c ∷ chars rest.now) }
 {

@@ -15,16 +15,16 @@ use Rattle.dfuse_conformance.specs.declared.rows.TheConstants.{DFUSE}
 use Rattle.dfuse_conformance.specs.Runs.{of_dfuse, rests}
 use Rattle.dfuse_conformance.specs.Verdicts.{may_stand}
 
--- The row leads a device to this place, from where it may stand.
+-- The row leads a device to this place, from where it may be.
 abbrev pub leads_to : List Bool → LogEvent → StandardState → Row → Bool
 leads_to at e n row =
     (place_number row.next == place_number n) && (fits row e && (may_stand at row.from && of_dfuse row.when))
 
--- The move leads a device to this place, from where it may stand.
+-- The move leads a device to this place, from where it may be.
 abbrev pub moves_to : List Bool → StandardState → Drift → Bool
 moves_to at n d = (place_number d.next == place_number n) && (may_stand at d.from && of_dfuse d.when)
 
--- A device may stand at this place once an event has come, before it moves by itself.
+-- A device may be at this place once an event has come, before it moves by itself.
 abbrev pub led_or_rests : List Bool → LogEvent → StandardState → Bool
 led_or_rests at e n =
     ((((rests e && may_stand at n) || list_any (leads_to at e n) STANDARD) || list_any (leads_to at e n) MARKS)
@@ -35,10 +35,10 @@ abbrev pub then_moved : (StandardState → Bool) → StandardState → Bool
 then_moved held n =
     held n || list_any (λ (d : Drift). (place_number d.next == place_number n) && (held d.from && of_dfuse d.when)) DRIFTS
 
--- A device may stand at this place after an event.
+-- A device may be at this place after an event.
 abbrev pub after_event : List Bool → LogEvent → StandardState → Bool
 after_event at e n = then_moved (λ (p : StandardState). led_or_rests at e p) n
 
--- A device may stand somewhere.
+-- A device may be somewhere.
 unfoldable pub is_somewhere : List Bool → Bool
 is_somewhere at = some_below (λ (n : ℕ). slice_index_or at n false) 12

@@ -1,4 +1,4 @@
--- A log that is judged, as it stands in memory.
+-- A log that is judged, as it is in memory.
 use Rattle.std.specs.Prelude.{◌≡◌, ℕ, ◌+◌, List, [], ◌++◌, length, Option, Some, None}
 use Rattle.std.specs.Io.KnownBytes.{Appends}
 use Rattle.dfu_conformance.specs.declared.event.LogEvent.{LogEvent}
@@ -16,7 +16,7 @@ pub record JudgingState : Type 0 where
   pub events : ℕ
   pub single : ℕ
 
--- It stands where a text was judged so far.
+-- It is the state after a text was judged so far.
 pub record IsAt (s : JudgingState) (text : List ℕ) (c : LogCourse) : Type 0 where
   pub whole : IsHeld s.whole c.events
   pub since : IsHeldPlain s.since c.since

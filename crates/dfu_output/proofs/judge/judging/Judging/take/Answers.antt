@@ -1,9 +1,9 @@
 use Rattle.std.proofs.Common.{◌∙◌, ◌++◌, ◌∷◌, [], Some, None, ap, sym, subst, arith}
 use Rattle.dfu_conformance.specs.declared.log.Line.TheVariants as line
-use Rattle.dfu_output.specs.judge.Course.{course_line_ended}
+use Rattle.dfu_output.specs.judge.Course.{course_line_ended, says_elsewhere, says_nothing}
 use Rattle.dfu_output.specs.judge.Lines.{LinesState}
 use Rattle.dfu_output.specs.judge.inside.Going.{JudgingState, IsAt}
-use Rattle.dfu_output.proofs.LogSteps.{at_end, cannot_go, kept_byte, takes_as, took_blank, took_elsewhere, took_event}
+use Rattle.dfu_output.proofs.LogSteps.{at_end, cannot_go, kept_byte, takes_as, took_event, took_passed}
 use Rattle.dfu_output.proofs.judge.judging.Judging.take.Goals as goal
 
 pub returns-in-Err-clause-err : goal.returns-in-Err-clause-err
@@ -27,17 +27,15 @@ returns-in-Came-clause-ok c text course is judged =
 
 pub returns-in-Blank-clause-ok : goal.returns-in-Blank-clause-ok
 returns-in-Blank-clause-ok c text course is judged =
-    let at = subst (λ (s : JudgingState). IsAt s text course) (sym c.self.view_is) is in
-    let end = takes_as c.args.interface _ _ c.args.byte _ (Some line.Blank)
-    (c.in-Ok-Some.field-0-is ∙ ap Some c.in-Blank.is) c.in-Ok-Some.ensures.ok in
-    took_blank c.args.interface c.args.byte _ _ text course at judged end
+    took_passed c.args.interface c.args.byte _ _ text course line.Blank _ says_nothing
+    (subst (λ (s : JudgingState). IsAt s text course) (sym c.self.view_is) is) judged
+    (c.in-Ok-Some.field-0-is ∙ ap Some c.in-Blank.is) c.in-Ok-Some.ensures.ok
 
 pub returns-in-Elsewhere-clause-ok : goal.returns-in-Elsewhere-clause-ok
 returns-in-Elsewhere-clause-ok c text course is judged =
-    let at = subst (λ (s : JudgingState). IsAt s text course) (sym c.self.view_is) is in
-    let end = takes_as c.args.interface _ _ c.args.byte _ (Some line.Elsewhere)
-    (c.in-Ok-Some.field-0-is ∙ ap Some c.in-Elsewhere.is) c.in-Ok-Some.ensures.ok in
-    took_elsewhere c.args.interface c.args.byte _ _ text course at judged end
+    took_passed c.args.interface c.args.byte _ _ text course line.Elsewhere _ says_elsewhere
+    (subst (λ (s : JudgingState). IsAt s text course) (sym c.self.view_is) is) judged
+    (c.in-Ok-Some.field-0-is ∙ ap Some c.in-Elsewhere.is) c.in-Ok-Some.ensures.ok
 
 pub invariant_of-self : goal.invariant_of-self
 invariant_of-self c = (
