@@ -16,6 +16,7 @@ mod cells;
 mod lent;
 mod lies;
 mod many_pieces;
+mod named;
 mod restart;
 mod rows;
 mod sizes;
@@ -66,10 +67,10 @@ enum Cause {
     Reset,
 }
 
-/// A cause, what is answered (Ack and no bytes where nothing is), the bytes, and the state after it.
+/// A cause, its answer (Ack if it has none) with its bytes, and the state after it.
 type Row = (Cause, Answer, &'static [u8], State);
 
-/// Carries out what happens, and answers what is answered, Ack where nothing is.
+/// Carries out a cause. Returns its answer, or Ack if it has none.
 fn carry_out(device: &mut Device<SimMedium>, cause: Cause, out: &mut ArrayVec<u8, 4096>) -> Answer {
     match cause {
         Cause::Ask(setup, body) => device.handle(&setup, body, out),
@@ -97,6 +98,16 @@ fn play(rt: &impl Abort, device: &mut Device<SimMedium>, rows: &[Row]) {
             "row {number}"
         );
     }
+}
+
+/// A device with room for 64 bytes and the image `00` has played these rows. It is set up with bmAttributes, the fewest bytes of
+/// an image, the busy time and the manifestation time.
+#[rattlefmt::skip]
+fn played(rt: &impl Abort, alloc: Global, set_up: (u8, u32, u32, u32), rows: &[Row]) -> Result<Device<SimMedium>, Fail> {
+    let (attributes, least, busy_ms, manifest_ms) = set_up;
+    let mut device = device(alloc, functional(attributes), least, busy_ms, manifest_ms)?;
+    play(rt, &mut device, rows);
+    Ok(device)
 }
 
 #[test]

@@ -1,4 +1,4 @@
-//! Tests of dfu_device, dfu_asks, dfu_slots, dfu_trial and dfu_install, by their public calls alone.
+//! Tests of dfu_device, dfu_asks, dfu_slots, dfu_trial and dfu_install, only by their public calls.
 #![tactic(auto)]
 
 #[cfg(test)]

@@ -37,13 +37,13 @@ fn installed(medium: SimMedium) -> Result<SimMedium, Fail> {
     Ok(slots.into_medium())
 }
 
-// How it stands, with two tries.
+// The standing of the medium, with two tries.
 fn standing(medium: &SimMedium) -> Result<Standing, Fail> {
     check_tries(medium, 2)?;
     Ok(look(medium, 2)?)
 }
 
-// What a start does, with two tries.
+// What a start does, with two tries allowed.
 fn started(medium: &SimMedium) -> Result<Starting, Fail> {
     check_tries(medium, 2)?;
     Ok(look(medium, 2)?.start(medium, 2))
@@ -55,7 +55,7 @@ fn booted(medium: &mut SimMedium) -> Result<u32, Fail> {
     Ok(boot(medium, 2)?)
 }
 
-// The image that begins there is confirmed, and what it was told before.
+// Confirms the image that begins there. Returns what the confirmation was.
 fn confirmed(medium: &mut SimMedium, at: u32) -> Result<Confirmation, Fail> {
     check_tries(medium, 2)?;
     let confirmation = look(medium, 2)?.confirm(medium, 2, at);
@@ -65,7 +65,7 @@ fn confirmed(medium: &mut SimMedium, at: u32) -> Result<Confirmation, Fail> {
     Ok(confirmation)
 }
 
-// A trial ends, and what was asked for.
+// Ends a trial. Returns the operation that this needed.
 fn ended(medium: &mut SimMedium) -> Result<Option<Operation>, Fail> {
     check_tries(medium, 2)?;
     let operation = look(medium, 2)?.end(medium, 2);

@@ -1,4 +1,4 @@
-//! A bootloader: it serves a USB stack until the application is to run, and hands out what to start.
+//! A bootloader: it serves a USB stack until the application is to run, and returns the device with the image to start.
 
 ghost use Rattle.std.specs.Prelude.{◌≡◌, ◌<◌, ◌↔◌, ℕ, length, take, drop, IfOk, IfErr, OnErr, IfSome, None, false};
 ghost use Rattle.dfu_wire.specs.declared.states.State.TheVariants.{AppIdle};
@@ -18,7 +18,7 @@ use dfu_wire::State;
 /// DETACH with a wTimeout of 0 (USB DFU 1.1, section 5.1).
 const DETACH: [u8; 8] = [0x21, 0, 0, 0, 0, 0, 0, 0];
 
-/// What a USB stack tells.
+/// What a USB stack reports.
 #[derive(Clone, Copy, Debug, PartialEq, Eq)]
 pub enum Happened {
     /// The bus was reset.
@@ -52,7 +52,7 @@ pub trait UsbDevice {
     fn stall(&mut self);
 }
 
-/// What a bootloader hands out.
+/// What a bootloader returns.
 #[derive(Drop)]
 pub struct Start<M: Medium> {
     /// The device, whose slot store has the image to start. `load` copies it out.
@@ -61,8 +61,8 @@ pub struct Start<M: Medium> {
     pub len: u32,
 }
 
-/// Tells a device what happened, and answers what it says to a transfer: `setup` and `body` are read for a transfer
-/// alone. For all else the answer is `Ack` and `out` is empty.
+/// Passes what happened to a device, and returns its answer to a transfer. `setup` and `body` are read only for a
+/// transfer. For all else the answer is `Ack` and `out` is empty.
 pub fn tell<M: Medium>(
     device: &mut Device<M>,
     happened: Happened,
@@ -84,8 +84,8 @@ pub fn tell<M: Medium>(
     Answer::Ack
 }
 
-/// Takes a device into the upgrade, as a DETACH and a reset of the bus do, and serves a stack until the device says
-/// that the application runs.
+/// Takes a device into the upgrade, as a DETACH and a reset of the bus do, and serves a stack until the device is in
+/// appIDLE again.
 pub fn serve<M: Medium, U: UsbDevice>(device: &mut Device<M>, usb: &mut U)
     ensures { state_of device.new.stage ≡ AppIdle }
 {
@@ -116,17 +116,17 @@ pub fn serve<M: Medium, U: UsbDevice>(device: &mut Device<M>, usb: &mut U)
             return;
         }
     }
-    // No stack tells of 2^64 - 1 events; if one did, the upgrade ends as by a power cut.
+    // No stack reports 2^64 - 1 events; if one did, the upgrade ends as by a power cut.
     device.restart();
 }
 
-/// Powers a device on. Where `stays` says so, as a button or a mark of the application does, it serves a stack until
-/// the application is to run.
+/// Powers a device on. If `stays` is true, as for a button or a mark of the application, it serves a stack until the
+/// application is to run.
 ///
 /// # Errors
 ///
-/// Those of `Device::power_on`, in its order: exactly where the medium has no active image. The medium comes back as
-/// it was, and nothing was served.
+/// Those of `Device::power_on`, in its order: exactly if the medium has no active image. The medium comes back as it
+/// was, and nothing was served.
 pub fn boot<M: Medium, U: UsbDevice>(
     config: Config,
     medium: M,
@@ -148,7 +148,7 @@ pub fn boot<M: Medium, U: UsbDevice>(
     Ok(hand_out(device))
 }
 
-// What there is to start on a device.
+// The device, and the length of the image to start.
 fn hand_out<M: Medium>(device: Device<M>) -> Start<M>
     ensures device { result.device ≡ device }
     ensures has_image { HasImage device.slots.medium }
@@ -158,7 +158,7 @@ fn hand_out<M: Medium>(device: Device<M>) -> Start<M>
     Start { device, len }
 }
 
-/// Copies the image to start to the front of `ram`, and says how many bytes it has. None, with nothing copied, where
+/// Copies the image to start to the front of `ram`, and returns its length in bytes. None, with nothing copied, if
 /// there is no room for it.
 pub fn load<M: Medium>(device: &Device<M>, ram: &mut [u8]) -> Option<usize>
     ensures image { IfSome result (λ len. take len ram.new ≡ image_of device.now.slots) }

@@ -1,4 +1,4 @@
-//! A flashing tool: it carries out what a host asks for, until the session is over.
+//! A flashing tool: it does what a host asks for, until the session is over.
 
 ghost use Rattle.std.specs.Prelude.{◌≡◌};
 ghost use Rattle.dfu_host.specs.Host.{Act};
@@ -8,9 +8,9 @@ use dfu_host::{Action, Host, Report, Seen};
 
 /// A USB host stack, with the interface of a device open.
 pub trait UsbHost {
-    /// Makes a control transfer to the interface, and says what came of it: `Ack`, `Stall`, or where the setup's first
-    /// byte is A1h the `Bytes` that came, at most as many as its last two bytes say; `Nothing` where the transfer
-    /// failed or took too long; `Restarted` where the device left the bus and came back in the meantime.
+    /// Makes a control transfer to the interface, and returns its result: `Ack`, `Stall`, or, if the setup's first byte
+    /// is A1h, the `Bytes` that came, at most as many as its last two bytes say; `Nothing` if the transfer failed or took
+    /// too long; `Restarted` if the device left the bus and came back in the meantime.
     fn transfer(&mut self, setup: &[u8; 8], body: &[u8]) -> Seen<'_>;
 
     /// Waits for so many milliseconds, and no less.
@@ -20,7 +20,7 @@ pub trait UsbHost {
     fn reset(&mut self);
 }
 
-/// Carries out a session to its end, and answers the host's report.
+/// Carries out a session to its end, and returns the host's report.
 pub fn flash<U: UsbHost>(host: &mut Host<'_>, usb: &mut U) -> Report
     ensures report { Act host.new (Action.Done result) }
     ensures over { takes_left host.new ≡ 0 }

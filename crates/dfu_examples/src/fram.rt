@@ -1,11 +1,11 @@
-//! A medium on a chip that is written over without erase, as an FRAM on SPI.
+//! A medium on a chip that is overwritten without erase, as an FRAM on SPI.
 
 ghost use Rattle.std.specs.Prelude.{◌≡◌, ◌+◌, ◌≤◌, ℕ, List, length, slice_range};
 ghost use Rattle.dfu_slots.specs.Medium.{KeepsOutside};
 
 use dfu_slots::{Failed, Medium, Unit};
 
-/// Why a driver's write failed. The store above does the same for each.
+/// Why a driver's write failed. The store does the same for each.
 #[derive(Clone, Copy, Debug, PartialEq, Eq, Drop)]
 pub enum ChipFault {
     /// The chip is protected from writes.
@@ -14,13 +14,13 @@ pub enum ChipFault {
     Bus,
 }
 
-/// A driver of a chip that is written over byte by byte, without erase.
+/// A driver of a chip that is overwritten byte by byte, without erase.
 ///
-/// It owes little: what `read` answers stands in the chip, and a `write` leaves all bytes outside its range as they
-/// were, also when the power goes within it. It need not find out whether the bytes stand there, since the store
-/// reads back what it wrote.
+/// It has to keep little: `read` returns the bytes in the chip, and a `write` leaves all bytes outside its range as they
+/// were, also if the power fails during it. It need not check that the bytes were written, since the store reads back
+/// what it wrote.
 pub trait Chip: Drop {
-    /// The bytes that stand in the chip.
+    /// The bytes in the chip.
     ghost cells: { Self → List ℕ };
 
     /// How many bytes the chip has.
@@ -32,8 +32,8 @@ pub trait Chip: Drop {
         requires { at + length out.old ≤ length (cells self.now) }
         ensures { out.new ≡ slice_range (cells self.now) at (at + length out.old) };
 
-    /// Writes over the bytes from `at` on. The range must lie within the size. Whatever it answers, and whatever
-    /// stands in the range then, all other bytes and the size are as they were.
+    /// Overwrites the bytes from `at` on. The range must lie within the size. With any answer, and any bytes in the
+    /// range afterwards, all other bytes and the size are as they were.
     fn write(&mut self, at: u32, bytes: &[u8]) -> Result<(), ChipFault>
         requires { at + length bytes.now ≤ length (cells self.old) }
         ensures { KeepsOutside at (at + length bytes.now) (cells self.old) (cells self.new) };
@@ -52,8 +52,8 @@ impl<C: Chip> Medium for Fram<C> {
     ghost use Rattle.dfu_slots.specs.Medium.Fuse.{Unknown};
     ghost use Rattle.dfu_slots.specs.declared.unit.Unit.TheVariants.{Byte};
 
-    // Any write may fail or lie. A count of failures that stands at its last value always leaves that open, so that
-    // nothing need be counted.
+    // Any write may fail or lie. A count of failures that is always at its last value leaves that open, so nothing
+    // needs to be counted.
     ghost state = { λ m. record { bytes = C.cells m.chip; failures = 2 ^ 64 - 1; fuse = Unknown; grain = in_place Byte; tag = [] } };
 
     fn len(&self) -> u32 {
@@ -73,10 +73,7 @@ impl<C: Chip> Medium for Fram<C> {
     }
 
     fn write(&mut self, at: u32, bytes: &[u8]) -> Result<(), Failed> {
-        match self.chip.write(at, bytes) {
-            Ok(()) => Ok(()),
-            Err(_) => Err(Failed),
-        }
+        self.chip.write(at, bytes).map_err(|_| Failed)
     }
 
     // The chip has no sectors.

@@ -9,14 +9,14 @@ use dfu_slots::{Failed, Medium, Unit};
 
 /// A driver of NOR flash with sectors of one size.
 ///
-/// It owes little: what `read` answers stands in the flash, and neither a `program` nor an `erase` changes a byte outside its
-/// range, also when the power goes within it. It need not find out whether the bytes stand there, since the store reads
+/// It has to keep little: `read` returns the bytes in the flash, and neither a `program` nor an `erase` changes a byte outside
+/// its range, also if the power fails during it. It need not check that the bytes were written, since the store reads
 /// back what it wrote. The store erases each sector before it programs in it, and programs no unit twice between two erases.
 pub trait Flash: Drop {
-    /// The bytes that stand in the flash.
+    /// The bytes in the flash.
     ghost cells: { Self → List ℕ };
 
-    /// In which units it is programmed, and in sectors of how many bytes it is erased.
+    /// The unit in which it is programmed, and the size of the sectors in which it is erased.
     ghost grain: { Self → Grain };
 
     /// How many bytes the flash has.
@@ -37,8 +37,8 @@ pub trait Flash: Drop {
         ensures { out.new ≡ slice_range (cells self.now) at (at + length out.old) };
 
     /// Programs whole units from `at` on. The range must lie within the size, and all its bytes are FFh, erased since they were
-    /// programmed. Whatever it answers, and whatever stands in the
-    /// range then, all other bytes, the size, the unit and the sector are as they were.
+    /// programmed. With any answer, and any bytes in the range afterwards, all other bytes, the size, the unit and the sector
+    /// are as they were.
     fn program(&mut self, at: u32, bytes: &[u8]) -> Result<(), ChipFault>
         requires within { at + length bytes.now ≤ length (cells self.old) }
         requires place { IsMultiple (grain self.old).unit at }
@@ -48,8 +48,8 @@ pub trait Flash: Drop {
         ensures cells { KeepsOutside at (at + length bytes.now) (cells self.old) (cells self.new) }
         ensures grain { grain self.new ≡ grain self.old };
 
-    /// Erases the sector that begins at `at`, which must lie within the size. Whatever it answers, and whatever stands in the
-    /// sector then, all else is as it was.
+    /// Erases the sector that begins at `at`, which must lie within the size. With any answer, and any bytes in the sector
+    /// afterwards, all else is as it was.
     fn erase(&mut self, at: u32) -> Result<(), ChipFault>
         requires within { at + (grain self.old).sector ≤ length (cells self.old) }
         requires place { at % (grain self.old).sector ≡ 0 }
@@ -68,7 +68,7 @@ impl<F: Flash> Medium for Nor<F> {
     ghost use Rattle.dfu_slots.specs.Medium.{MediumState};
     ghost use Rattle.dfu_slots.specs.Medium.Fuse.{Unknown};
 
-    // Any write or erase may fail or lie, as of a `Fram`.
+    // Any write or erase may fail or lie, as in `Fram`.
     ghost state = { λ m. record {
       bytes = F.cells m.flash;
       failures = 2 ^ 64 - 1;
@@ -94,16 +94,10 @@ impl<F: Flash> Medium for Nor<F> {
     }
 
     fn write(&mut self, at: u32, bytes: &[u8]) -> Result<(), Failed> {
-        match self.flash.program(at, bytes) {
-            Ok(()) => Ok(()),
-            Err(_) => Err(Failed),
-        }
+        self.flash.program(at, bytes).map_err(|_| Failed)
     }
 
     fn erase(&mut self, at: u32) -> Result<(), Failed> {
-        match self.flash.erase(at) {
-            Ok(()) => Ok(()),
-            Err(_) => Err(Failed),
-        }
+        self.flash.erase(at).map_err(|_| Failed)
     }
 }

@@ -1,5 +1,8 @@
 //! The three callers together: the flashing tool's session reaches the bootloader's device, on a chip in memory.
 
+ghost use Rattle.std.specs.Prelude.{◌≡◌, ◌+◌, ◌≤◌, length};
+ghost use Rattle.dfu_slots.specs.Medium.{written};
+
 mod cable;
 mod part;
 mod ram;
@@ -66,7 +69,15 @@ fn device_on(medium: Fram<Ram>) -> Result<Device<Fram<Ram>>, Fail> {
     }
 }
 
-/// The image to start is this one.
+/// Writes these bytes there.
+pub(crate) fn write_over(bytes: &mut [u8], at: usize, new: &[u8])
+    requires { at + length new.now ≤ length bytes.old }
+    ensures { bytes.new ≡ written bytes.old at new.now }
+{
+    bytes[at..at + new.len()].copy_from_slice(new);
+}
+
+/// The device has this image to start.
 fn starts(rt: &impl Abort, device: &Device<Fram<Ram>>, image: &[u8]) {
     let mut place = [0xee; 16];
     assert_eq!(rt; load(device, &mut place), Some(image.len()));
@@ -74,85 +85,87 @@ fn starts(rt: &impl Abort, device: &Device<Fram<Ram>>, image: &[u8]) {
     assert_eq!(rt; place.get(image.len()), Some(&0xee));
 }
 
+/// A host that downloads the file.
+fn host() -> Result<Host<'static>, Fail> {
+    Ok(Host::download(&read(&FILE)?, &FUNCTIONAL, IDS, LIMITS)?)
+}
+
+/// The session of the tool with a device on this medium ends with this report, and this image is to start then.
+fn tool_reports(
+    rt: &impl Abort,
+    mut host: Host<'static>,
+    medium: Fram<Ram>,
+    report: Report,
+    image: &[u8],
+) -> Result<(), Fail> {
+    let mut cable = Cable::to(device_on(medium)?);
+    assert_eq!(rt; flash(&mut host, &mut cable), report);
+    starts(rt, cable.device(), image);
+    Ok(())
+}
+
 #[test]
 fn tool_installs(rt: HostRuntime) -> Result<(), Fail> {
-    let file = read(&FILE)?;
-    let mut cable = Cable::to(device_on(shipped()?)?);
-    let mut host = Host::download(&file, &FUNCTIONAL, IDS, LIMITS)?;
-    assert_eq!(rt; flash(&mut host, &mut cable), Report::Installed);
-    starts(&rt, cable.device(), b"123456789");
-    Ok(())
+    tool_reports(&rt, host()?, shipped()?, Report::Installed, b"123456789")
 }
 
 #[test]
 fn tool_verifies(rt: HostRuntime) -> Result<(), Fail> {
-    let file = read(&FILE)?;
-    let mut cable = Cable::to(device_on(shipped()?)?);
-    let mut host = Host::download_verified(&file, &FUNCTIONAL, IDS, LIMITS)?;
-    assert_eq!(rt; flash(&mut host, &mut cable), Report::Verified);
-    starts(&rt, cable.device(), b"123456789");
-    Ok(())
+    let host = Host::download_verified(&read(&FILE)?, &FUNCTIONAL, IDS, LIMITS)?;
+    tool_reports(&rt, host, shipped()?, Report::Verified, b"123456789")
 }
 
 #[test]
 fn tool_tells_of_a_write_that_fails(rt: HostRuntime) -> Result<(), Fail> {
-    let file = read(&FILE)?;
     let mut medium = shipped()?;
     medium.chip.fail_after(1);
-    let mut cable = Cable::to(device_on(medium)?);
-    let mut host = Host::download(&file, &FUNCTIONAL, IDS, LIMITS)?;
-    assert_eq!(rt; flash(&mut host, &mut cable), Report::Refused(Code::Write));
-    starts(&rt, cable.device(), &[0]);
-    Ok(())
+    tool_reports(&rt, host()?, medium, Report::Refused(Code::Write), &[0])
 }
 
 #[test]
 fn tool_tells_of_a_write_that_is_not_there(rt: HostRuntime) -> Result<(), Fail> {
-    let file = read(&FILE)?;
     let mut medium = shipped()?;
     medium.chip.lie_after(1);
-    let mut cable = Cable::to(device_on(medium)?);
-    let mut host = Host::download(&file, &FUNCTIONAL, IDS, LIMITS)?;
-    assert_eq!(rt; flash(&mut host, &mut cable), Report::Refused(Code::Verify));
-    starts(&rt, cable.device(), &[0]);
-    Ok(())
+    tool_reports(&rt, host()?, medium, Report::Refused(Code::Verify), &[0])
+}
+
+/// The bootloader, which stays or not, returns a device with this image to start.
+fn boots(
+    rt: &impl Abort,
+    seat: &mut Seat<'static>,
+    stay: bool,
+    image: &[u8],
+) -> Result<Device<Fram<Ram>>, Fail> {
+    match boot(config()?, shipped()?, seat, stay) {
+        Ok(Start { device, len }) => {
+            assert_eq!(rt; len as usize, image.len());
+            starts(rt, &device, image);
+            Ok(device)
+        }
+        Err((fault, _medium)) => Err(fault)?,
+    }
 }
 
 #[test]
 fn bootloader_serves_until_the_image_is_in_place(rt: HostRuntime) -> Result<(), Fail> {
-    let file = read(&FILE)?;
-    let mut seat = Seat::with(Host::download(&file, &FUNCTIONAL, IDS, LIMITS)?);
-    match boot(config()?, shipped()?, &mut seat, true) {
-        Ok(Start { device, len }) => {
-            assert_eq!(rt; len, 9);
-            starts(&rt, &device, b"123456789");
-        }
-        Err((fault, _medium)) => Err(fault)?,
-    }
+    let mut seat = Seat::with(host()?);
+    boots(&rt, &mut seat, true, b"123456789")?;
     assert_eq!(rt; seat.report(), Some(Report::Installed));
     Ok(())
 }
 
 #[test]
 fn bootloader_starts_at_once(rt: HostRuntime) -> Result<(), Fail> {
-    let file = read(&FILE)?;
-    let mut seat = Seat::with(Host::download(&file, &FUNCTIONAL, IDS, LIMITS)?);
-    match boot(config()?, shipped()?, &mut seat, false) {
-        Ok(Start { device, len }) => {
-            assert_eq!(rt; len, 1);
-            starts(&rt, &device, &[0]);
-            assert_eq!(rt; load(&device, &mut []), None);
-        }
-        Err((fault, _medium)) => Err(fault)?,
-    }
+    let mut seat = Seat::with(host()?);
+    let device = boots(&rt, &mut seat, false, &[0])?;
+    assert_eq!(rt; load(&device, &mut []), None);
     assert_eq!(rt; seat.report(), None);
     Ok(())
 }
 
 #[test]
 fn bootloader_refuses_a_blank_chip(rt: HostRuntime) -> Result<(), Fail> {
-    let file = read(&FILE)?;
-    let mut seat = Seat::with(Host::download(&file, &FUNCTIONAL, IDS, LIMITS)?);
+    let mut seat = Seat::with(host()?);
     let blank = Fram { chip: Ram::new() };
     match boot(config()?, blank, &mut seat, true) {
         Ok(_start) => assert!(rt; false),
@@ -161,7 +174,7 @@ fn bootloader_refuses_a_blank_chip(rt: HostRuntime) -> Result<(), Fail> {
     Ok(())
 }
 
-// Format erases five sectors, the first install three, and the second four, for the gate that it finds open. None is erased
+// Format erases five sectors, the first install three, and the second four, since it finds the gate open. No sector is erased
 // twice for one write, and no unit is programmed over.
 #[test]
 fn flash_is_erased_before_it_is_programmed(rt: HostRuntime) -> Result<(), Fail> {

@@ -12,12 +12,12 @@ mod rows;
 mod uploads;
 mod verifying;
 
-use dfu_host::{Action, Host, HostFault, Limits, Report, Seen};
+use crate::texts::are_displayed;
+use dfu_host::{Action, Host, HostFault, Report, Seen};
 use dfu_suffix::read;
-use dfu_wire::Functional;
 use dialogue::{
     AMPLE, APP_IDLE, BLOCK, BUSY, CLOSE, DETACH, DEVICE, DFU_IDLE, GET_STATUS, MANIFEST, TOLERANT,
-    WRITTEN,
+    WRITTEN, descriptor, limits,
 };
 use files::{ALL_ONES, EMPTY, FOR_ZERO, NINE, zeros};
 use played::{Step, follow, play, wants};
@@ -51,15 +51,8 @@ fn clean_download_takes_thirteen_actions(rt: HostRuntime) -> Result<(), Fail> {
 
 #[test]
 fn refusals_come_in_their_order(rt: HostRuntime) -> Result<(), Fail> {
-    let mute = Functional {
-        can_download: false,
-        transfer: 0,
-        ..TOLERANT
-    };
-    let narrow = Functional {
-        transfer: 0,
-        ..TOLERANT
-    };
+    let mute = descriptor(false, true, 0);
+    let narrow = descriptor(true, true, 0);
     let refused = [
         (read(&EMPTY)?, mute, Some(HostFault::EmptyPayload)),
         (read(&FOR_ZERO)?, mute, Some(HostFault::WrongTarget)),
@@ -81,10 +74,7 @@ fn refusals_come_in_their_order(rt: HostRuntime) -> Result<(), Fail> {
 fn block_number_wraps(rt: HostRuntime) -> Result<(), Fail> {
     let bytes = zeros(rt.alloc(), 65_537)?;
     let file = read(&bytes)?;
-    let by_one = Functional {
-        transfer: 1,
-        ..TOLERANT
-    };
+    let by_one = descriptor(true, true, 1);
     let mut host = Host::download(&file, &by_one, DEVICE, AMPLE)?;
     host.take(DFU_IDLE);
     for number in 0..65_537u32 {
@@ -115,11 +105,7 @@ impl played::Carrier for Lost {
 fn nothing_but_losses_end_by_the_budget(rt: HostRuntime) -> Result<(), Fail> {
     let file = read(&ALL_ONES)?;
     for (actions, uses) in [(0, 1), (1, 1), (9, 9)] {
-        let limits = Limits {
-            actions,
-            restarts: 0,
-        };
-        let mut host = Host::download(&file, &TOLERANT, DEVICE, limits)?;
+        let mut host = Host::download(&file, &TOLERANT, DEVICE, limits(actions, 0))?;
         let mut carrier = Lost { used: 0 };
         assert_eq!(rt; play(&mut host, &mut carrier), Report::GaveUp);
         assert_eq!(rt; carrier.used, uses);
@@ -136,8 +122,5 @@ fn faults_have_their_texts(rt: HostRuntime) -> Result<(), Fail> {
         (HostFault::CannotUpload, "the device gives no uploads"),
         (HostFault::BadDescriptor, "the device's transfer size is 0"),
     ];
-    for (fault, text) in rows {
-        assert_eq!(rt; format!(in rt.alloc(); "{fault}")?.as_str(), text);
-    }
-    Ok(())
+    are_displayed(&rt, rt.alloc(), &rows)
 }

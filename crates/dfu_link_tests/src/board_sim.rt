@@ -1,4 +1,4 @@
-//! A device that writes its medium itself and a board, each with a host on a link: the same random events come to both.
+//! A device that writes its medium itself, and a board, each on a link with a host. Both get the same random events.
 
 mod events;
 mod pair;
@@ -7,7 +7,7 @@ use crate::dice::Dice;
 use pair::plays_the_same;
 use std::test::Fail;
 
-/// How many lists of events come.
+/// How many lists of events are played.
 const LISTS: u32 = 2000;
 
 #[test]

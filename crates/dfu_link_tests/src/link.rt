@@ -1,4 +1,4 @@
-//! Links played by events, from the tables of the standard and of this project's profile.
+//! Events that are played on links, by the tables of the standard and of this project's profile.
 
 mod bench;
 mod cuts;
@@ -14,9 +14,9 @@ mod uploads;
 mod verifying;
 mod watched;
 
-use bench::{AMPLE, Setup, Turn, USUAL, W, go, offer, pass, play, stands, world};
-use dfu_host::{Limits, Report};
-use dfu_link::{Event, Fate, World};
+use bench::{SILENT, Setup, Turn, USUAL, W, offer, offer_within, pass, play, stands, world};
+use dfu_host::Report;
+use dfu_link::World;
 use dfu_slots::SimMedium;
 use dfu_wire::{Code, State};
 use std::alloc::Global;
@@ -39,23 +39,21 @@ static CLEAN: [(Setup, usize, Option<Report>); 5] = [
     (QUICK, 9, Some(Report::Installed)),
 ];
 
-/// A session that begins with this turn has its payload in place after so many passes, and the device is back where
-/// something is reported.
+/// After these turns a session has its payload in place, and the device is back in appIDLE if something is reported.
 pub(crate) fn installs(
     rt: &impl Abort,
     alloc: Global,
     setup: Setup,
-    begin: Turn<'static, 'static>,
-    passes: usize,
+    turns: &[Turn<'static, '_>],
     last: Option<Report>,
 ) -> Result<World<'static, SimMedium>, Fail> {
     let mut world = world(alloc, setup)?;
-    play(rt, &mut world, &[begin, pass(passes)], last);
+    play(rt, &mut world, turns, last);
     stands(rt, &world, state_after(last), Code::Ok, &[0xff; 4]);
     Ok(world)
 }
 
-/// Where a device stands whose host reported this last: back in appIDLE, or still in dfuIDLE where nothing came yet.
+/// The state of a device whose host reported this last: back in appIDLE, or still in dfuIDLE if nothing came yet.
 fn state_after(last: Option<Report>) -> State {
     match last {
         Some(_) => State::AppIdle,
@@ -66,12 +64,12 @@ fn state_after(last: Option<Report>) -> State {
 #[test]
 fn clean_downloads_have_their_count(rt: HostRuntime) -> Result<(), Fail> {
     for (setup, passes, last) in &CLEAN {
-        installs(&rt, rt.alloc(), *setup, offer(&W), *passes, *last)?;
+        installs(&rt, rt.alloc(), *setup, &[offer(&W), pass(*passes)], *last)?;
     }
     Ok(())
 }
 
-/// A device, how many passes a download to it has, and what it is refused as.
+/// A device, how many passes a download to it has, and the report of the refusal.
 #[rattlefmt::skip]
 static REFUSING: [(Setup, usize, Report); 2] = [
     (Setup { capacity: 3, ..USUAL }, 6, Report::Refused(Code::Address)),
@@ -103,32 +101,15 @@ fn devices_refuse_images(rt: HostRuntime) -> Result<(), Fail> {
 
 #[test]
 fn nothing_confirms_an_install_without_tolerance(rt: HostRuntime) -> Result<(), Fail> {
-    let silent = Setup {
-        attributes: 0x03,
-        ..USUAL
-    };
-    let mut world = world(rt.alloc(), silent)?;
-    play(
-        &rt,
-        &mut world,
-        &[offer(&W), pass(12)],
-        Some(Report::Unconfirmed),
-    );
-    stands(&rt, &world, State::AppIdle, Code::Ok, &[0xff; 4]);
+    let last = Some(Report::Unconfirmed);
+    installs(&rt, rt.alloc(), SILENT, &[offer(&W), pass(12)], last)?;
     Ok(())
 }
 
 #[test]
 fn a_budget_is_spent(rt: HostRuntime) -> Result<(), Fail> {
     let mut world = world(rt.alloc(), USUAL)?;
-    let mut short = offer(&W);
-    short.event = Event::Offer {
-        file: &W,
-        limits: Limits {
-            actions: 9,
-            ..AMPLE
-        },
-    };
+    let short = offer_within(&W, 9, 0);
     play(&rt, &mut world, &[short, pass(9)], Some(Report::GaveUp));
     play(&rt, &mut world, &[offer(&W), pass(3)], None);
     stands(&rt, &world, State::DfuIdle, Code::Ok, &[0xff; 4]);

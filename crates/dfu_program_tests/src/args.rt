@@ -1,17 +1,9 @@
-//! The jobs of known words.
+//! The jobs that known words ask for.
 
-use dfu_args::{JobFault, Subcommand, asked, job};
+use crate::cli::words_of;
+use dfu_args::{ArgsFault, Subcommand, parse_args, parse_subcommand};
 use std::alloc::{AllocError, Global};
 use std::test::Fail;
-
-/// The words of a line, as a command gets them.
-fn words_of(alloc: Global, line: &str) -> Result<Vec<String>, AllocError> {
-    let mut words = Vec::new(alloc);
-    for word in line.split_whitespace() {
-        words.push(String::from_str(alloc, word)?)?;
-    }
-    Ok(words)
-}
 
 fn joined(alloc: Global, texts: &[&str]) -> Result<String, AllocError> {
     let mut line = String::new(alloc);
@@ -22,7 +14,7 @@ fn joined(alloc: Global, texts: &[&str]) -> Result<String, AllocError> {
     Ok(line)
 }
 
-/// Texts of one argument in words, behind the command.
+/// The command in words, with the texts of one argument after it.
 fn list_told(alloc: Global, command: &str, texts: &[String]) -> Result<String, AllocError> {
     let mut line = joined(alloc, &[command])?;
     for text in texts {
@@ -32,7 +24,7 @@ fn list_told(alloc: Global, command: &str, texts: &[String]) -> Result<String, A
     Ok(line)
 }
 
-/// Options that may be left out in words.
+/// Adds optional options in words.
 fn push_options(line: &mut String, options: &[&Option<String>]) -> Result<(), AllocError> {
     for option in options {
         line.push_str(match option {
@@ -97,7 +89,7 @@ fn made_told(alloc: Global, job: Subcommand) -> Result<String, AllocError> {
     }
 }
 
-/// Adds that the lines are to be objects.
+/// Adds whether the lines are JSON objects.
 fn push_json(line: &mut String, json: bool) -> Result<(), AllocError> {
     if json { line.push_str("json;") } else { Ok(()) }
 }
@@ -142,26 +134,26 @@ fn told(alloc: Global, job: Subcommand) -> Result<String, AllocError> {
 }
 
 /// Why there is no job, in words: the parser's exit status.
-fn refused(alloc: Global, fault: JobFault) -> Result<String, AllocError> {
+fn refused(alloc: Global, fault: ArgsFault) -> Result<String, AllocError> {
     match fault {
-        JobFault::Words(error) => {
+        ArgsFault::Words(error) => {
             let status = error.exit_code();
             format!(in alloc; "words {status}")
         }
-        JobFault::NoMemory => String::from_str(alloc, "no memory"),
+        ArgsFault::NoMemory => String::from_str(alloc, "no memory"),
     }
 }
 
 fn outcome(alloc: Global, line: &str) -> Result<String, AllocError> {
     let words = words_of(alloc, line)?;
-    let answer = job(alloc, &words);
+    let answer = parse_subcommand(alloc, &words);
     match answer {
         Ok(job) => told(alloc, job),
         Err(fault) => refused(alloc, fault),
     }
 }
 
-/// Words, and the job that they are.
+/// Words, and the job that they ask for.
 static JOBS: [(&str, &str); 55] = [
     (
         "dfu add a b --pid 0001",
@@ -229,7 +221,7 @@ static JOBS: [(&str, &str); 55] = [
     ("dfu help add", "words 0"),
 ];
 
-// Words that are no job are the parser's refusal, with status 2; help has status 0.
+// The parser refuses words that are no job with status 2; help has status 0.
 #[test]
 fn jobs_of_words(rt: HostRuntime) -> Result<(), Fail> {
     for (line, found) in &JOBS {
@@ -256,7 +248,7 @@ static REASONS: [(&str, bool); 9] = [
 fn reasons_wanted(rt: HostRuntime) -> Result<(), Fail> {
     for (line, wanted) in &REASONS {
         let words = words_of(rt.alloc(), line)?;
-        let answer = asked(rt.alloc(), &words);
+        let answer = parse_args(rt.alloc(), &words);
         match answer {
             Ok(asked) => assert_eq!(rt; asked.explain, *wanted, "{line}"),
             Err(_) => assert!(rt; false, "{line}"),

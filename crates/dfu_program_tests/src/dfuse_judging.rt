@@ -1,4 +1,4 @@
-//! What a judge of DfuSe says of logs that were worked out by hand.
+//! What a judge of DfuSe says about logs that were worked out by hand.
 
 mod sessions;
 
@@ -11,7 +11,7 @@ use dfuse_conformance::{DFUSE, DfuseJudge, first_departure, is_of_dfuse};
 use sessions::{LOGS, SESSION};
 use std::process::Abort;
 
-/// What a line of a log says came, if it does.
+/// The event of a line of a log, if it has one.
 fn event_of(rt: &impl Abort, line: &[u8]) -> Option<LogEvent> {
     let read = read_line(0, line);
     assert!(rt; read.is_some(), "a line that can't be read: {line:?}");
@@ -21,7 +21,7 @@ fn event_of(rt: &impl Abort, line: &[u8]) -> Option<LogEvent> {
     }
 }
 
-/// A judge that took these lines, the sum of the numbers of the lines at which the device departed, counted from 1, and the last departure.
+/// A judge that took these lines, the sum of the line numbers, from 1, at which the device departed, and the last departure.
 fn judged(rt: &impl Abort, lines: &[&[u8]]) -> (DfuseJudge, u32, Option<Departure>) {
     let mut judge = DfuseJudge::new();
     let (mut number, mut sum) = (0u32, 0u32);

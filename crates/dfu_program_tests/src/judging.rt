@@ -1,4 +1,4 @@
-//! What a judge says of devices that were worked out by hand, of wrong ones, and of the device of this repository.
+//! What a judge says about devices that were worked out by hand, about wrong ones, and about this repository's device.
 
 mod captures;
 mod cells;
@@ -19,7 +19,7 @@ pub(crate) const GET_STATUS: [u8; 8] = [0xa1, 3, 0, 0, 0, 0, 6, 0];
 pub(crate) const GET_STATE: [u8; 8] = [0xa1, 5, 0, 0, 0, 0, 1, 0];
 
 /// One request of each kind, in the order of the cells: DETACH, DNLOAD, DNLOAD of no bytes, UPLOAD, GETSTATUS, CLRSTATUS, GETSTATE,
-/// ABORT, and one that is none of the seven.
+/// ABORT, and one that is not a request of DFU.
 pub(crate) static REQUESTS: [[u8; 8]; 9] = [
     [0x21, 0, 10, 0, 0, 0, 0, 0],
     [0x21, 1, 0, 0, 0, 0, 4, 0],
@@ -55,7 +55,7 @@ pub(crate) const POWER: LogEvent = LogEvent {
     answer: ACK,
 };
 
-/// What is seen of these bytes.
+/// An answer with these bytes, as a log has it.
 pub(crate) fn bytes(out: &[u8]) -> Response {
     let count = if out.len() < 70_000 {
         out.len() as u32
@@ -104,7 +104,7 @@ pub(crate) fn asked(bytes: &[u8; 8], answer: Response) -> Option<LogEvent> {
     LogEvent::exchange(&setup, body, answer)
 }
 
-/// By place, where a device may be that is at one of these.
+/// For each place, whether it is one of these.
 pub(crate) fn at(places: &[StandardState]) -> [bool; 12] {
     let mut at = [false; 12];
     for place in places {

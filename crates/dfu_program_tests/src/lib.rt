@@ -1,4 +1,4 @@
-//! Tests of the program and of what it is made of, by public calls alone.
+//! Tests of the program and of the crates that it is made of, by their public calls only.
 #![tactic(auto)]
 
 #[cfg(test)]
@@ -19,5 +19,7 @@ mod output;
 mod readers;
 #[cfg(test)]
 mod suffix;
+#[cfg(test)]
+mod texts;
 #[cfg(test)]
 mod wire;

@@ -1,4 +1,4 @@
-//! The lines of known files. `tests/show` has those of known bytes, over the program.
+//! The lines that are printed of known files. `tests/show` runs the program on known bytes.
 
 mod reasons;
 mod streams;
@@ -15,7 +15,7 @@ const DIGITS_IDS: Ids = Ids {
     vendor: 0x1209,
 };
 
-/// The file is answered with this line, and this end.
+/// The check of this file prints this line, and ends like this.
 fn checks(rt: &impl Abort, alloc: Global, file: &[u8], line: &str, end: Exit) {
     let mut out = Vec::new(alloc);
     assert_eq!(rt; check_text(alloc, file, &mut out), end, "{line}");
@@ -41,7 +41,7 @@ fn checks_known_files(rt: HostRuntime) {
     );
 }
 
-/// The file is answered with this line and this end, and these bytes are written.
+/// The payload gets a suffix: this line is printed, these bytes are written, and it ends like this.
 fn adds(rt: &impl Abort, alloc: Global, payload: &[u8], file: &[u8], line: &str, end: Exit) {
     let mut made = Vec::new(alloc);
     let mut out = Vec::new(alloc);

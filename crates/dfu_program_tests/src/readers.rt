@@ -1,4 +1,4 @@
-//! A reader that fails, and a writer with little room.
+//! A reader that fails, and a writer that takes few bytes.
 
 use std::io::{self, ErrorKind, Read, Write};
 

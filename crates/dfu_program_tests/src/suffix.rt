@@ -7,7 +7,7 @@ mod folded;
 mod found;
 mod gathered;
 mod readers;
-mod texts;
+pub(crate) mod texts;
 mod writers;
 
 use dfu_suffix::Crc;
@@ -25,7 +25,7 @@ fn register_small(bytes: &[u8]) -> u32 {
     crc.value()
 }
 
-/// The register bit by bit, as appendix B has it.
+/// The register bit by bit, as in appendix B.
 fn register_by_bits(bytes: &[u8]) -> u32 {
     let mut register: u32 = 0xffff_ffff;
     for byte in bytes {
@@ -69,7 +69,7 @@ fn registers_of_known_bytes(rt: HostRuntime) {
 }
 
 // The fast body, the small one and the plain one agree at each length around steps of eight and
-// sixteen bytes, however the bytes are cut, and where both take a part.
+// sixteen bytes, however the bytes are cut, also if both take a part.
 #[test]
 fn register_in_pieces(rt: HostRuntime) {
     let mut bytes = [0u8; 67];

@@ -5,10 +5,10 @@ use dfu_asks::{Asking, FlashOp, Noted, PendingWrites, Refusal, Reply, Sector};
 use dfu_device::{Answer, Config, DeviceState};
 use std::process::Abort;
 
-/// What is behind the bytes that the device keeps in its memory.
+/// The byte that follows those that the device keeps in its memory.
 const SPOILT: u8 = 0xee;
 
-/// A device that asks, with the memory of its block and of the bytes held back. Before each call what is behind them is spoilt.
+/// A device that asks, with the memory of its block and of the bytes held back. Before each call the bytes after them are spoilt.
 #[derive(Drop)]
 pub struct Board {
     pub device: Asking,
@@ -44,7 +44,7 @@ impl Board {
         }
     }
 
-    /// Spoils what is behind the bytes that are kept.
+    /// Spoils the bytes after those that are kept.
     pub fn spoil(&mut self) {
         for i in self.device.block_len..1500 {
             if let Some(cell) = self.block.get_mut(i) {

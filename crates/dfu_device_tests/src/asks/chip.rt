@@ -7,7 +7,7 @@ use std::alloc::Global;
 use std::process::Abort;
 use std::test::Fail;
 
-/// A kind of chip, the blocks of a download, where 0 is none, and how many pieces it asks for before the commit and in all.
+/// A kind of chip, the lengths of the blocks of a download (0 is no block), and how many pieces it asks for before the commit and in all.
 #[derive(Clone, Copy)]
 pub struct Kind {
     pub unit: Unit,
@@ -43,7 +43,7 @@ pub enum Fate {
     Done,
     /// It is torn: its first byte is programmed, or the sector that it erases is left with A5h.
     Torn,
-    /// It changes nothing but the first byte where that may be written over.
+    /// It changes nothing, or only the first byte if that may be written over.
     Lost,
 }
 
@@ -104,7 +104,7 @@ impl Chip {
         header
     }
 
-    /// The byte that stands there.
+    /// The byte at a place.
     pub fn byte(&self, rt: &impl Abort, at: usize) -> u8 {
         match self.flash.get(at) {
             Some(byte) => *byte,
@@ -112,7 +112,7 @@ impl Chip {
         }
     }
 
-    /// These bits of the byte that stands there turn.
+    /// Flips these bits of the byte at a place.
     pub fn turn(&mut self, rt: &impl Abort, at: usize, bits: u8) {
         match self.flash.get_mut(at) {
             Some(byte) => *byte ^= bits,
@@ -127,7 +127,7 @@ impl Chip {
         from <= piece.at && piece.at.saturating_add(piece.len as u64) <= to
     }
 
-    /// A piece, which programs these bytes, comes to this.
+    /// A piece, which programs these bytes, has this fate.
     pub fn meet(&mut self, rt: &impl Abort, piece: FlashOp, bytes: &[u8; 256], fate: Fate) {
         for i in 0..piece.len {
             let place = (piece.at as usize).saturating_add(i);

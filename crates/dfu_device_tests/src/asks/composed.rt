@@ -26,7 +26,7 @@ const IMAGE_LEN: u16 = 392;
 /// The register over the image, by a CRC program, whose last step turns each bit, turned back.
 const REGISTER: u32 = 0x30ae_7a3d;
 
-/// The byte of the image that stands there.
+/// The byte of the image at this place.
 fn image_byte(at: usize) -> u8 {
     (at % 251) as u8
 }
@@ -93,7 +93,7 @@ fn body_of(alloc: Global, at: usize, len: u16) -> Result<Vec<u8>, Fail> {
     Ok(body)
 }
 
-/// Puts these bytes where the puts end, which is there.
+/// Puts these bytes at the end of the puts, which is here.
 fn put(rt: &impl Abort, slots: &mut Slots<SimMedium>, end: u32, bytes: &[u8]) -> Result<(), Fail> {
     let at = slots.put_end();
     assert!(rt; at == end);
@@ -121,9 +121,9 @@ fn sends(
     state: u8,
 ) {
     let (number, len) = block;
-    let mut went = Went::new();
+    let mut went = Went::new(Trouble::None);
     let setup = dnload(number, len);
-    send(rt, board, chip, (&setup, body), Trouble::None, &mut went);
+    send(rt, board, chip, (&setup, body), &mut went);
     assert_eq!(rt; went.status, [0, 0, 0, 0, state, 0]);
 }
 

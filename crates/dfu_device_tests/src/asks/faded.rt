@@ -1,17 +1,18 @@
-//! An image whose bytes change under its standing header. No request reads it; a device that gets power does.
+//! An image whose bytes change while its header stays. No request reads it; a device that gets power does.
 
 use super::board::Board;
-use super::chip::{Chip, KINDS};
-use super::rows::{idle, install};
+use super::chip::{Chip, KINDS, Kind};
+use super::rows::{install, shipped};
 use super::trouble::Trouble;
 use super::{config, dnload};
 use crate::requests::{ABORT, DETACH, GET_STATUS, UPLOAD};
 use dfu_asks::{Asking, Noted, Reply, Sector};
 use dfu_device::Answer;
+use std::alloc::Global;
 use std::process::Abort;
 use std::test::Fail;
 
-/// What a device that gets power notes of this chip.
+/// What a device notes of this chip at power on.
 fn found(rt: &impl Abort, chip: &Chip) -> Result<Option<Noted>, Fail> {
     let Some(sector) = Sector::new(chip.kind.sector) else {
         panic!(rt; "no such sector");
@@ -19,6 +20,25 @@ fn found(rt: &impl Abort, chip: &Chip) -> Result<Option<Noted>, Fail> {
     match Asking::power_on(config(0, 0)?, chip.kind.unit, sector, &chip.flash) {
         Some(device) => Ok(Some(device.noted)),
         None => Ok(None),
+    }
+}
+
+/// A chip with the image that it is shipped with in the first slot and a new one in the second, and the board that downloaded it.
+pub fn renewed(
+    rt: &(impl Abort + Alloc<A = Global>),
+    kind: Kind,
+    times: (u32, u32),
+) -> Result<(Chip, Board), Fail> {
+    let (mut chip, mut board) = shipped(rt, kind, times)?;
+    let _ = install(rt, &mut board, &mut chip, Trouble::None);
+    Ok((chip, board))
+}
+
+/// What is noted of the image in the first slot.
+pub fn noted_first(rt: &impl Abort, chip: &Chip) -> Noted {
+    Noted {
+        second: false,
+        header: chip.header(rt, false),
     }
 }
 
@@ -62,15 +82,10 @@ fn an_only_image_fades(rt: HostRuntime) -> Result<(), Fail> {
 fn a_new_image_fades_and_the_old_one_is_kept(rt: HostRuntime) -> Result<(), Fail> {
     for kind in KINDS {
         for times in [(0, 0), (5, 5)] {
-            let mut chip = Chip::shipped(&rt, rt.alloc(), kind)?;
-            let mut board = idle(&rt, &chip, times)?;
-            let _ = install(&rt, &mut board, &mut chip, Trouble::None);
+            let (mut chip, mut board) = renewed(&rt, kind, times)?;
             let at = chip.image_at(true);
             chip.turn(&rt, at, 0x01);
-            let old = Noted {
-                second: false,
-                header: chip.header(&rt, false),
-            };
+            let old = noted_first(&rt, &chip);
             assert_eq!(rt; found(&rt, &chip)?, Some(old));
             is_in(&rt, &mut board, &chip, 2);
             let mut out = [0; 1500];

@@ -146,7 +146,7 @@ fn each_trouble_of_a_format_is_told(rt: HostRuntime) -> Result<(), Fail> {
                 let (progress, _) = format(&rt, &mut chip, &image, Trouble::None);
                 assert_eq!(rt; progress, FormatProgress::Formatted);
                 let mut chip = used(&rt, rt.alloc(), unit, sector)?;
-                // Where it changes nothing that stands there is no lie.
+                // If it leaves the bytes that were there anyway, it is no lie.
                 let (progress, _) = format(&rt, &mut chip, &image, Trouble::Lies(piece));
                 if progress == FormatProgress::Formatted {
                     assert!(rt; has(&rt, rt.alloc(), &chip, &image)?);

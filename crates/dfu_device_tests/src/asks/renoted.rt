@@ -2,7 +2,7 @@
 
 use super::board::Board;
 use super::chip::{Chip, Fate, KINDS, Kind};
-use super::rows::{idle, install};
+use super::rows::{install, shipped};
 use super::trouble::Trouble;
 use crate::requests::CLR_STATUS;
 use dfu_asks::Noted;
@@ -57,8 +57,7 @@ fn notes(rt: &impl Abort, board: &Board, chip: &Chip, want: Noted) {
 fn a_download_is_noted(rt: HostRuntime) -> Result<(), Fail> {
     for kind in KINDS {
         for times in [(0, 0), (5, 5)] {
-            let mut chip = Chip::shipped(&rt, rt.alloc(), kind)?;
-            let mut board = idle(&rt, &chip, times)?;
+            let (mut chip, mut board) = shipped(&rt, kind, times)?;
             notes(&rt, &board, &chip, old_note());
             let mut second = true;
             for generation in 1..6 {
@@ -72,7 +71,7 @@ fn a_download_is_noted(rt: HostRuntime) -> Result<(), Fail> {
     Ok(())
 }
 
-/// Whether the new image is active after this trouble with a piece of its commit: once its gate reads open, which it does where the
+/// Whether the new image is active after this trouble with a piece of its commit: once its gate reads open, which it does if the
 /// gate's piece was programmed in part, or the erase of its sector was torn.
 fn opens(kind: Kind, piece: u32, fate: Fate) -> bool {
     let left = kind.pieces.saturating_sub(piece);
@@ -118,14 +117,12 @@ fn a_commit_that_failed_notes_what_is_active(rt: HostRuntime) -> Result<(), Fail
         for times in [(0, 0), (5, 5)] {
             for piece in kind.before..kind.pieces {
                 for fate in [Fate::Lost, Fate::Torn, Fate::Done] {
-                    let mut chip = Chip::shipped(&rt, rt.alloc(), kind)?;
-                    let mut board = idle(&rt, &chip, times)?;
+                    let (mut chip, mut board) = shipped(&rt, kind, times)?;
                     let opened = opens(kind, piece, fate);
                     let trouble = Trouble::Fails(piece, fate);
                     fails_and_goes_on(&rt, &mut board, &mut chip, trouble, opened);
                 }
-                let mut chip = Chip::shipped(&rt, rt.alloc(), kind)?;
-                let mut board = idle(&rt, &chip, times)?;
+                let (mut chip, mut board) = shipped(&rt, kind, times)?;
                 fails_and_goes_on(&rt, &mut board, &mut chip, Trouble::Lies(piece), false);
             }
         }

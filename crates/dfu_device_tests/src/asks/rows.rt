@@ -1,18 +1,23 @@
 //! Downloads whose writes the test carries out.
 
 use super::board::Board;
-use super::chip::{Chip, KINDS};
+use super::chip::{Chip, KINDS, Kind};
 use super::trouble::Trouble;
 use super::{config, dnload};
 use crate::requests::{DETACH, GET_STATUS};
 use dfu_asks::{Refusal, Reply};
 use dfu_device::Answer;
+use std::alloc::Global;
 use std::process::Abort;
 use std::test::Fail;
 
-/// How a download went: the last status asked for, and how many pieces were asked for.
+/// A request and its body.
+type Request<'a> = (&'a [u8; 8], &'a [u8]);
+
+/// How a download with this trouble went: the last status asked for, how many pieces were asked for, and whether the power went.
 #[derive(Drop)]
 pub struct Went {
+    trouble: Trouble,
     pub status: [u8; 6],
     pub pieces: u32,
     pub over: bool,
@@ -20,8 +25,9 @@ pub struct Went {
 
 impl Went {
     /// Nothing was asked for.
-    pub fn new() -> Went {
+    pub fn new(trouble: Trouble) -> Went {
         Went {
+            trouble,
             status: [0; 6],
             pieces: 0,
             over: false,
@@ -30,7 +36,8 @@ impl Went {
 }
 
 /// Carries out what is asked for. Each piece lies in the slot that is not noted.
-fn serve(rt: &impl Abort, board: &mut Board, chip: &mut Chip, trouble: Trouble, went: &mut Went) {
+fn serve(rt: &impl Abort, board: &mut Board, chip: &mut Chip, went: &mut Went) {
+    let trouble = went.trouble;
     let mut out = [0; 1500];
     for _ in 0..40 {
         let mut bytes = [0; 256];
@@ -61,18 +68,12 @@ fn serve(rt: &impl Abort, board: &mut Board, chip: &mut Chip, trouble: Trouble, 
 }
 
 /// Hands a setup with its body in, and serves what it asks for.
-fn ask(
-    rt: &impl Abort,
-    board: &mut Board,
-    chip: &mut Chip,
-    request: (&[u8; 8], &[u8]),
-    trouble: Trouble,
-    went: &mut Went,
-) {
+#[rattlefmt::skip]
+fn ask(rt: &impl Abort, board: &mut Board, chip: &mut Chip, request: Request<'_>, went: &mut Went) {
     let (setup, body) = request;
     let mut out = [0; 1500];
     match board.handle(&chip.flash, setup, body, &mut out) {
-        Ok(Reply::Asks) => serve(rt, board, chip, trouble, went),
+        Ok(Reply::Asks) => serve(rt, board, chip, went),
         Ok(Reply::Answered(_, count)) => {
             if count == 6 {
                 went.status.copy_from_slice(&out[..6]);
@@ -83,38 +84,25 @@ fn ask(
 }
 
 /// Lets time pass, and serves what it asks for.
-fn wait(
-    rt: &impl Abort,
-    board: &mut Board,
-    chip: &mut Chip,
-    ms: u32,
-    trouble: Trouble,
-    went: &mut Went,
-) {
+fn wait(rt: &impl Abort, board: &mut Board, chip: &mut Chip, ms: u32, went: &mut Went) {
     match board.elapse(&chip.flash, ms) {
-        Ok(Reply::Asks) => serve(rt, board, chip, trouble, went),
+        Ok(Reply::Asks) => serve(rt, board, chip, went),
         Ok(Reply::Answered(_, _)) => {}
         Err(_) => panic!(rt; "elapse is refused"),
     }
 }
 
 /// Sends a block, asks for the status after it, and lets the time pass that the status asks for.
-pub fn send(
-    rt: &impl Abort,
-    board: &mut Board,
-    chip: &mut Chip,
-    request: (&[u8; 8], &[u8]),
-    trouble: Trouble,
-    went: &mut Went,
-) {
-    ask(rt, board, chip, request, trouble, went);
-    ask(rt, board, chip, (&GET_STATUS, &[]), trouble, went);
+#[rattlefmt::skip]
+pub fn send(rt: &impl Abort, board: &mut Board, chip: &mut Chip, request: Request<'_>, went: &mut Went) {
+    ask(rt, board, chip, request, went);
+    ask(rt, board, chip, (&GET_STATUS, &[]), went);
     let ms = u32::from(went.status[1]);
     if ms > 0 && !went.over {
-        wait(rt, board, chip, ms, trouble, went);
+        wait(rt, board, chip, ms, went);
     }
     if ms > 0 && !went.over {
-        ask(rt, board, chip, (&GET_STATUS, &[]), trouble, went);
+        ask(rt, board, chip, (&GET_STATUS, &[]), went);
     }
 }
 
@@ -131,9 +119,20 @@ pub fn idle(rt: &impl Abort, chip: &Chip, times: (u32, u32)) -> Result<Board, Fa
     Ok(board)
 }
 
+/// A chip as it is shipped, and a board in dfuIDLE on it, with these times.
+pub fn shipped(
+    rt: &(impl Abort + Alloc<A = Global>),
+    kind: Kind,
+    times: (u32, u32),
+) -> Result<(Chip, Board), Fail> {
+    let chip = Chip::shipped(rt, rt.alloc(), kind)?;
+    let board = idle(rt, &chip, times)?;
+    Ok((chip, board))
+}
+
 /// A board in dfuIDLE downloads 77h throughout, in the blocks of its chip, with this trouble.
 pub fn install(rt: &impl Abort, board: &mut Board, chip: &mut Chip, trouble: Trouble) -> Went {
-    let mut went = Went::new();
+    let mut went = Went::new(trouble);
     let image = [0x77; 1500];
     let mut number: u8 = 0;
     for len in chip.kind.blocks {
@@ -144,14 +143,14 @@ pub fn install(rt: &impl Abort, board: &mut Board, chip: &mut Chip, trouble: Tro
         let Some(body) = image.get(..usize::from(len)) else {
             panic!(rt; "a block is too long");
         };
-        send(rt, board, chip, (&setup, body), trouble, &mut went);
+        send(rt, board, chip, (&setup, body), &mut went);
         if went.over || went.status[0] != 0 {
             return went;
         }
         number = number.wrapping_add(1);
     }
     let setup = dnload(number, 0);
-    send(rt, board, chip, (&setup, &[]), trouble, &mut went);
+    send(rt, board, chip, (&setup, &[]), &mut went);
     went
 }
 

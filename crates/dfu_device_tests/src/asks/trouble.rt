@@ -16,6 +16,16 @@ pub enum Trouble {
 }
 
 impl Trouble {
+    /// The same at this piece.
+    pub fn at(self, piece: u32) -> Trouble {
+        match self {
+            Trouble::None => Trouble::None,
+            Trouble::Fails(_, fate) => Trouble::Fails(piece, fate),
+            Trouble::Lies(_) => Trouble::Lies(piece),
+            Trouble::Cut(_) => Trouble::Cut(piece),
+        }
+    }
+
     /// What becomes of this piece.
     pub fn fate(self, number: u32) -> Fate {
         match self {

@@ -2,12 +2,12 @@
 
 use super::board::Board;
 use super::chip::{Chip, KINDS};
-use super::faded::first_write_is_not_handed_out;
-use super::rows::{Went, idle, install, send};
+use super::faded::{first_write_is_not_handed_out, noted_first, renewed};
+use super::rows::{Went, idle, install, send, shipped};
 use super::trouble::Trouble;
 use super::{config, dnload};
 use crate::requests::{CLR_STATUS, DETACH, GET_STATE, GET_STATUS, UPLOAD};
-use dfu_asks::{Noted, Refusal, Reply};
+use dfu_asks::{Refusal, Reply};
 use dfu_device::Answer;
 use std::process::Abort;
 use std::test::Fail;
@@ -15,7 +15,7 @@ use std::test::Fail;
 /// GET_DESCRIPTOR, which is no request of DFU.
 const GET_DESCRIPTOR: [u8; 8] = [0x80, 6, 0, 1, 0, 0, 18, 0];
 
-/// Each call is refused for want of the noted image, and nothing changes.
+/// Each call is refused because the noted image is missing, and nothing changes.
 fn is_refused(rt: &impl Abort, board: &mut Board, chip: &Chip) {
     board.spoil();
     let before = board.kept();
@@ -81,15 +81,9 @@ fn a_note_that_is_not_true_is_refused(rt: HostRuntime) -> Result<(), Fail> {
         assert_eq!(rt; taken, Ok(Reply::Answered(Answer::Ack, 0)));
         is_refused_for_each_change(&rt, &mut board, &mut chip);
         let mut board = idle(&rt, &chip, (5, 5))?;
-        let (request, mut went) = ((&dnload(0, 20), [0x66; 20].as_slice()), Went::new());
-        send(
-            &rt,
-            &mut board,
-            &mut chip,
-            request,
-            Trouble::None,
-            &mut went,
-        );
+        let (setup, mut went) = (dnload(0, 20), Went::new(Trouble::None));
+        let request = (&setup, [0x66; 20].as_slice());
+        send(&rt, &mut board, &mut chip, request, &mut went);
         assert!(rt; board.device.held_len == 4 || board.device.held_len == 20);
         is_refused_for_each_change(&rt, &mut board, &mut chip);
         let mut board = idle(&rt, &chip, (5, 5))?;
@@ -108,14 +102,9 @@ fn a_note_that_is_not_true_is_refused(rt: HostRuntime) -> Result<(), Fail> {
 fn a_note_of_the_other_image_is_read_and_not_written_by(rt: HostRuntime) -> Result<(), Fail> {
     for kind in KINDS {
         for times in [(0, 0), (5, 5)] {
-            let mut chip = Chip::shipped(&rt, rt.alloc(), kind)?;
-            let mut board = idle(&rt, &chip, times)?;
-            let _ = install(&rt, &mut board, &mut chip, Trouble::None);
+            let (chip, mut board) = renewed(&rt, kind, times)?;
             assert!(rt; chip.is_new(&rt));
-            board.device.noted = Noted {
-                second: false,
-                header: chip.header(&rt, false),
-            };
+            board.device.noted = noted_first(&rt, &chip);
             let mut out = [0x5a; 1500];
             let answer = board.answer(&rt, &chip.flash, &GET_STATUS, &mut out);
             assert_eq!(rt; answer, (Answer::Bytes, 6));
@@ -133,8 +122,7 @@ fn a_note_of_the_other_image_is_read_and_not_written_by(rt: HostRuntime) -> Resu
 #[test]
 fn two_slots_with_one_header_are_read_and_not_written(rt: HostRuntime) -> Result<(), Fail> {
     for kind in KINDS {
-        let mut chip = Chip::shipped(&rt, rt.alloc(), kind)?;
-        let mut board = idle(&rt, &chip, (0, 0))?;
+        let (mut chip, mut board) = shipped(&rt, kind, (0, 0))?;
         let half = chip.at(true);
         for i in 0..half {
             let byte = chip.byte(&rt, i);

@@ -33,7 +33,7 @@ fn made(alloc: Global, station: &Station) -> Result<Device<SimMedium>, Fail> {
     device_on(SimMedium::new(alloc, 192)?, config, &IMAGE)
 }
 
-/// Goes to a station, from wherever the device stands.
+/// Brings the device to a station from any state.
 fn go(device: &mut Device<SimMedium>, station: &Station, out: &mut ArrayVec<u8, 4096>) {
     device.usb_reset();
     if device.state() == State::DfuIdle {
@@ -49,7 +49,7 @@ fn is_of_class(kind: u8) -> bool {
     kind == 0x21 || kind == 0xa1
 }
 
-/// Where the table has a request of the class.
+/// The place of a request of the class in the table.
 fn place(kind: u8, request: u8) -> usize
     ensures { result < 8 }
 {
@@ -165,20 +165,8 @@ fn check_all_served(rt: &impl Abort, alloc: Global, station: &Station) -> Result
     Ok(())
 }
 
-/// Asks what does not go by the table, and says whether it is stalled and nothing is seen to change.
-fn is_refused(
-    device: &mut Device<SimMedium>,
-    station: &Station,
-    asked: Asked,
-    out: &mut ArrayVec<u8, 4096>,
-) -> bool {
-    let state = device.state();
-    let code = device.code();
-    let answer = ask(device, station, asked, out);
-    answer == Answer::Stall && out.is_empty() && device.state() == state && device.code() == code
-}
-
-/// Every setup that does not go by the table, one after the other. In the end the device goes on as if nothing had come.
+/// Every setup that does not go by the table, one after the other, is stalled, and nothing is seen to change.
+/// In the end the device goes on as if nothing had come.
 fn check_all_others(rt: &impl Abort, alloc: Global, station: &Station) -> Result<(), Fail> {
     let mut out = ArrayVec::new();
     let mut device = made(alloc, station)?;
@@ -192,9 +180,11 @@ fn check_all_others(rt: &impl Abort, alloc: Global, station: &Station) -> Result
                 length,
                 fits: !is_of_class(kind),
             };
-            let refused = is_refused(&mut device, station, asked, &mut out);
+            let before = (device.state(), device.code());
+            let answer = ask(&mut device, station, asked, &mut out);
+            let is_same = (device.state(), device.code()) == before;
             assert!(rt;
-                refused,
+                answer == Answer::Stall && out.is_empty() && is_same,
                 "kind {kind} request {request} length {length} in {}",
                 station.name
             );

@@ -1,4 +1,4 @@
-//! A device that is taken apart and put together goes on as if nothing was, wherever it stands; and parts that are no device's.
+//! A device that is taken apart and put together goes on as before, in each state; and parts that do not belong to a device.
 
 ghost use Rattle.std.specs.Prelude.{◌≡◌};
 
@@ -25,7 +25,7 @@ fn together<M: Medium>(device: Device<M>) -> Device<M>
     }
 }
 
-/// The same device, started anew on its slot store and put where it stood.
+/// The same device, started anew on its slot store and put back into its state.
 fn again<M: Medium>(device: Device<M>) -> Device<M> {
     let (mode, block) = device.parts();
     let mut kept: ArrayVec<u8, 4096> = ArrayVec::new();
@@ -62,7 +62,7 @@ fn a_device_goes_on_wherever_it_was_taken_apart(rt: HostRuntime) -> Result<(), F
     Ok(())
 }
 
-/// Where a device may be said to stand on a store of which 4 bytes of 64 were put, the length of its block, and whether it
+/// States of a device on a store with 4 of 64 bytes put, the length of its block, and whether it
 /// is a device.
 #[rattlefmt::skip]
 static SAID: [(DeviceState, usize, bool); 18] = [

@@ -1,16 +1,17 @@
 //! Blocks row by row: how long one may be, which number is due, and how many bytes there is room for.
 
-use super::Cause::{Ask, Reset};
+use super::Cause::Ask;
+use super::named::{ADDRESS, CLEARED, DETACHED, DONE, RESET, STALLED_PKT, WRITTEN};
 use super::uploads::TO_DFU_IDLE;
-use super::{Row, device, device_on, functional, play};
-use crate::requests::{CLR_STATUS, DETACH, GET_STATUS, IDS, UPLOAD};
+use super::{Row, device_on, functional, play, played};
+use crate::requests::{CLR_STATUS, IDS, UPLOAD};
 use arrayvec::ArrayVec;
 use dfu_device::{Answer, Config};
 use dfu_slots::SimMedium;
 use dfu_wire::{Code, State};
 use std::test::Fail;
 
-/// A block of wTransferSize bytes with number 0 is taken, and written.
+/// A block of wTransferSize bytes with number 0 is taken.
 pub(crate) const WHOLE: Row = (
     Ask([0x21, 1, 0, 0, 0, 0, 8, 0], &[7; 8]),
     Answer::Ack,
@@ -18,35 +19,10 @@ pub(crate) const WHOLE: Row = (
     State::DownloadSync,
 );
 
-pub(crate) const WRITTEN: Row = (
-    Ask(GET_STATUS, &[]),
-    Answer::Bytes,
-    &[0, 0, 0, 0, 5, 0],
-    State::DownloadIdle,
-);
-
-/// The code is errSTALLEDPKT, or errADDRESS.
-const STALLED_PKT: Row = (
-    Ask(GET_STATUS, &[]),
-    Answer::Bytes,
-    &[15, 0, 0, 0, 10, 0],
-    State::Error,
-);
-
-const ADDRESS: Row = (
-    Ask(GET_STATUS, &[]),
-    Answer::Bytes,
-    &[8, 0, 0, 0, 10, 0],
-    State::Error,
-);
-
-pub(crate) const CLEARED: Row = (Ask(CLR_STATUS, &[]), Answer::Ack, &[], State::DfuIdle);
-
 /// Blocks to a device with room for 10 bytes.
 #[rattlefmt::skip]
 static BLOCKS: [Row; 34] = [
-    (Ask(DETACH, &[]), Answer::Ack, &[], State::AppDetach),
-    (Reset, Answer::Ack, &[], State::DfuIdle),
+    DETACHED, RESET,
     // a block of 9 bytes is too long, whatever its number is
     (Ask([0x21, 1, 0, 0, 0, 0, 9, 0], &[7; 9]), Answer::Stall, &[], State::Error), STALLED_PKT, CLEARED,
     (Ask([0x21, 1, 1, 0, 0, 0, 9, 0], &[7; 9]), Answer::Stall, &[], State::Error), STALLED_PKT, CLEARED,
@@ -63,7 +39,7 @@ static BLOCKS: [Row; 34] = [
     (Ask([0x21, 1, 1, 0, 0, 0, 2, 0], &[8; 2]), Answer::Ack, &[], State::DownloadSync), WRITTEN,
     // and the number of the closing one is not looked at
     (Ask([0x21, 1, 9, 0, 0, 0, 0, 0], &[]), Answer::Ack, &[], State::ManifestSync),
-    (Ask(GET_STATUS, &[]), Answer::Bytes, &[0, 0, 0, 0, 2, 0], State::DfuIdle),
+    DONE,
     (Ask(UPLOAD, &[]), Answer::Bytes, &[7; 8], State::UploadIdle),
     (Ask([0xa1, 2, 1, 0, 0, 0, 8, 0], &[]), Answer::Bytes, &[8; 2], State::DfuIdle),
 ];
@@ -80,8 +56,7 @@ fn blocks_are_taken_by_size_number_and_room(rt: HostRuntime) -> Result<(), Fail>
 /// A DNLOAD or an UPLOAD of one byte with any other number is an error in dfuIDLE.
 #[test]
 fn only_number_0_begins(rt: HostRuntime) -> Result<(), Fail> {
-    let mut device = device(rt.alloc(), functional(0x07), 1, 0, 0)?;
-    play(&rt, &mut device, &TO_DFU_IDLE);
+    let mut device = played(&rt, rt.alloc(), (0x07, 1, 0, 0), &TO_DFU_IDLE)?;
     let mut out = ArrayVec::new();
     for number in 1..=65_535_u16 {
         let [low, high] = number.to_le_bytes();

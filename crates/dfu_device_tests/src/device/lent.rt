@@ -9,7 +9,7 @@ use dfu_slots::SimMedium;
 use std::process::Abort;
 use std::test::Fail;
 
-/// Carries out a row: the answer and how many bytes of it stand in the buffer, Ack and 0 where nothing is answered.
+/// Carries out a row. Returns the answer and how many bytes of it are in the buffer, or Ack and 0 if there is no answer.
 fn carry_out(
     device: &mut Device<SimMedium>,
     cause: Cause,
@@ -28,7 +28,7 @@ fn carry_out(
     }
 }
 
-/// Carries out a row with a buffer of nine bytes: the answer stands at its front, and the rest stays.
+/// Carries out a row with a buffer of nine bytes: the answer is at its front, and the rest stays.
 fn lend(rt: &impl Abort, device: &mut Device<SimMedium>, row: &Row) {
     let (cause, wanted, bytes, after) = *row;
     let mut out = [0x5a; 9];

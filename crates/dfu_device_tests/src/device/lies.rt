@@ -1,39 +1,22 @@
-//! Writes that lie: the medium answers that they worked, and other bytes stand there.
+//! Writes that lie: the medium answers that they worked, and has other bytes.
 
 use super::Cause::{Ask, Wait};
-use super::blocks::{CLEARED, WHOLE, WRITTEN};
+use super::blocks::WHOLE;
+use super::named::{
+    BUSY, CLEARED, CLOSED, DONE, MANIFEST, NEW, PROG, TAKEN, VERIFY, WRITE, WRITTEN,
+};
 use super::restart::restarted;
 use super::uploads::TO_DFU_IDLE;
-use super::{BLOCK, CLOSE, FIRST, Row, device, device_on, functional, play};
-use crate::requests::{GET_STATUS, IDS, UPLOAD};
+use super::{Row, device_on, functional, play, played};
+use crate::requests::{IDS, UPLOAD};
 use dfu_device::{Answer, Config};
 use dfu_slots::{SimMedium, Unit};
 use dfu_wire::State;
 use std::process::Abort;
 use std::test::Fail;
 
-/// The status is dfuERROR with errVERIFY, errWRITE or errPROG.
-#[rattlefmt::skip]
-const VERIFY: Row = (Ask(GET_STATUS, &[]), Answer::Bytes, &[7, 0, 0, 0, 10, 0], State::Error);
-
-#[rattlefmt::skip]
-const WRITE: Row = (Ask(GET_STATUS, &[]), Answer::Bytes, &[3, 0, 0, 0, 10, 0], State::Error);
-
-#[rattlefmt::skip]
-const PROG: Row = (Ask(GET_STATUS, &[]), Answer::Bytes, &[6, 0, 0, 0, 10, 0], State::Error);
-
-/// The block is taken, the download closed, and the image in place.
-const TAKEN: Row = (Ask(FIRST, &BLOCK), Answer::Ack, &[], State::DownloadSync);
-
-const CLOSED: Row = (Ask(CLOSE, &[]), Answer::Ack, &[], State::ManifestSync);
-
-#[rattlefmt::skip]
-const DONE: Row = (Ask(GET_STATUS, &[]), Answer::Bytes, &[0, 0, 0, 0, 2, 0], State::DfuIdle);
-
-/// The image is the one before, or the block.
+/// The image is the one before.
 const OLD: Row = (Ask(UPLOAD, &[]), Answer::Bytes, &[0], State::DfuIdle);
-
-const NEW: Row = (Ask(UPLOAD, &[]), Answer::Bytes, &BLOCK, State::DfuIdle);
 
 /// The block's write lies, and the download after it is installed.
 static BLOCK_LIES: [Row; 10] = [
@@ -45,8 +28,7 @@ static BEGIN_LIES: [Row; 4] = [TAKEN, VERIFY, CLEARED, NEW];
 
 #[test]
 fn a_block_whose_write_lies_is_told_as_errverify(rt: HostRuntime) -> Result<(), Fail> {
-    let mut device = device(rt.alloc(), functional(0x07), 1, 0, 0)?;
-    play(&rt, &mut device, &TO_DFU_IDLE);
+    let mut device = played(&rt, rt.alloc(), (0x07, 1, 0, 0), &TO_DFU_IDLE)?;
     device.arm_lie(0, &[0xaa]);
     play(&rt, &mut device, &BLOCK_LIES);
     device.arm_lie(0, &[0xa5]);
@@ -75,13 +57,6 @@ fn the_block_that_fills_a_unit_tells_that_it_lies(rt: HostRuntime) -> Result<(),
     Ok(())
 }
 
-/// The time of a block, or of an image, begins.
-#[rattlefmt::skip]
-const BUSY: Row = (Ask(GET_STATUS, &[]), Answer::Bytes, &[0, 5, 0, 0, 4, 0], State::DownloadBusy);
-
-#[rattlefmt::skip]
-const MANIFEST: Row = (Ask(GET_STATUS, &[]), Answer::Bytes, &[0, 10, 0, 0, 7, 0], State::Manifest);
-
 /// The time of a block, or of an image, has passed, and a write has a fault.
 const BLOCK_TIME: Row = (Wait(5), Answer::Ack, &[], State::Error);
 
@@ -99,8 +74,7 @@ static LATE_IMAGE: [Row; 5] = [MANIFEST, IMAGE_TIME, VERIFY, CLEARED, NEW];
 
 #[test]
 fn a_lie_in_time_is_told_by_the_next_status(rt: HostRuntime) -> Result<(), Fail> {
-    let mut device = device(rt.alloc(), functional(0x07), 1, 5, 10)?;
-    play(&rt, &mut device, &TO_DFU_IDLE);
+    let mut device = played(&rt, rt.alloc(), (0x07, 1, 5, 10), &TO_DFU_IDLE)?;
     device.arm_lie(0, &[0xaa]);
     play(&rt, &mut device, &LATE_BLOCK);
     device.arm_lie(1, &[0xa5, 0x01]);
@@ -123,8 +97,7 @@ static FAILED_IMAGE: [Row; 5] = [MANIFEST, IMAGE_TIME, PROG, CLEARED, NEW];
 
 #[test]
 fn the_last_arming_counts(rt: HostRuntime) -> Result<(), Fail> {
-    let mut device = device(rt.alloc(), functional(0x07), 1, 5, 10)?;
-    play(&rt, &mut device, &TO_DFU_IDLE);
+    let mut device = played(&rt, rt.alloc(), (0x07, 1, 5, 10), &TO_DFU_IDLE)?;
     device.arm(0, &[0xaa], true);
     device.arm_lie(0, &[0xaa]);
     play(&rt, &mut device, &LIED);
@@ -137,10 +110,10 @@ fn the_last_arming_counts(rt: HostRuntime) -> Result<(), Fail> {
     Ok(())
 }
 
-/// How many writes of a commit work before one lies, with which tear, what is told, and the image then.
+/// How many writes of a commit work before one lies, with which tear, the rows that report it, and the image after them.
 type Lie = (u32, &'static [u8], &'static [Row], Row);
 
-/// Of the header and of the gate, in bytes. The gate's other bytes are zeros before, so that A5h alone is no lie.
+/// Of the header and of the gate, in bytes. The gate's other bytes are zeros before, so that only A5h is no lie.
 #[rattlefmt::skip]
 static IN_BYTES: [Lie; 4] = [
     (0, &[0xaa], &[VERIFY, CLEARED], OLD),
@@ -149,7 +122,7 @@ static IN_BYTES: [Lie; 4] = [
     (1, &[0xa5], &[DONE], NEW),
 ];
 
-/// In units of 16, where the bytes held back are written before them.
+/// In units of 16, when the bytes held back are written before them.
 #[rattlefmt::skip]
 static IN_UNITS: [Lie; 4] = [
     (0, &[0xaa], &[VERIFY, CLEARED], OLD),

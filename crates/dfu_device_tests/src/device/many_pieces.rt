@@ -1,6 +1,7 @@
 //! A download of more blocks, and an upload of more pieces, than there are numbers.
 
 use super::Cause::Ask;
+use super::named::DONE;
 use super::uploads::TO_DFU_IDLE;
 use super::{Row, device_on, functional, play};
 use crate::requests::{GET_STATUS, IDS};
@@ -46,7 +47,7 @@ fn sends(
 #[rattlefmt::skip]
 static CLOSED: [Row; 2] = [
     (Ask([0x21, 1, 2, 0, 0, 0, 0, 0], &[]), Answer::Ack, &[], State::ManifestSync),
-    (Ask(GET_STATUS, &[]), Answer::Bytes, &[0, 0, 0, 0, 2, 0], State::DfuIdle),
+    DONE,
 ];
 
 #[test]

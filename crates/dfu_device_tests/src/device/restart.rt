@@ -7,7 +7,7 @@ ghost use Rattle.dfu_device.specs.Stage.{InAppIdle};
 use dfu_device::Device;
 use dfu_slots::Medium;
 
-/// Power goes and comes back. That is never refused: the medium of a device has an active image. What was put behind it is forgotten.
+/// Power goes and comes back. That is never refused: the medium of a device has an active image. What was put after it is forgotten.
 pub(crate) fn restarted<M: Medium>(device: Device<M>) -> Device<M>
     ensures { result ≡ record { config = device.config; slots = store_on device.slots.medium; stage = InAppIdle } }
 {

@@ -1,9 +1,13 @@
 //! Downloads row by row, with bytes worked out by hand.
 
 use super::Cause::{Ask, Reset, Wait};
+use super::named::{
+    ADDRESS, BUSY, CLEARED, CLOSED, DETACHED, DONE, MANIFEST, NEW, PROG, RESET, STALLED_PKT, TAKEN,
+    WRITE, WRITTEN,
+};
 use super::restart::restarted;
-use super::{BLOCK, CLOSE, FIRST, Row, SECOND, device, functional, play};
-use crate::requests::{ABORT, CLR_STATUS, DETACH, GET_STATE, GET_STATUS, IDS, UPLOAD};
+use super::{BLOCK, CLOSE, FIRST, Row, SECOND, device, functional, play, played};
+use crate::requests::{ABORT, DETACH, GET_STATE, GET_STATUS, IDS};
 use dfu_device::{Answer, Config, ConfigFault};
 use dfu_wire::{Code, Functional, State};
 use std::test::Fail;
@@ -19,41 +23,34 @@ static DOWNLOADED: [Row; 24] = [
     (Ask(GET_STATE, &[]), Answer::Bytes, &[1], State::AppDetach),
     (Wait(39), Answer::Ack, &[], State::AppDetach),
     (Wait(1), Answer::Ack, &[], State::AppIdle),
-    (Ask(DETACH, &[]), Answer::Ack, &[], State::AppDetach),
-    (Reset, Answer::Ack, &[], State::DfuIdle),
-    (Ask(GET_STATUS, &[]), Answer::Bytes, &[0, 0, 0, 0, 2, 0], State::DfuIdle),
+    DETACHED, RESET, DONE,
     (Ask([0xa1, 3, 0, 0, 0, 0, 3, 0], &[]), Answer::Bytes, &[0, 0, 0], State::DfuIdle),
     (Ask([0xa1, 3, 0, 0, 1, 0, 6, 0], &[]), Answer::Stall, &[], State::DfuIdle),
     (Ask(FIRST, &[1, 2, 3]), Answer::Stall, &[], State::DfuIdle),
-    (Ask(FIRST, &BLOCK), Answer::Ack, &[], State::DownloadSync),
-    (Ask(GET_STATUS, &[]), Answer::Bytes, &[0, 5, 0, 0, 4, 0], State::DownloadBusy),
+    TAKEN, BUSY,
     (Wait(4), Answer::Ack, &[], State::DownloadBusy),
     (Wait(1), Answer::Ack, &[], State::DownloadSync),
-    (Ask(GET_STATUS, &[]), Answer::Bytes, &[0, 0, 0, 0, 5, 0], State::DownloadIdle),
-    (Ask(CLOSE, &[]), Answer::Ack, &[], State::ManifestSync),
-    (Ask(GET_STATUS, &[]), Answer::Bytes, &[0, 10, 0, 0, 7, 0], State::Manifest),
+    WRITTEN, CLOSED, MANIFEST,
     (Wait(9), Answer::Ack, &[], State::Manifest),
     (Wait(1), Answer::Ack, &[], State::ManifestSync),
-    (Ask(GET_STATUS, &[]), Answer::Bytes, &[0, 0, 0, 0, 2, 0], State::DfuIdle),
-    (Ask(UPLOAD, &[]), Answer::Bytes, &BLOCK, State::DfuIdle),
+    DONE, NEW,
 ];
 
 /// Requests that are errors in dfuIDLE.
 #[rattlefmt::skip]
 static WRONG_REQUESTS: [Row; 6] = [
     (Ask([0x21, 4, 0, 0, 0, 0, 1, 0], &[0]), Answer::Stall, &[], State::Error),
-    (Ask(GET_STATUS, &[]), Answer::Bytes, &[15, 0, 0, 0, 10, 0], State::Error),
+    STALLED_PKT,
     (Ask(GET_STATE, &[]), Answer::Bytes, &[10], State::Error),
-    (Ask(CLR_STATUS, &[]), Answer::Ack, &[], State::DfuIdle),
+    CLEARED,
     (Ask(SECOND, &BLOCK), Answer::Stall, &[], State::Error),
-    (Ask(GET_STATUS, &[]), Answer::Bytes, &[8, 0, 0, 0, 10, 0], State::Error),
+    ADDRESS,
 ];
 
 #[rattlefmt::skip]
 #[test]
 fn a_download_goes_by_the_table(rt: HostRuntime) -> Result<(), Fail> {
-    let mut device = device(rt.alloc(), functional(0x07), 1, 5, 10)?;
-    play(&rt, &mut device, &DOWNLOADED);
+    let mut device = played(&rt, rt.alloc(), (0x07, 1, 5, 10), &DOWNLOADED)?;
     play(&rt, &mut device, &WRONG_REQUESTS);
     assert!(rt; device.code() == Code::Address);
     Ok(())
@@ -62,10 +59,7 @@ fn a_download_goes_by_the_table(rt: HostRuntime) -> Result<(), Fail> {
 /// A download of four bytes that is closed.
 #[rattlefmt::skip]
 pub(crate) static TOO_SHORT: [Row; 6] = [
-    (Ask(DETACH, &[]), Answer::Ack, &[], State::AppDetach),
-    (Reset, Answer::Ack, &[], State::DfuIdle),
-    (Ask(FIRST, &BLOCK), Answer::Ack, &[], State::DownloadSync),
-    (Ask(GET_STATUS, &[]), Answer::Bytes, &[0, 0, 0, 0, 5, 0], State::DownloadIdle),
+    DETACHED, RESET, TAKEN, WRITTEN,
     (Ask(CLOSE, &[]), Answer::Stall, &[], State::Error),
     (Ask(GET_STATUS, &[]), Answer::Bytes, &[9, 0, 0, 0, 10, 0], State::Error),
 ];
@@ -73,20 +67,14 @@ pub(crate) static TOO_SHORT: [Row; 6] = [
 #[rattlefmt::skip]
 #[test]
 fn an_image_that_is_too_short_is_a_fault(rt: HostRuntime) -> Result<(), Fail> {
-    let mut device = device(rt.alloc(), functional(0x07), 5, 0, 10)?;
-    play(&rt, &mut device, &TOO_SHORT);
+    played(&rt, rt.alloc(), (0x07, 5, 0, 10), &TOO_SHORT)?;
     Ok(())
 }
 
 /// A download to a device that waits for a reset at the end.
 #[rattlefmt::skip]
 pub(crate) static NOT_TOLERANT: [Row; 9] = [
-    (Ask(DETACH, &[]), Answer::Ack, &[], State::AppDetach),
-    (Reset, Answer::Ack, &[], State::DfuIdle),
-    (Ask(FIRST, &BLOCK), Answer::Ack, &[], State::DownloadSync),
-    (Ask(GET_STATUS, &[]), Answer::Bytes, &[0, 0, 0, 0, 5, 0], State::DownloadIdle),
-    (Ask(CLOSE, &[]), Answer::Ack, &[], State::ManifestSync),
-    (Ask(GET_STATUS, &[]), Answer::Bytes, &[0, 10, 0, 0, 7, 0], State::Manifest),
+    DETACHED, RESET, TAKEN, WRITTEN, CLOSED, MANIFEST,
     (Wait(10), Answer::Ack, &[], State::ManifestWaitReset),
     (Ask(GET_STATUS, &[]), Answer::Stall, &[], State::ManifestWaitReset),
     (Reset, Answer::Ack, &[], State::AppIdle),
@@ -95,8 +83,7 @@ pub(crate) static NOT_TOLERANT: [Row; 9] = [
 #[rattlefmt::skip]
 #[test]
 fn a_device_that_is_not_tolerant_waits_for_a_reset(rt: HostRuntime) -> Result<(), Fail> {
-    let mut device = device(rt.alloc(), functional(0x03), 1, 0, 10)?;
-    play(&rt, &mut device, &NOT_TOLERANT);
+    let device = played(&rt, rt.alloc(), (0x03, 1, 0, 10), &NOT_TOLERANT)?;
     assert_eq!(rt; device.slots().active_len(), 4);
     Ok(())
 }
@@ -104,32 +91,25 @@ fn a_device_that_is_not_tolerant_waits_for_a_reset(rt: HostRuntime) -> Result<()
 /// The way to dfuDNLOAD-SYNC, with a block.
 #[rattlefmt::skip]
 static FIRST_TAKEN: [Row; 3] = [
-    (Ask(DETACH, &[]), Answer::Ack, &[], State::AppDetach),
-    (Reset, Answer::Ack, &[], State::DfuIdle),
-    (Ask(FIRST, &BLOCK), Answer::Ack, &[], State::DownloadSync),
+    DETACHED, RESET, TAKEN,
 ];
 
 /// The block is not written, and the next one is.
 #[rattlefmt::skip]
 static FAILED_BLOCK: [Row; 5] = [
-    (Ask(GET_STATUS, &[]), Answer::Bytes, &[3, 0, 0, 0, 10, 0], State::Error),
-    (Ask(CLR_STATUS, &[]), Answer::Ack, &[], State::DfuIdle),
-    (Ask(FIRST, &BLOCK), Answer::Ack, &[], State::DownloadSync),
-    (Ask(GET_STATUS, &[]), Answer::Bytes, &[0, 0, 0, 0, 5, 0], State::DownloadIdle),
-    (Ask(CLOSE, &[]), Answer::Ack, &[], State::ManifestSync),
+    WRITE, CLEARED, TAKEN, WRITTEN, CLOSED,
 ];
 
 /// The image is not put in place.
 #[rattlefmt::skip]
 static FAILED_IMAGE: [Row; 1] = [
-    (Ask(GET_STATUS, &[]), Answer::Bytes, &[6, 0, 0, 0, 10, 0], State::Error),
+    PROG,
 ];
 
 #[rattlefmt::skip]
 #[test]
 fn a_failed_write_is_told_in_the_same_answer(rt: HostRuntime) -> Result<(), Fail> {
-    let mut device = device(rt.alloc(), functional(0x07), 1, 0, 0)?;
-    play(&rt, &mut device, &FIRST_TAKEN);
+    let mut device = played(&rt, rt.alloc(), (0x07, 1, 0, 0), &FIRST_TAKEN)?;
     device.arm(0, &[0xaa], false);
     play(&rt, &mut device, &FAILED_BLOCK);
     device.arm(0, &[0xaa], true);
@@ -145,9 +125,7 @@ fn a_failed_write_is_told_in_the_same_answer(rt: HostRuntime) -> Result<(), Fail
 /// Fewer bytes are asked for than a status or a state has.
 #[rattlefmt::skip]
 static SHORT_ANSWERS: [Row; 8] = [
-    (Ask(DETACH, &[]), Answer::Ack, &[], State::AppDetach),
-    (Reset, Answer::Ack, &[], State::DfuIdle),
-    (Ask(FIRST, &BLOCK), Answer::Ack, &[], State::DownloadSync),
+    DETACHED, RESET, TAKEN,
     (Ask([0xa1, 5, 0, 0, 0, 0, 0, 0], &[]), Answer::Bytes, &[], State::DownloadSync),
     (Ask([0xa1, 3, 0, 0, 0, 0, 0, 0], &[]), Answer::Bytes, &[], State::DownloadBusy),
     (Wait(5), Answer::Ack, &[], State::DownloadSync),
@@ -158,15 +136,14 @@ static SHORT_ANSWERS: [Row; 8] = [
 #[rattlefmt::skip]
 #[test]
 fn a_short_answer_makes_its_transition(rt: HostRuntime) -> Result<(), Fail> {
-    let mut device = device(rt.alloc(), functional(0x07), 1, 5, 10)?;
-    play(&rt, &mut device, &SHORT_ANSWERS);
+    played(&rt, rt.alloc(), (0x07, 1, 5, 10), &SHORT_ANSWERS)?;
     Ok(())
 }
 
 /// A device that detaches by itself.
 #[rattlefmt::skip]
 pub(crate) static WILLING: [Row; 3] = [
-    (Ask(DETACH, &[]), Answer::Ack, &[], State::AppDetach),
+    DETACHED,
     (Wait(0), Answer::Ack, &[], State::AppDetach),
     (Wait(1), Answer::Ack, &[], State::DfuIdle),
 ];
@@ -174,7 +151,7 @@ pub(crate) static WILLING: [Row; 3] = [
 /// A device with wDetachTimeOut 0.
 #[rattlefmt::skip]
 static AT_ONCE: [Row; 3] = [
-    (Ask(DETACH, &[]), Answer::Ack, &[], State::AppDetach),
+    DETACHED,
     (Wait(0), Answer::Ack, &[], State::AppDetach),
     (Wait(1), Answer::Ack, &[], State::AppIdle),
 ];
@@ -185,7 +162,7 @@ static LATE: [Row; 5] = [
     (Ask([0x21, 0, 0xff, 0xff, 0, 0, 0, 0], &[]), Answer::Ack, &[], State::AppDetach),
     (Wait(65_534), Answer::Ack, &[], State::AppDetach),
     (Wait(4_294_967_295), Answer::Ack, &[], State::AppIdle),
-    (Ask(DETACH, &[]), Answer::Ack, &[], State::AppDetach),
+    DETACHED,
     (Ask(DETACH, &[]), Answer::Stall, &[], State::AppIdle),
 ];
 

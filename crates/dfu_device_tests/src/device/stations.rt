@@ -1,10 +1,12 @@
-//! Where a device can stand, and what comes of each request there: the state table of USB DFU 1.1, appendix A, worked out by hand.
+//! The states of a device, and what each request does in them: the state table of USB DFU 1.1, appendix A, worked out by hand.
 
-use super::Cause::{Ask, Reset, Wait};
+use super::Cause::{Ask, Wait};
+use super::named::{
+    ADDRESS, BUSY, CLEARED, CLOSED, DETACHED, DONE, MANIFEST, NEW, RESET, TAKEN, WRITTEN,
+};
 use super::rows::{NOT_TOLERANT, TOO_SHORT, WILLING};
 use super::uploads::TO_DFU_IDLE;
-use super::{BLOCK, CLOSE, FIRST, Row, SECOND};
-use crate::requests::{CLR_STATUS, DETACH, GET_STATUS, UPLOAD};
+use super::{BLOCK, Row, SECOND};
 use dfu_device::Answer;
 use dfu_wire::State;
 
@@ -15,35 +17,23 @@ pub(crate) const IMAGE: [u8; 2] = [1, 2];
 #[rattlefmt::skip]
 static DOWNLOAD: [Row; 11] = [
     (Ask([0x21, 0, 10, 0, 0, 0, 0, 0], &[]), Answer::Ack, &[], State::AppDetach),
-    (Reset, Answer::Ack, &[], State::DfuIdle),
-    (Ask(FIRST, &BLOCK), Answer::Ack, &[], State::DownloadSync),
-    (Ask(GET_STATUS, &[]), Answer::Bytes, &[0, 5, 0, 0, 4, 0], State::DownloadBusy),
+    RESET, TAKEN, BUSY,
     (Wait(5), Answer::Ack, &[], State::DownloadSync),
-    (Ask(GET_STATUS, &[]), Answer::Bytes, &[0, 0, 0, 0, 5, 0], State::DownloadIdle),
-    (Ask(CLOSE, &[]), Answer::Ack, &[], State::ManifestSync),
-    (Ask(GET_STATUS, &[]), Answer::Bytes, &[0, 10, 0, 0, 7, 0], State::Manifest),
+    WRITTEN, CLOSED, MANIFEST,
     (Wait(10), Answer::Ack, &[], State::ManifestSync),
-    (Ask(GET_STATUS, &[]), Answer::Bytes, &[0, 0, 0, 0, 2, 0], State::DfuIdle),
-    (Ask(UPLOAD, &[]), Answer::Bytes, &BLOCK, State::DfuIdle),
+    DONE, NEW,
 ];
 
 /// A download without these times.
 #[rattlefmt::skip]
 static AT_ONCE: [Row; 7] = [
-    (Ask(DETACH, &[]), Answer::Ack, &[], State::AppDetach),
-    (Reset, Answer::Ack, &[], State::DfuIdle),
-    (Ask(FIRST, &BLOCK), Answer::Ack, &[], State::DownloadSync),
-    (Ask(GET_STATUS, &[]), Answer::Bytes, &[0, 0, 0, 0, 5, 0], State::DownloadIdle),
-    (Ask(CLOSE, &[]), Answer::Ack, &[], State::ManifestSync),
-    (Ask(GET_STATUS, &[]), Answer::Bytes, &[0, 0, 0, 0, 2, 0], State::DfuIdle),
-    (Ask(UPLOAD, &[]), Answer::Bytes, &BLOCK, State::DfuIdle),
+    DETACHED, RESET, TAKEN, WRITTEN, CLOSED, DONE, NEW,
 ];
 
 /// An upload of the image in two pieces.
 #[rattlefmt::skip]
 static SENDING: [Row; 4] = [
-    (Ask(DETACH, &[]), Answer::Ack, &[], State::AppDetach),
-    (Reset, Answer::Ack, &[], State::DfuIdle),
+    DETACHED, RESET,
     (Ask([0xa1, 2, 0, 0, 0, 0, 1, 0], &[]), Answer::Bytes, &[1], State::UploadIdle),
     (Ask([0xa1, 2, 1, 0, 0, 0, 8, 0], &[]), Answer::Bytes, &[2], State::DfuIdle),
 ];
@@ -51,14 +41,12 @@ static SENDING: [Row; 4] = [
 /// A block with a wrong number.
 #[rattlefmt::skip]
 static TROUBLE: [Row; 5] = [
-    (Ask(DETACH, &[]), Answer::Ack, &[], State::AppDetach),
-    (Reset, Answer::Ack, &[], State::DfuIdle),
+    DETACHED, RESET,
     (Ask(SECOND, &BLOCK), Answer::Stall, &[], State::Error),
-    (Ask(GET_STATUS, &[]), Answer::Bytes, &[8, 0, 0, 0, 10, 0], State::Error),
-    (Ask(CLR_STATUS, &[]), Answer::Ack, &[], State::DfuIdle),
+    ADDRESS, CLEARED,
 ];
 
-/// How a device comes from appIDLE to where it is to stand, and goes on.
+/// How a device comes from appIDLE to a state, and goes on.
 #[derive(Clone, Copy)]
 pub(crate) enum Way {
     Download,
@@ -87,7 +75,7 @@ impl Way {
     }
 }
 
-/// Where a device stands, and what comes of each request there.
+/// A state of a device, and what each request does in it.
 pub(crate) struct Station {
     pub name: &'static str,
     /// bmAttributes, the fewest bytes of an image, the busy time and the manifestation time.
@@ -97,7 +85,7 @@ pub(crate) struct Station {
     pub steps: usize,
     /// The block number that is due.
     pub number: u8,
-    /// What GETSTATUS, GETSTATE and UPLOAD are answered with, where they are, before it is cut to wLength.
+    /// The answers to GETSTATUS, GETSTATE and UPLOAD, if they are answered, before they are cut to wLength.
     pub status: &'static [u8],
     pub state: &'static [u8],
     pub piece: &'static [u8],
@@ -105,7 +93,7 @@ pub(crate) struct Station {
     pub cells: &'static [u8; 115],
 }
 
-/// The table. A cell is the answer (`a` Ack, `b` Bytes, `s` Stall; in upper case where the block that was
+/// The table. A cell is the answer (`a` Ack, `b` Bytes, `s` Stall; in upper case if the block that was
 /// downloaded is the active image then), the state after it and its code, both as hexadecimal digits.
 ///
 /// The first cell is for what is no request of the class, or has a body that does not fit. Then come DETACH, DNLOAD,

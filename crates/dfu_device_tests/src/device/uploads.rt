@@ -1,7 +1,10 @@
 //! Uploads row by row, with bytes worked out by hand.
 
 use super::Cause::{Ask, Reset};
-use super::{BLOCK, CLOSE, FIRST, Row, device, device_on, functional, play};
+use super::named::{
+    ADDRESS, CLEARED, CLOSED, DETACHED, DONE, NEW, NO_UPLOAD, RESET, STALLED_PKT, TAKEN, WRITTEN,
+};
+use super::{BLOCK, CLOSE, FIRST, Row, device_on, functional, play, played};
 use crate::requests::{ABORT, CLR_STATUS, DETACH, GET_STATE, GET_STATUS, IDS, UPLOAD};
 use dfu_device::{Answer, Config, Device};
 use dfu_slots::SimMedium;
@@ -14,25 +17,18 @@ const IMAGE: [u8; 20] = [
     10, 11, 12, 13, 14, 15, 16, 17, 18, 19, 20, 21, 22, 23, 24, 25, 26, 27, 28, 29,
 ];
 
-/// The status in dfuERROR with errSTALLEDPKT, and with errADDRESS.
-const STALLED_PKT: [u8; 6] = [15, 0, 0, 0, 10, 0];
-
-const ADDRESS: [u8; 6] = [8, 0, 0, 0, 10, 0];
-
 /// Uploads of an image of 20 bytes.
 #[rattlefmt::skip]
 static PIECES: [Row; 17] = [
     (Ask(UPLOAD, &[]), Answer::Stall, &[], State::AppIdle),
-    (Ask(DETACH, &[]), Answer::Ack, &[], State::AppDetach),
+    DETACHED,
     (Ask(UPLOAD, &[]), Answer::Stall, &[], State::AppIdle),
-    (Ask(DETACH, &[]), Answer::Ack, &[], State::AppDetach),
-    (Reset, Answer::Ack, &[], State::DfuIdle),
-    (Ask(UPLOAD, &[]), Answer::Bytes, &[10, 11, 12, 13, 14, 15, 16, 17], State::UploadIdle),
+    DETACHED, RESET, PIECE_0,
     (Ask(GET_STATUS, &[]), Answer::Bytes, &[0, 0, 0, 0, 9, 0], State::UploadIdle),
     (Ask(GET_STATE, &[]), Answer::Bytes, &[9], State::UploadIdle),
     (Ask([0xa1, 2, 1, 0, 0, 0, 8, 0], &[]), Answer::Bytes, &[18, 19, 20, 21, 22, 23, 24, 25], State::UploadIdle),
     (Ask([0xa1, 2, 2, 0, 0, 0, 8, 0], &[]), Answer::Bytes, &[26, 27, 28, 29], State::DfuIdle),
-    (Ask(GET_STATUS, &[]), Answer::Bytes, &[0, 0, 0, 0, 2, 0], State::DfuIdle),
+    DONE,
     // fewer than the transfer size may be asked for, each time another count
     (Ask([0xa1, 2, 0, 0, 0, 0, 3, 0], &[]), Answer::Bytes, &[10, 11, 12], State::UploadIdle),
     (Ask([0xa1, 2, 1, 0, 0, 0, 5, 0], &[]), Answer::Bytes, &[13, 14, 15, 16, 17], State::UploadIdle),
@@ -53,11 +49,7 @@ fn an_image_is_sent_in_pieces(rt: HostRuntime) -> Result<(), Fail> {
 }
 
 /// The way to dfuIDLE.
-#[rattlefmt::skip]
-pub(crate) static TO_DFU_IDLE: [Row; 2] = [
-    (Ask(DETACH, &[]), Answer::Ack, &[], State::AppDetach),
-    (Reset, Answer::Ack, &[], State::DfuIdle),
-];
+pub(crate) static TO_DFU_IDLE: [Row; 2] = [DETACHED, RESET];
 
 /// A device in dfuIDLE, without busy and manifestation times, with the image of 20 bytes.
 #[rattlefmt::skip]
@@ -68,79 +60,72 @@ fn idle(rt: &impl Abort, alloc: Global) -> Result<Device<SimMedium>, Fail> {
     Ok(device)
 }
 
-/// UPLOADs that cannot be the first, with the status after them.
+/// A request that is an error, and the status after it.
+type Wrong = ([u8; 8], Row);
+
+/// After these rows from dfuIDLE each request is an error, which stays until it is cleared.
 #[rattlefmt::skip]
-static BEGUN_WRONGLY: [([u8; 8], &'static [u8]); 7] = [
-    ([0xa1, 2, 0, 0, 0, 0, 0, 0], &STALLED_PKT),
-    ([0xa1, 2, 1, 0, 0, 0, 0, 0], &STALLED_PKT),
-    ([0xa1, 2, 0, 0, 0, 0, 9, 0], &STALLED_PKT),
-    ([0xa1, 2, 1, 0, 0, 0, 255, 255], &STALLED_PKT),
-    ([0xa1, 2, 1, 0, 0, 0, 8, 0], &ADDRESS),
-    ([0xa1, 2, 0, 128, 0, 0, 8, 0], &ADDRESS),
-    ([0xa1, 2, 255, 255, 0, 0, 8, 0], &ADDRESS),
+fn play_each(rt: &impl Abort, device: &mut Device<SimMedium>, before: &[Row], requests: &[Wrong]) {
+    for (setup, status) in requests {
+        play(rt, device, before);
+        let wrong: Row = (Ask(*setup, &[]), Answer::Stall, &[], State::Error);
+        play(rt, device, &[wrong, *status, NO_UPLOAD, *status, CLEARED]);
+    }
+}
+
+/// UPLOADs that cannot be the first, with the status after them.
+static BEGUN_WRONGLY: [Wrong; 7] = [
+    ([0xa1, 2, 0, 0, 0, 0, 0, 0], STALLED_PKT),
+    ([0xa1, 2, 1, 0, 0, 0, 0, 0], STALLED_PKT),
+    ([0xa1, 2, 0, 0, 0, 0, 9, 0], STALLED_PKT),
+    ([0xa1, 2, 1, 0, 0, 0, 255, 255], STALLED_PKT),
+    ([0xa1, 2, 1, 0, 0, 0, 8, 0], ADDRESS),
+    ([0xa1, 2, 0, 128, 0, 0, 8, 0], ADDRESS),
+    ([0xa1, 2, 255, 255, 0, 0, 8, 0], ADDRESS),
 ];
 
 /// In dfuIDLE: the length is looked at before the number.
-#[rattlefmt::skip]
 #[test]
 fn an_upload_does_not_begin_wrongly(rt: HostRuntime) -> Result<(), Fail> {
     let mut device = idle(&rt, rt.alloc())?;
-    for (setup, status) in &BEGUN_WRONGLY {
-        play(&rt, &mut device, &[
-            (Ask(*setup, &[]), Answer::Stall, &[], State::Error),
-            (Ask(GET_STATUS, &[]), Answer::Bytes, status, State::Error),
-            (Ask(UPLOAD, &[]), Answer::Stall, &[], State::Error),
-            (Ask(GET_STATUS, &[]), Answer::Bytes, status, State::Error),
-            (Ask(CLR_STATUS, &[]), Answer::Ack, &[], State::DfuIdle),
-        ]);
-    }
+    play_each(&rt, &mut device, &[], &BEGUN_WRONGLY);
     Ok(())
 }
 
 /// What cannot follow number 0, with the status after it.
-#[rattlefmt::skip]
-static GONE_ON_WRONGLY: [([u8; 8], &'static [u8]); 9] = [
-    ([0xa1, 2, 1, 0, 0, 0, 0, 0], &STALLED_PKT),
-    ([0xa1, 2, 0, 0, 0, 0, 9, 0], &STALLED_PKT),
-    ([0xa1, 2, 0, 0, 0, 0, 8, 0], &ADDRESS),
-    ([0xa1, 2, 2, 0, 0, 0, 8, 0], &ADDRESS),
-    ([0xa1, 2, 1, 128, 0, 0, 8, 0], &ADDRESS),
-    (DETACH, &STALLED_PKT),
-    (CLOSE, &STALLED_PKT),
-    (CLR_STATUS, &STALLED_PKT),
-    ([0xa1, 7, 0, 0, 0, 0, 0, 0], &STALLED_PKT),
+static GONE_ON_WRONGLY: [Wrong; 9] = [
+    ([0xa1, 2, 1, 0, 0, 0, 0, 0], STALLED_PKT),
+    ([0xa1, 2, 0, 0, 0, 0, 9, 0], STALLED_PKT),
+    ([0xa1, 2, 0, 0, 0, 0, 8, 0], ADDRESS),
+    ([0xa1, 2, 2, 0, 0, 0, 8, 0], ADDRESS),
+    ([0xa1, 2, 1, 128, 0, 0, 8, 0], ADDRESS),
+    (DETACH, STALLED_PKT),
+    (CLOSE, STALLED_PKT),
+    (CLR_STATUS, STALLED_PKT),
+    ([0xa1, 7, 0, 0, 0, 0, 0, 0], STALLED_PKT),
 ];
 
-/// In dfuUPLOAD-IDLE, where number 1 is due; another request is an error too.
+/// The first piece of the image.
 #[rattlefmt::skip]
+const PIECE_0: Row = (Ask(UPLOAD, &[]), Answer::Bytes, &[10, 11, 12, 13, 14, 15, 16, 17], State::UploadIdle);
+
+/// In dfuUPLOAD-IDLE, when number 1 is due; another request is an error too.
 #[test]
 fn an_upload_does_not_go_on_wrongly(rt: HostRuntime) -> Result<(), Fail> {
     let mut device = idle(&rt, rt.alloc())?;
-    for (setup, status) in &GONE_ON_WRONGLY {
-        play(&rt, &mut device, &[
-            (Ask(UPLOAD, &[]), Answer::Bytes, &[10, 11, 12, 13, 14, 15, 16, 17], State::UploadIdle),
-            (Ask(*setup, &[]), Answer::Stall, &[], State::Error),
-            (Ask(GET_STATUS, &[]), Answer::Bytes, status, State::Error),
-            (Ask(CLR_STATUS, &[]), Answer::Ack, &[], State::DfuIdle),
-        ]);
-    }
+    play_each(&rt, &mut device, &[PIECE_0], &GONE_ON_WRONGLY);
     Ok(())
 }
 
 /// A download within an upload, and an upload within a download.
 #[rattlefmt::skip]
 static MIXED: [Row; 10] = [
-    (Ask(UPLOAD, &[]), Answer::Bytes, &[10, 11, 12, 13, 14, 15, 16, 17], State::UploadIdle),
+    PIECE_0,
     // these two do not go by the table
     (Ask([0xa1, 2, 1, 0, 1, 0, 8, 0], &[]), Answer::Stall, &[], State::UploadIdle),
     (Ask([0xa1, 2, 1, 0, 0, 0, 8, 0], &[0; 8]), Answer::Stall, &[], State::UploadIdle),
     (Ask(FIRST, &BLOCK), Answer::Stall, &[], State::Error),
-    (Ask(GET_STATUS, &[]), Answer::Bytes, &STALLED_PKT, State::Error),
-    (Ask(CLR_STATUS, &[]), Answer::Ack, &[], State::DfuIdle),
-    (Ask(FIRST, &BLOCK), Answer::Ack, &[], State::DownloadSync),
-    (Ask(GET_STATUS, &[]), Answer::Bytes, &[0, 0, 0, 0, 5, 0], State::DownloadIdle),
-    (Ask(UPLOAD, &[]), Answer::Stall, &[], State::Error),
-    (Ask(GET_STATUS, &[]), Answer::Bytes, &STALLED_PKT, State::Error),
+    STALLED_PKT, CLEARED, TAKEN, WRITTEN, NO_UPLOAD, STALLED_PKT,
 ];
 
 #[rattlefmt::skip]
@@ -154,44 +139,31 @@ fn an_upload_and_a_download_do_not_mix(rt: HostRuntime) -> Result<(), Fail> {
 /// An UPLOAD is an error there, in dfuIDLE and in dfuERROR.
 #[rattlefmt::skip]
 static CANNOT_UPLOAD: [Row; 7] = [
-    (Ask(DETACH, &[]), Answer::Ack, &[], State::AppDetach),
-    (Reset, Answer::Ack, &[], State::DfuIdle),
-    (Ask(UPLOAD, &[]), Answer::Stall, &[], State::Error),
-    (Ask(GET_STATUS, &[]), Answer::Bytes, &STALLED_PKT, State::Error),
-    (Ask(CLR_STATUS, &[]), Answer::Ack, &[], State::DfuIdle),
+    DETACHED, RESET, NO_UPLOAD, STALLED_PKT, CLEARED,
     (Ask([0xa1, 2, 1, 0, 0, 0, 8, 0], &[]), Answer::Stall, &[], State::Error),
-    (Ask(GET_STATUS, &[]), Answer::Bytes, &STALLED_PKT, State::Error),
+    STALLED_PKT,
 ];
 
 #[rattlefmt::skip]
 #[test]
 fn a_device_that_cannot_upload_takes_it_as_a_fault(rt: HostRuntime) -> Result<(), Fail> {
-    let mut device = device(rt.alloc(), functional(0x05), 1, 5, 10)?;
-    play(&rt, &mut device, &CANNOT_UPLOAD);
+    played(&rt, rt.alloc(), (0x05, 1, 5, 10), &CANNOT_UPLOAD)?;
     Ok(())
 }
 
 /// An image of one full piece, and then a download.
 #[rattlefmt::skip]
 static FULL_PIECE: [Row; 10] = [
-    (Ask(DETACH, &[]), Answer::Ack, &[], State::AppDetach),
-    (Reset, Answer::Ack, &[], State::DfuIdle),
-    (Ask(UPLOAD, &[]), Answer::Bytes, &[10, 11, 12, 13, 14, 15, 16, 17], State::UploadIdle),
+    DETACHED, RESET, PIECE_0,
     (Ask([0xa1, 2, 1, 0, 0, 0, 8, 0], &[]), Answer::Bytes, &[], State::DfuIdle),
     // what was put in place by a download is sent, and fewer bytes than are asked for at once
-    (Ask(FIRST, &BLOCK), Answer::Ack, &[], State::DownloadSync),
-    (Ask(GET_STATUS, &[]), Answer::Bytes, &[0, 0, 0, 0, 5, 0], State::DownloadIdle),
-    (Ask(CLOSE, &[]), Answer::Ack, &[], State::ManifestSync),
-    (Ask(GET_STATUS, &[]), Answer::Bytes, &[0, 0, 0, 0, 2, 0], State::DfuIdle),
-    (Ask(UPLOAD, &[]), Answer::Bytes, &BLOCK, State::DfuIdle),
-    (Ask(UPLOAD, &[]), Answer::Bytes, &BLOCK, State::DfuIdle),
+    TAKEN, WRITTEN, CLOSED, DONE, NEW, NEW,
 ];
 
 /// An upload of an image of no bytes.
 #[rattlefmt::skip]
 static NO_BYTES: [Row; 3] = [
-    (Ask(DETACH, &[]), Answer::Ack, &[], State::AppDetach),
-    (Reset, Answer::Ack, &[], State::DfuIdle),
+    DETACHED, RESET,
     (Ask(UPLOAD, &[]), Answer::Bytes, &[], State::DfuIdle),
 ];
 

@@ -1,10 +1,10 @@
 //! Images of other sizes, pieces of FFh, and numbers that are no place of an operation.
 
-use crate::install::board::{Board, blank, first, image};
+use crate::install::board::{Board, SECTOR};
 use dfu_install::{Due, Refusal, took};
 use std::test::Fail;
 
-/// What fills the whole run area, where nothing is in place.
+/// What fills the whole run area if nothing is in place.
 static WHOLE: [Due; 6] = [
     Due::Erase(0),
     Due::Program(0),
@@ -16,82 +16,78 @@ static WHOLE: [Due; 6] = [
 
 #[test]
 fn image_as_large_as_the_area(rt: HostRuntime) -> Result<(), Fail> {
-    let bytes = image();
-    let image = first(&bytes, 1024);
-    let mut board = blank();
-    board.does_each(&rt, image, &WHOLE)?;
-    board.expects(&rt, image, Due::Start)
+    let mut board = Board::blank(1024);
+    board.does(&rt, &WHOLE)?;
+    board.expects(&rt, Due::Start)
 }
 
 /// Two sectors of two pieces cost at most 2 * (1 + 2) + 2 operations; here they cost 7.
 #[test]
 fn most_operations(rt: HostRuntime) -> Result<(), Fail> {
-    let bytes = image();
-    let image = first(&bytes, 1024);
-    let mut board = blank();
+    let mut board = Board::blank(1024);
     board.run[256] = 0;
     board.last = Some(0);
-    board.does(&rt, image, Due::Program(0))?;
-    board.does_each(&rt, image, &WHOLE)?;
-    board.expects(&rt, image, Due::Start)
+    board.does(&rt, &[Due::Program(0)])?;
+    board.does(&rt, &WHOLE)?;
+    board.expects(&rt, Due::Start)
 }
 
 #[test]
 fn pieces_that_are_blank_in_the_image(rt: HostRuntime) -> Result<(), Fail> {
-    let mut bytes = image();
+    let mut board = Board::blank(1);
     for i in 0..256 {
-        bytes[i] = 0xff;
+        board.bytes[i] = 0xff;
     }
-    let mut board = blank();
-    board.expects(&rt, first(&bytes, 1), Due::Start)?;
-    board.does(&rt, first(&bytes, 512), Due::Erase(0))?;
-    board.does(&rt, first(&bytes, 512), Due::Program(256))?;
-    board.expects(&rt, first(&bytes, 512), Due::Start)
+    board.expects(&rt, Due::Start)?;
+    board.len = 512;
+    board.does(&rt, &[Due::Erase(0), Due::Program(256)])?;
+    board.expects(&rt, Due::Start)
 }
 
 #[test]
 fn one_byte(rt: HostRuntime) -> Result<(), Fail> {
-    let mut board = Board {
-        run: [0; 1024],
-        last: None,
-    };
-    board.expects(&rt, &[0], Due::Start)?;
-    board.does(&rt, &[1], Due::Erase(0))?;
-    board.does(&rt, &[1], Due::Program(0))?;
-    board.expects(&rt, &[1], Due::Start)
+    let mut board = Board::blank(1);
+    board.run = [0; 1024];
+    board.expects(&rt, Due::Start)?;
+    board.bytes[0] = 1;
+    board.does(&rt, &[Due::Erase(0), Due::Program(0)])?;
+    board.expects(&rt, Due::Start)
 }
+
+/// Places that are no last operation, or one with the first piece not in place, and what is due.
+static LAST: [(u32, Due); 4] = [
+    (700, Due::Erase(0)),
+    (0xffff_ffff, Due::Erase(0)),
+    (100, Due::Erase(0)),
+    (256, Due::Program(256)),
+];
 
 #[test]
 fn no_place_of_an_operation(rt: HostRuntime) -> Result<(), Fail> {
-    let bytes = image();
-    let image = first(&bytes, 600);
-    let mut board = blank();
-    board.last = Some(700);
-    board.expects(&rt, image, Due::Erase(0))?;
-    board.last = Some(0xffff_ffff);
-    board.expects(&rt, image, Due::Erase(0))?;
-    board.last = Some(100);
-    board.expects(&rt, image, Due::Erase(0))?;
-    board.last = Some(256);
-    board.expects(&rt, image, Due::Program(256))
+    let mut board = Board::blank(600);
+    for (last, due) in &LAST {
+        board.last = Some(*last);
+        board.expects(&rt, *due)?;
+    }
+    Ok(())
 }
+
+/// What is said to be carried out, and what is the last operation then.
+static CARRIED_OUT: [(Due, Option<u32>); 6] = [
+    (Due::Erase(512), Some(512)),
+    (Due::Erase(1024), None),
+    (Due::Erase(0xffff_ff00), None),
+    (Due::Program(1024), None),
+    (Due::Start, None),
+    (Due::Refuse(Refusal::NoImage), None),
+];
 
 #[test]
 fn what_is_no_operation_of_the_area(rt: HostRuntime) -> Result<(), Fail> {
-    let bytes = image();
-    let image = first(&bytes, 600);
-    let run = [0xff; 1024];
-    assert_eq!(rt; took(image, &run, 512, Due::Erase(512), false), Some(512));
-    assert_eq!(rt; took(image, &run, 512, Due::Erase(1024), false), None);
-    assert_eq!(rt;
-        took(image, &run, 512, Due::Erase(0xffff_ff00), false),
-        None
-    );
-    assert_eq!(rt; took(image, &run, 512, Due::Program(1024), false), None);
-    assert_eq!(rt; took(image, &run, 512, Due::Start, false), None);
-    assert_eq!(rt;
-        took(image, &run, 512, Due::Refuse(Refusal::NoImage), false),
-        None
-    );
+    let board = Board::blank(600);
+    for (due, last) in &CARRIED_OUT {
+        let found = took(board.image(), &board.run, SECTOR, *due, false);
+        assert_eq!(rt; (*due, found), (*due, *last));
+    }
     Ok(())
 }

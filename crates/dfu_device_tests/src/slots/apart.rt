@@ -1,4 +1,4 @@
-//! A store that is taken apart and put together is the same store; parts that are no store's; and where the image stands.
+//! A store that is taken apart and put together is the same store; parts that do not belong to a store; and where the image lies.
 ghost use Rattle.std.specs.Prelude.{◌≡◌};
 
 use super::{assert_image, formatted, formatted_in_units, install};
@@ -18,7 +18,7 @@ fn together<M: Medium>(slots: Slots<M>) -> Slots<M>
     }
 }
 
-// Puts these bytes behind those that were put.
+// Puts these bytes after those that were put.
 fn put_on(slots: &mut Slots<SimMedium>, bytes: &[u8; 20]) -> Result<(), PutFault> {
     let at = slots.put_end();
     slots.put(at, bytes)
@@ -46,14 +46,14 @@ fn an_install_goes_on_in_a_store_that_was_taken_apart(rt: HostRuntime) -> Result
     Ok(())
 }
 
-// Ends of puts and counts of bytes held back, on a medium with room for 64 bytes in units of 16, and whether they are a store's.
+// Ends of puts and counts of bytes held back, on a medium with room for 64 bytes in units of 16, and whether a store can have them.
 #[rattlefmt::skip]
 static PARTS: [(u32, usize, bool); 9] = [
     (0, 0, true), (20, 4, true), (64, 0, true), (63, 15, true),
     (20, 0, false), (20, 5, false), (16, 16, false), (65, 1, false), (80, 0, false),
 ];
 
-// Whether these are a store's, and the medium.
+// Whether a store can have these, and the medium.
 #[rattlefmt::skip]
 fn said(medium: SimMedium, held: usize, end: u32) -> (SimMedium, bool) {
     let bytes = [9; 16];

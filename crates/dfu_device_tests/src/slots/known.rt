@@ -1,4 +1,4 @@
-//! A store that is put together by gates and headers alone, and what tells them.
+//! A store that is put together from gates and headers only, and which media allow it.
 use super::media::with_slots;
 use super::{assert_image, formatted, install};
 use arrayvec::ArrayVec;
@@ -8,15 +8,15 @@ use std::process::Abort;
 use std::test::Fail;
 
 // Places of one more byte and that byte, on a medium of two open slots of version 1, the second one generation ahead;
-// whether the first slot is named; and whether gates and headers alone tell that the named one is active.
+// whether the first slot is named; and whether gates and headers suffice to know that the named one is active.
 #[rattlefmt::skip]
 static FRONTS: [(&[(u32, u8)], bool, bool); 25] = [
     (&[], false, true), (&[], true, false),
-    // The named slot is closed; of another version; has a byte where zero is due; and is as long as the data, and longer.
+    // The named slot is closed; of another version; has another byte in place of a zero; and is as long as the data, and longer.
     (&[(96, 0x5a)], false, false), (&[(113, 2)], false, false), (&[(113, 3)], false, false),
     (&[(114, 1)], false, false), (&[(120, 1)], false, false), (&[(127, 1)], false, false),
     (&[(116, 64)], false, true), (&[(116, 65)], false, false),
-    // It is not the next one, and the other is open or closed; the same where the first is named.
+    // It is not the next one, and the other is open or closed; the same if the first is named.
     (&[(112, 9)], false, false), (&[(112, 9), (0, 0x5a)], false, true),
     (&[(16, 9)], true, false), (&[(96, 0x5a)], true, true), (&[(112, 255)], true, true), (&[(112, 254)], true, false),
     // It is not the next one, and the other is of version 2, well formed but for its register, or in no way.
@@ -51,7 +51,7 @@ fn gates_and_headers_tell_of_a_slot_of_version_1(rt: HostRuntime) -> Result<(), 
     Ok(())
 }
 
-// Counts of bytes held back, ends of puts, and whether they are a store's on a medium that is written in bytes.
+// Counts of bytes held back, ends of puts, and whether a store can have them on a medium that is written in bytes.
 #[rattlefmt::skip]
 #[test]
 fn parts_beside_a_known_slot_are_looked_at(rt: HostRuntime) -> Result<(), Fail> {
@@ -80,7 +80,7 @@ fn a_known_store_goes_on(rt: HostRuntime) -> Result<(), Fail> {
     Ok(())
 }
 
-// The medium, which is not known by gates and headers alone with that slot active.
+// The medium, whose gates and headers do not show that this slot is active.
 #[rattlefmt::skip]
 fn not_known(rt: &impl Abort, medium: SimMedium, first: bool) -> SimMedium {
     match Slots::from_known(medium, ArrayVec::new(), 0, first) {
@@ -92,7 +92,7 @@ fn not_known(rt: &impl Abort, medium: SimMedium, first: bool) -> SimMedium {
     }
 }
 
-// A slot of version 2 is not known by its header alone, and `from_known` refuses it under either name.
+// A slot of version 2 is not known by its header, and `from_known` refuses it under either name.
 #[rattlefmt::skip]
 #[test]
 fn the_active_slot_is_told_and_is_not_known_by_a_header_of_version_2(rt: HostRuntime) -> Result<(), Fail> {

@@ -45,7 +45,7 @@ static LIES_IN_A_COMMIT: [Row; 7] = [
     (Commit(4), Err(PutFault::NotVerified), 0, 1),
 ];
 
-// A put of no bytes writes nothing, so the lie still stands after it.
+// A put of no bytes writes nothing, so the lie is still armed after it.
 #[rattlefmt::skip]
 static REFUSED_BESIDE_A_LIE: [Row; 4] = [
     (Lie(0, &[0xaa]), Ok(()), 0, 1),
@@ -71,7 +71,7 @@ static OPEN_GATE: [Row; 3] = [
     (Commit(4), Err(PutFault::NotVerified), 0, 4),
 ];
 
-// Here the tear is what was written: in the data, and in the gate, where the old bytes behind it are zeros too.
+// Here the tear is what was written: in the data, and in the gate, whose old bytes after the first are zeros too.
 #[rattlefmt::skip]
 static LIES_THAT_ARE_TRUE: [Row; 4] = [
     (Lie(0, &[0xff; 8]), Ok(()), 0, 1),
@@ -194,7 +194,7 @@ fn format_fails_at_each_lie(rt: HostRuntime) -> Result<(), Fail> {
     Ok(())
 }
 
-// An install over an open spare makes four writes. Where it is Ok, or its last one leaves the gate open, the new image is active.
+// An install over an open spare makes four writes. If it is Ok, or its last one leaves the gate open, the new image is active.
 #[rattlefmt::skip]
 fn try_lie(rt: &impl Abort, mut slots: Slots<SimMedium>, writes: u32, tear: &[u8]) -> Result<(), Fail> {
     assert!(rt; install(&mut slots, &[0xff; 4]).is_ok());

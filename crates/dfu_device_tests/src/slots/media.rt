@@ -19,7 +19,7 @@ fn open_len(medium: SimMedium) -> Result<u32, OpenFault> {
     Ok(slots.active_len())
 }
 
-// A gate unit and a header unit with this gate, generation, version and length, as they stand at the front of a slot
+// A gate unit and a header unit with this gate, generation, version and length, as they are at the front of a slot
 // of version 1.
 pub(super) fn slot_front([gate, generation, version, len]: [u8; 4]) -> [u8; 32] {
     let mut front = [0; 32];

@@ -33,7 +33,7 @@ fn erases_and_writes_are_noted(rt: HostRuntime) -> Result<(), Fail> {
     Ok(())
 }
 
-// Puts four bytes FFh behind those that were put.
+// Puts four bytes FFh after those that were put.
 fn put_four(slots: &mut Slots<SimMedium>) -> Result<(), PutFault> {
     let at = slots.put_end();
     slots.put(at, &[0xff; 4])

@@ -1,11 +1,11 @@
-//! Calls row by row: what each answers, where the puts end then, and how long the active image is.
+//! Calls row by row: what each answers, the end of the puts after it, and the length of the active image.
 use super::{assert_image, formatted, formatted_in_units};
 use crate::slots::rows::Step::{Arm, Begin, Commit, Disarm, Lie, Put};
 use dfu_slots::{Faulty, PutFault, SimMedium, Slots};
 use std::process::Abort;
 use std::test::Fail;
 
-// What is done to a store; a put goes where the puts end.
+// A call of a store, or a fault set on its medium. A put goes to the end of the puts.
 #[derive(Clone, Copy)]
 pub(super) enum Step {
     Begin,
@@ -16,7 +16,7 @@ pub(super) enum Step {
     Disarm,
 }
 
-// A step, what it answers (Ok where it answers nothing), where the puts end then, and the length of the active image.
+// A step, what it answers (Ok if it answers nothing), the end of the puts after it, and the length of the active image.
 pub(super) type Row = (Step, Result<(), PutFault>, u32, u32);
 
 #[rattlefmt::skip]
@@ -37,7 +37,7 @@ static STOPPED: [Row; 6] = [
     (Put(&[0xff; 4]), Ok(()), 4, 1),
 ];
 
-// A failed commit leaves the old image, or the new one where the gate is torn open.
+// A failed commit leaves the old image, or the new one if the gate is torn open.
 #[rattlefmt::skip]
 static TORN_GATE: [Row; 8] = [
     (Begin, Ok(()), 0, 1),
@@ -67,7 +67,7 @@ static WITHOUT_BEGIN: [Row; 3] = [
     (Begin, Ok(()), 0, 1),
 ];
 
-// What was put is forgotten where a put fails, where a commit fails, and where one works.
+// What was put is forgotten when a put fails, when a commit fails, and when one works.
 #[rattlefmt::skip]
 static FORGOTTEN: [Row; 13] = [
     (Begin, Ok(()), 0, 1),

@@ -29,7 +29,7 @@ static INSTALLED: [(u8, u32); 11] = [
     (1, 1), (2, 1), (0, 2), (4, 1), (0, 251), (0xff, 3844), (0, 252),
 ];
 
-// What one write leaves where it works: a sector FFh, or a unit with these bytes at its front and zeros behind them.
+// What one write leaves if it works: a sector of FFh, or a unit with these bytes at its front and zeros after them.
 #[derive(Clone, Copy)]
 enum Step {
     Erase(u32),
@@ -47,7 +47,7 @@ static STEPS: [Step; 7] = [
 
 static TEARS: [&'static [u8]; 5] = [&[], &[0xa5], &[0xff], &[0x00], &[0xa5; 4096]];
 
-// The bytes of these runs, and FFh behind them.
+// The bytes of these runs, and FFh after them.
 fn spread(alloc: Global, runs: &[&[(u8, u32)]]) -> Result<Vec<u8>, Fail> {
     let mut bytes = Vec::new(alloc);
     for run in runs {
@@ -103,7 +103,7 @@ fn lay(model: &mut Vec<u8>, at: usize, bytes: &[u8], most: usize) {
     }
 }
 
-// Whether these bytes stand in the model.
+// Whether the model has these bytes at this place.
 fn stands(model: &[u8], at: usize, bytes: &[u8]) -> bool {
     let mut place = at;
     for byte in bytes {
@@ -146,7 +146,7 @@ fn play(alloc: Global, mut model: Vec<u8>, works: u32, tear: &[u8], kind: Kind) 
     Ok((model, None))
 }
 
-// The first slot has the new image where its gate is open and its header is in place; its data stands before that.
+// The first slot has the new image if its gate is open and its header is written; its data is written before that.
 fn has_new_image(medium: &SimMedium) -> bool
     requires { 8192 ≤ length medium.now.bytes }
 {

@@ -7,7 +7,7 @@ use std::test::Fail;
 static TEARS: [&'static [u8]; 4] = [&[], &[0x00], &[0xa5], &[0xa5; 64]];
 
 // Installs an image over another, on a medium on which so many writes work; `gate` of them come before the last one, which
-// opens the gate. What `open` finds then is the new image, or else the old one.
+// opens the gate. `open` then finds the new image, or else the old one.
 #[rattlefmt::skip]
 fn try_tear(
     rt: &impl Abort, mut slots: Slots<SimMedium>, image: &[u8], (writes, gate): (u32, u32), tear: &[u8], stop: bool,

@@ -30,6 +30,15 @@ fn put_byte(rt: &impl Abort, medium: &mut SimMedium, at: u32, byte: u8) -> Resul
     Ok(())
 }
 
+// With one byte changed the medium has this active image.
+#[rattlefmt::skip]
+fn assert_changed(rt: &impl Abort, mut medium: SimMedium, (at, byte): (u32, u8), image: &[u8]) -> Result<SimMedium, Fail> {
+    put_byte(rt, &mut medium, at, byte)?;
+    let slots = reopened(medium)?;
+    assert_image(rt, &slots, image);
+    Ok(slots.into_medium())
+}
+
 // The generation and the version of the slot that begins there.
 #[rattlefmt::skip]
 fn front_of(rt: &impl Abort, medium: &SimMedium, at: u32) -> [u8; 2] {
@@ -39,7 +48,7 @@ fn front_of(rt: &impl Abort, medium: &SimMedium, at: u32) -> [u8; 2] {
     front
 }
 
-// Bytes of the active slot of version 2 that are damaged, and what they are then: in the data, the register, the first
+// Places of the active slot of version 2 that are damaged, and their new bytes: in the data, the register, the first
 // zero bytes, the last ones, and the length, which is wrong or over the capacity.
 #[rattlefmt::skip]
 static DAMAGES: [(u32, u8); 10] = [
@@ -49,25 +58,19 @@ static DAMAGES: [(u32, u8); 10] = [
 #[rattlefmt::skip]
 #[test]
 fn a_damaged_slot_does_not_count(rt: HostRuntime) -> Result<(), Fail> {
-    for (at, byte) in &DAMAGES {
-        let mut medium = installed(&rt, rt.alloc())?;
-        put_byte(&rt, &mut medium, *at, *byte)?;
-        let slots = reopened(medium)?;
-        assert_image(&rt, &slots, &[0x00]);
-        let mut medium = slots.into_medium();
+    for damage in &DAMAGES {
+        let mut medium = assert_changed(&rt, installed(&rt, rt.alloc())?, *damage, &[0x00])?;
         put_byte(&rt, &mut medium, 32, 0x01)?;
         assert!(rt; reopened(medium).err() == Some(OpenFault::NoImage));
     }
     Ok(())
 }
 
-// Behind the image any byte may change.
+// After the image any byte may change.
 #[rattlefmt::skip]
 #[test]
 fn what_stands_behind_an_image_is_not_looked_at(rt: HostRuntime) -> Result<(), Fail> {
-    let mut medium = installed(&rt, rt.alloc())?;
-    put_byte(&rt, &mut medium, 132, 0x00)?;
-    assert_image(&rt, &reopened(medium)?, &[0xff; 4]);
+    assert_changed(&rt, installed(&rt, rt.alloc())?, (132, 0x00), &[0xff; 4])?;
     Ok(())
 }
 
@@ -93,9 +96,7 @@ fn a_medium_of_version_1_opens_and_goes_on_in_version_2(rt: HostRuntime) -> Resu
     assert_image(&rt, &slots, &[0x31, 0x32, 0x33]);
     let medium = slots.into_medium();
     assert!(rt; front_of(&rt, &medium, 0) == [2, 2] && front_of(&rt, &medium, 96) == [1, 1]);
-    let mut medium = reopened(medium)?.into_medium();
-    put_byte(&rt, &mut medium, 33, 0x00)?;
-    assert_image(&rt, &reopened(medium)?, &[0xff; 4]);
+    assert_changed(&rt, reopened(medium)?.into_medium(), (33, 0x00), &[0xff; 4])?;
     Ok(())
 }
 

@@ -1,8 +1,6 @@
-//! NOR flash in memory: a program clears bits alone, and each unit is programmed once between two erases.
+//! NOR flash in memory: a program only clears bits, and each unit is programmed once between two erases.
 
-ghost use Rattle.std.specs.Prelude.{◌≡◌, ◌+◌, ◌≤◌, length, replicate};
-ghost use Rattle.dfu_slots.specs.Medium.{written};
-
+use crate::tests::write_over;
 use crate::{ChipFault, Flash};
 use dfu_slots::Unit;
 
@@ -17,7 +15,7 @@ pub(crate) struct SimulatedNor {
 }
 
 impl SimulatedNor {
-    // Of no use yet: any bytes stand in it.
+    // Not formatted yet: its bytes may be anything.
     pub(crate) fn new() -> SimulatedNor {
         SimulatedNor {
             bytes: [0x5a; 1536],
@@ -25,14 +23,6 @@ impl SimulatedNor {
             erases: 0,
         }
     }
-}
-
-// Writes these bytes there.
-fn write_over(bytes: &mut [u8; 1536], at: usize, new: &[u8])
-    requires { at + length new.now ≤ 1536 }
-    ensures { bytes.new ≡ written bytes.old at new.now }
-{
-    bytes[at..at + new.len()].copy_from_slice(new);
 }
 
 impl Flash for SimulatedNor {

@@ -1,8 +1,6 @@
 //! A chip in memory.
 
-ghost use Rattle.std.specs.Prelude.{◌≡◌, ◌+◌, ◌≤◌, length};
-ghost use Rattle.dfu_slots.specs.Medium.{written};
-
+use crate::tests::write_over;
 use crate::{Chip, ChipFault};
 
 /// What the next writes do.
@@ -11,7 +9,7 @@ enum Writes {
     Work,
     /// So many work, and then all fail.
     FailAfter(u32),
-    /// So many work, and then none writes anything, and all say that they worked.
+    /// So many work, and then they write nothing, and say that they worked.
     LieAfter(u32),
 }
 
@@ -35,18 +33,10 @@ impl Ram {
         self.writes = Writes::FailAfter(writes);
     }
 
-    /// So many more writes work, and then none does, though each says so.
+    /// So many more writes work, and then they only say that they do.
     pub(crate) fn lie_after(&mut self, writes: u32) {
         self.writes = Writes::LieAfter(writes);
     }
-}
-
-// Writes these bytes there.
-fn write_over(bytes: &mut [u8; 192], at: usize, new: &[u8])
-    requires { at + length new.now ≤ 192 }
-    ensures { bytes.new ≡ written bytes.old at new.now }
-{
-    bytes[at..at + new.len()].copy_from_slice(new);
 }
 
 impl Chip for Ram {

@@ -6,7 +6,7 @@ mod rows;
 
 use dfuse_memory::{Access, Pages};
 
-/// A range whose access is told by letters, as `rew`.
+/// A range whose access is given by letters, such as `rew`.
 fn pages(start: u32, count: u32, size: u64, access: &str) -> Pages {
     Pages {
         start,

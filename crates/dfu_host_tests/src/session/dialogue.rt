@@ -1,6 +1,6 @@
 //! The device, the actions and the answers of which dialogues are made.
 
-use dfu_host::{Action, Limits, Seen};
+use dfu_host::{Action, Limits, Report, Seen};
 use dfu_wire::{Functional, Ids};
 
 pub(crate) const DEVICE: Ids = Ids {
@@ -29,64 +29,62 @@ pub(crate) static SILENT: Functional = Functional {
     version: 0x0110,
 };
 
+/// The descriptor of a tolerant device that differs from it in these.
+pub(crate) fn descriptor(can_download: bool, can_upload: bool, transfer: u16) -> Functional {
+    Functional {
+        can_download,
+        can_upload,
+        transfer,
+        ..TOLERANT
+    }
+}
+
 pub(crate) const AMPLE: Limits = Limits {
     actions: 1_000_000,
     restarts: 0,
 };
 
-pub(crate) const GET_STATUS: Action<'static> = Action::Send {
-    setup: [0xa1, 3, 0, 0, 0, 0, 6, 0],
-    body: &[],
-};
+pub(crate) fn limits(actions: u32, restarts: u16) -> Limits {
+    Limits { actions, restarts }
+}
 
-pub(crate) const GET_STATE: Action<'static> = Action::Send {
-    setup: [0xa1, 5, 0, 0, 0, 0, 1, 0],
-    body: &[],
-};
+pub(crate) const GET_STATUS: Action<'static> = asks!([0xa1, 3, 0, 0, 0, 0, 6, 0]);
 
-pub(crate) const DETACH: Action<'static> = Action::Send {
-    setup: [0x21, 0, 0xff, 0, 0, 0, 0, 0],
-    body: &[],
-};
+pub(crate) const GET_STATE: Action<'static> = asks!([0xa1, 5, 0, 0, 0, 0, 1, 0]);
+
+pub(crate) const DETACH: Action<'static> = asks!([0x21, 0, 0xff, 0, 0, 0, 0, 0]);
 
 pub(crate) const BLOCK: Action<'static> = Action::Send {
     setup: [0x21, 1, 0, 0, 0, 0, 4, 0],
     body: &[0xff, 0xff, 0xff, 0xff],
 };
 
-pub(crate) const CLOSE: Action<'static> = Action::Send {
-    setup: [0x21, 1, 1, 0, 0, 0, 0, 0],
-    body: &[],
-};
+pub(crate) const CLOSE: Action<'static> = asks!([0x21, 1, 1, 0, 0, 0, 0, 0]);
 
-pub(crate) const ABORT: Action<'static> = Action::Send {
-    setup: [0x21, 6, 0, 0, 0, 0, 0, 0],
-    body: &[],
-};
+pub(crate) const ABORT: Action<'static> = asks!([0x21, 6, 0, 0, 0, 0, 0, 0]);
 
-pub(crate) const CLEAR: Action<'static> = Action::Send {
-    setup: [0x21, 4, 0, 0, 0, 0, 0, 0],
-    body: &[],
-};
+pub(crate) const CLEAR: Action<'static> = asks!([0x21, 4, 0, 0, 0, 0, 0, 0]);
 
 /// UPLOAD of a part with this number, of at most so many bytes.
 pub(crate) fn fetch(number: u16, length: u16) -> Action<'static> {
     let [number_low, number_high] = number.to_le_bytes();
     let [length_low, length_high] = length.to_le_bytes();
-    Action::Send {
-        setup: [
-            0xa1,
-            2,
-            number_low,
-            number_high,
-            0,
-            0,
-            length_low,
-            length_high,
-        ],
-        body: &[],
-    }
+    asks!([
+        0xa1,
+        2,
+        number_low,
+        number_high,
+        0,
+        0,
+        length_low,
+        length_high,
+    ])
 }
+
+/// UPLOAD of part 0, of at most 8 bytes.
+pub(crate) const PART_0: Action<'static> = asks!([0xa1, 2, 0, 0, 0, 0, 8, 0]);
+
+pub(crate) const VERIFIED: Action<'static> = Action::Done(Report::Verified);
 
 pub(crate) const APP_IDLE: Seen<'static> = Seen::Bytes(&[0, 0, 0, 0, 0, 0]);
 
@@ -99,3 +97,18 @@ pub(crate) const WRITTEN: Seen<'static> = Seen::Bytes(&[0, 0, 0, 0, 5, 0]);
 pub(crate) const MANIFEST: Seen<'static> = Seen::Bytes(&[0, 10, 0, 0, 7, 0]);
 
 pub(crate) const OLD_ERROR: Seen<'static> = Seen::Bytes(&[15, 0, 0, 0, 10, 0]);
+
+/// The part that is the image of one block.
+pub(crate) const ONES: Seen<'static> = Seen::Bytes(&[0xff, 0xff, 0xff, 0xff]);
+
+/// What is seen of a download of two blocks that is verified, up to its last reset.
+pub(crate) static INSTALLED: [Seen<'static>; 8] = [
+    DFU_IDLE,
+    Seen::Ack,
+    WRITTEN,
+    Seen::Ack,
+    WRITTEN,
+    Seen::Ack,
+    DFU_IDLE,
+    Seen::WasReset,
+];

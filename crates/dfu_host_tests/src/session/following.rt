@@ -1,10 +1,10 @@
 //! What follows by the rows of the host's table, in sessions that can be begun anew.
 
-use super::dialogue::DEVICE;
+use super::dialogue::{DEVICE, limits};
 use super::played::told;
 use super::rows::{Asks, FINDING, Row};
 use dfu_host::Seen::{Ack, Bytes, Left, Nothing, Restarted, Stall, Waited, WasReset};
-use dfu_host::{Action, Host, Limits, Report, Seen};
+use dfu_host::{Action, Host, Report, Seen};
 use dfu_suffix::read;
 use dfu_wire::{Code, Functional};
 use std::alloc::Global;
@@ -55,7 +55,7 @@ fn by_state(letters: &[u8], bytes: &[u8]) -> Option<u8> {
     letters.get(*state as usize).copied()
 }
 
-/// What follows bytes in a phase, where they are an answer.
+/// What follows bytes in a phase, if they are an answer.
 fn answered(row: &Row, bytes: &[u8]) -> Option<u8> {
     match row.4 {
         Asks::Nothing => None,
@@ -112,7 +112,7 @@ pub(crate) struct Session<'f> {
     pub(crate) device: &'f Functional,
     /// What is seen before a comparison begins; of all others nothing.
     pub(crate) before: &'f [Seen<'static>],
-    /// The rows behind those of finding the device, and those that are its own.
+    /// The rows after those of finding the device, and its own rows.
     pub(crate) rows: &'f [Row],
     pub(crate) own: &'f [Row],
 }
@@ -120,10 +120,7 @@ pub(crate) struct Session<'f> {
 impl<'f> Session<'f> {
     /// A host in the phase of a row, with one restart left.
     pub(crate) fn host(&self, row: &Row) -> Result<Host<'f>, Fail> {
-        let limits = Limits {
-            actions: 100,
-            restarts: 1,
-        };
+        let limits = limits(100, 1);
         let mut host = if self.file.is_empty() {
             Host::upload(self.alloc, self.device, limits)?
         } else if self.before.is_empty() {

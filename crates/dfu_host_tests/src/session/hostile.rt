@@ -1,16 +1,18 @@
-//! Hosts in each phase, which are told each thing that can be seen.
+//! Hosts in each phase, which get each thing that can be seen.
 
-use super::dialogue::{ABORT, DFU_IDLE, SILENT, TOLERANT, WRITTEN};
+use super::dialogue::{ABORT, DFU_IDLE, INSTALLED, SILENT, TOLERANT, WRITTEN};
 use super::files::NINE;
 use super::following::{Session, after, refusal};
 use super::played::{shows, told, wants};
 use super::rows::{COMPARING, ERROR, FETCHING, FINDING, Row, SENDING, SILENTLY, TOLERANTLY};
 use dfu_host::Seen::{Ack, Bytes, Left, Nothing, Restarted, Stall, Waited, WasReset};
 use dfu_host::{Action, Host, Report, Seen};
+use dfu_wire::Functional;
+use std::alloc::Global;
 use std::process::Abort;
 use std::test::Fail;
 
-/// What tells the phases apart that have the same action.
+/// What distinguishes the phases that have the same action.
 static PROBES: [&'static [Seen<'static>]; 14] = [
     &[],
     &[Ack],
@@ -36,7 +38,7 @@ fn wants_some(rt: &impl Abort, host: &Host<'_>, wanted: Option<Action<'static>>)
     }
 }
 
-/// A host in a phase is told this, and then each probe.
+/// A host in a phase gets this, and then each probe.
 fn tell(rt: &impl Abort, session: &Session<'_>, row: &Row, seen: Seen<'_>) -> Result<(), Fail> {
     let letter = after(row, seen);
     for probe in &PROBES {
@@ -81,7 +83,7 @@ fn tell_answers(rt: &impl Abort, session: &Session<'_>, row: &Row) -> Result<(),
     Ok(())
 }
 
-/// A host in a phase is told these bytes.
+/// A host in a phase gets these bytes.
 fn tell_bytes(rt: &impl Abort, session: &Session<'_>, row: &Row, bytes: &[u8]) -> Result<(), Fail> {
     let mut host = session.host(row)?;
     host.take(Bytes(bytes));
@@ -141,7 +143,7 @@ fn restart(rt: &impl Abort, session: &Session<'_>, row: &Row) -> Result<(), Fail
     Ok(())
 }
 
-/// A device that left of itself twice: elsewhere than behind the close these are two restarts.
+/// A device that left by itself twice: other than after the close these are two restarts.
 fn leave(rt: &impl Abort, session: &Session<'_>, row: &Row) -> Result<(), Fail> {
     let mut host = session.host(row)?;
     host.take(Left);
@@ -176,59 +178,45 @@ fn try_session(rt: &impl Abort, session: &Session<'_>) -> Result<(), Fail> {
     try_rows(rt, session, session.own)
 }
 
+/// A session with this file and device, what is seen before its comparison, and the rows that follow those of finding the device.
+fn session_of<'f>(
+    alloc: Global,
+    file: &'f [u8],
+    device: &'f Functional,
+    before: &'f [Seen<'static>],
+    rows: &'f [Row],
+    own: &'f [Row],
+) -> Session<'f> {
+    Session {
+        alloc,
+        file,
+        device,
+        before,
+        rows,
+        own,
+    }
+}
+
 #[test]
 fn download_to_a_tolerant_device(rt: HostRuntime) -> Result<(), Fail> {
-    let session = Session {
-        alloc: rt.alloc(),
-        file: &NINE,
-        device: &TOLERANT,
-        before: &[],
-        rows: &SENDING,
-        own: &TOLERANTLY,
-    };
+    let session = session_of(rt.alloc(), &NINE, &TOLERANT, &[], &SENDING, &TOLERANTLY);
     try_session(&rt, &session)
 }
 
 #[test]
 fn download_to_another_device(rt: HostRuntime) -> Result<(), Fail> {
-    let session = Session {
-        alloc: rt.alloc(),
-        file: &NINE,
-        device: &SILENT,
-        before: &[],
-        rows: &SENDING,
-        own: &SILENTLY,
-    };
+    let session = session_of(rt.alloc(), &NINE, &SILENT, &[], &SENDING, &SILENTLY);
     try_session(&rt, &session)
 }
 
 #[test]
 fn upload(rt: HostRuntime) -> Result<(), Fail> {
-    let session = Session {
-        alloc: rt.alloc(),
-        file: &[],
-        device: &TOLERANT,
-        before: &[],
-        rows: &FETCHING,
-        own: &[],
-    };
+    let session = session_of(rt.alloc(), &[], &TOLERANT, &[], &FETCHING, &[]);
     try_session(&rt, &session)
 }
 
-/// The download of a session that is to be verified, up to its last reset.
-static INSTALLED: [Seen<'static>; 8] = [
-    DFU_IDLE, Ack, WRITTEN, Ack, WRITTEN, Ack, DFU_IDLE, WasReset,
-];
-
 #[test]
 fn comparison(rt: HostRuntime) -> Result<(), Fail> {
-    let session = Session {
-        alloc: rt.alloc(),
-        file: &NINE,
-        device: &TOLERANT,
-        before: &INSTALLED,
-        rows: &COMPARING,
-        own: &[],
-    };
+    let session = session_of(rt.alloc(), &NINE, &TOLERANT, &INSTALLED, &COMPARING, &[]);
     try_session(&rt, &session)
 }

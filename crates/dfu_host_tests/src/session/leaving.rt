@@ -1,29 +1,21 @@
-//! Devices that leave of themselves behind the close, played by hand.
+//! Devices that leave by themselves after the close, played by hand.
 
 use super::dialogue::{
-    AMPLE, APP_IDLE, BLOCK, CLOSE, DETACH, DEVICE, DFU_IDLE, GET_STATUS, MANIFEST, SILENT,
-    TOLERANT, WRITTEN,
+    AMPLE, APP_IDLE, BLOCK, CLOSE, DETACH, DEVICE, DFU_IDLE, GET_STATUS, MANIFEST, ONES, PART_0,
+    SILENT, TOLERANT, VERIFIED, WRITTEN, limits,
 };
 use super::files::ALL_ONES;
-use super::played::{Step, follow, told, wants};
+use super::played::{Step, follow, leads, told, wants};
+use super::verifying::is_verified;
 use dfu_host::Seen::{Ack, Bytes, Left, Nothing, Restarted, Waited, WasReset};
-use dfu_host::{Action, Host, Limits, Report, Seen};
-use dfu_suffix::{File, read};
+use dfu_host::{Action, Host, Report, Seen};
+use dfu_suffix::read;
+use std::process::Abort;
 use std::test::Fail;
 
 const UNCONFIRMED: Action<'static> = Action::Done(Report::Unconfirmed);
 
-const VERIFIED: Action<'static> = Action::Done(Report::Verified);
-
 const SPENT: Action<'static> = Action::Done(Report::RestartsSpent);
-
-/// UPLOAD of part 0, of at most 8 bytes.
-const PART_0: Action<'static> = Action::Send {
-    setup: [0xa1, 2, 0, 0, 0, 0, 8, 0],
-    body: &[],
-};
-
-const ONES: Seen<'static> = Bytes(&[0xff, 0xff, 0xff, 0xff]);
 
 /// A status of dfuMANIFEST-SYNC.
 const SYNC: Seen<'static> = Bytes(&[0, 10, 0, 0, 6, 0]);
@@ -48,7 +40,7 @@ static COMPARED: [Step; 6] = [
     (Action::Reset, WasReset),
 ];
 
-/// What is seen behind the close before a device leaves, in Manifest, its wait and Last: of one that
+/// What is seen after the close before a device leaves, in Manifest, its wait and Last: of one that
 /// says that it is tolerant.
 static TOLERANTLY: [&'static [Seen<'static>]; 4] = [
     &[SYNC, Waited],
@@ -71,10 +63,8 @@ fn download_is_unconfirmed(rt: HostRuntime) -> Result<(), Fail> {
             let mut host = Host::download(&file, device, DEVICE, AMPLE)?;
             told(&mut host, &[DFU_IDLE, Ack, WRITTEN, Ack]);
             told(&mut host, path);
-            host.take(Left);
-            wants(&rt, &host, UNCONFIRMED);
-            told(&mut host, &[Restarted, Left]);
-            wants(&rt, &host, UNCONFIRMED);
+            leads(&rt, &mut host, &[Left], UNCONFIRMED);
+            leads(&rt, &mut host, &[Restarted, Left], UNCONFIRMED);
         }
     }
     Ok(())
@@ -82,63 +72,54 @@ fn download_is_unconfirmed(rt: HostRuntime) -> Result<(), Fail> {
 
 #[test]
 fn verified_download_is_compared(rt: HostRuntime) -> Result<(), Fail> {
+    is_verified(&rt, &SILENT, &UNTIL_IT_LEFT, &COMPARED)?;
     let file = read(&ALL_ONES)?;
-    let mut host = Host::download_verified(&file, &SILENT, DEVICE, AMPLE)?;
-    follow(&rt, &mut host, &UNTIL_IT_LEFT);
-    follow(&rt, &mut host, &COMPARED);
-    wants(&rt, &host, VERIFIED);
     for (device, paths) in [(&TOLERANT, &TOLERANTLY), (&SILENT, &SILENTLY)] {
         for path in paths {
             let mut host = Host::download_verified(&file, device, DEVICE, AMPLE)?;
             told(&mut host, &[DFU_IDLE, Ack, WRITTEN, Ack]);
             told(&mut host, path);
-            told(&mut host, &[Left, DFU_IDLE]);
-            wants(&rt, &host, PART_0);
-            told(&mut host, &[ONES, WasReset]);
-            wants(&rt, &host, VERIFIED);
+            leads(&rt, &mut host, &[Left, DFU_IDLE], PART_0);
+            leads(&rt, &mut host, &[ONES, WasReset], VERIFIED);
         }
     }
     Ok(())
 }
 
-/// A verified download that has come as far as this, with one restart left.
-fn verified<'f>(file: &File<'f>, path: &[Seen<'_>]) -> Result<Host<'f>, Fail> {
-    let limits = Limits {
-        actions: 100,
-        restarts: 1,
-    };
-    let mut host = Host::download_verified(file, &TOLERANT, DEVICE, limits)?;
+/// A verified download has come as far as this, with one restart left. The device leaves and is found again, which leads to this; when it
+/// leaves once more, no restart is left.
+fn restarts_once(
+    rt: &impl Abort,
+    path: &[Seen<'_>],
+    first: &[Seen<'_>],
+    wanted: Action<'_>,
+    second: &[Seen<'_>],
+) -> Result<(), Fail> {
+    let file = read(&ALL_ONES)?;
+    let mut host = Host::download_verified(&file, &TOLERANT, DEVICE, limits(100, 1))?;
     told(&mut host, path);
-    Ok(host)
+    leads(rt, &mut host, first, wanted);
+    leads(rt, &mut host, second, SPENT);
+    Ok(())
 }
 
-/// It is told twice: the first time is the last reset, and the second a restart, as any is that comes
-/// behind the last reset.
+/// The host sees it twice: the first time is the last reset, and the second a restart, as any that comes
+/// after the last reset.
 #[test]
 fn what_follows_is_a_restart(rt: HostRuntime) -> Result<(), Fail> {
-    let file = read(&ALL_ONES)?;
+    let path = [DFU_IDLE, Ack, WRITTEN, Ack, MANIFEST, Left, DFU_IDLE];
     for again in [Left, Restarted] {
-        let path = [DFU_IDLE, Ack, WRITTEN, Ack, MANIFEST, Left, DFU_IDLE];
-        let mut host = verified(&file, &path)?;
-        told(&mut host, &[again, DFU_IDLE]);
-        wants(&rt, &host, PART_0);
-        host.take(again);
-        wants(&rt, &host, SPENT);
+        restarts_once(&rt, &path, &[again, DFU_IDLE], PART_0, &[again])?;
     }
     Ok(())
 }
 
-/// What was compared is not reported where the device leaves before the reset behind it.
+/// A comparison is not reported if the device leaves before the reset that follows it.
 #[test]
 fn leaving_after_the_comparison_is_a_restart(rt: HostRuntime) -> Result<(), Fail> {
-    let file = read(&ALL_ONES)?;
     let path = [DFU_IDLE, Ack, WRITTEN, Ack, DFU_IDLE, WasReset, DFU_IDLE];
     for bytes in [ONES, Bytes(&[])] {
-        let mut host = verified(&file, &path)?;
-        told(&mut host, &[bytes, Left, DFU_IDLE]);
-        wants(&rt, &host, PART_0);
-        told(&mut host, &[bytes, Left]);
-        wants(&rt, &host, SPENT);
+        restarts_once(&rt, &path, &[bytes, Left, DFU_IDLE], PART_0, &[bytes, Left])?;
     }
     Ok(())
 }
@@ -146,17 +127,12 @@ fn leaving_after_the_comparison_is_a_restart(rt: HostRuntime) -> Result<(), Fail
 /// Before the close was acknowledged the image is written again.
 #[test]
 fn leaving_before_the_close_is_a_restart(rt: HostRuntime) -> Result<(), Fail> {
-    let file = read(&ALL_ONES)?;
     for path in [
         &[DFU_IDLE, Ack] as &[Seen<'_>],
         &[DFU_IDLE, Ack, WRITTEN],
         &[DFU_IDLE, Ack, WRITTEN, Nothing],
     ] {
-        let mut host = verified(&file, path)?;
-        told(&mut host, &[Left, DFU_IDLE]);
-        wants(&rt, &host, BLOCK);
-        host.take(Left);
-        wants(&rt, &host, SPENT);
+        restarts_once(&rt, path, &[Left, DFU_IDLE], BLOCK, &[Left])?;
     }
     Ok(())
 }
@@ -165,21 +141,13 @@ fn leaving_before_the_close_is_a_restart(rt: HostRuntime) -> Result<(), Fail> {
 #[test]
 fn leaving_spends_an_action(rt: HostRuntime) -> Result<(), Fail> {
     let file = read(&ALL_ONES)?;
-    for (actions, wanted) in [(6, UNCONFIRMED), (5, Action::Done(Report::GaveUp))] {
-        let limits = Limits {
-            actions,
-            restarts: 0,
-        };
-        let mut host = Host::download(&file, &SILENT, DEVICE, limits)?;
-        told(&mut host, &[DFU_IDLE, Ack, WRITTEN, Ack, MANIFEST, Left]);
-        wants(&rt, &host, wanted);
+    let gave_up = Action::Done(Report::GaveUp);
+    let path = [DFU_IDLE, Ack, WRITTEN, Ack, MANIFEST, Left];
+    for (actions, wanted) in [(6, UNCONFIRMED), (5, gave_up)] {
+        let mut host = Host::download(&file, &SILENT, DEVICE, limits(actions, 0))?;
+        leads(&rt, &mut host, &path, wanted);
     }
-    let limits = Limits {
-        actions: 6,
-        restarts: 0,
-    };
-    let mut host = Host::download_verified(&file, &SILENT, DEVICE, limits)?;
-    told(&mut host, &[DFU_IDLE, Ack, WRITTEN, Ack, MANIFEST, Left]);
-    wants(&rt, &host, Action::Done(Report::GaveUp));
+    let mut host = Host::download_verified(&file, &SILENT, DEVICE, limits(6, 0))?;
+    leads(&rt, &mut host, &path, gave_up);
     Ok(())
 }

@@ -1,6 +1,6 @@
 //! Sessions that are taken apart and put together between all steps.
 
-use super::dialogue::{AMPLE, DEVICE, DFU_IDLE, SILENT, TOLERANT, WRITTEN};
+use super::dialogue::{AMPLE, DEVICE, DFU_IDLE, INSTALLED, SILENT, TOLERANT};
 use super::files::NINE;
 use super::rows::{COMPARING, FETCHING, FINDING, Row, SENDING, SILENTLY, TOLERANTLY};
 use dfu_host::Seen::{Ack, Bytes, Left, Nothing, Restarted, Stall, Waited, WasReset};
@@ -10,12 +10,7 @@ use dfu_wire::Functional;
 use std::process::Abort;
 use std::test::Fail;
 
-/// What is seen of a download of two blocks that is verified, up to its last reset.
-static INSTALLED: [Seen<'static>; 8] = [
-    DFU_IDLE, Ack, WRITTEN, Ack, WRITTEN, Ack, DFU_IDLE, WasReset,
-];
-
-/// What a session is told at the end of each path.
+/// What a session gets at the end of each path.
 static LAST: [Seen<'static>; 9] = [
     Ack,
     Stall,
@@ -55,7 +50,7 @@ impl<'f> Pair<'f> {
         }
     }
 
-    /// Both want the same, and what is sent stands in the payload where the session says.
+    /// Both want the same, and what is sent lies in the payload where the session says.
     fn agrees(&self, rt: &impl Abort, payload: &[u8]) {
         let session = self.session(rt);
         let action = session.next();
@@ -70,7 +65,7 @@ impl<'f> Pair<'f> {
         }
     }
 
-    /// Both are told all of this.
+    /// Both get all of this.
     fn told(&mut self, rt: &impl Abort, payload: &[u8], all: &[Seen<'_>]) {
         for seen in all {
             self.agrees(rt, payload);

@@ -1,4 +1,4 @@
-//! Hosts that are told what was seen, and a session that is played to its end.
+//! Hosts that get what was seen, and a session that is played to its end.
 
 use dfu_host::{Action, Host, Report, Seen};
 use std::process::Abort;
@@ -19,7 +19,7 @@ pub(crate) fn play<C: Carrier>(host: &mut Host<'_>, carrier: &mut C) -> Report {
     }
 }
 
-/// Tells a host all of this.
+/// Gives a host all of this, one after the other.
 pub(crate) fn told(host: &mut Host<'_>, all: &[Seen<'_>]) {
     for seen in all {
         host.take(*seen);
@@ -31,12 +31,18 @@ pub(crate) fn wants(rt: &impl Abort, host: &Host<'_>, action: Action<'_>) {
     assert_eq!(rt; host.next(), action);
 }
 
+/// A host gets all of this, and then wants this.
+pub(crate) fn leads(rt: &impl Abort, host: &mut Host<'_>, all: &[Seen<'_>], action: Action<'_>) {
+    told(host, all);
+    wants(rt, host, action);
+}
+
 /// A host shows these bytes of an upload.
 pub(crate) fn shows(rt: &impl Abort, host: &Host<'_>, bytes: &[u8]) {
     assert_eq!(rt; host.uploaded(), bytes);
 }
 
-/// What a host wants, and what it is told then.
+/// What a host wants, and what it gets then.
 pub(crate) type Step = (Action<'static>, Seen<'static>);
 
 /// Goes through a dialogue with a host.

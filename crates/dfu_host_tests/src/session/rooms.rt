@@ -1,4 +1,4 @@
-//! Parts that are a session's or none's, and uploads into a caller's room.
+//! Parts that belong to a session or do not, and uploads into a caller's buffer.
 
 use super::dialogue::{AMPLE, DEVICE, DFU_IDLE, TOLERANT};
 use super::files::NINE;
@@ -38,7 +38,7 @@ fn download() -> Result<Parts<'static>, Fail> {
     Ok(Session::download(&file, &TOLERANT, DEVICE, AMPLE)?.parts())
 }
 
-/// Whether parts are a session's, in each of these phases.
+/// Whether parts belong to a session, in each of these phases.
 fn has(rt: &impl Abort, parts: Parts<'_>, phases: &[Phase], wanted: bool) {
     for phase in phases {
         let phase = *phase;
@@ -51,7 +51,7 @@ fn has(rt: &impl Abort, parts: Parts<'_>, phases: &[Phase], wanted: bool) {
 #[rattlefmt::skip]
 static WITHIN: [Phase; 4] = [Phase::Block(1), Phase::Ask(1), Phase::Poll(1), Phase::WaitPoll(1, 5)];
 
-/// Phases of blocks behind the last.
+/// Phases of blocks after the last.
 #[rattlefmt::skip]
 static BEHIND: [Phase; 4] = [Phase::Block(2), Phase::Ask(2), Phase::Poll(2), Phase::WaitPoll(2, 5)];
 

@@ -2,7 +2,8 @@
 //! what follows.
 
 use super::dialogue::{
-    ABORT, APP_IDLE, BUSY, CLEAR, DETACH, DFU_IDLE, GET_STATE, GET_STATUS, OLD_ERROR, WRITTEN,
+    ABORT, APP_IDLE, BUSY, CLEAR, DETACH, DFU_IDLE, GET_STATE, GET_STATUS, OLD_ERROR, PART_0,
+    WRITTEN,
 };
 use dfu_host::Seen::{Ack, Bytes, Left, Nothing, Stall, WasReset};
 use dfu_host::{Action, Report, Seen};
@@ -53,25 +54,14 @@ const SECOND: Action<'static> = Action::Send {
     body: b"9",
 };
 
-const CLOSE: Action<'static> = Action::Send {
-    setup: [0x21, 1, 2, 0, 0, 0, 0, 0],
-    body: &[],
-};
+const CLOSE: Action<'static> = asks!([0x21, 1, 2, 0, 0, 0, 0, 0]);
 
-/// UPLOAD of part 0 and of part 1, of at most eight bytes.
-const PART_0: Action<'static> = Action::Send {
-    setup: [0xa1, 2, 0, 0, 0, 0, 8, 0],
-    body: &[],
-};
-
-const PART_1: Action<'static> = Action::Send {
-    setup: [0xa1, 2, 1, 0, 0, 0, 8, 0],
-    body: &[],
-};
+/// UPLOAD of part 1, of at most eight bytes.
+const PART_1: Action<'static> = asks!([0xa1, 2, 1, 0, 0, 0, 8, 0]);
 
 const FULL: Seen<'static> = Bytes(b"12345678");
 
-/// The part behind it, which is the last.
+/// The next part, which is the last.
 const REST: Seen<'static> = Bytes(b"9");
 
 /// A status of dfuERROR with errADDRESS.

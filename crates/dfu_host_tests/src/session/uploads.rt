@@ -1,20 +1,13 @@
 //! Uploads played by hand.
 
 use super::dialogue::{
-    ABORT, AMPLE, APP_IDLE, BUSY, DETACH, DFU_IDLE, GET_STATUS, OLD_ERROR, TOLERANT, WRITTEN, fetch,
+    AMPLE, APP_IDLE, DETACH, DFU_IDLE, GET_STATUS, PART_0, TOLERANT, descriptor, fetch, limits,
 };
-use super::played::{Step, follow, shows, told, wants};
+use super::played::{Step, follow, leads, shows, told, wants};
 use dfu_host::Seen::{Ack, Bytes, Nothing, Restarted, Stall, Waited, WasReset};
-use dfu_host::{Action, Host, HostFault, Limits, Report, Seen};
-use dfu_wire::Functional;
+use dfu_host::{Action, Host, HostFault, Report, Seen};
 use std::process::Abort;
 use std::test::Fail;
-
-/// UPLOAD of part 0, of at most 8 bytes.
-const FETCH: Action<'static> = Action::Send {
-    setup: [0xa1, 2, 0, 0, 0, 0, 8, 0],
-    body: &[],
-};
 
 const UPLOADED: Action<'static> = Action::Done(Report::Uploaded);
 
@@ -34,7 +27,7 @@ static SHORT: [Step; 6] = [
     (DETACH, Ack),
     (Action::Reset, WasReset),
     (GET_STATUS, DFU_IDLE),
-    (FETCH, Bytes(&[7])),
+    (PART_0, Bytes(&[7])),
     (Action::Reset, WasReset),
 ];
 
@@ -71,8 +64,7 @@ fn empty_part_ends_an_image_of_full_parts(rt: HostRuntime) -> Result<(), Fail> {
     let mut host = Host::upload(rt.alloc(), &TOLERANT, AMPLE)?;
     told(&mut host, &[DFU_IDLE, FIRST]);
     shows(&rt, &host, &[0, 1, 2, 3, 4, 5, 6, 7]);
-    told(&mut host, &[Bytes(&[]), WasReset]);
-    wants(&rt, &host, UPLOADED);
+    leads(&rt, &mut host, &[Bytes(&[]), WasReset], UPLOADED);
     shows(&rt, &host, &[0, 1, 2, 3, 4, 5, 6, 7]);
     Ok(())
 }
@@ -85,14 +77,12 @@ fn what_is_no_part_begins_anew(rt: HostRuntime) -> Result<(), Fail> {
     let long = Bytes(&[0, 1, 2, 3, 4, 5, 6, 7, 8]);
     for seen in [Nothing, Stall, long, Ack, Waited, WasReset] {
         let mut host = Host::upload(rt.alloc(), &TOLERANT, AMPLE)?;
-        told(&mut host, &[DFU_IDLE, SECOND, seen]);
-        wants(&rt, &host, GET_STATUS);
+        leads(&rt, &mut host, &[DFU_IDLE, SECOND, seen], GET_STATUS);
         shows(&rt, &host, &[]);
-        told(&mut host, &[Bytes(&[0, 0, 0, 0, 9, 0]), Ack, DFU_IDLE]);
-        wants(&rt, &host, fetch(0, 8));
+        let sends = Bytes(&[0, 0, 0, 0, 9, 0]);
+        leads(&rt, &mut host, &[sends, Ack, DFU_IDLE], fetch(0, 8));
         shows(&rt, &host, &[]);
-        told(&mut host, &[FIRST, THIRD, WasReset]);
-        wants(&rt, &host, UPLOADED);
+        leads(&rt, &mut host, &[FIRST, THIRD, WasReset], UPLOADED);
         shows(&rt, &host, &[0, 1, 2, 3, 4, 5, 6, 7, 16, 17, 18]);
     }
     Ok(())
@@ -100,23 +90,18 @@ fn what_is_no_part_begins_anew(rt: HostRuntime) -> Result<(), Fail> {
 
 #[test]
 fn restart_throws_away_what_was_kept(rt: HostRuntime) -> Result<(), Fail> {
-    let once = Limits {
-        actions: 20,
-        restarts: 1,
-    };
+    let once = limits(20, 1);
     for path in [&[DFU_IDLE, FIRST] as &[Seen<'_>], &[DFU_IDLE, FIRST, THIRD]] {
         let mut host = Host::upload(rt.alloc(), &TOLERANT, once)?;
         told(&mut host, path);
-        host.take(Restarted);
-        wants(&rt, &host, GET_STATUS);
+        leads(&rt, &mut host, &[Restarted], GET_STATUS);
         shows(&rt, &host, &[]);
-        told(&mut host, &[DFU_IDLE, THIRD, WasReset]);
-        wants(&rt, &host, UPLOADED);
+        leads(&rt, &mut host, &[DFU_IDLE, THIRD, WasReset], UPLOADED);
         shows(&rt, &host, &[16, 17, 18]);
         let mut host = Host::upload(rt.alloc(), &TOLERANT, once)?;
         told(&mut host, path);
-        told(&mut host, &[Restarted, DFU_IDLE, FIRST, Restarted]);
-        wants(&rt, &host, Action::Done(Report::RestartsSpent));
+        let again = [Restarted, DFU_IDLE, FIRST, Restarted];
+        leads(&rt, &mut host, &again, Action::Done(Report::RestartsSpent));
         shows(&rt, &host, &[]);
     }
     Ok(())
@@ -133,14 +118,10 @@ fn tell_parts(rt: &impl Abort, host: &mut Host<'_>, parts: u16) {
 
 #[test]
 fn image_has_less_than_65_535_full_parts(rt: HostRuntime) -> Result<(), Fail> {
-    let by_one = Functional {
-        transfer: 1,
-        ..TOLERANT
-    };
+    let by_one = descriptor(true, true, 1);
     let mut host = Host::upload(rt.alloc(), &by_one, AMPLE)?;
     tell_parts(&rt, &mut host, 65_534);
-    told(&mut host, &[Bytes(&[]), WasReset]);
-    wants(&rt, &host, UPLOADED);
+    leads(&rt, &mut host, &[Bytes(&[]), WasReset], UPLOADED);
     assert_eq!(rt; host.uploaded().len(), 65_534);
     let mut host = Host::upload(rt.alloc(), &by_one, AMPLE)?;
     tell_parts(&rt, &mut host, 65_535);
@@ -151,24 +132,10 @@ fn image_has_less_than_65_535_full_parts(rt: HostRuntime) -> Result<(), Fail> {
 
 #[test]
 fn refusals_of_an_upload_come_in_their_order(rt: HostRuntime) -> Result<(), Fail> {
-    let mute = Functional {
-        can_upload: false,
-        transfer: 0,
-        ..TOLERANT
-    };
-    let narrow = Functional {
-        can_download: false,
-        transfer: 0,
-        ..TOLERANT
-    };
-    let only = Functional {
-        can_download: false,
-        ..TOLERANT
-    };
     let refused = [
-        (mute, Some(HostFault::CannotUpload)),
-        (narrow, Some(HostFault::BadDescriptor)),
-        (only, None),
+        (descriptor(true, false, 0), Some(HostFault::CannotUpload)),
+        (descriptor(false, true, 0), Some(HostFault::BadDescriptor)),
+        (descriptor(false, true, 8), None),
     ];
     for (functional, fault) in &refused {
         assert_eq!(rt; Host::upload(rt.alloc(), functional, AMPLE).err(), *fault);
@@ -176,7 +143,7 @@ fn refusals_of_an_upload_come_in_their_order(rt: HostRuntime) -> Result<(), Fail
     Ok(())
 }
 
-/// Where an allocation is refused, the report is NoMemory, and no part is shown; else the image
+/// If an allocation is refused, the report is NoMemory, and no part is shown; else the image
 /// is fetched.
 #[test]
 fn part_is_kept_or_there_is_no_memory(rt: HostRuntime) -> Result<(), Fail> {

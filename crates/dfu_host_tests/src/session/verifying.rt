@@ -2,29 +2,19 @@
 
 use super::CLEAN;
 use super::dialogue::{
-    AMPLE, APP_IDLE, BLOCK, DETACH, DEVICE, DFU_IDLE, GET_STATUS, MANIFEST, SILENT, TOLERANT,
-    WRITTEN, fetch,
+    AMPLE, APP_IDLE, BLOCK, DETACH, DEVICE, DFU_IDLE, GET_STATUS, MANIFEST, ONES, PART_0, SILENT,
+    TOLERANT, VERIFIED, WRITTEN, descriptor, fetch, limits,
 };
 use super::files::{ALL_ONES, EMPTY, FOR_ZERO, NINE, zeros};
-use super::played::{Step, follow, told, wants};
+use super::played::{Step, follow, leads, told, wants};
 use dfu_host::Seen::{Ack, Bytes, Restarted, Waited, WasReset};
-use dfu_host::{Action, Host, HostFault, Limits, Report, Seen};
+use dfu_host::{Action, Host, HostFault, Report, Seen};
 use dfu_suffix::read;
 use dfu_wire::Functional;
 use std::process::Abort;
 use std::test::Fail;
 
-const ONES: Seen<'static> = Bytes(&[0xff, 0xff, 0xff, 0xff]);
-
-const VERIFIED: Action<'static> = Action::Done(Report::Verified);
-
 const DIFFERENT: Action<'static> = Action::Done(Report::Different);
-
-/// UPLOAD of part 0, of at most 8 bytes.
-const PART_0: Action<'static> = Action::Send {
-    setup: [0xa1, 2, 0, 0, 0, 0, 8, 0],
-    body: &[],
-};
 
 /// The comparison that follows a clean download.
 static COMPARED: [Step; 6] = [
@@ -39,24 +29,24 @@ static COMPARED: [Step; 6] = [
 /// What is seen of a download of one block by a device that closes at once.
 static LOADED: [Seen<'static>; 6] = [DFU_IDLE, Ack, WRITTEN, Ack, DFU_IDLE, WasReset];
 
-static BY_FOUR: Functional = Functional {
-    can_download: true,
-    can_upload: true,
-    tolerant: true,
-    will_detach: false,
-    detach_ms: 255,
-    transfer: 4,
-    version: 0x0110,
-};
+/// A verified download follows this dialogue and that of its comparison, and is Verified.
+pub(crate) fn is_verified(
+    rt: &impl Abort,
+    device: &Functional,
+    loaded: &[Step],
+    compared: &[Step],
+) -> Result<(), Fail> {
+    let file = read(&ALL_ONES)?;
+    let mut host = Host::download_verified(&file, device, DEVICE, AMPLE)?;
+    follow(rt, &mut host, loaded);
+    follow(rt, &mut host, compared);
+    wants(rt, &host, VERIFIED);
+    Ok(())
+}
 
 #[test]
 fn clean_verified_download_takes_nineteen_actions(rt: HostRuntime) -> Result<(), Fail> {
-    let file = read(&ALL_ONES)?;
-    let mut host = Host::download_verified(&file, &TOLERANT, DEVICE, AMPLE)?;
-    follow(&rt, &mut host, &CLEAN);
-    follow(&rt, &mut host, &COMPARED);
-    wants(&rt, &host, VERIFIED);
-    Ok(())
+    is_verified(&rt, &TOLERANT, &CLEAN, &COMPARED)
 }
 
 #[test]
@@ -69,12 +59,10 @@ fn device_that_is_not_tolerant_is_verified_too(rt: HostRuntime) -> Result<(), Fa
         (Bytes(&[]), DIFFERENT),
     ] {
         let mut host = Host::download_verified(&file, &SILENT, DEVICE, AMPLE)?;
-        told(&mut host, &[DFU_IDLE, Ack, WRITTEN, Ack, MANIFEST, Waited]);
-        wants(&rt, &host, Action::Reset);
-        told(&mut host, &[WasReset, DFU_IDLE, bytes]);
-        wants(&rt, &host, Action::Reset);
-        host.take(WasReset);
-        wants(&rt, &host, action);
+        let path = [DFU_IDLE, Ack, WRITTEN, Ack, MANIFEST, Waited];
+        leads(&rt, &mut host, &path, Action::Reset);
+        leads(&rt, &mut host, &[WasReset, DFU_IDLE, bytes], Action::Reset);
+        leads(&rt, &mut host, &[WasReset], action);
     }
     Ok(())
 }
@@ -84,25 +72,14 @@ fn device_that_is_not_tolerant_is_verified_too(rt: HostRuntime) -> Result<(), Fa
 #[test]
 fn restart_goes_on_with_what_is_left_to_do(rt: HostRuntime) -> Result<(), Fail> {
     let file = read(&ALL_ONES)?;
-    let twice = Limits {
-        actions: 100,
-        restarts: 2,
-    };
-    let mut host = Host::download_verified(&file, &BY_FOUR, DEVICE, twice)?;
-    told(
-        &mut host,
-        &[DFU_IDLE, Ack, WRITTEN, Ack, DFU_IDLE, Restarted, DFU_IDLE],
-    );
-    wants(&rt, &host, BLOCK);
-    told(
-        &mut host,
-        &[Ack, WRITTEN, Ack, DFU_IDLE, WasReset, DFU_IDLE, ONES],
-    );
-    wants(&rt, &host, fetch(1, 4));
-    told(&mut host, &[Restarted, DFU_IDLE]);
-    wants(&rt, &host, fetch(0, 4));
-    told(&mut host, &[ONES, Bytes(&[]), WasReset]);
-    wants(&rt, &host, VERIFIED);
+    let by_four = descriptor(true, true, 4);
+    let mut host = Host::download_verified(&file, &by_four, DEVICE, limits(100, 2))?;
+    let path = [DFU_IDLE, Ack, WRITTEN, Ack, DFU_IDLE, Restarted, DFU_IDLE];
+    leads(&rt, &mut host, &path, BLOCK);
+    let path = [Ack, WRITTEN, Ack, DFU_IDLE, WasReset, DFU_IDLE, ONES];
+    leads(&rt, &mut host, &path, fetch(1, 4));
+    leads(&rt, &mut host, &[Restarted, DFU_IDLE], fetch(0, 4));
+    leads(&rt, &mut host, &[ONES, Bytes(&[]), WasReset], VERIFIED);
     Ok(())
 }
 
@@ -110,15 +87,15 @@ fn restart_goes_on_with_what_is_left_to_do(rt: HostRuntime) -> Result<(), Fail> 
 #[test]
 fn full_blocks_end_by_an_empty_answer(rt: HostRuntime) -> Result<(), Fail> {
     let file = read(&ALL_ONES)?;
+    let by_four = descriptor(true, true, 4);
     for (bytes, action) in [
         (Bytes(&[]), VERIFIED),
         (ONES, DIFFERENT),
         (Bytes(&[0xff]), DIFFERENT),
     ] {
-        let mut host = Host::download_verified(&file, &BY_FOUR, DEVICE, AMPLE)?;
+        let mut host = Host::download_verified(&file, &by_four, DEVICE, AMPLE)?;
         told(&mut host, &LOADED);
-        told(&mut host, &[DFU_IDLE, ONES, bytes, WasReset]);
-        wants(&rt, &host, action);
+        leads(&rt, &mut host, &[DFU_IDLE, ONES, bytes, WasReset], action);
     }
     Ok(())
 }
@@ -139,15 +116,11 @@ fn verify_zeros(rt: &impl Abort, host: &mut Host<'_>, blocks: u32, parts: u16) {
 
 #[test]
 fn comparison_has_less_than_65_535_full_parts(rt: HostRuntime) -> Result<(), Fail> {
-    let by_one = Functional {
-        transfer: 1,
-        ..TOLERANT
-    };
+    let by_one = descriptor(true, true, 1);
     let bytes = zeros(rt.alloc(), 65_534)?;
     let mut host = Host::download_verified(&read(&bytes)?, &by_one, DEVICE, AMPLE)?;
     verify_zeros(&rt, &mut host, 65_534, 65_534);
-    told(&mut host, &[Bytes(&[]), WasReset]);
-    wants(&rt, &host, VERIFIED);
+    leads(&rt, &mut host, &[Bytes(&[]), WasReset], VERIFIED);
     let bytes = zeros(rt.alloc(), 65_536)?;
     let mut host = Host::download_verified(&read(&bytes)?, &by_one, DEVICE, AMPLE)?;
     verify_zeros(&rt, &mut host, 65_536, 65_535);
@@ -157,21 +130,9 @@ fn comparison_has_less_than_65_535_full_parts(rt: HostRuntime) -> Result<(), Fai
 
 #[test]
 fn refusals_of_a_verified_download_come_in_their_order(rt: HostRuntime) -> Result<(), Fail> {
-    let mute = Functional {
-        can_download: false,
-        can_upload: false,
-        transfer: 0,
-        ..TOLERANT
-    };
-    let kept = Functional {
-        can_upload: false,
-        transfer: 0,
-        ..TOLERANT
-    };
-    let narrow = Functional {
-        transfer: 0,
-        ..TOLERANT
-    };
+    let mute = descriptor(false, false, 0);
+    let kept = descriptor(true, false, 0);
+    let narrow = descriptor(true, true, 0);
     let refused = [
         (read(&EMPTY)?, mute, Some(HostFault::EmptyPayload)),
         (read(&FOR_ZERO)?, mute, Some(HostFault::WrongTarget)),

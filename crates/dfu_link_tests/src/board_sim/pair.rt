@@ -1,4 +1,4 @@
-//! A device and a board that begin with the same bytes, and what comes to both.
+//! A device and a board that begin with the same bytes, and the events that both get.
 
 ghost use Rattle.std.specs.Prelude.{◌≡◌, IfOk};
 ghost use Rattle.dfu_device.specs.Setting.{IsAllowed};
@@ -120,7 +120,7 @@ fn are_the_same(
     Ok(())
 }
 
-/// An event comes to both.
+/// Both get an event.
 fn both<'f>(
     rt: &impl Abort,
     alloc: Global,
@@ -134,7 +134,7 @@ fn both<'f>(
     are_the_same(rt, alloc, world, board)
 }
 
-/// The next random event comes to both.
+/// Both get the next random event.
 fn turn<'f>(
     rt: &impl Abort,
     alloc: Global,
@@ -148,7 +148,7 @@ fn turn<'f>(
     both(rt, alloc, world, board, next)
 }
 
-/// Random events come to both, of which each offer is of this file.
+/// Both get random events, whose offers all have this file.
 fn plays<'f>(
     rt: &impl Abort,
     alloc: Global,
@@ -165,9 +165,9 @@ fn plays<'f>(
     Ok(())
 }
 
-/// The same random events come to a device and to a board, which answer the same.
+/// A device and a board get the same random events, and answer the same.
 pub(crate) fn plays_the_same(rt: &impl Abort, alloc: Global, dice: &mut Dice) -> Result<(), Fail> {
-    // In one of three a block fills what is held back of the one before, and has a whole unit more: two writes close to each other.
+    // In one of three lists a block fills what is held back of the one before, and has another whole unit: two writes in a row.
     let is_large = dice.roll(3) == 0;
     let (len, kind, transfer) = if is_large {
         (700 + dice.roll(301), 3, 500)

@@ -24,14 +24,14 @@ pub(crate) const FOR_ZERO: [u8; 20] = [
 /// An image of eight bytes.
 pub(crate) const EIGHT: [u8; 8] = [0, 1, 2, 3, 4, 5, 6, 7];
 
-/// Actions enough, and no restart.
+/// Enough actions, and no restart.
 pub(crate) const AMPLE: Limits = Limits {
     actions: 1_000_000,
     restarts: 0,
 };
 
-/// What a device is set up with: bmAttributes, wTransferSize, the fewest bytes of an image, its two
-/// times, and how many bytes of an image it has room for, at most 2^24.
+/// The setup of a device: bmAttributes, wTransferSize, the fewest bytes of an image, its two times, and
+/// the room for an image in bytes, at most 2^24.
 #[derive(Clone, Copy)]
 pub(crate) struct Setup {
     pub(crate) attributes: u8,
@@ -52,7 +52,13 @@ pub(crate) const USUAL: Setup = Setup {
     capacity: 64,
 };
 
-/// How many bytes a medium has whose slots have room for so many: up to 2^24, else none.
+/// The same device, but not tolerant.
+pub(crate) const SILENT: Setup = Setup {
+    attributes: 0x03,
+    ..USUAL
+};
+
+/// The length of a medium whose slots have room for so many bytes, up to 2^24; 0 if they are more.
 pub(crate) fn medium_len(capacity: u32) -> u32 {
     if capacity > 0x100_0000 {
         return 0;
@@ -75,7 +81,7 @@ pub(crate) fn world_of<'f>(
     world_on(alloc, medium, setup, image)
 }
 
-/// A link to a device with this image on this medium, which has the length for it.
+/// A link to a device with this image on this medium, which has the right length.
 pub(crate) fn world_on<'f>(
     alloc: Global,
     medium: SimMedium,
@@ -116,14 +122,17 @@ pub(crate) struct Turn<'f, 't> {
     pub(crate) times: usize,
 }
 
-pub(crate) fn offer(file: &[u8]) -> Turn<'_, 'static> {
+/// An offer to a host that takes at most so many actions and restarts.
+pub(crate) fn offer_within(file: &[u8], actions: u32, restarts: u16) -> Turn<'_, 'static> {
+    let limits = Limits { actions, restarts };
     Turn {
-        event: Event::Offer {
-            file,
-            limits: AMPLE,
-        },
+        event: Event::Offer { file, limits },
         times: 1,
     }
+}
+
+pub(crate) fn offer(file: &[u8]) -> Turn<'_, 'static> {
+    offer_within(file, AMPLE.actions, AMPLE.restarts)
 }
 
 pub(crate) const UPLOAD: Turn<'static, 'static> = Turn {
@@ -145,8 +154,8 @@ pub(crate) fn pass(times: usize) -> Turn<'static, 'static> {
     }
 }
 
-/// Plays the turns. Nothing is refused, and nothing is reported before the last event, of which
-/// `last` is.
+/// Plays the turns. Nothing is refused, and nothing is reported before the last event, whose report
+/// is `last`.
 pub(crate) fn play<'f>(
     rt: &impl Abort,
     world: &mut World<'f, SimMedium>,
@@ -169,7 +178,7 @@ pub(crate) fn play<'f>(
     }
 }
 
-/// The event is refused as this fault.
+/// The event is refused with this fault.
 pub(crate) fn refused(
     rt: &impl Abort,
     world: &mut World<'static, SimMedium>,
@@ -182,7 +191,7 @@ pub(crate) fn refused(
     }
 }
 
-/// The device stands in this state, with this code and this image of at most 8 bytes.
+/// The device is in this state, with this code and this image of at most 8 bytes.
 pub(crate) fn stands(
     rt: &impl Abort,
     world: &World<'_, SimMedium>,

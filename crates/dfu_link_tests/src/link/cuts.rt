@@ -1,7 +1,11 @@
 //! Power cuts and failed writes.
 
-use super::bench::{AMPLE, Turn, USUAL, W, go, offer, pass, play, refused, stands, world};
-use dfu_host::{Limits, Report};
+use super::bench::{
+    AMPLE, Turn, USUAL, W, go, offer, offer_within, pass, play, refused, stands, world,
+};
+use super::fates::ends_a_session;
+use super::installs;
+use dfu_host::Report;
 use dfu_link::{Event, Fate, LinkFault, World};
 use dfu_slots::SimMedium;
 use dfu_wire::{Code, State};
@@ -18,8 +22,8 @@ static TEARS: [&'static [u8]; 4] = [&[], &[0x00], &[0xa5], &[0xff]];
 
 static LONG: [u8; 64] = [0xa5; 64];
 
-/// What a harmed write leaves: nothing new, a closed gate, an open one, bytes as they stood, or an
-/// open gate at the front of a long range.
+/// What a harmed write leaves: nothing new, a closed gate, an open one, erased bytes, or an open gate
+/// at the front of a long range.
 fn tear(number: u32) -> &'static [u8] {
     match TEARS.get(number as usize) {
         Some(tear) => *tear,
@@ -44,8 +48,8 @@ fn is_old_or_new(rt: &impl Abort, world: &World<'_, SimMedium>) {
     }
 }
 
-/// The first actions of a download, and then one with this fate. They all pass, but where the
-/// download is late the seventh slips.
+/// The first actions of a download, and then one with this fate. They all pass, but if the download is
+/// late, the seventh slips.
 fn comes_to(
     rt: &impl Abort,
     world: &mut World<'static, SimMedium>,
@@ -149,16 +153,7 @@ fn failures_and_lies_at_each_action_of_a_download(rt: HostRuntime) -> Result<(),
 #[test]
 fn a_host_goes_on_after_a_cut(rt: HostRuntime) -> Result<(), Fail> {
     let mut world = world(rt.alloc(), USUAL)?;
-    let twice = Turn {
-        event: Event::Offer {
-            file: &W,
-            limits: Limits {
-                restarts: 2,
-                ..AMPLE
-            },
-        },
-        times: 1,
-    };
+    let twice = offer_within(&W, AMPLE.actions, 2);
     play(&rt, &mut world, &[twice, pass(6)], None);
     for writes in [0, 1] {
         let tear = [0xaa, 0xbb];
@@ -177,14 +172,7 @@ fn a_host_goes_on_after_a_cut(rt: HostRuntime) -> Result<(), Fail> {
 
 #[test]
 fn a_cut_between_actions_is_told_to_the_host(rt: HostRuntime) -> Result<(), Fail> {
-    let mut world = world(rt.alloc(), USUAL)?;
-    play(
-        &rt,
-        &mut world,
-        &[CUT, offer(&W), pass(8), CUT],
-        Some(Report::RestartsSpent),
-    );
-    stands(&rt, &world, State::AppIdle, Code::Ok, &[0]);
+    let mut world = ends_a_session(&rt, rt.alloc(), CUT, 8)?;
     let nowhere = Fate::Cut {
         writes: 0,
         tear: &[],
@@ -196,7 +184,6 @@ fn a_cut_between_actions_is_told_to_the_host(rt: HostRuntime) -> Result<(), Fail
 /// The medium works again after the action, whether or not a write was harmed in it.
 #[test]
 fn a_failure_and_a_lie_are_over_with_their_action(rt: HostRuntime) -> Result<(), Fail> {
-    let mut world = world(rt.alloc(), USUAL)?;
     let fails = Fate::Fail {
         writes: 0,
         tear: &[],
@@ -205,12 +192,7 @@ fn a_failure_and_a_lie_are_over_with_their_action(rt: HostRuntime) -> Result<(),
         writes: 0,
         tear: &[0x5a],
     };
-    play(
-        &rt,
-        &mut world,
-        &[offer(&W), pass(4), go(lies), go(fails), pass(7)],
-        Some(Report::Installed),
-    );
-    stands(&rt, &world, State::AppIdle, Code::Ok, &[0xff; 4]);
+    let turns = [offer(&W), pass(4), go(lies), go(fails), pass(7)];
+    installs(&rt, rt.alloc(), USUAL, &turns, Some(Report::Installed))?;
     Ok(())
 }

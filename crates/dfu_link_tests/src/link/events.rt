@@ -40,7 +40,7 @@ pub(crate) fn file(number: u32) -> &'static [u8] {
     }
 }
 
-/// The payload of a file, which stands before its 16 bytes of suffix.
+/// The payload of a file, which precedes its 16 bytes of suffix.
 pub(crate) fn payload(number: u32) -> &'static [u8] {
     let file = file(number);
     let len = file.len().saturating_sub(16);
@@ -52,7 +52,7 @@ static TEARS: [&'static [u8]; 3] = [&[], &[0xa5], &[0x00]];
 
 static LONG: [u8; 64] = [0xa5; 64];
 
-/// What a harmed write leaves: nothing new, an open gate, a closed one, or an open one before more.
+/// What a harmed write leaves: nothing new, an open gate, a closed one, or an open one and more bytes.
 fn tear(number: u32) -> &'static [u8] {
     match TEARS.get(number as usize) {
         Some(tear) => *tear,
@@ -63,20 +63,10 @@ fn tear(number: u32) -> &'static [u8] {
 fn fate(dice: &mut Dice) -> Fate<'static> {
     let writes = dice.roll(5);
     let torn = tear(dice.roll(4));
-    match dice.roll(13) {
-        0 => Fate::LostOut,
-        1 => Fate::LostBack,
-        2 => Fate::Twice,
-        3 => Fate::TwiceLostBack,
-        4 => Fate::Slip(dice.roll(40)),
-        5 => Fate::Cut { writes, tear: torn },
-        6 => Fate::Fail { writes, tear: torn },
-        7 => Fate::Lie { writes, tear: torn },
-        _ => Fate::Pass,
-    }
+    dice.fate(13, writes, torn)
 }
 
-/// The next event; an offer is of the file with this number.
+/// The next event; an offer has the file with this number.
 pub(crate) fn event(dice: &mut Dice, number: u32) -> Event<'static, 'static> {
     let limits = Limits {
         actions: dice.roll(61),

@@ -1,9 +1,13 @@
 //! Which events are refused, and as what.
 
 use super::bench::{AMPLE, FOR_ZERO, USUAL, W, offer, pass, play, refused, world};
+use super::scripts;
 use dfu_host::{HostFault, Report};
 use dfu_link::{Event, Fate, LinkFault, OfferFault};
 use dfu_suffix::SuffixFault;
+use std::alloc::Global;
+use std::fmt::Display;
+use std::process::Abort;
 use std::test::Fail;
 
 fn offered(file: &'static [u8]) -> Event<'static, 'static> {
@@ -31,6 +35,14 @@ fn refused_events_change_nothing(rt: HostRuntime) -> Result<(), Fail> {
     Ok(())
 }
 
+/// Each of these faults is printed as the text beside it.
+fn have_texts<F: Display>(rt: &impl Abort, alloc: Global, rows: &[(F, &str)]) -> Result<(), Fail> {
+    for (fault, text) in rows {
+        assert_eq!(rt; format!(in alloc; "{fault}")?.as_str(), *text);
+    }
+    Ok(())
+}
+
 #[rattlefmt::skip]
 static TEXTS: [(LinkFault, &'static str); 5] = [
     (LinkFault::HostBusy, "a session is live already"),
@@ -42,8 +54,10 @@ static TEXTS: [(LinkFault, &'static str); 5] = [
 
 #[test]
 fn faults_have_their_texts(rt: HostRuntime) -> Result<(), Fail> {
-    for (fault, text) in &TEXTS {
-        assert_eq!(rt; format!(in rt.alloc(); "{fault}")?.as_str(), *text);
-    }
-    Ok(())
+    have_texts(&rt, rt.alloc(), &TEXTS)
+}
+
+#[test]
+fn script_faults_have_texts(rt: HostRuntime) -> Result<(), Fail> {
+    have_texts(&rt, rt.alloc(), &scripts::TEXTS)
 }

@@ -1,4 +1,4 @@
-//! Random lists of events, and what a stranger sees of the device after each of them.
+//! Random lists of events, and what can be seen of the device after each event.
 
 ghost use Rattle.std.specs.Prelude.{◌<◌};
 
@@ -15,14 +15,14 @@ use std::alloc::Global;
 use std::process::Abort;
 use std::test::Fail;
 
-/// What the dice begin with, how many lists are played, and how many events each has.
+/// The seed of the dice, how many lists are played, and how many events each has.
 const SEED: u64 = 1;
 
 const LISTS: u32 = 1_000;
 
 const EVENTS: u32 = 100;
 
-/// The room of a slot, which every unit divides, and the longest medium with it.
+/// The room of a slot, a multiple of every unit, and the size of the largest medium with such slots.
 const ROOM: u32 = 256;
 
 const LONGEST: usize = 1_536;
@@ -47,7 +47,7 @@ fn gate_size(unit: u32) -> usize {
     }
 }
 
-/// Another medium of this unit, with these bytes, which are as many as it has.
+/// Another medium of this unit with these bytes, of the same length.
 fn copy(rt: &impl Abort, alloc: Global, unit: u32, bytes: &[u8]) -> Result<SimMedium, Fail> {
     let mut medium = blank(alloc, unit)?;
     let size = medium.unit().size() as usize;
@@ -95,8 +95,8 @@ fn shown<'b>(device: &Device<SimMedium>, buffer: &'b mut [u8; 256]) -> &'b [u8] 
     found
 }
 
-/// The bytes of the device's medium have the image that it shows, and a device that starts on a copy
-/// of them has it too.
+/// The medium's bytes have the image that the device shows, and so has a device that starts on a copy
+/// of them.
 fn looked_at(
     rt: &impl Abort,
     alloc: Global,
@@ -120,7 +120,7 @@ fn looked_at(
     }
 }
 
-/// The device is taken from the link where no session is live, and starts again on its own medium.
+/// If no session is live, the device is taken from the link and starts again on its own medium.
 fn taken_apart(
     rt: &impl Abort,
     alloc: Global,
@@ -137,8 +137,8 @@ fn taken_apart(
     }
 }
 
-/// Where the host reports Installed or Verified the device stands in appIDLE with the image that was
-/// offered last, and where it reports Different with another one.
+/// If the host reports Installed or Verified, the device is in appIDLE with the image that was offered
+/// last. If it reports Different, the device has another image.
 fn is_as_reported(
     rt: &impl Abort,
     device: &Device<SimMedium>,
@@ -157,7 +157,7 @@ fn is_as_reported(
     }
 }
 
-/// After an event the image is the first one or an offered one, as was reported, and as the medium's bytes have it.
+/// After an event the image is the first one or an offered one, agrees with the report, and is in the medium's bytes.
 fn is_kept(
     rt: &impl Abort,
     alloc: Global,
@@ -175,7 +175,7 @@ fn is_kept(
     looked_at(rt, alloc, device, unit)
 }
 
-/// The files that were offered, a bit for each, and the last of them, after an event that was not refused.
+/// The offered files, a bit for each, and the number of the last one, after an event that was not refused.
 fn offered_by(event: Event<'static, 'static>, number: u32, before: (u32, u32)) -> (u32, u32)
     requires { number < 5 }
 {
@@ -185,7 +185,7 @@ fn offered_by(event: Event<'static, 'static>, number: u32, before: (u32, u32)) -
     }
 }
 
-/// An event comes, and the device is looked at.
+/// Plays an event, and then checks the device.
 fn play_event(
     rt: &impl Abort,
     alloc: Global,
@@ -204,7 +204,7 @@ fn play_event(
     Ok(after)
 }
 
-/// A list of events.
+/// Plays a list of events.
 fn play_list(rt: &impl Abort, alloc: Global, dice: &mut Dice) -> Result<(), Fail> {
     let setup = setup(dice);
     let unit = dice.roll(4);

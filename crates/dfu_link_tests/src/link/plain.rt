@@ -1,7 +1,7 @@
-//! The active image of a medium's bytes, read by the layout that the profile draws.
+//! The active image in a medium's bytes, read by the layout of the profile.
 
-/// The active image of these bytes, where there is one: that of the one slot that counts, or of the
-/// one whose generation is the other's plus one.
+/// The active image in these bytes, if there is one: that of the only valid slot, or of the slot whose
+/// generation is the other's plus one.
 pub(crate) fn plain_image(bytes: &[u8], gate: usize) -> Option<&[u8]> {
     let (first, second) = bytes.split_at(bytes.len() / 2);
     match (held_image(first, gate), held_image(second, gate)) {
@@ -21,7 +21,7 @@ pub(crate) fn plain_image(bytes: &[u8], gate: usize) -> Option<&[u8]> {
     }
 }
 
-/// The image of a slot that is open and whose header, of version 2, is that of the image.
+/// The image of a slot whose gate is open and whose header, of version 2, fits the image.
 fn held_image(slot: &[u8], gate: usize) -> Option<&[u8]> {
     let header = slot.get(gate..)?;
     match (slot, header) {

@@ -11,15 +11,15 @@ ghost use Rattle.dfu_link.specs.CleanInstall.{CanInstall, clean_passes, offer_an
 use super::bench::{
     EIGHT, Setup, UPLOAD, USUAL, W, medium_len, offer, pass, play, world, world_of, world_on,
 };
+use crate::files::file_with;
 use dfu_host::Report;
 use dfu_link::{Event, Fate, LinkFault, Stop, World, run};
 use dfu_slots::{Faulty, NoMemory, SimMedium};
-use dfu_suffix::Crc;
-use std::alloc::{AllocError, Global};
+use std::alloc::Global;
 use std::process::Abort;
 use std::test::Fail;
 
-/// An offer and the passes of a clean run, verified or not. Where all of it came, the payload is the
+/// An offer and the passes of a clean run, verified or not. If all of them came, the payload is the
 /// active image of a device in appIDLE, and that was reported.
 fn installs<'f, M: Faulty>(
     world: &mut World<'f, M>,
@@ -46,7 +46,7 @@ fn reported(rt: &impl Abort, answer: Result<Vec<Report>, Stop>, report: Report) 
     }
 }
 
-/// The events up to this one came, and this one found no host.
+/// The events before this one came, and this one is refused, since no session is live.
 fn found_no_host(rt: &impl Abort, answer: Result<Vec<Report>, Stop>, at: usize) {
     match answer {
         Ok(_) => panic!(rt; "event {at} is refused"),
@@ -80,8 +80,8 @@ fn a_run_uploads(rt: HostRuntime) -> Result<(), Fail> {
     Ok(())
 }
 
-/// Where memory is ample the run reports. Where an allocation is refused, there is no medium; or the
-/// run stops before its first event with no report, and the link stands as before.
+/// With enough memory the run reports. If an allocation is refused, there is no medium; or the run
+/// stops before its first event with no report, and the link is unchanged.
 #[test]
 fn refused_allocation_in_a_run(rt: HostRuntime) -> Result<(), Fail> {
     let mut events = [PASS; 14];
@@ -104,18 +104,21 @@ fn refused_allocation_in_a_run(rt: HostRuntime) -> Result<(), Fail> {
 }
 
 /// A file of so many zeros, for every device.
-pub(crate) fn zeros(alloc: Global, len: usize) -> Result<Vec<u8>, AllocError> {
-    let mut bytes = vec![in alloc; 0u8; len]?;
-    bytes.extend_from_slice(&[
-        0xff, 0xff, 0xff, 0xff, 0xff, 0xff, 0x00, 0x01, 0x55, 0x46, 0x44, 0x10,
-    ])?;
-    let mut crc = Crc::new();
-    crc.update(&bytes);
-    bytes.extend_from_slice(&crc.value().to_le_bytes())?;
-    Ok(bytes)
+pub(crate) fn zeros(alloc: Global, len: usize) -> Result<Vec<u8>, Fail> {
+    let payload = vec![in alloc; 0u8; len]?;
+    file_with(alloc, &payload)
 }
 
-/// An upload of an image of 65,537 bytes, one byte in each part.
+/// A device that takes one byte in each block, and needs no time.
+pub(crate) const BY_ONE: Setup = Setup {
+    transfer: 1,
+    busy_ms: 0,
+    manifest_ms: 0,
+    capacity: 65_537,
+    ..USUAL
+};
+
+/// An upload of an image of 65,537 bytes, one byte in each part, has too many blocks.
 fn fetches_too_much(rt: &impl Abort, world: &mut World<'_, SimMedium>) {
     play(
         rt,
@@ -129,14 +132,7 @@ fn fetches_too_much(rt: &impl Abort, world: &mut World<'_, SimMedium>) {
 #[test]
 fn block_numbers_wrap(rt: HostRuntime) -> Result<(), Fail> {
     let bytes = zeros(rt.alloc(), 65_537)?;
-    let by_one = Setup {
-        transfer: 1,
-        busy_ms: 0,
-        manifest_ms: 0,
-        capacity: 65_537,
-        ..USUAL
-    };
-    let mut world = world(rt.alloc(), by_one)?;
+    let mut world = world(rt.alloc(), BY_ONE)?;
     play(
         &rt,
         &mut world,

@@ -1,4 +1,4 @@
-//! Scripts by readers and writers of many kinds. What scripts print is shown by `tests/scripts`, over the program.
+//! Scripts with readers and writers of many kinds. `tests/scripts` runs the program, to show what scripts print.
 
 mod portions;
 mod rows;
@@ -6,10 +6,10 @@ mod streams;
 mod traces;
 
 use dfu_link::ScriptFault;
-use std::test::Fail;
 
+/// What each fault is printed as.
 #[rattlefmt::skip]
-static TEXTS: [(ScriptFault, &'static str); 9] = [
+pub(crate) static TEXTS: [(ScriptFault, &'static str); 9] = [
     (ScriptFault::BadLine(7), "line 7 is not understood"),
     (ScriptFault::LateConfig(2), "line 2 sets up a device that has begun"),
     (ScriptFault::BadConfig, "no device can be set up like this"),
@@ -20,11 +20,3 @@ static TEXTS: [(ScriptFault, &'static str); 9] = [
     (ScriptFault::Read, "the script can't be read"),
     (ScriptFault::Write, "the output can't be written"),
 ];
-
-#[test]
-fn script_faults_have_texts(rt: HostRuntime) -> Result<(), Fail> {
-    for (fault, text) in &TEXTS {
-        assert_eq!(rt; format!(in rt.alloc(); "{fault}")?.as_str(), *text);
-    }
-    Ok(())
-}

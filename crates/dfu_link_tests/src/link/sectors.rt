@@ -1,5 +1,5 @@
 //! A device on flash that is erased in sectors: each cut, failure and lie in a write or an erase of two downloads,
-//! held against a plain model of the bytes.
+//! compared with a plain model of the bytes.
 
 mod model;
 
@@ -17,7 +17,7 @@ use std::alloc::Global;
 use std::process::Abort;
 use std::test::Fail;
 
-/// One block, whatever the file.
+/// One block for each file.
 const FLASH: Setup = Setup {
     transfer: 64,
     capacity: 4096,
@@ -78,7 +78,7 @@ fn begun(
     Ok((world, model))
 }
 
-/// What comes behind a harmed action: a restart that is reported, the error, or the report that all is in place.
+/// What follows a harmed action: the report of a spent restart, the error, or the report that the image is installed.
 fn goes_on(
     rt: &impl Abort,
     world: &mut World<'static, SimMedium>,

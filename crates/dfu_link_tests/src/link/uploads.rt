@@ -1,8 +1,9 @@
-//! Uploads of the active image, and sessions that are given up.
+//! Uploads of the active image, and sessions that are aborted.
 
 use super::bench::{
     EIGHT, Setup, Turn, UPLOAD, USUAL, W, go, offer, pass, play, refused, stands, world, world_of,
 };
+use super::runs::BY_ONE;
 use dfu_host::{HostFault, Report};
 use dfu_link::{Event, Fate, LinkFault, OfferFault};
 use dfu_wire::{Code, State};
@@ -75,9 +76,8 @@ fn uploads_go_on_after_losses(rt: HostRuntime) -> Result<(), Fail> {
 #[test]
 fn an_upload_takes_65_534_full_parts(rt: HostRuntime) -> Result<(), Fail> {
     let by_one = Setup {
-        transfer: 1,
         capacity: 65_534,
-        ..USUAL
+        ..BY_ONE
     };
     let image = vec![in rt.alloc(); 7u8; 65_534]?;
     let mut world = world_of(rt.alloc(), by_one, &image)?;
@@ -91,16 +91,26 @@ fn an_upload_takes_65_534_full_parts(rt: HostRuntime) -> Result<(), Fail> {
     Ok(())
 }
 
-#[test]
-fn an_upload_needs_a_device_that_can_upload(rt: HostRuntime) -> Result<(), Fail> {
-    let silent = Setup {
+/// This session with a device that doesn't upload is refused, and nothing changes.
+pub(crate) fn cannot_upload(
+    rt: &impl Abort,
+    alloc: Global,
+    session: Event<'static, 'static>,
+) -> Result<(), Fail> {
+    let mute = Setup {
         attributes: 0x05,
         ..USUAL
     };
-    let mut world = world(rt.alloc(), silent)?;
+    let mut world = world(alloc, mute)?;
     let cannot = LinkFault::BadOffer(OfferFault::Host(HostFault::CannotUpload));
-    refused(&rt, &mut world, UPLOAD.event, cannot);
+    refused(rt, &mut world, session, cannot);
+    stands(rt, &world, State::AppIdle, Code::Ok, &[0]);
     Ok(())
+}
+
+#[test]
+fn an_upload_needs_a_device_that_can_upload(rt: HostRuntime) -> Result<(), Fail> {
+    cannot_upload(&rt, rt.alloc(), UPLOAD.event)
 }
 
 #[test]

@@ -1,22 +1,16 @@
 //! Sessions that compare the active image with what they installed.
 
-use super::bench::{
-    AMPLE, Setup, Turn, USUAL, W, go, pass, play, refused, stands, world, world_of,
-};
+use super::bench::{AMPLE, SILENT, Setup, Turn, USUAL, W, go, pass, play, stands, world, world_of};
 use super::installs;
-use super::runs::zeros;
-use dfu_host::{HostFault, Limits, Report};
-use dfu_link::{Event, Fate, LinkFault, OfferFault, World};
+use super::runs::{BY_ONE, zeros};
+use super::uploads::cannot_upload;
+use dfu_host::{Limits, Report};
+use dfu_link::{Event, Fate, World};
 use dfu_slots::SimMedium;
 use dfu_wire::{Code, State};
 use std::alloc::Global;
 use std::process::Abort;
 use std::test::Fail;
-
-const SILENT: Setup = Setup {
-    attributes: 0x03,
-    ..USUAL
-};
 
 fn verify(file: &[u8]) -> Turn<'_, 'static> {
     Turn {
@@ -41,11 +35,11 @@ static VERIFIED: [(Setup, usize, Option<Report>); 8] = [
     (SILENT, 18, Some(Report::Verified)),
 ];
 
-// What was read to compare is not kept as an upload.
+// The bytes that are read to compare are not kept as an upload.
 #[test]
 fn each_device_that_uploads_is_verified(rt: HostRuntime) -> Result<(), Fail> {
     for (setup, passes, last) in &VERIFIED {
-        let world = installs(&rt, rt.alloc(), *setup, verify(&W), *passes, *last)?;
+        let world = installs(&rt, rt.alloc(), *setup, &[verify(&W), pass(*passes)], *last)?;
         assert!(rt; world.uploaded().is_empty());
     }
     Ok(())
@@ -112,30 +106,19 @@ const ONCE: Turn<'static, 'static> = Turn {
     times: 1,
 };
 
-/// After so many passes comes an action with this fate, and the session still ends well.
+/// One action has this fate, after each number of passes in turn, and the session still ends with Verified.
 fn is_verified(
-    rt: &impl Abort,
-    alloc: Global,
-    setup: Setup,
-    before: usize,
-    fate: Fate<'static>,
-) -> Result<(), Fail> {
-    let mut world = world(alloc, setup)?;
-    play(rt, &mut world, &[ONCE, pass(before), go(fate)], None);
-    assert_eq!(rt; ends(rt, &mut world, 60), Some(Report::Verified));
-    stands(rt, &world, State::AppIdle, Code::Ok, &[0xff; 4]);
-    Ok(())
-}
-
-/// The same after each number of passes.
-fn is_verified_wherever(
     rt: &impl Abort,
     alloc: Global,
     setup: Setup,
     fate: Fate<'static>,
 ) -> Result<(), Fail> {
     for before in 0..17 {
-        is_verified(rt, alloc, setup, before, fate)?;
+        let mut world = world(alloc, setup)?;
+        play(rt, &mut world, &[ONCE, pass(before), go(fate)], None);
+        let report = ends(rt, &mut world, 60);
+        assert_eq!(rt; report, Some(Report::Verified), "{fate:?} after {before}");
+        stands(rt, &world, State::AppIdle, Code::Ok, &[0xff; 4]);
     }
     Ok(())
 }
@@ -144,7 +127,7 @@ fn is_verified_wherever(
 fn one_loss_anywhere_changes_no_verdict(rt: HostRuntime) -> Result<(), Fail> {
     for fate in &FATES {
         for setup in &DEVICES {
-            is_verified_wherever(&rt, rt.alloc(), *setup, *fate)?;
+            is_verified(&rt, rt.alloc(), *setup, *fate)?;
         }
     }
     Ok(())
@@ -152,18 +135,10 @@ fn one_loss_anywhere_changes_no_verdict(rt: HostRuntime) -> Result<(), Fail> {
 
 #[test]
 fn only_a_device_that_uploads_is_verified(rt: HostRuntime) -> Result<(), Fail> {
-    let mute = Setup {
-        attributes: 0x05,
-        ..USUAL
-    };
-    let mut world = world(rt.alloc(), mute)?;
-    let cannot = LinkFault::BadOffer(OfferFault::Host(HostFault::CannotUpload));
-    refused(&rt, &mut world, verify(&W).event, cannot);
-    stands(&rt, &world, State::AppIdle, Code::Ok, &[0]);
-    Ok(())
+    cannot_upload(&rt, rt.alloc(), verify(&W).event)
 }
 
-/// A payload of so many bytes, in blocks of one byte.
+/// A session with a payload of so many bytes, in blocks of one byte, ends with this report after so many passes.
 fn by_ones(
     rt: &impl Abort,
     alloc: Global,
@@ -171,15 +146,8 @@ fn by_ones(
     passes: usize,
     report: Report,
 ) -> Result<(), Fail> {
-    let by_one = Setup {
-        transfer: 1,
-        busy_ms: 0,
-        manifest_ms: 0,
-        capacity: 65_537,
-        ..USUAL
-    };
     let bytes = zeros(alloc, len)?;
-    let mut world = world(alloc, by_one)?;
+    let mut world = world(alloc, BY_ONE)?;
     play(
         rt,
         &mut world,

@@ -1,4 +1,4 @@
-//! What a link shows to whoever watches it: what its host asks for, and what the device answered.
+//! What a link shows: what its host asks for, and what the device answered.
 
 use super::bench::{USUAL, W, go, offer, pass, play, world};
 use dfu_device::Answer;
@@ -11,7 +11,7 @@ use std::test::Fail;
 /// The first action of a session is a GETSTATUS, and a device in appIDLE answers it with six bytes: OK, no time, state 0.
 const GETSTATUS: [u8; 8] = [0xa1, 3, 0, 0, 0, 0, 6, 0];
 
-/// The device answered so.
+/// The device gave this answer, with these bytes.
 fn assert_answer(rt: &impl Abort, world: &World<'_, SimMedium>, answer: Answer, bytes: &[u8]) {
     match world.answered() {
         Some((found, out)) => assert!(rt; found == answer && out == bytes),
@@ -41,7 +41,7 @@ fn a_device_answered_last(rt: HostRuntime) -> Result<(), Fail> {
     assert_answer(&rt, &world, Answer::Ack, &[]);
     play(&rt, &mut world, &[pass(1)], None);
     assert!(rt; world.answered().is_none());
-    // An answer that is lost on its way back was one.
+    // An answer that is lost on its way back counts as well.
     play(&rt, &mut world, &[go(Fate::LostBack)], None);
     assert_answer(&rt, &world, Answer::Bytes, &[0, 0, 0, 0, 2, 0]);
     play(&rt, &mut world, &[go(Fate::LostOut)], None);

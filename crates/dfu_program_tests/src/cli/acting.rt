@@ -32,28 +32,61 @@ pub fn machine_over(
     Ok(machine)
 }
 
+/// Calls that fail, what is printed then, and the part that is left if it can't be removed.
+pub static FAULTS: [(&str, &str, &str); 9] = [
+    ("open", "fault Read\n", ""),
+    ("see", "fault Write\n", ""),
+    ("look", "fault Write\n", ""),
+    ("create", "fault Write\n", ""),
+    ("rights", "fault Write\n", ""),
+    ("write", "fault Write\n", ""),
+    ("sync", "fault Write\n", ""),
+    ("rename", "fault Write\n", ""),
+    ("rename remove", "fault Write\n", ".dfu-part-0;"),
+];
+
+/// The words end with status 3 and print this fault. The folder has these names, and one of them has these bytes.
+pub fn keeps(
+    rt: &impl Abort,
+    machine: &Machine,
+    line: &str,
+    printed: &str,
+    names: &str,
+    (name, bytes): (&str, &[u8]),
+) -> Result<(), Fail> {
+    ends(rt, machine, line, 3)?;
+    prints(rt, machine, printed)?;
+    holds(rt, machine, names, name, bytes)
+}
+
 /// The words end with this status.
 pub fn ends(rt: &impl Abort, machine: &Machine, line: &str, status: u8) -> Result<(), Fail> {
     let words = words_of(machine.alloc, line)?;
-    assert_eq!(rt; run_words(&Host { machine }, &words), status, "{line}");
+    let (found, failing) = (run_words(&Host { machine }, &words), machine.failing);
+    assert_eq!(rt; found, status, "{line}, failing '{failing}'");
     Ok(())
 }
 
-/// What the machine printed.
+/// The machine printed this.
 pub fn prints(rt: &impl Abort, machine: &Machine, printed: &str) -> Result<(), Fail> {
     let state = machine.state.try_borrow()?;
-    assert_eq!(rt; state.printed.as_slice(), printed.as_bytes());
+    let failing = machine.failing;
+    assert_eq!(rt;
+        state.printed.as_slice(),
+        printed.as_bytes(),
+        "failing '{failing}'"
+    );
     Ok(())
 }
 
-/// The calls that were made.
+/// These calls were made.
 pub fn calls(rt: &impl Abort, machine: &Machine, calls: &str) -> Result<(), Fail> {
     let state = machine.state.try_borrow()?;
     assert_eq!(rt; state.calls.as_str(), calls);
     Ok(())
 }
 
-/// The names of the folder, and the bytes of one of them.
+/// The folder has these names, and one of them has these bytes.
 pub fn holds(
     rt: &impl Abort,
     machine: &Machine,
@@ -63,11 +96,11 @@ pub fn holds(
 ) -> Result<(), Fail> {
     let found = machine.names()?;
     let state = machine.state.try_borrow()?;
-    let entry = entry_in(&state.folder, name)?;
+    let (entry, failing) = (entry_in(&state.folder, name)?, machine.failing);
     assert_eq!(rt;
         (found.as_str(), entry.bytes.as_slice()),
         (names, bytes),
-        "{name}"
+        "{name}, failing '{failing}'"
     );
     Ok(())
 }

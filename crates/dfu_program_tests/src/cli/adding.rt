@@ -1,6 +1,8 @@
-//! `dfu add` on the machine in memory: which calls it makes, and what stands there when one fails.
+//! `dfu add` on the machine in memory: which calls it makes, and what is in the folder when one fails.
 
-use crate::cli::acting::{ADD, OLD, calls, ends, holds, machine_over, machine_with, prints};
+use crate::cli::acting::{
+    ADD, FAULTS, OLD, calls, ends, holds, keeps, machine_over, machine_with, prints,
+};
 use crate::cli::machine::{Kind, Machine};
 use crate::known_files::{DIGITS, FOUR_ONES};
 use dfu_fs::rights_after;
@@ -8,14 +10,25 @@ use std::alloc::Global;
 use std::process::Abort;
 use std::test::Fail;
 
+/// The words make OUT of nine digits, by these calls, and then there are these names.
+fn makes(
+    rt: &impl Abort,
+    machine: &Machine,
+    line: &str,
+    made: &str,
+    names: &str,
+) -> Result<(), Fail> {
+    ends(rt, machine, line, 0)?;
+    calls(rt, machine, made)?;
+    prints(rt, machine, "wrote 25\n")?;
+    holds(rt, machine, names, "b", &DIGITS)
+}
+
 #[test]
 fn makes_a_new_file(rt: HostRuntime) -> Result<(), Fail> {
     let machine = machine_with(rt.alloc(), b"123456789", "")?;
-    ends(&rt, &machine, ADD, 0)?;
     let made = "open a;see b;look b;create .dfu-part-0 666;write;sync;rename .dfu-part-0 b;";
-    calls(&rt, &machine, made)?;
-    prints(&rt, &machine, "wrote 25\n")?;
-    holds(&rt, &machine, "a;b;", "b", &DIGITS)
+    makes(&rt, &machine, ADD, made, "a;b;")
 }
 
 // Standard input is read, and no file is opened for it.
@@ -23,23 +36,17 @@ fn makes_a_new_file(rt: HostRuntime) -> Result<(), Fail> {
 fn reads_standard_input(rt: HostRuntime) -> Result<(), Fail> {
     let machine = Machine::new(rt.alloc(), b"123456789", "");
     let line = "dfu add - b --vid 1209 --pid 0001 --did 0100";
-    ends(&rt, &machine, line, 0)?;
     let made = "see b;look b;create .dfu-part-0 666;write;sync;rename .dfu-part-0 b;";
-    calls(&rt, &machine, made)?;
-    prints(&rt, &machine, "wrote 25\n")?;
-    holds(&rt, &machine, "b;", "b", &DIGITS)
+    makes(&rt, &machine, line, made, "b;")
 }
 
-// It has its owner and its rights before it has a byte.
+// The new file has its owner and its rights before it has a byte.
 #[test]
 fn replaces_a_file(rt: HostRuntime) -> Result<(), Fail> {
     let machine = machine_over(rt.alloc(), Kind::File, OLD, "")?;
-    ends(&rt, &machine, ADD, 0)?;
     let made =
         "open a;see b;look b;create .dfu-part-0 600;owner;rights 644;write;sync;rename .dfu-part-0 b;";
-    calls(&rt, &machine, made)?;
-    prints(&rt, &machine, "wrote 25\n")?;
-    holds(&rt, &machine, "a;b;", "b", &DIGITS)
+    makes(&rt, &machine, ADD, made, "a;b;")
 }
 
 // OUT is not looked at.
@@ -56,47 +63,33 @@ fn keeps_out_at_a_refusal(rt: HostRuntime) -> Result<(), Fail> {
     holds(&rt, &machine, "a;b;", "b", OLD)
 }
 
-/// Calls that fail, what is printed then, and the names that stand there.
-static FAULTS: [(&str, &str, &str); 9] = [
-    ("open", "fault Read\n", "a;b;"),
-    ("see", "fault Write\n", "a;b;"),
-    ("look", "fault Write\n", "a;b;"),
-    ("create", "fault Write\n", "a;b;"),
-    ("rights", "fault Write\n", "a;b;"),
-    ("write", "fault Write\n", "a;b;"),
-    ("sync", "fault Write\n", "a;b;"),
-    ("rename", "fault Write\n", "a;b;"),
-    ("rename remove", "fault Write\n", "a;b;.dfu-part-0;"),
-];
-
-// Each call fails in its turn: OUT is as it was, and no part is left where it can be removed.
+// Each call fails in turn: OUT is unchanged, and no part is left if it can be removed.
 #[test]
 fn keeps_out_at_a_fault(rt: HostRuntime) -> Result<(), Fail> {
-    for (failing, printed, names) in &FAULTS {
+    for (failing, printed, part) in &FAULTS {
         let machine = machine_over(rt.alloc(), Kind::File, OLD, failing)?;
-        ends(&rt, &machine, ADD, 3)?;
-        prints(&rt, &machine, printed)?;
-        holds(&rt, &machine, names, "b", OLD)?;
+        let names = format!(in rt.alloc(); "a;b;{part}")?;
+        keeps(&rt, &machine, ADD, printed, &names, ("b", OLD))?;
     }
     Ok(())
 }
 
-/// OUT is made, and the words end like this.
+/// OUT is made, and the words end with this status.
 fn makes_out(rt: &impl Abort, alloc: Global, failing: &'static str, end: u8) -> Result<(), Fail> {
     let machine = machine_over(alloc, Kind::File, OLD, failing)?;
     ends(rt, &machine, ADD, end)?;
     holds(rt, &machine, "a;b;", "b", &DIGITS)
 }
 
-// The owner isn't worth a fault; a line that can't be printed is one, though OUT is made.
+// An owner that can't be set is no fault. A line that can't be printed is one, though OUT is made.
 #[test]
 fn makes_out_at_a_lesser_fault(rt: HostRuntime) -> Result<(), Fail> {
     makes_out(&rt, rt.alloc(), "owner", 0)?;
     makes_out(&rt, rt.alloc(), "print", 3)
 }
 
-// The links stay, also one that leads to nothing; a name in a link begins in the link's folder, and
-// the part is made beside the file at the end.
+// The links stay, also one that leads to nothing. A name in a link is relative to the link's folder,
+// and the part is made beside the file at the end.
 #[test]
 fn follows_links(rt: HostRuntime) -> Result<(), Fail> {
     let machine = machine_over(rt.alloc(), Kind::Link, b"/d/c", "")?;
@@ -119,7 +112,7 @@ fn follows_a_link_to_nothing(rt: HostRuntime) -> Result<(), Fail> {
     holds(&rt, &machine, "a;b;c;", "c", &DIGITS)
 }
 
-/// What OUT is, where it is no file.
+/// An OUT that is no file.
 static NO_FILES: [(Kind, &[u8]); 4] = [
     (Kind::Other, b""),
     (Kind::Link, b"b"),
@@ -138,7 +131,7 @@ fn keeps_what_is_no_file(rt: HostRuntime) -> Result<(), Fail> {
     Ok(())
 }
 
-// A name that is taken is left alone, whatever has it.
+// A name that is taken is left as it is, also if a link has it.
 #[test]
 fn takes_a_name_that_is_free(rt: HostRuntime) -> Result<(), Fail> {
     let machine = machine_over(rt.alloc(), Kind::File, OLD, "")?;
@@ -161,7 +154,7 @@ static RIGHTS: [(u32, bool, u32); 6] = [
     (0o102775, false, 0o755),
 ];
 
-// A group that has the file for the first time was one of all others.
+// A group that gets the file only now had the rights of all others.
 #[test]
 fn gives_rights(rt: HostRuntime) {
     for (mode, is_kept, rights) in &RIGHTS {

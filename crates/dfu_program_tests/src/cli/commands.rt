@@ -52,7 +52,7 @@ static READ: [(&str, &str, &str, u8); 43] = [
     ("dfu add - b --vid 12", "bad words\n", "", 2),
 ];
 
-// With `--file` the word FILE stands for the bytes of that file.
+// With `--file` the word FILE means the bytes of that file.
 #[test]
 fn offers_what_is_given(rt: HostRuntime) -> Result<(), Fail> {
     let mut machine = machine_with(rt.alloc(), &FOUR_ONES, "")?;

@@ -83,7 +83,7 @@ impl Input for Host<'_> {
     }
 }
 
-/// What a new file may be for whom, as the options say in their own text.
+/// The rights of a new file, in octal, from the debug text of the options.
 fn rights_asked(alloc: Global, how: &OpenOptions) -> io::Result<&'static str> {
     let text = format!(in alloc; "{how:?}")?;
     let rights = if text.contains("mode: 384") {
@@ -112,7 +112,7 @@ impl<'m> Host<'m> {
         }
     }
 
-    /// The name that a link leads to, which begins in the link's folder.
+    /// The name that a link leads to, relative to the link's folder.
     fn led_to(&self, link: &str) -> io::Result<PathBuf> {
         let target = self.target(link)?;
         if target.as_path().as_str().starts_with('/') {

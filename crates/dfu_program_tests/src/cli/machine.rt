@@ -9,7 +9,7 @@ use std::io::{self, ErrorKind};
 pub enum Kind {
     File,
     Link,
-    /// What is neither, as a folder or a device.
+    /// Anything else, as a folder or a device.
     Other,
 }
 
@@ -50,7 +50,7 @@ pub struct Machine {
     pub state: RefCell<State>,
 }
 
-/// Where a name stands in the folder.
+/// The place of a name in the folder.
 pub(crate) fn place_in(folder: &[Entry], name: &str) -> Option<usize> {
     for (place, entry) in folder.iter().enumerate() {
         if entry.name.as_str() == name {
@@ -92,7 +92,7 @@ impl Machine {
         }
     }
 
-    /// Notes a call and what it is of, and answers whether it may go on.
+    /// Records a call and its argument, and returns an error if the call is to fail.
     pub fn call(&self, name: &str, of: &str) -> io::Result<()> {
         let mut state = self.state.try_borrow_mut()?;
         state.calls.push_str(name)?;
@@ -104,7 +104,7 @@ impl Machine {
         Ok(())
     }
 
-    /// Puts a name into the folder, where there is none.
+    /// Puts a new name into the folder.
     pub fn put(&self, name: &str, kind: Kind, bytes: &[u8]) -> io::Result<()> {
         let mut state = self.state.try_borrow_mut()?;
         if place_in(&state.folder, name).is_some() {
@@ -128,7 +128,7 @@ impl Machine {
         }
     }
 
-    /// The folder in words, a word for each name.
+    /// The names in the folder, each ended by `;`.
     pub fn names(&self) -> io::Result<String> {
         let state = self.state.try_borrow()?;
         let mut names = String::new(self.alloc);

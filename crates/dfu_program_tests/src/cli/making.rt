@@ -1,8 +1,10 @@
 //! `dfu add --format`, `dfu extract` and `dfu set` on the machine in memory.
 
-use crate::cli::acting::{ADD, OLD, calls, ends, holds, machine_with, prints};
+use crate::cli::acting::{ADD, FAULTS, OLD, calls, ends, holds, keeps, machine_with, prints};
 use crate::cli::machine::Kind;
 use crate::known_files::{DIGITS, FOUR_ONES};
+use std::alloc::Global;
+use std::process::Abort;
 use std::test::Fail;
 
 /// Its second line has a space.
@@ -11,33 +13,37 @@ static HEX: &[u8] = b":020000040800F2\n:0400000031323334 32\n";
 /// The same, as objcopy writes them.
 static DIGITS_HEX: &[u8] = b":020000040800F2\r\n:090000003132333435363738391A\r\n:00000001FF\r\n";
 
-// What is made is as of the raw image, and a second line says where it begins.
+/// The nine digits are added of FILE in this format, and this is printed.
+fn adds(
+    rt: &impl Abort,
+    alloc: Global,
+    file: &[u8],
+    format: &str,
+    printed: &str,
+) -> Result<(), Fail> {
+    let machine = machine_with(alloc, file, "")?;
+    let line = format!(in alloc; "{ADD} --format {format}")?;
+    ends(rt, &machine, &line, 0)?;
+    prints(rt, &machine, printed)?;
+    holds(rt, &machine, "a;b;", "b", &DIGITS)
+}
+
+// The file is the same as that of the raw image, and a second line says where the image begins.
 #[test]
 fn adds_the_image(rt: HostRuntime) -> Result<(), Fail> {
-    for format in &["auto", "ihex"] {
-        let machine = machine_with(rt.alloc(), DIGITS_HEX, "")?;
-        let line = format!(in rt.alloc(); "{ADD} --format {format}")?;
-        ends(&rt, &machine, &line, 0)?;
-        prints(&rt, &machine, "wrote 25\nformat ihex address 08000000\n")?;
-        holds(&rt, &machine, "a;b;", "b", &DIGITS)?;
-    }
-    Ok(())
+    let printed = "wrote 25\nformat ihex address 08000000\n";
+    adds(&rt, rt.alloc(), DIGITS_HEX, "auto", printed)?;
+    adds(&rt, rt.alloc(), DIGITS_HEX, "ihex", printed)
 }
 
-// A raw image is taken as it is.
+// A raw image is taken unchanged.
 #[test]
 fn adds_what_looks_like_none(rt: HostRuntime) -> Result<(), Fail> {
-    for format in &["auto", "raw"] {
-        let machine = machine_with(rt.alloc(), b"123456789", "")?;
-        let line = format!(in rt.alloc(); "{ADD} --format {format}")?;
-        ends(&rt, &machine, &line, 0)?;
-        prints(&rt, &machine, "wrote 25\n")?;
-        holds(&rt, &machine, "a;b;", "b", &DIGITS)?;
-    }
-    Ok(())
+    adds(&rt, rt.alloc(), b"123456789", "auto", "wrote 25\n")?;
+    adds(&rt, rt.alloc(), b"123456789", "raw", "wrote 25\n")
 }
 
-// Nothing is made of a file that is refused.
+// Nothing is made from a file that is refused.
 #[test]
 fn refuses_by_name(rt: HostRuntime) -> Result<(), Fail> {
     let machine = machine_with(rt.alloc(), HEX, "")?;
@@ -84,7 +90,7 @@ fn says_what_came(rt: HostRuntime) -> Result<(), Fail> {
     Ok(())
 }
 
-// The payload alone is made, and OUT is as it was where FILE is refused.
+// Only the payload is written, and OUT is unchanged if FILE is refused.
 #[test]
 fn extracts(rt: HostRuntime) -> Result<(), Fail> {
     let machine = machine_with(rt.alloc(), &DIGITS, "")?;
@@ -102,7 +108,7 @@ fn extracts(rt: HostRuntime) -> Result<(), Fail> {
 const SET: &str =
     "ok payload 9 suffix 16 device 0100 product 0001 vendor 1209 dfu 0100 crc fe701c62\n";
 
-// Those that are given change, and back.
+// The identifiers that are given change, and change back.
 #[test]
 fn sets_identifiers(rt: HostRuntime) -> Result<(), Fail> {
     let machine = machine_with(rt.alloc(), &DIGITS, "")?;
@@ -115,27 +121,14 @@ fn sets_identifiers(rt: HostRuntime) -> Result<(), Fail> {
     Ok(())
 }
 
-/// Calls that fail, what is printed then, and the names that stand there.
-static FAULTS: [(&str, &str, &str); 9] = [
-    ("open", "fault Read\n", "a;"),
-    ("see", "fault Write\n", "a;"),
-    ("look", "fault Write\n", "a;"),
-    ("create", "fault Write\n", "a;"),
-    ("rights", "fault Write\n", "a;"),
-    ("write", "fault Write\n", "a;"),
-    ("sync", "fault Write\n", "a;"),
-    ("rename", "fault Write\n", "a;"),
-    ("rename remove", "fault Write\n", "a;.dfu-part-0;"),
-];
-
-// Each call fails in its turn: the file is as it was, and no part is left where it can be removed.
+// Each call fails in turn: the file is unchanged, and no part is left if it can be removed.
 #[test]
 fn keeps_the_file_at_a_fault(rt: HostRuntime) -> Result<(), Fail> {
-    for (failing, printed, names) in &FAULTS {
+    let line = "dfu set a --vid 1209";
+    for (failing, printed, part) in &FAULTS {
         let machine = machine_with(rt.alloc(), &FOUR_ONES, failing)?;
-        ends(&rt, &machine, "dfu set a --vid 1209", 3)?;
-        prints(&rt, &machine, printed)?;
-        holds(&rt, &machine, names, "a", &FOUR_ONES)?;
+        let names = format!(in rt.alloc(); "a;{part}")?;
+        keeps(&rt, &machine, line, printed, &names, ("a", &FOUR_ONES))?;
     }
     Ok(())
 }

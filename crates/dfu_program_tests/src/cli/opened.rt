@@ -6,7 +6,7 @@ use std::fs::{Metadata, OpenFile, Permissions};
 use std::io::{self, ErrorKind, IsTerminal, Read, Seek, SeekFrom, Write};
 use std::os::unix::fs::PermissionsExt;
 
-/// An open file: its name, and where the next read begins.
+/// An open file: its name, and the place of the next read.
 #[derive(Drop)]
 pub struct Opened<'m> {
     pub machine: &'m Machine,

@@ -8,7 +8,7 @@ use dfu_cli::run_explained;
 use std::process::Abort;
 use std::test::Fail;
 
-/// The words end with this status, and this is printed and said.
+/// The words end with this status, print this, and say this on standard error.
 pub fn says(
     rt: &impl Abort,
     machine: &Machine,
@@ -62,7 +62,7 @@ fn says_why(rt: HostRuntime) -> Result<(), Fail> {
     Ok(())
 }
 
-// Without the flag, and where no reason is wanted, nothing is said; the flag says that it is wanted.
+// Nothing is said if no reason is wanted and the flag is missing. The flag asks for the reason.
 #[test]
 fn says_it_where_it_is_wanted(rt: HostRuntime) -> Result<(), Fail> {
     for (line, failing, (status, printed, told)) in &SAID {
@@ -77,7 +77,7 @@ fn says_it_where_it_is_wanted(rt: HostRuntime) -> Result<(), Fail> {
     Ok(())
 }
 
-// Standard error that fails changes nothing.
+// If standard error fails, nothing else changes.
 #[test]
 fn ends_the_same_unsaid(rt: HostRuntime) -> Result<(), Fail> {
     let machine = machine_over(rt.alloc(), Kind::File, OLD, "eprint")?;

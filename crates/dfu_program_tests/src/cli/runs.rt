@@ -1,4 +1,4 @@
-//! `dfu run` on the machine in memory: how often it prints, and what is out where printing fails.
+//! `dfu run` on the machine in memory: how often it prints, and what is printed if printing fails.
 
 use crate::cli::host::Host;
 use crate::cli::machine::{Kind, Machine};
@@ -8,10 +8,10 @@ use std::alloc::Global;
 use std::process::Abort;
 use std::test::Fail;
 
-/// What a pass prints where there is no session.
+/// What a pass prints if there is no session.
 const PASS: &[u8] = b"refused NoHost\n";
 
-/// A script of passes, and what comes of it.
+/// A script of passes, and its result.
 struct Run {
     script: &'static [u8],
     words: &'static str,
@@ -19,7 +19,7 @@ struct Run {
     /// How many calls of printing succeed.
     room: usize,
     status: u8,
-    /// How many passes are out, and what is out behind them.
+    /// How many passes are printed, and what is printed after them.
     passes: usize,
     last: &'static [u8],
     prints: usize,
@@ -64,7 +64,7 @@ fn machine_for(alloc: Global, run: &Run) -> Result<Machine, Fail> {
     Ok(machine)
 }
 
-/// What is behind so many passes.
+/// What follows so many passes.
 fn behind(printed: &[u8], passes: usize) -> Option<&[u8]> {
     let mut rest = printed;
     for _ in 0..passes {

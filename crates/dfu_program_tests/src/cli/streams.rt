@@ -1,4 +1,4 @@
-//! Scripts of a reader that fails, to a writer that fails, and with no line.
+//! A script from a reader that fails, one to a writer that fails, and one without a line.
 
 use crate::readers::{Failing, Refusing};
 use dfu_cli::run_text;
@@ -11,7 +11,7 @@ fn runs_a_script_that_cannot_be_read(rt: HostRuntime) {
     assert_eq!(rt; out.as_slice(), &b"fault Read\n"[..]);
 }
 
-// A writer that refuses after some bytes: a front is out, and nothing more is tried.
+// A writer that fails after some bytes: a front is written, and nothing more is tried.
 #[test]
 fn stops_a_script_at_a_writer_that_fails(rt: HostRuntime) {
     let mut out = Refusing {
@@ -22,7 +22,7 @@ fn stops_a_script_at_a_writer_that_fails(rt: HostRuntime) {
     assert_eq!(rt; (out.left, out.calls_after), (0, 1));
 }
 
-// Of a script with no line the line of the image is left.
+// A script without a line prints only the line of the image.
 #[test]
 fn runs_an_empty_script(rt: HostRuntime) {
     let mut out = Vec::new(rt.alloc());

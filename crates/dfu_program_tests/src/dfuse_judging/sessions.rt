@@ -1,9 +1,9 @@
 //! Logs, line by line.
 
-/// A log: its name, its lines, and the sum of the numbers of the lines at which the device departs, counted from 1.
+/// A log: its name, its lines, and the sum of the line numbers, from 1, at which the device departs.
 type Log = (&'static str, &'static [&'static [u8]], u32);
 
-/// A session that erases two pages, writes and reads back an element of two bytes and one of four, and leaves.
+/// A session that erases two pages, writes and reads back an element of two bytes and one of four, and sends the leave request.
 #[rattlefmt::skip]
 pub(crate) static SESSION: [&'static [u8]; 34] = [
     b"2106000000000000 - ack",
@@ -42,7 +42,7 @@ pub(crate) static SESSION: [&'static [u8]; 34] = [
     b"a103000000000600 - 006400000700",
 ];
 
-/// Logs, and where the device departs.
+/// Logs, and the lines at which the device departs.
 #[rattlefmt::skip]
 pub(crate) static LOGS: [Log; 20] = [
     ("nothing", &[], 0),

@@ -1,4 +1,4 @@
-//! ELF, in files with two program headers and four bytes behind them.
+//! ELF, in files with two program headers and four bytes after them.
 
 use super::told;
 use dfu_images::elf;
@@ -6,7 +6,7 @@ use std::alloc::Global;
 use std::process::Abort;
 use std::test::Fail;
 
-/// The fields of a program header that count: type, offset in the file, physical address, and size in the file.
+/// The fields of a program header that matter: type, offset in the file, physical address, and size in the file.
 type Fields = [u32; 4];
 
 /// Adds a program header.
@@ -19,11 +19,11 @@ fn push_header(file: &mut Vec<u8>, fields: &Fields) -> Result<(), Fail> {
     Ok(())
 }
 
-/// A file with A0h to A3h at 116 to 119.
+/// A file with these two program headers, and A0h to A3h at 116 to 119.
 fn file_of(alloc: Global, first: &Fields, second: &Fields) -> Result<Vec<u8>, Fail> {
     let mut file = Vec::new(alloc);
     file.extend_from_slice(b"\x7fELF\x01\x01\x01\0\0\0\0\0\0\0\0\0")?;
-    // An executable file for ARM, of version 1; it begins at 1, and its program headers at 52.
+    // An executable file for ARM, version 1. Its entry point is 1, and its program headers begin at 52.
     let fields: [u32; 9] = [0x0028_0002, 1, 1, 52, 0, 0, 0x0020_0034, 0x0028_0002, 0];
     for field in &fields {
         file.extend_from_slice(&field.to_le_bytes())?;
@@ -34,13 +34,13 @@ fn file_of(alloc: Global, first: &Fields, second: &Fields) -> Result<Vec<u8>, Fa
     Ok(file)
 }
 
-/// Two program headers, with what they say.
+/// Two program headers, and what is read of the file.
 #[rattlefmt::skip]
 static ROWS: [(Fields, Fields, &'static str); 10] = [
     ([1, 116, 0x0800_0000, 2], [1, 118, 0x0800_0002, 2], " 08000000:A0A1A2A3"),
     ([1, 116, 0x0800_0000, 2], [1, 116, 0x0800_0003, 1], " 08000000:A0A1 08000003:A0"),
     ([1, 118, 0x0800_0010, 2], [1, 116, 0x0800_0000, 2], " 08000000:A0A1 08000010:A2A3"),
-    // Only what is loaded, and has bytes.
+    // Only segments that are loaded and have bytes.
     ([6, 52, 0, 64], [1, 116, 0x0800_0000, 4], " 08000000:A0A1A2A3"),
     ([1, 116, 0x0800_0000, 1], [1, 120, 0x2000_0000, 0], " 08000000:A0"),
     ([1, 119, 0xffff_ffff, 1], [0, 0, 0, 0], " FFFFFFFF:A3"),
@@ -60,7 +60,7 @@ fn rows(rt: HostRuntime) -> Result<(), Fail> {
     Ok(())
 }
 
-/// What a file with this byte at a place says.
+/// This is read of a file with this byte at this place.
 fn changed(rt: &impl Abort, alloc: Global, at: usize, byte: u8, says: &str) -> Result<(), Fail> {
     let mut file = file_of(alloc, &[1, 116, 0, 4], &[0, 0, 0, 0])?;
     if at < file.len() {
@@ -83,7 +83,7 @@ fn headers(rt: HostRuntime) -> Result<(), Fail> {
             "the file isn't an ELF file of 32 bits, little endian",
         )?;
     }
-    // Program headers of 56 bytes, one too many, and where there can't be any.
+    // Program headers of 56 bytes, one too many, and at offsets where there can't be any.
     for (at, byte) in [(42, 56), (44, 3), (28, 57), (31, 255)] {
         changed(
             &rt,

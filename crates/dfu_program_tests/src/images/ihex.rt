@@ -1,11 +1,7 @@
 //! Intel HEX.
 
-use super::told;
-use dfu_images::ihex;
-use std::test::Fail;
-
-/// Texts with what they say. The checksum of a record makes the sum of its bytes 0: :01 0000 00 AA 55 is 01 + AA + 55 = 100h.
-static ROWS: [(&'static str, &'static str); 45] = [
+/// Texts, and what is read of them. The checksum of a record makes the sum of its bytes 0: :01 0000 00 AA 55 is 01 + AA + 55 = 100h.
+pub(crate) static ROWS: [(&'static str, &'static str); 45] = [
     (":00000001FF\n", ""),
     (":00000001FF", ""),
     (":00000001ff\r\n\r\n\n", ""),
@@ -13,7 +9,7 @@ static ROWS: [(&'static str, &'static str); 45] = [
     ("\n\r\n:00000001FF", ""),
     (":01000000AA55\n:00000001FF\n", " 00000000:AA"),
     (":01000000aa55\r\n:00000001ff\r\n", " 00000000:AA"),
-    // A record behind another: 02 + 01 + 02 = 05, so FB; 01 + 02 + 03 = 06, so FA.
+    // A record right after another: 02 + 01 + 02 = 05, so FB; 01 + 02 + 03 = 06, so FA.
     (
         ":020000000102FB\n:0100020003FA\n:00000001FF",
         " 00000000:010203",
@@ -23,7 +19,7 @@ static ROWS: [(&'static str, &'static str); 45] = [
         ":020000000102FB\n:0100030003F9\n:00000001FF",
         " 00000000:0102 00000003:03",
     ),
-    // The other way round, they stay two; and they are told by address.
+    // The other way round, they stay two elements, in the order of their addresses.
     (
         ":0100020003FA\n:020000000102FB\n:00000001FF",
         " 00000000:0102 00000002:03",
@@ -44,14 +40,14 @@ static ROWS: [(&'static str, &'static str); 45] = [
         ":020000021000EC\n:01001000AA45\n:00000001FF",
         " 00010010:AA",
     ),
-    // A base takes the place of the one before.
+    // A base replaces the one before.
     (
         ":020000040800F2\n:020000020001FB\n:01000000AA55\n:00000001FF",
         " 00000010:AA",
     ),
-    // Where the program begins, which says nothing of the image.
+    // The entry point of the program, which is no part of the image.
     (":0400000308000000F1\n:0400000508000000EF\n:00000001FF", ""),
-    // From one half of addresses to the next.
+    // Data that goes on from one upper half of addresses to the next.
     (
         ":01FFFF00AA57\n:020000040001F9\n:01000000BB44\n:00000001FF",
         " 0000FFFF:AABB",
@@ -118,12 +114,3 @@ static ROWS: [(&'static str, &'static str); 45] = [
         "two records have a byte at address 00000000",
     ),
 ];
-
-#[test]
-fn rows(rt: HostRuntime) -> Result<(), Fail> {
-    for (text, says) in &ROWS {
-        let said = told(rt.alloc(), ihex::read(rt.alloc(), text.as_bytes()))?;
-        assert_eq!(rt; said.as_str(), *says, "{text}");
-    }
-    Ok(())
-}

@@ -23,7 +23,7 @@ fn gaps(rt: HostRuntime) -> Result<(), Fail> {
     Ok(())
 }
 
-/// A byte at 08000000h, and one at 08FFFFFFh: 16,777,216 bytes from the first to the last. With the third record it is one more.
+/// A byte at 08000000h, and one at 08FFFFFFh: 16,777,216 bytes from the first to the last. With another record it is one more.
 static WIDE: &'static str = ":020000040800F2\n:01000000AA55\n:0200000408FFF3\n:01FFFF00AA57\n";
 
 #[test]
@@ -51,7 +51,7 @@ fn nothing(rt: HostRuntime) -> Result<(), Fail> {
     Ok(())
 }
 
-/// First bytes, with the format that they are of.
+/// First bytes, and the format that they show.
 static FRONTS: [(&'static str, Option<Format>); 9] = [
     (":020000040800F2", Some(Format::IntelHex)),
     ("S00600004844521B", Some(Format::SRecord)),

@@ -1,4 +1,4 @@
-//! The image of a file, whatever its format is.
+//! The image of a file in each format.
 
 use dfu_images::{Format, ImageFault, ImageFileFault, LayFault, image_of};
 use std::test::Fail;

@@ -1,11 +1,7 @@
 //! S-records.
 
-use super::told;
-use dfu_images::srec;
-use std::test::Fail;
-
-/// Texts with what they say. The checksum of a record makes the sum of its bytes FFh: S1 04 0000 AA 51 is 04 + AA + 51 = FFh.
-static ROWS: [(&'static str, &'static str); 42] = [
+/// Texts, and what is read of them. The checksum of a record makes the sum of its bytes FFh: S1 04 0000 AA 51 is 04 + AA + 51 = FFh.
+pub(crate) static ROWS: [(&'static str, &'static str); 42] = [
     ("S9030000FC\n", ""),
     ("S9030000fc", ""),
     ("\r\nS9030000FC\r\n\r\n\n", ""),
@@ -19,26 +15,26 @@ static ROWS: [(&'static str, &'static str); 42] = [
     ("S205010000AA4F\nS804010000FA\n", " 00010000:AA"),
     ("S30608000000AA47\nS70508000000F2\n", " 08000000:AA"),
     ("S104FFFFAA53\nS9030000FC\n", " 0000FFFF:AA"),
-    // From the room of one type to that of the next.
+    // From the addresses of one record type to those of the next.
     (
         "S104FFFFAA53\nS205010000AA4F\nS9030000FC\n",
         " 0000FFFF:AAAA",
     ),
-    // By address, though not in the file.
+    // In the order of addresses, though the file has another order.
     (
         "S30608000000AA47\nS1040000AA51\nS9030000FC\n",
         " 00000000:AA 08000000:AA",
     ),
-    // A record without data counts as one of data.
+    // A record without data is counted too.
     ("S1030000FC\nS5030001FB\nS9030000FC\n", ""),
     ("S5030000FC\nS9030000FC", ""),
     (
         "S1040000AA51\nS604000001FA\nS1040001AA50\nS5030002FA\nS9030000FC",
         " 00000000:AAAA",
     ),
-    // A title may have any length, and say anything.
+    // A header record may have any length and any text.
     ("S0030000FC\nS9030000FC", ""),
-    // A count behind all data serves as an end.
+    // A count after all data serves as an end.
     ("S1040000AA51\nS5030001FB\n", " 00000000:AA"),
     (
         "S1040000AA51\nS5030001FB\nS1040001AA50\n",
@@ -87,12 +83,3 @@ static ROWS: [(&'static str, &'static str); 42] = [
         "line 2: something stands behind the end record",
     ),
 ];
-
-#[test]
-fn rows(rt: HostRuntime) -> Result<(), Fail> {
-    for (text, says) in &ROWS {
-        let said = told(rt.alloc(), srec::read(rt.alloc(), text.as_bytes()))?;
-        assert_eq!(rt; said.as_str(), *says, "{text}");
-    }
-    Ok(())
-}

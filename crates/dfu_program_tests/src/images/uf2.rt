@@ -31,19 +31,19 @@ fn file_of(alloc: Global, first: &Fields, second: &Fields) -> Result<Vec<u8>, Fa
     Ok(file)
 }
 
-/// Two blocks, with what they say.
+/// Two blocks, and what is read of the file.
 #[rattlefmt::skip]
 static ROWS: [(Fields, Fields, &'static str); 17] = [
     ([0, 0x1000, 2, 0, 2, 0], [0, 0x1002, 1, 1, 2, 0], " 00001000:A0A1A0"),
     ([0, 0x1000, 2, 0, 2, 0], [0, 0x1003, 1, 1, 2, 0], " 00001000:A0A1 00001003:A0"),
     ([0, 0x1003, 1, 0, 2, 0], [0, 0x1000, 2, 1, 2, 0], " 00001000:A0A1 00001003:A0"),
     ([0, 0xffff_ffff, 1, 0, 2, 0], [0, 0, 1, 1, 2, 0], " 00000000:A0 FFFFFFFF:A0"),
-    // Of one family, or of none; without its flag the field is the size of a file.
+    // Both of one family, or of no family. Without its flag the field is a file's size.
     ([0x2000, 0, 1, 0, 2, 7], [0x2000, 1, 1, 1, 2, 7], " 00000000:A0A0"),
     ([0, 0, 1, 0, 2, 7], [0, 1, 1, 1, 2, 8], " 00000000:A0A0"),
     ([0x2000, 0, 1, 0, 2, 7], [0x2000, 1, 1, 1, 2, 8], "block 1: it is for another family of boards than the first"),
     ([0x2000, 0, 1, 0, 2, 7], [0, 1, 1, 1, 2, 7], "block 1: it is for another family of boards than the first"),
-    // Not for the main flash; a checksum and tags, which say nothing of the image; no data.
+    // A block that is not for the main flash; a checksum and tags, which are no part of the image; no data.
     ([0xc000, 0, 1, 0, 2, 0], [0x3001, 0, 1, 1, 2, 9], " 00000000:A0"),
     ([0, 0, 1, 0, 2, 0], [0, 0, 0, 1, 2, 0], " 00000000:A0"),
     ([0, 0, 1, 0, 2, 0], [0x1000, 1, 1, 1, 2, 0], "block 1: it is for a file, and not for flash"),
@@ -65,7 +65,7 @@ fn rows(rt: HostRuntime) -> Result<(), Fail> {
     Ok(())
 }
 
-/// What a file with another byte at a place says.
+/// This is read of a file with another byte at this place.
 fn changed(rt: &impl Abort, alloc: Global, at: usize, says: &str) -> Result<(), Fail> {
     let mut file = file_of(alloc, &[0, 0, 1, 0, 2, 0], &[0, 1, 1, 1, 2, 0])?;
     if at < file.len() {

@@ -1,7 +1,7 @@
 //! The state table of USB DFU 1.1, appendix A, cell by cell, worked out by hand.
 
-/// For each state, 0 to 10, and each request, in the order of [`super::REQUESTS`], what may come of it: a letter and the state that is
-/// entered, X for dfuERROR. A acknowledged, S stalled, T status, Q state, F full, P short of an upload.
+/// For each state, 0 to 10, and each request, in the order of [`super::REQUESTS`], the possible results: a letter and the state that is
+/// entered, X for dfuERROR. A is an acknowledgement, S a stall, T a status, Q a state, F a full block of an upload, and P a short one.
 #[rattlefmt::skip]
 static CELLS: [[&'static [u8]; 9]; 11] = [
     [b"A1", b"S0",   b"S0",   b"S0",       b"T0",     b"S0",   b"Q0",     b"S0",   b"S0"],
@@ -17,28 +17,19 @@ static CELLS: [[&'static [u8]; 9]; 11] = [
     [b"SX", b"SX",   b"SX",   b"SX",       b"TX",     b"A2",   b"QX",     b"SX",   b"SX"],
 ];
 
-/// Where a device may be by itself, from each state, whatever its bmAttributes.
+/// The states that a device may enter by itself, from each state, with any bmAttributes.
 #[rattlefmt::skip]
 static BY_ITSELF: [&'static [u8]; 11] = [b"", b"02", b"", b"X", b"3X", b"", b"X", b"68X", b"", b"", b""];
 
 /// The letter of a state.
 pub(crate) fn letter_of(state: u8) -> u8 {
     match state {
-        0 => b'0',
-        1 => b'1',
-        2 => b'2',
-        3 => b'3',
-        4 => b'4',
-        5 => b'5',
-        6 => b'6',
-        7 => b'7',
-        8 => b'8',
-        9 => b'9',
+        0..=9 => b'0' + state,
         _ => b'X',
     }
 }
 
-/// The number of the state of a letter.
+/// The state with this letter.
 pub(crate) fn state_of(letter: u8) -> u8 {
     match letter {
         b'0'..=b'9' => letter - b'0',
@@ -46,7 +37,7 @@ pub(crate) fn state_of(letter: u8) -> u8 {
     }
 }
 
-/// What may come of a request in a state.
+/// The possible results of a request in a state.
 pub(crate) fn cell(state: u8, request: usize) -> &'static [u8] {
     match CELLS.get(state as usize) {
         Some(row) => match row.get(request) {
@@ -63,7 +54,7 @@ fn has(cell: &[u8], letter: u8, next: u8) -> bool {
     cell.chunks(2).any(|pair| pair.len() == 2 && pair[0] == letter && pair[1] == next)
 }
 
-/// Whether a device in this state may answer so, by itself first or not.
+/// Whether a device in this state may answer so, whether or not it first enters another state by itself.
 pub(crate) fn may(state: u8, request: usize, letter: u8, next: u8) -> bool {
     if has(cell(state, request), letter, next) {
         return true;
@@ -76,7 +67,7 @@ pub(crate) fn may(state: u8, request: usize, letter: u8, next: u8) -> bool {
     }
 }
 
-/// Whether a device in this state may answer so, wherever it stands then.
+/// Whether a device in this state may answer so, whichever state it enters.
 pub(crate) fn may_anyhow(state: u8, request: usize, letter: u8) -> bool {
     (0u8..11).any(|next| may(state, request, letter, next))
 }

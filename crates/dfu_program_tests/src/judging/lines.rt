@@ -4,7 +4,7 @@ use super::{ACK, POWER, RESET};
 use dfu_conformance::{EventKind, Line, LogEvent, Response, read_line};
 use std::process::Abort;
 
-/// Lines that are none of a log.
+/// Lines that no log has.
 #[rattlefmt::skip]
 static NO_LINES: [&'static [u8]; 17] = [
     b" ", b"reset ", b"Reset", b"x a103000000000600 - ack", b"a103000000000600", b"a103000000000600 -", b"a103000000000600 - ",
@@ -20,7 +20,7 @@ const TOLD: Response = Response::Bytes {
     fifth: 4,
 };
 
-/// Lines for an interface that say nothing of it.
+/// Lines that say nothing about the interface.
 #[rattlefmt::skip]
 static OTHERS: [(u8, &'static [u8], Line); 7] = [
     (0, b"", Line::Blank),
@@ -42,7 +42,7 @@ static REQUESTS: [(u8, &'static [u8], EventKind, bool, u16, Response); 5] = [
     (1, b"a103000001000600 - stall", EventKind::GetStatus, true, 6, Response::Stall),
 ];
 
-/// What this line says is what is wanted.
+/// The line is read as the event that is wanted.
 fn expect(rt: &impl Abort, interface: u8, line: &[u8], wanted: Option<Line>) {
     assert_eq!(rt; read_line(interface, line), wanted, "{line:?}");
 }

@@ -1,4 +1,4 @@
-//! Random runs of the device of this repository: whatever comes to it, its answers are kept.
+//! Random runs of this repository's device: the judge accepts all its answers.
 
 use super::{POWER, RESET, bytes};
 use arrayvec::ArrayVec;
@@ -15,7 +15,7 @@ const IDS: Ids = Ids {
     vendor: 0x1209,
 };
 
-/// Requests to begin with; a part of them is changed before it is sent.
+/// Requests to start from; some of them are changed before they are sent.
 #[rattlefmt::skip]
 static ASKED: [[u8; 8]; 12] = [
     [0x21, 0, 20, 0, 0, 0, 0, 0], [0x21, 1, 0, 0, 0, 0, 4, 0], [0x21, 1, 1, 0, 0, 0, 4, 0], [0x21, 1, 1, 0, 0, 0, 0, 0],
@@ -66,7 +66,7 @@ fn device(alloc: Global, run: u32, random: &mut Random) -> Result<Device<SimMedi
     }
 }
 
-/// A request, mostly as it is, and how many bytes of a body go with it.
+/// A request, mostly unchanged, and how many bytes its body has.
 fn request(random: &mut Random) -> ([u8; 8], usize) {
     let number = random.below(12) as usize;
     let mut setup = match ASKED.get(number) {
@@ -91,7 +91,7 @@ fn request(random: &mut Random) -> ([u8; 8], usize) {
     (setup, body)
 }
 
-/// What is seen of an answer.
+/// The answer as a log has it.
 fn seen(said: Said, out: &[u8]) -> Response {
     match said {
         Said::Ack => bytes(&[]),
@@ -100,7 +100,7 @@ fn seen(said: Said, out: &[u8]) -> Response {
     }
 }
 
-/// One event of a run, or nothing where time passes or a request is not the interface's.
+/// One event of a run, or nothing if time passes or a request is not for the interface.
 fn event(device: &mut Device<SimMedium>, random: &mut Random) -> Option<LogEvent> {
     match random.next() {
         0..60 => {

@@ -1,4 +1,6 @@
-//! Logs with the verdict on each: short ones that were worked out by hand, and those of `captures`.
+//! Logs with the verdict on each: short ones, worked out by hand, and those of `captures`.
+
+ghost use Rattle.std.specs.Prelude.{◌<◌};
 
 use super::captures::{
     DFU_FLASH, DFU_UTIL, DFU_UTIL_RESET, DFU_UTIL_UPLOAD, UBOOT_DFU_FLASH, UBOOT_DFU_UTIL,
@@ -7,10 +9,10 @@ use super::{ACK, asked, at};
 use dfu_conformance::{Departure, Judge, Line, STANDARD, StandardState, Verdict, read_line};
 use std::process::Abort;
 
-/// A log: its name, its lines, how many departures are told, and the verdict.
+/// A log: its name, its lines, how many departures are reported, and the verdict.
 type Log = (&'static str, &'static [&'static [u8]], u32, Verdict);
 
-/// Logs, and what is told of each.
+/// Logs, and what is reported of each.
 #[rattlefmt::skip]
 static LOGS: [Log; 11] = [
     ("nothing", &[], 0, Verdict::Kept),
@@ -39,7 +41,7 @@ static LOGS: [Log; 11] = [
     ("requests that are no events", &[b"a103000001000600 - ack", b"8006000100001200 - ack"], 0, Verdict::Kept),
 ];
 
-/// A judge that took these lines, how many departures it told, and the last of them.
+/// A judge that took these lines, how many departures it reported, and the last of them.
 fn judged(rt: &impl Abort, lines: &[&[u8]]) -> (Judge, u32, Option<Departure>) {
     let mut judge = Judge::new();
     let mut count = 0u32;
@@ -57,7 +59,7 @@ fn judged(rt: &impl Abort, lines: &[&[u8]]) -> (Judge, u32, Option<Departure>) {
     (judge, count, last)
 }
 
-/// This log has so many departures, and this verdict.
+/// The log has so many departures, and this verdict.
 fn expect(rt: &impl Abort, name: &str, lines: &[&[u8]], departures: u32, verdict: Verdict) {
     let (judge, count, _) = judged(rt, lines);
     assert_eq!(rt; (count, judge.verdict()), (departures, verdict), "{name}");
@@ -92,16 +94,24 @@ fn captures_have_their_verdicts(rt: HostRuntime) {
     );
 }
 
+/// After this log a device with these readings may be at these places.
+fn may_be(rt: &impl Abort, lines: &[&[u8]], readings: u8, places: &[StandardState], what: &str)
+    requires { readings < 64 }
+{
+    let (judge, _, _) = judged(rt, lines);
+    assert_eq!(rt; judge.places(readings), at(places), "{what}");
+}
+
+/// A device that stalls GETSTATUS in appIDLE.
+static MUTE: [&'static [u8]; 3] = [
+    b"power",
+    b"a103000000000600 - 000000000000",
+    b"a103000000000600 - stall",
+];
+
 #[test]
 fn a_departure_says_where_the_device_was_and_what_was_allowed(rt: HostRuntime) {
-    let (judge, _, last) = judged(
-        &rt,
-        &[
-            b"power",
-            b"a103000000000600 - 000000000000",
-            b"a103000000000600 - stall",
-        ],
-    );
+    let (_, _, last) = judged(&rt, &MUTE);
     let mut allowed = 0u32;
     if let Some(departure) = last {
         assert_eq!(rt; departure.before, at(&[StandardState::AppIdle]));
@@ -116,21 +126,14 @@ fn a_departure_says_where_the_device_was_and_what_was_allowed(rt: HostRuntime) {
         }
     }
     assert_eq!(rt; allowed, 1, "GETSTATUS is answered in appIDLE");
-    assert_eq!(rt;
-        judge.places(0),
-        at(&[]),
-        "no device without habits is left"
-    );
-    assert_eq!(rt;
-        judge.places(2),
-        at(&[StandardState::AppIdle]),
-        "one that is mute is in appIDLE"
-    );
+    may_be(&rt, &MUTE, 0, &[], "no device without habits is left");
+    let idle = [StandardState::AppIdle];
+    may_be(&rt, &MUTE, 2, &idle, "one that is mute is in appIDLE");
 }
 
 #[test]
 fn a_lost_answer_leaves_both_ways_open(rt: HostRuntime) {
-    let (judge, _, _) = judged(
+    may_be(
         &rt,
         &[
             b"power",
@@ -140,14 +143,13 @@ fn a_lost_answer_leaves_both_ways_open(rt: HostRuntime) {
             b"a103000000000600 - 000000000200",
             b"2101000000000400 a5a5a5a5 nothing",
         ],
-    );
-    assert_eq!(rt;
-        judge.places(0),
-        at(&[
+        0,
+        &[
             StandardState::DfuIdle,
             StandardState::DownloadSync,
-            StandardState::Error
-        ])
+            StandardState::Error,
+        ],
+        "both ways are open",
     );
 }
 

@@ -1,10 +1,10 @@
-//! A device by the cells, with a wrong row planted in it, on a random walk.
+//! A device that follows the cells, with a wrong row planted in it, on a random walk.
 
 use super::cells::{cell, state_of};
 use super::{POWER, REQUESTS, RESET, asked, bytes, state, status};
 use dfu_conformance::{Judge, LogEvent, Response, Verdict};
 
-/// A row that is planted: in this state, this request of the list is answered by this letter, and this state is entered, or told.
+/// A planted row: in this state, this request of the list gets this answer (a letter), and this state is entered, or reported.
 #[derive(Clone, Copy)]
 pub(crate) struct Planted {
     pub(crate) state: u8,
@@ -59,7 +59,7 @@ impl Walker {
         }
     }
 
-    /// What comes next: mostly what is sensible, else a question, or anything.
+    /// What comes next: mostly what is sensible, else a GETSTATUS, a GETSTATE, a reset or any request.
     fn choose(&mut self) -> usize {
         match self.random() {
             0..140 => self.sensible(),
@@ -84,7 +84,7 @@ impl Walker {
         self.is_done = is_done;
     }
 
-    /// What the cells have for a request, the first where there are several, but for what is done.
+    /// What the cells have for a request, the first if there are several, except for what is done.
     fn row(&mut self, request: usize) -> (u8, u8) {
         if let Some(planted) = self.planted
             && planted.state == self.state
@@ -132,7 +132,7 @@ impl Walker {
         }
     }
 
-    /// One step of the walk: what is seen of it, or nothing where time passes.
+    /// One step of the walk: the event that is seen, or nothing if time passes.
     fn step(&mut self) -> Option<LogEvent> {
         match self.choose() {
             9 => {
@@ -149,7 +149,7 @@ impl Walker {
     }
 }
 
-/// After how many steps a judge tells the first departure on a walk of so many steps, or its verdict where it tells none.
+/// The step at which a judge finds the first departure on a walk of so many steps, or its verdict if it finds none.
 pub(crate) fn first_departure(
     seed: u32,
     steps: u32,

@@ -6,7 +6,7 @@ use Said::{Ack, Part, Power, Reset, State, Status};
 use dfu_conformance::{Judge, LogEvent, Response};
 use std::process::Abort;
 
-/// What is said on a way: a request of the list, and its answer.
+/// An exchange on the way to a state: a request of the list, and its answer.
 #[derive(Clone, Copy)]
 enum Said {
     Power,
@@ -17,7 +17,7 @@ enum Said {
     Part(usize),
 }
 
-/// How a device comes to each state, from power on.
+/// How a device gets to each state from power-on.
 #[rattlefmt::skip]
 static WAY: [&'static [Said]; 11] = [
     &[Power, State(0)],
@@ -33,7 +33,7 @@ static WAY: [&'static [Said]; 11] = [
     &[Power, State(10)],
 ];
 
-/// The event of what is said.
+/// The event of an exchange.
 fn event(said: Said) -> Option<LogEvent> {
     match said {
         Said::Power => Some(POWER),
@@ -53,7 +53,7 @@ fn ask(request: usize, answer: Response) -> Option<LogEvent> {
     }
 }
 
-/// A judge of a device that came to this state.
+/// The judge of a device that got to this state.
 fn judge_at(rt: &impl Abort, place: u8) -> Judge {
     let mut judge = Judge::new();
     if let Some(way) = WAY.get(place as usize) {
@@ -66,7 +66,7 @@ fn judge_at(rt: &impl Abort, place: u8) -> Judge {
     judge
 }
 
-/// A judge keeps this answer to a request of a device in this state, or not, as is wanted.
+/// A judge accepts this answer to a request in this state, or refuses it, as is wanted.
 fn expect(rt: &impl Abort, place: u8, request: usize, answer: Response, wanted: bool) {
     let mut judge = judge_at(rt, place);
     let kept = match ask(request, answer) {
@@ -100,7 +100,7 @@ fn each_status_is_kept_as_its_cell_says(rt: HostRuntime) {
         for told in 0u8..11 {
             let code = if told == 10 { 15 } else { 0 };
             expect(&rt, place, 4, status(code, told), may(place, 4, b'T', told));
-            // Another code, and one that is none.
+            // Another code, and a byte that is no code.
             expect(&rt, place, 4, status(15 - code, told), false);
             expect(&rt, place, 4, status(16, told), false);
             expect(&rt, place, 6, state(told), may(place, 6, b'Q', told));

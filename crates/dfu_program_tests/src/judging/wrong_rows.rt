@@ -1,10 +1,10 @@
-//! Wrong rows, planted by hand in a device that goes by the cells: those that the standard forbids are told, and those that it allows are
-//! not.
+//! Wrong rows, planted by hand in a device that follows the cells: those that the standard forbids are reported, and those that it allows
+//! are not.
 
 use super::walker::{Planted, first_departure};
 use dfu_conformance::Verdict;
 
-/// A row that is planted: a state, a request of the list, a letter and a state.
+/// A planted row: a state, a request of the list, a letter and a state.
 const fn planted(row: (u8, usize, u8, u8)) -> Planted {
     let (state, request, letter, next) = row;
     Planted {
@@ -31,7 +31,7 @@ static FORBIDDEN: [(u8, usize, u8, u8); 63] = [
     (10, 1, b'A', 3), (10, 8, b'S', 2), (10, 6, b'Q', 2),
 ];
 
-/// Rows that a device may have: what it does at once another one does by itself first, or the standard can be read so.
+/// Rows that a device may have: it does at once what another one first does by itself, or the standard can be read that way.
 #[rattlefmt::skip]
 static ALLOWED: [(u8, usize, u8, u8); 12] = [
     (0, 0, b'A', 0), (1, 4, b'T', 0), (1, 0, b'A', 1), (3, 7, b'A', 2), (3, 5, b'A', 2), (4, 4, b'T', 5),

@@ -1,9 +1,11 @@
-//! Why an answer is given: the lines of reasons, and the fault beside an end.
+//! The reasons of answers: their lines, and the fault beside an exit.
 
 use crate::known_files::DIGITS;
 use dfu_output::{add_with_fault, check_with_fault, reason_line};
 use dfu_suffix::{Findings, SuffixFault};
 use dfu_wire::Ids;
+use std::alloc::Global;
+use std::process::Abort;
 use std::test::Fail;
 
 #[test]
@@ -24,13 +26,22 @@ fn names_the_fault(rt: HostRuntime) {
     assert_eq!(rt; twice, Some(SuffixFault::AlreadySuffixed));
 }
 
+/// The reason why, with this word and name before it, is written as this line.
+fn shows(
+    rt: &impl Abort,
+    alloc: Global,
+    (word, name, why): (&str, &str, &str),
+    wanted: &str,
+) -> Result<(), Fail> {
+    let line = reason_line(alloc, word, name, why)?;
+    assert_eq!(rt; line.as_str(), wanted);
+    Ok(())
+}
+
 #[test]
 fn writes_lines(rt: HostRuntime) -> Result<(), Fail> {
-    let file = reason_line(rt.alloc(), "", "a", "b: c")?;
-    assert_eq!(rt; file.as_str(), "dfu: a: b: c\n");
-    let word = reason_line(rt.alloc(), "OUT ", "-", "d")?;
-    assert_eq!(rt; word.as_str(), "dfu: OUT -: d\n");
-    Ok(())
+    shows(&rt, rt.alloc(), ("", "a", "b: c"), "dfu: a: b: c\n")?;
+    shows(&rt, rt.alloc(), ("OUT ", "-", "d"), "dfu: OUT -: d\n")
 }
 
 /// A name, and how it is shown.
@@ -45,14 +56,13 @@ static SHOWN: [(&str, &str); 4] = [
 #[test]
 fn shows_no_control_character(rt: HostRuntime) -> Result<(), Fail> {
     for (name, wanted) in &SHOWN {
-        let line = reason_line(rt.alloc(), "", name, "why")?;
         let wanted = format!(in rt.alloc(); "dfu: {wanted}: why\n")?;
-        assert_eq!(rt; line.as_str(), wanted.as_str());
+        shows(&rt, rt.alloc(), ("", name, "why"), &wanted)?;
     }
     Ok(())
 }
 
-// 4,096 characters, here of two bytes each, and no more.
+// 4,096 characters are shown, here of two bytes each, and no more.
 #[test]
 fn shows_so_many_characters(rt: HostRuntime) -> Result<(), Fail> {
     let mut name = String::new(rt.alloc());
@@ -60,10 +70,7 @@ fn shows_so_many_characters(rt: HostRuntime) -> Result<(), Fail> {
         name.push_str("\u{fc}")?;
     }
     let wanted = format!(in rt.alloc(); "dfu: a {name}: why\n")?;
-    let whole = reason_line(rt.alloc(), "a ", &name, "why")?;
-    assert_eq!(rt; whole.as_str() == wanted.as_str(), true);
+    shows(&rt, rt.alloc(), ("a ", &name, "why"), &wanted)?;
     name.push_str("b")?;
-    let front = reason_line(rt.alloc(), "a ", &name, "why")?;
-    assert_eq!(rt; front.as_str() == wanted.as_str(), true);
-    Ok(())
+    shows(&rt, rt.alloc(), ("a ", &name, "why"), &wanted)
 }

@@ -1,4 +1,4 @@
-//! Readers and writers that fail: what is answered, and what is out.
+//! Readers and writers that fail: what is returned, and what is written.
 
 use crate::known_files::{DIGITS, FOUR_ONES};
 use crate::output::DIGITS_IDS;
@@ -14,7 +14,7 @@ fn checks_a_reader_that_fails(rt: HostRuntime) {
     assert_eq!(rt; out.as_slice(), &b"fault Read\n"[..]);
 }
 
-// A writer that refuses after some bytes: a front is out, and nothing more is tried.
+// A writer that fails after some bytes: a front is written, and nothing more is tried.
 #[test]
 fn stops_at_a_writer_that_fails(rt: HostRuntime) {
     for room in [0usize, 1, 16] {
@@ -63,7 +63,7 @@ fn adds_to_a_reader_that_fails(rt: HostRuntime) {
     assert_eq!(rt; out.as_slice(), &b"fault Read\n"[..]);
 }
 
-/// How nine digits get a suffix.
+/// Adds a suffix to nine digits.
 fn adds<F: Write, W: Write>(alloc: Global, file: &mut F, out: &mut W) -> Exit {
     add_text(alloc, &b"123456789"[..], DIGITS_IDS, file, out)
 }

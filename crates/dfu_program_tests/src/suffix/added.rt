@@ -1,4 +1,4 @@
-//! What `add` writes, what is out where it fails, and how often it asks its reader and its writer.
+//! What `add` writes, what is written if it fails, and how often it calls its reader and its writer.
 
 use super::files::{
     DFUSE, DFUSE_DAMAGED, DIGITS, EMPTY, FOUR_ONES, LONG_SUFFIX, NO_IDS, PRODUCT, UNSET, ZEROS,
@@ -12,8 +12,8 @@ use std::io;
 use std::process::Abort;
 use std::test::Fail;
 
-/// What `add` answers, and how often the reader and the writer are called. At Ok the whole file is
-/// out, and else this front of it.
+/// `add` returns this, and calls the reader and the writer so often. At Ok the whole file is written,
+/// and else this front of it.
 fn adds(
     rt: &impl Abort,
     alloc: Global,
@@ -24,10 +24,10 @@ fn adds(
     out: &[u8],
     calls: (usize, usize),
 ) {
-    let (step, stop) = (writer.step, writer.stop.min(reader.stop));
+    let (step, stop) = (writer.step, writer.calls.stop.min(reader.calls.stop));
     let said = add(alloc, &mut reader, ids, &mut writer);
     assert_eq!(rt;
-        (said, (reader.calls, writer.calls)),
+        (said, (reader.calls.made, writer.calls.made)),
         (answer, calls),
         "{step} at a time, stopped at call {stop}"
     );
@@ -61,7 +61,7 @@ fn files_of_known_payloads(rt: HostRuntime) {
     }
 }
 
-/// Files of the grammar, and files that only DfuSe's mark refuses.
+/// Files with a suffix, and files that are refused only for the bcdDFU of DfuSe.
 static SUFFIXED: [&'static [u8]; 5] = [&FOUR_ONES, &EMPTY, &LONG_SUFFIX, &DFUSE, &DFUSE_DAMAGED];
 
 #[test]
@@ -80,7 +80,7 @@ fn files_that_have_a_suffix(rt: HostRuntime) {
     }
 }
 
-// A file with a zero in its signature, its bLength or its dwCRC is a payload, whole.
+// A file with a zero in its signature, its bLength or its dwCRC is a payload as a whole.
 #[test]
 fn files_with_a_wrong_suffix(rt: HostRuntime) -> Result<(), Fail> {
     for at in 12..20usize {
@@ -95,16 +95,16 @@ fn files_with_a_wrong_suffix(rt: HostRuntime) -> Result<(), Fail> {
     Ok(())
 }
 
-// The writer fails, or takes nothing, in place of each of its answers in turn, and would go on
-// behind it. It is not called again.
+// In place of each of its answers in turn, the writer fails, or takes nothing, and would go on
+// after it. It is not called again.
 #[test]
 fn writer_that_stops(rt: HostRuntime) {
     for fails in [true, false] {
         for step in 1..=25usize {
             for stop in 0..25usize.div_ceil(step) {
                 let mut writer = taking(rt.alloc(), step);
-                writer.stop = stop;
-                writer.fails = fails;
+                writer.calls.stop = stop;
+                writer.calls.fails = fails;
                 adds(
                     &rt,
                     rt.alloc(),
@@ -120,15 +120,15 @@ fn writer_that_stops(rt: HostRuntime) {
     }
 }
 
-// The reader fails in place of each of its answers in turn, the end too. Nothing is out then, and
-// the writer was never called.
+// The reader fails in place of each of its answers in turn, also the end. Nothing is written then,
+// and the writer was never called.
 #[test]
 fn reader_that_fails(rt: HostRuntime) {
     for step in 1..=9usize {
         for stop in 0..=9usize.div_ceil(step) {
             let mut reader = in_pieces(b"123456789", step);
-            reader.stop = stop;
-            reader.fails = true;
+            reader.calls.stop = stop;
+            reader.calls.fails = true;
             adds(
                 &rt,
                 rt.alloc(),
@@ -150,14 +150,17 @@ fn payloads_at_and_past_the_limit(rt: HostRuntime) -> Result<(), Fail> {
     let mut reader = in_pieces(&zeros, 65_536);
     let mut nowhere = io::sink();
     let said = add(rt.alloc(), &mut reader, PRODUCT, &mut nowhere);
-    assert_eq!(rt; (said, reader.calls), (Err(SuffixFault::TooLarge), 256));
+    assert_eq!(rt;
+        (said, reader.calls.made),
+        (Err(SuffixFault::TooLarge), 256)
+    );
     let mut reader = in_pieces(&zeros[1..], 65_536);
     let said = add(rt.alloc(), &mut reader, PRODUCT, &mut nowhere);
-    assert_eq!(rt; (said, reader.calls), (Ok(16_777_216), 257));
+    assert_eq!(rt; (said, reader.calls.made), (Ok(16_777_216), 257));
     Ok(())
 }
 
-// Where memory is ample the whole file is out; where an allocation is refused, nothing is.
+// With enough memory the whole file is written; if an allocation is refused, nothing is.
 #[test]
 fn refused_allocation_while_adding(rt: HostRuntime) {
     let mut room = [0u8; 25];

@@ -1,29 +1,29 @@
-//! What `read`, `read_small` and `check` answer of files, and of what is nearly one, however a reader cuts them.
+//! What `read`, `read_small` and `check` answer for files and for bytes that are nearly a file, however a reader cuts them.
 
-use super::files::{COMPLEMENT, DFUSE, DFUSE_DAMAGED, EMPTY, FOUR_ONES, GOOD, UNSET};
+use super::files::{DFUSE, DFUSE_DAMAGED, FOUR_ONES, GOOD, UNSET, complement, turned};
 use super::readers::{Pieces, in_pieces};
 use dfu_suffix::{File, SuffixFault, Summary, add, check, read, read_small};
 use dfu_wire::Ids;
 use std::process::Abort;
 use std::test::Fail;
 
-/// What `check` answers of a reader, and how often it asks it.
+/// `check` returns this for a reader, and asks it so often.
 fn checks(
     rt: &impl Abort,
     mut reader: Pieces<'_>,
     answer: Result<Summary, SuffixFault>,
     calls: usize,
 ) {
-    let (step, stop) = (reader.step, reader.stop);
+    let (step, stop) = (reader.step, reader.calls.stop);
     let said = check(&mut reader);
     assert_eq!(rt;
-        (said, reader.calls),
+        (said, reader.calls.made),
         (answer, calls),
         "{step} at a time, stopped at call {stop}"
     );
 }
 
-/// What `check` answers of bytes in pieces of 1 to 20. It asks once more at their end.
+/// `check` returns this for these bytes in pieces of 1 to 20. It asks once more at their end.
 fn checks_in_pieces(rt: &impl Abort, bytes: &[u8], answer: Result<Summary, SuffixFault>) {
     for step in 1..=20usize {
         checks(
@@ -35,7 +35,7 @@ fn checks_in_pieces(rt: &impl Abort, bytes: &[u8], answer: Result<Summary, Suffi
     }
 }
 
-/// What is no file, whole and in pieces.
+/// These bytes are refused with this fault, whole and in pieces.
 fn refused(rt: &impl Abort, bytes: &[u8], fault: SuffixFault) {
     assert_eq!(rt;
         (read(bytes).err(), read_small(bytes).err()),
@@ -55,7 +55,7 @@ fn summary(payload: u32, suffix: u8, ids: Ids, crc: u32) -> Summary {
     }
 }
 
-/// What is read of a file.
+/// These bytes are read as this file.
 fn reads(rt: &impl Abort, bytes: &[u8], read: Result<File<'_>, SuffixFault>, known: Summary) {
     let Ok(file) = read else {
         assert!(rt; false, "refused {bytes:?}");
@@ -81,7 +81,7 @@ fn what_known_files_say(rt: HostRuntime) {
     }
 }
 
-/// What is said of the first bytes of `FOUR_ONES`.
+/// The result for the first bytes of `FOUR_ONES`.
 fn of_front(len: usize) -> Result<Summary, SuffixFault> {
     match len {
         0..=15 => Err(SuffixFault::TooShort),
@@ -99,8 +99,8 @@ fn fronts_of_a_file(rt: HostRuntime) {
     }
 }
 
-/// What is said of `FOUR_ONES` with this bit of this byte turned. Bytes 12 to 14 are the signature,
-/// and byte 15 is bLength, 16 and at most 20 where a bit of its low three is turned.
+/// The fault of `FOUR_ONES` with this bit of this byte turned. Bytes 12 to 14 are the signature.
+/// Byte 15 is bLength, 16, which stays between 16 and 20 if one of its low three bits is turned.
 fn of_turned(at: usize, bit: u32) -> SuffixFault {
     match (at, bit) {
         (12..=14, _) => SuffixFault::NoSignature,
@@ -113,35 +113,29 @@ fn of_turned(at: usize, bit: u32) -> SuffixFault {
 fn each_bit_of_a_file_turned(rt: HostRuntime) {
     for at in 0..20usize {
         for bit in 0..8u32 {
-            let mut changed = FOUR_ONES;
-            changed[at] ^= 1 << bit;
-            refused(&rt, &changed, of_turned(at, bit));
+            refused(&rt, &turned(at, bit), of_turned(at, bit));
         }
     }
 }
 
 #[test]
 fn first_faults_of_known_bytes(rt: HostRuntime) {
-    refused(&rt, &COMPLEMENT, SuffixFault::BadCrc);
+    refused(&rt, &complement(), SuffixFault::BadCrc);
     refused(&rt, &DFUSE, SuffixFault::DfuSe);
     refused(&rt, &DFUSE_DAMAGED, SuffixFault::DfuSe);
 }
 
-// The reader fails in place of each of its answers in turn, the end too, or gives nothing there and
-// would go on behind it. It is not asked again.
+// In place of each of its answers in turn, also the end, the reader fails, or gives nothing and
+// would go on after it. It is not asked again.
 #[test]
 fn reader_that_stops(rt: HostRuntime) {
     for fails in [true, false] {
         for step in 1..=20usize {
             let calls = 20usize.div_ceil(step) + 1;
             for stop in 0..calls {
-                let reader = Pieces {
-                    left: &FOUR_ONES,
-                    step,
-                    stop,
-                    fails,
-                    calls: 0,
-                };
+                let mut reader = in_pieces(&FOUR_ONES, step);
+                reader.calls.stop = stop;
+                reader.calls.fails = fails;
                 let answer = if fails {
                     Err(SuffixFault::Read)
                 } else {
@@ -158,7 +152,7 @@ static ZEROS_SUFFIX: [u8; 16] = [
     0xff, 0xff, 0xff, 0xff, 0xff, 0xff, 0x00, 0x01, 0x55, 0x46, 0x44, 0x10, 0xaf, 0x59, 0xe8, 0xfa,
 ];
 
-// The 257th call is the one that gives nothing, or the byte past the limit.
+// The 257th call gives nothing, or the byte past the limit.
 #[test]
 fn files_at_and_past_the_limit(rt: HostRuntime) -> Result<(), Fail> {
     let mut file = vec![in rt.alloc(); 0u8; 16_777_200]?;
@@ -175,7 +169,7 @@ fn files_at_and_past_the_limit(rt: HostRuntime) -> Result<(), Fail> {
     Ok(())
 }
 
-// The pieces end before, at and behind the end of the room that a read is given, 65,536 bytes.
+// The pieces end before, at and after the end of the buffer of a read, 65,536 bytes.
 #[test]
 fn long_file_in_pieces(rt: HostRuntime) -> Result<(), Fail> {
     let mut file = Vec::new(rt.alloc());

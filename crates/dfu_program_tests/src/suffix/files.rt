@@ -1,8 +1,11 @@
 //! Files worked out by hand from appendix B, with CRCs by another program.
 
+ghost use Rattle.std.specs.Prelude.{◌<◌};
+
+pub(crate) use crate::known_files::{DIGITS, FOUR_ONES};
 use dfu_wire::Ids;
 
-/// Identifiers that a file doesn't say.
+/// The identifiers of a file that names none.
 pub const UNSET: Ids = Ids {
     device: 0xffff,
     product: 0xffff,
@@ -22,12 +25,6 @@ pub const ZEROS: Ids = Ids {
     product: 0,
     vendor: 0,
 };
-
-/// Payload FFFFFFFFh, identifiers FFFFh.
-pub const FOUR_ONES: [u8; 20] = [
-    0xff, 0xff, 0xff, 0xff, 0xff, 0xff, 0xff, 0xff, 0xff, 0xff, 0x00, 0x01, 0x55, 0x46, 0x44, 0x10,
-    0x71, 0xc8, 0x51, 0x0c,
-];
 
 /// Payload FFFFFFFFh, identifiers 0000h.
 pub const NO_IDS: [u8; 20] = [
@@ -52,23 +49,28 @@ pub const DFUSE: [u8; 20] = [
     0x8c, 0xe9, 0x1c, 0xae,
 ];
 
-/// Payload '123456789', vendor 1209h, product 0001h, device 0100h.
-pub const DIGITS: [u8; 25] = [
-    0x31, 0x32, 0x33, 0x34, 0x35, 0x36, 0x37, 0x38, 0x39, 0x00, 0x01, 0x01, 0x00, 0x09, 0x12, 0x00,
-    0x01, 0x55, 0x46, 0x44, 0x10, 0x62, 0x1c, 0x70, 0xfe,
-];
-
-/// `FOUR_ONES` with the usual CRC-32 in place of its complement.
-pub const COMPLEMENT: [u8; 20] = [
-    0xff, 0xff, 0xff, 0xff, 0xff, 0xff, 0xff, 0xff, 0xff, 0xff, 0x00, 0x01, 0x55, 0x46, 0x44, 0x10,
-    0x8e, 0x37, 0xae, 0xf3,
-];
-
 /// `DFUSE` with its CRC wrong.
 pub const DFUSE_DAMAGED: [u8; 20] = [
     0xff, 0xff, 0xff, 0xff, 0xff, 0xff, 0xff, 0xff, 0xff, 0xff, 0x1a, 0x01, 0x55, 0x46, 0x44, 0x10,
     0x8c, 0xe9, 0x1c, 0x00,
 ];
+
+/// `FOUR_ONES` with the usual CRC-32 in place of its complement.
+pub fn complement() -> [u8; 20] {
+    let mut changed = FOUR_ONES;
+    changed[16..].copy_from_slice(&[0x8e, 0x37, 0xae, 0xf3]);
+    changed
+}
+
+/// `FOUR_ONES` with this bit of this byte turned.
+pub fn turned(at: usize, bit: u32) -> [u8; 20]
+    requires place { at < 20 }
+    requires bit { bit < 8 }
+{
+    let mut changed = FOUR_ONES;
+    changed[at] ^= 1 << bit;
+    changed
+}
 
 /// Files, and what each says: the length of its payload, bLength, the identifiers and dwCRC.
 pub static GOOD: [(&'static [u8], u32, u8, Ids, u32); 5] = [

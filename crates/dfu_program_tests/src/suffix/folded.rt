@@ -1,4 +1,4 @@
-//! The register of many bytes, which are folded: at lengths around those at which a piece or a step ends.
+//! The register over many bytes, which are folded, at lengths around the ends of pieces and steps.
 
 use super::{register, register_by_bits};
 use dfu_suffix::Crc;
@@ -10,7 +10,13 @@ static LENGTHS: [usize; 20] = [
     8_207, 12_287, 12_288, 12_289, 16_385, MOST,
 ];
 
-// The long body, the fast one and the plain one agree, however the bytes are cut, and where two bodies take a part.
+fn register_long(bytes: &[u8]) -> u32 {
+    let mut crc = Crc::new();
+    crc.update_long(bytes);
+    crc.value()
+}
+
+// The long body, the fast one and the plain one agree, however the bytes are cut, also if two bodies take a part each.
 #[test]
 fn registers_of_many_bytes(rt: HostRuntime) {
     let mut bytes = [0u8; MOST];
@@ -22,14 +28,12 @@ fn registers_of_many_bytes(rt: HostRuntime) {
     for end in &LENGTHS {
         let whole = &bytes[..(*end).min(MOST)];
         let (front, back) = whole.split_at(whole.len() / 3);
-        let mut long = Crc::new();
-        long.update_long(whole);
         let mut mixed = Crc::new();
         mixed.update(front);
         mixed.update_long(back);
         let value = register_by_bits(whole);
         assert_eq!(rt;
-            (long.value(), mixed.value(), register(whole)),
+            (register_long(whole), mixed.value(), register(whole)),
             (value, value, value),
             "over {end} bytes, whole and in two pieces"
         );

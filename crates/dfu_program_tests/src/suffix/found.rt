@@ -1,12 +1,12 @@
-//! What `check_with` finds of files, right and wrong, however a reader cuts them.
+//! What `check_with` finds in right and wrong files, however a reader cuts them.
 
-use super::files::{COMPLEMENT, EMPTY, FOUR_ONES};
+use super::files::{EMPTY, FOUR_ONES, complement, turned};
 use super::readers::in_pieces;
 use super::register_by_bits;
 use dfu_suffix::{Findings, check_with};
 use std::process::Abort;
 
-/// Finds the same of bytes in pieces of 1 to 20.
+/// `check_with` finds the same in these bytes in pieces of 1 to 20.
 fn finds(rt: &impl Abort, bytes: &[u8], known: Findings) {
     for step in 1..=20usize {
         let mut findings = Findings::new();
@@ -28,15 +28,18 @@ fn findings(count: u32, suffix: u8, crc: u32, register: u32) -> Findings {
 fn finds_known_registers(rt: HostRuntime) {
     finds(&rt, &FOUR_ONES, findings(20, 16, 0x0c51_c871, 0x0c51_c871));
     finds(&rt, &EMPTY, findings(16, 16, 0x887b_f1e1, 0x887b_f1e1));
-    finds(&rt, &COMPLEMENT, findings(20, 16, 0xf3ae_378e, 0x0c51_c871));
+    finds(
+        &rt,
+        &complement(),
+        findings(20, 16, 0xf3ae_378e, 0x0c51_c871),
+    );
 }
 
 #[test]
 fn finds_registers_of_damaged_files(rt: HostRuntime) {
     for at in 0..20usize {
         for bit in 0..8u32 {
-            let mut changed = FOUR_ONES;
-            changed[at] ^= 1 << bit;
+            let changed = turned(at, bit);
             let (front, last) = changed.split_at(16);
             let crc = u32::from_le_bytes([last[0], last[1], last[2], last[3]]);
             finds(

@@ -1,4 +1,4 @@
-//! What `gather` answers of readers that stop or give too much, and how often it asks them.
+//! What `gather` returns for readers that stop or give too much, and how often it asks them.
 
 ghost use Rattle.std.specs.Prelude.{◌≤◌};
 
@@ -7,7 +7,7 @@ use dfu_suffix::{GatherFault, gather};
 use std::alloc::Global;
 use std::process::Abort;
 
-/// What `gather` answers, and how often it asks the reader.
+/// `gather` returns this, and asks the reader so often.
 fn gathers(
     rt: &impl Abort,
     alloc: Global,
@@ -18,20 +18,20 @@ fn gathers(
 )
     requires { limit ≤ 16777216 }
 {
-    let (step, stop) = (reader.step, reader.stop);
+    let (step, stop) = (reader.step, reader.calls.stop);
     let said = gather(alloc, &mut reader, limit);
     let given = match &said {
         Ok(bytes) => Ok(bytes.as_slice()),
         Err(fault) => Err(*fault),
     };
     assert_eq!(rt;
-        (given, reader.calls),
+        (given, reader.calls.made),
         (answer, calls),
         "{step} at a time up to {limit}, stopped at call {stop}"
     );
 }
 
-// At most so many of nine bytes. No call is made after the one that gives the byte past the limit.
+// Nine bytes, up to each limit. No call is made after the one that gives the byte past the limit.
 #[test]
 fn reader_of_more_than_the_limit(rt: HostRuntime) {
     for step in 1..=9usize {
@@ -58,20 +58,20 @@ fn reader_of_more_than_the_limit(rt: HostRuntime) {
     }
 }
 
-// The reader fails in place of each of its answers in turn, the end too, or gives nothing there and
-// would go on behind it. It is not asked again.
+// In place of each of its answers in turn, also the end, the reader fails, or gives nothing and
+// would go on after it. It is not asked again.
 #[test]
 fn reader_that_stops(rt: HostRuntime) {
     let bytes = b"123456789";
     for step in 1..=9usize {
         for stop in 0..=9usize.div_ceil(step) {
             let mut reader = in_pieces(bytes, step);
-            reader.stop = stop;
+            reader.calls.stop = stop;
             let front = &bytes[..(stop * step).min(9)];
             gathers(&rt, rt.alloc(), reader, 9, Ok(front), stop + 1);
             let mut reader = in_pieces(bytes, step);
-            reader.stop = stop;
-            reader.fails = true;
+            reader.calls.stop = stop;
+            reader.calls.fails = true;
             gathers(&rt, rt.alloc(), reader, 9, Err(GatherFault::Read), stop + 1);
         }
     }

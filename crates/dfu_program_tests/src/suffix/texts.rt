@@ -1,9 +1,8 @@
-//! What a fault is printed as.
+//! What each fault is printed as.
 
 use dfu_suffix::SuffixFault;
-use std::test::Fail;
 
-static TEXTS: [(SuffixFault, &'static str); 10] = [
+pub(crate) static TEXTS: [(SuffixFault, &'static str); 10] = [
     (
         SuffixFault::TooShort,
         "the file has under 16 bytes, too few for a suffix",
@@ -30,11 +29,3 @@ static TEXTS: [(SuffixFault, &'static str); 10] = [
     (SuffixFault::Read, "the file can't be read"),
     (SuffixFault::Write, "the file can't be written"),
 ];
-
-#[test]
-fn faults_say_what_is_wrong(rt: HostRuntime) -> Result<(), Fail> {
-    for (fault, text) in &TEXTS {
-        assert_eq!(rt; format!(in rt.alloc(); "{fault}")?.as_str(), *text);
-    }
-    Ok(())
-}

@@ -1,17 +1,15 @@
-//! Writers that take little at a time, stop or fail, and count how often they are called.
+//! Writers that take few bytes at a time, stop or fail, and count how often they are called.
 
+use super::readers::{Calls, unstopped};
 use std::alloc::Global;
-use std::io::{self, ErrorKind, Write};
+use std::io::{self, Write};
 
-/// Takes at most `step` bytes a call. The call with the number `stop`, counted from 0, fails, or
-/// takes nothing. A flush counts as a call.
+/// Takes at most `step` bytes a call, up to the call that stops. A flush counts as a call.
 #[derive(Drop)]
 pub struct Narrow {
     pub taken: Vec<u8>,
     pub step: usize,
-    pub stop: usize,
-    pub fails: bool,
-    pub calls: usize,
+    pub calls: Calls,
 }
 
 /// Takes all, at most `step` bytes a call.
@@ -19,20 +17,13 @@ pub fn taking(alloc: Global, step: usize) -> Narrow {
     Narrow {
         taken: Vec::new(alloc),
         step,
-        stop: usize::MAX,
-        fails: false,
-        calls: 0,
+        calls: unstopped(),
     }
 }
 
 impl Write for Narrow {
     fn write(&mut self, buf: &[u8]) -> io::Result<usize> {
-        let call = self.calls;
-        self.calls = call.saturating_add(1);
-        if call == self.stop {
-            if self.fails {
-                return Err(io::Error::from(ErrorKind::Interrupted));
-            }
+        if self.calls.is_stopped()? {
             return Ok(0);
         }
         let most = buf.len().min(self.step);
@@ -41,7 +32,7 @@ impl Write for Narrow {
     }
 
     fn flush(&mut self) -> io::Result<()> {
-        self.calls = self.calls.saturating_add(1);
+        self.calls.made = self.calls.made.saturating_add(1);
         Ok(())
     }
 }

@@ -1,7 +1,6 @@
 //! The standard's numbers and names of states and codes.
 
 use dfu_wire::{Code, State, WireFault, identifier};
-use std::test::Fail;
 
 static STATE_NAMES: [&'static str; 11] = [
     "appIDLE",
@@ -36,37 +35,35 @@ static CODE_NAMES: [&'static str; 16] = [
     "errSTALLEDPKT",
 ];
 
-#[test]
-fn every_byte_is_a_state_or_none(rt: HostRuntime) -> Result<(), Fail> {
-    for byte in 0..=255 {
-        match STATE_NAMES.get(usize::from(byte)) {
-            Some(name) => {
-                let state = State::from_byte(byte)?;
-                assert_eq!(rt; state.byte(), byte);
-                assert_eq!(rt; state.name(), *name);
-            }
-            None => assert_eq!(rt; State::from_byte(byte), Err(WireFault::UnknownState)),
-        }
+/// A byte and its name, or the fault if it has none.
+fn named(
+    names: &[&'static str],
+    byte: u8,
+    fault: WireFault,
+) -> Result<(u8, &'static str), WireFault> {
+    match names.get(usize::from(byte)) {
+        Some(name) => Ok((byte, *name)),
+        None => Err(fault),
     }
-    Ok(())
 }
 
 #[test]
-fn every_byte_is_a_code_or_none(rt: HostRuntime) -> Result<(), Fail> {
+fn every_byte_is_a_state_or_none(rt: HostRuntime) {
     for byte in 0..=255 {
-        match CODE_NAMES.get(usize::from(byte)) {
-            Some(name) => {
-                let code = Code::from_byte(byte)?;
-                assert_eq!(rt; code.byte(), byte);
-                assert_eq!(rt; code.name(), *name);
-            }
-            None => assert_eq!(rt; Code::from_byte(byte), Err(WireFault::UnknownCode)),
-        }
+        let read = State::from_byte(byte).map(|state| (state.byte(), state.name()));
+        assert_eq!(rt; read, named(&STATE_NAMES, byte, WireFault::UnknownState));
     }
-    Ok(())
 }
 
-/// Texts, and the identifiers that they are.
+#[test]
+fn every_byte_is_a_code_or_none(rt: HostRuntime) {
+    for byte in 0..=255 {
+        let read = Code::from_byte(byte).map(|code| (code.byte(), code.name()));
+        assert_eq!(rt; read, named(&CODE_NAMES, byte, WireFault::UnknownCode));
+    }
+}
+
+/// Texts, and the identifiers that they mean.
 static IDENTIFIERS: [(&'static str, Option<u16>); 10] = [
     ("1209", Some(0x1209)),
     ("aBcD", Some(0xabcd)),
@@ -81,9 +78,8 @@ static IDENTIFIERS: [(&'static str, Option<u16>); 10] = [
 ];
 
 #[test]
-fn identifiers_have_four_digits(rt: HostRuntime) -> Result<(), Fail> {
+fn identifiers_have_four_digits(rt: HostRuntime) {
     for (text, number) in &IDENTIFIERS {
         assert_eq!(rt; identifier(text.as_bytes()), *number, "{text}");
     }
-    Ok(())
 }

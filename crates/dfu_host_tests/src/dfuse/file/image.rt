@@ -12,7 +12,7 @@ const NOTHING: Element<'static> = Element {
 
 #[test]
 fn elements_by_address(rt: HostRuntime) -> Result<(), Fail> {
-    // The first element is behind the second.
+    // The first element has a higher address than the second.
     let bytes = changed(285, &[0, 0, 1, 8]);
     let file = read(&bytes)?;
     let mut room = [NOTHING; 3];

@@ -21,7 +21,7 @@ fn number(bytes: &[u8], at: usize, many: usize) -> usize {
     value
 }
 
-/// Whether bytes stand at a place.
+/// Whether a file has these bytes at a place.
 fn stands(bytes: &[u8], at: usize, wanted: &[u8]) -> bool {
     for (i, byte) in wanted.iter().enumerate() {
         if bytes.get(at.saturating_add(i)) != Some(byte) {
@@ -89,7 +89,7 @@ fn element(bytes: &[u8], at: usize, end: usize) -> Result<usize, FileFault> {
     }
 }
 
-/// Where a target ends that begins here, with the sums of its elements behind others.
+/// Where a target ends that begins here, with the sums of its elements added to others.
 fn target(bytes: &[u8], at: usize, end: usize, sums: Sums) -> Result<(usize, Sums), FileFault> {
     let first = at.saturating_add(274);
     if end < first || !stands(bytes, at, b"Target") {

@@ -1,16 +1,17 @@
 //! What D says, and the fault of each file that differs from it in a field.
 
 use super::made::{SIZE, changed, made, put};
+use crate::texts::are_displayed;
 use dfu_wire::Ids;
 use dfuse_file::{FileFault, read};
 use std::process::Abort;
 use std::test::Fail;
 
-/// A file is refused for this.
-fn refused(rt: &impl Abort, bytes: &[u8], wanted: FileFault) {
+/// The file of a row is refused for this.
+fn refused(rt: &impl Abort, bytes: &[u8], wanted: FileFault, row: usize) {
     match read(bytes) {
-        Ok(_) => panic!(rt; "read, and not {wanted:?}"),
-        Err(fault) => assert_eq!(rt; fault, wanted),
+        Ok(_) => panic!(rt; "row {row} is read, and not {wanted:?}"),
+        Err(fault) => assert_eq!(rt; fault, wanted, "row {row}"),
     }
 }
 
@@ -50,56 +51,48 @@ fn d_with_either_size(rt: HostRuntime) -> Result<(), Fail> {
     is_d(&rt, &counted)
 }
 
+/// D with other bytes at a place, and the CRC made right, with its fault: of the suffix, of the prefix, of the target, and of elements.
+static REFUSED: [(usize, &'static [u8], FileFault); 16] = [
+    (318, &[15], FileFault::BadLength),
+    (313, &[0x00], FileFault::NotDfuSe),
+    (0, b"d", FileFault::NoPrefix),
+    (5, &[2], FileFault::BadVersion),
+    (6, &[0x34], FileFault::BadImageSize),
+    (10, &[0], FileFault::NoTargets),
+    (10, &[2], FileFault::NoTarget),
+    (11, b"t", FileFault::NoTarget),
+    (277, &[0x17], FileFault::BadTargetSize),
+    (281, &[1], FileFault::BadTargetSize),
+    (281, &[3], FileFault::ElementPastTheTarget),
+    // The elements are one with 3 bytes, and the other without: 4 bytes are left for a target that isn't counted.
+    (277, &[0x0c, 0, 0, 0, 1], FileFault::Trailing),
+    (289, &[0], FileFault::EmptyElement),
+    (
+        289,
+        &[0xff, 0xff, 0xff, 0xff],
+        FileFault::ElementPastTheTarget,
+    ),
+    (285, &[0xfe, 0xff, 0xff, 0xff], FileFault::AddressPastTheEnd),
+    (285, &[0xfd, 0xff, 0xff, 0xff], FileFault::AddressPastTheEnd),
+];
+
+#[test]
+fn refusals_of_changed_files(rt: HostRuntime) {
+    for (row, (at, with, fault)) in REFUSED.iter().enumerate() {
+        refused(&rt, &changed(*at, with), *fault, row);
+    }
+}
+
+/// These have no CRC, or a wrong one.
 #[test]
 fn refusals_of_the_suffix(rt: HostRuntime) {
-    refused(&rt, b"DfuSe", FileFault::TooShort);
-    refused(&rt, &[0; 16], FileFault::NoSignature);
-    refused(&rt, &changed(318, &[15]), FileFault::BadLength);
-    refused(&rt, &changed(313, &[0x00]), FileFault::NotDfuSe);
+    refused(&rt, b"DfuSe", FileFault::TooShort, 0);
+    refused(&rt, &[0; 16], FileFault::NoSignature, 1);
     let mut bytes = changed(0, b"d");
     put(&mut bytes, SIZE - 4, &[0, 0, 0, 0]);
-    refused(&rt, &bytes, FileFault::BadCrc);
+    refused(&rt, &bytes, FileFault::BadCrc, 2);
     put(&mut bytes, 313, &[0x00]);
-    refused(&rt, &bytes, FileFault::NotDfuSe);
-}
-
-#[test]
-fn refusals_of_the_prefix(rt: HostRuntime) {
-    refused(&rt, &changed(0, b"d"), FileFault::NoPrefix);
-    refused(&rt, &changed(5, &[2]), FileFault::BadVersion);
-    refused(&rt, &changed(6, &[0x34]), FileFault::BadImageSize);
-    refused(&rt, &changed(10, &[0]), FileFault::NoTargets);
-    refused(&rt, &changed(10, &[2]), FileFault::NoTarget);
-}
-
-#[test]
-fn refusals_of_the_target(rt: HostRuntime) {
-    refused(&rt, &changed(11, b"t"), FileFault::NoTarget);
-    refused(&rt, &changed(277, &[0x17]), FileFault::BadTargetSize);
-    refused(&rt, &changed(281, &[1]), FileFault::BadTargetSize);
-    refused(&rt, &changed(281, &[3]), FileFault::ElementPastTheTarget);
-    // The elements are one with 3 bytes, and the other without: 4 bytes are left for a target that isn't counted.
-    refused(&rt, &changed(277, &[0x0c, 0, 0, 0, 1]), FileFault::Trailing);
-}
-
-#[test]
-fn refusals_of_elements(rt: HostRuntime) {
-    refused(&rt, &changed(289, &[0]), FileFault::EmptyElement);
-    refused(
-        &rt,
-        &changed(289, &[0xff, 0xff, 0xff, 0xff]),
-        FileFault::ElementPastTheTarget,
-    );
-    refused(
-        &rt,
-        &changed(285, &[0xfe, 0xff, 0xff, 0xff]),
-        FileFault::AddressPastTheEnd,
-    );
-    refused(
-        &rt,
-        &changed(285, &[0xfd, 0xff, 0xff, 0xff]),
-        FileFault::AddressPastTheEnd,
-    );
+    refused(&rt, &bytes, FileFault::NotDfuSe, 3);
 }
 
 #[test]
@@ -165,8 +158,5 @@ static TEXTS: [(FileFault, &'static str); 16] = [
 
 #[test]
 fn texts_of_faults(rt: HostRuntime) -> Result<(), Fail> {
-    for (fault, text) in &TEXTS {
-        assert_eq!(rt; format!(in rt.alloc(); "{fault}")?.as_str(), *text);
-    }
-    Ok(())
+    are_displayed(&rt, rt.alloc(), &TEXTS)
 }

@@ -1,19 +1,22 @@
 //! A session without a fault.
 
 use super::dialogue::{
-    ABORT, AMPLE, CLEARED, CLOSE, DONE, ERASE_FIRST, GET_STATUS, LEAVES, POINT_FIRST, READ, Script,
+    ABORT, AMPLE, CLEARED, CLOSE, COMMAND, DONE, ERASING, GET_STATUS, LEAVES, POINTING, READ,
+    Script, Turn,
 };
 use dfuse_host::{Action, Element, Leaving, Report, Seen};
 
 const ERASE_SECOND: Action<'static> = Action::Command {
-    setup: [0x21, 1, 0, 0, 0, 0, 5, 0],
+    setup: COMMAND,
     body: [0x41, 0, 0x40, 0, 8],
 };
 
 const POINT_SECOND: Action<'static> = Action::Command {
-    setup: [0x21, 1, 0, 0, 0, 0, 5, 0],
+    setup: COMMAND,
     body: [0x21, 0, 0x40, 0, 8],
 };
+
+const POINTING_SECOND: &'static [Turn] = &[(POINT_SECOND, Seen::Ack)];
 
 const WRITE_FOUR: Action<'static> = Action::Send {
     setup: [0x21, 1, 2, 0, 0, 0, 4, 0],
@@ -25,10 +28,7 @@ const WRITE_TWO: Action<'static> = Action::Send {
     body: &[5, 6],
 };
 
-const READ_FOUR: Action<'static> = Action::Send {
-    setup: [0xa1, 2, 2, 0, 0, 0, 4, 0],
-    body: &[],
-};
+const READ_FOUR: Action<'static> = asks!([0xa1, 2, 2, 0, 0, 0, 4, 0]);
 
 /// An element in each of two pages. All but the front is written and read back, and then the front, which is the first element.
 /// It takes 34 transfers and 8 waits.
@@ -48,26 +48,26 @@ pub(crate) static TWO_ELEMENTS: Script = Script {
     limits: AMPLE,
     parts: &[
         CLEARED,
-        &[(ERASE_FIRST, Seen::Ack)],
+        ERASING,
         DONE,
         &[(ERASE_SECOND, Seen::Ack)],
         DONE,
-        &[(POINT_SECOND, Seen::Ack)],
+        POINTING_SECOND,
         DONE,
         &[(WRITE_TWO, Seen::Ack)],
         DONE,
-        &[(POINT_SECOND, Seen::Ack)],
+        POINTING_SECOND,
         DONE,
         &[
             (ABORT, Seen::Ack),
             (READ, Seen::Bytes(&[5, 6])),
             (ABORT, Seen::Ack),
         ],
-        &[(POINT_FIRST, Seen::Ack)],
+        POINTING,
         DONE,
         &[(WRITE_FOUR, Seen::Ack)],
         DONE,
-        &[(POINT_FIRST, Seen::Ack)],
+        POINTING,
         DONE,
         &[
             (ABORT, Seen::Ack),

@@ -12,30 +12,18 @@ pub(crate) const AMPLE: Limits = Limits {
     restarts: 3,
 };
 
-pub(crate) const ABORT: Action<'static> = Action::Send {
-    setup: [0x21, 6, 0, 0, 0, 0, 0, 0],
-    body: &[],
-};
+/// The request with a command of five bytes.
+pub(crate) const COMMAND: [u8; 8] = [0x21, 1, 0, 0, 0, 0, 5, 0];
 
-pub(crate) const GET_STATE: Action<'static> = Action::Send {
-    setup: [0xa1, 5, 0, 0, 0, 0, 1, 0],
-    body: &[],
-};
+pub(crate) const ABORT: Action<'static> = asks!([0x21, 6, 0, 0, 0, 0, 0, 0]);
 
-pub(crate) const GET_STATUS: Action<'static> = Action::Send {
-    setup: [0xa1, 3, 0, 0, 0, 0, 6, 0],
-    body: &[],
-};
+pub(crate) const GET_STATE: Action<'static> = asks!([0xa1, 5, 0, 0, 0, 0, 1, 0]);
 
-pub(crate) const CLEAR_STATUS: Action<'static> = Action::Send {
-    setup: [0x21, 4, 0, 0, 0, 0, 0, 0],
-    body: &[],
-};
+pub(crate) const GET_STATUS: Action<'static> = asks!([0xa1, 3, 0, 0, 0, 0, 6, 0]);
 
-pub(crate) const CLOSE: Action<'static> = Action::Send {
-    setup: [0x21, 1, 2, 0, 0, 0, 0, 0],
-    body: &[],
-};
+pub(crate) const CLEAR_STATUS: Action<'static> = asks!([0x21, 4, 0, 0, 0, 0, 0, 0]);
+
+pub(crate) const CLOSE: Action<'static> = asks!([0x21, 1, 2, 0, 0, 0, 0, 0]);
 
 /// dfuDNBUSY for 5 ms.
 pub(crate) const BUSY: Seen<'static> = Seen::Bytes(&[0, 5, 0, 0, 4, 0]);
@@ -52,13 +40,13 @@ pub(crate) const ERROR: Seen<'static> = Seen::Bytes(&[10]);
 
 /// The first page is erased.
 pub(crate) const ERASE_FIRST: Action<'static> = Action::Command {
-    setup: [0x21, 1, 0, 0, 0, 0, 5, 0],
+    setup: COMMAND,
     body: [0x41, 0, 0, 0, 8],
 };
 
 /// The pointer is set to its begin.
 pub(crate) const POINT_FIRST: Action<'static> = Action::Command {
-    setup: [0x21, 1, 0, 0, 0, 0, 5, 0],
+    setup: COMMAND,
     body: [0x21, 0, 0, 0, 8],
 };
 
@@ -75,15 +63,12 @@ pub(crate) const DATA: Action<'static> = Action::Send {
 };
 
 /// Two bytes are read.
-pub(crate) const READ: Action<'static> = Action::Send {
-    setup: [0xa1, 2, 2, 0, 0, 0, 2, 0],
-    body: &[],
-};
+pub(crate) const READ: Action<'static> = asks!([0xa1, 2, 2, 0, 0, 0, 2, 0]);
 
 /// An action, and what comes of it.
 pub(crate) type Turn = (Action<'static>, Seen<'static>);
 
-/// What is left by an earlier session is dropped.
+/// What an earlier session left is dropped.
 pub(crate) const CLEARED: &'static [Turn] = &[(ABORT, Seen::Ack), (GET_STATE, IDLE)];
 
 /// A command that was sent is done after 5 ms.
@@ -93,17 +78,15 @@ pub(crate) const DONE: &'static [Turn] = &[
     (GET_STATUS, READY),
 ];
 
-/// The first page is erased, and then the pointer set.
-pub(crate) const POINTED: &'static [Turn] = &[
-    (ERASE_FIRST, Seen::Ack),
-    (GET_STATUS, BUSY),
-    (Action::Wait(5), Seen::Waited),
-    (GET_STATUS, READY),
-    (POINT_FIRST, Seen::Ack),
-    (GET_STATUS, BUSY),
-    (Action::Wait(5), Seen::Waited),
-    (GET_STATUS, READY),
-];
+/// The command to erase the first page is sent, that to set the pointer, and the image's bytes.
+pub(crate) const ERASING: &'static [Turn] = &[(ERASE_FIRST, Seen::Ack)];
+
+pub(crate) const POINTING: &'static [Turn] = &[(POINT_FIRST, Seen::Ack)];
+
+pub(crate) const WRITING: &'static [Turn] = &[(DATA, Seen::Ack)];
+
+/// A command that was sent is done at once.
+pub(crate) const AT_ONCE: &'static [Turn] = &[(GET_STATUS, READY)];
 
 /// A session, as it was worked out by hand.
 #[derive(Clone, Copy)]
@@ -112,7 +95,7 @@ pub(crate) struct Script {
     pub image: &'static [Element<'static>],
     pub leaves: bool,
     pub limits: Limits,
-    /// What it does, one part behind the other.
+    /// What it does, one part after the other.
     pub parts: &'static [&'static [Turn]],
     /// What it wants then.
     pub last: Action<'static>,

@@ -1,8 +1,7 @@
 //! What ends a session.
 
 use super::dialogue::{
-    ABORT, CLEARED, DATA, DONE, ERASE_FIRST, GET_STATUS, POINT_FIRST, POINTED, READ, Script, Turn,
-    USUAL,
+    ABORT, CLEARED, DONE, ERASING, GET_STATUS, POINTING, READ, Script, Turn, USUAL, WRITING,
 };
 use dfu_wire::Code;
 use dfuse_host::{Action, Leaving, Limits, Report, Seen};
@@ -12,10 +11,7 @@ const LOST: &'static [Turn] = &[(ABORT, Seen::Nothing)];
 
 const RESTARTED: &'static [Turn] = &[(ABORT, Seen::Restarted)];
 
-/// The first page is to be erased.
-const ERASING: &'static [Turn] = &[(ERASE_FIRST, Seen::Ack)];
-
-/// Fewer bytes are none, and so are more.
+/// An answer with fewer bytes or more is asked for again.
 const PARTLY_READ: &'static [Turn] = &[
     (ABORT, Seen::Ack),
     (READ, Seen::Bytes(&[7])),
@@ -26,11 +22,11 @@ const PARTLY_READ: &'static [Turn] = &[
 #[rattlefmt::skip]
 pub(crate) static ENDED: [Script; 9] = [
     Script { name: "what is read back is the image", leaves: false,
-        parts: &[CLEARED, POINTED, &[(DATA, Seen::Ack)], DONE, &[(POINT_FIRST, Seen::Ack)], DONE, PARTLY_READ,
+        parts: &[CLEARED, ERASING, DONE, POINTING, DONE, WRITING, DONE, POINTING, DONE, PARTLY_READ,
             &[(READ, Seen::Bytes(&[7, 8])), (ABORT, Seen::Ack)]],
         last: Action::Done(Report::Verified(Leaving::Stayed)), taken: 23, ..USUAL },
     Script { name: "what is read back is another byte", leaves: false,
-        parts: &[CLEARED, POINTED, &[(DATA, Seen::Ack)], DONE, &[(POINT_FIRST, Seen::Ack)], DONE, PARTLY_READ,
+        parts: &[CLEARED, ERASING, DONE, POINTING, DONE, WRITING, DONE, POINTING, DONE, PARTLY_READ,
             &[(READ, Seen::Bytes(&[7, 0]))]],
         last: Action::Done(Report::Different), taken: 22, ..USUAL },
     Script { name: "an error with the code OK",

@@ -33,7 +33,7 @@ static FATES: [Fate; 5] = [
     Fate::RestartsAfter,
 ];
 
-/// Whether the first bytes of an element, so many at most, stand in the memory.
+/// Whether the memory has the first bytes of an element, at most so many.
 fn stand(memory: &[u8; MEMORY], element: &Element<'_>, most: usize) -> bool {
     for (i, byte) in element.bytes.iter().enumerate() {
         if i < most && memory.get((element.address as usize).saturating_add(i)) != Some(byte) {
@@ -49,7 +49,7 @@ static SMALL: [Element<'static>; 1] = [Element {
     bytes: &[0x11, 0x22, 0x33, 0x44, 0x55],
 }];
 
-/// Whether an image stands there.
+/// Whether the memory has an image.
 fn holds(memory: &[u8; MEMORY], image: &[Element<'_>]) -> bool {
     for element in image {
         if !stand(memory, element, MEMORY) {
@@ -59,7 +59,7 @@ fn holds(memory: &[u8; MEMORY], image: &[Element<'_>]) -> bool {
     true
 }
 
-/// Whether the front of an image, three bytes, stands there.
+/// Whether the memory has the front of an image, three bytes.
 fn has_front(memory: &[u8; MEMORY], image: &[Element<'_>]) -> bool {
     match image {
         [first, ..] => stand(memory, first, 3),
@@ -68,7 +68,7 @@ fn has_front(memory: &[u8; MEMORY], image: &[Element<'_>]) -> bool {
 }
 
 /// A session from a state of the device, in which these actions have these fates. At each moment no page but the image's three has
-/// changed, and the front stands only if all of the image does. It answers how many actions it took.
+/// changed, and the front is there only if all of the image is. Returns how many actions it took.
 fn run(
     rt: &impl Abort,
     map: &Map<'_>,
@@ -117,7 +117,7 @@ fn run(
     Ok(taken)
 }
 
-/// Each fault at each action, alone, or with each at a third of the later ones.
+/// Each fault at each action, by itself, or with each at a third of the later ones.
 fn run_all(rt: &impl Abort, image: &[Element<'_>], state: u8, pairs: bool) -> Result<(), Fail> {
     let map = Map::read(b"@F/0/6*8g")?;
     let none = (500, Fate::Passes);

@@ -1,6 +1,7 @@
 //! Plans that are refused.
 
 use super::dialogue::{AMPLE, plan_of};
+use crate::texts::are_displayed;
 use dfuse_host::{Element, Plan, PlanFault, Session};
 use dfuse_memory::Map;
 use std::test::Fail;
@@ -97,8 +98,5 @@ static TEXTS: [(PlanFault, &'static str); 8] = [
 
 #[test]
 fn faults_say_what_is_wrong(rt: HostRuntime) -> Result<(), Fail> {
-    for (fault, text) in &TEXTS {
-        assert_eq!(rt; format!(in rt.alloc(); "{fault}")?.as_str(), *text);
-    }
-    Ok(())
+    are_displayed(&rt, rt.alloc(), &TEXTS)
 }

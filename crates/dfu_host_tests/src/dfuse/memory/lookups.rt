@@ -1,10 +1,11 @@
 //! What maps say of addresses.
 
+use crate::texts::are_displayed;
 use dfuse_memory::{Access, Map, MapFault};
 use std::process::Abort;
 use std::test::Fail;
 
-/// The memory of an F4, with the option bytes of others behind it.
+/// The memory of an F4, with the option bytes of others after it.
 static F4: &'static str =
     "@Internal Flash  /0x08000000/04*016Kg,01*064Kg,07*128Kg/0x1FFFC000/01*016 e";
 
@@ -87,8 +88,5 @@ static TEXTS: [(MapFault, &'static str); 9] = [
 
 #[test]
 fn faults_say_what_is_wrong(rt: HostRuntime) -> Result<(), Fail> {
-    for (fault, text) in &TEXTS {
-        assert_eq!(rt; format!(in rt.alloc(); "{fault}")?.as_str(), *text);
-    }
-    Ok(())
+    are_displayed(&rt, rt.alloc(), &TEXTS)
 }

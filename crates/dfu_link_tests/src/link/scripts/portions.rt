@@ -6,7 +6,7 @@ use std::alloc::Global;
 use std::process::Abort;
 use std::test::Fail;
 
-/// The text, of which each call of the reader gives at most so many bytes, prints this.
+/// The text prints this if each call of the reader gives at most so many bytes.
 fn prints(rt: &impl Abort, alloc: Global, text: &[u8], most: usize, whole: &[u8]) {
     let mut seen = Vec::new(alloc);
     let end = script(alloc, Portions { rest: text, most }, &mut seen);
@@ -14,7 +14,7 @@ fn prints(rt: &impl Abort, alloc: Global, text: &[u8], most: usize, whole: &[u8]
     assert_eq!(rt; seen.as_slice(), whole, "portions of {most}");
 }
 
-/// However many bytes a call of the reader gives, from 1 to 70,000, the same is printed.
+/// A call of the reader gives from 1 to 70,000 bytes, and the same is printed each time.
 #[test]
 fn portions_of_any_length(rt: HostRuntime) -> Result<(), Fail> {
     let text = text_of(rt.alloc(), "show / offer W / go pass 13")?;
@@ -29,7 +29,7 @@ static MOSTS: [usize; 10] = [
     1, 2, 3, 4_095, 32_767, 65_535, 65_536, 65_537, 65_538, 70_000,
 ];
 
-/// Three lines `show`, each behind a line of the greatest length.
+/// Three lines `show`, each after a line of the greatest length.
 fn long_text(alloc: Global) -> Result<Vec<u8>, Fail> {
     let mut text = Vec::new(alloc);
     for _ in 0..3 {
@@ -39,8 +39,8 @@ fn long_text(alloc: Global) -> Result<Vec<u8>, Fail> {
     Ok(text)
 }
 
-/// A text with lines of the greatest length comes in portions that end before, at and behind a line's
-/// end and a piece's.
+/// A text with lines of the greatest length comes in portions that end before, at and after the end of
+/// a line and of a piece.
 #[test]
 fn portions_of_a_long_text(rt: HostRuntime) -> Result<(), Fail> {
     let text = long_text(rt.alloc())?;

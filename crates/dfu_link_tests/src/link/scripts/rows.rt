@@ -38,7 +38,7 @@ impl Read for Portions<'_> {
     }
 }
 
-/// A writer of bytes that another one writes to as well, so that a text and its trace stand in their order.
+/// A writer that shares its bytes with another one, so that a text and its trace are in their order.
 #[derive(Drop)]
 struct Both<'b>(&'b RefCell<Vec<u8>>);
 
@@ -59,7 +59,7 @@ impl Write for Both<'_> {
 /// How a script ended, whether each line of its trace is out, and the text with the trace.
 pub type Told = (Result<(), ScriptFault>, bool, Vec<u8>);
 
-/// What a row ends with and prints with its trace.
+/// How a row ends, and what it prints with its trace.
 pub fn told(alloc: Global, row: &str) -> Result<Told, AllocError> {
     let text = text_of(alloc, row)?;
     let bytes = RefCell::new(Vec::new(alloc));

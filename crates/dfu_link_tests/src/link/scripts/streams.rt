@@ -1,4 +1,4 @@
-//! Readers and writers that cut what they give and take, or fail.
+//! Readers and writers that give or take few bytes at a time, or fail.
 
 use super::rows::text_of;
 use dfu_link::{ScriptFault, script};
@@ -82,8 +82,8 @@ impl Write for Fixed {
     }
 }
 
-/// Where memory is ample the whole text is out. Where an allocation is refused, it is NoMemory, with
-/// nothing out or with the first line.
+/// With enough memory the whole text is written. If an allocation is refused, the answer is NoMemory,
+/// with nothing written or with the first line.
 fn ends_or_finds_no_memory(rt: &impl Abort, alloc: Global, text: &[u8], whole: &[u8]) {
     let mut fixed = Fixed {
         bytes: [0; 128],
@@ -100,7 +100,7 @@ fn ends_or_finds_no_memory(rt: &impl Abort, alloc: Global, text: &[u8], whole: &
     }
 }
 
-/// Of the text, the image or the medium nothing is out, of an offered file the lines before.
+/// Without memory for the text, the image or the medium nothing is written; for an offered file, the lines before it.
 #[test]
 fn refused_allocation_in_a_script(rt: HostRuntime) {
     let text = b"show\noffer ffffffffffffffffffff00015546441071c8510c\ngo pass 13\n";
@@ -108,14 +108,14 @@ fn refused_allocation_in_a_script(rt: HostRuntime) {
     ends_or_finds_no_memory(&rt, rt.alloc(), text, whole);
 }
 
-/// Where a tear finds no memory, the script falls at its line, also where no session is live.
+/// If a tear finds no memory, the script stops at its line, also if no session is live.
 #[test]
 fn refused_allocation_of_a_tear(rt: HostRuntime) {
     let whole = b"state appIDLE status OK image 00\nrefused NoHost\nimage 00\n";
     ends_or_finds_no_memory(&rt, rt.alloc(), b"show\ngo cut 0 a5\n", whole);
 }
 
-/// Where a part of an upload finds no memory, the session ends, and the script goes on.
+/// If a part of an upload finds no memory, the session ends, and the script goes on.
 #[test]
 fn refused_allocation_in_an_upload(rt: HostRuntime) {
     let mut fixed = Fixed {
@@ -137,7 +137,7 @@ fn refused_allocation_in_an_upload(rt: HostRuntime) {
     }
 }
 
-/// A script of this reader ends like this, and this is out.
+/// A script from this reader ends like this, and prints this.
 fn ends_after(
     rt: &impl Abort,
     alloc: Global,
@@ -152,7 +152,7 @@ fn ends_after(
 
 const SHOWN: &str = "state appIDLE status OK image 00\n";
 
-/// What a reader gives, and whether it fails then: the end of its script, what is out, and how often it was called.
+/// What a reader gives, and whether it fails then; how its script ends, what it prints, and how often the reader is called.
 type Limit = (
     &'static [u8],
     usize,
@@ -175,7 +175,7 @@ static LIMITS: [Limit; 9] = [
     (b"?\n", 16_777_216, true, Err(ScriptFault::BadLine(1)), "", 1),
 ];
 
-/// No read is made after the reader's end, after its error, or after the byte past the limit; and the lines before
+/// No read is made after the reader's end, after its error, or after the byte past the limit. The lines before that
 /// have run.
 #[test]
 fn texts_have_a_limit(rt: HostRuntime) {
@@ -191,7 +191,7 @@ fn texts_have_a_limit(rt: HostRuntime) {
     }
 }
 
-/// A writer that takes as many bytes as this front of the text has takes these.
+/// A writer that takes only as many bytes as this front has takes this front.
 fn fails_at(rt: &impl Abort, alloc: Global, text: &[u8], front: &[u8]) {
     let mut narrow = Narrow {
         taken: Vec::new(alloc),
@@ -202,7 +202,7 @@ fn fails_at(rt: &impl Abort, alloc: Global, text: &[u8], front: &[u8]) {
     assert_eq!(rt; narrow.taken.as_slice(), front);
 }
 
-/// Wherever the writer fails, a front of the text is out.
+/// The writer fails at each byte in turn, and a front of the text is written.
 #[test]
 fn writers_fail_anywhere(rt: HostRuntime) -> Result<(), Fail> {
     let text = text_of(

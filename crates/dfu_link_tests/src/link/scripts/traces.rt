@@ -1,4 +1,4 @@
-//! Scripts with a line for each action, worked out by hand; `tests/scripts` has more, over the program.
+//! Scripts with a line for each action, worked out by hand; `tests/scripts` runs the program on more.
 
 use super::rows::{text_of, told};
 use dfu_link::{ScriptFault, script, script_traced};
@@ -15,8 +15,8 @@ fn traced(rt: &impl Abort, alloc: Global, row: &str, wanted: &str) -> Result<(),
     Ok(())
 }
 
-/// A clean download: docs/PROFILE.md has its actions. The medium has two slots of 16 + 16 + 64 bytes, the second of
-/// which is the spare one: its gate is at 96, its header at 112, and its data begin at 128.
+/// A clean download: docs/PROFILE.md has its actions. The medium has two slots of 16 + 16 + 64 bytes. The second one
+/// is the spare slot: its gate is at 96, its header at 112, and its data begin at 128.
 const CLEAN: &str = "\
 # 1 Find; GETSTATUS 0 6; pass; OK 0 appIDLE; appIDLE; appIDLE; -; 0 ms
 # 2 Detach; DETACH 255 0; pass; ack; appIDLE; appDETACH; -; 0 ms
@@ -64,7 +64,7 @@ fn harms_are_told(rt: HostRuntime) -> Result<(), Fail> {
     )
 }
 
-/// A writer that fails at a byte, and counts what it was asked for after that.
+/// A writer that fails at a byte, and counts the writes after that.
 #[derive(Drop)]
 struct Failing {
     room: usize,
@@ -87,7 +87,7 @@ impl Write for Failing {
     }
 }
 
-/// Where the trace can't be written the text is the same, no further line is tried, and the answer says so.
+/// If the trace can't be written, the text is the same, no further line is tried, and the answer says so.
 #[test]
 fn a_trace_that_fails_leaves_the_text(rt: HostRuntime) -> Result<(), Fail> {
     let text = text_of(rt.alloc(), "offer W/go pass 13")?;
@@ -109,7 +109,7 @@ fn a_trace_that_fails_leaves_the_text(rt: HostRuntime) -> Result<(), Fail> {
     Ok(())
 }
 
-/// Where the text can't be written the script stops, whatever its trace is.
+/// If the text can't be written, the script stops, with any trace.
 #[test]
 fn a_text_that_fails_stops_the_script(rt: HostRuntime) -> Result<(), Fail> {
     let text = text_of(rt.alloc(), "offer W/go pass 13")?;

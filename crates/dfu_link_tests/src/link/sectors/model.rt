@@ -17,15 +17,15 @@ const N: [u8; 25] = [
     0x01, 0x55, 0x46, 0x44, 0x10, 0x62, 0x1c, 0x70, 0xfe,
 ];
 
-/// What a write leaves where it works: a sector FFh, or a unit with these bytes at its front and zeros behind them.
+/// What a write leaves if it works: an erased sector, or a unit with these bytes at its front and zeros after them.
 #[derive(Clone, Copy)]
 pub(crate) enum Step {
     Erase(usize),
     Write(usize, &'static [u8]),
 }
 
-/// A download: its file, the image before and its own, where its gate is, what its block writes, and what puts it in
-/// place.
+/// A download: its file, the image before it and its own, the place of its gate, what its block writes, and the steps
+/// of its commit.
 #[derive(Clone, Copy)]
 pub(crate) struct Download {
     pub(crate) file: &'static [u8],
@@ -56,7 +56,7 @@ pub(crate) static FIRST: Download = Download {
     ],
 };
 
-/// The second one goes over the factory image, whose gate is open.
+/// The second download replaces the factory image, whose gate is open.
 #[rattlefmt::skip]
 pub(crate) static SECOND: Download = Download {
     file: &N,
@@ -105,7 +105,7 @@ pub(crate) fn do_steps(model: &mut [u8], steps: &[Step]) {
     }
 }
 
-/// A step of which the front of this tear comes.
+/// A step that writes only the front of this tear.
 fn tear_step(model: &mut [u8], step: Step, tear: &[u8]) {
     let (at, len) = range_of(step);
     for number in 0..len {
@@ -146,7 +146,7 @@ pub(crate) fn fate_of(kind: Kind, writes: u32, tear: &[u8]) -> Fate<'_> {
     }
 }
 
-/// The first so many steps work, and the next one is harmed, if there is one: the code of the error, if one is found.
+/// So many steps work, and the next one, if there is one, is harmed. Returns the code of the error, if one is found.
 pub(crate) fn harm(
     model: &mut [u8],
     steps: &[Step],
@@ -170,7 +170,7 @@ pub(crate) fn harm(
     None
 }
 
-/// The tear with this number: none, an open gate, an erased byte, or what stood there.
+/// The tear with this number: none, an open gate, an erased byte, or the bytes that were there.
 pub(crate) fn tear_of<'b>(number: u32, model: &'b [u8], steps: &[Step], writes: usize) -> &'b [u8] {
     match (number, steps.get(writes)) {
         (0, _) => &[],
@@ -194,8 +194,8 @@ pub(crate) fn after_steps(model: &Vec<u8>, steps: &[Step], writes: usize) -> Res
     Ok(after)
 }
 
-/// The image of a device whose commit was harmed after so many steps: the new one where the gate is open behind a
-/// header and data that are its own.
+/// The image of a device whose commit was harmed after so many steps: the new one if its gate is open and its header
+/// and data were written before.
 pub(crate) fn image_of(
     download: &Download,
     model: &[u8],
