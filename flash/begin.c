@@ -1,5 +1,6 @@
 /* SPDX-License-Identifier: MIT OR Apache-2.0 */
 /* How a session begins: with the device's functional descriptor, and with limits. */
+#include "facts.h"
 #include "properties.h"
 #include "session.h"
 #include "standard.h"
@@ -100,7 +101,7 @@ int32_t session_begin(struct session *session)
     int32_t refusal;
     session->goal = goal_of(session);
     session->odd = 0;
-    session_meets(session);
+    facts_note(session);
     /* A device of DfuSe would take the blocks for commands. */
     if (is_dfuse(is))
         return dfuse_begin_session(session);
@@ -111,7 +112,6 @@ int32_t session_begin(struct session *session)
     memcpy(session->known, is->descriptor, sizeof session->known);
     memcpy(descriptor, is->descriptor, sizeof descriptor);
     session->known_size = is->descriptor_size;
-    session->has_sent = false;
     cut(descriptor, is->descriptor_size, session->transfer);
     refusal = begin(session, descriptor, session->known_size);
     return refusal == 0 ? 0 : begin_by_another(session, refusal);

@@ -7,6 +7,7 @@
 #include "say.h"
 
 #include <dfuse_file.h>
+#include <dfuse_watch.h>
 #include <stdbool.h>
 #include <stdint.h>
 
@@ -29,7 +30,7 @@ struct dfuse {
     uint64_t elements;                          /* so many; their addresses ascend */
     struct dfuse_plan plan;
     struct dfuse_session host; /* the host's record */
-    uint32_t short_waits;      /* waits of 0 ms for one command */
+    struct dfuse_watch watch;  /* when the device is given up */
     uint8_t string;            /* iString of the last GETSTATUS that said dfuERROR, or 0 */
     uint32_t protections;      /* how often it said errVENDOR while it was read */
     struct dfuse_action done;  /* the report */
@@ -57,8 +58,15 @@ void dfuse_run(struct session *session);
 /* Reads the memory from the address on, up to an end. */
 void dfuse_read(struct session *session);
 
-/* Sends a request with a body, once the device is back if it was away. */
-struct answer dfuse_send(struct session *session, const uint8_t setup[8], const uint8_t *body, uint16_t length);
+/* Sends a request with a body, once the device is back if it was away. Whether it went out is known after it. */
+struct answer dfuse_send(struct session *session, const struct dfuse_action *action, const uint8_t *body, bool *is_reached);
+
+/* How the session goes on after an action, by dfuse_watch.h. */
+uint32_t dfuse_course(struct session *session, const struct dfuse_action *action, const uint8_t *body, const struct answer *answer,
+                      bool is_reached);
+
+/* How it ends if it doesn't go on; false. */
+bool dfuse_end(struct session *session, uint32_t course);
 
 /* Waits as the device asks for: if it says 0 again and again, a little longer. */
 struct answer dfuse_wait(struct session *session, uint32_t ms);

@@ -9,7 +9,6 @@
 #include <stdlib.h>
 #include <string.h>
 
-#define MOST_SILENT 24
 #define EARLY_MS 100  /* for a status that was asked for too early */
 #define FIRST_BLOCK 2 /* of those that have the memory at the pointer */
 #define LAST_BLOCK 65535
@@ -49,18 +48,24 @@ static enum next spend(struct session *session)
 static enum next ask(struct session *session, uint8_t kind, uint8_t request, uint16_t value, const uint8_t *body, uint16_t length,
                      struct answer *answer)
 {
-    const uint8_t setup[8] = {kind, request, (uint8_t)value, (uint8_t)(value >> 8), 0, 0, (uint8_t)length, (uint8_t)(length >> 8)};
-    struct device *device = session->wire.device;
+    const struct dfuse_action action = {
+        .what = DFU_SEND,
+        .length = kind == KIND_OUT ? length : 0,
+        .setup = {kind, request, (uint8_t)value, (uint8_t)(value >> 8), 0, 0, (uint8_t)length, (uint8_t)(length >> 8)},
+    };
     enum next next = spend(session);
+    bool is_reached;
+    uint32_t course;
     if (next != NEXT_ON)
         return next;
-    *answer = dfuse_send(session, setup, body, (uint16_t)(kind == KIND_OUT ? length : 0));
-    if (answer->is_gone)
-        return over(session, device->is_many ? END_MANY : END_GONE);
-    if (device->handle != NULL && !dfuse_is_same(session))
-        return over(session, END_OTHER);
-    if (session->silent >= MOST_SILENT)
-        return over(session, END_SILENT);
+    *answer = dfuse_send(session, &action, body, &is_reached);
+    course = dfuse_course(session, &action, body, answer, is_reached);
+    if (course == DFU_GOES_TO_STOP) /* it is gone */
+        return over(session, session->wire.device->is_many ? END_MANY : END_GONE);
+    if (course != DFU_GOES_ON) {
+        dfuse_end(session, course);
+        return NEXT_OVER;
+    }
     if (answer->seen != DFU_SEEN_RESTART)
         return NEXT_ON;
     session->restarted++;

@@ -6,11 +6,6 @@
 
 #include <string.h>
 
-#define MOST_SILENT 24  /* transfers in a row without any answer, and the device is given up; */
-#define CLOSED_SILENT 3 /* so many once it was asked to leave, and it is taken as gone */
-#define SHORT_WAITS 3   /* waits of 0 ms for one command, and it is asked less often: */
-#define SHORT_WAIT_MS 5
-#define ERASE_COMMAND 0x41
 #define STATE_ERROR 10
 #define STRING_AT 5 /* iString of a status */
 #define STATE_AT 4
@@ -35,62 +30,53 @@ static void note_string(struct session *session, const uint8_t setup[8], const s
         session->dfuse.string = answer->bytes[STATE_AT] == STATE_ERROR ? answer->bytes[STRING_AT] : 0;
 }
 
-struct answer dfuse_send(struct session *session, const uint8_t setup[8], const uint8_t *body, uint16_t length)
+struct answer dfuse_send(struct session *session, const struct dfuse_action *given, const uint8_t *body, bool *is_reached)
 {
     struct device *device = session->wire.device;
-    struct dfu_action action = {.what = DFU_SEND, .length = length};
+    struct dfu_action action = {.what = DFU_SEND, .length = given->length};
     struct answer answer = {DFU_SEEN_NOTHING, session->wire.bytes, 0, false, 0};
-    memcpy(action.setup, setup, sizeof action.setup);
+    memcpy(action.setup, given->setup, sizeof action.setup);
     if (device->handle == NULL)
         answer.is_gone = !device_reopen(device);
-    if (answer.is_gone || !dfuse_is_same(session))
+    *is_reached = !answer.is_gone && dfuse_is_same(session);
+    if (!*is_reached)
         return answer;
     answer = answer_send(&session->wire, &action, body);
-    note_string(session, setup, &answer);
-    if (!is_request(setup, KIND_IN, REQUEST_GETSTATUS))
-        session->dfuse.short_waits = 0;
-    session->silent = answer.seen == DFU_SEEN_NOTHING ? session->silent + 1 : 0;
+    note_string(session, action.setup, &answer);
     return answer;
 }
 
 struct answer dfuse_wait(struct session *session, uint32_t ms)
 {
-    struct dfuse *dfuse = &session->dfuse;
-    dfuse->short_waits = ms == 0 ? dfuse->short_waits + 1 : 0;
     progress_wait(&session->progress, ms);
-    return answer_wait(&session->wire, dfuse->short_waits > SHORT_WAITS ? SHORT_WAIT_MS : ms);
+    return answer_wait(&session->wire, dfuse_watch_wait(&session->dfuse.watch, ms));
 }
 
-/* Whether the device was asked to leave: then it may be gone. */
-static bool is_closing(const struct dfuse *dfuse)
+uint32_t dfuse_course(struct session *session, const struct dfuse_action *action, const uint8_t *body, const struct answer *answer,
+                      bool is_reached)
 {
-    static const uint32_t first_step = 12; /* the DNLOAD of no bytes, and what comes after it */
-    return dfuse->host.work == DFUSE_LEAVE && dfuse->host.step >= first_step;
-}
-
-static bool changes(const struct dfuse_action *action, const uint8_t *body)
-{
-    bool is_download = is_request(action->setup, KIND_OUT, REQUEST_DNLOAD) && action->length > 0;
-    return is_download && (setup_value(action->setup) != 0 || body[0] == ERASE_COMMAND);
-}
-
-/* A device that is to leave may be gone with any request. It was restarted then, in the host's words, and need not come back. */
-static struct answer perform(struct session *session, const struct dfuse_action *action, const uint8_t *body)
-{
+    const struct device *device = session->wire.device;
     struct dfuse *dfuse = &session->dfuse;
+    struct dfu_facts facts = {
+        .reached = is_reached,
+        .gone = answer->is_gone,
+        .many = device->is_many,
+        .stopped = *device->is_stop != 0,
+        .open = device->handle != NULL,
+        .again = dfuse_is_same(session),
+    };
+    return dfuse_watch_after(&dfuse->watch, &dfuse->host, action, action->length > 0 ? body[0] : 0, answer->seen, &facts);
+}
+
+/* A device that is to leave may be gone with any request. */
+static struct answer perform(struct session *session, const struct dfuse_action *action, const uint8_t *body, bool *is_reached)
+{
     struct answer answer;
-    bool is_other;
     if (action->what == DFU_WAIT)
         return dfuse_wait(session, action->value);
-    session->has_sent = session->has_sent || changes(action, body);
-    session->wire.is_manifesting = is_closing(dfuse);
-    answer = dfuse_send(session, action->setup, body, (uint16_t)action->length);
+    session->wire.is_manifesting = dfuse_watch_closes(&session->dfuse.host);
+    answer = dfuse_send(session, action, body, is_reached);
     session->wire.is_manifesting = false;
-    is_other = session->wire.device->handle != NULL && !dfuse_is_same(session);
-    if (is_closing(dfuse) && (is_other || answer.is_gone || answer.seen == DFU_SEEN_LEFT || session->silent >= CLOSED_SILENT)) {
-        answer.seen = DFU_SEEN_RESTART;
-        answer.is_gone = false;
-    }
     return answer;
 }
 
@@ -123,39 +109,47 @@ static bool tell(struct session *session, const struct answer *answer)
     return true;
 }
 
+bool dfuse_end(struct session *session, uint32_t course)
+{
+    static const enum end ends[] = {
+        [DFU_ENDS_GONE] = END_GONE,
+        [DFU_ENDS_MANY] = END_MANY,
+        [DFU_ENDS_SILENT] = END_SILENT,
+        [DFU_ENDS_OTHER] = END_OTHER,
+    };
+    return end(session, ends[course]);
+}
+
 /* One action. */
 static bool step(struct session *session, const struct dfuse_action *action, const uint8_t *body)
 {
-    struct device *device = session->wire.device;
-    bool was_closing = is_closing(&session->dfuse);
-    struct answer answer = perform(session, action, body);
-    if (*device->is_stop && answer.is_gone)
+    bool is_reached = false;
+    struct answer answer = perform(session, action, body, &is_reached);
+    uint32_t course = dfuse_course(session, action, body, &answer, is_reached);
+    if (course == DFU_GOES_TO_STOP)
         return true;
-    if (answer.is_gone)
-        return end(session, device->is_many ? END_MANY : END_GONE);
-    if (!was_closing && session->silent >= MOST_SILENT)
-        return end(session, END_SILENT);
-    if (!was_closing && device->handle != NULL && !dfuse_is_same(session))
-        return end(session, END_OTHER);
-    return tell(session, &answer);
+    if (course == DFU_GOES_RESTARTED)
+        answer.seen = DFU_SEEN_RESTART;
+    return course == DFU_GOES_ON || course == DFU_GOES_RESTARTED ? tell(session, &answer) : dfuse_end(session, course);
 }
 
 /* A stop ends it: what was brought and not started is dropped. Once all was read back that is what is reported. */
 static void stop(struct session *session)
 {
-    static const uint8_t abort_setup[8] = {KIND_OUT, 6, 0, 0, 0, 0, 0, 0};
+    static const struct dfuse_action abort_it = {.what = DFU_SEND, .setup = {KIND_OUT, 6}};
     static const uint8_t nothing[1];
     struct dfuse *dfuse = &session->dfuse;
+    bool is_reached;
     if (dfuse->host.work == DFUSE_LEAVE) {
         dfuse->done = (struct dfuse_action){.what = DFU_DONE, .value = DFUSE_VERIFIED, .more = DFUSE_STAYED};
-        dfuse->done.more = is_closing(dfuse) ? DFUSE_UNKNOWN : DFUSE_STAYED;
+        dfuse->done.more = dfuse_watch_closes(&dfuse->host) ? DFUSE_UNKNOWN : DFUSE_STAYED;
         end(session, END_REPORT);
         return;
     }
     session->is_aborted = true;
     trace_abort(&session->wire.trace);
     if (session->wire.device->handle != NULL)
-        dfuse_send(session, abort_setup, nothing, 0);
+        dfuse_send(session, &abort_it, nothing, &is_reached);
     end(session, *session->wire.device->is_stop == STOP_TIME ? END_TIMED_OUT : END_ABORTED);
 }
 

@@ -1,15 +1,15 @@
 /* SPDX-License-Identifier: MIT OR Apache-2.0 */
 /* The loop: what the host asks for is carried out, and what came of that is reported to it. Nothing else is sent, but for the DETACH of
    stalls.c. */
+#include "facts.h"
 #include "session.h"
+#include "stalls.h"
 #include "standard.h"
 #include "stop.h"
 
 #include <stdlib.h>
 #include <string.h>
 
-/* So many transfers in a row without any answer, 5 seconds each if a device is there and dead, and it is given up. */
-#define MOST_SILENT 24
 #define SETTLE_MS 2000 /* for a device that left with the last reset, so that who calls this program again finds it */
 
 static void grow(struct session *session)
@@ -51,63 +51,41 @@ static void show(struct session *session, const struct dfu_action *action, const
 static bool is_ready(struct session *session, bool *is_gone)
 {
     struct device *device = session->wire.device;
+    struct dfu_facts facts;
     if (device->handle != NULL)
         return true;
     /* An aborted session asks a device that is away no more. */
     if (session->is_aborted)
         return false;
     *is_gone = !device_reopen(device);
-    return !*is_gone && session_meets(session);
+    facts = facts_of(session, false, *is_gone);
+    return !*is_gone && !dfu_watch_is_other(&session->watch, &facts);
 }
 
-static struct answer send_request(struct session *session, const struct dfu_action *action)
+static struct answer send_request(struct session *session, const struct dfu_action *action, bool *is_reached)
 {
     struct answer answer = {DFU_SEEN_NOTHING, session->wire.bytes, 0, false, 0};
-    if (!is_ready(session, &answer.is_gone))
+    *is_reached = is_ready(session, &answer.is_gone);
+    if (!*is_reached)
         return answer;
-    session->has_sent = session->has_sent || is_download(action);
     answer = answer_send(&session->wire, action, session->file + action->from);
     if (is_download(action))
         session->is_whole = action->length == 0 && answer.seen == DFU_SEEN_ACK;
     if (is_upload(action))
         session->is_fetched = answer.seen == DFU_SEEN_BYTES && answer.count < setup_length(action->setup);
-    stalls_note(&session->stalls, &session->wire.device->is, answer.seen);
     show(session, action, &answer);
     return answer;
 }
 
-static struct answer perform(struct session *session, const struct dfu_action *action)
+static struct answer perform(struct session *session, const struct dfu_action *action, bool *is_reached)
 {
-    struct answer answer;
     if (action->what == DFU_WAIT) {
         progress_wait(&session->progress, action->value);
         return answer_wait(&session->wire, action->value);
     }
-    answer = action->what == DFU_RESET ? stalls_reset(&session->stalls, &session->wire) : send_request(session, action);
-    session->silent = answer.seen == DFU_SEEN_NOTHING ? session->silent + 1 : 0;
-    return answer;
-}
-
-/* Once a block was sent, a device in run-time mode may be that of another image, and says what it likes. */
-bool session_meets(struct session *session)
-{
-    const struct found *is = &session->wire.device->is;
-    int mode = is->is_upgrade;
-    if (session->has_sent && !is->is_upgrade)
-        return true;
-    if (!session->has_first[mode])
-        session->first[mode] = *is;
-    session->has_first[mode] = true;
-    return is_again(&session->first[mode], is);
-}
-
-/* Whether the device that is open is the one that the session was begun with; one in run-time mode may say what it likes. */
-static bool is_as_begun(const struct session *session)
-{
-    const struct found *is = &session->wire.device->is;
-    if (session->wire.device->handle == NULL || !is->is_upgrade)
-        return true;
-    return is->descriptor_size == session->known_size && memcmp(is->descriptor, session->known, sizeof is->descriptor) == 0;
+    if (action->what == DFU_RESET)
+        return stalls_reset(&session->watch, &session->wire);
+    return send_request(session, action, is_reached);
 }
 
 static bool end(struct session *session, enum end end)
@@ -146,48 +124,47 @@ static void trace_session(const struct session *session)
 }
 
 /* In DFU mode a device may have another functional descriptor than in run-time mode: then the session that brought it there, which
-   has sent no block, is dropped, and another one begins, once. */
+   has sent no block, is dropped, and another one begins. */
 static bool begin_anew(struct session *session)
 {
-    if (session->has_sent || session->has_begun_anew)
-        return end(session, END_OTHER);
-    session->has_begun_anew = true;
     session->refusal = session_begin(session);
     trace_session(session);
     return session->refusal == 0 || end(session, END_REFUSED);
 }
 
-/* How the session ends in place of what the host asks for; END_REPORT if that is done. By a descriptor that is used in place of the
-   device's nothing of an image is sent or fetched. */
-static enum end barred(const struct session *session, const struct dfu_action *action)
+/* Whether the session goes on, as dfu_watch.h says. */
+static bool follow(struct session *session, uint32_t course, const struct answer *answer)
 {
-    if (session->odd != 0 && (is_download(action) || is_upload(action)))
-        return END_REFUSED;
-    return action->what == DFU_RESET && stalls_is_stuck(&session->stalls) ? END_STALLED : END_REPORT;
+    static const enum end ends[] = {
+        [DFU_ENDS_GONE] = END_GONE,   [DFU_ENDS_MANY] = END_MANY,       [DFU_ENDS_SILENT] = END_SILENT,
+        [DFU_ENDS_OTHER] = END_OTHER, [DFU_ENDS_STALLED] = END_STALLED, [DFU_ENDS_REFUSED] = END_REFUSED,
+    };
+    if (course == DFU_GOES_ON)
+        return tell(session, answer);
+    return course == DFU_BEGINS_ANEW ? begin_anew(session) : end(session, ends[course]);
 }
 
 /* One action. */
 static bool step(struct session *session, const struct dfu_action *action)
 {
-    struct device *device = session->wire.device;
-    enum end early = barred(session, action);
+    uint32_t course = dfu_watch_before(&session->watch, action, session->odd != 0);
+    bool is_reached = false;
+    struct dfu_facts facts;
     struct answer answer;
-    if (early != END_REPORT) {
+    if (course != DFU_GOES_ON) {
         session->refusal = session->odd;
-        return end(session, early);
+        return follow(session, course, NULL);
     }
-    answer = perform(session, action);
+    answer = perform(session, action, &is_reached);
     if (session->wire.is_unreset)
         return end(session, END_UNRESET);
-    if (answer.is_gone && !*device->is_stop)
-        return end(session, device->is_many ? END_MANY : END_GONE);
+    facts = facts_of(session, is_reached, answer.is_gone);
+    course = dfu_watch_after(&session->watch, action, answer.seen, &facts);
+    if (facts.open)
+        facts_note(session);
     if (answer.is_gone)
         answer.seen = DFU_SEEN_NOTHING;
-    if (session->silent >= MOST_SILENT)
-        return end(session, END_SILENT);
-    if (device->handle != NULL && !session_meets(session))
-        return end(session, END_OTHER);
-    return is_as_begun(session) ? tell(session, &answer) : begin_anew(session);
+    return follow(session, course, &answer);
 }
 
 /* The first signal: the host has the device leave what it is in. */

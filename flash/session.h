@@ -6,9 +6,9 @@
 #include "answer.h"
 #include "dfuse.h"
 #include "progress.h"
-#include "stalls.h"
 
 #include <dfu_host.h>
+#include <dfu_watch.h>
 #include <stdbool.h>
 #include <stdint.h>
 
@@ -50,11 +50,10 @@ struct session {
     size_t known_size;
     int32_t odd;        /* why the host refuses the functional descriptor of the run-time mode, or 0; */
     uint8_t another[9]; /* then another one in its place */
-    bool has_sent, has_begun_anew, is_aborted;
-    bool is_whole;   /* the device acknowledged the image's last block and its end, and no block was sent since */
-    bool is_fetched; /* the last part of an upload came, and none was asked for since */
-    uint32_t silent; /* transfers in a row of which nothing was heard */
-    struct stalls stalls;
+    bool is_aborted;
+    bool is_whole;          /* the device acknowledged the image's last block and its end, and no block was sent since */
+    bool is_fetched;        /* the last part of an upload came, and none was asked for since */
+    struct dfu_watch watch; /* when the device is given up; not with DfuSe */
     struct wire wire;
     struct progress progress;
     struct dfuse dfuse;        /* of a device that speaks DfuSe */
@@ -80,9 +79,6 @@ const char *goal_name(enum goal goal);
 
 /* Begins the session of the device that was found. 0, or a refusal: the host's, or one of these. Nothing is sent. */
 int32_t session_begin(struct session *session);
-
-/* Whether what the device is now is what it was when it was found first in that mode. */
-bool session_meets(struct session *session);
 
 /* Carries out what the host asks for, up to its report or to another end. */
 void session_run(struct session *session);

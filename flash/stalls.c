@@ -1,29 +1,15 @@
 /* SPDX-License-Identifier: MIT OR Apache-2.0 */
 /* A device in run-time mode may stall GETSTATUS: in appIDLE the standard has it answered (USB DFU 1.1, appendix A.2.1), and many
    leave it out. If it is stalled twice the host has the bus reset, and asks again. So before the first of these resets the program
-   sends a DETACH of its own, which makes it the reset that leads to DFU mode; and it makes three of them at most, since what is
-   reset is a running application. */
+   sends a DETACH of its own, which makes it the reset that leads to DFU mode. When, and after how many resets the device is given
+   up, dfu_watch.h says. */
 #include "stalls.h"
 #include "detach.h"
 
-#define MOST_RESETS 3
-
-void stalls_note(struct stalls *stalls, const struct found *is, uint32_t seen)
-{
-    stalls->is_last = seen == DFU_SEEN_STALL && !is->is_upgrade;
-    if (is->is_upgrade || seen == DFU_SEEN_ACK || seen == DFU_SEEN_BYTES)
-        stalls->resets = 0;
-}
-
-bool stalls_is_stuck(const struct stalls *stalls)
-{
-    return stalls->is_last && stalls->resets >= MOST_RESETS;
-}
-
 /* If the device left after that DETACH it is reset already. */
-struct answer stalls_reset(struct stalls *stalls, struct wire *wire)
+struct answer stalls_reset(const struct dfu_watch *watch, struct wire *wire)
 {
-    bool is_first = stalls->is_last && stalls->resets == 0 && wire->device->is.says_runtime;
+    bool is_first = dfu_watch_detaches(watch) && wire->device->is.says_runtime;
     struct answer answer = {0};
     if (is_first)
         answer = detach_send(wire);
@@ -33,8 +19,6 @@ struct answer stalls_reset(struct stalls *stalls, struct wire *wire)
     }
     is_first = is_first && answer.seen == DFU_SEEN_ACK;
     answer = answer_reset(wire);
-    if (stalls->is_last && answer.seen == DFU_SEEN_RESET)
-        stalls->resets++;
     if (is_first && detach_await(wire) && wire->is_unreset) {
         wire->is_unreset = false; /* it left by itself, and late */
         answer.seen = DFU_SEEN_RESTART;

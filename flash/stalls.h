@@ -5,21 +5,9 @@
 
 #include "answer.h"
 
-#include <stdbool.h>
-#include <stdint.h>
-
-struct stalls {
-    bool is_last;    /* what was sent last, in run-time mode, was stalled; */
-    unsigned resets; /* and so many resets in a row came after nothing but that */
-};
-
-/* What came of a request. */
-void stalls_note(struct stalls *stalls, const struct found *is, uint32_t seen);
-
-/* Whether one more reset would be one too many. */
-bool stalls_is_stuck(const struct stalls *stalls);
+#include <dfu_watch.h>
 
 /* Resets the bus, as the host asks for it. */
-struct answer stalls_reset(struct stalls *stalls, struct wire *wire);
+struct answer stalls_reset(const struct dfu_watch *watch, struct wire *wire);
 
 #endif

@@ -62,10 +62,11 @@ void verdict_words(struct verdict *verdict, const struct session *session, const
 {
     static const char harm[] = " may have the old image, the new one or neither";
     size_t length = strlen(meaning->words), front = length - (sizeof harm - 1);
+    bool has_sent = (session->dfuse.is ? session->dfuse.watch.sent : session->watch.sent) != 0;
     const char *part;
     verdict->status = meaning->status;
     snprintf(verdict->words, sizeof verdict->words, "%s", meaning->words);
-    if (session->has_sent || length < sizeof harm || strcmp(meaning->words + front, harm) != 0)
+    if (has_sent || length < sizeof harm || strcmp(meaning->words + front, harm) != 0)
         return;
     part = strrchr(meaning->words, ';');
     snprintf(verdict->words, sizeof verdict->words, "%.*s; no block was sent", (int)(part - meaning->words), meaning->words);

@@ -3,25 +3,16 @@
 // and written, what counts as read back, and when the device is asked to leave. As flash/dfuse_begin.c and flash/dfuse_session.c.
 import { deviceRefusal, imageOf, limitsOf, planOf, totalOf, wordsRefusal } from './dfuse_begin.js'
 import { LEAVING, OUTCOME, WORK } from './dfuse_host.js'
+import { COURSES, DfuseWatch } from './dfuse_watch.js'
 import { nameAt } from './descriptors.js'
 import { SEEN, WHAT } from './host.js'
-import { KIND, REQUEST, REQUESTS, STATES, isDownload, isStatus, partsOf, stateOf, transferOf } from './names.js'
+import { KIND, REQUEST, REQUESTS, STATES, isStatus, stateOf, transferOf } from './names.js'
 import { isAgain, nothing, sameBytes } from './session.js'
+import { COURSE, endOf } from './watch.js'
 
-const MOST_SILENT = 24  // transfers in a row without any answer, and the device is given up;
-const CLOSED_SILENT = 3 // so many once it was asked to leave, and it is taken as gone
-const SHORT_WAITS = 3   // waits of 0 ms for one command, and it is asked less often
-const SHORT_WAIT_MS = 5
-const CLOSED_STEP = 12  // of leaving: the DNLOAD of no bytes, and what comes after it
-const ERASE_COMMAND = 0x41
-const STRING_AT = 5     // iString of a status
+const STRING_AT = 5 // iString of a status
 const NONE = new Uint8Array(0)
 const ABORT = new Uint8Array([KIND.OUT, REQUESTS.indexOf('ABORT'), 0, 0, 0, 0, 0, 0])
-
-// Whether the memory may be another one after it.
-function changes({ setup, body }) {
-  return isDownload(setup) && body.length > 0 && (partsOf(setup).value !== 0 || body[0] === ERASE_COMMAND)
-}
 
 export class DfuseSession {
   // file: { bytes, isDfuse, isRaw, said }. words: for which device it has to be, the address of its first byte, or null, whether a person
@@ -29,7 +20,11 @@ export class DfuseSession {
   constructor(host, module, wire, file, { ids, address = null, isChosen = false, leaves = true, limits = null, onStep = () => {} }) {
     Object.assign(this, { host, module, wire, board: wire.board, clock: wire.clock, trace: wire.trace, file })
     Object.assign(this, { ids, address, isChosen, leaves, limits, onStep, goal: 'verified', total: 0, elements: [] })
-    Object.assign(this, { hasSent: false, silent: 0, shortWaits: 0, string: 0, taken: 0, restarted: 0 })
+    Object.assign(this, { watch: new DfuseWatch(host), string: 0, taken: 0, restarted: 0 })
+  }
+
+  get hasSent() {
+    return this.watch.hasSent()
   }
 
   // 0, a refusal of dfuse_host.h, dfuse_file.h or dfu_host.h, or the name of one of dfu-flash's own. Nothing is sent.
@@ -57,12 +52,6 @@ export class DfuseSession {
     return is.isUpgrade && isAgain(this.first, is) && is.name === this.first.name && sameBytes(this.first.descriptor, is.descriptor)
   }
 
-  // Whether the device was asked to leave: then it may be gone with any request.
-  isClosing() {
-    const { work, step } = this.host.state()
-    return work === WORK.LEAVE && step >= CLOSED_STEP
-  }
-
   // Why the device is in dfuERROR it may say in a string of its own.
   noteString(setup, { seen, bytes }) {
     if (!isStatus(setup) || seen !== SEEN.BYTES || bytes.length <= STRING_AT) return
@@ -74,28 +63,24 @@ export class DfuseSession {
     if (this.board.isOpen() && !this.isSame()) return nothing()
     const answer = await this.wire.send(setup, body)
     this.noteString(setup, answer)
-    if (!isStatus(setup)) this.shortWaits = 0
-    this.silent = answer.seen === SEEN.NOTHING ? this.silent + 1 : 0
+    return { ...answer, isReached: true }
+  }
+
+  // A device that is to leave may be gone with any request.
+  async perform(action) {
+    if (action.what === WHAT.WAIT) return this.wire.wait(this.watch.wait(action.value))
+    this.wire.isManifesting = this.watch.closes()
+    const answer = await this.send(action.setup, action.body)
+    this.wire.isManifesting = false
     return answer
   }
 
-  // As the device asks for it; one that says 0 again and again is asked a little later.
-  wait(ms) {
-    this.shortWaits = ms === 0 ? this.shortWaits + 1 : 0
-    return this.wire.wait(this.shortWaits > SHORT_WAITS ? SHORT_WAIT_MS : ms)
-  }
-
-  // A device that was asked to leave and is gone, or is another one, was restarted in the host's words, and need not come back.
-  async perform(action) {
-    if (action.what === WHAT.WAIT) return this.wait(action.value)
-    const isClosing = this.isClosing()
-    this.hasSent ||= changes(action)
-    this.wire.isManifesting = isClosing
-    const answer = await this.send(action.setup, action.body)
-    this.wire.isManifesting = false
-    const isOther = this.board.isOpen() && !this.isSame()
-    const isOver = isOther || answer.isGone || answer.seen === SEEN.LEFT || this.silent >= CLOSED_SILENT
-    return isClosing && isOver ? { ...answer, seen: SEEN.RESTART, bytes: NONE, isGone: false } : answer
+  // How the session goes on after an action, by dfuse_watch.h.
+  course({ body }, { seen, isReached = false, isGone = false }) {
+    const { board, clock } = this
+    const facts = { reached: isReached, gone: isGone, many: board.isMany, stopped: clock.isStopped, open: board.isOpen(),
+      again: this.isSame() }
+    return this.watch.after(body.length > 0 ? body[0] : 0, seen, facts)
   }
 
   tell({ seen, bytes }) {
@@ -106,13 +91,12 @@ export class DfuseSession {
 
   // One action: null, or how the session ended.
   async step(action) {
-    const wasClosing = this.isClosing()
     this.onStep(action, null)
     const answer = await this.perform(action)
-    if (answer.isGone && this.clock.isStopped) return null
-    if (answer.isGone) return { end: this.board.isMany ? 'many' : 'gone' }
-    if (!wasClosing && this.silent >= MOST_SILENT) return { end: 'silent' }
-    if (!wasClosing && this.board.isOpen() && !this.isSame()) return { end: 'other' }
+    const course = this.course(action, answer)
+    if (course === COURSES.GOES_TO_STOP) return null
+    if (course === COURSES.GOES_RESTARTED) Object.assign(answer, { seen: SEEN.RESTART, bytes: NONE, isGone: false })
+    else if (course !== COURSE.GOES_ON) return endOf(course)
     const ended = this.tell(answer)
     this.onStep(action, answer)
     return ended
@@ -121,7 +105,7 @@ export class DfuseSession {
   // A stop ends it: what was brought and not started is dropped. Once all was read back that is what is reported.
   async stop() {
     if (this.host.state().work === WORK.LEAVE)
-      return { end: 'report', report: OUTCOME.VERIFIED, more: this.isClosing() ? LEAVING.UNKNOWN : LEAVING.STAYED, says: '' }
+      return { end: 'report', report: OUTCOME.VERIFIED, more: this.watch.closes() ? LEAVING.UNKNOWN : LEAVING.STAYED, says: '' }
     this.trace.abort()
     if (this.board.isOpen()) await this.send(ABORT, NONE)
     return { end: 'aborted' }

@@ -1,5 +1,6 @@
 // SPDX-License-Identifier: MIT OR Apache-2.0
-// The records of dfu_host.h, dfuse_host.h, dfuse_file.h and dfu_core.h of include/, as they lie in the memory of the libraries. This is
+// The records of dfu_host.h, dfu_watch.h, dfuse_host.h, dfuse_watch.h, dfuse_file.h and dfu_core.h of include/, as they lie in the memory
+// of the libraries. This is
 // the one place that knows them: the fields in their order, with their types, a pointer as u64. tests/web holds them against the headers.
 // Where each field is follows by the rules of C: a number is at a multiple of its size, and a record ends at one of its largest.
 export const RECORDS = {
@@ -9,6 +10,8 @@ export const RECORDS = {
     'u32 version, u32 goal, u64 number, u64 kept, u32 phase, u32 more, u32 actions, u16 restarts, u16 transfer, u16 detach_ms, ' +
     'u8 tolerant, u8 will_detach',
   dfu_action: 'u32 what, u32 value, u64 from, u64 length, u32 code, u8[8] setup',
+  dfu_watch: 'u32 silent, u32 resets, u8 stalled, u8 sent, u8 anew',
+  dfu_facts: 'u8 reached, u8 gone, u8 many, u8 stopped, u8 open, u8 upgrade, u8 again, u8 same',
   dfuse_map: 'u64 name, u64 ranges',
   dfuse_range: 'u64 start, u64 size, u32 count, u32 access',
   dfuse_element: 'u32 address, u64 bytes, u64 length',
@@ -16,6 +19,7 @@ export const RECORDS = {
   dfuse_session:
     'u32 version, u32 work, u64 at, u64 end, u64 pointer, u32 place, u32 step, u32 more, u32 report, u32 start, u32 actions, ' +
     'u16 restarts, u16 transfer, u16 front, u16 leaves',
+  dfuse_watch: 'u32 silent, u32 waits, u8 sent',
   dfuse_action: 'u64 length, u32 what, u32 value, u32 more, u8[8] setup',
   dfuse_file: 'u32 targets, u32 setting, u16 device, u16 product, u16 vendor',
   dfu_config:

@@ -3,15 +3,15 @@
 // stalls.js. As flash/session.c. What speaks DfuSe has its own loop in dfuse_session.js.
 import { cut, goalOf, isDfuse, limitsOf, standIn } from './begin.js'
 import { SEEN, WHAT } from './host.js'
-import { isDownload, isUpload } from './names.js'
+import { isDownload } from './names.js'
 import { Stalls } from './stalls.js'
+import { COURSE, Watch, endOf } from './watch.js'
 
-// So many transfers in a row without any answer, 5 seconds each if a device is there and dead, and it is given up.
-const MOST_SILENT = 24
 const NONE = new Uint8Array(0)
 
 export const nothing = () => ({ seen: SEEN.NOTHING, bytes: NONE, isGone: false, error: '' })
 const sameText = (first, now) => first === '' || now === '' || first === now
+const modeOf = is => (is.isUpgrade ? 'dfu' : 'app')
 export const sameBytes = (first, now) => first.length === now.length && first.every((byte, at) => byte === now[at])
 
 // Whether two looks at a device in one mode saw the same.
@@ -23,8 +23,9 @@ export class Session {
   // action before it is carried out, and its answer after it.
   constructor(host, wire, { wantsVerified, ids, limits = null, onStep = () => {} }) {
     Object.assign(this, { host, wire, board: wire.board, clock: wire.clock, trace: wire.trace, wantsVerified, ids, limits, onStep })
-    Object.assign(this, { first: {}, stalls: new Stalls(wire), odd: 0 })
-    Object.assign(this, { hasSent: false, hasBegunAnew: false, isWhole: false, isAborted: false, silent: 0, taken: 0, restarted: 0 })
+    this.watch = new Watch(host)
+    Object.assign(this, { first: {}, stalls: new Stalls(this.watch, wire), odd: 0 })
+    Object.assign(this, { isWhole: false, isAborted: false, taken: 0, restarted: 0 })
   }
 
   // 0, a refusal of dfu_host.h, or 'DfuSeDevice'. Nothing is sent.
@@ -32,10 +33,9 @@ export class Session {
     const { is } = this.board
     this.goal = goalOf(is, this.wantsVerified)
     this.odd = 0
-    this.meets()
+    this.note()
     if (isDfuse(is)) return 'DfuSeDevice'
     this.known = is.descriptor
-    this.hasSent = false
     const refusal = this.beginBy(cut(is.descriptor))
     const another = refusal === 0 ? null : standIn(is, refusal)
     if (another === null) return refusal
@@ -54,20 +54,21 @@ export class Session {
     this.trace.begin(this.goal, { ...this.board.is, ...this.ids, descriptor }, this.host.state())
   }
 
-  // Whether what the device is now is what it was when it was found first in that mode. Once a block was sent, a device in run-time
-  // mode may be that of another image, and says what it likes.
-  meets() {
-    const { is } = this.board
-    if (this.hasSent && !is.isUpgrade) return true
-    const mode = is.isUpgrade ? 'dfu' : 'app'
-    this.first[mode] ??= is
-    return isAgain(this.first[mode], is)
+  get hasSent() {
+    return this.watch.hasSent()
   }
 
-  // Whether the device that is open is the one that the session was begun with; one in run-time mode may say what it likes.
-  isAsBegun() {
+  // Once a block was sent, a device in run-time mode may be that of another image: it isn't noted.
+  note() {
     const { is } = this.board
-    return !this.board.isOpen() || !is.isUpgrade || sameBytes(is.descriptor, this.known)
+    if (is.isUpgrade || !this.watch.hasSent()) this.first[modeOf(is)] ??= is
+  }
+
+  // What is seen of the device after an action, for dfu_watch.h.
+  facts(isReached, isGone) {
+    const { is } = this.board
+    return { reached: isReached, gone: isGone, many: this.board.isMany, stopped: this.clock.isStopped, open: this.board.isOpen(),
+      upgrade: is.isUpgrade, again: isAgain(this.first[modeOf(is)] ?? is, is), same: sameBytes(is.descriptor, this.known) }
   }
 
   // A device that left is found again before it is asked anything; and if it is another one then, nothing is sent to it. An aborted
@@ -76,42 +77,30 @@ export class Session {
     if (!this.wire.isReady()) {
       if (this.isAborted) return nothing()
       if (!await this.board.reopen()) return { ...nothing(), isGone: true }
-      if (!this.meets()) return nothing()
+      if (this.watch.isOther(this.facts(false, false))) return nothing()
     }
-    this.hasSent ||= isDownload(action.setup)
     const answer = await this.wire.send(action.setup, action.body)
     if (isDownload(action.setup)) this.isWhole = action.length === 0 && answer.seen === SEEN.ACK
-    this.stalls.note(this.board.is, answer.seen)
-    return answer
+    return { ...answer, isReached: true }
   }
 
   async perform(action) {
     if (action.what === WHAT.WAIT) return this.wire.wait(action.value)
-    const answer = action.what === WHAT.RESET ? await this.stalls.reset() : await this.send(action)
-    this.silent = answer.seen === SEEN.NOTHING ? this.silent + 1 : 0
-    return answer
-  }
-
-  // How the session ends in place of what the host asks for, or null. By a descriptor that is used in place of the device's nothing of an
-  // image is sent or fetched.
-  barred(action) {
-    const isOfImage = action.what === WHAT.SEND && (isDownload(action.setup) || isUpload(action.setup))
-    if (this.odd !== 0 && isOfImage) return { end: 'refusal', refusal: this.odd }
-    return action.what === WHAT.RESET && this.stalls.isStuck() ? { end: 'stalled' } : null
+    return action.what === WHAT.RESET ? this.stalls.reset() : this.send(action)
   }
 
   // One action: null, or how the session ended.
   async step(action) {
-    const barred = this.barred(action)
-    if (barred !== null) return barred
+    const before = this.watch.before(this.odd !== 0)
+    if (before !== COURSE.GOES_ON) return { ...endOf(before), refusal: this.odd }
     this.onStep(action, null)
     const answer = await this.perform(action)
     this.onStep(action, answer)
-    if (answer.isGone && !this.clock.isStopped) return { end: this.board.isMany ? 'many' : 'gone' }
+    const course = this.watch.after(answer.seen, this.facts(answer.isReached === true, answer.isGone === true))
+    if (this.board.isOpen()) this.note()
     if (answer.isGone) answer.seen = SEEN.NOTHING
-    if (this.silent >= MOST_SILENT) return { end: 'silent' }
-    if (this.board.isOpen() && !this.meets()) return { end: 'other' }
-    return this.isAsBegun() ? this.tell(answer) : this.beginAnew()
+    if (course === COURSE.GOES_ON) return this.tell(answer)
+    return course === COURSE.BEGINS_ANEW ? this.beginAnew() : endOf(course)
   }
 
   tell(answer) {
@@ -121,10 +110,8 @@ export class Session {
   }
 
   // In DFU mode a device may have another functional descriptor than in run-time mode: then the session that brought it there, which
-  // has sent no block, is dropped, and another one begins, once.
+  // has sent no block, is dropped, and another one begins.
   beginAnew() {
-    if (this.hasSent || this.hasBegunAnew) return { end: 'other' }
-    this.hasBegunAnew = true
     const refusal = this.begin()
     if (refusal !== 0) return { end: 'refusal', refusal }
     this.traceBegin()

@@ -2,12 +2,11 @@
 // Devices that stall what they are asked for in run-time mode, and the one request that is this page's own. A device in run-time
 // mode may stall GETSTATUS: in appIDLE the standard has it answered (USB DFU 1.1, appendix A.2.1), and many leave it out. If it is
 // stalled twice the host has the bus reset, and asks again. So before the first of these resets the page sends a DETACH of its own,
-// which makes it the reset that leads to DFU mode; and it makes three of them at most, since what is reset is a running application.
-// As flash/stalls.c and flash/detach.c.
+// which makes it the reset that leads to DFU mode. When, and after how many resets the device is given up, dfu_watch.h says. As
+// flash/stalls.c and flash/detach.c.
 import { SEEN } from './host.js'
 import { ATTRIBUTE, FUNCTIONAL, KIND, REQUEST, detachTimeOf, hasAttribute } from './names.js'
 
-const MOST_RESETS = 3
 const NO_DESCRIPTOR_MS = 1000 // wDetachTimeOut if there is no functional descriptor
 const ARRIVAL_MS = 5000       // a device may be in run-time mode still, and leave a while after the reset
 const LOOK_MS = 200
@@ -20,19 +19,8 @@ const detachTime = ({ descriptor }) => (descriptor.length < FUNCTIONAL.BYTES_1_0
 export const willDetach = ({ descriptor }) => hasAttribute(descriptor, ATTRIBUTE.WILL_DETACH)
 
 export class Stalls {
-  constructor(wire) {
-    Object.assign(this, { wire, isLast: false, resets: 0 })
-  }
-
-  // What came of a request.
-  note(is, seen) {
-    this.isLast = seen === SEEN.STALL && !is.isUpgrade
-    if (is.isUpgrade || seen === SEEN.ACK || seen === SEEN.BYTES) this.resets = 0
-  }
-
-  // Whether one more reset would be one too many.
-  isStuck() {
-    return this.isLast && this.resets >= MOST_RESETS
+  constructor(watch, wire) {
+    Object.assign(this, { watch, wire })
   }
 
   async detach() {
@@ -58,14 +46,13 @@ export class Stalls {
   // Resets the bus, as the host asks for it. If the device left after that DETACH it is reset already.
   async reset() {
     const { wire } = this
-    const isFirst = this.isLast && this.resets === 0 && wire.board.is.saysRuntime
+    const isFirst = this.watch.detaches() && wire.board.is.saysRuntime
     const own = isFirst ? await this.detach() : null
     if (own !== null && (own.isGone || own.seen === SEEN.RESTART)) {
       wire.trace.reset(own, 0)
       return own
     }
     const answer = await wire.reset()
-    if (this.isLast && answer.seen === SEEN.RESET) this.resets++
     if (own !== null && own.seen === SEEN.ACK) await this.arrival()
     return answer
   }

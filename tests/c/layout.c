@@ -2,6 +2,7 @@
  * library that agree on the version agree on these. So a change here takes a new version, and a new version takes a look at these. */
 #include "dfu_device.h"
 #include "dfu_host.h"
+#include "dfuse_watch.h"
 #include "dfuse_file.h"
 #include "dfu_install.h"
 #include "dfu_trial.h"
@@ -151,6 +152,28 @@ AT(dfu_action, from, 8);
 AT(dfu_action, length, 16);
 AT(dfu_action, code, 24);
 AT(dfu_action, setup, 28);
+
+SIZE(dfu_watch, 12);
+AT(dfu_watch, silent, 0);
+AT(dfu_watch, resets, 4);
+AT(dfu_watch, stalled, 8);
+AT(dfu_watch, sent, 9);
+AT(dfu_watch, anew, 10);
+
+SIZE(dfu_facts, 8);
+AT(dfu_facts, reached, 0);
+AT(dfu_facts, gone, 1);
+AT(dfu_facts, many, 2);
+AT(dfu_facts, stopped, 3);
+AT(dfu_facts, open, 4);
+AT(dfu_facts, upgrade, 5);
+AT(dfu_facts, again, 6);
+AT(dfu_facts, same, 7);
+
+SIZE(dfuse_watch, 12);
+AT(dfuse_watch, silent, 0);
+AT(dfuse_watch, waits, 4);
+AT(dfuse_watch, sent, 8);
 
 SIZE(dfuse_map, 16);
 AT(dfuse_map, name, 0);

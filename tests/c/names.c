@@ -2,6 +2,7 @@
 #include "dfu_device_memory.h"
 #include "dfu_runtime.h"
 #include "dfu_host.h"
+#include "dfuse_watch.h"
 #include "dfuse_file.h"
 #include "dfu_install.h"
 #include "dfu_trial.h"
@@ -97,6 +98,17 @@ IS(DFU_SEEN_WAIT, 4);
 IS(DFU_SEEN_RESET, 5);
 IS(DFU_SEEN_RESTART, 6);
 IS(DFU_SEEN_LEFT, 7);
+
+IS(DFU_GOES_ON, 0);
+IS(DFU_BEGINS_ANEW, 1);
+IS(DFU_ENDS_GONE, 2);
+IS(DFU_ENDS_MANY, 3);
+IS(DFU_ENDS_SILENT, 4);
+IS(DFU_ENDS_OTHER, 5);
+IS(DFU_ENDS_STALLED, 6);
+IS(DFU_ENDS_REFUSED, 7);
+IS(DFU_GOES_RESTARTED, 8);
+IS(DFU_GOES_TO_STOP, 9);
 IS(DFU_ACK, 0);
 IS(DFU_BYTES, 1);
 IS(DFU_STALLED, 2);

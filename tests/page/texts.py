@@ -7,13 +7,13 @@ from counting import check, check_that
 from scripts import TOP
 
 TYPES = {'uint8_t': 'u8', 'uint16_t': 'u16', 'uint32_t': 'u32', 'uint64_t': 'u64'}
-MOST_BYTES = 225000
+MOST_BYTES = 229000
 
 
 def records():
     """The fields of each struct, as records.js writes them."""
     found = {}
-    for header in ('dfu_host.h', 'dfuse_host.h', 'dfuse_file.h', 'dfu_core.h'):
+    for header in ('dfu_host.h', 'dfu_watch.h', 'dfuse_host.h', 'dfuse_watch.h', 'dfuse_file.h', 'dfu_core.h'):
         text = re.sub(r'/\*.*?\*/', '', (TOP / 'include' / header).read_text(), flags=re.S)
         # (what stands there for processors of 32 bits alone; a pointer and a size have 64)
         text = re.sub(r'^#if UINTPTR_MAX <= .*?^#endif', '', text, flags=re.S | re.M)
@@ -42,12 +42,12 @@ def words():
 
 def numbers():
     """Each number and name that host.js and names.js write again, as they have it, and as the header or flash/standard has it."""
-    headers = ''.join((TOP / it).read_text() for it in ('include/dfu_host.h', 'include/dfuse_host.h', 'include/dfuse_file.h',
-                                                         'flash/standard.h'))
+    headers = ''.join((TOP / it).read_text() for it in ('include/dfu_host.h', 'include/dfu_watch.h', 'include/dfuse_host.h',
+                                                         'include/dfuse_watch.h', 'include/dfuse_file.h', 'flash/standard.h'))
     theirs = {name: int(number, 0) for name, number in re.findall(r'(?:^   |^enum \{|,) (\w+) = (-?(?:0x[0-9a-f]+|\d+))\b', headers, re.M)}
     lists = re.findall(r'const char \*const (\w+)\[\] = \{(.*?)\};', (TOP / 'flash/standard.c').read_text(), re.S)
-    pages = ''.join((TOP / 'web' / it).read_text() for it in ('host.js', 'dfuse_host.js', 'names.js'))
-    fronts = {'WHAT': 'DFU_', 'SEEN': 'DFU_SEEN_', 'REPORT': 'DFU_', 'REFUSAL': 'DFU_', 'ATTRIBUTE': ''}
+    pages = ''.join((TOP / 'web' / it).read_text() for it in ('host.js', 'watch.js', 'dfuse_host.js', 'dfuse_watch.js', 'names.js'))
+    fronts = {'WHAT': 'DFU_', 'SEEN': 'DFU_SEEN_', 'REPORT': 'DFU_', 'REFUSAL': 'DFU_', 'COURSE': 'DFU_', 'COURSES': 'DFU_', 'ATTRIBUTE': ''}
     fronts.update({name: 'DFUSE_' for name in ('WORK', 'OUTCOME', 'LEAVING', 'ACCESS', 'FILE')})
     fronts.update({name: name + '_' for name in ('KIND', 'REQUEST', 'STATE', 'FUNCTIONAL', 'INTERFACE')})
     others = {'FUNCTIONAL_VERSION_1_1': 'VERSION_1_1', 'FUNCTIONAL_VERSION_DFUSE': 'VERSION_DFUSE', 'INTERFACE_RUNTIME': 'PROTOCOL_RUNTIME',

@@ -1,9 +1,54 @@
--- What is not refused has no fault.
-use Rattle.std.proofs.Common.{◌≡◌, ◌↔◌, Option, Some, None, Result, Ok, Err, refl}
+-- Sessions on a file and a descriptor that were read.
+use Rattle.std.proofs.Common.{◌≡◌, ◌↔◌, ℕ, ℤ, pos, List, Option, Some, None, Result, Ok, Err, refl, subst}
+use Rattle.dfu_wire.specs.declared.functionals.Functional.{Functional}
+use Rattle.dfu_wire.specs.declared.ids.Ids.{Ids}
+use Rattle.dfu_wire.specs.Functional.{IsFunctional}
+use Rattle.dfu_suffix.specs.Grammar.{Content}
 use Rattle.dfu_host.specs.declared.fault.HostFault.{HostFault}
+use Rattle.dfu_host.specs.declared.limits.Limits.{Limits}
+use Rattle.dfu_host.specs.Host.{started}
+use Rattle.dfu_host.specs.Phases.{Goal}
+use Rattle.dfu_host_c.specs.Beginning.{BeginsSession, HasBegunAs, HostRefuses, IsContent}
+use Rattle.dfu_host_c.specs.Refusals.{refused_number}
+use Rattle.dfu_host_c.specs.declared.refusals.Refusal.TheVariants as refusal
+use Rattle.dfu_host_c.specs.declared.session.DfuSession.{DfuSession}
+use Rattle.dfu_host_c.proofs.Refused.{refused_for}
 
--- Where a call is refused exactly by the first fault, and was not, there is no fault.
+-- If a call is refused exactly by the first fault, and was not, there is no fault.
 pub no_fault : {T : Type 0} (result : Result T HostFault) (value : T) (first : Option HostFault) → result ≡ Ok value
     → ((fault : HostFault) → (result ≡ Err fault) ↔ (first ≡ Some fault)) → first ≡ None
 no_fault result value None is refused = refl
 no_fault result value (Some fault) is refused = let e : result ≡ Err fault = (refused fault).1 refl in absurd cc
+
+-- A session that the host takes begins.
+pub begins : {T : Type 0} {file descriptor : List ℕ} {asked device : Ids} {limits : Limits} {result : ℤ} {r' : DfuSession}
+    {content : Content} {functional : Functional} {host : T} (to : List ℕ → Goal)
+    (first : Content → Functional → Ids → Option HostFault) (made : Result T HostFault)
+    → IsContent content file → IsFunctional functional descriptor → asked ≡ device → made ≡ Ok host
+    → ((fault : HostFault) → (made ≡ Err fault) ↔ (first content functional asked ≡ Some fault))
+    → HasBegunAs r' (started functional (to content.payload) limits) → result ≡ pos 0
+    → BeginsSession to first file descriptor device limits result r'
+begins {content = content} {functional = functional} to first made is_content is_functional same is refused begun number = record {
+  content = content;
+  functional = functional;
+  is_content = is_content;
+  is_functional = is_functional;
+  accepted = subst (λ (d : Ids). first content functional d ≡ None) same (no_fault _ _ _ is refused);
+  begun = begun;
+  number_is = number;
+}
+
+-- A session that the host refuses is refused by the first fault.
+pub refuses : {T : Type 0} {file descriptor : List ℕ} {asked device : Ids} {result : ℤ} {content : Content} {functional : Functional}
+    {fault : HostFault} (first : Content → Functional → Ids → Option HostFault) (made : Result T HostFault)
+    → IsContent content file → IsFunctional functional descriptor → asked ≡ device → made ≡ Err fault
+    → ((fault : HostFault) → (made ≡ Err fault) ↔ (first content functional asked ≡ Some fault))
+    → result ≡ refused_number (refusal.Host fault) → HostRefuses first file descriptor device result
+refuses {content = content} {functional = functional} {fault = fault} first made is_content is_functional same is refused number = record {
+  content = content;
+  functional = functional;
+  is_content = is_content;
+  is_functional = is_functional;
+  refused = refused_for made fault is
+      (subst (λ (d : Ids). (fault : HostFault) → (made ≡ Err fault) ↔ (first content functional d ≡ Some fault)) same refused) number;
+}

@@ -18,7 +18,7 @@ plan_with r map image (Some phase) s e =
     let same : session_with r map image phase ≡ s = search (rules, e) in
     (sym (ap (λ (t : Session). t.plan.map) same), sym (ap (λ (t : Session). t.plan.image) same))
 
--- The record of what a session became stands for that, over the same string and image.
+-- The record written after a step holds the next session, over the same string and image.
 pub held_on : (r r' : DfuseSession) (text : List ℕ) (image : Bor (List Element)) (s next : Session) → DfuseIsHeld r text image s →
     next.plan ≡ s.plan → session_in r' next.plan.map next.plan.image ≡ Some next → DfuseIsHeld r' text image next
 held_on r r' text image s next held plan says =

@@ -1,4 +1,4 @@
--- What is read of a string, and of its ranges.
+-- What is read from the string of a map, and its ranges.
 use Rattle.std.proofs.Common.{◌≡◌, ◌≤◌, ℕ, ◌∙◌, Option, Some, None, IfSome, MatchOption, List, length, Result, Ok, Err, sym, ap, subst}
 use Rattle.std.specs.Prelude.{◌<◌, slice_index_or}
 use Rattle.std.specs.Borrow.{Bor}
@@ -9,7 +9,7 @@ use Rattle.dfuse_memory.specs.Reading.{MapContent}
 use Rattle.dfuse_memory.specs.declared.fault.MapFault.{MapFault}
 use Rattle.dfuse_memory.specs.declared.pages.Pages.{Pages}
 
--- A string that has a fault is no map.
+-- A string that has a fault is not a map.
 pub no_map : (result : Result MapContent MapFault) (fault : MapFault) (m : MapContent) → result ≡ Err fault → result ≡ Ok m → ⊥
 no_map result fault m is only = let never : Err fault ≡ Ok m = sym is ∙ only in absurd cc
 
@@ -22,7 +22,7 @@ found_at xs ys i r p same at is =
     (subst (λ (o : Option (Bor Pages)). MatchOption o (length xs ≤ i) (λ x. (i < length xs) × HoldsAt (λ y. x.now ≡ y) xs i)) is at.3).0 in
     subst (λ (zs : List Pages). slice_get zs i ≡ Some p.now) same (slice_get-get_or xs i p.now within ∙ ap Some (sym value))
 
--- Where none was found there is none of that number.
+-- If no range was found, the map has no range of that number.
 pub none_at : (xs ys : List Pages) (i : ℕ) (r : Option (Bor Pages)) → xs ≡ ys → IsItemAt xs i r → r ≡ None → slice_get ys i ≡ None
 none_at xs ys i r same at is =
     let past : length xs ≤ i =

@@ -4,10 +4,10 @@ use Rattle.dfu_wire.specs.declared.requests.Request.{Request}
 use Rattle.dfu_host.specs.declared.report.Report.{Report}
 use Rattle.dfu_host.specs.Phases.{Deed, Send, Wait, Reset, Done}
 use Rattle.dfu_host.specs.Wire.{IsAsked}
-use Rattle.dfu_host_c.specs.ReportNumbers.{code_in, report_at}
+use Rattle.dfu_host_c.specs.ReportNumbers.{report_at, report_numbers}
 use Rattle.dfu_host_c.specs.declared.action.DfuAction.{DfuAction}
 
--- The record says to send a request, for which its setup asks, with so many bytes of the payload from a place on as its body, which end
+-- The record says to send this request: its setup asks for it, and its body is that many bytes of the payload from a place on. They end
 -- within the payload.
 pub record IsSend (payload : List ℕ) (from : ℕ) (q : Request) (body : List ℕ) (r : DfuAction) : Type 0 where
   pub what : r.what ≡ 0
@@ -19,7 +19,7 @@ pub record IsSend (payload : List ℕ) (from : ℕ) (q : Request) (body : List �
   pub ends : from + length body ≤ length payload
   pub code : r.code ≡ 0
 
--- The record says to do something else than to send a request: nothing is in it of a setup or a body.
+-- The record says to do something else than to send a request: it has no setup and no body.
 pub record IsOther (what value code : ℕ) (r : DfuAction) : Type 0 where
   pub what_is : r.what ≡ what
   pub value_is : r.value ≡ value
@@ -30,11 +30,11 @@ pub record IsOther (what value code : ℕ) (r : DfuAction) : Type 0 where
 
 -- The record says that a session is over, with this report.
 pub record IsDone (report : Report) (r : DfuAction) : Type 0 where
-  pub other : IsOther 3 r.value (code_in report) r
+  pub other : IsOther 3 r.value (report_numbers report).1 r
   pub report_is : report_at r.value r.code ≡ Some report
 
--- The record says what a host with this payload does, where a body begins at this place: 0 to send a request, 1 to wait so many
--- milliseconds, 2 to reset the bus, and 3 that it is done. A number that an action does not have is 0.
+-- The record says what a host with this payload does: 0 to send a request, 1 to wait that many milliseconds, 2 to reset the bus, and 3
+-- that it is done. A body begins at this place in the payload. A number that an action does not have is 0.
 abbrev pub TellsAction : (payload : List ℕ) → (from : ℕ) → Deed → DfuAction → Type 0
 TellsAction payload from (Send q body) r = IsSend payload from q body r
 TellsAction payload from (Wait ms) r = IsOther 1 ms 0 r

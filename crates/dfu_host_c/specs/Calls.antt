@@ -15,8 +15,8 @@ use Rattle.dfu_host_c.specs.Told.{seen_at}
 use Rattle.dfu_host_c.specs.declared.action.DfuAction.{DfuAction}
 use Rattle.dfu_host_c.specs.declared.session.DfuSession.{DfuSession}
 
--- The session of a record took what was seen, as a row of the host's table; a part of an upload was stored in the buffer where it finds
--- room, and where it finds none, that was heard in its place.
+-- The session of a record took what was seen, as a row of the host's table. A part of an upload was stored if the buffer has room for it;
+-- else the host took it as a part for which there is no memory.
 pub record TookSeen (r r' : DfuSession) (payload : Bor (List ℕ)) (buffer buffer' : List ℕ) (seen : ℕ) (bytes : Bor (List ℕ)) : Type 0 where
   pub parts : Parts
   pub word : Seen
@@ -34,15 +34,15 @@ pub record SessionStands (r : DfuSession) (payload : Bor (List ℕ)) (buffer : L
   pub parts : Parts
   pub held : IsHeldSession r payload buffer parts
 
--- The record and the buffer are none of a session over this payload.
+-- The record and the buffer are not those of a session over this payload.
 abbrev pub NotHeld : DfuSession → Bor (List ℕ) → (buffer : List ℕ) → Type 0
 NotHeld r payload buffer = (parts : Parts) → IsHeldSession r payload buffer parts → ⊥
 
--- The record is none of a session over this payload.
+-- The record is not that of a session over this payload.
 abbrev pub NoRecord : DfuSession → Bor (List ℕ) → Type 0
 NoRecord r payload = (parts : Parts) → IsRecord r payload parts → ⊥
 
--- The session of a record was given up, whatever its buffer has, and keeps as many bytes.
+-- The session of a record was given up. It keeps as many bytes as before.
 pub record GivenUp (r r' : DfuSession) (payload : Bor (List ℕ)) : Type 0 where
   pub parts : Parts
   pub next : Parts

@@ -10,3 +10,4 @@ pub mod Actions
 pub mod Calls
 pub mod Beginning
 pub mod dfuse
+pub mod Watch

@@ -4,8 +4,12 @@ use Rattle.dfu_host.specs.declared.phase.Phase.{Phase}
 use Rattle.dfu_host.specs.declared.phase.Phase.TheVariants as phase
 use Rattle.dfu_host_c.specs.ReportNumbers.{report_at}
 
--- The phase of the number `which`, 0 to 24, with the block, part or report of `number`, and with the poll time or code of `more`;
--- none where there is none.
+-- The part of this number; None if it is over 65,535.
+abbrev pub part_at : ℕ → Option ℕ
+part_at number = if nat_lt number 65536 then Some number else None
+
+-- The phase of the number `which`, 0 to 24, with the block, part or report of `number`, and with the poll time or code of `more`. None if
+-- there is no such phase.
 abbrev pub phase_at : (which number more : ℕ) → Option Phase
 phase_at which number more =
     if which == 0 then Some phase.Find
@@ -26,8 +30,8 @@ phase_at which number more =
     else if which == 15 then Some (phase.WaitManifest more)
     else if which == 16 then Some (phase.WaitLast more)
     else if which == 17 then Some phase.Trouble
-    else if which == 18 then (if nat_lt number 65536 then Some (phase.Fetch number) else None)
-    else if which == 19 then (if nat_lt number 65536 then Some (phase.Compare number) else None)
+    else if which == 18 then option_map phase.Fetch (part_at number)
+    else if which == 19 then option_map phase.Compare (part_at number)
     else if which == 20 then option_map phase.Last (report_at number more)
     else if which == 21 then Some phase.LastUploaded
     else if which == 22 then Some phase.GiveUp

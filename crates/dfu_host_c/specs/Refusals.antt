@@ -1,47 +1,94 @@
--- What C is answered where a call is refused.
-use Rattle.std.specs.Prelude.{ℤ, negsuc}
-use Rattle.dfu_wire.specs.declared.fault.WireFault.{WireFault}
+-- The numbers that C gets if a call is refused.
+use Rattle.std.specs.Prelude.{◌≡◌, ℤ, negsuc}
 use Rattle.dfu_wire.specs.declared.fault.WireFault.TheVariants as wire
-use Rattle.dfu_suffix.specs.declared.fault.SuffixFault.{SuffixFault}
 use Rattle.dfu_suffix.specs.declared.fault.SuffixFault.TheVariants as suffix
-use Rattle.dfu_host.specs.declared.fault.HostFault.{HostFault}
 use Rattle.dfu_host.specs.declared.fault.HostFault.TheVariants as host
+use Rattle.dfuse_memory.specs.declared.fault.MapFault.TheVariants as map
+use Rattle.dfuse_host.specs.declared.fault.PlanFault.TheVariants as plan
+use Rattle.dfuse_file.specs.declared.fault.FileFault.TheVariants as dfuse
+use Rattle.dfuse_file.specs.declared.image.ImageFault.TheVariants as image
+use Rattle.dfu_host_c.specs.declared.refusals.Refusal.{Refusal}
+use Rattle.dfu_host_c.specs.declared.refusals.Refusal.TheVariants as refusal
 
--- A file that is none is refused with -1 to -10, in the order of its faults.
-abbrev pub file_refusal : SuffixFault → ℤ
-file_refusal suffix.TooShort = negsuc 0
-file_refusal suffix.NoSignature = negsuc 1
-file_refusal suffix.BadLength = negsuc 2
-file_refusal suffix.DfuSe = negsuc 3
-file_refusal suffix.BadCrc = negsuc 4
-file_refusal suffix.AlreadySuffixed = negsuc 5
-file_refusal suffix.TooLarge = negsuc 6
-file_refusal suffix.NoMemory = negsuc 7
-file_refusal suffix.Read = negsuc 8
-file_refusal suffix.Write = negsuc 9
+-- Each refusal has a number of its own: -1 to -10 for a file, -21 to -25 for the host, -31 to -37 for a descriptor, -51 to -59 for a map,
+-- -61 to -68 for a plan, -71 to -86 for a DfuSe file, and -87 and -88 for its image.
+abbrev pub refused_number : Refusal → ℤ
+refused_number (refusal.File suffix.TooShort) = negsuc 0
+refused_number (refusal.File suffix.NoSignature) = negsuc 1
+refused_number (refusal.File suffix.BadLength) = negsuc 2
+refused_number (refusal.File suffix.DfuSe) = negsuc 3
+refused_number (refusal.File suffix.BadCrc) = negsuc 4
+refused_number (refusal.File suffix.AlreadySuffixed) = negsuc 5
+refused_number (refusal.File suffix.TooLarge) = negsuc 6
+refused_number (refusal.File suffix.NoMemory) = negsuc 7
+refused_number (refusal.File suffix.Read) = negsuc 8
+refused_number (refusal.File suffix.Write) = negsuc 9
+refused_number (refusal.Host host.EmptyPayload) = negsuc 20
+refused_number (refusal.Host host.WrongTarget) = negsuc 21
+refused_number (refusal.Host host.CannotDownload) = negsuc 22
+refused_number (refusal.Host host.CannotUpload) = negsuc 23
+refused_number (refusal.Host host.BadDescriptor) = negsuc 24
+refused_number (refusal.Wire wire.Short) = negsuc 30
+refused_number (refusal.Wire wire.Long) = negsuc 31
+refused_number (refusal.Wire wire.WrongLength) = negsuc 32
+refused_number (refusal.Wire wire.WrongType) = negsuc 33
+refused_number (refusal.Wire wire.UnknownState) = negsuc 34
+refused_number (refusal.Wire wire.UnknownCode) = negsuc 35
+refused_number (refusal.Wire wire.PollTooLong) = negsuc 36
+refused_number (refusal.Map map.NoMap) = negsuc 50
+refused_number (refusal.Map map.BadAddress) = negsuc 51
+refused_number (refusal.Map map.BadCount) = negsuc 52
+refused_number (refusal.Map map.BadSize) = negsuc 53
+refused_number (refusal.Map map.BadType) = negsuc 54
+refused_number (refusal.Map map.PastTheEnd) = negsuc 55
+refused_number (refusal.Map map.TooManyRanges) = negsuc 56
+refused_number (refusal.Map map.Trailing) = negsuc 57
+refused_number (refusal.Map map.Overlaps) = negsuc 58
+refused_number (refusal.Plan plan.NoTransferSize) = negsuc 60
+refused_number (refusal.Plan plan.EmptyImage) = negsuc 61
+refused_number (refusal.Plan plan.NotInOrder) = negsuc 62
+refused_number (refusal.Plan plan.Overlapping) = negsuc 63
+refused_number (refusal.Plan plan.OutsideTheMap) = negsuc 64
+refused_number (refusal.Plan plan.NotWritable) = negsuc 65
+refused_number (refusal.Plan plan.NotErasable) = negsuc 66
+refused_number (refusal.Plan plan.NotReadable) = negsuc 67
+refused_number (refusal.DfuseFile dfuse.TooLarge) = negsuc 70
+refused_number (refusal.DfuseFile dfuse.TooShort) = negsuc 71
+refused_number (refusal.DfuseFile dfuse.NoSignature) = negsuc 72
+refused_number (refusal.DfuseFile dfuse.BadLength) = negsuc 73
+refused_number (refusal.DfuseFile dfuse.NotDfuSe) = negsuc 74
+refused_number (refusal.DfuseFile dfuse.BadCrc) = negsuc 75
+refused_number (refusal.DfuseFile dfuse.NoPrefix) = negsuc 76
+refused_number (refusal.DfuseFile dfuse.BadVersion) = negsuc 77
+refused_number (refusal.DfuseFile dfuse.BadImageSize) = negsuc 78
+refused_number (refusal.DfuseFile dfuse.NoTargets) = negsuc 79
+refused_number (refusal.DfuseFile dfuse.NoTarget) = negsuc 80
+refused_number (refusal.DfuseFile dfuse.BadTargetSize) = negsuc 81
+refused_number (refusal.DfuseFile dfuse.ElementPastTheTarget) = negsuc 82
+refused_number (refusal.DfuseFile dfuse.EmptyElement) = negsuc 83
+refused_number (refusal.DfuseFile dfuse.AddressPastTheEnd) = negsuc 84
+refused_number (refusal.DfuseFile dfuse.Trailing) = negsuc 85
+refused_number (refusal.Image image.NoSuchSetting) = negsuc 86
+refused_number (refusal.Image image.TooManyElements) = negsuc 87
 
--- A session that the host refuses is refused with -21 to -25, in the order of its faults.
-abbrev pub host_refusal : HostFault → ℤ
-host_refusal host.EmptyPayload = negsuc 20
-host_refusal host.WrongTarget = negsuc 21
-host_refusal host.CannotDownload = negsuc 22
-host_refusal host.CannotUpload = negsuc 23
-host_refusal host.BadDescriptor = negsuc 24
-
--- Bytes that are no descriptor are refused with -31 to -37, in the order of the wire's faults.
-abbrev pub wire_refusal : WireFault → ℤ
-wire_refusal wire.Short = negsuc 30
-wire_refusal wire.Long = negsuc 31
-wire_refusal wire.WrongLength = negsuc 32
-wire_refusal wire.WrongType = negsuc 33
-wire_refusal wire.UnknownState = negsuc 34
-wire_refusal wire.UnknownCode = negsuc 35
-wire_refusal wire.PollTooLong = negsuc 36
-
--- A record that is no session's is refused with -41.
+-- A record that is not that of a session is refused with -41.
 abbrev pub no_session : ℤ
 no_session = negsuc 40
 
--- A number that is none of what is seen is refused with -42.
+-- If there is no such number of what is seen, the call is refused with -42.
 abbrev pub no_seen : ℤ
 no_seen = negsuc 41
+
+-- A buffer that is too short for a body is refused with -43.
+abbrev pub no_room : ℤ
+no_room = negsuc 42
+
+-- A number of no range of the map is refused with -44.
+abbrev pub no_range : ℤ
+no_range = negsuc 43
+
+-- A call is refused by the first fault of what it read, with the number of that fault.
+pub record IsRefusedFor {F : Type 0} (why : F → Refusal) (first : F → Type 0) (result : ℤ) : Type 0 where
+  pub fault : F
+  pub is_first : first fault
+  pub number_is : result ≡ refused_number (why fault)

@@ -1,4 +1,4 @@
--- What the record of a session stands for.
+-- Which session a record holds.
 use Rattle.std.specs.Prelude.{◌≡◌, ℕ, ◌==◌, ◌≤◌, not, if◌then◌else◌, List, length, take, Option, Some, None, option_and_then, option_map}
 use Rattle.std.specs.Borrow.{Bor}
 use Rattle.dfu_wire.specs.declared.ids.Ids.{Ids}
@@ -49,7 +49,7 @@ parts_in r goal phase = record {
   restarts = r.restarts;
 }
 
--- The parts that a record says over a payload; none where its goal or its phase is the number of none.
+-- The parts that a record has over a payload; None if there is no goal or no phase of its numbers.
 abbrev pub parts_of : DfuSession → (payload : Bor (List ℕ)) → Option Parts
 parts_of r payload = option_and_then (λ goal. option_map (parts_in r goal) (phase_at r.phase r.number r.more)) (goal_at r.goal payload)
 

@@ -1,18 +1,15 @@
 -- What is seen, by its number.
-use Rattle.std.specs.Prelude.{ℕ, ◌==◌, if◌then◌else◌, List, Option, Some, None}
+use Rattle.std.specs.Prelude.{ℕ, List, [], ◌∷◌, Option}
+use Rattle.std.specs.List.{slice_get}
 use Rattle.std.specs.Borrow.{Bor}
 use Rattle.dfu_host.specs.declared.seen.Seen.{Seen}
 use Rattle.dfu_host.specs.declared.seen.Seen.TheVariants as seen
 
--- What is seen by the number of C, 0 to 7, of which 1 has these bytes; none where there is none.
+-- What is seen in the order of the numbers of C, 0 to 7, with these bytes.
+abbrev seen_in_order : (bytes : Bor (List ℕ)) → List Seen
+seen_in_order bytes =
+    seen.Ack ∷ seen.Bytes bytes ∷ seen.Stall ∷ seen.Nothing ∷ seen.Waited ∷ seen.WasReset ∷ seen.Restarted ∷ seen.Left ∷ []
+
+-- What is seen, by this number; None if it is over 7.
 abbrev pub seen_at : (number : ℕ) → (bytes : Bor (List ℕ)) → Option Seen
-seen_at number bytes =
-    if number == 0 then Some seen.Ack
-    else if number == 1 then Some (seen.Bytes bytes)
-    else if number == 2 then Some seen.Stall
-    else if number == 3 then Some seen.Nothing
-    else if number == 4 then Some seen.Waited
-    else if number == 5 then Some seen.WasReset
-    else if number == 6 then Some seen.Restarted
-    else if number == 7 then Some seen.Left
-    else None
+seen_at number bytes = slice_get (seen_in_order bytes) number

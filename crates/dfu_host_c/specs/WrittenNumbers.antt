@@ -2,7 +2,7 @@
 use Rattle.std.specs.Prelude.{ℕ}
 use Rattle.dfu_host.specs.declared.phase.Phase.{Phase}
 use Rattle.dfu_host.specs.declared.phase.Phase.TheVariants as phase
-use Rattle.dfu_host_c.specs.ReportNumbers.{code_in, report_number}
+use Rattle.dfu_host_c.specs.ReportNumbers.{report_numbers}
 use Rattle.dfu_host_c.specs.declared.phases.EncodedPhase.{EncodedPhase}
 
 -- The numbers of a phase: which it is, its block, part or report, and its poll time or code.
@@ -31,8 +31,8 @@ numbers_in (phase.WaitLast poll) = of 16 0 poll
 numbers_in phase.Trouble = of 17 0 0
 numbers_in (phase.Fetch k) = of 18 k 0
 numbers_in (phase.Compare k) = of 19 k 0
-numbers_in (phase.Last report) = of 20 (report_number report) (code_in report)
+numbers_in (phase.Last report) = of 20 (report_numbers report).0 (report_numbers report).1
 numbers_in phase.LastUploaded = of 21 0 0
 numbers_in phase.GiveUp = of 22 0 0
-numbers_in (phase.Over report) = of 23 (report_number report) (code_in report)
+numbers_in (phase.Over report) = of 23 (report_numbers report).0 (report_numbers report).1
 numbers_in phase.OverUploaded = of 24 0 0

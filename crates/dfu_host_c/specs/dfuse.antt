@@ -1,10 +1,9 @@
 pub mod ReportNumbers
 pub mod PhaseNumbers
 pub mod Sessions
-pub mod Refusals
 pub mod Told
 pub mod Maps
-pub mod FileRefusals
 pub mod Files
 pub mod Actions
 pub mod Calls
+pub mod Watch

@@ -18,7 +18,7 @@ use dfu_host::Action;
 #[repr(C)]
 #[derive(Drop)]
 pub struct DfuAction {
-    /// 0 to send, 1 to wait, 2 to reset, 3 where the session is over.
+    /// 0 to send, 1 to wait, 2 to reset the bus, 3 if the session is over.
     pub what: u32,
     /// The milliseconds of a wait, or the number of a report.
     pub value: u32,
@@ -32,7 +32,7 @@ pub struct DfuAction {
     pub setup: [u8; 8],
 }
 
-/// The record of an action whose body, if any, begins there.
+/// The record of an action. Its body, if it has one, begins there in the payload.
 #[tactic(auto, using(crate::proofs::Bodies::cut_ends))]
 fn record_of(action: Action<'_>, from: usize) -> DfuAction
     ensures { (deed : Deed) (payload : List ℕ) → Spells deed action.entry → BodyIsCut payload from action.entry → from ≤ length payload
@@ -72,7 +72,7 @@ fn record_of(action: Action<'_>, from: usize) -> DfuAction
     }
 }
 
-/// What a session wants done next: 0 or `DFU_NO_SESSION`.
+/// Writes what a session wants done next: 0 or `DFU_NO_SESSION`.
 #[tactic(auto, using(crate::proofs::Bodies::begins_within))]
 #[unsafe(no_mangle)]
 pub extern "C" fn dfu_host_next(session: &DfuSession, payload: &[u8], action: &mut DfuAction) -> i32

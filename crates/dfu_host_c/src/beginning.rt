@@ -13,7 +13,7 @@ ghost use Rattle.dfu_host_c.specs.Sessions.{ids_of, limits_of};
 use crate::file::file_in;
 use crate::holding::record_of;
 use crate::ids::DfuIds;
-use crate::refusals;
+use crate::refusals::Refusal;
 use crate::session::DfuSession;
 use dfu_host::{Limits, Session};
 use dfu_suffix::File;
@@ -26,7 +26,7 @@ struct Wanted<'f> {
     functional: Functional,
 }
 
-/// Reads a file and a descriptor; else the refusal of the first that is none.
+/// Reads a file and a descriptor, or gives the number of the refusal: the file's fault, else the descriptor's.
 fn read_both<'f>(file: &'f [u8], descriptor: &[u8]) -> Result<Wanted<'f>, i32>
     ensures file { IfOk result (λ w. IsContent w.file file.now) }
     ensures functional { IfOk result (λ w. IsFunctional w.functional descriptor.now) }
@@ -34,11 +34,11 @@ fn read_both<'f>(file: &'f [u8], descriptor: &[u8]) -> Result<Wanted<'f>, i32>
 {
     let file = match file_in(file) {
         Ok(file) => file,
-        Err(fault) => return Err(refusals::of_file(fault)),
+        Err(fault) => return Err(Refusal::File(fault).number()),
     };
     match Functional::decode(descriptor) {
         Ok(functional) => Ok(Wanted { file, functional }),
-        Err(fault) => Err(refusals::of_wire(fault)),
+        Err(fault) => Err(Refusal::Wire(fault).number()),
     }
 }
 
@@ -73,7 +73,7 @@ pub extern "C" fn dfu_host_download(
     };
     match Session::download(&file, &functional, device.ids(), limits) {
         Ok(host) => start(session, &host),
-        Err(fault) => refusals::of_host(fault),
+        Err(fault) => Refusal::Host(fault).number(),
     }
 }
 
@@ -99,7 +99,7 @@ pub extern "C" fn dfu_host_verified(
     };
     match Session::download_verified(&file, &functional, device.ids(), limits) {
         Ok(host) => start(session, &host),
-        Err(fault) => refusals::of_host(fault),
+        Err(fault) => Refusal::Host(fault).number(),
     }
 }
 
@@ -117,11 +117,11 @@ pub extern "C" fn dfu_host_upload(
 {
     let functional = match Functional::decode(descriptor) {
         Ok(functional) => functional,
-        Err(fault) => return refusals::of_wire(fault),
+        Err(fault) => return Refusal::Wire(fault).number(),
     };
     let limits = Limits { actions, restarts };
     match Session::upload(&functional, limits) {
         Ok(host) => start(session, &host),
-        Err(fault) => refusals::of_host(fault),
+        Err(fault) => Refusal::Host(fault).number(),
     }
 }

@@ -6,9 +6,10 @@ ghost use Rattle.dfu_suffix.specs.Grammar.{First, IsFile};
 ghost use Rattle.dfu_suffix.specs.declared.fault.SuffixFault.{SuffixFault};
 ghost use Rattle.dfu_wire.specs.declared.ids.Ids.{Ids};
 ghost use Rattle.dfu_host_c.specs.FileRecords.{record_of};
-ghost use Rattle.dfu_host_c.specs.Refusals.{file_refusal};
+ghost use Rattle.dfu_host_c.specs.Refusals.{refused_number};
+ghost use Rattle.dfu_host_c.specs.declared.refusals.Refusal.TheVariants.{File as FileRefusal};
 
-use crate::refusals;
+use crate::refusals::Refusal;
 use byteorder::{ByteOrder, LittleEndian};
 use dfu_suffix::{File, SuffixFault, read_small};
 
@@ -41,7 +42,7 @@ fn crc_in(bytes: &[u8]) -> u32
     LittleEndian::read_u32(last)
 }
 
-/// What a file says that was read of these bytes.
+/// The record of a file that was read from these bytes.
 fn record_of(file: &File<'_>, bytes: &[u8]) -> DfuFile
     requires { 16 ≤ length bytes.now }
     ensures { result ≡ record_of file.now.payload file.now.ids file.now.dfu file.now.suffix bytes.now }
@@ -58,7 +59,7 @@ fn record_of(file: &File<'_>, bytes: &[u8]) -> DfuFile
     }
 }
 
-/// The file of these bytes, or its first fault: by the small table, since what reads a file once can wait. It stands once in the library.
+/// Reads a file, or gives its first fault: by the CRC's small table, since a file is read only once. The library has this code only once.
 #[inline(never)]
 pub(crate) fn file_in(bytes: &[u8]) -> Result<File<'_>, SuffixFault>
     ensures found { IfOk result (λ f. (extra : List ℕ) × IsFile f.payload f.ids f.dfu extra bytes.now × (f.suffix ≡ 16 + length extra)) }
@@ -75,13 +76,13 @@ pub extern "C" fn dfu_host_file(file: &[u8], out: &mut DfuFile) -> i32
     ensures found { result ≡ pos 0 → (payload : List ℕ) × (ids : Ids) × (dfu : ℕ) × (extra : List ℕ) × IsFile payload ids dfu extra file.now
         × (out.new ≡ record_of payload ids dfu (16 + length extra) file.now) }
     ensures only { (payload : List ℕ) (ids : Ids) (dfu : ℕ) (extra : List ℕ) → IsFile payload ids dfu extra file.now → result ≡ pos 0 }
-    ensures fault { (fault : SuffixFault) → First fault file.now → (result ≡ file_refusal fault) × (out.new ≡ out.old) }
+    ensures fault { (fault : SuffixFault) → First fault file.now → (result ≡ refused_number (FileRefusal fault)) × (out.new ≡ out.old) }
 {
     match file_in(file) {
         Ok(read) => {
             *out = record_of(&read, file);
             0
         }
-        Err(fault) => refusals::of_file(fault),
+        Err(fault) => Refusal::File(fault).number(),
     }
 }

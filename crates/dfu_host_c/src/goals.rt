@@ -7,7 +7,7 @@ ghost use Rattle.dfu_host_c.specs.Sessions.{goal_at};
 
 use dfu_host::Goal;
 
-/// What a session of this number is for, over this payload; none where there is none.
+/// What a session of this number is for, over this payload; None if there is no such number.
 pub(crate) fn goal_at<'f>(number: u32, payload: &'f [u8]) -> Option<Goal<'f>>
     ensures value { result ≡ goal_at number payload.entry }
     ensures carries { IfSome result (λ goal. Carries payload.entry goal) }

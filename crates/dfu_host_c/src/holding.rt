@@ -12,7 +12,7 @@ use crate::session::DfuSession;
 use crate::version::VERSION;
 use dfu_host::{Parts, Session};
 
-/// The parts that a record says; none where its goal or its phase is the number of none.
+/// The parts that a record has; None if there is no goal or no phase of its numbers.
 fn parts_of<'f>(given: &DfuSession, payload: &'f [u8]) -> Option<Parts<'f>>
     ensures value { result ≡ parts_of given.now payload.entry }
     ensures carries { IfSome result (λ parts. Carries payload.entry parts.goal) }
@@ -35,7 +35,7 @@ fn parts_of<'f>(given: &DfuSession, payload: &'f [u8]) -> Option<Parts<'f>>
     })
 }
 
-/// The session of a record over a payload; none where it is none's, as one of another version.
+/// The session of a record over a payload; None if the record is not that of a session, or has another version.
 pub(crate) fn session_of<'f>(given: &DfuSession, payload: &'f [u8]) -> Option<Session<'f>>
     ensures some { IfSome result (λ s. IsRecord given.now payload.entry s × Carries payload.entry s.goal) }
     ensures none { result ≡ None → (parts : Parts) → IsRecord given.now payload.entry parts → ⊥ }

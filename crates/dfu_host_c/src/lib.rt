@@ -1,7 +1,7 @@
 //! The host of USB device firmware upgrade (USB DFU 1.1) for programs in C: a static library without
-//! memory of its own, whose calls `include/dfu_host.h` describes; and the host of DfuSe, `include/dfuse_host.h`.
+//! memory of its own. `include/dfu_host.h` describes its calls, and `include/dfuse_host.h` those of the host of DfuSe.
 //!
-//! The state of a session is a record of the caller's. Each call makes the session of it, does one
+//! The caller keeps the state of a session in a record. Each call reads the session from it, does one
 //! step, and writes the record again.
 #![tactic(auto)]
 
@@ -20,3 +20,5 @@ mod seen;
 mod session;
 mod steps;
 mod version;
+mod watch;
+mod watching;

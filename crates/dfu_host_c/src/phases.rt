@@ -1,8 +1,8 @@
 //! Phases as numbers, both ways.
 
-ghost use Rattle.std.specs.Prelude.{◌≡◌, Some, None, nat_lt, if◌then◌else◌};
-ghost use Rattle.dfu_host_c.specs.PhaseNumbers.{phase_at};
-ghost use Rattle.dfu_host_c.specs.ReportNumbers.{code_in, report_at, report_number};
+ghost use Rattle.std.specs.Prelude.{◌≡◌, Some};
+ghost use Rattle.dfu_host_c.specs.PhaseNumbers.{part_at, phase_at};
+ghost use Rattle.dfu_host_c.specs.ReportNumbers.{report_at, report_numbers};
 ghost use Rattle.dfu_host_c.specs.WrittenNumbers.{numbers_in};
 
 use crate::reports::{report_at, report_numbers};
@@ -19,7 +19,7 @@ pub(crate) struct EncodedPhase {
     pub(crate) more: u32,
 }
 
-/// The phase of these numbers; none where there is none.
+/// The phase of these numbers; None if there is no such phase.
 pub(crate) fn phase_at(which: u32, number: u64, more: u32) -> Option<Phase>
     ensures { result ≡ phase_at which number more }
 {
@@ -66,9 +66,9 @@ pub(crate) fn phase_at(which: u32, number: u64, more: u32) -> Option<Phase>
     }
 }
 
-/// The part of a number; none over 65,535.
+/// The part of this number; None if it is over 65,535.
 fn part_at(number: u64) -> Option<u16>
-    ensures { result ≡ (if nat_lt number 65536 then Some number else None) }
+    ensures { result ≡ part_at number }
 {
     if number < 65_536 {
         Some(number as u16)
@@ -130,8 +130,8 @@ fn plain(which: u32) -> EncodedPhase
 fn reported(which: u32, report: Report) -> EncodedPhase
     ensures which { result.which ≡ which }
     ensures report { report_at result.number result.more ≡ Some report }
-    ensures number { result.number ≡ report_number report }
-    ensures code { result.more ≡ code_in report }
+    ensures number { result.number ≡ (report_numbers report).0 }
+    ensures code { result.more ≡ (report_numbers report).1 }
 {
     let (number, code) = report_numbers(report);
     of(which, u64::from(number), code)

@@ -1,60 +1,59 @@
-//! What C is answered where a call is refused: negative numbers.
+//! What C gets if a call is refused: negative numbers, in the order of the faults.
 
 ghost use Rattle.std.specs.Prelude.{◌≡◌};
-ghost use Rattle.dfu_host_c.specs.Refusals.{file_refusal, host_refusal, wire_refusal};
+ghost use Rattle.dfu_host_c.specs.Refusals.{refused_number};
 
 use dfu_host::HostFault;
 use dfu_suffix::SuffixFault;
 use dfu_wire::WireFault;
+use dfuse_file::{FileFault, ImageFault};
+use dfuse_host::PlanFault;
+use dfuse_memory::MapFault;
 
-/// The record is no session's over that payload and room.
+/// The record is not that of a session over this payload and buffer, or over this map and image.
 pub(crate) const NO_SESSION: i32 = -41;
 
-/// The number is none of what is seen.
+/// There is no such number of what is seen.
 pub(crate) const NO_SEEN: i32 = -42;
 
-/// The answer for a file that is none.
-pub(crate) fn of_file(fault: SuffixFault) -> i32
-    ensures { result ≡ file_refusal fault }
-{
-    match fault {
-        SuffixFault::TooShort => -1,
-        SuffixFault::NoSignature => -2,
-        SuffixFault::BadLength => -3,
-        SuffixFault::DfuSe => -4,
-        SuffixFault::BadCrc => -5,
-        SuffixFault::AlreadySuffixed => -6,
-        SuffixFault::TooLarge => -7,
-        SuffixFault::NoMemory => -8,
-        SuffixFault::Read => -9,
-        SuffixFault::Write => -10,
-    }
+/// The buffer for a body has no room for it.
+pub(crate) const NO_ROOM: i32 = -43;
+
+/// The map has no range of this number.
+pub(crate) const NO_RANGE: i32 = -44;
+
+/// Why a call is refused.
+#[derive(Clone, Copy)]
+pub(crate) enum Refusal {
+    /// The bytes are no file.
+    File(SuffixFault),
+    /// The host begins no such session.
+    Host(HostFault),
+    /// The bytes are no descriptor.
+    Wire(WireFault),
+    /// The string is no memory map.
+    Map(MapFault),
+    /// The host of DfuSe begins no session by this plan.
+    Plan(PlanFault),
+    /// The bytes are no DfuSe file.
+    DfuseFile(FileFault),
+    /// A DfuSe file has no image for a setting.
+    Image(ImageFault),
 }
 
-/// The answer for a session that the host refuses.
-pub(crate) fn of_host(fault: HostFault) -> i32
-    ensures { result ≡ host_refusal fault }
-{
-    match fault {
-        HostFault::EmptyPayload => -21,
-        HostFault::WrongTarget => -22,
-        HostFault::CannotDownload => -23,
-        HostFault::CannotUpload => -24,
-        HostFault::BadDescriptor => -25,
-    }
-}
-
-/// The answer for bytes that are no descriptor.
-pub(crate) fn of_wire(fault: WireFault) -> i32
-    ensures { result ≡ wire_refusal fault }
-{
-    match fault {
-        WireFault::Short => -31,
-        WireFault::Long => -32,
-        WireFault::WrongLength => -33,
-        WireFault::WrongType => -34,
-        WireFault::UnknownState => -35,
-        WireFault::UnknownCode => -36,
-        WireFault::PollTooLong => -37,
+impl Refusal {
+    /// The number of the refusal, -1 to -88.
+    pub(crate) fn number(self) -> i32
+        ensures { result ≡ refused_number self }
+    {
+        match self {
+            Refusal::File(fault) => -1 - fault as i32,
+            Refusal::Host(fault) => -21 - fault as i32,
+            Refusal::Wire(fault) => -31 - fault as i32,
+            Refusal::Map(fault) => -51 - fault as i32,
+            Refusal::Plan(fault) => -61 - fault as i32,
+            Refusal::DfuseFile(fault) => -71 - fault as i32,
+            Refusal::Image(fault) => -87 - fault as i32,
+        }
     }
 }

@@ -2,37 +2,22 @@
 
 ghost use Rattle.std.specs.Prelude.{◌≡◌, Some};
 ghost use Rattle.dfu_wire.specs.Code.{code_byte};
-ghost use Rattle.dfu_host_c.specs.ReportNumbers.{code_at, code_in, report_at, report_number};
+ghost use Rattle.dfu_host_c.specs.ReportNumbers.{code_at, report_at, report_numbers};
 
 use dfu_host::Report;
 use dfu_wire::Code;
 
-/// The status code of a number; none over 15.
+/// The status code of a number; None if it is over 15.
 pub(crate) fn code_at(number: u32) -> Option<Code>
     ensures { result ≡ code_at number }
 {
-    match number {
-        0 => Some(Code::Ok),
-        1 => Some(Code::Target),
-        2 => Some(Code::File),
-        3 => Some(Code::Write),
-        4 => Some(Code::Erase),
-        5 => Some(Code::CheckErased),
-        6 => Some(Code::Prog),
-        7 => Some(Code::Verify),
-        8 => Some(Code::Address),
-        9 => Some(Code::NotDone),
-        10 => Some(Code::Firmware),
-        11 => Some(Code::Vendor),
-        12 => Some(Code::Usbr),
-        13 => Some(Code::Por),
-        14 => Some(Code::Unknown),
-        15 => Some(Code::StalledPkt),
-        _ => None,
+    if number > 15 {
+        return None;
     }
+    Code::from_byte(number as u8).ok()
 }
 
-/// The report of a number; none where it is 0 or over 11, or a Refused of no code.
+/// The report of a number; None if it is 0 or over 11, or if Refused has no such code.
 pub(crate) fn report_at(number: u64, code: u32) -> Option<Report>
     ensures { result ≡ report_at number code }
 {
@@ -55,11 +40,10 @@ pub(crate) fn report_at(number: u64, code: u32) -> Option<Report>
     }
 }
 
-/// The number of a report, and its code, 0 but for Refused.
+/// The number of a report, and its code, which is 0 except for Refused.
 pub(crate) fn report_numbers(report: Report) -> (u32, u32)
     ensures report { report_at result.0 result.1 ≡ Some report }
-    ensures number { result.0 ≡ report_number report }
-    ensures code { result.1 ≡ code_in report }
+    ensures numbers { result ≡ report_numbers report }
 {
     match report {
         Report::Installed => (1, 0),

@@ -5,7 +5,7 @@ ghost use Rattle.dfu_host_c.specs.Told.{seen_at};
 
 use dfu_host::Seen;
 
-/// What is seen by its number, 0 to 7, of which 1 has these bytes; none where there is none.
+/// What is seen, by its number, 0 to 7. Number 1 has these bytes. None if the number is over 7.
 pub(crate) fn seen_at<'s>(number: u32, bytes: &'s [u8]) -> Option<Seen<'s>>
     ensures { result ≡ seen_at number bytes.entry }
 {

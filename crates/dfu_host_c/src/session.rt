@@ -1,10 +1,10 @@
-//! The record of a session, which is the caller's.
+//! The record of a session, which the caller keeps.
 
-/// `struct dfu_session`: where a session stands between two calls. The header says what each number means.
+/// `struct dfu_session`: the state of a session between two calls. The header says what each number means.
 #[repr(C)]
 #[derive(Drop)]
 pub struct DfuSession {
-    /// The version of the library that wrote it.
+    /// The version of the library that wrote the record.
     pub version: u32,
     /// What the session is for, 1 to 4.
     pub goal: u32,
@@ -18,14 +18,14 @@ pub struct DfuSession {
     pub more: u32,
     /// The actions that are left.
     pub actions: u32,
-    /// The restarts of the device that are still taken.
+    /// How many more restarts of the device are taken.
     pub restarts: u16,
     /// wTransferSize, 1 to 65,535.
     pub transfer: u16,
     /// wDetachTimeOut, in milliseconds.
     pub detach_ms: u16,
-    /// bitManifestationTolerant: 0 or else.
+    /// bitManifestationTolerant: 0, or any other number if it is set.
     pub tolerant: u8,
-    /// bitWillDetach: 0 or else.
+    /// bitWillDetach: 0, or any other number if it is set.
     pub will_detach: u8,
 }

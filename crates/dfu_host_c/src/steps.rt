@@ -32,7 +32,7 @@ fn step(given: &DfuSession, host: &mut Session<'_>, kept: &mut [u8], seen: Seen<
     record_of(host, count as u64)
 }
 
-/// Tells a session what came of its action: 0, `DFU_NO_SESSION` or `DFU_NO_SEEN`.
+/// Gives a session what came of its action: 0, `DFU_NO_SESSION` or `DFU_NO_SEEN`.
 #[unsafe(no_mangle)]
 pub extern "C" fn dfu_host_take(
     session: &mut DfuSession,

@@ -21,7 +21,8 @@ class Ends:
 
     def give(self, line):
         made = self.value(line["type"], line["value"]).text
-        self.emit(f"return signed{bits(line['type'])}({made});" if self.body.export else f"return {made};")
+        has_sign = self.body.export is not None and self.body.export.result.startswith("int")
+        self.emit(f"return signed{bits(line['type'])}({made});" if has_sign else f"return {made};")
 
     def give_nothing(self, line):
         self.emit("return;")

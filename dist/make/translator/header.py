@@ -17,13 +17,13 @@ class Export:
     def fits(self, function):
         """Whether the module's function takes and gives what the header says."""
         types = [type for type, _ in function.parameters]
-        return (self.result == f"int{function.result[1:]}_t" and len(types) == len(self.parameters)
+        return (self.result in (f"int{function.result[1:]}_t", f"uint{function.result[1:]}_t") and len(types) == len(self.parameters)
                 and all(re.fullmatch(TAKEN_AS.get(type, "-"), it) for type, it in zip(types, self.parameters)))
 
 
 def prototypes(text):
     """The exports that a text declares."""
-    found = re.findall(r"^(int32_t|int64_t) (dfu(?:se)?_\w+)\(([^)]*)\);", text, re.M)
+    found = re.findall(r"^(u?int32_t|int64_t) (dfu(?:se)?_\w+)\(([^)]*)\);", text, re.M)
     return {name: Export(result, parameters) for result, name, parameters in found}
 
 

@@ -3,11 +3,11 @@ use Rattle.std.specs.Prelude.{◌≡◌, ◌<◌, ◌≤◌, ℕ, List, ◌++◌
 use Rattle.dfu_wire.specs.declared.requests.Request.{Request}
 use Rattle.dfuse_host.specs.Deeds.{DfuseDeed, Send, Wait, Done}
 use Rattle.dfuse_host.specs.Wire.{DfuseIsAsked}
-use Rattle.dfu_host_c.specs.dfuse.ReportNumbers.{more_in, dfuse_report_number}
+use Rattle.dfu_host_c.specs.dfuse.ReportNumbers.{dfuse_report_numbers}
 use Rattle.dfu_host_c.specs.declared.dfuse.action.DfuseAction.{DfuseAction}
 
--- The record says to send a request, for which its setup asks, with so many bytes as its body, which stand at the front of the buffer; no
--- other byte of it changes.
+-- The record says to send this request: its setup asks for it, and its body is that many bytes at the front of the buffer. No other byte
+-- of the buffer changes.
 pub record DfuseIsSend (q : Request) (body : List ℕ) (r : DfuseAction) (old new : List ℕ) : Type 0 where
   pub what : r.what ≡ 0
   pub asked : DfuseIsAsked q r.setup
@@ -17,17 +17,17 @@ pub record DfuseIsSend (q : Request) (body : List ℕ) (r : DfuseAction) (old ne
   pub value : r.value ≡ 0
   pub more : r.more ≡ 0
 
--- The record says to do something else than to send a request: nothing is in it of a setup or a body, and the buffer stays.
+-- The record says to do something else than to send a request: it has no setup and no body, and the buffer stays.
 pub record DfuseIsOther (what value more : ℕ) (r : DfuseAction) (old new : List ℕ) : Type 0 where
   pub same : r ≡ record { what = what; value = value; more = more; length = 0; setup = replicate 8 0 }
   pub stays : new ≡ old
 
--- The record says what a session does: 0 to send a request, 1 to wait so many milliseconds, and 3 that it is done, with this report. A number
--- that an action does not have is 0.
+-- The record says what a session does: 0 to send a request, 1 to wait that many milliseconds, and 3 that it is done, with this report. A
+-- number that an action does not have is 0.
 abbrev pub DfuseTells : DfuseDeed → DfuseAction → (old new : List ℕ) → Type 0
 DfuseTells (Send q body) r old new = DfuseIsSend q body r old new
 DfuseTells (Wait ms) r old new = DfuseIsOther 1 ms 0 r old new
-DfuseTells (Done report) r old new = DfuseIsOther 3 (dfuse_report_number report) (more_in report) r old new
+DfuseTells (Done report) r old new = DfuseIsOther 3 (dfuse_report_numbers report).0 (dfuse_report_numbers report).1 r old new
 
 -- A request is to be sent whose body has more bytes than the buffer.
 abbrev pub BodyHasNoRoom : DfuseDeed → (old : List ℕ) → Type 0

@@ -4,16 +4,16 @@ use Rattle.std.specs.Borrow.{Bor}
 use Rattle.dfuse_memory.specs.Reading.{MapContent}
 use Rattle.dfuse_memory.specs.Grammar.{IsMap}
 use Rattle.dfuse_host.specs.declared.element.Element.{Element}
-use Rattle.dfuse_host.specs.declared.fault.PlanFault.{PlanFault}
 use Rattle.dfuse_host.specs.declared.seen.Seen.{Seen}
 use Rattle.dfuse_host.specs.declared.session.Session.{Session}
 use Rattle.dfuse_host.specs.Deeds.{dfuse_deed}
 use Rattle.dfuse_host.specs.Refusing.{FirstPlanFault, IsSoundPlan}
 use Rattle.dfuse_host.specs.Sessions.{SessionRow, dfuse_begun}
+use Rattle.dfu_host_c.specs.Refusals.{IsRefusedFor}
 use Rattle.dfu_host_c.specs.dfuse.Actions.{BodyHasNoRoom, DfuseTells}
-use Rattle.dfu_host_c.specs.dfuse.Refusals.{plan_refusal}
 use Rattle.dfu_host_c.specs.dfuse.Sessions.{DfuseIsHeld, dfuse_limits_of, phase_in, dfuse_plan_of, dfuse_record_of}
 use Rattle.dfu_host_c.specs.dfuse.Told.{dfuse_seen_at}
+use Rattle.dfu_host_c.specs.declared.refusals.Refusal.TheVariants as refusal
 use Rattle.dfu_host_c.specs.declared.dfuse.action.DfuseAction.{DfuseAction}
 use Rattle.dfu_host_c.specs.declared.dfuse.plan.DfusePlan.{DfusePlan}
 use Rattle.dfu_host_c.specs.declared.dfuse.session.DfuseSession.{DfuseSession}
@@ -29,12 +29,10 @@ pub record DfuseBegins (text : List ℕ) (image : Bor (List Element)) (how : Dfu
 -- The string is a map, and this is the number of the plan's first fault.
 pub record DfuseIsRefused (text : List ℕ) (image : Bor (List Element)) (how : DfusePlan) (result : ℤ) : Type 0 where
   pub map : Bor MapContent
-  pub fault : PlanFault
   pub is_map : IsMap map.now text
-  pub first : FirstPlanFault (dfuse_plan_of how map image) fault
-  pub number_is : result ≡ plan_refusal fault
+  pub refused : IsRefusedFor refusal.Plan (FirstPlanFault (dfuse_plan_of how map image)) result
 
--- The string is no map, or the record is none of a session, or of another version.
+-- The string is not a map, or the record has no phase or another version.
 abbrev pub NoSession : DfuseSession → (text : List ℕ) → Type 0
 NoSession r text = ((m : MapContent) → IsMap m text → ⊥) ⊎ (phase_in r ≡ None)
 
@@ -44,7 +42,7 @@ pub record DfuseIsNext (r : DfuseSession) (text : List ℕ) (image : Bor (List E
   pub held : DfuseIsHeld r text image session
   pub tells : DfuseTells (dfuse_deed session.plan session.phase) a old new
 
--- The session of a record sends a body next for which the buffer has no room.
+-- The session of a record sends a body next, and the buffer has no room for it.
 pub record NoRoomFor (r : DfuseSession) (text : List ℕ) (image : Bor (List Element)) (old : List ℕ) : Type 0 where
   pub session : Session
   pub held : DfuseIsHeld r text image session

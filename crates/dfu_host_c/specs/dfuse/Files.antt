@@ -4,12 +4,11 @@ use Rattle.dfuse_host.specs.declared.element.Element.{Element}
 use Rattle.dfuse_file.specs.Reading.{DfuseContent}
 use Rattle.dfuse_file.specs.Grammar.{IsDfuSe, FirstFileFault}
 use Rattle.dfuse_file.specs.Images.{elements_for, image_fault, one_setting, ListsBehind}
-use Rattle.dfuse_file.specs.declared.fault.FileFault.{FileFault}
-use Rattle.dfuse_file.specs.declared.image.ImageFault.{ImageFault}
-use Rattle.dfu_host_c.specs.dfuse.FileRefusals.{dfuse_refusal, image_refusal}
+use Rattle.dfu_host_c.specs.Refusals.{IsRefusedFor}
+use Rattle.dfu_host_c.specs.declared.refusals.Refusal.TheVariants as refusal
 use Rattle.dfu_host_c.specs.declared.dfuse.file.DfuseFile.{DfuseFile}
 
--- The number of the setting that all targets are for; 256 if there are several.
+-- The number of the alternate setting that all targets are for; 256 if there are several.
 abbrev pub setting_number : Option ℕ → ℕ
 setting_number (Some setting) = setting
 setting_number None = 256
@@ -24,11 +23,9 @@ file_record f = record {
   vendor = f.ids.vendor;
 }
 
--- The bytes are no DfuSe file, and this is the number of their first fault.
-pub record IsNoDfuSe (bytes : List ℕ) (result : ℤ) : Type 0 where
-  pub fault : FileFault
-  pub first : FirstFileFault fault bytes
-  pub number_is : result ≡ dfuse_refusal fault
+-- The bytes are not a DfuSe file, and this is the number of their first fault.
+abbrev pub IsNoDfuSe : (bytes : List ℕ) → (result : ℤ) → Type 0
+IsNoDfuSe bytes result = IsRefusedFor refusal.DfuseFile (λ fault. FirstFileFault fault bytes) result
 
 -- The bytes are a DfuSe file, and the record says what it has.
 pub record HasFile (bytes : List ℕ) (r : DfuseFile) : Type 0 where
@@ -36,16 +33,14 @@ pub record HasFile (bytes : List ℕ) (r : DfuseFile) : Type 0 where
   pub is_file : IsDfuSe file bytes
   pub says : r ≡ file_record file
 
--- The bytes are a DfuSe file, and the first places have all its elements for this setting, which are so many, in the order of the file.
+-- The bytes are a DfuSe file, and the first places have all its elements for this setting, in the order of the file. This is their count.
 pub record HasFileElements (bytes : List ℕ) (setting : ℕ) (old new : List Element) (count : ℕ) : Type 0 where
   pub file : DfuseContent
   pub is_file : IsDfuSe file bytes
   pub listed : ListsBehind 0 (elements_for setting file.targets) old (Some count) new
 
--- The bytes are a DfuSe file, and this is the number of why there is no image of this setting in so many places.
+-- The bytes are a DfuSe file, and this is the number of why its image for this setting was not listed in that many places.
 pub record HasNoElements (bytes : List ℕ) (setting : ℕ) (places : ℕ) (result : ℤ) : Type 0 where
   pub file : DfuseContent
-  pub fault : ImageFault
   pub is_file : IsDfuSe file bytes
-  pub first : image_fault places setting file.targets ≡ Some fault
-  pub number_is : result ≡ image_refusal fault
+  pub refused : IsRefusedFor refusal.Image (λ fault. image_fault places setting file.targets ≡ Some fault) result

@@ -3,11 +3,11 @@ use Rattle.std.specs.Prelude.{◌≡◌, ℕ, ℤ, ◌+◌, ◌*◌, List, lengt
 use Rattle.std.specs.List.{slice_get}
 use Rattle.dfuse_memory.specs.Reading.{MapContent}
 use Rattle.dfuse_memory.specs.Grammar.{IsMap, FirstMapFault}
-use Rattle.dfuse_memory.specs.declared.fault.MapFault.{MapFault}
 use Rattle.dfuse_memory.specs.declared.pages.Access.{Access}
 use Rattle.dfuse_memory.specs.declared.pages.Pages.{Pages}
-use Rattle.dfu_host_c.specs.dfuse.Refusals.{map_refusal}
+use Rattle.dfu_host_c.specs.Refusals.{IsRefusedFor}
 use Rattle.dfu_host_c.specs.dfuse.Sessions.{bit}
+use Rattle.dfu_host_c.specs.declared.refusals.Refusal.TheVariants as refusal
 use Rattle.dfu_host_c.specs.declared.dfuse.map.DfuseMap.{DfuseMap}
 use Rattle.dfu_host_c.specs.declared.dfuse.map.DfuseRange.{DfuseRange}
 
@@ -15,7 +15,7 @@ use Rattle.dfu_host_c.specs.declared.dfuse.map.DfuseRange.{DfuseRange}
 abbrev pub map_record : MapContent → DfuseMap
 map_record m = record { name = length m.name; ranges = length m.ranges }
 
--- What may be done with pages as a number: bit 0 to read, bit 1 to erase, bit 2 to write them.
+-- What may be done with pages, as a number: bit 0 to read, bit 1 to erase, bit 2 to write them.
 abbrev pub access_number : Access → ℕ
 access_number a = bit a.is_readable + 2 * bit a.is_erasable + 4 * bit a.is_writable
 
@@ -23,11 +23,9 @@ access_number a = bit a.is_readable + 2 * bit a.is_erasable + 4 * bit a.is_writa
 abbrev pub range_record : Pages → DfuseRange
 range_record p = record { start = p.start; size = p.size; count = p.count; access = access_number p.access }
 
--- The string is no map, and this is the number of its first fault.
-pub record IsNoMap (text : List ℕ) (result : ℤ) : Type 0 where
-  pub fault : MapFault
-  pub first : FirstMapFault fault text
-  pub number_is : result ≡ map_refusal fault
+-- The string is not a map, and this is the number of its first fault.
+abbrev pub IsNoMap : (text : List ℕ) → (result : ℤ) → Type 0
+IsNoMap text result = IsRefusedFor refusal.Map (λ fault. FirstMapFault fault text) result
 
 -- The string is a map, and the record says what it has.
 pub record HasMap (text : List ℕ) (r : DfuseMap) : Type 0 where

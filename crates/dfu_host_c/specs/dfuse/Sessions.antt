@@ -1,4 +1,4 @@
--- What the record of a DfuSe session stands for.
+-- Which DfuSe session a record holds.
 use Rattle.std.specs.Prelude.{◌≡◌, ℕ, Bool, true, false, ◌==◌, not, if◌then◌else◌, List, Option, Some, None, option_map}
 use Rattle.std.specs.Borrow.{Bor}
 use Rattle.dfuse_memory.specs.Reading.{MapContent}
@@ -27,64 +27,9 @@ numbers_of r = record {
   report = r.report;
 }
 
--- The phase of a record of this version; none if it is none.
+-- The phase of a record; None if it has another version, or if there is no phase of its numbers.
 abbrev pub phase_in : DfuseSession → Option Phase
 phase_in r = if r.version == version then dfuse_phase_at (numbers_of r) else None
-
--- The plan of a record, over a map and an image.
-abbrev pub plan_in : DfuseSession → (map : Bor MapContent) → (image : Bor (List Element)) → Plan
-plan_in r map image = record {
-  map = map;
-  image = image;
-  transfer = r.transfer;
-  front = r.front;
-  leaves = not (r.leaves == 0);
-  start = r.start;
-}
-
--- The session of a record in this phase.
-abbrev pub session_with : DfuseSession → (map : Bor MapContent) → (image : Bor (List Element)) → Phase → Session
-session_with r map image phase = record {
-  plan = plan_in r map image;
-  phase = phase;
-  actions = r.actions;
-  restarts = r.restarts;
-}
-
--- The session of a record, over a map and an image; none if it has no phase, or is of another version.
-abbrev pub session_in : DfuseSession → (map : Bor MapContent) → (image : Bor (List Element)) → Option Session
-session_in r map image = option_map (session_with r map image) (phase_in r)
-
--- A bit as a number.
-abbrev pub bit : Bool → ℕ
-bit true = 1
-bit false = 0
-
--- The record that the library writes of a session.
-abbrev pub dfuse_record_of : Session → DfuseSession
-dfuse_record_of s = record {
-  version = version;
-  work = (dfuse_numbers_in s.phase).work;
-  at = (dfuse_numbers_in s.phase).at;
-  end = (dfuse_numbers_in s.phase).end;
-  pointer = (dfuse_numbers_in s.phase).pointer;
-  place = (dfuse_numbers_in s.phase).place;
-  step = (dfuse_numbers_in s.phase).step;
-  more = (dfuse_numbers_in s.phase).more;
-  report = (dfuse_numbers_in s.phase).report;
-  start = s.plan.start;
-  actions = s.actions;
-  restarts = s.restarts;
-  transfer = s.plan.transfer;
-  front = s.plan.front;
-  leaves = bit s.plan.leaves;
-}
-
--- The record is that of this session, over the map of this string and over this image.
-pub record DfuseIsHeld (r : DfuseSession) (text : List ℕ) (image : Bor (List Element)) (s : Session) : Type 0 where
-  pub map : Bor MapContent
-  pub is_map : IsMap map.now text
-  pub says : session_in r map image ≡ Some s
 
 -- The plan of a record for C, over a map and an image.
 abbrev pub dfuse_plan_of : DfusePlan → (map : Bor MapContent) → (image : Bor (List Element)) → Plan
@@ -96,6 +41,52 @@ dfuse_plan_of r map image = record {
   leaves = not (r.leaves == 0);
   start = r.start;
 }
+
+-- The session of a record in this phase.
+abbrev pub session_with : DfuseSession → (map : Bor MapContent) → (image : Bor (List Element)) → Phase → Session
+session_with r map image phase = record {
+  plan = dfuse_plan_of r.plan map image;
+  phase = phase;
+  actions = r.plan.actions;
+  restarts = r.plan.restarts;
+}
+
+-- The session of a record, over a map and an image; None if it has no phase, or another version.
+abbrev pub session_in : DfuseSession → (map : Bor MapContent) → (image : Bor (List Element)) → Option Session
+session_in r map image = option_map (session_with r map image) (phase_in r)
+
+-- A bit as a number.
+abbrev pub bit : Bool → ℕ
+bit true = 1
+bit false = 0
+
+-- The record that the library writes for a session.
+abbrev pub dfuse_record_of : Session → DfuseSession
+dfuse_record_of s = record {
+  version = version;
+  work = (dfuse_numbers_in s.phase).work;
+  at = (dfuse_numbers_in s.phase).at;
+  end = (dfuse_numbers_in s.phase).end;
+  pointer = (dfuse_numbers_in s.phase).pointer;
+  place = (dfuse_numbers_in s.phase).place;
+  step = (dfuse_numbers_in s.phase).step;
+  more = (dfuse_numbers_in s.phase).more;
+  report = (dfuse_numbers_in s.phase).report;
+  plan = record {
+    start = s.plan.start;
+    actions = s.actions;
+    restarts = s.restarts;
+    transfer = s.plan.transfer;
+    front = s.plan.front;
+    leaves = bit s.plan.leaves;
+  };
+}
+
+-- The record is that of this session, over the map of this string and over this image.
+pub record DfuseIsHeld (r : DfuseSession) (text : List ℕ) (image : Bor (List Element)) (s : Session) : Type 0 where
+  pub map : Bor MapContent
+  pub is_map : IsMap map.now text
+  pub says : session_in r map image ≡ Some s
 
 -- The limits of a record for C.
 abbrev pub dfuse_limits_of : DfusePlan → Limits

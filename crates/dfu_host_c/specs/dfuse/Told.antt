@@ -1,16 +1,14 @@
 -- What is seen, by its number.
-use Rattle.std.specs.Prelude.{ℕ, ◌==◌, if◌then◌else◌, List, Option, Some, None}
+use Rattle.std.specs.Prelude.{ℕ, List, [], ◌∷◌, Option, Some, None, slice_index_or}
 use Rattle.std.specs.Borrow.{Bor}
 use Rattle.dfuse_host.specs.declared.seen.Seen.{Seen}
 use Rattle.dfuse_host.specs.declared.seen.Seen.TheVariants as seen
 
--- What is seen by the number of C, of which 1 has these bytes; none if there is none. A session of DfuSe resets no bus.
+-- What is seen in the order of the numbers of C, 0 to 6, with these bytes. A session of DfuSe resets no bus, so it has no 5.
+abbrev dfuse_seen_in_order : (bytes : Bor (List ℕ)) → List (Option Seen)
+dfuse_seen_in_order bytes =
+    Some seen.Ack ∷ Some (seen.Bytes bytes) ∷ Some seen.Stall ∷ Some seen.Nothing ∷ Some seen.Waited ∷ None ∷ Some seen.Restarted ∷ []
+
+-- What is seen, by this number; None if there is no such number.
 abbrev pub dfuse_seen_at : (number : ℕ) → (bytes : Bor (List ℕ)) → Option Seen
-dfuse_seen_at number bytes =
-    if number == 0 then Some seen.Ack
-    else if number == 1 then Some (seen.Bytes bytes)
-    else if number == 2 then Some seen.Stall
-    else if number == 3 then Some seen.Nothing
-    else if number == 4 then Some seen.Waited
-    else if number == 6 then Some seen.Restarted
-    else None
+dfuse_seen_at number bytes = slice_index_or (dfuse_seen_in_order bytes) number None

@@ -6,27 +6,25 @@ ghost use Rattle.dfuse_host.specs.Wire.{DfuseIsAsked, DfuseSpells};
 ghost use Rattle.dfu_wire.specs.declared.requests.Request.{Request};
 ghost use Rattle.dfu_host_c.specs.dfuse.Actions.{BodyHasNoRoom, DfuseIsOther, DfuseTells};
 ghost use Rattle.dfu_host_c.specs.dfuse.Calls.{DfuseIsNext, NoRoomFor, NoSession};
-ghost use Rattle.dfu_host_c.specs.dfuse.Refusals.{no_room};
-ghost use Rattle.dfu_host_c.specs.Refusals.{no_session};
+ghost use Rattle.dfu_host_c.specs.Refusals.{no_room, no_session};
 
 use crate::dfuse::holding::{map_of, session_of};
-use crate::dfuse::refusals::NO_ROOM;
 use crate::dfuse::reports::report_numbers;
 use crate::dfuse::session::DfuseSession;
-use crate::refusals::NO_SESSION;
+use crate::refusals::{NO_ROOM, NO_SESSION};
 use dfuse_host::{Action, Element};
 
 /// `struct dfuse_action`: what is to be done next. The header says what each number means.
 #[repr(C)]
 #[derive(Drop)]
 pub struct DfuseAction {
-    /// How many bytes the body has, which are at the front of the buffer.
+    /// How many bytes the body has. It is at the front of the buffer.
     pub length: u64,
     /// 0 to send, 1 to wait, 3 if the session is over.
     pub what: u32,
     /// The milliseconds of a wait, or the number of a report.
     pub value: u32,
-    /// What a report has: how the device left, or a code.
+    /// What the report has: how the device left, or a code.
     pub more: u32,
     /// The setup that is sent.
     pub setup: [u8; 8],
@@ -86,7 +84,7 @@ fn tell(given: Action<'_>, body: &mut [u8], action: &mut DfuseAction) -> i32
     }
 }
 
-/// What a session wants done next: 0, `DFU_NO_SESSION` or `DFUSE_NO_ROOM`.
+/// Writes what a session wants done next: 0, `DFU_NO_SESSION` or `DFUSE_NO_ROOM`.
 #[unsafe(no_mangle)]
 pub extern "C" fn dfuse_next(
     session: &DfuseSession,

@@ -6,12 +6,12 @@ ghost use Rattle.dfu_host_c.specs.dfuse.Maps.{IsNoMap};
 
 use crate::dfuse::holding::record_of;
 use crate::dfuse::plan::DfusePlan;
-use crate::dfuse::refusals;
 use crate::dfuse::session::DfuseSession;
-use dfuse_host::{Element, Limits, Plan, Session};
+use crate::refusals::Refusal;
+use dfuse_host::{Element, Limits, Session};
 use dfuse_memory::Map;
 
-/// Begins a session that writes an image and reads it back: 0, or why the string is no map, or why the plan is refused.
+/// Begins a session that writes an image and reads it back: 0, or why the string is not a map, or why the plan is refused.
 #[unsafe(no_mangle)]
 pub extern "C" fn dfuse_begin(
     session: &mut DfuseSession,
@@ -25,25 +25,17 @@ pub extern "C" fn dfuse_begin(
 {
     let map = match Map::read(map) {
         Ok(map) => map,
-        Err(fault) => return refusals::of_map(fault),
-    };
-    let wanted = Plan {
-        map: &map,
-        image,
-        transfer: plan.transfer,
-        front: plan.front,
-        leaves: plan.leaves != 0,
-        start: plan.start,
+        Err(fault) => return Refusal::Map(fault).number(),
     };
     let limits = Limits {
         actions: plan.actions,
         restarts: plan.restarts,
     };
-    match Session::begin(wanted, limits) {
+    match Session::begin(plan.over(&map, image), limits) {
         Ok(host) => {
             *session = record_of(&host);
             0
         }
-        Err(fault) => refusals::of_plan(fault),
+        Err(fault) => Refusal::Plan(fault).number(),
     }
 }

@@ -3,7 +3,7 @@
 ghost use Rattle.std.specs.Prelude.{◌≡◌, ◌⊎◌, pos};
 ghost use Rattle.dfu_host_c.specs.dfuse.Files.{file_record, setting_number, HasFile, IsNoDfuSe};
 
-use crate::dfuse::file_refusals;
+use crate::refusals::Refusal;
 use dfuse_file::{File, read};
 
 /// `struct dfuse_file`: what a DfuSe file says. The header says what each number means.
@@ -22,7 +22,7 @@ pub struct DfuseFile {
     pub vendor: u16,
 }
 
-/// The number of a setting, or of none.
+/// The number of a setting; 256 if there are several.
 fn setting_number(setting: Option<u8>) -> u32
     ensures { result ≡ setting_number setting }
 {
@@ -56,6 +56,6 @@ pub extern "C" fn dfuse_read_file(file: &[u8], out: &mut DfuseFile) -> i32
             *out = file_record(&read);
             0
         }
-        Err(fault) => file_refusals::of_file(fault),
+        Err(fault) => Refusal::DfuseFile(fault).number(),
     }
 }

@@ -3,7 +3,7 @@
 ghost use Rattle.std.specs.Prelude.{◌≡◌, ◌⊎◌, length, pos};
 ghost use Rattle.dfu_host_c.specs.dfuse.Files.{HasFileElements, HasNoElements, IsNoDfuSe};
 
-use crate::dfuse::file_refusals;
+use crate::refusals::Refusal;
 use dfuse_file::read;
 use dfuse_host::Element;
 
@@ -23,13 +23,13 @@ pub extern "C" fn dfuse_file_image<'f>(
 {
     let read = match read(file) {
         Ok(read) => read,
-        Err(fault) => return file_refusals::of_file(fault),
+        Err(fault) => return Refusal::DfuseFile(fault).number(),
     };
     match read.listed(setting, places) {
         Ok(found) => {
             *count = found as u64;
             0
         }
-        Err(fault) => file_refusals::of_image(fault),
+        Err(fault) => Refusal::Image(fault).number(),
     }
 }

@@ -6,9 +6,10 @@ ghost use Rattle.dfuse_memory.specs.Reading.{MapContent};
 ghost use Rattle.dfu_host_c.specs.dfuse.Sessions.{numbers_of, phase_in, dfuse_record_of, session_in};
 
 use crate::dfuse::phases::{EncodedDfusePhase, numbers_of, phase_at};
+use crate::dfuse::plan::DfusePlan;
 use crate::dfuse::session::DfuseSession;
 use crate::version::VERSION;
-use dfuse_host::{Element, Phase, Plan, Session};
+use dfuse_host::{Element, Phase, Session};
 use dfuse_memory::Map;
 
 /// The numbers of a record's phase.
@@ -27,7 +28,7 @@ fn numbers_in(given: &DfuseSession) -> EncodedDfusePhase
     }
 }
 
-/// The phase of a record of this version; none if it is none.
+/// The phase of a record; None if it has another version, or if there is no phase of its numbers.
 fn phase_in(given: &DfuseSession) -> Option<Phase>
     ensures { result ≡ phase_in given.now }
 {
@@ -37,7 +38,7 @@ fn phase_in(given: &DfuseSession) -> Option<Phase>
     phase_at(numbers_in(given))
 }
 
-/// The map of a string; none if it is no map.
+/// The map of a string; None if it is not a map.
 pub(crate) fn map_of(text: &[u8]) -> Option<Map<'_>>
     ensures some { IfSome result (λ m. IsMap m text.now) }
     ensures none { result ≡ None → (m : MapContent) → IsMap m text.now → ⊥ }
@@ -48,7 +49,7 @@ pub(crate) fn map_of(text: &[u8]) -> Option<Map<'_>>
     }
 }
 
-/// The session of a record over a map and an image; none if it is none's, as one of another version.
+/// The session of a record over a map and an image; None if the record has no phase, or another version.
 pub(crate) fn session_of<'f>(
     given: &DfuseSession,
     map: &'f Map<'f>,
@@ -60,19 +61,11 @@ pub(crate) fn session_of<'f>(
     let Some(phase) = phase_in(given) else {
         return None;
     };
-    let plan = Plan {
-        map,
-        image,
-        transfer: given.transfer,
-        front: given.front,
-        leaves: given.leaves != 0,
-        start: given.start,
-    };
     Some(Session {
-        plan,
+        plan: given.plan.over(map, image),
         phase,
-        actions: given.actions,
-        restarts: given.restarts,
+        actions: given.plan.actions,
+        restarts: given.plan.restarts,
     })
 }
 
@@ -92,11 +85,13 @@ pub(crate) fn record_of(session: &Session<'_>) -> DfuseSession
         step: numbers.step,
         more: numbers.more,
         report: numbers.report,
-        start: session.plan.start,
-        actions: session.actions,
-        restarts: session.restarts,
-        transfer: session.plan.transfer,
-        front: session.plan.front,
-        leaves: u16::from(session.plan.leaves),
+        plan: DfusePlan {
+            start: session.plan.start,
+            actions: session.actions,
+            restarts: session.restarts,
+            transfer: session.plan.transfer,
+            front: session.plan.front,
+            leaves: u16::from(session.plan.leaves),
+        },
     }
 }

@@ -2,16 +2,16 @@
 
 ghost use Rattle.std.specs.Prelude.{◌≡◌, ◌⊎◌, pos};
 ghost use Rattle.dfu_host_c.specs.dfuse.Maps.{access_number, map_record, range_record, HasMap, HasRange, HasNoRange, IsNoMap};
-ghost use Rattle.dfu_host_c.specs.dfuse.Refusals.{no_range};
+ghost use Rattle.dfu_host_c.specs.Refusals.{no_range};
 
-use crate::dfuse::refusals::{self, NO_RANGE};
+use crate::refusals::{NO_RANGE, Refusal};
 use dfuse_memory::{Access, Map, Pages};
 
 /// `struct dfuse_map`: what a map has. The header says what each number means.
 #[repr(C)]
 #[derive(Drop)]
 pub struct DfuseMap {
-    /// How many bytes the name has, which stand behind the `@`.
+    /// How many bytes the name has, which follows the `@`.
     pub name: u64,
     /// How many ranges there are, 1 to 32.
     pub ranges: u64,
@@ -27,7 +27,7 @@ pub struct DfuseRange {
     pub size: u64,
     /// How many pages there are.
     pub count: u32,
-    /// What may be done with each: bit 0 to read, bit 1 to erase, bit 2 to write it.
+    /// What may be done with each page: bit 0 to read, bit 1 to erase, bit 2 to write it.
     pub access: u32,
 }
 
@@ -72,7 +72,7 @@ pub extern "C" fn dfuse_read_map(text: &[u8], out: &mut DfuseMap) -> i32
             *out = map_record(&map);
             0
         }
-        Err(fault) => refusals::of_map(fault),
+        Err(fault) => Refusal::Map(fault).number(),
     }
 }
 
@@ -85,7 +85,7 @@ pub extern "C" fn dfuse_read_range(text: &[u8], number: u32, out: &mut DfuseRang
 {
     let map = match Map::read(text) {
         Ok(map) => map,
-        Err(fault) => return refusals::of_map(fault),
+        Err(fault) => return Refusal::Map(fault).number(),
     };
     match map.ranges().get(number as usize) {
         Some(pages) => {

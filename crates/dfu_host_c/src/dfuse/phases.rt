@@ -2,7 +2,7 @@
 
 ghost use Rattle.std.specs.Prelude.{◌≡◌, ◌≢◌, Some};
 ghost use Rattle.dfuse_host.specs.declared.phase.Phase.TheVariants.{On};
-ghost use Rattle.dfu_host_c.specs.dfuse.PhaseNumbers.{dfuse_numbers_in, dfuse_phase_at, place_at, dfuse_place_number, pointer_in, step_at, step_number, ms_in, work_at, work_number, at_in, end_in};
+ghost use Rattle.dfu_host_c.specs.dfuse.PhaseNumbers.{dfuse_numbers_in, dfuse_phase_at, place_at, place_numbers, step_at, step_numbers, work_at, work_numbers};
 
 use crate::dfuse::reports::{report_at, report_numbers};
 use dfuse_host::{Phase, Place, Standing, Step, Work};
@@ -20,7 +20,7 @@ pub(crate) struct EncodedDfusePhase {
     pub(crate) report: u32,
 }
 
-/// The work of these numbers; none if there is none.
+/// The work of these numbers; None if there is no such work.
 fn work_at(number: u32, at: u64, end: u64) -> Option<Work>
     ensures { result ≡ work_at number at end }
 {
@@ -36,7 +36,7 @@ fn work_at(number: u32, at: u64, end: u64) -> Option<Work>
     }
 }
 
-/// What is known of the pointer, by its number and address; none if there is none.
+/// What is known of the pointer, by its number and address; None if there is no such number.
 fn place_at(number: u32, pointer: u64) -> Option<Place>
     ensures { result ≡ place_at number pointer }
 {
@@ -48,7 +48,7 @@ fn place_at(number: u32, pointer: u64) -> Option<Place>
     }
 }
 
-/// The step of a number, with its time; none if there is none.
+/// The step of a number, with its time; None if there is no such step.
 fn step_at(number: u32, ms: u32) -> Option<Step>
     ensures { result ≡ step_at number ms }
 {
@@ -72,7 +72,7 @@ fn step_at(number: u32, ms: u32) -> Option<Step>
     }
 }
 
-/// The phase of these numbers; none if there is none.
+/// The phase of these numbers; None if there is no such phase.
 pub(crate) fn phase_at(n: EncodedDfusePhase) -> Option<Phase>
     ensures { result ≡ dfuse_phase_at n }
 {
@@ -94,13 +94,11 @@ pub(crate) fn phase_at(n: EncodedDfusePhase) -> Option<Phase>
     Some(Phase::On(Standing { work, place, step }))
 }
 
-/// The number of a work, with the address at which it stands, and the one up to which it goes.
+/// The number of a work, with the address that it has reached and the one at which it ends.
 fn work_numbers(work: Work) -> (u32, u64, u64)
     ensures work { work_at result.0 result.1 result.2 ≡ Some work }
     ensures on { result.0 ≢ 7 }
-    ensures number { result.0 ≡ work_number work }
-    ensures at { result.1 ≡ at_in work }
-    ensures end { result.2 ≡ end_in work }
+    ensures numbers { result ≡ work_numbers work }
 {
     match work {
         Work::Erase { at } => (0, at, 0),
@@ -116,8 +114,7 @@ fn work_numbers(work: Work) -> (u32, u64, u64)
 /// The number of what is known of the pointer, and its address.
 fn place_numbers(place: Place) -> (u32, u64)
     ensures place { place_at result.0 result.1 ≡ Some place }
-    ensures number { result.0 ≡ dfuse_place_number place }
-    ensures pointer { result.1 ≡ pointer_in place }
+    ensures numbers { result ≡ place_numbers place }
 {
     match place {
         Place::Lost => (0, 0),
@@ -129,8 +126,7 @@ fn place_numbers(place: Place) -> (u32, u64)
 /// The number of a step, and its time.
 fn step_numbers(step: Step) -> (u32, u32)
     ensures step { step_at result.0 result.1 ≡ Some step }
-    ensures number { result.0 ≡ step_number step }
-    ensures ms { result.1 ≡ ms_in step }
+    ensures numbers { result ≡ step_numbers step }
 {
     match step {
         Step::Abort => (0, 0),

@@ -1,5 +1,11 @@
 //! What a session is to do, for C.
 
+ghost use Rattle.std.specs.Prelude.{◌≡◌};
+ghost use Rattle.dfu_host_c.specs.dfuse.Sessions.{dfuse_plan_of};
+
+use dfuse_host::{Element, Plan};
+use dfuse_memory::Map;
+
 /// `struct dfuse_plan`: what a session is to do beside its map and its image. The header says what each number means.
 #[repr(C)]
 #[derive(Drop)]
@@ -16,4 +22,20 @@ pub struct DfusePlan {
     pub front: u16,
     /// Whether the device is to leave: 0 or else.
     pub leaves: u16,
+}
+
+impl DfusePlan {
+    /// The plan over a map and an image.
+    pub(crate) fn over<'f>(&self, map: &'f Map<'f>, image: &'f [Element<'f>]) -> Plan<'f>
+        ensures { result ≡ dfuse_plan_of self.now map.entry image.entry }
+    {
+        Plan {
+            map,
+            image,
+            transfer: self.transfer,
+            front: self.front,
+            leaves: self.leaves != 0,
+            start: self.start,
+        }
+    }
 }

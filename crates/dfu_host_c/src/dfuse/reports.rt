@@ -1,12 +1,12 @@
 //! Reports as numbers, both ways.
 
 ghost use Rattle.std.specs.Prelude.{◌≡◌, Some};
-ghost use Rattle.dfu_host_c.specs.dfuse.ReportNumbers.{leaving_at, leaving_number, dfuse_report_at, dfuse_report_number, more_in};
+ghost use Rattle.dfu_host_c.specs.dfuse.ReportNumbers.{leaving_at, leaving_number, dfuse_report_at, dfuse_report_numbers};
 
 use crate::reports::{code_at, code_number};
 use dfuse_host::{Leaving, Report};
 
-/// How a device left, by its number; none over 2.
+/// How a device left, by its number; None if it is over 2.
 fn leaving_at(number: u32) -> Option<Leaving>
     ensures { result ≡ leaving_at number }
 {
@@ -18,7 +18,7 @@ fn leaving_at(number: u32) -> Option<Leaving>
     }
 }
 
-/// The report of a number; none if it is 0 or over 7, or what it has is the number of nothing.
+/// The report of a number; None if it is 0 or over 7, or if there is no such code or way to leave.
 pub(crate) fn report_at(number: u32, more: u32) -> Option<Report>
     ensures { result ≡ dfuse_report_at number more }
 {
@@ -55,8 +55,7 @@ fn leaving_number(leaving: Leaving) -> u32
 /// The number of a report, and what it has: how the device left, or a code; else 0.
 pub(crate) fn report_numbers(report: Report) -> (u32, u32)
     ensures report { dfuse_report_at result.0 result.1 ≡ Some report }
-    ensures number { result.0 ≡ dfuse_report_number report }
-    ensures more { result.1 ≡ more_in report }
+    ensures numbers { result ≡ dfuse_report_numbers report }
 {
     match report {
         Report::Verified(leaving) => (1, leaving_number(leaving)),

@@ -5,7 +5,7 @@ ghost use Rattle.dfu_host_c.specs.dfuse.Told.{dfuse_seen_at};
 
 use dfuse_host::Seen;
 
-/// What is seen by its number, of which 1 has these bytes; none if there is none. The numbers are those of DFU 1.1.
+/// What is seen, by its number. Number 1 has these bytes. None if there is no such number. The numbers are those of DFU 1.1.
 pub(crate) fn seen_at<'s>(number: u32, bytes: &'s [u8]) -> Option<Seen<'s>>
     ensures { result ≡ dfuse_seen_at number bytes.entry }
 {

@@ -1,16 +1,18 @@
-//! The record of a DfuSe session, which is the caller's.
+//! The record of a DfuSe session, which the caller keeps.
 
-/// `struct dfuse_session`: where a session stands between two calls. The header says what each number means.
+use crate::dfuse::plan::DfusePlan;
+
+/// `struct dfuse_session`: the state of a session between two calls. The header says what each number means.
 #[repr(C)]
 #[derive(Drop)]
 pub struct DfuseSession {
-    /// The version of the library that wrote it.
+    /// The version of the library that wrote the record.
     pub version: u32,
     /// What the session works at, 0 to 6; 7 if it is over.
     pub work: u32,
-    /// The address at which the work stands.
+    /// The address that the work has reached.
     pub at: u64,
-    /// The address up to which it goes, if it says so itself.
+    /// The address at which the work ends, if it has its own end.
     pub end: u64,
     /// The address that the device's pointer was set to, if that is known.
     pub pointer: u64,
@@ -22,16 +24,6 @@ pub struct DfuseSession {
     pub more: u32,
     /// The report, 1 to 7, of a session that is over.
     pub report: u32,
-    /// The address at which the application is to start.
-    pub start: u32,
-    /// The actions that are left.
-    pub actions: u32,
-    /// The restarts of the device that are still taken.
-    pub restarts: u16,
-    /// The most bytes of a block.
-    pub transfer: u16,
-    /// How many bytes of the image are written last.
-    pub front: u16,
-    /// Whether the device is to leave: 0 or else.
-    pub leaves: u16,
+    /// The plan, with the actions and the restarts that are left.
+    pub plan: DfusePlan,
 }

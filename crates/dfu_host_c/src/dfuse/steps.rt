@@ -11,7 +11,7 @@ use crate::dfuse::session::DfuseSession;
 use crate::refusals::{NO_SEEN, NO_SESSION};
 use dfuse_host::Element;
 
-/// Tells a session what came of its action: 0, `DFU_NO_SESSION` or `DFU_NO_SEEN`.
+/// Gives a session what came of its action: 0, `DFU_NO_SESSION` or `DFU_NO_SEEN`.
 #[unsafe(no_mangle)]
 pub extern "C" fn dfuse_take(
     session: &mut DfuseSession,

@@ -1,5 +1,6 @@
 use Rattle.std.proofs.Common.{rules, inl, inr, refl}
 use Rattle.dfu_host_c.proofs.Beginnings.{no_fault}
+use Rattle.dfu_host_c.proofs.Refused.{refused_for}
 use Rattle.dfu_host_c.proofs.beginning.dfu_host_upload.Goals as goal
 
 pub returns-in-Ok-upload : goal.returns-in-Ok-upload
@@ -18,10 +19,8 @@ returns-in-Err-upload c = record {
   outcome = inr (inr (
     record {
       functional = c.in-Ok.functional;
-      fault = c.in-Err-upload.fault;
       is_functional = c.in-Ok.ensures.ok;
-      refused = (c.upload.ensures.refused c.in-Err-upload.fault).0 c.in-Err-upload.is;
-      number_is = search rules;
+      refused = refused_for _ _ c.in-Err-upload.is c.upload.ensures.refused (search rules);
     },
     refl,
   ));

@@ -1,37 +1,21 @@
-use Rattle.std.proofs.Common.{◌≡◌, rules, inl, inr, refl, subst, Some, None}
-use Rattle.dfu_wire.specs.declared.ids.Ids.{Ids}
+use Rattle.std.proofs.Common.{rules, inl, inr, refl}
 use Rattle.dfu_host.specs.Download.{first_verify_fault}
-use Rattle.dfu_host_c.proofs.Beginnings.{no_fault}
+use Rattle.dfu_host.specs.Phases.{ToVerify}
+use Rattle.dfu_host_c.proofs.Beginnings.{begins, refuses}
 use Rattle.dfu_host_c.proofs.beginning.dfu_host_verified.Goals as goal
 
 pub returns-in-Ok-download_verified : goal.returns-in-Ok-download_verified
 returns-in-Ok-download_verified c = record {
-  outcome = inl (record {
-    content = c.in-Ok.wanted.file;
-    functional = c.in-Ok.wanted.functional;
-    is_content = c.in-Ok.ensures.file;
-    is_functional = c.in-Ok.ensures.functional;
-    accepted = subst (λ (device : Ids). first_verify_fault c.in-Ok.wanted.file c.in-Ok.wanted.functional device ≡ None)
-        c.ids.ensures (no_fault _ _ _ c.in-Ok-download_verified.is c.download_verified.ensures.refused);
-    begun = c.start.ensures.begun _ c.in-Ok-download_verified.ensures.started;
-    number_is = search rules;
-  });
+  outcome = inl (begins ToVerify first_verify_fault _ c.in-Ok.ensures.file c.in-Ok.ensures.functional c.ids.ensures
+      c.in-Ok-download_verified.is c.download_verified.ensures.refused
+      (c.start.ensures.begun _ c.in-Ok-download_verified.ensures.started) (search rules));
 }
 
 pub returns-in-Err-download_verified : goal.returns-in-Err-download_verified
 returns-in-Err-download_verified c = record {
   outcome = inr (inr (
-    record {
-      content = c.in-Ok.wanted.file;
-      functional = c.in-Ok.wanted.functional;
-      fault = c.in-Err-download_verified.fault;
-      is_content = c.in-Ok.ensures.file;
-      is_functional = c.in-Ok.ensures.functional;
-      refused = subst (λ (device : Ids). first_verify_fault c.in-Ok.wanted.file c.in-Ok.wanted.functional device
-          ≡ Some c.in-Err-download_verified.fault)
-          c.ids.ensures ((c.download_verified.ensures.refused c.in-Err-download_verified.fault).0 c.in-Err-download_verified.is);
-      number_is = search rules;
-    },
+    refuses first_verify_fault _ c.in-Ok.ensures.file c.in-Ok.ensures.functional c.ids.ensures c.in-Err-download_verified.is
+        c.download_verified.ensures.refused (search rules),
     refl,
   ));
 }

@@ -1,16 +1,17 @@
 use Rattle.std.proofs.Common.{rules, ◌≡◌, ◌∙◌, sym, ap, subst, refl, ℤ, pos, Result, Ok, Err}
 use Rattle.dfu_suffix.specs.declared.fault.SuffixFault.{SuffixFault}
-use Rattle.dfu_host_c.specs.Refusals.{file_refusal}
+use Rattle.dfu_host_c.specs.Refusals.{refused_number}
+use Rattle.dfu_host_c.specs.declared.refusals.Refusal.TheVariants as refusal
 use Rattle.dfu_host_c.proofs.file.dfu_host_file.Goals as goal
 
--- The answer of a reading.
+-- The number that C gets for what was read.
 abbrev answer : {T : Type 0} → Result T SuffixFault → ℤ
 answer (Ok read) = pos 0
-answer (Err fault) = file_refusal fault
+answer (Err fault) = refused_number (refusal.File fault)
 
 pub returns-in-Err-clause-fault : goal.returns-in-Err-clause-fault
 returns-in-Err-clause-fault c = λ fault first.
-    let same : file_refusal c.in-Err.fault ≡ file_refusal fault =
+    let same : refused_number (refusal.File c.in-Err.fault) ≡ refused_number (refusal.File fault) =
     ap answer (sym c.in-Err.is ∙ (c.file_in.ensures.fault fault).1 first) in
     (rw (← same) (search rules), refl)
 

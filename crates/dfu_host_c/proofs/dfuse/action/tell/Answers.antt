@@ -5,7 +5,7 @@ use Rattle.dfuse_host.specs.Wire.{DfuseSpells}
 use Rattle.dfuse_host.specs.declared.action.Action.{Action}
 use Rattle.dfuse_host.specs.declared.action.Action.TheVariants as action
 use Rattle.dfu_host_c.specs.dfuse.Actions.{DfuseIsOther, DfuseTells}
-use Rattle.dfu_host_c.specs.dfuse.ReportNumbers.{more_in, dfuse_report_number}
+use Rattle.dfu_host_c.specs.dfuse.ReportNumbers.{dfuse_report_numbers}
 use Rattle.dfu_host_c.proofs.dfuse.action.tell.Goals as goal
 
 pub returns-in-Wait : goal.returns-in-Wait
@@ -27,18 +27,15 @@ returns-in-Done c = record {
       (refl, by_deed deed (subst (λ (a : Action). DfuseSpells deed a) c.in-Done.is spells));
 }
   where
-    told : DfuseIsOther 3 (dfuse_report_number c.in-Done.report) (more_in c.in-Done.report) c.other-in-Done.result c.args.body.now
-        c.args.body.now
-    told = subst (λ (n : ℕ). DfuseIsOther 3 n (more_in c.in-Done.report) c.other-in-Done.result c.args.body.now c.args.body.now)
-        c.report_numbers-value.ensures.number
-        (subst (λ (n : ℕ). DfuseIsOther 3 c.report_numbers-value.result.0 n c.other-in-Done.result c.args.body.now c.args.body.now)
-        c.report_numbers-value.ensures.more
-        (c.other-in-Done.ensures c.args.body.now))
+    told : DfuseIsOther 3 (dfuse_report_numbers c.in-Done.report).0 (dfuse_report_numbers c.in-Done.report).1
+        c.other-in-Done.result c.args.body.now c.args.body.now
+    told = subst (λ (p : ℕ × ℕ). DfuseIsOther 3 p.0 p.1 c.other-in-Done.result c.args.body.now c.args.body.now)
+        c.report_numbers-value.ensures.numbers (c.other-in-Done.ensures c.args.body.now)
 
     by_deed : (deed : DfuseDeed) → DfuseSpells deed (action.Done c.in-Done.report) →
         DfuseTells deed c.other-in-Done.result c.args.body.now c.args.body.now
     by_deed (Done report) e =
-        subst (λ (r : Report). DfuseIsOther 3 (dfuse_report_number r) (more_in r) c.other-in-Done.result c.args.body.now
+        subst (λ (r : Report). DfuseIsOther 3 (dfuse_report_numbers r).0 (dfuse_report_numbers r).1 c.other-in-Done.result c.args.body.now
         c.args.body.now) e told
     by_deed (Send q body) e = elim e [ ]
     by_deed (Wait ms) e = elim e [ ]

@@ -1,17 +1,11 @@
 use Rattle.std.proofs.Common.{rules, inl, inr, refl}
 use Rattle.dfu_host_c.proofs.Maps.{found_at, none_at}
+use Rattle.dfu_host_c.proofs.Refused.{refused_for}
 use Rattle.dfu_host_c.proofs.dfuse.map.dfuse_read_range.Goals as goal
 
 pub returns-in-Err : goal.returns-in-Err
 returns-in-Err c = record {
-  outcome = inr (inr (
-    record {
-      fault = c.in-Err.fault;
-      first = (c.read.ensures.fault c.in-Err.fault).0 c.in-Err.is;
-      number_is = search rules;
-    },
-    refl,
-  ));
+  outcome = inr (inr (refused_for _ _ c.in-Err.is c.read.ensures.fault (search rules), refl));
 }
 
 pub returns-in-Some : goal.returns-in-Some

@@ -1,0 +1,63 @@
+-- What a program does with a device of DfuSe that is silent, leaves, or comes back as another one.
+use Rattle.std.specs.Prelude.{ℕ, ◌==◌, ◌&&◌, ◌||◌, not, nat_lt, nat_le, Bool, slice_index, if◌then◌else◌}
+use Rattle.dfu_host_c.specs.Watch.{as_number, counted_to, yes}
+use Rattle.dfu_host_c.specs.declared.watch.DfuFacts.{DfuFacts}
+use Rattle.dfu_host_c.specs.declared.dfuse.action.DfuseAction.{DfuseAction}
+use Rattle.dfu_host_c.specs.declared.dfuse.session.DfuseSession.{DfuseSession}
+use Rattle.dfu_host_c.specs.declared.dfuse.watch.DfuseWatch.{DfuseWatch}
+
+-- The device was asked to leave: the session sends, or has sent, the DNLOAD of no bytes that starts the application.
+abbrev pub is_closing : DfuseSession → Bool
+is_closing session = (session.work == 6) && nat_le 12 session.step
+
+-- A request went out to the device.
+abbrev pub is_out : DfuseAction → DfuFacts → Bool
+is_out action facts = (action.what == 0) && yes facts.reached
+
+-- GETSTATUS is sent.
+abbrev pub is_status : DfuseAction → Bool
+is_status action = (slice_index action.setup 0 == 161) && (slice_index action.setup 1 == 3)
+
+-- A DNLOAD with bytes is sent that may change the memory: a block of data, whose number isn't 0, or the command 41h, which erases.
+abbrev pub dfuse_changes : DfuseAction → (command : ℕ) → Bool
+dfuse_changes action command = (action.what == 0) && ((slice_index action.setup 0 == 33) && ((slice_index action.setup 1 == 1)
+    && (nat_lt 0 action.length
+    && (not (slice_index action.setup 2 == 0) || (not (slice_index action.setup 3 == 0) || (command == 65))))))
+
+-- How many requests in a row had no answer, after this action.
+abbrev pub dfuse_silent_after : DfuseWatch → DfuseAction → (seen : ℕ) → DfuFacts → ℕ
+dfuse_silent_after watch action seen facts =
+    if not (is_out action facts) then watch.silent
+    else if seen == 3 then counted_to watch.silent 24
+    else 0
+
+-- What is kept after an action.
+abbrev pub dfuse_watched : DfuseWatch → DfuseAction → (command seen : ℕ) → DfuFacts → DfuseWatch
+dfuse_watched watch action command seen facts = record {
+  silent = dfuse_silent_after watch action seen facts;
+  waits = if is_out action facts && not (is_status action) then 0 else watch.waits;
+  sent = as_number (yes watch.sent || dfuse_changes action command);
+}
+
+-- A device that was asked to leave is taken for gone: it is, or it is another one, or it left by itself, or it was silent three times.
+abbrev pub is_gone_by_then : DfuseWatch → DfuseAction → (seen : ℕ) → DfuFacts → Bool
+is_gone_by_then watch action seen facts = (action.what == 0)
+    && ((yes facts.open && (facts.again == 0)) || (yes facts.gone || ((seen == 7) || nat_le 3 watch.silent)))
+
+-- How the program goes on: 8 to report a restart if a device that was asked to leave is taken for gone, 9 to report nothing if the device is
+-- gone and the user stops the session, 2 or 3 if it is gone, 4 if it is silent, 5 if it is another one, else 0.
+abbrev pub dfuse_course : DfuseWatch → DfuseSession → DfuseAction → (seen : ℕ) → DfuFacts → ℕ
+dfuse_course watch session action seen facts =
+    if is_closing session && is_gone_by_then watch action seen facts then 8
+    else if yes facts.gone then (if yes facts.stopped then 9 else if yes facts.many then 3 else 2)
+    else if not (is_closing session) && nat_le 24 watch.silent then 4
+    else if not (is_closing session) && (yes facts.open && (facts.again == 0)) then 5
+    else 0
+
+-- How many waits of 0 ms came in a row, after one of so many milliseconds.
+abbrev pub dfuse_waits_after_wait : DfuseWatch → (ms : ℕ) → ℕ
+dfuse_waits_after_wait watch ms = if ms == 0 then counted_to watch.waits 4 else 0
+
+-- How long a wait takes.
+abbrev pub dfuse_wait_of : DfuseWatch → (ms : ℕ) → ℕ
+dfuse_wait_of watch ms = if nat_lt 3 watch.waits then 5 else ms

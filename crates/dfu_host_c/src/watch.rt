@@ -1,0 +1,39 @@
+//! What a program keeps and sees of a device beside the session, as records for C.
+
+/// `struct dfu_watch`: what has come of a session's requests so far. All 0 before the first session.
+#[repr(C)]
+#[derive(Drop)]
+pub struct DfuWatch {
+    /// Requests and resets in a row that had no answer; 24 or more end the session.
+    pub silent: u32,
+    /// Resets in a row since requests that the device stalled in run-time mode.
+    pub resets: u32,
+    /// 1 if the device stalled the last request, in run-time mode.
+    pub stalled: u8,
+    /// 1 if the session sent a block or the end of a download.
+    pub sent: u8,
+    /// 1 if another session was begun in place of the first.
+    pub anew: u8,
+}
+
+/// `struct dfu_facts`: what the program sees of the device after an action. 0 is no, any other number is yes.
+#[repr(C)]
+#[derive(Drop)]
+pub struct DfuFacts {
+    /// The request went out: the device was there.
+    pub reached: u8,
+    /// The device left, and did not come back in time.
+    pub gone: u8,
+    /// It came back with several settings, and the program can't tell which one to use.
+    pub many: u8,
+    /// The user has stopped the session.
+    pub stopped: u8,
+    /// A device is open.
+    pub open: u8,
+    /// It is in DFU mode.
+    pub upgrade: u8,
+    /// It is the same device as the one first found in its mode.
+    pub again: u8,
+    /// Its functional descriptor is the one that the session began with.
+    pub same: u8,
+}

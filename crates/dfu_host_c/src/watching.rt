@@ -1,0 +1,209 @@
+//! The calls that watch over a session: when a program gives a device up, and when it begins anew.
+
+ghost use Rattle.std.specs.Prelude.{◌≡◌, ◌<◌, ◌≢◌, if◌then◌else◌};
+ghost use Rattle.dfu_host_c.specs.Watch.{
+  as_number,
+  begun_anew,
+  counted_to,
+  course_after,
+  course_before,
+  detaches,
+  is_download,
+  is_of_image,
+  is_other,
+  is_reached,
+  resets_after,
+  silent_after,
+  stalled_after,
+  watched,
+};
+
+use crate::action::DfuAction;
+use crate::watch::{DfuFacts, DfuWatch};
+
+/// What `dfu_watch_before` and `dfu_watch_after` return.
+pub(crate) const GOES_ON: u32 = 0;
+
+const BEGINS_ANEW: u32 = 1;
+
+pub(crate) const ENDS_GONE: u32 = 2;
+
+pub(crate) const ENDS_MANY: u32 = 3;
+
+pub(crate) const ENDS_SILENT: u32 = 4;
+
+pub(crate) const ENDS_OTHER: u32 = 5;
+
+const ENDS_STALLED: u32 = 6;
+
+const ENDS_REFUSED: u32 = 7;
+
+/// How many requests and resets in a row may have no answer: a dead device takes 5 seconds for each.
+pub(crate) const MOST_SILENT: u32 = 24;
+/// How many resets in a row may follow nothing but stalls: what is reset is a running application.
+const MOST_RESETS: u32 = 3;
+
+/// Whether an action sends a block or the end of a download (USB DFU 1.1, section 6.1.1).
+fn is_download(action: &DfuAction) -> bool
+    ensures { result ≡ is_download action.now }
+{
+    action.what == 0 && action.setup[0] == 0x21 && action.setup[1] == 1
+}
+
+/// Whether an action sends or fetches a part of an image (sections 6.1.1 and 6.2).
+fn is_of_image(action: &DfuAction) -> bool
+    ensures { result ≡ is_of_image action.now }
+{
+    is_download(action) || (action.what == 0 && action.setup[0] == 0xa1 && action.setup[1] == 2)
+}
+
+/// Whether a request went out to the device.
+fn is_reached(action: &DfuAction, facts: &DfuFacts) -> bool
+    ensures { result ≡ is_reached action.now facts.now }
+{
+    action.what == 0 && facts.reached != 0
+}
+
+/// The next number, up to the most that counts.
+pub(crate) fn counted(number: u32, most: u32) -> u32
+    ensures { result ≡ counted_to number most }
+{
+    if number < most { number + 1 } else { number }
+}
+
+/// Whether the session's next action may be done: 0, or how the session ends in place of it. `by_another` is not 0 if
+/// the session goes by a functional descriptor in place of the device's own.
+#[unsafe(no_mangle)]
+pub extern "C" fn dfu_watch_before(watch: &DfuWatch, action: &DfuAction, by_another: u32) -> u32
+    ensures { result ≡ course_before watch.now action.now by_another }
+{
+    if by_another != 0 && is_of_image(action) {
+        ENDS_REFUSED
+    } else if action.what == 2 && watch.stalled != 0 && watch.resets >= MOST_RESETS {
+        ENDS_STALLED
+    } else {
+        GOES_ON
+    }
+}
+
+/// Whether the program sends a DETACH of its own before the reset that the session asks for: 1, or 0.
+#[unsafe(no_mangle)]
+pub extern "C" fn dfu_watch_detaches(watch: &DfuWatch) -> u32
+    ensures { result ≡ detaches watch.now }
+{
+    u32::from(watch.stalled != 0 && watch.resets == 0)
+}
+
+/// How many requests and resets in a row had no answer, after an action.
+fn silent_after(watch: &DfuWatch, action: &DfuAction, seen: u32) -> u32
+    ensures { result ≡ silent_after watch.now action.now seen }
+{
+    if action.what != 0 && action.what != 2 {
+        watch.silent
+    } else if seen == 3 {
+        counted(watch.silent, MOST_SILENT)
+    } else {
+        0
+    }
+}
+
+/// How many resets in a row followed nothing but stalls, after an action.
+fn resets_after(watch: &DfuWatch, action: &DfuAction, seen: u32, facts: &DfuFacts) -> u32
+    ensures { result ≡ resets_after watch.now action.now seen facts.now }
+{
+    if is_reached(action, facts) && (facts.upgrade != 0 || seen == 0 || seen == 1) {
+        0
+    } else if action.what == 2 && watch.stalled != 0 && seen == 5 {
+        counted(watch.resets, MOST_RESETS)
+    } else {
+        watch.resets
+    }
+}
+
+/// Whether the last request was stalled, in run-time mode.
+fn stalled_after(watch: &DfuWatch, action: &DfuAction, seen: u32, facts: &DfuFacts) -> bool
+    ensures { result ≡ stalled_after watch.now action.now seen facts.now }
+{
+    if is_reached(action, facts) {
+        seen == 2 && facts.upgrade == 0
+    } else {
+        watch.stalled != 0
+    }
+}
+
+/// What is kept after an action.
+fn watched(watch: &DfuWatch, action: &DfuAction, seen: u32, facts: &DfuFacts) -> DfuWatch
+    ensures { result ≡ watched watch.now action.now seen facts.now }
+{
+    DfuWatch {
+        silent: silent_after(watch, action, seen),
+        resets: resets_after(watch, action, seen, facts),
+        stalled: u8::from(stalled_after(watch, action, seen, facts)),
+        sent: u8::from(watch.sent != 0 || (is_reached(action, facts) && is_download(action))),
+        anew: watch.anew,
+    }
+}
+
+/// Whether the device that is open is another one than the session's. Once a block was sent, a device in run-time mode may
+/// run another image, and is not compared.
+fn is_other(watch: &DfuWatch, facts: &DfuFacts) -> bool
+    ensures { result ≡ is_other watch.now facts.now }
+{
+    facts.open != 0 && facts.again == 0 && (facts.upgrade != 0 || watch.sent == 0)
+}
+
+/// Whether the device that is open gets no request, since it is another one than the session's: 1, or 0.
+#[unsafe(no_mangle)]
+pub extern "C" fn dfu_watch_is_other(watch: &DfuWatch, facts: &DfuFacts) -> u32
+    ensures { result ≡ as_number (is_other watch.now facts.now) }
+{
+    u32::from(is_other(watch, facts))
+}
+
+/// How the program goes on, by what is kept and what it sees of the device.
+fn course(watch: &DfuWatch, facts: &DfuFacts) -> u32
+    ensures { result ≡ course_after watch.now facts.now }
+{
+    if facts.gone != 0 && facts.stopped == 0 {
+        if facts.many != 0 {
+            ENDS_MANY
+        } else {
+            ENDS_GONE
+        }
+    } else if watch.silent >= MOST_SILENT {
+        ENDS_SILENT
+    } else if is_other(watch, facts) {
+        ENDS_OTHER
+    } else if facts.open != 0 && facts.upgrade != 0 && facts.same == 0 {
+        if watch.sent != 0 || watch.anew != 0 {
+            ENDS_OTHER
+        } else {
+            BEGINS_ANEW
+        }
+    } else {
+        GOES_ON
+    }
+}
+
+/// What follows an action of which this was seen, and of the device these facts.
+#[unsafe(no_mangle)]
+pub extern "C" fn dfu_watch_after(
+    watch: &mut DfuWatch,
+    action: &DfuAction,
+    seen: u32,
+    facts: &DfuFacts,
+) -> u32
+    ensures course { result ≡ course_after (watched watch.old action.now seen facts.now) facts.now }
+    ensures kept { watch.new ≡ begun_anew result (watched watch.old action.now seen facts.now) }
+    // A device that has answered nothing 24 times in a row gets no further request.
+    ensures silence { result < 2 → watch.new.silent < 24 }
+    // Another session is begun once, and only before anything of an image was sent.
+    ensures once { result ≡ 1 → (watch.old.anew ≡ 0) × (watch.new.anew ≡ 1) × (watch.new.sent ≡ 0) }
+{
+    *watch = watched(watch, action, seen, facts);
+    let result = course(watch, facts);
+    if result == BEGINS_ANEW {
+        watch.anew = 1;
+    }
+    result
+}

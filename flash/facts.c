@@ -1,0 +1,43 @@
+/* SPDX-License-Identifier: MIT OR Apache-2.0 */
+/* What is seen of the device after an action, for dfu_watch.h. */
+#include "facts.h"
+
+#include <string.h>
+
+/* Whether the device has the functional descriptor that the session was begun with. */
+static bool is_as_begun(const struct session *session)
+{
+    const struct found *is = &session->wire.device->is;
+    return is->descriptor_size == session->known_size && memcmp(is->descriptor, session->known, sizeof is->descriptor) == 0;
+}
+
+/* Whether the device is what it was when it was found first in its mode. */
+static bool is_first_again(const struct session *session)
+{
+    const struct found *is = &session->wire.device->is;
+    return !session->has_first[is->is_upgrade] || is_again(&session->first[is->is_upgrade], is);
+}
+
+void facts_note(struct session *session)
+{
+    const struct found *is = &session->wire.device->is;
+    if (session->has_first[is->is_upgrade] || (session->watch.sent && !is->is_upgrade))
+        return;
+    session->first[is->is_upgrade] = *is;
+    session->has_first[is->is_upgrade] = true;
+}
+
+struct dfu_facts facts_of(const struct session *session, bool is_reached, bool is_gone)
+{
+    const struct device *device = session->wire.device;
+    return (struct dfu_facts){
+        .reached = is_reached,
+        .gone = is_gone,
+        .many = device->is_many,
+        .stopped = *device->is_stop != 0,
+        .open = device->handle != NULL,
+        .upgrade = device->is.is_upgrade,
+        .again = is_first_again(session),
+        .same = is_as_begun(session),
+    };
+}

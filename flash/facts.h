@@ -1,0 +1,15 @@
+/* SPDX-License-Identifier: MIT OR Apache-2.0 */
+/* What is seen of the device after an action, for dfu_watch.h. */
+#ifndef DFU_FLASH_FACTS_H
+#define DFU_FLASH_FACTS_H
+
+#include "session.h"
+
+/* Notes what the device is, if it is found for the first time in its mode. Once a block was sent, a device in run-time mode may be that
+   of another image: it isn't noted. */
+void facts_note(struct session *session);
+
+/* What is seen now: whether a request went out to the device, and whether it is gone, is known to the caller. */
+struct dfu_facts facts_of(const struct session *session, bool is_reached, bool is_gone);
+
+#endif
